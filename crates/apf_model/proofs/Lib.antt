@@ -1,0 +1,8 @@
+pub mod Sums
+pub mod Places
+pub mod Counts
+pub mod Decided
+pub mod Seats
+pub mod VirtualTime
+pub mod PlainWorlds
+pub mod Small

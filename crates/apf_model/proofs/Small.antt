@@ -1,0 +1,20 @@
+-- A step that is allowed keeps the seats at most 20,000.
+use Rattle.std.proofs.Common.{◌≡◌, ◌⊎◌, ℕ, ◌+◌, ◌<◌, ◌≤◌, List, length, ⊎_elim, arith}
+use Rattle.apf_model.specs.declared.moves.Stage.{Stage}
+use Rattle.apf_model.specs.declared.moves.Stage.TheVariants.{Away, Waits, Stands, Gone}
+use Rattle.apf_model.specs.Tally.{tally}
+use Rattle.apf_model.specs.World.{World, put, seats_at, width, seats, FitsIn}
+use Rattle.apf_model.specs.Schedule.{AreWidths}
+use Rattle.apf_model.proofs.Sums.{moved}
+
+-- a request that fits comes to stand
+pub stands_small : (widths : List ℕ) (w : World) (r : ℕ) (from : Stage) → AreWidths widths → w.limit ≤ 10000 → r < length widths → w.stage r ≡ from → seats_at from (width widths r) ≡ 0 → FitsIn widths w r
+    → tally (λ j. seats_at (put w.stage r Stands j) (width widths j)) (length widths) ≤ 20000
+stands_small widths w r from wide low l is zero fits =
+    let m = (moved widths w r from Stands l is).0 in let narrow = (wide r l).1 in
+    ⊎_elim (λ (f : seats widths w + width widths r ≤ w.limit). omega arith) (λ (f : (w.limit < width widths r) × (seats widths w ≡ 0)). omega arith) fits
+
+-- a request goes on to where it does not stand
+pub goes_small : (widths : List ℕ) (w : World) (r : ℕ) (from to : Stage) → r < length widths → w.stage r ≡ from → seats_at to (width widths r) ≡ 0 → seats widths w ≤ 20000
+    → tally (λ j. seats_at (put w.stage r to j) (width widths j)) (length widths) ≤ 20000
+goes_small widths w r from to l is zero small = let m = (moved widths w r from to l is).0 in omega arith

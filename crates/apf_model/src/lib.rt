@@ -1,0 +1,26 @@
+//! The model of a priority level: what its words, its queues and its log mean.
+//!
+//! The definitions stand in `specs/` and are the product's public meaning: the world of a level and
+//! the steps that change it (`World`), schedules of steps (`Schedule`), histories of the queues
+//! (`History`), the choice of a queue and virtual time (`Fair`), and what is reported (`Outcome`).
+//! In the order of the data's way:
+//!
+//! - `response`: what a level does with an arrival that does not fit.
+//! - `moves`: the kinds of step, and where a request is on its way.
+//! - `events`: the events of a history.
+//! - `laws`: every schedule is safe.
+//! - `plain`: the definitions computed, plainly and slowly, on small inputs.
+#![tactic(auto)]
+
+mod events;
+mod laws;
+mod moves;
+pub mod plain;
+mod response;
+#[cfg(test)]
+mod tests;
+
+pub use events::Event;
+pub use laws::every_schedule_is_safe;
+pub use moves::{Move, Stage};
+pub use response::Response;

@@ -1,0 +1,19 @@
+//! The definitions computed: plainly, slowly, on small inputs.
+//!
+//! Nothing of a running level uses this. It is here so that worked examples can be run against the
+//! definitions themselves: each call's contract says that its answer is the definition's.
+//!
+//! A history is a slice with the newest event first, as in the definitions, so that `&history[k..]`
+//! is the history as it stood before its newest `k` events.
+
+mod heads;
+mod queues;
+mod stretch;
+mod virtual_time;
+mod world;
+
+pub use heads::choice;
+pub use queues::{shortest, waiting};
+pub use stretch::{is_never_empty, service};
+pub use virtual_time::{Numbers, names_queues, numbers_of};
+pub use world::{World, are_widths};

@@ -40,7 +40,7 @@ kept widths w r to off off' o s =
       is_over_wide = s.is_over_wide;
       is_alone = λ j l st. dite (ℕ_discrete j r)
           (λ e. absurd (off' (sym (put_here w.stage r to) ∙ (ap (put w.stage r to) (sym e) ∙ st))))
-          (λ other. s.is_alone j l (sym (put_else w.stage r to j other) ∙ st))
+          (λ other. s.is_alone j l (sym (put_else w.stage r to j other) ∙ st));
     }
 
 module _ (widths : List ℕ) (wide : AreWidths widths) where
@@ -52,7 +52,7 @@ module _ (widths : List ℕ) (wide : AreWidths widths) where
         is_standing = put_here w.stage r Stands;
         is_over_wide = over;
         is_alone = λ j k is. dite (ℕ_discrete j r) (λ e. e)
-            (λ other. let c : width widths j ≤ seats widths w = counts widths w j k (sym (put_else w.stage r Stands j other) ∙ is) in let d : 1 ≤ width widths j = (wide j k).0 in absurd (omega arith))
+            (λ other. let c : width widths j ≤ seats widths w = counts widths w j k (sym (put_else w.stage r Stands j other) ∙ is) in let d : 1 ≤ width widths j = (wide j k).0 in absurd (omega arith));
       }
 
   -- a request comes to stand that fits
@@ -90,13 +90,15 @@ module _ (widths : List ℕ) (wide : AreWidths widths) where
   same_alone : (w : World) (m : Move) → (after m w).stage ≡ w.stage → (after m w).largest ≡ w.largest → Alone widths w → Alone widths (after m w)
   same_alone w m stages largests alone over =
       let e : seats widths (after m w) ≡ seats widths w = ap (λ (f : ℕ → Stage). tally (λ r. seats_at (f r) (width widths r)) (length widths)) stages in
-      let s = alone (omega arith) in
-      (s.0, record {
-        is_request = s.1.is_request;
-        is_standing = ap (λ (f : ℕ → Stage). f s.0) stages ∙ s.1.is_standing;
-        is_over_wide = let over_wide = s.1.is_over_wide in omega arith;
-        is_alone = λ j l st. s.1.is_alone j l (sym (ap (λ (f : ℕ → Stage). f j) stages) ∙ st)
-      })
+      let s = alone (omega arith) in (
+        s.0,
+        record {
+          is_request = s.1.is_request;
+          is_standing = ap (λ (f : ℕ → Stage). f s.0) stages ∙ s.1.is_standing;
+          is_over_wide = let over_wide = s.1.is_over_wide in omega arith;
+          is_alone = λ j l st. s.1.is_alone j l (sym (ap (λ (f : ℕ → Stage). f j) stages) ∙ st);
+        },
+      )
 
 -- the limit is at most the largest so far
 pub limit-le-largest : (o : Opening) (ms : List Move) → (world o ms).limit ≤ (world o ms).largest

@@ -36,7 +36,7 @@ follow_below widths h (Dispatch r q) v most widest w b =
     let now = b.virtual_time in let from = b.next q in let wide = w r in
     record {
       next = put_below v.next q (v.next q + width widths r) (most + widest) (λ p. (let d = b.next p in omega arith)) (omega arith);
-      virtual_time = omega arith
+      virtual_time = omega arith;
     }
 follow_below widths h (Strike r q) v most widest w b = record { next = λ p. (let d = b.next p in omega arith); virtual_time = let d = b.virtual_time in omega arith }
 

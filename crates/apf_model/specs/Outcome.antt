@@ -75,5 +75,5 @@ stats_of queues h =
       dispatched = count_by is_dispatch h;
       struck = count_by is_strike h;
       full = count_by is_full h;
-      waiting = tally (λ q. length (waiting h q)) queues
+      waiting = tally (λ q. length (waiting h q)) queues;
     }

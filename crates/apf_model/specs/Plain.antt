@@ -26,7 +26,7 @@ world_of p =
       response = p.response;
       stage = stage_in p.stages.items;
       saw_no_room = λ r. slice_index_or p.saw_no_room.items r false;
-      decision = λ r. slice_index_or p.decisions.items r None
+      decision = λ r. slice_index_or p.decisions.items r None;
     }
 
 -- a limit that a plain world takes

@@ -38,7 +38,7 @@ opening_world o =
       response = o.response;
       stage = λ _. Away;
       saw_no_room = λ _. false;
-      decision = λ _. None
+      decision = λ _. None;
     }
 
 -- the request's width

@@ -28,13 +28,17 @@ impl Head {
 }
 
 // The virtual finish of a queue, or `None` if it is empty.
-fn finish_of(alloc: Global, widths: &[u32], history: &[Event], numbers: &Numbers, queue: u32) -> Result<Option<u64>, AllocError>
+fn finish_of(
+    alloc: Global,
+    widths: &[u32],
+    history: &[Event],
+    numbers: &Numbers,
+    queue: u32,
+) -> Result<Option<u64>, AllocError>
     requires is_queue { queue < length numbers.now.next.items }
     requires small { (q : ℕ) → slice_index numbers.now.next.items q ≤ 2 ^ 52 }
-    ensures {
-        IfOk result (λ o. MatchOption o (waiting history.now queue ≡ []) (λ f. (waiting history.now queue ≢ [])
-        × (f ≡ slice_index numbers.now.next.items queue + width widths.now (slice_index (waiting history.now queue) 0))))
-    }
+    ensures { IfOk result (λ o. MatchOption o (waiting history.now queue ≡ []) (λ f. (waiting history.now queue ≢ [])
+        × (f ≡ slice_index numbers.now.next.items queue + width widths.now (slice_index (waiting history.now queue) 0)))) }
 {
     let requests = waiting(alloc, history, queue)?;
     let Some(first) = requests.first() else {
@@ -55,12 +59,10 @@ fn steps_to(queues: u32, robin: u32, queue: u32) -> u64
 
 // The better of the best queue so far and this one.
 fn better(best: Option<Head>, head: Head) -> Option<Head>
-    ensures {
-        (queues i : ℕ) (widths : List ℕ) (queue : ℕ → List ℕ) (v : VirtualNumbers)
+    ensures { (queues i : ℕ) (widths : List ℕ) (queue : ℕ → List ℕ) (v : VirtualNumbers)
         → IsBestBelow queues widths queue v i best → head.queue ≡ i → queue i ≢ []
         → head.finish ≡ finish widths queue v i → head.steps ≡ steps_round queues v.robin i
-        → IsBestBelow queues widths queue v (i + 1) result
-    }
+        → IsBestBelow queues widths queue v (i + 1) result }
 {
     match best {
         Some(other) if !head.is_before(other) => Some(other),
@@ -71,20 +73,30 @@ fn better(best: Option<Head>, head: Head) -> Option<Head>
 /// The queue that is dispatched from next: among those that are not empty and have the least virtual
 /// finish, the one reached first when counting round from the queue after the robin. `None` exactly
 /// if nothing waits.
-pub fn choice(alloc: Global, queues: u32, widths: &[u32], history: &[Event]) -> Result<Option<u32>, AllocError>
+pub fn choice(
+    alloc: Global,
+    queues: u32,
+    widths: &[u32],
+    history: &[Event],
+) -> Result<Option<u32>, AllocError>
     requires names_queues { NamesQueues queues history.now }
     requires short { length history.now < 2 ^ 20 }
-    ensures {
-        IfOk result (λ o. MatchOption o ((q : ℕ) → q < queues → waiting history.now q ≡ [])
-        (IsChoice queues widths.now (waiting history.now) (numbers queues widths.now history.now)))
-    }
+    ensures { IfOk result (λ o. MatchOption o ((q : ℕ) → q < queues → waiting history.now q ≡ [])
+        (IsChoice queues widths.now (waiting history.now) (numbers queues widths.now history.now))) }
 {
     let numbers = numbers_of(alloc, queues, widths, history)?;
     let mut best: Option<Head> = None;
     for queue in 0..queues {
         if let Some(finish) = finish_of(alloc, widths, history, &numbers, queue)? {
             let steps = steps_to(queues, numbers.robin, queue);
-            best = better(best, Head { queue, finish, steps });
+            best = better(
+                best,
+                Head {
+                    queue,
+                    finish,
+                    steps,
+                },
+            );
         }
     }
     Ok(best.map(|head| head.queue))

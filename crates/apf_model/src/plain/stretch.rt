@@ -27,7 +27,12 @@ pub fn service(widths: &[u32], stretch: &[Event], queue: u32) -> u64
 
 /// Whether the queue is never empty in the newest `stretch` events of the history: someone waits in
 /// it at each place, both ends included.
-pub fn is_never_empty(alloc: Global, history: &[Event], stretch: usize, queue: u32) -> Result<bool, AllocError>
+pub fn is_never_empty(
+    alloc: Global,
+    history: &[Event],
+    stretch: usize,
+    queue: u32,
+) -> Result<bool, AllocError>
     requires { stretch ≤ length history.now }
     ensures { IfOk result (λ b. IsTrue b ↔ IsNeverEmpty history.now stretch queue) }
 {

@@ -23,10 +23,8 @@ pub struct Numbers {
 // than the level's virtual time.
 fn enter(numbers: &mut Numbers, queue: u32, requests: &[u32])
     requires { queue < length numbers.old.next.items }
-    ensures {
-        (queues : ℕ) (v : VirtualNumbers) → AreNumbers queues v numbers.old
-        → AreNumbers queues (after_enter queue requests.now v) numbers.new
-    }
+    ensures { (queues : ℕ) (v : VirtualNumbers) → AreNumbers queues v numbers.old
+        → AreNumbers queues (after_enter queue requests.now v) numbers.new }
 {
     match requests {
         [] => {
@@ -41,10 +39,8 @@ fn enter(numbers: &mut Numbers, queue: u32, requests: &[u32])
 fn dispatch(numbers: &mut Numbers, queue: u32, width: u32)
     requires is_queue { queue < length numbers.old.next.items }
     requires fits { slice_index numbers.old.next.items queue + width < 2 ^ 64 }
-    ensures {
-        (queues : ℕ) (v : VirtualNumbers) → AreNumbers queues v numbers.old
-        → AreNumbers queues (after_dispatch queue width v) numbers.new
-    }
+    ensures { (queues : ℕ) (v : VirtualNumbers) → AreNumbers queues v numbers.old
+        → AreNumbers queues (after_dispatch queue width v) numbers.new }
 {
     let next = numbers.next[queue as usize];
     numbers.virtual_time = numbers.virtual_time.max(next);
@@ -53,13 +49,17 @@ fn dispatch(numbers: &mut Numbers, queue: u32, width: u32)
 }
 
 // An event comes after a history.
-fn follow(alloc: Global, numbers: &mut Numbers, widths: &[u32], before: &[Event], newest: Event) -> Result<(), AllocError>
+fn follow(
+    alloc: Global,
+    numbers: &mut Numbers,
+    widths: &[u32],
+    before: &[Event],
+    newest: Event,
+) -> Result<(), AllocError>
     requires is_queue { queue_of newest < length numbers.old.next.items }
     requires small { (q : ℕ) → slice_index numbers.old.next.items q ≤ 2 ^ 52 }
-    ensures {
-        OnOk result ((queues : ℕ) (v : VirtualNumbers) → AreNumbers queues v numbers.old
-        → AreNumbers queues (after_event widths.now before.now newest v) numbers.new)
-    }
+    ensures { OnOk result ((queues : ℕ) (v : VirtualNumbers) → AreNumbers queues v numbers.old
+        → AreNumbers queues (after_event widths.now before.now newest v) numbers.new) }
 {
     match newest {
         Event::Enter(_, queue) => {
@@ -90,7 +90,12 @@ pub fn names_queues(queues: u32, history: &[Event]) -> bool
 }
 
 /// The numbers of a history over this many queues, all of whose events name one of them.
-pub fn numbers_of(alloc: Global, queues: u32, widths: &[u32], history: &[Event]) -> Result<Numbers, AllocError>
+pub fn numbers_of(
+    alloc: Global,
+    queues: u32,
+    widths: &[u32],
+    history: &[Event],
+) -> Result<Numbers, AllocError>
     requires names_queues { NamesQueues queues history.now }
     requires short { length history.now < 2 ^ 20 }
     ensures numbers { IfOk result (AreNumbers queues (numbers queues widths.now history.now)) }

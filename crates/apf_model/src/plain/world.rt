@@ -1,6 +1,6 @@
 //! The world of a level, kept as a list for each of its functions.
 
-ghost use Rattle.std.specs.Prelude.{◌≡◌, ℕ, ◌<◌, ◌≤◌, ◌↔◌, length, IfOk, IsTrue, slice_set, replicate, Some, None, true, false};
+ghost use Rattle.std.specs.Prelude.{◌≡◌, ℕ, ◌<◌, ◌≤◌, ◌↔◌, length, max, IfOk, IsTrue, slice_set, replicate, Some, None, true, false};
 ghost use Rattle.std.specs.Bool.{OnTrue, OnFalse};
 ghost use Rattle.apf_model.specs.World.{seats_at, waits_at};
 ghost use Rattle.apf_model.specs.Schedule.{AreWidths};
@@ -83,20 +83,41 @@ fn all_undecided(alloc: Global, count: usize) -> Result<Vec<Option<Decision>>, A
 
 impl World {
     ghost use Rattle.apf_model.specs.World.{
-        Opening, opening_world, HasNotCome, IsWaiting, IsStanding, seats, waiters, width, FitsIn, MayTake,
-        MayEnter, MayGrant, MayLeave, MayBe, MayDecide, MayRelease, MaySee, Allowed, after, put,
+      Opening,
+      opening_world,
+      HasNotCome,
+      IsWaiting,
+      IsStanding,
+      seats,
+      waiters,
+      width,
+      FitsIn,
+      MayTake,
+      MayEnter,
+      MayGrant,
+      MayLeave,
+      MayBe,
+      MayDecide,
+      MayRelease,
+      MaySee,
+      Allowed,
+      after,
+      put,
     };
     ghost use Rattle.apf_model.specs.Plain.{world_of, widths_of, IsLowLimit};
 
     /// The world of a level that has just been opened, with a limit of at most 10,000 seats and
     /// requests of these widths, 1 to 20,000 each.
-    pub fn new(alloc: Global, limit: u32, response: Response, widths: &[u32]) -> Result<World, AllocError>
+    pub fn new(
+        alloc: Global,
+        limit: u32,
+        response: Response,
+        widths: &[u32],
+    ) -> Result<World, AllocError>
         requires limit { limit ≤ 10000 }
         requires few { length widths.now ≤ 10000 }
         requires widths { AreWidths widths.now }
-        ensures world {
-            IfOk result (λ w. world_of w ≡ opening_world (record { limit = limit; response = response; widths = widths.now }))
-        }
+        ensures world { IfOk result (λ w. world_of w ≡ opening_world (record { limit = limit; response = response; widths = widths.now })) }
         ensures widths { IfOk result (λ w. widths_of w ≡ widths.now) }
     {
         let stages = all_away(alloc, widths.len())?;
@@ -140,21 +161,30 @@ impl World {
     pub fn stage(&self, request: u32) -> Stage
         ensures { result ≡ (world_of self.now).stage request }
     {
-        self.stages.get(request as usize).copied().unwrap_or(Stage::Away)
+        self.stages
+            .get(request as usize)
+            .copied()
+            .unwrap_or(Stage::Away)
     }
 
     /// The decision on a request, or `None` if it is undecided.
     pub fn decision(&self, request: u32) -> Option<Decision>
         ensures { result ≡ (world_of self.now).decision request }
     {
-        self.decisions.get(request as usize).copied().unwrap_or(None)
+        self.decisions
+            .get(request as usize)
+            .copied()
+            .unwrap_or(None)
     }
 
     // Whether a request saw no room.
     fn saw(&self, request: u32) -> bool
         ensures { result ≡ (world_of self.now).saw_no_room request }
     {
-        self.saw_no_room.get(request as usize).copied().unwrap_or(false)
+        self.saw_no_room
+            .get(request as usize)
+            .copied()
+            .unwrap_or(false)
     }
 
     /// The seats in use.
@@ -248,9 +278,7 @@ impl World {
     fn may_decide(&self, request: u32, decision: Decision) -> bool
         ensures { IsTrue result ↔ MayDecide (widths_of self.now) (world_of self.now) request decision }
     {
-        self.is_request(request)
-            && self.decision(request) == None
-            && self.may_be(request, decision)
+        self.is_request(request) && self.decision(request) == None && self.may_be(request, decision)
     }
 
     fn may_release(&self, request: u32) -> bool
@@ -290,9 +318,7 @@ impl World {
     fn put_stage(&mut self, request: u32, stage: Stage)
         requires is_request { request < length (widths_of self.old) }
         requires few_seats { seats_of (widths_of self.old) (slice_set self.old.stages.items request stage) ≤ 20000 }
-        ensures world {
-            world_of self.new ≡ record (world_of self.old) { stage = put (world_of self.old).stage request stage }
-        }
+        ensures world { world_of self.new ≡ record (world_of self.old) { stage = put (world_of self.old).stage request stage } }
         ensures widths { widths_of self.new ≡ widths_of self.old }
     {
         self.stages[request as usize] = stage;
@@ -301,10 +327,8 @@ impl World {
     // Decides the request.
     fn put_decision(&mut self, request: u32, decision: Decision)
         requires { request < length (widths_of self.old) }
-        ensures world {
-            world_of self.new
-            ≡ record (world_of self.old) { decision = put (world_of self.old).decision request (Some decision) }
-        }
+        ensures world { world_of self.new
+            ≡ record (world_of self.old) { decision = put (world_of self.old).decision request (Some decision) } }
         ensures widths { widths_of self.new ≡ widths_of self.old }
     {
         self.decisions[request as usize] = Some(decision);
@@ -313,13 +337,27 @@ impl World {
     // Notes that the request saw no room.
     fn put_saw(&mut self, request: u32)
         requires { request < length (widths_of self.old) }
-        ensures world {
-            world_of self.new
-            ≡ record (world_of self.old) { saw_no_room = put (world_of self.old).saw_no_room request true }
-        }
+        ensures world { world_of self.new
+            ≡ record (world_of self.old) { saw_no_room = put (world_of self.old).saw_no_room request true } }
         ensures widths { widths_of self.new ≡ widths_of self.old }
     {
         self.saw_no_room[request as usize] = true;
+    }
+
+    // Changes the limit.
+    fn put_limit(&mut self, limit: u32)
+        requires { limit ≤ 10000 }
+        ensures world { let w = world_of self.old in
+            world_of self.new ≡ record w { limit = limit; largest = max w.largest limit } }
+        ensures widths { widths_of self.new ≡ widths_of self.old }
+    {
+        let World {
+            limit: current,
+            largest,
+            ..
+        } = self;
+        *current = limit;
+        *largest = (*largest).max(limit);
     }
 
     // Makes a step that is allowed.
@@ -337,10 +375,7 @@ impl World {
             Move::Release(request) => self.put_stage(request, Stage::Gone),
             Move::Decide(request, decision) => self.put_decision(request, decision),
             Move::Close => self.is_open = false,
-            Move::SetLimit(limit) => {
-                self.limit = limit;
-                self.largest = self.largest.max(limit);
-            }
+            Move::SetLimit(limit) => self.put_limit(limit),
             Move::See(request) => self.put_saw(request),
         }
     }

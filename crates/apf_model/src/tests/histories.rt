@@ -31,7 +31,12 @@ fn newest_first(alloc: Global, events: &[Event]) -> Result<Vec<Event>, AllocErro
     events.iter().rev().copied().collect(alloc)
 }
 
-fn choice_of(rt: &impl Abort, alloc: Global, row: &Row<'_>, history: &[Event]) -> Result<Option<u32>, AllocError> {
+fn choice_of(
+    rt: &impl Abort,
+    alloc: Global,
+    row: &Row<'_>,
+    history: &[Event],
+) -> Result<Option<u32>, AllocError> {
     assert!(rt; names_queues(row.queues, history));
     assert!(rt; history.len() < 1 << 20);
     choice(alloc, row.queues, row.widths, history)
@@ -46,14 +51,29 @@ fn check(rt: &impl Abort, alloc: Global, row: &Row<'_>) -> Result<(), AllocError
         match *event {
             Enter(request, queue) => {
                 let hand = row.hands.get(request as usize).copied().unwrap_or(&[]);
-                assert_eq!(rt; shortest(alloc, before, hand)?, Some(queue), "place {place}");
+                assert_eq!(rt;
+                    shortest(alloc, before, hand)?,
+                    Some(queue),
+                    "place {place}"
+                );
             }
             Dispatch(request, queue) => {
-                assert_eq!(rt; choice_of(rt, alloc, row, before)?, Some(queue), "place {place}");
-                assert_eq!(rt; waiting(alloc, before, queue)?.first().copied(), Some(request), "place {place}");
+                assert_eq!(rt;
+                    choice_of(rt, alloc, row, before)?,
+                    Some(queue),
+                    "place {place}"
+                );
+                assert_eq!(rt;
+                    waiting(alloc, before, queue)?.first().copied(),
+                    Some(request),
+                    "place {place}"
+                );
             }
             Strike(request, queue) => {
-                assert!(rt; waiting(alloc, before, queue)?.iter().any(|r| *r == request), "place {place}");
+                assert!(rt;
+                    waiting(alloc, before, queue)?.iter().any(|r| *r == request),
+                    "place {place}"
+                );
             }
             Event::Full(..) => {}
         }
@@ -142,7 +162,11 @@ fn virtual_time(rt: HostRuntime) -> Result<(), Fail> {
         assert!(rt; names_queues(row.queues, now));
         assert!(rt; now.len() < 1 << 20);
         let numbers = numbers_of(rt.alloc(), row.queues, row.widths, now)?;
-        assert_eq!(rt; numbers.next.as_slice(), [next_0, next_1].as_slice(), "place {place}");
+        assert_eq!(rt;
+            numbers.next.as_slice(),
+            [next_0, next_1].as_slice(),
+            "place {place}"
+        );
         assert_eq!(rt; numbers.virtual_time, virtual_time, "place {place}");
         assert_eq!(rt; numbers.robin, robin, "place {place}");
     }
@@ -164,11 +188,12 @@ fn balance(rt: HostRuntime) -> Result<(), Fail> {
         assert!(rt; to - from <= now.len());
         let stretch = &now[..to - from];
         let mut services = None;
-        if is_never_empty(rt.alloc(), now, to - from, 0)? && is_never_empty(rt.alloc(), now, to - from, 1)? {
+        if is_never_empty(rt.alloc(), now, to - from, 0)?
+            && is_never_empty(rt.alloc(), now, to - from, 1)?
+        {
             services = Some((service(&widths, stretch, 0), service(&widths, stretch, 1)));
         }
         assert_eq!(rt; services, want, "from {from} to {to}");
     }
     Ok(())
 }
-

@@ -9,7 +9,14 @@ use std::process::Abort;
 use std::test::Fail;
 
 // The steps are allowed or not as said, and leave this many seats and waiters.
-fn steps(rt: &impl Abort, alloc: Global, limit: u32, response: Response, widths: &[u32], steps: &[(Move, bool)]) -> Result<World, AllocError> {
+fn steps(
+    rt: &impl Abort,
+    alloc: Global,
+    limit: u32,
+    response: Response,
+    widths: &[u32],
+    steps: &[(Move, bool)],
+) -> Result<World, AllocError> {
     assert!(rt; limit <= 10_000 && widths.len() <= 10_000 && are_widths(widths));
     let mut world = World::new(alloc, limit, response, widths)?;
     for (step, allowed) in steps {

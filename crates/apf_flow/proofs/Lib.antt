@@ -1,0 +1,4 @@
+pub mod Decks
+pub mod FirstPlace
+pub mod Hands
+pub mod Dealing

@@ -1,0 +1,27 @@
+-- Why the sizes of a dealer are refused.
+use Rattle.std.specs.Prelude.{ℕ, ◌^◌, List, Option, Some, None, nat_lt, nat_eq, if◌then◌else◌, ◌||◌, codes}
+use Rattle.apf_flow.specs.declared.fault.DealerFault.{DealerFault}
+use Rattle.apf_flow.specs.declared.fault.DealerFault.TheVariants.{NotPositive, HandTooLarge, DeckTooLarge, TooMuchEntropy}
+
+-- the first fault of a deck and a hand, if there is one
+abbrev pub fault_of : ℕ → ℕ → Option DealerFault
+fault_of deck hand =
+    if nat_eq deck 0 || nat_eq hand 0 then Some NotPositive
+    else (if nat_lt deck hand then Some HandTooLarge
+    else (if nat_lt (2 ^ 26) deck then Some DeckTooLarge
+    else (if nat_lt (2 ^ 60) (deck ^ hand) then Some TooMuchEntropy
+    else None)))
+
+-- the number of a fault
+abbrev pub number_of : DealerFault → ℕ
+number_of NotPositive = 1
+number_of HandTooLarge = 2
+number_of DeckTooLarge = 3
+number_of TooMuchEntropy = 4
+
+-- the text of a fault
+abbrev pub text_of : DealerFault → List ℕ
+text_of NotPositive = codes "not positive"
+text_of HandTooLarge = codes "hand too large"
+text_of DeckTooLarge = codes "deck too large"
+text_of TooMuchEntropy = codes "too much entropy"

@@ -1,0 +1,5 @@
+pub mod Flow
+pub mod Sizes
+pub mod Fault
+pub mod Deal
+pub mod Places

@@ -1,0 +1,55 @@
+"""Runs the built program, and counts what holds."""
+
+import os
+import subprocess
+import sys
+import tempfile
+
+TOP = os.path.dirname(os.path.dirname(os.path.dirname(os.path.abspath(__file__))))
+LAUNCHER = os.path.join(TOP, "apf")
+
+
+def build():
+    """The built program's path; the launcher builds it where that is needed."""
+    subprocess.run([LAUNCHER, "hash", "", ""], stdout=subprocess.DEVNULL, check=True)
+    return os.path.join(TOP, "crates", "apf", "out", "apf")
+
+
+def run(program, words, **how):
+    """Runs the program, and answers its status, its output and its errors, as bytes."""
+    done = subprocess.run(
+        [program, *words], stdin=subprocess.DEVNULL, stdout=subprocess.PIPE, stderr=subprocess.PIPE, timeout=120, **how
+    )
+    return done.returncode, done.stdout, done.stderr
+
+
+class Files:
+    """Files of a run in a folder that goes away."""
+
+    def __init__(self):
+        self.folder = tempfile.TemporaryDirectory(prefix="apf-test-")
+
+    def __call__(self, name, content):
+        path = os.path.join(self.folder.name, name)
+        with open(path, "wb") as file:
+            file.write(content if isinstance(content, bytes) else content.encode())
+        return path
+
+
+class Tally:
+    """Counts checks, and names those that fail."""
+
+    def __init__(self):
+        self.passed = 0
+        self.failed = 0
+
+    def check(self, name, got, want):
+        if got == want:
+            self.passed += 1
+        else:
+            self.failed += 1
+            print(f"FAILED {name}\n  got  {got!r}\n  want {want!r}")
+
+    def end(self):
+        print(f"{self.passed} passed, {self.failed} failed")
+        sys.exit(1 if self.failed or not self.passed else 0)

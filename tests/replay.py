@@ -1,0 +1,102 @@
+"""The commands on files: what is printed, the statuses, and faults of reading and writing."""
+
+import os
+import subprocess
+import sys
+import tempfile
+
+sys.path.insert(0, os.path.join(os.path.dirname(os.path.abspath(__file__)), "lib"))
+from harness import LAUNCHER, TOP, Files, Tally, build, run
+
+tally = Tally()
+program = build()
+files = Files()
+config = files("config", '{"limit":1}')
+one = files("one", '[{"hash":0}]')
+two = files("two", '[{"hash":0},{"hash":0}]')
+first = os.path.join(TOP, "examples", "first")
+FIRST = (
+    b"arrive 0 execute\nfinish 0\n"
+    b"level open seats 0 waiting 0\nexecuted 1 rejected 0 cancelled 0 undecided 0\n"
+    b"queue-full 0 closed 0 concurrency-limit 0\nentered 0 dispatched 0 struck 0\n"
+)
+
+
+def replay(config, requests, script):
+    return run(program, ["replay", config, requests, script])
+
+
+# from the top as the README has it, and from another folder
+names = [os.path.join("examples", "first", name) for name in ("config.json", "requests.json", "script.txt")]
+tally.check("first run", run("./apf", ["replay", *names], cwd=TOP), (0, FIRST, b""))
+with tempfile.TemporaryDirectory() as elsewhere:
+    paths = [os.path.join(TOP, name) for name in names]
+    tally.check("first run from elsewhere", run(LAUNCHER, ["replay", *paths], cwd=elsewhere), (0, FIRST, b""))
+    relative = [os.path.relpath(path, elsewhere) for path in paths]
+    tally.check("first run by relative names", run(LAUNCHER, ["replay", *relative], cwd=elsewhere), (0, FIRST, b""))
+
+NO_ROOM = (
+    b"arrive 0 execute\narrive 1 no room\n"
+    b"level open seats 1 waiting 0\nexecuted 1 rejected 0 cancelled 0 undecided 1\n"
+    b"queue-full 0 closed 0 concurrency-limit 0\nentered 0 dispatched 0 struck 0\n"
+)
+tally.check("no room", replay(config, two, files("s", "arrive 0\narrive 1\n")), (0, NO_ROOM, b""))
+EMPTY = (
+    b"level open seats 0 waiting 0\nexecuted 0 rejected 0 cancelled 0 undecided 0\n"
+    b"queue-full 0 closed 0 concurrency-limit 0\nentered 0 dispatched 0 struck 0\n"
+)
+tally.check("empty", replay(config, files("none", "[]"), files("s", "")), (0, EMPTY, b""))
+status, out, err = replay(config, two, files("s", "arrive 0\narrive 0\nfinish 0\nfinish 0\narrive 1\n"))
+tally.check("again", (status, out.split(b"level")[0], err), (
+    0, b"arrive 0 execute\narrive 0 again\nfinish 0\nfinish 0 not running\narrive 1 execute\n", b""))
+
+# a part that isn't built ends with status 1 and one line, and prints nothing
+for line in ("cancel 0", "close", "limit 2"):
+    status, out, err = replay(config, one, files("s", f"arrive 0\n{line}\n"))
+    tally.check(line, (status, out, err.count(b"\n"), err.startswith(b"apf: ")), (1, b"", 1, True))
+for words in (["run", config, one, "1"], ["services", config, one, files("s", "")]):
+    status, out, err = run(program, words)
+    tally.check(words[0], (status, out, err.count(b"\n"), err.startswith(b"apf: ")), (1, b"", 1, True))
+
+# a fault of a file, each with its line and status
+for name, texts, want in [
+    ("config fault", ('{"limit":0}', "[]", ""), b"apf: config fault 5: bad value of limit\n"),
+    ("config first", ("", "x", "x"), b"apf: config fault 1: not JSON\n"),
+    ("requests fault", ('{"limit":1}', "{}", ""), b"apf: requests fault 2: not an array\n"),
+    ("requests fault at", ('{"limit":1}', '[{"hash":0},1]', ""), b"apf: requests fault 4 at 1: not an object\n"),
+    ("script fault", ('{"limit":1}', '[{"hash":0}]', "close\narrive 1\n"), b"apf: script fault 4 at line 2: unknown request\n"),
+    ("limit fault", ('{"limit":1}', "[]", "limit 0\n"), b"apf: script fault 6 at line 1: bad limit\n"),
+    ("dealer fault", ('{"limit":1,"queues":3}', "[]", ""), b"apf: dealer fault 2: hand too large\n"),
+]:
+    paths = [files(f"part{i}", text) for i, text in enumerate(texts)]
+    tally.check(name, replay(*paths), (1, b"", want))
+
+# a file that can't be read
+good = [config, one, files("s", "arrive 0\n")]
+for place, name in enumerate(("config", "requests", "script")):
+    for bad in (os.path.join(files.folder.name, "missing"), files.folder.name, "", "a/b"):
+        paths = [*good]
+        paths[place] = bad
+        tally.check(f"{name} {bad}", replay(*paths), (1, b"", b"apf: cannot read %s\n" % name.encode()))
+closed = files("closed", "[]")
+os.chmod(closed, 0)
+if os.geteuid() == 0:
+    # root reads any file: the same as another user, if there is one
+    os.chmod(files.folder.name, 0o755)
+    drop = {"user": 65534, "group": 65534, "extra_groups": []}
+    if os.access(program, os.X_OK) and subprocess.run([program, "hash", "", ""], capture_output=True, **drop).returncode == 0:
+        tally.check("no right to read", run(program, ["replay", config, closed, config], **drop), (1, b"", b"apf: cannot read requests\n"))
+else:
+    tally.check("no right to read", replay(config, closed, config), (1, b"", b"apf: cannot read requests\n"))
+
+# output that can't be written
+for words in (["hash", "", ""], ["deal", "8", "3", "0"], ["replay", *good], ["--help"]):
+    with open("/dev/full", "wb") as full:
+        done = subprocess.run([program, *words], stdout=full, stderr=subprocess.PIPE)
+    tally.check(f"full disk {words[0]}", (done.returncode, done.stderr), (1, b"apf: cannot write\n"))
+    reading, writing = os.pipe()
+    os.close(reading)
+    done = subprocess.run([program, *words], stdout=writing, stderr=subprocess.PIPE)
+    os.close(writing)
+    tally.check(f"closed pipe {words[0]}", (done.returncode, done.stderr), (1, b"apf: cannot write\n"))
+tally.end()

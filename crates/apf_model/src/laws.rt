@@ -25,23 +25,30 @@ ghost use Rattle.apf_model.specs.Schedule.{
 /// A schedule is a list with the newest step first, and each of its beginnings is a schedule, so what is
 /// said of its world holds at every place. It runs no code: the contract is the law.
 pub fn every_schedule_is_safe()
-    ensures beginnings { (o : Opening) (later earlier : List Move) → IsSchedule o (later ++ earlier) → IsSchedule o earlier }
-    ensures one_decide { (o : Opening) (ms : List Move) (r : ℕ) → IsSchedule o ms → count_by (is_decided r) ms ≤ 1 }
-    ensures one_release { (o : Opening) (ms : List Move) (r : ℕ) → IsSchedule o ms → count_by (releases r) ms ≤ 1 }
-    ensures one_arrival { (o : Opening) (ms : List Move) (r : ℕ) → IsSchedule o ms → count_by (arrives r) ms ≤ 1 }
-    ensures one_grant { (o : Opening) (ms : List Move) (r : ℕ) → IsSchedule o ms → count_by (is_granted r) ms ≤ 1 }
+    ensures beginnings { (o : Opening) (later earlier : List Move)
+        → IsSchedule o (later ++ earlier) → IsSchedule o earlier }
+    ensures one_decide { (o : Opening) (ms : List Move) (r : ℕ)
+        → IsSchedule o ms → count_by (is_decided r) ms ≤ 1 }
+    ensures one_release { (o : Opening) (ms : List Move) (r : ℕ)
+        → IsSchedule o ms → count_by (releases r) ms ≤ 1 }
+    ensures one_arrival { (o : Opening) (ms : List Move) (r : ℕ)
+        → IsSchedule o ms → count_by (arrives r) ms ≤ 1 }
+    ensures one_grant { (o : Opening) (ms : List Move) (r : ℕ)
+        → IsSchedule o ms → count_by (is_granted r) ms ≤ 1 }
     ensures grant_after_enter { (o : Opening) (later earlier : List Move) (r : ℕ)
         → IsSchedule o (later ++ Grant r ∷ earlier) → count_by (enters r) earlier ≡ 1 }
 
     // A request decided execute stood when it was decided.
-    ensures executed_stood { (o : Opening) (ms : List Move) (r : ℕ) → IsSchedule o ms → (world o ms).decision r ≡ Some Execute
+    ensures executed_stood { (o : Opening) (ms : List Move) (r : ℕ)
+        → IsSchedule o ms → (world o ms).decision r ≡ Some Execute
         → (later : List Move) × ((earlier : List Move)
         × (ms ≡ later ++ Decide r Execute ∷ earlier) × IsStanding (world o earlier) r) }
 
     // Of a request that left, there is no place at which it stands.
-    ensures left_never_stood { (o : Opening) (later earlier : List Move) (r : ℕ) → IsSchedule o (later ++ earlier)
-        → 1 ≤ count_by (leaves r) (later ++ earlier) → ¬ IsStanding (world o earlier) r }
-    ensures waiting_undecided_or_cancelled { (o : Opening) (ms : List Move) (r : ℕ) → IsSchedule o ms → IsWaiting (world o ms) r
+    ensures left_never_stood { (o : Opening) (later earlier : List Move) (r : ℕ)
+        → IsSchedule o (later ++ earlier) → 1 ≤ count_by (leaves r) (later ++ earlier) → ¬ IsStanding (world o earlier) r }
+    ensures waiting_undecided_or_cancelled { (o : Opening) (ms : List Move) (r : ℕ)
+        → IsSchedule o ms → IsWaiting (world o ms) r
         → ((world o ms).decision r ≡ None) ⊎ ((world o ms).decision r ≡ Some Cancelled) }
     ensures no_arrival_after_close { (o : Opening) (later earlier : List Move) (r : ℕ)
         → IsSchedule o (later ++ Close ∷ earlier) → count_by (arrives r) later ≡ 0 }
@@ -51,9 +58,10 @@ pub fn every_schedule_is_safe()
         → IsSchedule o (later ++ Grant r ∷ earlier) → FitsIn o.widths (world o earlier) r }
 
     // The seats pass the largest limit so far only for one over-wide grant standing alone.
-    ensures alone { (o : Opening) (ms : List Move) → AreWidths o.widths → IsSchedule o ms → Alone o.widths (world o ms) }
+    ensures alone { (o : Opening) (ms : List Move)
+        → AreWidths o.widths → IsSchedule o ms → Alone o.widths (world o ms) }
 
     // So they are at most the greater of that limit and the widest width.
-    ensures bounded { (o : Opening) (ms : List Move) (most : ℕ) → AreWidths o.widths → IsSchedule o ms
-        → (world o ms).largest ≤ most → 20000 ≤ most → seats o.widths (world o ms) ≤ most }
+    ensures bounded { (o : Opening) (ms : List Move) (most : ℕ)
+        → AreWidths o.widths → IsSchedule o ms → (world o ms).largest ≤ most → 20000 ≤ most → seats o.widths (world o ms) ≤ most }
 {}

@@ -47,7 +47,8 @@ impl LevelWord {
     /// The level word of these four, or `None` if a number is 2^20 or more.
     pub fn new(closed: bool, waiters: u32, seats: u32, limit: u32) -> Option<LevelWord>
         ensures some { IsSome result ↔ AllBelow20Bits waiters seats limit }
-        ensures value { IfSome result (λ w. w ≡ record { closed = closed; waiters = waiters; seats = seats; limit = limit }) }
+        ensures value { IfSome result (λ w. w
+            ≡ record { closed = closed; waiters = waiters; seats = seats; limit = limit }) }
     {
         let largest = waiters.max(seats).max(limit);
         if u64::from(largest) < FIELD {
@@ -111,7 +112,8 @@ impl LevelWord {
         ensures some { IfSome result (λ w. packed w ≡ word) }
 
         // What `pack` made comes back.
-        ensures round_trip { (l : Level) → AllBelow20Bits l.waiters l.seats l.limit → word ≡ packed l → result ≡ Some l }
+        ensures round_trip { (l : Level)
+            → AllBelow20Bits l.waiters l.seats l.limit → word ≡ packed l → result ≡ Some l }
     {
         if word / UNUSED % 8 != 0 {
             return None;

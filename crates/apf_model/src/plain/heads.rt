@@ -21,7 +21,8 @@ pub struct Head {
 
 impl Head {
     fn is_before(self, other: Head) -> bool
-        ensures { IsTrue result ↔ ((self.finish < other.finish) ⊎ ((self.finish ≡ other.finish) × (self.steps < other.steps))) }
+        ensures { IsTrue result ↔ ((self.finish < other.finish)
+            ⊎ ((self.finish ≡ other.finish) × (self.steps < other.steps))) }
     {
         self.finish < other.finish || (self.finish == other.finish && self.steps < other.steps)
     }

@@ -54,7 +54,8 @@ pub fn waiting(alloc: Global, history: &[Event], queue: u32) -> Result<Vec<u32>,
 /// The shortest queue of the hand: the one with the fewest waiting requests, and among equals the
 /// one dealt first. `None` for an empty hand.
 pub fn shortest(alloc: Global, history: &[Event], hand: &[u32]) -> Result<Option<u32>, AllocError>
-    ensures { IfOk result (λ o. MatchOption o (length hand.now ≡ 0) (IsShortest (waiting history.now) hand.now)) }
+    ensures { IfOk result (λ o. MatchOption o (length hand.now ≡ 0)
+        (IsShortest (waiting history.now) hand.now)) }
 {
     let Some(first) = hand.first() else {
         return Ok(None);

@@ -117,7 +117,8 @@ impl World {
         requires limit { limit ≤ 10000 }
         requires few { length widths.now ≤ 10000 }
         requires widths { AreWidths widths.now }
-        ensures world { IfOk result (λ w. world_of w ≡ opening_world (record { limit = limit; response = response; widths = widths.now })) }
+        ensures world { IfOk result (λ w. world_of w
+            ≡ opening_world (record { limit = limit; response = response; widths = widths.now })) }
         ensures widths { IfOk result (λ w. widths_of w ≡ widths.now) }
     {
         let stages = all_away(alloc, widths.len())?;
@@ -317,8 +318,10 @@ impl World {
     // Puts the request at this stage.
     fn put_stage(&mut self, request: u32, stage: Stage)
         requires is_request { request < length (widths_of self.old) }
-        requires few_seats { seats_of (widths_of self.old) (slice_set self.old.stages.items request stage) ≤ 20000 }
-        ensures world { world_of self.new ≡ record (world_of self.old) { stage = put (world_of self.old).stage request stage } }
+        requires few_seats { seats_of (widths_of self.old)
+            (slice_set self.old.stages.items request stage) ≤ 20000 }
+        ensures world { world_of self.new
+            ≡ record (world_of self.old) { stage = put (world_of self.old).stage request stage } }
         ensures widths { widths_of self.new ≡ widths_of self.old }
     {
         self.stages[request as usize] = stage;

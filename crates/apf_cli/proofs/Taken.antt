@@ -1,0 +1,405 @@
+-- What a walk over words with no fault holds: each row has a value that its argument takes.
+use Rattle.std.proofs.Common.{◌≡◌, ◌∙◌, ◌==◌, ◌&&◌, ℕ, Bool, cond, true, false, not, zero, suc, refl, sym, ap, ap₂, subst, arith, List, [], ◌∷◌, ◌++◌, length, Option, Some, None, is_some, option_map, true≢false, codes}
+use Rattle.std.specs.Prelude.{slice_get, encode_utf8, drop}
+use Rattle.std.specs.List.{find, fold, list_all}
+use Rattle.std.specs.Option.{option_map_or}
+use Rattle.std.specs.Str.{bytes_eq, chars}
+use Rattle.std.proofs.lemmas.Bool.{eqb-true}
+use Rattle.std.proofs.lemmas.Slice.Eq.{bytes_eq-Decides}
+use Rattle.clap.specs.Facts.{parser_of_value, unwrap_or_range}
+use Rattle.clap.specs.Lexer.{long_of, short_of}
+use Rattle.clap.specs.Walk.{Held, Names, Outcome, Row, Rule, Step, Text, Waiting, Walk, action_of, after_flag, after_step, arg_by_id, arg_by_index, arg_by_long, arg_by_short, at_row, attached_value, bundle, bundle_met, bundle_step, done, has_long, has_short, idle, is_pending, long_or_other, more_values, most_values, next, option, option_word, plain, plain_word, positional, reacted, reading_by, refused, settled, settled_rows, short_or_plain, subcommand, subcommand_met, subcommand_or_other, takes_several, takes_values, to_positional, trailing, used, used_by_id, value, values_or_missing, waits, walked, walked_from, with_values, without, word_met}
+use Rattle.clap.specs.Simple.{Shape}
+use Rattle.clap.specs.Kinds.{Kinds, or_else, range_kinds, value_kinds}
+use Rattle.clap.specs.Faults.{bundle_fault, bundle_step_fault, flag_word_fault, flags_fault, long_fault, other_fault, positional_fault, option_fault, react_fault, set_fault, stray_fault, settle_fault, values_fault, short_fault, step_fault, turn_fault, use_fault, walk_fault, word_fault, action_fault}
+use Rattle.clap.specs.declared.builder.action.ArgAction.{ArgAction}
+use Rattle.clap.specs.declared.builder.action.ArgAction.TheVariants.{Set, Append, SetTrue, SetFalse, Count, Help, HelpShort, HelpLong, Version}
+use Rattle.clap.specs.declared.parser.matches.ValueSource.TheVariants.{CommandLine}
+use Rattle.clap.specs.declared.parser.matches.ValueSource.{ValueSource}
+use Rattle.clap.specs.declared.error.kind.ErrorKind.{ErrorKind}
+use Rattle.clap.specs.declared.error.kind.ErrorKind.TheVariants as kind
+use Rattle.clap.proofs.WalkLemmas.{both}
+use Rattle.clap.proofs.SimpleLemmas.{is_false}
+
+-- ---- lists
+
+-- the fact holds of each element
+abbrev pub Each : {X : Type 0} → (X → Type 0) → List X → Type 0
+Each P [] = Unit {0}
+Each P (x ∷ xs) = P x × Each P xs
+
+pub each_passes : {X : Type 0} (p : X → Bool) (xs : List X) → list_all p xs ≡ true → Each (λ x. p x ≡ true) xs
+each_passes p [] e = tt
+each_passes p (x ∷ xs) e =
+    let parts = both (p x) (list_all p xs) e in
+    (parts.0, each_passes p xs parts.1)
+
+pub Each-weaker : {X : Type 0} (P Q : X → Type 0) → ((x : X) → P x → Q x) → (xs : List X) → Each P xs → Each Q xs
+Each-weaker P Q step [] h = tt
+Each-weaker P Q step (x ∷ xs) h = (step x h.0, Each-weaker P Q step xs h.1)
+
+Each-append : {X : Type 0} (P : X → Type 0) (xs ys : List X) → Each P xs → Each P ys → Each P (xs ++ ys)
+Each-append P [] ys h k = k
+Each-append P (x ∷ xs) ys h k = (h.0, Each-append P xs ys h.1 k)
+
+-- the element that a search finds is one of them, and passes the test
+pub found : {X : Type 0} (P : X → Type 0) (p : X → Bool) (xs : List X) (x : X) → Each P xs → find p xs ≡ Some x → P x × (p x ≡ true)
+found P p [] x h e = cc
+found {X} P p (y ∷ ys) x h e = go (p y) refl e (found P p ys x h.1)
+  where
+    go : (b : Bool) → p y ≡ b → cond b (Some y) (find p ys) ≡ Some x → (find p ys ≡ Some x → P x × (p x ≡ true)) → P x × (p x ≡ true)
+    go true is s later =
+        let same : y ≡ x = cc in
+        let Q : X → Type 0 = λ z. P z × (p z ≡ true) in
+        subst Q same (h.0, is)
+    go false is s later = later s
+
+-- ---- faults
+
+pub no_fault : (a b : Kinds) → or_else a b ≡ [] → (a ≡ []) × (b ≡ [])
+no_fault [] b e = (refl, e)
+no_fault (k ∷ ks) b e = cc
+
+pub some_kind : {k : ErrorKind} {ks : Kinds} → k ∷ ks ≡ [] → ⊥
+some_kind e = cc
+
+-- ---- arguments
+
+abbrev is_set : ArgAction → Bool
+is_set Set = true
+is_set _ = false
+
+abbrev is_help : ArgAction → Bool
+is_help Help = true
+is_help _ = false
+
+set_only : (x : ArgAction) → is_set x ≡ true → x ≡ Set
+set_only Set e = refl
+set_only Append e = cc
+set_only SetTrue e = cc
+set_only SetFalse e = cc
+set_only Count e = cc
+set_only Help e = cc
+set_only HelpShort e = cc
+set_only HelpLong e = cc
+set_only Version e = cc
+
+help_only : (x : ArgAction) → is_help x ≡ true → x ≡ Help
+help_only Help e = refl
+help_only Set e = cc
+help_only Append e = cc
+help_only SetTrue e = cc
+help_only SetFalse e = cc
+help_only Count e = cc
+help_only HelpShort e = cc
+help_only HelpLong e = cc
+help_only Version e = cc
+
+-- a positional of one value
+abbrev is_single : Rule → Bool
+is_single a = is_set (action_of a) && ((unwrap_or_range a.range).start_inclusive == 1 && most_values a == 1)
+
+-- a flag that asks for help
+abbrev is_help_flag : Rule → Bool
+is_help_flag a = is_help (action_of a) && not (takes_values a)
+
+-- each argument is a positional of one value, or else a flag that asks for help, and has no default
+abbrev pub is_plain_rule : Rule → Bool
+is_plain_rule a = cond (is_some a.index) (is_single a) (is_help_flag a)
+
+-- the row has a value that the argument takes
+pub record IsTakenBy (a : Rule) (r : Row) : Type 0 where
+  pub text : Text
+  pub rest : List Text
+  pub values : r.values ≡ text ∷ rest
+  pub reading : r.reading ≡ reading_by a
+  pub taken : value_kinds a.ignore_case (parser_of_value a.parser) text ≡ []
+
+-- the row has a value that its argument takes
+pub record IsTaken (c : List Rule) (r : Row) : Type 0 where
+  pub by : (a : Rule) → arg_by_id c r.id ≡ Some a → IsTakenBy a r
+
+-- one value is wanted, so there is one
+one_wanted : (n : ℕ) → range_kinds 1 1 n ≡ [] → n ≡ 1
+one_wanted n e = go (n == 0) (1 == n) refl e
+  where
+    go : (b d : Bool) → (1 == n) ≡ d → cond b (kind.InvalidValue ∷ []) (cond d [] (kind.WrongNumberOfValues ∷ [])) ≡ [] → n ≡ 1
+    go true d is h = cc
+    go false true is h = sym (eqb-true 1 n is)
+    go false false is h = cc
+
+one_value : (values : List Text) → length values ≡ 1 → (t : Text) × (values ≡ t ∷ [])
+one_value [] e = absurd (omega arith)
+one_value (t ∷ []) e = (t, refl)
+one_value (t ∷ u ∷ rest) e = absurd (omega arith)
+
+-- ---- rows
+
+rows_changed : (P : Row → Type 0) (id : Text) (change : Row → List Row) (missing rows : List Row)
+    → ((r : Row) → bytes_eq r.id id ≡ true → P r → Each P (change r)) → Each P missing → Each P rows → Each P (at_row id change missing rows)
+rows_changed P id change missing [] one new h = new
+rows_changed P id change missing (r ∷ rs) one new h = go (bytes_eq r.id id) refl (rows_changed P id change missing rs one new h.1)
+  where
+    go : (b : Bool) → bytes_eq r.id id ≡ b → Each P (at_row id change missing rs) → Each P (cond b (change r ++ rs) (r ∷ at_row id change missing rs))
+    go true is later = Each-append P (change r) rs (one r is h.0) h.1
+    go false is later = (h.0, later)
+
+more_taken : (c : List Rule) (s : ValueSource) (values : List Text) (r : Row) → IsTaken c r → Each (IsTaken c) (more_values s values r)
+more_taken c s values r h = (
+  record {
+    by = λ a is.
+        let t = h.by a is in
+        record { text = t.text; rest = t.rest ++ values; values = ap (λ vs. vs ++ values) t.values; reading = t.reading; taken = t.taken };
+  },
+  tt,
+)
+
+new_taken : (c : List Rule) (a : Rule) (t : Text) (r : Row) → arg_by_id c r.id ≡ Some a → r.values ≡ t ∷ [] → r.reading ≡ reading_by a
+    → value_kinds a.ignore_case (parser_of_value a.parser) t ≡ [] → IsTaken c r
+new_taken c a t r is values reading taken = record {
+  by = λ b found_b.
+      let same : a ≡ b = cc in
+      let P : Rule → Type 0 = λ z. IsTakenBy z r in
+      subst P same (record { text = t; rest = []; values = values; reading = reading; taken = taken });
+}
+
+with_taken : (c : List Rule) (a : Rule) (t : Text) (rows : List Row) → arg_by_id c a.id ≡ Some a
+    → value_kinds a.ignore_case (parser_of_value a.parser) t ≡ [] → Each (IsTaken c) rows
+    → Each (IsTaken c) (with_values a.id (reading_by a) CommandLine (t ∷ []) (without a.id rows))
+with_taken c a t rows is taken h =
+    let new : Row = record { id = a.id; values = t ∷ []; count = None; source = Some CommandLine; reading = reading_by a } in
+    let kept : Each (IsTaken c) (without a.id rows) = rows_changed (IsTaken c) a.id (λ _. []) [] rows (λ r e p. tt) tt h in
+    rows_changed (IsTaken c) a.id (more_values CommandLine (t ∷ [])) (new ∷ []) (without a.id rows)
+    (λ r e p. more_taken c CommandLine (t ∷ []) r p) (new_taken c a t new is refl refl taken, tt) kept
+
+-- ---- one use of an argument
+
+module _ (c : List Rule) (plain_rules : list_all is_plain_rule c ≡ true) where
+  -- an argument that is found by a test is plain, and passes the test
+  plain_found : (p : Rule → Bool) (a : Rule) → find p c ≡ Some a → (is_plain_rule a ≡ true) × (p a ≡ true)
+  plain_found p a is = found (λ x. is_plain_rule x ≡ true) p c a (each_passes is_plain_rule c plain_rules) is
+
+  -- no use of a flag that asks for help passes
+  help_fails : (again : Bool) (a : Rule) (values : List Text) (rows : List Row) → is_help_flag a ≡ true → use_fault again a values rows ≡ [] → ⊥
+  help_fails again a values rows help e =
+      let action : action_of a ≡ Help = help_only _ (both _ _ help).0 in
+      let asked : action_fault (action_of a) again a (values_or_missing a values) rows ≡ []
+      = (no_fault (range_kinds (unwrap_or_range a.range).start_inclusive (most_values a) (length values)) _ e).1 in
+      let bad : kind.DisplayHelp ∷ [] ≡ [] = subst (λ (x : ArgAction). action_fault x again a (values_or_missing a values) rows ≡ []) action asked in
+      some_kind bad
+
+  single_value : (again : Bool) (a : Rule) (values : List Text) (rows : List Row) → is_single a ≡ true → use_fault again a values rows ≡ []
+      → (t : Text) × (values ≡ t ∷ []) × (value_kinds a.ignore_case (parser_of_value a.parser) t ≡ [])
+  single_value again a values rows single e =
+      let tests = both _ _ single in
+      let ends = both _ _ tests.1 in
+      let action : action_of a ≡ Set = set_only _ tests.0 in
+      let least : (unwrap_or_range a.range).start_inclusive ≡ 1 = eqb-true _ _ ends.0 in
+      let most : most_values a ≡ 1 = eqb-true _ _ ends.1 in
+      let parts = no_fault (range_kinds (unwrap_or_range a.range).start_inclusive (most_values a) (length values)) _ e in
+      let range : range_kinds 1 1 (length values) ≡ [] = ap₂ (λ i j. range_kinds i j (length values)) (sym least) (sym most) ∙ parts.0 in
+      let one = one_value values (one_wanted (length values) range) in
+      let set : set_fault again a (values_or_missing a values) rows ≡ [] = rw action at parts.1 in
+      let passed : values_fault a (values_or_missing a values) ≡ [] = (no_fault _ _ set).1 in
+      let first : values_fault a (one.0 ∷ []) ≡ [] = rw one.1 at passed in
+      (one.0, one.1, (no_fault _ _ first).0)
+
+  used_taken : (again : Bool) (a : Rule) (id : Text) (values : List Text) (rows : List Row) → arg_by_id c id ≡ Some a
+      → use_fault again a values rows ≡ [] → Each (IsTaken c) rows → Each (IsTaken c) (used a values rows)
+  used_taken again a id values rows is e h = go (is_some a.index) got.0
+    where
+      got : (is_plain_rule a ≡ true) × (bytes_eq a.id id ≡ true)
+      got = plain_found (λ x. bytes_eq x.id id) a is
+
+      by_own_id : arg_by_id c a.id ≡ Some a
+      by_own_id = subst (λ (i : Text). arg_by_id c i ≡ Some a) (sym ((bytes_eq-Decides a.id id).0 got.1)) is
+
+      go : (b : Bool) → cond b (is_single a) (is_help_flag a) ≡ true → Each (IsTaken c) (used a values rows)
+      go true single =
+          let action : action_of a ≡ Set = set_only _ (both _ _ single).0 in
+          let one = single_value again a values rows single e in
+          rw (action, one.1) (with_taken c a one.0 rows by_own_id one.2 h)
+      go false help = absurd (help_fails again a values rows help e)
+
+  pub settled_taken : (again : Bool) (h : Held) → settle_fault c again h ≡ [] → Each (IsTaken c) h.rows → Each (IsTaken c) (settled c h).rows
+  settled_taken again h e taken = go h.pending e
+    where
+      use_one : (p : Text × List Text) (o : Option Rule) → arg_by_id c p.0 ≡ o → option_map_or (λ a. use_fault again a p.1 h.rows) o [] ≡ []
+          → Each (IsTaken c) (used_by_id o p.1 h.rows)
+      use_one p None is e = taken
+      use_one p (Some a) is e = used_taken again a p.0 p.1 h.rows is e taken
+
+      go : (o : Option (Text × List Text)) → option_map_or (λ p. option_map_or (λ a. use_fault again a p.1 h.rows) (arg_by_id c p.0) []) o [] ≡ []
+          → Each (IsTaken c) (settled_rows c o h.rows)
+      go None e = taken
+      go (Some p) e = use_one p (arg_by_id c p.0) refl e
+
+  -- ---- the walk
+
+  -- a flag that is met fails
+  long_fails : (again : Bool) (a : Rule) (v : Option Text) (h : Held) → is_help_flag a ≡ true → long_fault c again (Some a) v h ≡ [] → ⊥
+  long_fails again a v h help e = go (takes_values a) (is_false _ (both _ _ help).1) v e
+    where
+      go : (b : Bool) → b ≡ false → (v : Option Text)
+          → cond b (option_fault c again a v h) (cond (is_some v) (kind.TooManyValues ∷ []) (react_fault c again a [] h)) ≡ [] → ⊥
+      go true miss v e = true≢false miss
+      go false miss (Some t) e = some_kind e
+      go false miss None e = help_fails again a [] (settled c h).rows help (no_fault (settle_fault c again h) _ e).1
+
+  short_fails : (again : Bool) (a : Rule) (rest : Text) (h : Held) (after : Held → Kinds) → is_help_flag a ≡ true → short_fault c again (Some a) rest h after ≡ [] → ⊥
+  short_fails again a rest h after help e = go (takes_values a) (is_false _ (both _ _ help).1) e
+    where
+      go : (b : Bool) → b ≡ false
+          → cond b (option_fault c again a (attached_value rest) h) (or_else (react_fault c again a [] h) (after (reacted c a [] h))) ≡ [] → ⊥
+      go true miss e = true≢false miss
+      go false miss e = help_fails again a [] (settled c h).rows help (no_fault (settle_fault c again h) _ (no_fault (react_fault c again a [] h) _ e).0).1
+
+  -- what has no index is a flag
+  flag_found : (p : Rule → Bool) (a : Rule) → find (λ x. not (is_some x.index) && p x) c ≡ Some a → is_help_flag a ≡ true
+  flag_found p a is = go (is_some a.index) got.0 (is_false _ (both _ _ got.1).0)
+    where
+      got : (is_plain_rule a ≡ true) × ((not (is_some a.index) && p a) ≡ true)
+      got = plain_found (λ x. not (is_some x.index) && p x) a is
+
+      go : (b : Bool) → cond b (is_single a) (is_help_flag a) ≡ true → b ≡ false → is_help_flag a ≡ true
+      go true own miss = absurd (true≢false miss)
+      go false own miss = own
+
+  long_absent : (again : Bool) (name : Text) (v : Option Text) (h : Held) → long_fault c again (arg_by_long c name) v h ≡ [] → ⊥
+  long_absent again name v h e = go (arg_by_long c name) refl e
+    where
+      go : (o : Option Rule) → arg_by_long c name ≡ o → long_fault c again o v h ≡ [] → ⊥
+      go None is e = some_kind e
+      go (Some a) is e = long_fails again a v h (flag_found (λ x. has_long x name) a is) e
+
+  short_absent : (again : Bool) (x : ℕ) (rest : Text) (h : Held) (after : Held → Kinds) → short_fault c again (arg_by_short c x) rest h after ≡ [] → ⊥
+  short_absent again x rest h after e = go (arg_by_short c x) refl e
+    where
+      go : (o : Option Rule) → arg_by_short c x ≡ o → short_fault c again o rest h after ≡ [] → ⊥
+      go None is e = some_kind e
+      go (Some a) is e = short_fails again a rest h after (flag_found (λ y. has_short y x) a is) e
+
+  -- no flag of a bundle is met
+  bundle_rows : (again : Bool) (k : ℕ) (flags : Text) (skip : ℕ) (so_far : Outcome) (h : Held) → flags_fault c again k flags skip h ≡ []
+      → (bundle_met c k flags skip so_far h).0.rows ≡ h.rows
+  unfolding flags_fault bundle_met
+  bundle_rows again zero flags skip so_far h e = refl
+  bundle_rows again (suc k) flags skip so_far h e = go (slice_get (chars flags) 0) skip e (bundle_rows again k)
+    where
+      go : (o : Option ℕ) (skip : ℕ) → bundle_step_fault c again o flags skip h (flags_fault c again k) ≡ []
+          → ((flags : Text) (skip : ℕ) (so_far : Outcome) (h : Held) → flags_fault c again k flags skip h ≡ [] → (bundle_met c k flags skip so_far h).0.rows ≡ h.rows)
+          → (bundle_step c o flags skip so_far h (bundle_met c k)).0.rows ≡ h.rows
+      go None skip e later = refl
+      go (Some x) zero e later =
+          absurd (short_absent again x (drop (length (encode_utf8 x)) flags) h (flags_fault c again k (drop (length (encode_utf8 x)) flags) 0) e)
+      go (Some x) (suc skip) e later = later (drop (length (encode_utf8 x)) flags) skip so_far h e
+
+-- ---- what a word leaves
+
+-- the walk may stop at this name
+abbrev pub MayStop : Shape → Option Text → Type 0
+MayStop s None = Unit {0}
+MayStop s (Some name) = (bytes_eq name (codes "help") && not s.disable_help_subcommand) ≡ false
+
+abbrev StepMayStop : Shape → Step → Type 0
+StepMayStop s (subcommand name) = MayStop s (Some name)
+StepMayStop s _ = Unit {0}
+
+-- the rows are as before, and the step is no call for help
+record Passes (s : Shape) (h : Held) (met : Held × Step) : Type 0 where
+  pub rows : met.0.rows ≡ h.rows
+  pub step : StepMayStop s met.1
+
+plain_passes : (s : Shape) (c : List Rule) (waiting : Waiting) (word : Text) (before h : Held) → h.rows ≡ before.rows → Passes s before (plain_word c waiting word h)
+plain_passes s c idle word before h same = record { rows = same; step = tt }
+plain_passes s c positional word before h same = record { rows = same; step = tt }
+plain_passes s c (option id) word before h same = go (arg_by_id c id)
+  where
+    go : (o : Option Rule) → Passes s before ((option_word o id word h).0, next (option_word o id word h).1)
+    go None = record { rows = same; step = tt }
+    go (Some a) = record { rows = same; step = tt }
+
+after_flag_passes : (s : Shape) (c : List Rule) (waiting : Waiting) (word : Text) (before h : Held) (o : Outcome) → h.rows ≡ before.rows
+    → Passes s before (after_flag c waiting word h o)
+after_flag_passes s c waiting word before h done same = record { rows = same; step = tt }
+after_flag_passes s c waiting word before h (waits id) same = record { rows = same; step = tt }
+after_flag_passes s c waiting word before h plain same = plain_passes s c waiting word before h same
+after_flag_passes s c waiting word before h refused same = plain_passes s c waiting word before h same
+
+module _ (s : Shape) (plain_rules : list_all is_plain_rule s.rules ≡ true) where
+  flag_word_passes : (waiting : Waiting) (word : Text) (h : Held) (long : Option (Text × Option Text))
+      → flag_word_fault s.rules s.args_override_self long word h ≡ [] → Passes s h (long_or_other s.rules waiting word long h)
+  flag_word_passes waiting word h (Some p) e = absurd (long_absent s.rules plain_rules s.args_override_self p.0 p.1 h e)
+  flag_word_passes waiting word h None e = go (short_of word) e
+    where
+      go : (o : Option Text) → option_map_or (λ flags. bundle_fault s.rules s.args_override_self flags h) o [] ≡ []
+          → Passes s h (short_or_plain s.rules waiting word o h)
+      go None e = plain_passes s s.rules waiting word h h refl
+      go (Some flags) e =
+          after_flag_passes s s.rules waiting word h (bundle s.rules flags h).0 (bundle s.rules flags h).1
+          (bundle_rows s.rules plain_rules s.args_override_self (length flags) flags h.skip plain (record h { skip = 0 }) e)
+
+  other_passes : (waiting : Waiting) (position : ℕ) (word : Text) (h : Held) (name : Option Text) → other_fault s name word h ≡ []
+      → Passes s h (subcommand_or_other s.rules name waiting position word h)
+  other_passes waiting position word h (Some name) e = record { rows = refl; step = go (bytes_eq name (codes "help") && not s.disable_help_subcommand) e }
+    where
+      go : (b : Bool) → cond b (kind.DisplayHelp ∷ kind.InvalidSubcommand ∷ []) [] ≡ [] → b ≡ false
+      go true e = absurd (some_kind e)
+      go false e = refl
+  other_passes waiting position word h None e = go (bytes_eq word (45 ∷ 45 ∷ [])) e
+    where
+      go : (b : Bool) → cond b [] (flag_word_fault s.rules s.args_override_self (long_of word) word h) ≡ []
+          → Passes s h (cond b (h, trailing position) (long_or_other s.rules waiting word (long_of word) h))
+      go true e = record { rows = refl; step = tt }
+      go false e = flag_word_passes waiting word h (long_of word) e
+
+  word_passes : (names : Names) (is_trailing : Bool) (waiting : Waiting) (position : ℕ) (word : Text) (h : Held)
+      → word_fault s names is_trailing waiting word h ≡ [] → Passes s h (word_met s.rules names is_trailing waiting position word h)
+  word_passes names true waiting position word h e = record { rows = refl; step = tt }
+  word_passes names false waiting position word h e = other_passes waiting position word h (subcommand_met names waiting word) e
+
+  -- ---- the walk
+
+  -- each row is taken, and the walk has not stopped at a call for help
+  pub record Holds (w : Walk) : Type 0 where
+    pub rows : Each (IsTaken s.rules) w.held.rows
+    pub stop : MayStop s (option_map (λ p. p.0) w.stopped)
+
+  positional_holds : (w : Walk) (word : Text) (h : Held) (o : Option Rule) → w.stopped ≡ None → Each (IsTaken s.rules) h.rows
+      → option_map_or (λ a. positional_fault s.rules s.args_override_self a h) o (stray_fault s) ≡ [] → Holds (to_positional s.rules o word w h)
+  positional_holds w word h None on taken e = record { rows = taken; stop = subst (λ (o : Option (Text × List Text)). MayStop s (option_map (λ p. p.0) o)) (sym on) tt }
+  positional_holds w word h (Some a) on taken e = record { rows = go (is_pending a h.pending && takes_several a) e; stop = tt }
+    where
+      go : (b : Bool) → cond b [] (settle_fault s.rules s.args_override_self h) ≡ [] → Each (IsTaken s.rules) (cond b h (settled s.rules h)).rows
+      go true e = taken
+      go false e = settled_taken s.rules plain_rules s.args_override_self h e taken
+
+  step_holds : (w : Walk) (word : Text) (h : Held) (step : Step) → w.stopped ≡ None → Each (IsTaken s.rules) h.rows → StepMayStop s step
+      → step_fault s w.position h step ≡ [] → Holds (after_step s.rules word w h step)
+  step_holds w word h (next waiting) on taken may e = record { rows = taken; stop = subst (λ (o : Option (Text × List Text)). MayStop s (option_map (λ p. p.0) o)) (sym on) tt }
+  step_holds w word h (trailing position) on taken may e = record { rows = taken; stop = subst (λ (o : Option (Text × List Text)). MayStop s (option_map (λ p. p.0) o)) (sym on) tt }
+  step_holds w word h (subcommand name) on taken may e = record { rows = taken; stop = may }
+  step_holds w word h value on taken may e = positional_holds w word h (arg_by_index s.rules w.position) on taken e
+
+  turn_holds : (names : Names) (w : Walk) (word : Text) → Holds w → turn_fault s names w word ≡ [] → Holds (walked s.rules names w word)
+  unfolding walked
+  turn_holds names w word holds e = go w.stopped refl e
+    where
+      met : Held × Step
+      met = word_met s.rules names w.is_trailing w.waiting w.position word w.held
+
+      go : (o : Option (Text × List Text)) → w.stopped ≡ o
+          → cond (is_some o) [] (or_else (word_fault s names w.is_trailing w.waiting word w.held) (step_fault s w.position met.0 met.1)) ≡ []
+          → Holds (walked_from s.rules names o w word)
+      go (Some p) is e = record { rows = holds.rows; stop = subst (λ (o : Option (Text × List Text)). MayStop s (option_map (λ p. p.0) o)) is holds.stop }
+      go None is e =
+          let parts = no_fault (word_fault s names w.is_trailing w.waiting word w.held) (step_fault s w.position met.0 met.1) e in
+          let passes = word_passes names w.is_trailing w.waiting w.position word w.held parts.0 in
+          step_holds w word met.0 met.1 is (subst (Each (IsTaken s.rules)) (sym passes.rows) holds.rows) passes.step parts.1
+
+  pub walk_holds : (names : Names) (words : List Text) (w : Walk) → Holds w → walk_fault s names w words ≡ [] → Holds (fold (walked s.rules names) w words)
+  unfolding walk_fault
+  walk_holds names [] w holds e = holds
+  walk_holds names (word ∷ rest) w holds e =
+      let parts = no_fault (turn_fault s names w word) (walk_fault s names (walked s.rules names w word) rest) e in
+      walk_holds names rest (walked s.rules names w word) (turn_holds names w word holds parts.0) parts.1

@@ -1,0 +1,43 @@
+-- The arguments that a command has once `clap` has accepted its words, which the readers require.
+use Rattle.std.specs.Prelude.{◌≡◌, ℕ, List, codes}
+use Rattle.clap.specs.Words.{Row, Text}
+use Rattle.apf_cli.specs.Meaning.{IsNumber, IsText, IsWorkerCount}
+
+-- the argument has a text
+abbrev pub HasText : List Row → Text → Type 0
+HasText rows id = (t : Text) × IsText rows id t
+
+-- the argument has a number of k bits
+abbrev pub HasNumber : ℕ → List Row → Text → Type 0
+HasNumber k rows id = (n : ℕ) × IsNumber k rows id n
+
+-- the arguments of `hash`
+pub record HasHashArguments (rows : List Row) : Type 0 where
+  pub schema : HasText rows (codes "SCHEMA")
+  pub distinguisher : HasText rows (codes "DISTINGUISHER")
+
+-- the arguments of `deal`
+pub record HasDealArguments (rows : List Row) : Type 0 where
+  pub deck : HasNumber 32 rows (codes "DECK")
+  pub hand : HasNumber 32 rows (codes "HAND")
+  pub hash : HasNumber 64 rows (codes "HASH")
+
+-- the arguments of `replay` and of `services`
+pub record HasScriptArguments (rows : List Row) : Type 0 where
+  pub config : HasText rows (codes "CONFIG")
+  pub requests : HasText rows (codes "REQUESTS")
+  pub script : HasText rows (codes "SCRIPT")
+
+-- the arguments of `run`
+pub record HasRunArguments (rows : List Row) : Type 0 where
+  pub config : HasText rows (codes "CONFIG")
+  pub requests : HasText rows (codes "REQUESTS")
+  pub workers : (n : ℕ) × IsWorkerCount rows n
+
+-- the command is one of the program's, with its arguments
+pub data IsCommand (name : Text) (rows : List Row) : Type 0 where
+  is_hash : name ≡ codes "hash" → HasHashArguments rows → IsCommand name rows
+  is_deal : name ≡ codes "deal" → HasDealArguments rows → IsCommand name rows
+  is_replay : name ≡ codes "replay" → HasScriptArguments rows → IsCommand name rows
+  is_run : name ≡ codes "run" → HasRunArguments rows → IsCommand name rows
+  is_services : name ≡ codes "services" → HasScriptArguments rows → IsCommand name rows

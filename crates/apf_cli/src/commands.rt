@@ -1,0 +1,136 @@
+//! The program's commands with their arguments and help texts.
+ghost use Rattle.std.specs.Prelude.{◌≡◌, IfOk, false};
+ghost use Rattle.clap.specs.Words.{app_of, rule_of, shape_of};
+ghost use Rattle.clap.specs.declared.builder.command.Command.TheViews.{out-Command};
+ghost use Rattle.apf_cli.specs.Commands.{apf_app, files_app, text_rule, number_rule};
+ghost use Rattle.apf_cli.specs.Commands.{hash_shape, deal_shape, replay_shape, run_shape, services_shape};
+
+use clap::builder::ValueParser;
+use clap::{Arg, Command, value_parser};
+use std::alloc::{AllocError, Global};
+
+// A text that must be given.
+fn text<'a>(alloc: Global, id: &'a str, help: &'a str) -> Arg<'a>
+    ensures rule { rule_of result ≡ text_rule id.entry.now }
+    ensures local { result.global ≡ false }
+{
+    Arg::new(alloc, id).required(true).help(help)
+}
+
+// A number that must be given.
+fn number<'a>(alloc: Global, id: &'a str, parser: ValueParser<'a>, help: &'a str) -> Arg<'a>
+    ensures rule { rule_of result ≡ number_rule id.entry.now parser.entry }
+    ensures local { result.global ≡ false }
+{
+    text(alloc, id, help).value_parser(parser)
+}
+
+fn hash_command<'a>(alloc: Global) -> Result<Command<'a>, AllocError>
+    ensures shape { IfOk result (λ c. shape_of c ≡ hash_shape) }
+    ensures local { IfOk result (λ c. (out-Command c).has_globals ≡ false) }
+{
+    Command::new(alloc, "hash")
+        .about("Print the hash of a flow")
+        .arg(text(alloc, "SCHEMA", "Name of the flow schema"))?
+        .arg(text(
+            alloc,
+            "DISTINGUISHER",
+            "Distinguisher of the flow within the schema",
+        ))
+}
+
+fn deal_command<'a>(alloc: Global) -> Result<Command<'a>, AllocError>
+    ensures shape { IfOk result (λ c. shape_of c ≡ deal_shape) }
+    ensures local { IfOk result (λ c. (out-Command c).has_globals ≡ false) }
+{
+    Command::new(alloc, "deal")
+        .about("Print the hand of queues that a hash is dealt")
+        .arg(number(alloc, "DECK", value_parser!(u32), "Number of queues"))?
+        .arg(number(
+            alloc,
+            "HAND",
+            value_parser!(u32),
+            "Number of queues in a hand",
+        ))?
+        .arg(number(
+            alloc,
+            "HASH",
+            value_parser!(u64),
+            "Hash of a flow, in decimal digits",
+        ))
+}
+
+// A command whose first arguments are the configuration file and the requests file.
+fn files_command<'a>(
+    alloc: Global,
+    name: &'a str,
+    about: &'a str,
+) -> Result<Command<'a>, AllocError>
+    ensures app { IfOk result (λ c. app_of c ≡ files_app name.entry.now) }
+    ensures local { IfOk result (λ c. (out-Command c).has_globals ≡ false) }
+{
+    Command::new(alloc, name)
+        .about(about)
+        .arg(text(alloc, "CONFIG", "Configuration file of the priority level"))?
+        .arg(text(alloc, "REQUESTS", "Requests file"))
+}
+
+fn replay_command<'a>(alloc: Global) -> Result<Command<'a>, AllocError>
+    ensures shape { IfOk result (λ c. shape_of c ≡ replay_shape) }
+    ensures local { IfOk result (λ c. (out-Command c).has_globals ≡ false) }
+{
+    files_command(
+        alloc,
+        "replay",
+        "Run a script of requests and print each decision",
+    )?
+    .arg(text(alloc, "SCRIPT", "Script file"))
+}
+
+fn run_command<'a>(alloc: Global) -> Result<Command<'a>, AllocError>
+    ensures shape { IfOk result (λ c. shape_of c ≡ run_shape) }
+    ensures local { IfOk result (λ c. (out-Command c).has_globals ≡ false) }
+{
+    let workers = value_parser!(u32).range(1..=64);
+    files_command(
+        alloc,
+        "run",
+        "Run the requests on worker threads and print the book",
+    )?
+    .arg(number(
+        alloc,
+        "WORKERS",
+        workers,
+        "Number of worker threads, 1 to 64",
+    ))
+}
+
+fn services_command<'a>(alloc: Global) -> Result<Command<'a>, AllocError>
+    ensures shape { IfOk result (λ c. shape_of c ≡ services_shape) }
+    ensures local { IfOk result (λ c. (out-Command c).has_globals ≡ false) }
+{
+    files_command(
+        alloc,
+        "services",
+        "Run a script of requests and print each queue's service",
+    )?
+    .arg(text(alloc, "SCRIPT", "Script file"))
+}
+
+/// The program's command line, of which one of the five commands must be named.
+///
+/// # Errors
+///
+/// Only where memory is refused.
+pub(crate) fn apf_command<'a>(alloc: Global) -> Result<Command<'a>, AllocError>
+    ensures app { IfOk result (λ c. app_of c ≡ apf_app) }
+{
+    Command::new(alloc, "apf")
+        .about("Replay or run requests at one priority level of API Priority and Fairness")
+        .subcommand_required(true)
+        .subcommand(hash_command(alloc)?)?
+        .subcommand(deal_command(alloc)?)?
+        .subcommand(replay_command(alloc)?)?
+        .subcommand(run_command(alloc)?)?
+        .subcommand(services_command(alloc)?)
+}

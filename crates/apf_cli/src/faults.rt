@@ -1,0 +1,145 @@
+//! Why the program ends with another status than 0, and the line that says so.
+
+use apf_flow::DealerFault;
+use apf_run::{ConfigFault, RequestFault, ScriptFault};
+use std::alloc::AllocError;
+use std::fmt;
+
+/// The files of a command line.
+#[derive(Clone, Copy, Debug, PartialEq, Eq)]
+pub enum Input {
+    Config,
+    Requests,
+    Script,
+}
+
+impl fmt::Display for Input {
+    fn fmt<W: fmt::Write>(&self, f: &mut fmt::Formatter<W>) -> fmt::Result {
+        f.write_str(match self {
+            Input::Config => "config",
+            Input::Requests => "requests",
+            Input::Script => "script",
+        })
+    }
+}
+
+/// The parts of the program that aren't built yet.
+#[derive(Clone, Copy, Debug, PartialEq, Eq)]
+pub enum Part {
+    Run,
+    Services,
+    Script,
+    Reject,
+}
+
+impl fmt::Display for Part {
+    fn fmt<W: fmt::Write>(&self, f: &mut fmt::Formatter<W>) -> fmt::Result {
+        f.write_str(match self {
+            Part::Run => "run",
+            Part::Services => "services",
+            Part::Script => "script lines other than arrive and finish",
+            Part::Reject => "limitResponse Reject",
+        })
+    }
+}
+
+/// Why a command did not end well. Its `Display` is the line on standard error.
+#[derive(Clone, Copy, Debug, PartialEq, Eq)]
+pub enum Fault {
+    /// The sizes that the command line gave for a deal.
+    Deal(DealerFault),
+    /// The sizes that the config gave.
+    Dealer(DealerFault),
+    Config(ConfigFault),
+    Requests(RequestFault),
+    Script(ScriptFault),
+    CannotRead(Input),
+    CannotWrite,
+    /// What was asked for is a part of the program that isn't built yet.
+    NotBuilt(Part),
+    NoMemory,
+}
+
+impl Fault {
+    /// The program's status: 1 a file's fault, or output that can't be written; 2 a command line's
+    /// fault; 3 want of memory.
+    pub fn status(&self) -> u8 {
+        match self {
+            Fault::Deal(_) => 2,
+            Fault::NoMemory => 3,
+            Fault::Dealer(_)
+            | Fault::Config(_)
+            | Fault::Requests(_)
+            | Fault::Script(_)
+            | Fault::CannotRead(_)
+            | Fault::CannotWrite
+            | Fault::NotBuilt(_) => 1,
+        }
+    }
+}
+
+impl From<AllocError> for Fault {
+    fn from(_refused: AllocError) -> Fault {
+        Fault::NoMemory
+    }
+}
+
+impl From<ConfigFault> for Fault {
+    fn from(fault: ConfigFault) -> Fault {
+        match fault {
+            ConfigFault::NoMemory => Fault::NoMemory,
+            _ => Fault::Config(fault),
+        }
+    }
+}
+
+impl From<RequestFault> for Fault {
+    fn from(fault: RequestFault) -> Fault {
+        match fault {
+            RequestFault::NoMemory => Fault::NoMemory,
+            _ => Fault::Requests(fault),
+        }
+    }
+}
+
+impl From<ScriptFault> for Fault {
+    fn from(fault: ScriptFault) -> Fault {
+        match fault {
+            ScriptFault::NoMemory => Fault::NoMemory,
+            _ => Fault::Script(fault),
+        }
+    }
+}
+
+impl fmt::Display for Fault {
+    fn fmt<W: fmt::Write>(&self, f: &mut fmt::Formatter<W>) -> fmt::Result {
+        match self {
+            Fault::Deal(fault) | Fault::Dealer(fault) => {
+                let number = fault.number();
+                write!(f, "apf: dealer fault {number}: {fault}")
+            }
+            Fault::Config(fault) => {
+                let number = fault.number();
+                write!(f, "apf: config fault {number}: {fault}")
+            }
+            Fault::Requests(fault) => {
+                let number = fault.number();
+                match fault.request() {
+                    Some(request) => write!(f, "apf: requests fault {number} at {request}: {fault}"),
+                    None => write!(f, "apf: requests fault {number}: {fault}"),
+                }
+            }
+            Fault::Script(fault) => {
+                let number = fault.number();
+                match fault.line() {
+                    Some(line) => write!(f, "apf: script fault {number} at line {line}: {fault}"),
+                    None => write!(f, "apf: script fault {number}: {fault}"),
+                }
+            }
+            Fault::CannotRead(input) => write!(f, "apf: cannot read {input}"),
+            Fault::CannotWrite => f.write_str("apf: cannot write"),
+            Fault::NotBuilt(part) => write!(f, "apf: not built yet: {part}"),
+            Fault::NoMemory => f.write_str("apf: out of memory"),
+        }
+    }
+}

@@ -1,0 +1,21 @@
+//! The program `apf`, over words, files and writers that its caller passes.
+//!
+//! In the order of the data's way:
+//!
+//! - `commands`, `words`: what a command line asks for, read by `clap`.
+//! - `program`: does it, and answers the status.
+//! - `level`, `replay`: a script of arrivals and finishes on a level of one thread.
+//! - `faults`: the lines on standard error.
+#![tactic(auto)]
+
+mod commands;
+mod faults;
+mod level;
+mod program;
+mod replay;
+#[cfg(test)]
+mod tests;
+mod words;
+
+pub use program::{FileFault, Files, act};
+pub use words::{Action, read_words};

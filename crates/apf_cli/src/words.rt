@@ -1,0 +1,181 @@
+//! What the words of a command line ask the program to do.
+ghost use Rattle.std.specs.Prelude.{IfOk, codes};
+ghost use Rattle.clap.specs.Words.{FailsBy, fault_of, found_of, rows_of};
+ghost use Rattle.clap.specs.Walk.{texts};
+ghost use Rattle.apf_cli.specs.Commands.{apf_app};
+ghost use Rattle.apf_cli.specs.Meaning.{AsksFor, IsActionOf, IsNumber, IsText};
+ghost use Rattle.apf_cli.specs.Arguments.{HasText, HasNumber, HasHashArguments, HasDealArguments};
+ghost use Rattle.apf_cli.specs.Arguments.{HasScriptArguments, HasRunArguments, IsCommand};
+
+use crate::commands::apf_command;
+use clap::{ArgMatches, Error};
+use std::alloc::Global;
+
+/// A command of the program, with its texts and numbers.
+#[derive(Clone, Copy, Debug, PartialEq, Eq)]
+pub enum Action<'a> {
+    /// Print the hash of a flow.
+    Hash {
+        schema: &'a str,
+        distinguisher: &'a str,
+    },
+    /// Print the hand of `hand` queues out of `deck` that a hash is dealt.
+    Deal {
+        deck: u32,
+        hand: u32,
+        hash: u64,
+    },
+    /// Run a script and print its transcript; the texts are file names.
+    Replay {
+        config: &'a str,
+        requests: &'a str,
+        script: &'a str,
+    },
+    /// Run the requests on 1 to 64 worker threads and print the book.
+    Run {
+        config: &'a str,
+        requests: &'a str,
+        workers: u32,
+    },
+    /// Run a script and print the service of each queue; the texts are file names.
+    Services {
+        config: &'a str,
+        requests: &'a str,
+        script: &'a str,
+    },
+}
+
+// The text of an argument.
+fn text_of<'a>(matches: &ArgMatches<'a>, id: &str) -> &'a str
+    requires { HasText (rows_of (found_of matches.now)) id.now }
+    ensures { IsText (rows_of (found_of matches.now)) id.now result.now }
+{
+    matches.get_str(id).unwrap()
+}
+
+// The number of an argument.
+fn u32_of(matches: &ArgMatches<'_>, id: &str) -> u32
+    requires { HasNumber 32 (rows_of (found_of matches.now)) id.now }
+    ensures { IsNumber 32 (rows_of (found_of matches.now)) id.now result }
+{
+    matches.get_one::<u32>(id).unwrap()
+}
+
+// The number of an argument.
+fn u64_of(matches: &ArgMatches<'_>, id: &str) -> u64
+    requires { HasNumber 64 (rows_of (found_of matches.now)) id.now }
+    ensures { IsNumber 64 (rows_of (found_of matches.now)) id.now result }
+{
+    matches.get_one::<u64>(id).unwrap()
+}
+
+fn hash_action<'a>(matches: &ArgMatches<'a>) -> Action<'a>
+    requires { HasHashArguments (rows_of (found_of matches.now)) }
+    ensures { AsksFor (codes "hash") (rows_of (found_of matches.now)) result }
+{
+    Action::Hash {
+        schema: text_of(matches, "SCHEMA"),
+        distinguisher: text_of(matches, "DISTINGUISHER"),
+    }
+}
+
+fn deal_action<'a>(matches: &ArgMatches<'a>) -> Action<'a>
+    requires { HasDealArguments (rows_of (found_of matches.now)) }
+    ensures { AsksFor (codes "deal") (rows_of (found_of matches.now)) result }
+{
+    Action::Deal {
+        deck: u32_of(matches, "DECK"),
+        hand: u32_of(matches, "HAND"),
+        hash: u64_of(matches, "HASH"),
+    }
+}
+
+// The names of the configuration file and of the requests file.
+fn files_of<'a>(matches: &ArgMatches<'a>) -> (&'a str, &'a str)
+    requires config { HasText (rows_of (found_of matches.now)) (codes "CONFIG") }
+    requires requests { HasText (rows_of (found_of matches.now)) (codes "REQUESTS") }
+    ensures config { IsText (rows_of (found_of matches.now)) (codes "CONFIG") result.0.now }
+    ensures requests { IsText (rows_of (found_of matches.now)) (codes "REQUESTS") result.1.now }
+{
+    (text_of(matches, "CONFIG"), text_of(matches, "REQUESTS"))
+}
+
+fn replay_action<'a>(matches: &ArgMatches<'a>) -> Action<'a>
+    requires { HasScriptArguments (rows_of (found_of matches.now)) }
+    ensures { AsksFor (codes "replay") (rows_of (found_of matches.now)) result }
+{
+    let (config, requests) = files_of(matches);
+    let script = text_of(matches, "SCRIPT");
+    Action::Replay {
+        config,
+        requests,
+        script,
+    }
+}
+
+fn run_action<'a>(matches: &ArgMatches<'a>) -> Action<'a>
+    requires { HasRunArguments (rows_of (found_of matches.now)) }
+    ensures { AsksFor (codes "run") (rows_of (found_of matches.now)) result }
+{
+    let (config, requests) = files_of(matches);
+    let workers = u32_of(matches, "WORKERS");
+    Action::Run {
+        config,
+        requests,
+        workers,
+    }
+}
+
+fn services_action<'a>(matches: &ArgMatches<'a>) -> Action<'a>
+    requires { HasScriptArguments (rows_of (found_of matches.now)) }
+    ensures { AsksFor (codes "services") (rows_of (found_of matches.now)) result }
+{
+    let (config, requests) = files_of(matches);
+    let script = text_of(matches, "SCRIPT");
+    Action::Services {
+        config,
+        requests,
+        script,
+    }
+}
+
+// The action of the command of this name.
+fn action_of<'a>(name: &str, matches: &ArgMatches<'a>) -> Action<'a>
+    requires { IsCommand name.now (rows_of (found_of matches.now)) }
+    ensures { AsksFor name.now (rows_of (found_of matches.now)) result }
+{
+    if name == "hash" {
+        hash_action(matches)
+    } else if name == "deal" {
+        deal_action(matches)
+    } else if name == "replay" {
+        replay_action(matches)
+    } else if name == "run" {
+        run_action(matches)
+    } else {
+        services_action(matches)
+    }
+}
+
+/// The action that the words of a command line ask for; the first word is the program's name.
+///
+/// Its texts and numbers are those that `clap` reads of the words, for the commands
+/// `hash SCHEMA DISTINGUISHER`, `deal DECK HAND HASH`, `replay CONFIG REQUESTS SCRIPT`,
+/// `run CONFIG REQUESTS WORKERS` and `services CONFIG REQUESTS SCRIPT`. `DECK` and `HAND` are whole
+/// decimal numbers of 32 bits, `HASH` is one of 64 bits, and `WORKERS` is 1 to 64.
+///
+/// # Errors
+///
+/// `clap`'s error where it refuses the words, or where they ask for help, and one of the kind
+/// `OutOfMemory` where memory is refused.
+pub fn read_words<'a>(alloc: Global, words: &'a [&'a str]) -> Result<Action<'a>, Error>
+    ensures read { IfOk result (IsActionOf (texts words.entry.now)) }
+    ensures refused { FailsBy (fault_of apf_app (texts words.entry.now)) result }
+{
+    let matches = apf_command(alloc)?.try_get_matches_from(words)?;
+    let (name, inner) = matches.subcommand().unwrap();
+    Ok(action_of(name, inner))
+}
+
+#[cfg(test)]
+mod tests;

@@ -1,0 +1,5 @@
+pub mod Judgement
+pub mod Keys
+pub mod ScriptLines
+pub mod Judged
+pub mod RequestItems

@@ -12,7 +12,7 @@ decides_after_taking widths w r may undecided =
     record {
       is_request = may.is_request;
       is_undecided = undecided;
-      may_be = ap (λ b. if b then Stands else w.stage r) (eq-eqb r r refl)
+      may_be = ap (λ b. if b then Stands else w.stage r) (eq-eqb r r refl);
     }
 
 -- the same, of widths and a world that are these

@@ -125,7 +125,10 @@ impl fmt::Display for Fault {
             Fault::Requests(fault) => {
                 let number = fault.number();
                 match fault.request() {
-                    Some(request) => write!(f, "apf: requests fault {number} at {request}: {fault}"),
+                    Some(request) => write!(
+                        f,
+                        "apf: requests fault {number} at {request}: {fault}"
+                    ),
                     None => write!(f, "apf: requests fault {number}: {fault}"),
                 }
             }

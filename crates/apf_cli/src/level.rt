@@ -13,17 +13,13 @@ use apf_words::Decision;
 
 /// An arrival takes its seats and is decided execute, if it is undecided and may take them.
 pub fn arrive(world: &mut World, request: u32) -> bool
-    ensures executes {
-        IsTrue result ↔ (MayTake (widths_of world.old) (world_of world.old) request
-        × ((world_of world.old).decision request ≡ None))
-    }
+    ensures executes { IsTrue result ↔ (MayTake (widths_of world.old) (world_of world.old) request
+        × ((world_of world.old).decision request ≡ None)) }
 
     // It takes, and then decides: two steps.
-    ensures steps {
-        let taken = after (Take request) (world_of world.old) in
+    ensures steps { let taken = after (Take request) (world_of world.old) in
         OnTrue result (IsStep (widths_of world.old) (Take request) (world_of world.old) taken
-        × IsStep (widths_of world.old) (Decide request Execute) taken (world_of world.new))
-    }
+        × IsStep (widths_of world.old) (Decide request Execute) taken (world_of world.new)) }
     ensures kept { OnFalse result (world_of world.new ≡ world_of world.old) }
     ensures widths { widths_of world.new ≡ widths_of world.old }
 {
@@ -36,9 +32,7 @@ pub fn arrive(world: &mut World, request: u32) -> bool
 /// A running request gives its seats back, if it runs.
 pub fn finish(world: &mut World, request: u32) -> bool
     ensures releases { IsTrue result ↔ MayRelease (widths_of world.old) (world_of world.old) request }
-    ensures step {
-        OnTrue result (IsStep (widths_of world.old) (Release request) (world_of world.old) (world_of world.new))
-    }
+    ensures step { OnTrue result (IsStep (widths_of world.old) (Release request) (world_of world.old) (world_of world.new)) }
     ensures kept { OnFalse result (world_of world.new ≡ world_of world.old) }
     ensures widths { widths_of world.new ≡ widths_of world.old }
 {

@@ -89,7 +89,11 @@ fn perform<F: Files, O: Write>(
 }
 
 // Prints what `clap` says: help that was asked for on standard output, and a refusal on standard error.
-fn print_refusal<O: Write, E: Write>(error: &clap::Error, out: &mut O, err: &mut E) -> Result<u8, Fault> {
+fn print_refusal<O: Write, E: Write>(
+    error: &clap::Error,
+    out: &mut O,
+    err: &mut E,
+) -> Result<u8, Fault> {
     if error.kind() == ErrorKind::OutOfMemory {
         return Err(Fault::NoMemory);
     }

@@ -14,9 +14,8 @@ use apf_model::plain::World;
 use apf_run::{Command, Config, Request};
 use apf_words::Decision;
 use std::alloc::{AllocError, Global};
-use std::io;
 use std::io::Write;
-use std::mem;
+use std::{io, mem};
 
 /// A line of the transcript, with the number of a request.
 #[derive(Clone, Copy, Debug, PartialEq, Eq)]
@@ -121,7 +120,12 @@ pub fn replay(
         return Err(Fault::NotBuilt(Part::Script));
     }
     let widths = widths_of_requests(alloc, requests)?;
-    let mut world = World::new(alloc, config.limit, config.limit_response, widths.as_slice())?;
+    let mut world = World::new(
+        alloc,
+        config.limit,
+        config.limit_response,
+        widths.as_slice(),
+    )?;
     let mut arrived = vec![in alloc; false; requests.len()]?;
     let mut lines = Vec::with_capacity(alloc, commands.len())?;
     for command in commands {
@@ -160,7 +164,10 @@ impl Book {
         writeln!(out, "level open seats {seats} waiting {waiters}")?;
         let executed = self.executed;
         let undecided = self.undecided;
-        writeln!(out, "executed {executed} rejected 0 cancelled 0 undecided {undecided}")?;
+        writeln!(
+            out,
+            "executed {executed} rejected 0 cancelled 0 undecided {undecided}"
+        )?;
         writeln!(out, "queue-full 0 closed 0 concurrency-limit 0")?;
         writeln!(out, "entered 0 dispatched 0 struck 0")
     }

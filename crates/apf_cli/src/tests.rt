@@ -56,7 +56,14 @@ fn no_files(alloc: Global) -> Memory<'static> {
 #[test]
 fn hash(rt: HostRuntime) {
     let words = ["apf", "hash", "", ""];
-    check(&rt, no_files(rt.alloc()), &words, 0, "987ab3ff9c0b346e\n", "");
+    check(
+        &rt,
+        no_files(rt.alloc()),
+        &words,
+        0,
+        "987ab3ff9c0b346e\n",
+        "",
+    );
 }
 
 #[test]
@@ -97,7 +104,14 @@ fn dealer_faults(rt: HostRuntime) {
         script: "",
     };
     let words = ["apf", "replay", "config", "requests", "script"];
-    check(&rt, files, &words, 1, "", "apf: dealer fault 2: hand too large\n");
+    check(
+        &rt,
+        files,
+        &words,
+        1,
+        "",
+        "apf: dealer fault 2: hand too large\n",
+    );
 }
 
 #[test]
@@ -116,7 +130,11 @@ fn replays(rt: HostRuntime) {
     for (requests, script, out) in [
         ("[]", "", BOOK_OF_NOTHING),
         ("[{\"hash\":0}]", "arrive 0\nfinish 0\n", one),
-        ("[{\"hash\":0},{\"hash\":0}]", "arrive 0\narrive 1\n", no_room),
+        (
+            "[{\"hash\":0},{\"hash\":0}]",
+            "arrive 0\narrive 1\n",
+            no_room,
+        ),
     ] {
         let files = Memory {
             alloc: rt.alloc(),
@@ -134,12 +152,42 @@ fn faults(rt: HostRuntime) {
     let words = ["apf", "replay", "config", "requests", "script"];
     for (config, requests, script, line) in [
         ("[]", "x", "x", "apf: config fault 2: not an object\n"),
-        ("{\"limit\":1,\"handSize\":16}", "x", "x", "apf: config fault 5: bad value of handSize\n"),
-        ("{\"limit\":1}", "{}", "x", "apf: requests fault 2: not an array\n"),
-        ("{\"limit\":1}", "[{\"hash\":-1}]", "x", "apf: requests fault 6 at 0: bad flow\n"),
-        ("{\"limit\":1}", "[]", "close", "apf: script fault 2 at line 1: truncated\n"),
-        ("{\"limit\":1}", "[]", "limit 0\n", "apf: script fault 6 at line 1: bad limit\n"),
-        ("{\"limit\":1}", "[]", "close\n", "apf: not built yet: script lines other than arrive and finish\n"),
+        (
+            "{\"limit\":1,\"handSize\":16}",
+            "x",
+            "x",
+            "apf: config fault 5: bad value of handSize\n",
+        ),
+        (
+            "{\"limit\":1}",
+            "{}",
+            "x",
+            "apf: requests fault 2: not an array\n",
+        ),
+        (
+            "{\"limit\":1}",
+            "[{\"hash\":-1}]",
+            "x",
+            "apf: requests fault 6 at 0: bad flow\n",
+        ),
+        (
+            "{\"limit\":1}",
+            "[]",
+            "close",
+            "apf: script fault 2 at line 1: truncated\n",
+        ),
+        (
+            "{\"limit\":1}",
+            "[]",
+            "limit 0\n",
+            "apf: script fault 6 at line 1: bad limit\n",
+        ),
+        (
+            "{\"limit\":1}",
+            "[]",
+            "close\n",
+            "apf: not built yet: script lines other than arrive and finish\n",
+        ),
     ] {
         let files = Memory {
             alloc: rt.alloc(),

@@ -4,10 +4,9 @@
 
 use apf_cli::{FileFault, Files, act};
 use std::alloc::AllocError;
-use std::fs;
-use std::io;
 use std::io::BufWriter;
 use std::process::ExitCode;
+use std::{fs, io};
 
 // The machine's files.
 #[derive(Drop)]
@@ -33,7 +32,13 @@ fn run(rt: &HostRuntime) -> Result<u8, AllocError> {
     let words: Vec<&str> = owned.iter().map(|word| word.as_str()).collect(alloc)?;
     let mut out = BufWriter::new(alloc, io::writer(rt)).map_err(|_| AllocError)?;
     let mut files = Disk { rt };
-    Ok(act(alloc, words.as_slice(), &mut files, &mut out, &mut rt.stderr()))
+    Ok(act(
+        alloc,
+        words.as_slice(),
+        &mut files,
+        &mut out,
+        &mut rt.stderr(),
+    ))
 }
 
 fn main(rt: HostRuntime) -> ExitCode {

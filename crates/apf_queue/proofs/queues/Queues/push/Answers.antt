@@ -1,0 +1,34 @@
+use Rattle.std.proofs.Common.{◌<◌, length, get_or, refl, sym, ap, ◌∙◌, arith}
+use Rattle.apf_queue.specs.RingsView.{RingsView, ring}
+use Rattle.apf_queue.specs.View.{QueuesView}
+use Rattle.apf_queue.proofs.Consistency.{push_consistent}
+use Rattle.apf_queue.proofs.queues.Queues.push.Goals as goal
+
+-- who waits was pushed
+pub push-requires-clause-is_nowhere : goal.push-requires-clause-is_nowhere
+push-requires-clause-is_nowhere g c q stands =
+    let pushed = c.self.invariant.pushed q c.args.request stands in
+    let is_new = ap (λ (v : QueuesView). get_or v.widths c.args.request 0) c.self.view_is ∙ c.requires.is_new in
+    absurd (omega arith)
+
+pub invariant_of-self : goal.invariant_of-self
+invariant_of-self g c =
+    let s = c.self.inside in
+    let queues = ap (λ (v : QueuesView). length v.queues) c.self.view_is in
+    let requests = ap (λ (v : QueuesView). length v.widths) c.self.view_is in
+    let is_new = ap (λ (v : QueuesView). get_or v.widths c.args.request 0) c.self.view_is ∙ c.requires.is_new in
+    let is_queue : c.args.queue < length s.rings.queues = omega (arith, c.requires.is_queue) in
+    let is_request : c.args.request < length s.widths.items = omega (arith, c.requires.is_request) in
+    rw c.push.ensures
+    (push_consistent s.rings s.widths.items s.time s.waiting s.length_limit c.self.invariant c.args.queue c.args.request c.args.width
+    is_queue is_request c.requires.has_width c.requires.narrow is_new (λ full. c.if-len-self.false (c.len-len.ensures ∙ full))
+    c.enter.new.self (c.enter.ensures.numbers (ring s.rings c.args.queue) (sym c.len-len.ensures)) c.enter.ensures.one_for_each)
+
+pub returns-clause-enters : goal.returns-clause-enters
+returns-clause-enters g c =
+    rw (← c.self.view_is) (record {
+      queues = ap (λ (v : RingsView). v.queues) c.push.ensures;
+      widths = refl;
+      numbers = c.enter.ensures.numbers (ring c.self.inside.rings c.args.queue) (sym c.len-len.ensures);
+      length_limit = refl;
+    })

@@ -1,0 +1,241 @@
+//! The queues of a level.
+
+ghost use Rattle.std.specs.Prelude.{◌≡◌, ◌≢◌, ◌≤◌, ◌<◌, ◌↔◌, ℕ, List, [], ◌∷◌, ◌++◌, length, All, Contains, IsTrue, IsErr, IsErrOf, OnOk, OnErr, IfOk, IfSome, IfNone, MatchOption};
+ghost use Rattle.apf_model.specs.History.{IsShortest};
+ghost use Rattle.apf_model.specs.Fair.{opening_numbers};
+ghost use Rattle.apf_queue.specs.RingsView.{without};
+ghost use Rattle.apf_queue.specs.View.{IsShape, opening_view, queue_count, request_count, queue_in, numbers_in, WasNeverPushed, NothingWaits, Enters, struck, Dispatches, IsHead, IsChosen, AreSmall};
+ghost use Rattle.apf_queue.specs.Scan.{IsBestRound, finish_in, steps_to};
+
+use crate::choice::{Chosen, Head, better, queue_round};
+use crate::fault::{Full, QueueFault};
+use crate::rings::Rings;
+use crate::virtual_time::VirtualTime;
+use std::alloc::Allocator;
+use std::marker::Model;
+
+/// The queues of a priority level.
+///
+/// Requests and queues are named by their numbers, from 0.
+#[derive(Drop)]
+pub struct Queues<A: Allocator> {
+    length_limit: u32,
+    rings: Rings<A>,
+    widths: Vec<u32, A>,
+    time: VirtualTime<A>,
+    waiting: u32,
+}
+
+// Clauses see the queues as lists of requests, with the numbers of virtual time.
+impl<A: Allocator> Model for Queues<A> {
+    ghost use Rattle.apf_queue.specs.View.{QueuesView};
+    ghost use Rattle.apf_queue.specs.Consistent.{AreConsistent};
+
+    ghost Value = { QueuesView };
+
+    ghost view = { λ s. record {
+      queues = s.rings.queues;
+      widths = s.widths.items;
+      next = s.time.next;
+      virtual_time = s.time.virtual_time;
+      robin = s.time.robin;
+      length_limit = s.length_limit;
+    } };
+
+    ghost invariant = { λ s. AreConsistent s.rings s.widths.items s.time s.waiting s.length_limit };
+}
+
+// Whether the numbers are in range.
+fn is_shape(queues: u32, length_limit: u32, requests: u32) -> bool
+    ensures { IsTrue result ↔ IsShape queues length_limit requests }
+{
+    (1..=1_024).contains(&queues) && (1..=10_000).contains(&length_limit) && requests <= 10_000
+}
+
+impl<A: Allocator + Copy> Queues<A> {
+    /// Queues, all empty, for this many requests. All memory is taken here: of the order of the
+    /// number of requests and of queues, whatever the length limit is.
+    ///
+    /// There are 1 to 1,024 queues, each of 1 to 10,000 requests at a time, and at most 10,000
+    /// requests.
+    ///
+    /// # Errors
+    ///
+    /// `BadShape` exactly if one of the numbers is out of range, and `NoMemory` if memory was
+    /// refused.
+    pub fn new(
+        alloc: A,
+        queues: u32,
+        length_limit: u32,
+        requests: u32,
+    ) -> Result<Queues<A>, QueueFault>
+        ensures bad_shape { IsErrOf result QueueFault.BadShape ↔ (¬ IsShape queues length_limit requests) }
+        ensures shape { OnOk result (IsShape queues length_limit requests) }
+        ensures opening { IfOk result (λ s. s ≡ opening_view queues length_limit requests) }
+        ensures numbers { IfOk result (λ s. numbers_in s ≡ opening_numbers queues) }
+    {
+        if !is_shape(queues, length_limit, requests) {
+            return Err(QueueFault::BadShape);
+        }
+        Ok(Queues {
+            length_limit,
+            rings: Rings::new(alloc, queues, requests)?,
+            widths: vec![in alloc; 0; requests as usize]?,
+            time: VirtualTime::new(alloc, queues)?,
+            waiting: 0,
+        })
+    }
+}
+
+impl<A: Allocator> Queues<A> {
+    /// How many requests wait in the queue.
+    pub fn len(&self, queue: u32) -> u32
+        requires { queue < queue_count self.now }
+        ensures { result ≡ length (queue_in self.now queue) }
+    {
+        self.rings.len(queue)
+    }
+
+    /// The shortest queue of the hand: the one in which the fewest requests wait, and among equals
+    /// the one that was dealt first.
+    pub fn shortest(&self, hand: &[u32]) -> u32
+        requires has_cards { 0 < length hand.now }
+        requires are_queues { All (λ q. q < queue_count self.now) hand.now }
+        ensures { IsShortest (queue_in self.now) hand.now result }
+    {
+        let mut place = 0;
+        let mut fewest = self.len(hand[0]);
+        for (i, queue) in hand.iter().enumerate() {
+            let len = self.len(*queue);
+            if len < fewest {
+                place = i;
+                fewest = len;
+            }
+        }
+        hand[place]
+    }
+
+    /// Puts the request, of this width in seats, at the end of the queue. A queue that was empty
+    /// starts no earlier than the level's virtual time.
+    ///
+    /// # Errors
+    ///
+    /// `Full` exactly if the queue holds as many requests as the length limit says; then nothing
+    /// changes.
+    pub fn push(&mut self, queue: u32, request: u32, width: u32) -> Result<(), Full>
+        requires is_queue { queue < queue_count self.old }
+        requires is_request { request < request_count self.old }
+        requires has_width { 1 ≤ width }
+        requires narrow { width ≤ 20000 }
+        requires is_new { WasNeverPushed self.old request }
+        ensures full { IsErr result ↔ (length (queue_in self.old queue) ≡ self.old.length_limit) }
+        ensures unchanged { OnErr result (self.new ≡ self.old) }
+        ensures enters { OnOk result (Enters self.old self.new queue request width) }
+    {
+        let len = self.rings.len(queue);
+        if len == self.length_limit {
+            return Err(Full);
+        }
+        self.rings.push(queue, request);
+        self.widths[request as usize] = width;
+        self.time.enter(queue, len);
+        self.waiting += 1;
+        Ok(())
+    }
+
+    /// Takes the request out of its place, and tells the queue in which it stood: `None`, with
+    /// nothing changed, if it stood in none. The numbers of virtual time stay as they were.
+    pub fn remove(&mut self, request: u32) -> Option<u32>
+        requires { request < request_count self.old }
+        ensures stood { (q : ℕ) → (result ≡ Some q) ↔ Contains (queue_in self.old q) request }
+        ensures none { IfNone result (self.new ≡ self.old) }
+        ensures some { IfSome result (λ q. self.new ≡ struck self.old q request) }
+        ensures in_place { (q : ℕ) (before after : List ℕ) → queue_in self.old q ≡ before ++ request ∷ after
+            → without request (queue_in self.old q) ≡ before ++ after }
+    {
+        let queue = self.rings.remove(request)?;
+        self.waiting -= 1;
+        Some(queue)
+    }
+
+    /// What is dispatched next: among the queues that are not empty and have the least virtual
+    /// finish, the first request of the one that is reached first when counting round from the queue
+    /// after the one that was dispatched from last. `None` exactly if nothing waits.
+    pub fn choose(&self) -> Option<Chosen>
+        ensures chosen { MatchOption result (NothingWaits self.now) (IsChosen self.now) }
+        ensures small { AreSmall self.now }
+    {
+        if self.waiting == 0 {
+            return None;
+        }
+        let head = self.best_head()?;
+        self.chosen_of(head.queue)
+    }
+
+    /// Dispatches what `choose` gives now: takes it out of its queue, and moves the numbers of
+    /// virtual time on by its width.
+    pub fn dispatch(&mut self, chosen: Chosen)
+        requires { IsChosen self.old chosen }
+        ensures { Dispatches self.old self.new chosen.queue chosen.width }
+    {
+        let _ = self.rings.remove(chosen.request);
+        self.time.dispatch(chosen.queue, chosen.width);
+        self.waiting -= 1;
+    }
+
+    // How many queues there are.
+    fn queue_count(&self) -> u32
+        ensures { result ≡ queue_count self.now }
+    {
+        self.rings.queue_count()
+    }
+
+    // What would be dispatched from the queue, or `None` if it is empty.
+    fn chosen_of(&self, queue: u32) -> Option<Chosen>
+        requires { queue < queue_count self.now }
+        ensures { MatchOption result (queue_in self.now queue ≡ []) (IsHead self.now queue) }
+    {
+        let request = self.rings.first(queue)?;
+        Some(Chosen {
+            queue,
+            request,
+            width: self.widths[request as usize],
+        })
+    }
+
+    // The virtual finish of the queue, or `None` if it is empty.
+    fn finish_of(&self, queue: u32) -> Option<u64>
+        requires { queue < queue_count self.now }
+        ensures { MatchOption result (queue_in self.now queue ≡ []) (λ f. (queue_in self.now queue ≢ []) × (f ≡ finish_in self.now queue)) }
+    {
+        let request = self.rings.first(queue)?;
+        Some(self.time.finish(queue, self.widths[request as usize]))
+    }
+
+    // The queue of least virtual finish that is reached first when counting round.
+    fn best_head(&self) -> Option<Head>
+        ensures { IsBestRound self.now (queue_count self.now) result }
+    {
+        let mut best: Option<Head> = None;
+        for steps in 0..self.queue_count() {
+            let queue = self.queue_round(steps);
+            if let Some(finish) = self.finish_of(queue) {
+                best = Some(better(best, Head { queue, finish }));
+            }
+        }
+        best
+    }
+
+    // The queue that is reached in this many steps, counting round from the queue after the robin.
+    fn queue_round(&self, steps: u32) -> u32
+        requires { steps < queue_count self.now }
+        ensures is_queue { result < queue_count self.now }
+        ensures steps { steps_to self.now result ≡ steps }
+        ensures only { (q : ℕ) → q < queue_count self.now → steps_to self.now q ≡ steps → q ≡ result }
+    {
+        queue_round(self.queue_count(), self.time.robin(), steps)
+    }
+}
+
+#[cfg(test)]
+mod tests;

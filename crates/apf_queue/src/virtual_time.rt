@@ -1,0 +1,96 @@
+//! The numbers of virtual time.
+//!
+//! Each queue has its own virtual time, `next`: where the service of its next request starts. The
+//! level's virtual time never falls behind the start of what it dispatches.
+
+ghost use Rattle.std.specs.Prelude.{◌≡◌, ℕ, ◌+◌, ◌-◌, ◌<◌, ◌^◌, List, length, slice_index, replicate, IfOk};
+ghost use Rattle.apf_model.specs.Fair.{after_enter, after_dispatch};
+ghost use Rattle.apf_queue.specs.TimeView.{numbers_of};
+
+use std::alloc::{AllocError, Allocator};
+use std::marker::Model;
+
+// The numbers of a level's virtual time, in seats.
+#[derive(Drop)]
+pub struct VirtualTime<A: Allocator> {
+    next: Vec<u64, A>,
+    level: u64,
+    robin: u32,
+}
+
+impl<A: Allocator> Model for VirtualTime<A> {
+    ghost use Rattle.apf_queue.specs.TimeView.{TimeView};
+
+    ghost Value = { TimeView };
+
+    ghost view = { λ s. record { next = s.next.items; virtual_time = s.level; robin = s.robin } };
+}
+
+impl<A: Allocator> VirtualTime<A> {
+    // The numbers before anything happened: all are 0, and the robin stands at the last queue.
+    pub fn new(alloc: A, queues: u32) -> Result<VirtualTime<A>, AllocError>
+        requires { 0 < queues }
+        ensures { IfOk result (λ t. t ≡ record { next = replicate queues 0; virtual_time = 0; robin = queues - 1 }) }
+    {
+        Ok(VirtualTime {
+            next: vec![in alloc; 0; queues as usize]?,
+            level: 0,
+            robin: queues - 1,
+        })
+    }
+
+    // The queue that was dispatched from last.
+    pub fn robin(&self) -> u32
+        ensures { result ≡ self.now.robin }
+    {
+        self.robin
+    }
+
+    // The virtual finish of the queue, whose first request is of this width.
+    pub fn finish(&self, queue: u32, width: u32) -> u64
+        requires is_queue { queue < length self.now.next }
+        requires fits { slice_index self.now.next queue + width < 2 ^ 64 }
+        ensures { result ≡ slice_index self.now.next queue + width }
+    {
+        self.next[queue as usize] + u64::from(width)
+    }
+
+    // A request enters the queue, in which this many wait: one that was empty starts no earlier than
+    // the level's virtual time.
+    pub fn enter(&mut self, queue: u32, len: u32)
+        requires { queue < length self.old.next }
+        ensures numbers { (requests : List ℕ) → length requests ≡ len → numbers_of self.new ≡ after_enter queue requests (numbers_of self.old) }
+        ensures one_for_each { length self.new.next ≡ length self.old.next }
+    {
+        if len == 0 {
+            let next = self.next[queue as usize];
+            self.next[queue as usize] = next.max(self.level);
+        }
+    }
+
+    // A request of this width is dispatched from the queue.
+    pub fn dispatch(&mut self, queue: u32, width: u32)
+        requires is_queue { queue < length self.old.next }
+        requires fits { slice_index self.old.next queue + width < 2 ^ 64 }
+        ensures numbers { numbers_of self.new ≡ after_dispatch queue width (numbers_of self.old) }
+        ensures one_for_each { length self.new.next ≡ length self.old.next }
+    {
+        let next = self.next[queue as usize];
+        self.level = self.level.max(next);
+        self.next[queue as usize] = next + u64::from(width);
+        self.robin = queue;
+    }
+}
+
+#[cfg(test)]
+impl<A: Allocator> VirtualTime<A> {
+    // The number of a queue, if there is such a queue.
+    pub fn next(&self, queue: u32) -> Option<u64> {
+        self.next.get(queue as usize).copied()
+    }
+
+    // The number of the level.
+    pub fn level(&self) -> u64 {
+        self.level
+    }
+}

@@ -77,3 +77,24 @@ moved widths w r from to inside is = (
   subst (λ (s : Stage). tally (λ j. seats_at (put w.stage r to j) (width widths j)) (length widths) + seats_at s (width widths r) ≡ seats widths w + seats_at to (width widths r)) is (seats_moved widths w r to inside),
   subst (λ (s : Stage). tally (λ j. waits_at (put w.stage r to j)) (length widths) + waits_at s ≡ waiters widths w + waits_at to) is (waiters_moved widths w r to inside),
 )
+
+pub waiters-le-length : (widths : List ℕ) (w : World) → waiters widths w ≤ length widths
+waiters-le-length widths w = tally_bound (λ r. waits_at (w.stage r)) (length widths) (λ j. waits_at-le-one (w.stage j))
+
+no_waiter : (s : Stage) → ¬ (s ≡ Waits) → waits_at s ≡ 0
+no_waiter Away not = refl
+no_waiter Waits not = absurd (not refl)
+no_waiter Stands not = refl
+no_waiter Gone not = refl
+
+no_seats : (s : Stage) (k : ℕ) → ¬ (s ≡ Stands) → seats_at s k ≡ 0
+no_seats Away k not = refl
+no_seats Waits k not = refl
+no_seats Stands k not = absurd (not refl)
+no_seats Gone k not = refl
+
+pub nobody_waits : (widths : List ℕ) (w : World) → ((r : ℕ) → r < length widths → ¬ (w.stage r ≡ Waits)) → waiters widths w ≡ 0
+nobody_waits widths w none = tally_nothing (λ r. waits_at (w.stage r)) (length widths) (λ j l. no_waiter (w.stage j) (none j l))
+
+pub nobody_stands : (widths : List ℕ) (w : World) → ((r : ℕ) → r < length widths → ¬ (w.stage r ≡ Stands)) → seats widths w ≡ 0
+nobody_stands widths w none = tally_nothing (λ r. seats_at (w.stage r) (width widths r)) (length widths) (λ j l. no_seats (w.stage j) (width widths j) (none j l))

@@ -1,11 +1,24 @@
 //! What every schedule keeps.
 
-ghost use Rattle.std.specs.Prelude.{◌≡◌, ◌⊎◌, ℕ, ◌+◌, ◌≤◌, List, ◌∷◌, ◌++◌, Some, None, count_by};
+ghost use Rattle.std.specs.Prelude.{◌≡◌, ◌⊎◌, ℕ, ◌+◌, ◌<◌, ◌≤◌, List, ◌∷◌, ◌++◌, length, Some, None, count_by};
 ghost use Rattle.apf_words.specs.Fits.{Fits};
 ghost use Rattle.apf_words.specs.declared.decision.Decision.TheVariants.{Execute, Cancelled};
+ghost use Rattle.apf_model.specs.declared.moves.Stage.{Stage};
 ghost use Rattle.apf_model.specs.declared.moves.Move.{Move};
 ghost use Rattle.apf_model.specs.declared.moves.Move.TheVariants.{Take, Enter, Grant, Decide, Close};
-ghost use Rattle.apf_model.specs.World.{Opening, width, seats, FitsIn, IsStanding, IsWaiting};
+ghost use Rattle.apf_model.specs.World.{
+  Opening,
+  World,
+  put,
+  width,
+  seats,
+  seats_at,
+  waiters,
+  waits_at,
+  FitsIn,
+  IsStanding,
+  IsWaiting,
+};
 ghost use Rattle.apf_model.specs.Schedule.{
   world,
   IsSchedule,
@@ -61,7 +74,18 @@ pub fn every_schedule_is_safe()
     ensures alone { (o : Opening) (ms : List Move)
         → AreWidths o.widths → IsSchedule o ms → Alone o.widths (world o ms) }
 
-    // So they are at most the greater of that limit and the widest width.
+    // A request that goes from one stage to another changes the sums by its own part alone.
+    ensures sums { (widths : List ℕ) (w : World) (r : ℕ) (from to : Stage) → r < length widths → w.stage r ≡ from
+        → (seats widths (record w { stage = put w.stage r to }) + seats_at from (width widths r)
+        ≡ seats widths w + seats_at to (width widths r))
+        × (waiters widths (record w { stage = put w.stage r to }) + waits_at from ≡ waiters widths w + waits_at to) }
+    ensures few_wait { (widths : List ℕ) (w : World) → waiters widths w ≤ length widths }
+    ensures nobody_waits { (widths : List ℕ) (w : World)
+        → ((r : ℕ) → r < length widths → ¬ IsWaiting w r) → waiters widths w ≡ 0 }
+    ensures nobody_stands { (widths : List ℕ) (w : World)
+        → ((r : ℕ) → r < length widths → ¬ IsStanding w r) → seats widths w ≡ 0 }
+
+    // The seats are at most the greater of the largest limit so far and the widest width.
     ensures bounded { (o : Opening) (ms : List Move) (most : ℕ)
         → AreWidths o.widths → IsSchedule o ms → (world o ms).largest ≤ most → 20000 ≤ most → seats o.widths (world o ms) ≤ most }
 {}

@@ -3,6 +3,7 @@ use Rattle.apf_model.proofs.Places.{IsSchedule-append, allowed_at}
 use Rattle.apf_model.proofs.Counts.{few_steps, one_arrival, one_grant, grant_after_enter, left_never_stood}
 use Rattle.apf_model.proofs.Decided.{one_decide, executed_stood, waiting_undecided_or_cancelled, no_arrival_after_close}
 use Rattle.apf_model.proofs.Seats.{is_alone, seats_bounded}
+use Rattle.apf_model.proofs.Sums.{moved, waiters-le-length, nobody_waits, nobody_stands}
 use Rattle.apf_model.specs.declared.moves.Move.TheVariants.{Take, Grant}
 use Rattle.apf_model.proofs.laws.every_schedule_is_safe.Goals as goal
 
@@ -47,3 +48,15 @@ returns-clause-alone c = is_alone
 
 pub returns-clause-bounded : goal.returns-clause-bounded
 returns-clause-bounded c = seats_bounded
+
+pub returns-clause-sums : goal.returns-clause-sums
+returns-clause-sums c = moved
+
+pub returns-clause-few_wait : goal.returns-clause-few_wait
+returns-clause-few_wait c = waiters-le-length
+
+pub returns-clause-nobody_waits : goal.returns-clause-nobody_waits
+returns-clause-nobody_waits c = nobody_waits
+
+pub returns-clause-nobody_stands : goal.returns-clause-nobody_stands
+returns-clause-nobody_stands c = nobody_stands

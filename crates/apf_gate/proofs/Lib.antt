@@ -1,0 +1,12 @@
+pub mod Puts
+pub mod Words
+pub mod Later
+pub mod Views
+pub mod Sound
+pub mod Packing
+pub mod Rooms
+pub mod Knowing
+pub mod PassSteps
+pub mod StationSteps
+pub mod Seats
+pub mod Told

@@ -1,0 +1,100 @@
+-- The words as one step changes them.
+use Rattle.std.proofs.Common.{◌≡◌, ◌≢◌, ℕ, ◌+◌, ◌<◌, ◌≤◌, Bool, true, false, List, length, get_or, set, Some, sym, refl, ap, ◌∙◌, subst, arith, length-set, get_or-set_other, get_or-set_same}
+use mathlib.Core.Logic.{dite}
+use lib.Seq.{set-get_or}
+use native.Mathlib.Decide.{ℕ_discrete}
+use Rattle.apf_words.specs.Codes.{code_of}
+use Rattle.apf_words.specs.Level.{Level, packed}
+use Rattle.apf_words.specs.declared.decision.Decision.{Decision}
+use Rattle.apf_model.specs.declared.moves.Move.{Move}
+use Rattle.apf_model.specs.declared.response.Response.TheVariants.{Queue, Reject}
+use Rattle.apf_model.specs.declared.moves.Stage.TheVariants.{Waits}
+use Rattle.apf_model.specs.World.{World, put, waiters, IsWaiting}
+use Rattle.apf_model.specs.Schedule.{IsSchedule}
+use Rattle.apf_gate.specs.declared.record.Shape.{Shape}
+use Rattle.apf_gate.specs.declared.record.State.{State}
+use Rattle.apf_gate.specs.declared.record.State.TheVariants.{Fresh, Took, InLine, Over}
+use Rattle.apf_gate.specs.declared.record.Service.{Service}
+use Rattle.apf_gate.specs.declared.record.Service.TheVariants.{NotHanded, Handed, Full, Waiting, Held, Settled, Left}
+use Rattle.apf_gate.specs.declared.record.PassRecord.{PassRecord}
+use Rattle.apf_gate.specs.Records.{opening_of, world_of, level_of, code_in, service_of}
+use Rattle.apf_gate.specs.Account.{IsRequest, stage_of, stage_of_pass, stage_of_settled, has_entered}
+use Rattle.apf_gate.specs.Steps.{IsInRange}
+use Rattle.apf_gate.specs.Gauges.{IsShape, AreLaws}
+use Rattle.apf_gate.specs.Rule.{Packs, IsRuled}
+use Rattle.apf_gate.proofs.Puts.{put_here, put_else}
+use Rattle.apf_gate.proofs.Words.{IsSmall}
+use Rattle.apf_gate.proofs.Views.{Table}
+
+module _ (s : Shape) where
+  -- a step that changes no word
+  pub packs_same : (words : List ℕ) (w w' : World) (i : ℕ) → level_of s.widths w' ≡ level_of s.widths w → ((r : ℕ) → w'.decision r ≡ w.decision r) → Packs s words w → Packs s (set words i (get_or words i 0)) w'
+  packs_same words w w' i level same k = subst (λ (ws : List ℕ). Packs s ws w') (sym (set-get_or words i 0)) (record {
+    count = k.count;
+    level = k.level ∙ ap packed (sym level);
+    decisions = λ r l. k.decisions r l ∙ ap code_in (sym (same r));
+  })
+
+  -- a step that writes the level word
+  pub packs_level : (words : List ℕ) (w w' : World) (x : ℕ) → x ≡ packed (level_of s.widths w') → ((r : ℕ) → w'.decision r ≡ w.decision r) → Packs s words w → Packs s (set words 0 x) w'
+  packs_level words w w' x is same k = record {
+    count = length-set words 0 x ∙ k.count;
+    level = (let some_words : 0 < length words = (let c = k.count in omega arith) in get_or-set_same words 0 x 0 some_words ∙ is);
+    decisions = λ r l. get_or-set_other words 0 (r + 1) x 0 (λ e. omega arith) ∙ (k.decisions r l ∙ ap code_in (sym (same r)));
+  }
+
+  -- a step that writes a decision
+  pub packs_decided : (words : List ℕ) (w : World) (r : ℕ) (d : Decision) → r < length s.widths → Packs s words w
+      → Packs s (set words (r + 1) (code_of d)) (record w { decision = put w.decision r (Some d) })
+  packs_decided words w r d inside k = record {
+    count = length-set words (r + 1) (code_of d) ∙ k.count;
+    level = get_or-set_other words (r + 1) 0 (code_of d) 0 (λ e. omega arith) ∙ k.level;
+    decisions = λ j l. dite (ℕ_discrete j r)
+        (λ e. let there : r + 1 < length words = (let c = k.count in omega arith) in
+        subst (λ x. get_or (set words (r + 1) (code_of d)) (x + 1) 0 ≡ code_in (put w.decision r (Some d) x)) (sym e)
+        (get_or-set_same words (r + 1) (code_of d) 0 there ∙ ap code_in (sym (put_here w.decision r (Some d)))))
+        (λ ne. get_or-set_other words (r + 1) (j + 1) (code_of d) 0 (λ x. ne (omega arith)) ∙ (k.decisions j l ∙ ap code_in (sym (put_else w.decision r (Some d) j ne))));
+  }
+
+  -- a request waits only on a level with queues
+  waits_in_queues : (p : PassRecord) (a : Service) (r : ℕ) (w : World) → IsRequest s r p a w → s.response ≡ Reject → ¬ IsWaiting w r
+  waits_in_queues p a r w k reject e = absurd (let x = k.queues (k.entered ∙ waiting a (sym k.stage ∙ e)) in cc)
+    where
+      of_pass : (f : State) (took : Bool) → stage_of_pass f took ≡ Waits → ⊥
+      of_pass Fresh took x = cc
+      of_pass Took took x = cc
+      of_pass InLine took x = cc
+      of_pass Over true x = cc
+      of_pass Over false x = cc
+
+      of_settled : (f : State) → stage_of_settled f ≡ Waits → ⊥
+      of_settled Fresh x = cc
+      of_settled Took x = cc
+      of_settled InLine x = cc
+      of_settled Over x = cc
+
+      waiting : (a : Service) → stage_of p a ≡ Waits → has_entered a ≡ true
+      waiting NotHanded x = absurd (of_pass p.state p.took x)
+      waiting Handed x = absurd (of_pass p.state p.took x)
+      waiting Full x = absurd (of_pass p.state p.took x)
+      waiting Waiting x = refl
+      waiting Held x = refl
+      waiting Settled x = refl
+      waiting Left x = refl
+
+  -- the numbers of the level word
+  pub level_in_range : IsShape s → AreLaws s → (t : Table) (h : IsRuled s t) → IsInRange (level_of s.widths (world_of s h.account.schedule))
+  level_in_range shape laws t h =
+      let ms = h.account.schedule in
+      let w = world_of s ms in
+      let a = laws.few_wait w in
+      let b = shape.few_requests in
+      let c = h.sound.stations.limit_small in
+      let l : w.largest ≤ 20000 = (let z = h.sound.stations.largest_small in omega arith) in
+      let d = laws.bounded ms h.sound.schedule l in record { waiters = omega arith; seats = d; limit = c }
+
+  pub no_queues : AreLaws s → (t : Table) (h : IsRuled s t) → s.response ≡ Reject → waiters s.widths (world_of s h.account.schedule) ≡ 0
+  no_queues laws t h reject = laws.nobody_waits (world_of s h.account.schedule) (λ r l. waits_in_queues (h.account.pass r) (service_of h.account.desk.services r) r (world_of s h.account.schedule) (h.sound.request r l) reject)
+
+pub is_small : (l : Level) → IsInRange l → IsSmall l
+is_small l k = let a = k.waiters in let b = k.seats in let c = k.limit in (omega arith, omega arith, omega arith)

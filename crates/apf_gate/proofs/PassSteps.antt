@@ -1,0 +1,676 @@
+-- Each step of a Pass keeps the rule.
+use Rattle.std.proofs.Common.{◌≡◌, ◌≢◌, ◌⊎◌, ℕ, ◌+◌, ◌-◌, ◌%◌, ◌^◌, ◌<◌, Bool, true, false, List, [], ◌∷◌, ◌++◌, length, get_or, set, Option, Some, None, sym, refl, ap, ◌∙◌, subst, inl, inr, ⊎_elim, arith, eq-eqb, ne_eqb}
+use Rattle.std.specs.Prelude.{slice_index, ◌==◌, ◌||◌, if◌then◌else◌, MatchBool}
+use mathlib.Core.Logic.{dite}
+use mathlib.Core.Option.{some}
+use lib.ListN.{get_elem?}
+use native.Mathlib.Decide.{ℕ_discrete}
+use prog.Atomic.{either}
+use Rattle.atomic_table.specs.Table.{Act, keeps, Valid, carried_after, stepped, Allows}
+use Rattle.apf_words.specs.Fits.{Fits}
+use Rattle.apf_words.specs.Codes.{code_of}
+use Rattle.apf_words.specs.Level.{Level, packed}
+use Rattle.apf_words.specs.declared.decision.Decision.{Decision}
+use Rattle.apf_words.specs.declared.decision.Decision.TheVariants.{Execute, QueueFull, Closed, Cancelled, ConcurrencyLimit}
+use Rattle.apf_model.specs.declared.moves.Move.{Move}
+use Rattle.apf_model.specs.declared.moves.Move.TheVariants.{Take, Decide, Release, See}
+use Rattle.apf_model.specs.declared.response.Response.TheVariants.{Reject}
+use Rattle.apf_model.specs.declared.moves.Stage.TheVariants.{Away, Stands, Gone}
+use Rattle.apf_model.specs.World.{World, put, width, seats, waiters, Allowed, FitsIn, MaySee, MayTake}
+use Rattle.apf_model.specs.Schedule.{IsSchedule}
+use Rattle.apf_gate.specs.declared.record.Shape.{Shape}
+use Rattle.apf_gate.specs.declared.record.Knowledge.{Knowledge}
+use Rattle.apf_gate.specs.declared.record.State.{State}
+use Rattle.apf_gate.specs.declared.record.State.TheVariants.{Fresh, Took, InLine, Over}
+use Rattle.apf_gate.specs.declared.record.Service.{Service}
+use Rattle.apf_gate.specs.declared.record.Service.TheVariants.{NotHanded, Handed, Full, Waiting, Held, Settled, Left}
+use Rattle.apf_gate.specs.declared.record.PassRecord.{PassRecord}
+use Rattle.apf_gate.specs.declared.record.Record.{Record}
+use Rattle.apf_gate.specs.declared.record.Record.TheVariants.{Pass}
+use Rattle.apf_gate.specs.Records.{opening_of, world_of, level_of, code_in, told_of, told_own, told_more, service_of, saw_level, saw_decision}
+use Rattle.apf_gate.specs.Account.{Account, IsRequest, IsHanded, IsState, IsKnown, stage_of, stage_of_pass, stage_of_settled}
+use Rattle.apf_gate.specs.Gauges.{IsShape, AreLaws}
+use Rattle.apf_gate.specs.Rule.{IsRuled}
+use Rattle.apf_gate.specs.Steps.{IsInRange, SawLevel, SawDecision, is_no_room, own_width, looked, sees, Looks, Takes, Hears, heard, Asks, asking, asking_state, deciding_state, Writes, Loses, Releases, ByPass, OfLevel, OfDecision, LooksAt, TakesAt, ReleasesAt, HearsAt, AsksAt, DecidesAt}
+use Rattle.apf_gate.specs.Calls.{MayWrite, MayRelease}
+use Rattle.apf_gate.proofs.Puts.{put_here, put_else}
+use Rattle.apf_gate.proofs.Words.{IsSmall, packed_same, code_same, more_seats, less_seats}
+use Rattle.apf_gate.proofs.Later.{IsLater, same_schedule, one_more, same_response}
+use Rattle.apf_gate.proofs.Views.{Table}
+use Rattle.apf_gate.proofs.Sound.{IsSame, stations_same, pass_step}
+use Rattle.apf_gate.proofs.Packing.{packs_same, packs_level, packs_decided, level_in_range, no_queues, is_small}
+use Rattle.apf_gate.proofs.Rooms.{HasNoRoom, true_or_false, or_yes, no_room_true}
+use Rattle.apf_gate.proofs.Knowing.{level_known, level_told, decision_known, decision_told}
+
+handed_or_not : (a : Service) → (a ≡ NotHanded) ⊎ (a ≢ NotHanded)
+handed_or_not NotHanded = inl refl
+handed_or_not Handed = inr (λ e. cc)
+handed_or_not Full = inr (λ e. cc)
+handed_or_not Waiting = inr (λ e. cc)
+handed_or_not Held = inr (λ e. cc)
+handed_or_not Settled = inr (λ e. cc)
+handed_or_not Left = inr (λ e. cc)
+
+-- the Desk did nothing with the request of a Pass that did not ask
+pub not_handed : (s : Shape) (r : ℕ) (p : PassRecord) (a : Service) (w : World) → IsRequest s r p a w → p.asked ≡ false → a ≡ NotHanded
+not_handed s r p a w k e = ⊎_elim (λ y. y) (λ ne. let h = (k.handed ne).asked in absurd (cc)) (handed_or_not a)
+
+-- a step that leaves these alone
+pub state_same : (f : State) (p q : PassRecord) → q.took ≡ p.took → q.asked ≡ p.asked → q.wrote ≡ p.wrote → IsState f p → IsState f q
+state_same Fresh p q took asked wrote k = (took ∙ k.0, asked ∙ k.1, wrote ∙ k.2)
+state_same Took p q took asked wrote k = (took ∙ k.0, asked ∙ k.1)
+state_same InLine p q took asked wrote k = (took ∙ k.0, asked ∙ k.1, wrote ∙ k.2)
+state_same Over p q took asked wrote k = λ e. asked ∙ k (sym took ∙ e)
+
+-- what the state of a Pass says of it
+pub in_state : (s : Shape) (r : ℕ) (p : PassRecord) (a : Service) (w : World) (f : State) → IsRequest s r p a w → p.state ≡ f → IsState f p
+in_state s r p a w f k e = subst (λ x. IsState x p) e k.state
+
+module _ (s : Shape) where
+  -- what the rule says of the Pass at a seat
+  pub record IsAt (t : Table) (h : IsRuled s t) (id : ℕ) (p : PassRecord) : Type 0 where
+    pub inside : p.number < length s.widths
+    pub request : IsRequest s p.number p (service_of h.account.desk.services p.number) (world_of s h.account.schedule)
+    pub known : IsKnown s p.knows h.account.schedule
+
+  pub is_at : (t : Table) (h : IsRuled s t) (id : ℕ) (p : PassRecord) → get_elem? t.views id ≡ some (Pass p ∷ []) → IsAt t h id p
+  is_at t h id p at = let f = (h.views id (Pass p ∷ []) at).0.0.1 in record {
+    inside = f.0;
+    request = subst (λ (o : PassRecord). IsRequest s p.number o (service_of h.account.desk.services p.number) (world_of s h.account.schedule)) f.1 (h.sound.request p.number f.0);
+    known = subst (λ (o : PassRecord). IsKnown s o.knows h.account.schedule) f.1 (h.sound.pass_knows p.number f.0);
+  }
+
+  -- a fresh Pass has not come
+  pub fresh_away : (r : ℕ) (p : PassRecord) (a : Service) (w : World) → IsRequest s r p a w → p.state ≡ Fresh → (w.stage r ≡ Away) × (a ≡ NotHanded)
+  fresh_away r p a w k e =
+      let f = in_state s r p a w Fresh k e in
+      let none = not_handed s r p a w k f.1 in
+      (k.stage ∙ (ap (stage_of p) none ∙ ap (λ x. stage_of_pass x p.took) e), none)
+
+  -- what a load may add to the schedule
+  abbrev seen : Bool → ℕ → List Move
+  seen b r = if b then See r ∷ [] else []
+
+  record Quiet (ms : List Move) (b : Bool) (r : ℕ) : Type 0 where
+    later : IsLater s ms (seen b r ++ ms)
+    is_schedule : IsSchedule (opening_of s) (seen b r ++ ms)
+    others : (j : ℕ) → j ≢ r → IsSame (world_of s ms) (world_of s (seen b r ++ ms)) j
+    stage : (j : ℕ) → (world_of s (seen b r ++ ms)).stage j ≡ (world_of s ms).stage j
+    decision : (j : ℕ) → (world_of s (seen b r ++ ms)).decision j ≡ (world_of s ms).decision j
+    is_open : (world_of s (seen b r ++ ms)).is_open ≡ (world_of s ms).is_open
+    limit : (world_of s (seen b r ++ ms)).limit ≡ (world_of s ms).limit
+    largest : (world_of s (seen b r ++ ms)).largest ≡ (world_of s ms).largest
+    level : level_of s.widths (world_of s (seen b r ++ ms)) ≡ level_of s.widths (world_of s ms)
+    saw : (x : Bool) → (world_of s ms).saw_no_room r ≡ x → (world_of s (seen b r ++ ms)).saw_no_room r ≡ (x || b)
+
+  or_false : (x : Bool) → x ≡ (x || false)
+  or_false true = refl
+  or_false false = refl
+
+  or_true : (x : Bool) → true ≡ (x || true)
+  or_true true = refl
+  or_true false = refl
+
+  quiet : (ms : List Move) (b : Bool) (r : ℕ) → IsSchedule (opening_of s) ms → (b ≡ true → MaySee s.widths (world_of s ms) r) → Quiet ms b r
+  quiet ms true r legal may = let a = may refl in record {
+    later = one_more s (See r) ms a;
+    is_schedule = (a, legal);
+    others = λ j ne. record { stage = refl; decision = refl; saw = put_else (world_of s ms).saw_no_room r true j ne };
+    stage = λ j. refl;
+    decision = λ j. refl;
+    is_open = refl;
+    limit = refl;
+    largest = refl;
+    level = refl;
+    saw = λ x e. put_here (world_of s ms).saw_no_room r true ∙ or_true x;
+  }
+  quiet ms false r legal may = record {
+    later = same_schedule s ms;
+    is_schedule = legal;
+    others = λ j ne. record { stage = refl; decision = refl; saw = refl };
+    stage = λ j. refl;
+    decision = λ j. refl;
+    is_open = refl;
+    limit = refl;
+    largest = refl;
+    level = refl;
+    saw = λ x e. e ∙ or_false x;
+  }
+
+  module _ (shape : IsShape s) (laws : AreLaws s) where
+    -- a fresh Pass that finds no room in the level word may see that
+    may_see : (t : Table) (h : IsRuled s t) (p : PassRecord) → p.number < length s.widths → own_width p ≡ width s.widths p.number
+        → (world_of s h.account.schedule).stage p.number ≡ Away
+        → is_no_room (level_of s.widths (world_of s h.account.schedule)) (own_width p) ≡ true → MaySee s.widths (world_of s h.account.schedule) p.number
+    may_see t h p inside own away e =
+        let w = world_of s h.account.schedule in
+        let none = no_room_true (level_of s.widths w) (own_width p) e in record {
+          is_request = inside;
+          is_open = Rattle.std.proofs.lemmas.Bool.not-false w.is_open none.is_open;
+          has_not_come = away;
+          has_no_room = subst (λ k. ¬ Fits (seats s.widths w) w.limit k) own none.does_not_fit;
+        }
+
+    -- the lines on a Pass that looked
+    request_looked : (r : ℕ) (p : PassRecord) (a : Service) (w w' : World) (b : Bool) (u : Knowledge) → u.told ≡ p.knows.told → w'.stage r ≡ w.stage r → w'.decision r ≡ w.decision r → w'.saw_no_room r ≡ (p.saw_no_room || b) → (w.is_open ≡ false → w'.is_open ≡ false)
+        → IsRequest s r p a w → IsRequest s r (record p { saw_no_room = p.saw_no_room || b; no_room = b; knows = u }) a w'
+    request_looked r p a w w' b u told stage decision saw closes k = record {
+      number = k.number;
+      stage = stage ∙ k.stage;
+      saw = saw;
+      state = state_same p.state p (record p { saw_no_room = p.saw_no_room || b; no_room = b; knows = u }) refl refl refl k.state;
+      entered = k.entered;
+      queues = k.queues;
+      handed = λ ne. let h = k.handed ne in record { asked = h.asked; took_none = h.took_none; wrote_none = h.wrote_none; over = λ e. ap (λ x. Rattle.apf_gate.specs.Records.told_of x p.number) told ∙ h.over e };
+      wrote = λ e. decision ∙ k.wrote e;
+      executed = λ e. k.executed (sym decision ∙ e);
+      settled = λ e. decision ∙ k.settled e;
+      is_full = λ e. k.is_full (sym decision ∙ e);
+      full = λ e. decision ∙ k.full e;
+      closed = λ e. closes (k.closed (sym decision ∙ e));
+      limited = λ e. let x = k.limited (sym decision ∙ e) in (x.0, x.1, ap (λ y. y || b) x.2);
+      refused = λ e. stage ∙ k.refused (subst Rattle.apf_gate.specs.Account.IsRefusal decision e);
+      no_room = λ e. or_yes p.saw_no_room b e;
+    }
+
+    -- a load of the level word
+    pub looks : (id slots : ℕ) (p : PassRecord) → p.state ≡ Fresh → Allows (IsRuled s) slots id (Pass p ∷ [], []) 0 (λ n. n) (ByPass LooksAt (Pass p ∷ [], []))
+    looks id slots p fresh t h deep at small =
+        let g = h.account in
+        let ms = g.schedule in
+        let w = world_of s ms in
+        let k = is_at t h id p at in
+        let l : Level = level_of s.widths w in
+        let b : Bool = is_no_room l (own_width p) in
+        let x = quiet ms b p.number h.sound.schedule (may_see t h p k.inside (ap (λ (y : Shape). width y.widths p.number) k.known.shape) (fresh_away p.number p (service_of g.desk.services p.number) w k.request fresh).0) in
+        let own = seen b p.number in
+        let u : Knowledge = saw_level p.knows l (own ++ ms) in
+        let q : PassRecord = looked p l u in (
+          Pass q ∷ [],
+          keeps,
+          tt,
+          pass_step s t h id p q 0 (slice_index t.words 0) (own ++ ms) at x.later x.is_schedule x.others (packs_same s t.words w (world_of s (own ++ ms)) 0 x.level x.decision h.packs)
+              (request_looked p.number p (service_of g.desk.services p.number) w (world_of s (own ++ ms)) b u refl (x.stage p.number) (x.decision p.number) (x.saw p.saw_no_room k.request.saw) x.later.closed k.request)
+              (level_known s p.knows ms own k.known x.later l refl)
+              (stations_same s g.station g.canceller g.closer w (world_of s (own ++ ms)) x.is_open x.limit x.largest (λ r e. sym (x.decision r) ∙ e) (λ r e. x.decision r ∙ e) h.sound.stations),
+          (refl, (q, refl, (l, h.packs.level, (u, level_told s p.knows ms own k.known x.later l refl x.is_schedule (level_in_range s shape laws t h) (no_queues s laws t h), refl)))),
+        )
+
+    abbrev Taken : ℕ → ℕ → ℕ → PassRecord → Table → ℕ → Bool → Type 0
+    Taken expected new id p t n b = (v : List Record) × (a : Act (Unit {0})) × Valid t.homes [] a × IsRuled s (stepped t 0 (either b new n) id [] v a)
+        × ((carried_after [] a ≡ []) × ((q : PassRecord) × (v ≡ Pass q ∷ []) × ((l : Level) × (n ≡ packed l) × MatchBool b (Takes p l q) (Looks p l q))))
+
+    -- an exchange of a word that shows room
+    pub takes : (id slots : ℕ) (p : PassRecord) (expected new : ℕ) (l : Level) → p.state ≡ Fresh → expected ≡ packed l → IsInRange l → (p.knows.shape.response ≡ Reject → l.waiters ≡ 0) → l.closed ≡ false → l.waiters ≡ 0 → Fits l.seats l.limit (own_width p) → new ≡ expected + own_width p
+        → Allows (IsRuled s) slots id (Pass p ∷ [], []) 0 (λ n. either (n == expected) new n) (ByPass (λ o n q. TakesAt o expected n q) (Pass p ∷ [], []))
+    takes id slots p expected new l fresh said in_range queues opened none room sum t h deep at small_word =
+        dite (ℕ_discrete n expected) (λ e. subst (Taken expected new id p t n) (sym (eq-eqb n expected e)) (hit e)) (λ ne. subst (Taken expected new id p t n) (sym (ne_eqb n expected ne)) miss)
+      where
+        n : ℕ
+        n = slice_index t.words 0
+
+        r : ℕ
+        r = p.number
+
+        w : World
+        w = world_of s h.account.schedule
+
+        k : IsAt t h id p
+        k = is_at t h id p at
+
+        miss : Taken expected new id p t n false
+        miss = looks id slots p fresh t h deep at small_word
+
+        hit : n ≡ expected → Taken expected new id p t n true
+        hit e =
+            let g = h.account in
+            let ms = g.schedule in
+            let a : Service = service_of g.desk.services r in
+            let now : level_of s.widths w ≡ l = packed_same _ _ (is_small _ (level_in_range s shape laws t h)) (is_small l in_range) (sym h.packs.level ∙ (e ∙ said)) in
+            let is_open : w.is_open ≡ true = Rattle.std.proofs.lemmas.Bool.not-false w.is_open (ap (λ (x : Level). x.closed) now ∙ opened) in
+            let nobody : waiters s.widths w ≡ 0 = ap (λ (x : Level). x.waiters) now ∙ none in
+            let own : own_width p ≡ width s.widths r = ap (λ (y : Shape). width y.widths r) k.known.shape in
+            let fits : FitsIn s.widths w r = subst (λ (y : Level × ℕ). Fits y.0.seats y.0.limit y.1) (λ i. (sym now i, own i)) room in
+            let away = fresh_away r p a w k.request fresh in
+            let may : MayTake s.widths w r = record { is_request = k.inside; is_open = is_open; has_not_come = away.0; nobody_waits = nobody; fits = fits } in
+            let later = one_more s (Take r) ms may in
+            let m = laws.sums w r Away Stands k.inside away.0 in
+            let w' = world_of s (Take r ∷ ms) in
+            let more : seats s.widths w' ≡ seats s.widths w + width s.widths r = (let x = m.0 in omega arith) in
+            let as_many : waiters s.widths w' ≡ waiters s.widths w = (let x = m.1 in omega arith) in
+            let u : Knowledge = saw_level p.knows l (Take r ∷ ms) in
+            let q : PassRecord = record p { state = Took; took = true; no_room = false; knows = u } in
+            let state = in_state s r p a w Fresh k.request fresh in
+            let level : new ≡ packed (level_of s.widths w') = sum ∙ (ap (λ y. y + own_width p) (said ∙ ap packed (sym now)) ∙ (ap (λ y. packed (level_of s.widths w) + y) own
+            ∙ (sym (more_seats (level_of s.widths w).closed (waiters s.widths w) (seats s.widths w) w.limit (width s.widths r))
+            ∙ (λ i. packed (record { closed = (level_of s.widths w).closed; waiters = sym as_many i; seats = sym more i; limit = w.limit }))))) in (
+              Pass q ∷ [],
+              keeps,
+              tt,
+              pass_step s t h id p q 0 new (Take r ∷ ms) at later (may, h.sound.schedule) (λ j ne. record { stage = put_else w.stage r Stands j ne; decision = refl; saw = refl })
+                  (packs_level s t.words w w' new level (λ _. refl) h.packs)
+                  (record {
+                    number = refl;
+                    stage = put_here w.stage r Stands ∙ sym (ap (stage_of q) away.1);
+                    saw = k.request.saw;
+                    state = (refl, state.1);
+                    entered = k.request.entered;
+                    queues = k.request.queues;
+                    handed = λ ne. absurd (ne away.1);
+                    wrote = k.request.wrote;
+                    executed = k.request.executed;
+                    settled = k.request.settled;
+                    is_full = k.request.is_full;
+                    full = k.request.full;
+                    closed = k.request.closed;
+                    limited = k.request.limited;
+                    refused = λ x. absurd (not_refused (w.decision r) refl x);
+                    no_room = λ x. absurd (cc);
+                  })
+                  (level_known s p.knows ms (Take r ∷ []) k.known later l now)
+                  (stations_same s g.station g.canceller g.closer w w' refl refl refl (λ _ x. x) (λ _ x. x) h.sound.stations),
+              (refl, (q, refl, (l, e ∙ said, (u, level_told s p.knows ms (Take r ∷ []) k.known later l now (may, h.sound.schedule) in_range (λ e. queues (ap (λ (y : Shape). y.response) k.known.shape ∙ e)), refl)))),
+            )
+          where
+            -- a fresh Pass of an open level was not refused
+            not_refused : (d : Option Decision) → w.decision r ≡ d → Rattle.apf_gate.specs.Account.IsRefusal d → ⊥
+            not_refused None is x = x
+            not_refused (Some Execute) is x = x
+            not_refused (Some Cancelled) is x = x
+            not_refused (Some QueueFull) is x = let y = k.request.is_full is in let z = (fresh_away r p (service_of h.account.desk.services r) w k.request fresh).1 in absurd (cc)
+            not_refused (Some Closed) is x = let y = k.request.closed is in let z = ap (λ (x : Level). x.closed) (packed_same _ _ (is_small _ (level_in_range s shape laws t h)) (is_small l in_range) (sym h.packs.level ∙ (e ∙ said))) ∙ opened in absurd (cc)
+            not_refused (Some ConcurrencyLimit) is x = let y = (k.request.limited is).0 in let z = (in_state s r p (service_of h.account.desk.services r) w Fresh k.request fresh).2 in absurd (cc)
+
+    -- the word of a Pass's request
+    own_word : (t : Table) (h : IsRuled s t) (r : ℕ) → r < length s.widths → slice_index t.words (r + 1) ≡ code_in ((world_of s h.account.schedule).decision r)
+    own_word t h r inside = h.packs.decisions r inside
+
+    -- execute stays told
+    execute_told : (told : List (ℕ × Decision)) (r : ℕ) (d : Option Decision) → told_of told r ≡ Some Execute → d ≡ Some Execute → told_of (told_more told r d) r ≡ Some Execute
+    execute_told told r None was is = was
+    execute_told told r (Some x) was is = put_here (told_of told) r (Some x) ∙ is
+
+    -- the lines on a Pass that heard of its decision
+    request_heard : (p : PassRecord) (a : Service) (w : World) (u : Knowledge) → (told_own p ≡ Some Execute → told_of u.told p.number ≡ Some Execute) → IsRequest s p.number p a w → IsRequest s p.number (heard p u) a w
+    request_heard p a w u stays k = record {
+      number = refl;
+      stage = k.stage;
+      saw = k.saw;
+      state = state_same p.state p (heard p u) refl refl refl k.state;
+      entered = k.entered;
+      queues = k.queues;
+      handed = λ ne. let h = k.handed ne in record { asked = h.asked; took_none = h.took_none; wrote_none = h.wrote_none; over = λ e. stays (h.over e) };
+      wrote = k.wrote;
+      executed = k.executed;
+      settled = k.settled;
+      is_full = k.is_full;
+      full = k.full;
+      closed = k.closed;
+      limited = k.limited;
+      refused = k.refused;
+      no_room = λ e. absurd (cc);
+    }
+
+    -- the same where the Pass was fresh and is in line now
+    request_asked : (p : PassRecord) (a : Service) (w : World) (u : Knowledge) → p.state ≡ Fresh → IsRequest s p.number p a w → IsRequest s p.number (record p { state = InLine; asked = true; no_room = false; knows = u }) a w
+    request_asked p a w u fresh k =
+        let away = fresh_away p.number p a w k fresh in
+        let f = in_state s p.number p a w Fresh k fresh in record {
+          number = refl;
+          stage = away.0 ∙ sym (ap (stage_of (record p { state = InLine; asked = true; no_room = false; knows = u })) away.1);
+          saw = k.saw;
+          state = (f.0, refl, f.2);
+          entered = k.entered;
+          queues = k.queues;
+          handed = λ ne. absurd (ne away.1);
+          wrote = k.wrote;
+          executed = k.executed;
+          settled = k.settled;
+          is_full = k.is_full;
+          full = k.full;
+          closed = k.closed;
+          limited = k.limited;
+          refused = k.refused;
+          no_room = λ e. absurd (cc);
+        }
+
+    -- a load of the own word, after which the record is q
+    loads_own : (id slots : ℕ) (p : PassRecord) (t : Table) (h : IsRuled s t) → get_elem? t.views id ≡ some (Pass p ∷ []) → (q : Knowledge → PassRecord) → ((u : Knowledge) → (q u).knows ≡ u)
+        → ((u : Knowledge) → (told_own p ≡ Some Execute → told_of u.told p.number ≡ Some Execute) → IsRequest s p.number p (service_of h.account.desk.services p.number) (world_of s h.account.schedule) → IsRequest s p.number (q u) (service_of h.account.desk.services p.number) (world_of s h.account.schedule))
+        → (u : Knowledge) × IsRuled s record { words = set t.words (p.number + 1) (slice_index t.words (p.number + 1)); homes = t.homes; views = set t.views id (Pass (q u) ∷ []) }
+        × ((d : Option Decision) × (slice_index t.words (p.number + 1) ≡ code_in d) × SawDecision p.knows p.number d d [] u)
+    loads_own id slots p t h at q knows request =
+        let g = h.account in
+        let ms = g.schedule in
+        let w = world_of s ms in
+        let r = p.number in
+        let k = is_at t h id p at in
+        let d = w.decision r in
+        let x = same_schedule s ms in
+        let u : Knowledge = saw_decision p.knows r d d ms in (
+          u,
+          pass_step s t h id p (q u) (r + 1) (slice_index t.words (r + 1)) ms at x h.sound.schedule (λ j ne. record { stage = refl; decision = refl; saw = refl })
+              (packs_same s t.words w w (r + 1) refl (λ _. refl) h.packs)
+              (request u (λ e. execute_told p.knows.told r d e (k.known.told r (λ none. cc) ∙ e)) k.request)
+              (subst (λ o. IsKnown s o ms) (sym (knows u)) (decision_known s p.knows ms [] k.known x r d d refl (λ _. refl)))
+              h.sound.stations,
+          (d, own_word t h r k.inside, decision_told s p.knows ms [] k.known x r d d refl (λ _. refl) h.sound.schedule),
+        )
+
+    -- a load of the own word
+    pub hears : (id slots : ℕ) (p : PassRecord) → Allows (IsRuled s) slots id (Pass p ∷ [], []) (p.number + 1) (λ n. n) (ByPass HearsAt (Pass p ∷ [], []))
+    hears id slots p t h deep at small =
+        let x = loads_own id slots p t h at (heard p) (λ _. refl) (λ u stays k. request_heard p _ _ u stays k) in
+        (Pass (heard p x.0) ∷ [], keeps, tt, x.1, (refl, (heard p x.0, refl, (x.2.0, x.2.1, (x.0, x.2.2, refl)))))
+
+    fresh_or_not : (f : State) → (f ≡ Fresh) ⊎ ((asking_state f ≡ f) × ((b : Bool) → asking f b ≡ b))
+    fresh_or_not Fresh = inl refl
+    fresh_or_not Took = inr (refl, λ _. refl)
+    fresh_or_not InLine = inr (refl, λ _. refl)
+    fresh_or_not Over = inr (refl, λ _. refl)
+
+    abbrev asked : PassRecord → Knowledge → PassRecord
+    asked p u = record p { state = asking_state p.state; asked = asking p.state p.asked; no_room = false; knows = u }
+
+    -- a load of the own word, with which a fresh Pass is in line
+    pub asks : (id slots : ℕ) (p : PassRecord) → Allows (IsRuled s) slots id (Pass p ∷ [], []) (p.number + 1) (λ n. n) (ByPass AsksAt (Pass p ∷ [], []))
+    asks id slots p t h deep at small =
+        let x = loads_own id slots p t h at (asked p) (λ _. refl) (λ u stays k. ⊎_elim
+        (λ (e : p.state ≡ Fresh). subst (λ (o : PassRecord). IsRequest s p.number o (service_of h.account.desk.services p.number) (world_of s h.account.schedule)) (λ i. record p { state = asking_state (sym e i); asked = asking (sym e i) p.asked; no_room = false; knows = u }) (request_asked p _ _ u e k))
+        (λ (e : (asking_state p.state ≡ p.state) × ((b : Bool) → asking p.state b ≡ b)). subst (λ (o : PassRecord). IsRequest s p.number o (service_of h.account.desk.services p.number) (world_of s h.account.schedule)) (λ i. record p { state = sym e.0 i; asked = sym (e.1 p.asked) i; no_room = false; knows = u }) (request_heard p _ _ u stays k))
+        (fresh_or_not p.state)) in
+        (Pass (asked p x.0) ∷ [], keeps, tt, x.1, (refl, (asked p x.0, refl, (x.2.0, x.2.1, (x.0, x.2.2, refl)))))
+
+    -- a decision of a request that was undecided, but cancelled, leaves the lines on Stations
+    pub stations_decided : (t : Table) (h : IsRuled s t) (r : ℕ) (d : Decision) → d ≢ Cancelled → (world_of s h.account.schedule).decision r ≡ None
+        → Rattle.apf_gate.specs.Account.AreStations s h.account.station h.account.canceller h.account.closer (world_of s (Decide r d ∷ h.account.schedule))
+    stations_decided t h r d not_cancelled none =
+        let g = h.account in
+        let w = world_of s g.schedule in
+        stations_same s g.station g.canceller g.closer w (world_of s (Decide r d ∷ g.schedule)) refl refl refl
+        (λ j e. dite (ℕ_discrete j r)
+        (λ y. absurd (not_cancelled (Rattle.apf_gate.proofs.Words.some_same d Cancelled (sym (put_here w.decision r (Some d)) ∙ (ap (put w.decision r (Some d)) (sym y) ∙ e)))))
+        (λ ne. sym (put_else w.decision r (Some d) j ne) ∙ e))
+        (λ j e. put_else w.decision r (Some d) j (λ y. let z = ap w.decision (sym y) ∙ e in absurd (cc)) ∙ e)
+        h.sound.stations
+
+    not_refusal : (d : Option Decision) → d ≡ None → Rattle.apf_gate.specs.Account.IsRefusal d → ⊥
+    not_refusal d e x = subst Rattle.apf_gate.specs.Account.IsRefusal e x
+
+    -- what is so where a Pass may write a decision of an undecided request
+    record Writing (t : Table) (h : IsRuled s t) (p : PassRecord) (d : Decision) : Type 0 where
+      may : Rattle.apf_model.specs.World.MayDecide s.widths (world_of s h.account.schedule) p.number d
+      other : d ≢ Cancelled
+      request : (u : Knowledge) → IsRequest s p.number (record p { state = deciding_state d p.state; no_room = false; wrote = Some d; knows = u }) (service_of h.account.desk.services p.number) (world_of s (Decide p.number d ∷ h.account.schedule))
+
+    writing : (t : Table) (h : IsRuled s t) (id : ℕ) (p : PassRecord) → IsAt t h id p → (d : Decision) → MayWrite p d → (world_of s h.account.schedule).decision p.number ≡ None → Writing t h p d
+    writing t h id p k Execute may none =
+        let w = world_of s h.account.schedule in
+        let r = p.number in
+        let a : Service = service_of h.account.desk.services r in
+        let f = in_state s r p a w Took k.request may.0 in
+        let free = not_handed s r p a w k.request f.1 in
+        let stands : w.stage r ≡ Stands = k.request.stage ∙ (ap (stage_of p) free ∙ ap (λ x. stage_of_pass x p.took) may.0) in
+        let here : put w.decision r (Some Execute) r ≡ Some Execute = put_here w.decision r (Some Execute) in record {
+          may = record { is_request = k.inside; is_undecided = none; may_be = stands };
+          other = λ e. cc;
+          request = λ u. record {
+            number = refl;
+            stage = k.request.stage;
+            saw = k.request.saw;
+            state = subst (λ x. IsState x (record p { no_room = false; wrote = Some Execute; knows = u })) (sym may.0) (f.0, f.1);
+            entered = k.request.entered;
+            queues = k.request.queues;
+            handed = λ ne. absurd (ne free);
+            wrote = λ _. here;
+            executed = λ _. inl refl;
+            settled = λ _. here;
+            is_full = λ e. absurd (let x = sym here ∙ e in cc);
+            full = λ e. absurd (let x = sym free ∙ e in cc);
+            closed = λ e. absurd (let x = sym here ∙ e in cc);
+            limited = λ e. absurd (let x = sym here ∙ e in cc);
+            refused = λ x. absurd (subst Rattle.apf_gate.specs.Account.IsRefusal here x);
+            no_room = λ x. absurd (cc);
+          };
+        }
+    writing t h id p k Closed may none =
+        let w = world_of s h.account.schedule in
+        let r = p.number in
+        let a : Service = service_of h.account.desk.services r in
+        let f = in_state s r p a w Fresh k.request may.0 in
+        let away = fresh_away r p a w k.request may.0 in
+        let shut : w.is_open ≡ false = k.known.closed may.1 in
+        let here : put w.decision r (Some Closed) r ≡ Some Closed = put_here w.decision r (Some Closed) in record {
+          may = record { is_request = k.inside; is_undecided = none; may_be = (away.0, shut) };
+          other = λ e. cc;
+          request = λ u. record {
+            number = refl;
+            stage = away.0 ∙ sym (ap (stage_of (record p { state = Over; no_room = false; wrote = Some Closed; knows = u })) away.1 ∙ ap (stage_of_pass Over) f.0);
+            saw = k.request.saw;
+            state = λ e. absurd (let x = sym f.0 ∙ e in cc);
+            entered = k.request.entered;
+            queues = k.request.queues;
+            handed = λ ne. absurd (ne away.1);
+            wrote = λ _. here;
+            executed = λ e. absurd (let x = sym here ∙ e in cc);
+            settled = λ e. absurd (let x = sym away.1 ∙ e in cc);
+            is_full = λ e. absurd (let x = sym here ∙ e in cc);
+            full = λ e. absurd (let x = sym away.1 ∙ e in cc);
+            closed = λ _. shut;
+            limited = λ e. absurd (let x = sym here ∙ e in cc);
+            refused = λ _. away.0;
+            no_room = λ x. absurd (cc);
+          };
+        }
+    writing t h id p k ConcurrencyLimit may none =
+        let w = world_of s h.account.schedule in
+        let r = p.number in
+        let a : Service = service_of h.account.desk.services r in
+        let f = in_state s r p a w Fresh k.request may.0 in
+        let away = fresh_away r p a w k.request may.0 in
+        let reject : s.response ≡ Reject = ap (λ (y : Shape). y.response) (sym k.known.shape) ∙ may.1 in
+        let saw : p.saw_no_room ≡ true = k.request.no_room may.2 in
+        let here : put w.decision r (Some ConcurrencyLimit) r ≡ Some ConcurrencyLimit = put_here w.decision r (Some ConcurrencyLimit) in record {
+          may = record { is_request = k.inside; is_undecided = none; may_be = (same_response s h.account.schedule ∙ reject, away.0, k.request.saw ∙ saw) };
+          other = λ e. cc;
+          request = λ u. record {
+            number = refl;
+            stage = away.0 ∙ sym (ap (stage_of (record p { state = Over; no_room = false; wrote = Some ConcurrencyLimit; knows = u })) away.1 ∙ ap (stage_of_pass Over) f.0);
+            saw = k.request.saw;
+            state = λ e. absurd (let x = sym f.0 ∙ e in cc);
+            entered = k.request.entered;
+            queues = k.request.queues;
+            handed = λ ne. absurd (ne away.1);
+            wrote = λ _. here;
+            executed = λ e. absurd (let x = sym here ∙ e in cc);
+            settled = λ e. absurd (let x = sym away.1 ∙ e in cc);
+            is_full = λ e. absurd (let x = sym here ∙ e in cc);
+            full = λ e. absurd (let x = sym away.1 ∙ e in cc);
+            closed = λ e. absurd (let x = sym here ∙ e in cc);
+            limited = λ _. (refl, reject, saw);
+            refused = λ _. away.0;
+            no_room = λ x. absurd (cc);
+          };
+        }
+    writing t h id p k QueueFull may none = absurd may
+    writing t h id p k Cancelled may none = absurd may
+
+    -- the lines on a fresh Pass that lost its refusal
+    request_over : (p : PassRecord) (a : Service) (w : World) (u : Knowledge) → p.state ≡ Fresh → IsRequest s p.number p a w → IsRequest s p.number (record p { state = Over; no_room = false; knows = u }) a w
+    request_over p a w u fresh k =
+        let away = fresh_away p.number p a w k fresh in
+        let f = in_state s p.number p a w Fresh k fresh in record {
+          number = refl;
+          stage = away.0 ∙ sym (ap (stage_of (record p { state = Over; no_room = false; knows = u })) away.1 ∙ ap (stage_of_pass Over) f.0);
+          saw = k.saw;
+          state = λ e. absurd (let x = sym f.0 ∙ e in cc);
+          entered = k.entered;
+          queues = k.queues;
+          handed = λ ne. absurd (ne away.1);
+          wrote = k.wrote;
+          executed = k.executed;
+          settled = k.settled;
+          is_full = k.is_full;
+          full = k.full;
+          closed = k.closed;
+          limited = k.limited;
+          refused = k.refused;
+          no_room = λ e. absurd (cc);
+        }
+
+    -- the lines on a Pass that lost its decision
+    request_lost : (p : PassRecord) (a : Service) (w : World) (d : Decision) (u : Knowledge) → MayWrite p d → (told_own p ≡ Some Execute → told_of u.told p.number ≡ Some Execute) → IsRequest s p.number p a w → IsRequest s p.number (record p { state = deciding_state d p.state; no_room = false; knows = u }) a w
+    request_lost p a w Execute u may stays k = request_heard p a w u stays k
+    request_lost p a w Closed u may stays k = request_over p a w u may.0 k
+    request_lost p a w ConcurrencyLimit u may stays k = request_over p a w u may.0 k
+    request_lost p a w QueueFull u may stays k = absurd may
+    request_lost p a w Cancelled u may stays k = absurd may
+
+    abbrev Decided : ℕ → PassRecord → Decision → Table → ℕ → Bool → Type 0
+    Decided id p d t n b = (v : List Record) × (a : Act (Unit {0})) × Valid t.homes [] a × IsRuled s (stepped t (p.number + 1) (either b (code_of d) n) id [] v a)
+        × ((carried_after [] a ≡ []) × ((q : PassRecord) × (v ≡ Pass q ∷ []) × ((c : Decision) → code_of d ≡ code_of c → (e : Option Decision) × (n ≡ code_in e) × MatchBool b (Writes p c q) (Loses p c e q))))
+
+    -- a decision is written where nothing was
+    pub decides : (id slots : ℕ) (p : PassRecord) (d : Decision) → MayWrite p d
+        → Allows (IsRuled s) slots id (Pass p ∷ [], []) (p.number + 1) (λ n. either (n == 0) (code_of d) n) (ByPass (λ o n q. DecidesAt o (code_of d) n q) (Pass p ∷ [], []))
+    decides id slots p d may t h deep at small =
+        dite (ℕ_discrete n 0) (λ e. subst (Decided id p d t n) (sym (eq-eqb n 0 e)) (hit e)) (λ ne. subst (Decided id p d t n) (sym (ne_eqb n 0 ne)) miss)
+      where
+        n : ℕ
+        n = slice_index t.words (p.number + 1)
+
+        w : World
+        w = world_of s h.account.schedule
+
+        k : IsAt t h id p
+        k = is_at t h id p at
+
+        same_decision : (P : Decision → Type 0) → P d → (c : Decision) → code_of d ≡ code_of c → P c
+        same_decision P x c e = subst P (Rattle.apf_gate.proofs.Words.some_same d c (code_same (Some d) (Some c) e)) x
+
+        miss : Decided id p d t n false
+        miss =
+            let x = loads_own id slots p t h at (λ u. record p { state = deciding_state d p.state; no_room = false; knows = u }) (λ _. refl) (λ u stays l. request_lost p _ _ d u may stays l) in
+            let q : PassRecord = record p { state = deciding_state d p.state; no_room = false; knows = x.0 } in
+            (Pass q ∷ [], keeps, tt, x.1, (refl, (q, refl, same_decision (λ c. (e : Option Decision) × (n ≡ code_in e) × Loses p c e q) (x.2.0, x.2.1, (x.0, x.2.2, refl)))))
+
+        hit : n ≡ 0 → Decided id p d t n true
+        hit e =
+            let g = h.account in
+            let ms = g.schedule in
+            let r = p.number in
+            let none : w.decision r ≡ None = code_same (w.decision r) None (sym (own_word t h r k.inside) ∙ e) in
+            let x = writing t h id p k d may none in
+            let own : List Move = Decide r d ∷ [] in
+            let later = one_more s (Decide r d) ms x.may in
+            let now : (world_of s (own ++ ms)).decision r ≡ Some d = put_here w.decision r (Some d) in
+            let u : Knowledge = saw_decision p.knows r None (Some d) (own ++ ms) in
+            let q : PassRecord = record p { state = deciding_state d p.state; no_room = false; wrote = Some d; knows = u } in (
+              Pass q ∷ [],
+              keeps,
+              tt,
+              pass_step s t h id p q (r + 1) (code_of d) (own ++ ms) at later (x.may, h.sound.schedule) (λ j ne. record { stage = refl; decision = put_else w.decision r (Some d) j ne; saw = refl })
+                  (packs_decided s t.words w r d k.inside h.packs)
+                  (x.request u)
+                  (decision_known s p.knows ms own k.known later r None (Some d) none (λ _. now))
+                  (stations_decided t h r d x.other none),
+              (refl, (q, refl, same_decision (λ c. (e : Option Decision) × (n ≡ code_in e) × Writes p c q) (None, e, (u, decision_told s p.knows ms own k.known later r None (Some d) none (λ _. now) (x.may, h.sound.schedule), refl)))),
+            )
+
+    -- what is so where a Pass may give its seats back
+    record Standing (p : PassRecord) (a : Service) (w : World) : Type 0 where
+      stands : w.stage p.number ≡ Stands
+      decided : w.decision p.number ≢ None
+      gone : (q : PassRecord) → q.state ≡ Over → q.took ≡ p.took → stage_of q a ≡ Gone
+      over : told_own p ≡ Some Execute ⊎ (a ≡ NotHanded)
+
+    standing : (p : PassRecord) (a : Service) (w : World) → IsRequest s p.number p a w → (told_own p ≢ None → w.decision p.number ≡ told_own p) → MayRelease p → Standing p a w
+    standing p a w k told may = ⊎_elim took in_line may
+      where
+        took : (p.state ≡ Took) × (told_own p ≢ None) → Standing p a w
+        took m =
+            let f = in_state s p.number p a w Took k m.0 in
+            let free = not_handed s p.number p a w k f.1 in record {
+              stands = k.stage ∙ (ap (stage_of p) free ∙ ap (λ x. stage_of_pass x p.took) m.0);
+              decided = λ none. m.1 (sym (told m.1) ∙ none);
+              gone = λ q e same. ap (stage_of q) free ∙ (λ i. stage_of_pass (e i) ((same ∙ f.0) i));
+              over = inr free;
+            }
+
+        in_line : (p.state ≡ InLine) × (told_own p ≡ Some Execute) → Standing p a w
+        in_line m =
+            let f = in_state s p.number p a w InLine k m.0 in
+            let v : w.decision p.number ≡ Some Execute = told (λ none. let x = m.1 in cc) ∙ m.1 in
+            let settled : a ≡ Settled = ⊎_elim (λ (e : p.wrote ≡ Some Execute). let x = f.2 in absurd (cc)) (λ (e : a ≡ Settled). e) (k.executed v) in record {
+              stands = k.stage ∙ (ap (stage_of p) settled ∙ ap stage_of_settled m.0);
+              decided = λ none. let x = sym v ∙ none in cc;
+              gone = λ q e same. ap (stage_of q) settled ∙ ap stage_of_settled e;
+              over = inl m.1;
+            }
+
+    -- the seats of the Pass are given back
+    pub releases : (id slots : ℕ) (p : PassRecord) (back : ℕ) → MayRelease p → back ≡ own_width p → Allows (IsRuled s) slots id (Pass p ∷ [], []) 0 (λ n. (n + (2 ^ 64 - back)) % 2 ^ 64) (ByPass ReleasesAt (Pass p ∷ [], []))
+    releases id slots p back may is_back t h deep at small =
+        let g = h.account in
+        let ms = g.schedule in
+        let w = world_of s ms in
+        let r = p.number in
+        let n : ℕ = slice_index t.words 0 in
+        let k = is_at t h id p at in
+        let a : Service = service_of g.desk.services r in
+        let x = standing p a w k.request (k.known.told r) may in
+        let release : Rattle.apf_model.specs.World.MayRelease s.widths w r = record { is_request = k.inside; is_standing = x.stands; is_decided = x.decided } in
+        let later = one_more s (Release r) ms release in
+        let m = laws.sums w r Stands Gone k.inside x.stands in
+        let w' = world_of s (Release r ∷ ms) in
+        let own : own_width p ≡ width s.widths r = ap (λ (y : Shape). width y.widths r) k.known.shape in
+        let less : seats s.widths w' + width s.widths r ≡ seats s.widths w = (let y = m.0 in omega arith) in
+        let as_many : waiters s.widths w' ≡ waiters s.widths w = (let y = m.1 in omega arith) in
+        let l : Level = level_of s.widths w in
+        let range = level_in_range s shape laws t h in
+        let fits = is_small l range in
+        let shown : n ≡ packed (record { closed = l.closed; waiters = waiters s.widths w; seats = seats s.widths w' + width s.widths r; limit = w.limit }) = h.packs.level ∙ (λ i. packed (record { closed = l.closed; waiters = waiters s.widths w; seats = sym less i; limit = w.limit })) in
+        let new : ℕ = (n + (2 ^ 64 - back)) % 2 ^ 64 in
+        let level : new ≡ packed (level_of s.widths w') =
+        ap (λ y. (n + (2 ^ 64 - y)) % 2 ^ 64) (is_back ∙ own) ∙ (ap (λ y. (y + (2 ^ 64 - width s.widths r)) % 2 ^ 64) shown
+        ∙ (less_seats l.closed (waiters s.widths w) (seats s.widths w') w.limit (width s.widths r) (fits.0, subst (λ y. y < 2 ^ 20) (sym less) fits.1, fits.2)
+        ∙ (λ i. packed (record { closed = l.closed; waiters = sym as_many i; seats = seats s.widths w'; limit = w.limit })))) in
+        let own_moves : List Move = Release r ∷ [] in
+        let u : Knowledge = saw_level p.knows l (own_moves ++ ms) in
+        let q : PassRecord = record p { state = Over; no_room = false; knows = u } in (
+          Pass q ∷ [],
+          keeps,
+          tt,
+          pass_step s t h id p q 0 new (own_moves ++ ms) at later (release, h.sound.schedule) (λ j ne. record { stage = put_else w.stage r Gone j ne; decision = refl; saw = refl })
+              (packs_level s t.words w w' new level (λ _. refl) h.packs)
+              (record {
+                number = refl;
+                stage = put_here w.stage r Gone ∙ sym (x.gone q refl refl);
+                saw = k.request.saw;
+                state = is_over p k.request.state;
+                entered = k.request.entered;
+                queues = k.request.queues;
+                handed = λ ne. let y = k.request.handed ne in record { asked = y.asked; took_none = y.took_none; wrote_none = y.wrote_none; over = λ _. ⊎_elim (λ e. e) (λ e. absurd (ne e)) x.over };
+                wrote = k.request.wrote;
+                executed = k.request.executed;
+                settled = k.request.settled;
+                is_full = k.request.is_full;
+                full = k.request.full;
+                closed = k.request.closed;
+                limited = k.request.limited;
+                refused = λ y. absurd (let z = sym x.stands ∙ k.request.refused y in cc);
+                no_room = λ y. absurd (cc);
+              })
+              (level_known s p.knows ms own_moves k.known later l refl)
+              (stations_same s g.station g.canceller g.closer w w' refl refl refl (λ _ y. y) (λ _ y. y) h.sound.stations),
+          (refl, (q, refl, (l, h.packs.level, (u, level_told s p.knows ms own_moves k.known later l refl (release, h.sound.schedule) range (no_queues s laws t h), refl)))),
+        )
+      where
+        is_over : (o : PassRecord) → IsState o.state o → o.took ≡ true → o.asked ≡ false
+        is_over o k e = by_state o.state k
+          where
+            by_state : (f : State) → IsState f o → o.asked ≡ false
+            by_state Fresh k = k.1
+            by_state Took k = k.1
+            by_state InLine k = absurd (let x = sym k.0 ∙ e in cc)
+            by_state Over k = k e

@@ -1,0 +1,53 @@
+-- The views of the seats as one step changes them.
+use Rattle.std.proofs.Common.{◌≡◌, ◌≢◌, ◌⊎◌, ℕ, zero, suc, ◌+◌, ◌*◌, ◌<◌, List, [], ◌∷◌, ◌++◌, length, set, sym, refl, ap, ◌∙◌, subst, inl, inr, ⊎_elim, arith}
+use mathlib.Core.Logic.{dite}
+use mathlib.Core.Option.{some, some-injective, some-ne-none}
+use lib.ListN.{get_elem?}
+use native.Mathlib.Decide.{ℕ_discrete}
+use Rattle.atomic_table.specs.Table.{State, Splits, Joins}
+use Rattle.atomic_table.proofs.Lists.{at_set}
+use Rattle.apf_gate.specs.declared.record.Shape.{Shape}
+use Rattle.apf_gate.specs.declared.record.PassRecord.{PassRecord}
+use Rattle.apf_gate.specs.declared.record.DeskRecord.{DeskRecord}
+use Rattle.apf_gate.specs.declared.record.StationRecord.{StationRecord}
+use Rattle.apf_gate.specs.declared.record.Record.{Record}
+use Rattle.apf_gate.specs.declared.record.Record.TheVariants.{Pass, Desk, Station}
+use Rattle.apf_gate.specs.Records.{world_of}
+use Rattle.apf_gate.specs.Account.{Account, IsSound}
+use Rattle.apf_gate.specs.Rule.{Every, Packs, token_of, IsRecord, IsKeptAt, AreApart, IsView, IsRuled, without_first, first_alone}
+use Rattle.apf_gate.proofs.Puts.{put_here, put_else}
+
+pub every_map : {A : Type 0} (P Q : A → Type 0) (xs : List A) → ((x : A) → P x → Q x) → Every P xs → Every Q xs
+every_map P Q [] f a = a
+every_map P Q (x ∷ xs) f a = (f x a.0, every_map P Q xs f a.1)
+
+abbrev pub Table : Type 0
+Table = State (Unit {0}) (List Record)
+
+module _ (s : Shape) where
+  -- the accounts agree but for the records kept at one seat
+  pub record AgreeBut (id : ℕ) (g g' : Account) : Type 0 where
+    pub seat : (x : ℕ) → g'.seat x ≡ g.seat x
+    pub pass : (r : ℕ) → g.seat (2 * r + 1) ≢ id → g'.pass r ≡ g.pass r
+    pub desk : g.seat 0 ≢ id → g'.desk ≡ g.desk
+    pub station : (k : ℕ) → g.seat (2 * k + 2) ≢ id → g'.station k ≡ g.station k
+
+  kept_elsewhere : (g g' : Account) (id i : ℕ) (x : Record) → AgreeBut id g g' → i ≢ id → IsKeptAt s g i x → IsKeptAt s g' i x
+  kept_elsewhere g g' id i (Pass p) same other k = (same.seat _ ∙ k.0, (k.1.0, same.pass p.number (λ e. other (sym k.0 ∙ e)) ∙ k.1.1))
+  kept_elsewhere g g' id i (Desk d) same other k = (same.seat _ ∙ k.0, same.desk (λ e. other (sym k.0 ∙ e)) ∙ k.1)
+  kept_elsewhere g g' id i (Station t) same other k = (same.seat _ ∙ k.0, (k.1.0, same.station t.number (λ e. other (sym k.0 ∙ e)) ∙ k.1.1))
+
+  -- a step that changes one view and one word keeps the rule, if its account is sound and packs the words
+  pub kept : (t : Table) (h : IsRuled s t) (id i n : ℕ) (w : List Record) (g' : Account)
+      → AgreeBut id h.account g' → IsView s g' id w → IsSound s g' → Packs s (set t.words i n) (world_of s g'.schedule)
+      → IsRuled s record { words = set t.words i n; homes = t.homes; views = set t.views id w }
+  kept t h id i n w g' same mine sound packs = record {
+    account = g';
+    sound = sound;
+    packs = packs;
+    views = λ j v at. ⊎_elim
+        (λ (e : (j ≡ id) × (w ≡ v)). subst (λ (x : ℕ × List Record). IsView s g' x.0 x.1) (λ k. (sym e.0 k, e.1 k)) mine)
+        (λ (e : (j ≢ id) × (get_elem? t.views j ≡ some v)). let was = h.views j v e.1 in
+        (every_map (IsKeptAt s h.account j) (IsKeptAt s g' j) v (λ x k. kept_elsewhere h.account g' id j x same e.0 k) was.0, was.1))
+        (at_set t.views id j w v at);
+  }

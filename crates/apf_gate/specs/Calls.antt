@@ -1,0 +1,54 @@
+-- What the calls ask and promise, by the records of their tokens.
+use Rattle.std.specs.Prelude.{◌≡◌, ◌≢◌, ◌⊎◌, ℕ, ◌+◌, ◌<◌, ◌≤◌, ◌==◌, not, Bool, true, false, List, [], ◌∷◌, ◌++◌, length, Option, Some, None}
+use Rattle.apf_words.specs.Fits.{Fits}
+use Rattle.apf_words.specs.Level.{Level}
+use Rattle.apf_words.specs.declared.decision.Decision.{Decision}
+use Rattle.apf_words.specs.declared.decision.Decision.TheVariants.{Execute, QueueFull, Closed, Cancelled, ConcurrencyLimit}
+use Rattle.apf_model.specs.declared.moves.Stage.{Stage}
+use Rattle.apf_model.specs.declared.moves.Move.{Move}
+use Rattle.apf_model.specs.declared.response.Response.TheVariants.{Reject}
+use Rattle.apf_model.specs.World.{World, put, width, seats, seats_at, waiters, waits_at, IsWaiting, IsStanding}
+use Rattle.apf_model.specs.Schedule.{IsSchedule, AreWidths}
+use Rattle.apf_gate.specs.declared.record.Shape.{Shape}
+use Rattle.apf_gate.specs.declared.record.State.TheVariants.{Fresh, Took, InLine, Over}
+use Rattle.apf_gate.specs.declared.record.PassRecord.{PassRecord}
+use Rattle.apf_gate.specs.declared.answers.TryTake.{TryTake}
+use Rattle.apf_gate.specs.declared.answers.TryTake.TheVariants as tried
+use Rattle.apf_gate.specs.Records.{opening_of, world_of, told_own}
+use Rattle.apf_gate.specs.Steps.{own_width, Looks, Takes, Writes, Loses}
+use Rattle.atomic_table.specs.Seated.{TableId}
+
+-- which gate it is: its table, and the shape that it was opened with
+pub record GateId : Type 0 where
+  pub table : TableId
+  pub shape : Shape
+
+-- the token of a request: its gate, and what it knows
+pub record PassToken : Type 0 where
+  pub gate : GateId
+  pub pass : PassRecord
+
+-- one load, and where it showed room an exchange
+abbrev pub TriesToTake : PassRecord → TryTake → PassRecord → Type 0
+TriesToTake p tried.Closed q = (l : Level) × Looks p l q × (l.closed ≡ true)
+TriesToTake p tried.Waiters q = (l : Level) × Looks p l q × (l.closed ≡ false) × (l.waiters ≢ 0)
+TriesToTake p tried.NoRoom q = (l : Level) × Looks p l q × (l.closed ≡ false) × (l.waiters ≡ 0) × (¬ Fits l.seats l.limit (own_width p))
+TriesToTake p tried.Taken q = (l : Level) × (l.closed ≡ false) × (l.waiters ≡ 0) × Fits l.seats l.limit (own_width p)
+    × ((between : PassRecord) × Looks p l between × Takes between l q)
+TriesToTake p tried.Raced q = (l other : Level) × (other ≢ l) × ((between : PassRecord) × Looks p l between × Looks between other q)
+
+-- the Pass may write this decision
+abbrev pub MayWrite : PassRecord → Decision → Type 0
+MayWrite p Execute = (p.state ≡ Took) × (p.wrote ≡ None)
+MayWrite p Closed = (p.state ≡ Fresh) × (p.knows.saw_closed ≡ true)
+MayWrite p ConcurrencyLimit = (p.state ≡ Fresh) × (p.knows.shape.response ≡ Reject) × (p.no_room ≡ true)
+MayWrite p QueueFull = ⊥
+MayWrite p Cancelled = ⊥
+
+-- the seats of the Pass stand, and it was told its decision
+abbrev pub MayRelease : PassRecord → Type 0
+MayRelease p = ((p.state ≡ Took) × (told_own p ≢ None)) ⊎ ((p.state ≡ InLine) × (told_own p ≡ Some Execute))
+
+-- one exchange: the decision was written, or another was found, and that is the answer
+abbrev pub Decides : PassRecord → Decision → Decision → PassRecord → Type 0
+Decides p d answer q = (Writes p d q × (answer ≡ d)) ⊎ Loses p d (Some answer) q

@@ -1,0 +1,38 @@
+-- The shape of a gate, and what the model says of its sums.
+use Rattle.std.specs.Prelude.{◌≡◌, ℕ, ◌+◌, ◌<◌, ◌≤◌, List, length}
+use Rattle.apf_model.specs.declared.moves.Move.{Move}
+use Rattle.apf_model.specs.declared.moves.Stage.{Stage}
+use Rattle.apf_model.specs.declared.response.Response.{Response}
+use Rattle.apf_model.specs.World.{World, put, width, seats, seats_at, waiters, waits_at, IsWaiting, IsStanding}
+use Rattle.apf_model.specs.Schedule.{IsSchedule, AreWidths}
+use Rattle.apf_gate.specs.declared.record.Shape.{Shape}
+use Rattle.apf_gate.specs.Records.{opening_of, world_of}
+
+abbrev pub shape_of : ℕ → Response → List ℕ → ℕ → Shape
+shape_of limit response widths stations = record { limit = limit; response = response; widths = widths; stations = stations }
+
+-- the shapes that a gate may have: a limit of 1 to 10,000 seats, at most 10,000 requests of 1 to 20,000 seats, and at most 64 Stations
+pub record IsShape (s : Shape) : Type 0 where
+  pub some_limit : 1 ≤ s.limit
+  pub small_limit : s.limit ≤ 10000
+  pub widths : AreWidths s.widths
+  pub few_requests : length s.widths ≤ 10000
+  pub few_stations : s.stations ≤ 64
+
+-- what every schedule keeps of the sums of a level of this shape
+pub record AreLaws (s : Shape) : Type 0 where
+  pub sums : (w : World) (r : ℕ) (from to : Stage) → r < length s.widths → w.stage r ≡ from
+      → (seats s.widths (record w { stage = put w.stage r to }) + seats_at from (width s.widths r) ≡ seats s.widths w + seats_at to (width s.widths r))
+      × (waiters s.widths (record w { stage = put w.stage r to }) + waits_at from ≡ waiters s.widths w + waits_at to)
+  pub few_wait : (w : World) → waiters s.widths w ≤ length s.widths
+  pub nobody_waits : (w : World) → ((r : ℕ) → r < length s.widths → ¬ IsWaiting w r) → waiters s.widths w ≡ 0
+  pub nobody_stands : (w : World) → ((r : ℕ) → r < length s.widths → ¬ IsStanding w r) → seats s.widths w ≡ 0
+  pub bounded : (ms : List Move) → IsSchedule (opening_of s) ms → (world_of s ms).largest ≤ 20000 → seats s.widths (world_of s ms) ≤ 20000
+
+-- what a gate's fields keep: its table has the words, no slots, and the shape as its key
+pub record IsGate (words slots : ℕ) (key own : Shape) : Type 0 where
+  pub has_words : words ≡ length own.widths + 1
+  pub no_slots : slots ≡ 0
+  pub same_key : key ≡ own
+  pub shape : IsShape own
+  pub laws : AreLaws own

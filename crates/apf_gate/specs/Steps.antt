@@ -1,0 +1,188 @@
+-- What each step tells the token that makes it.
+use Rattle.std.specs.Prelude.{◌≡◌, ◌≢◌, ◌⊎◌, ℕ, ◌+◌, ◌/◌, ◌%◌, ◌^◌, ◌<◌, ◌≤◌, ◌==◌, ◌||◌, ◌&&◌, not, nat_le, MatchBool, Bool, true, false, if◌then◌else◌, List, [], ◌∷◌, ◌++◌, Option, Some, None}
+use Rattle.apf_words.specs.Codes.{code_of}
+use Rattle.apf_words.specs.Level.{Level, packed}
+use Rattle.apf_words.specs.declared.decision.Decision.{Decision}
+use Rattle.apf_words.specs.declared.decision.Decision.TheVariants.{Execute, Cancelled}
+use Rattle.apf_model.specs.declared.moves.Move.{Move}
+use Rattle.apf_model.specs.declared.moves.Move.TheVariants.{Take, Decide, Release, Close, SetLimit, See}
+use Rattle.apf_model.specs.declared.response.Response.TheVariants.{Reject}
+use Rattle.apf_model.specs.World.{width}
+use Rattle.apf_model.specs.Schedule.{IsSchedule}
+use Rattle.apf_gate.specs.declared.record.Shape.{Shape}
+use Rattle.apf_gate.specs.declared.record.Knowledge.{Knowledge}
+use Rattle.apf_gate.specs.declared.record.State.{State}
+use Rattle.apf_gate.specs.declared.record.State.TheVariants.{Fresh, Took, InLine, Over}
+use Rattle.apf_gate.specs.declared.record.PassRecord.{PassRecord}
+use Rattle.apf_gate.specs.declared.record.StationRecord.{StationRecord}
+use Rattle.apf_gate.specs.declared.record.Record.{Record}
+use Rattle.apf_gate.specs.declared.record.Record.TheVariants.{Pass, Station}
+use Rattle.apf_gate.specs.Records.{opening_of, world_of, level_of, code_in, told_of, told_own, saw_level, saw_decision}
+use Rattle.apf_gate.specs.Rule.{pass_of, station_of}
+use Rattle.atomic_table.specs.Table.{Me}
+
+-- the numbers of a level word
+pub record IsInRange (l : Level) : Type 0 where
+  pub waiters : l.waiters ≤ 10000
+  pub seats : l.seats ≤ 20000
+  pub limit : l.limit ≤ 10000
+
+-- A step on the level word: between two steps of the token others made these, and then the word said this. The token's own step made these
+pub record SawLevel (t : Knowledge) (l : Level) (own : List Move) (u : Knowledge) : Type 0 where
+  pub between : List Move
+  pub found : level_of t.shape.widths (world_of t.shape (between ++ t.seen)) ≡ l
+  pub is_after : u ≡ saw_level t l (own ++ (between ++ t.seen))
+  pub is_schedule : IsSchedule (opening_of t.shape) u.seen
+  pub in_range : IsInRange l
+  -- nobody waits on a level without queues
+  pub no_queues : t.shape.response ≡ Reject → l.waiters ≡ 0
+  -- a level that was seen closed is found closed
+  pub stays_closed : t.saw_closed ≡ true → l.closed ≡ true
+
+-- A step on the word of the request r: it stood at d, and then at e
+pub record SawDecision (t : Knowledge) (r : ℕ) (d e : Option Decision) (own : List Move) (u : Knowledge) : Type 0 where
+  pub between : List Move
+  pub found : (world_of t.shape (between ++ t.seen)).decision r ≡ d
+  pub is_after : u ≡ saw_decision t r d e (own ++ (between ++ t.seen))
+  pub is_schedule : IsSchedule (opening_of t.shape) u.seen
+  -- a decision that was told is found again
+  pub stays : told_of t.told r ≢ None → d ≡ told_of t.told r
+
+-- the width has room in the level, by the rule of fitting
+abbrev pub has_room : Level → ℕ → Bool
+has_room l k = nat_le (l.seats + k) l.limit || (not (nat_le k l.limit) && (l.seats == 0))
+
+-- an open level in which nobody waits and the width does not fit
+abbrev pub is_no_room : Level → ℕ → Bool
+is_no_room l k = not l.closed && ((l.waiters == 0) && not (has_room l k))
+
+-- a Pass's own width
+abbrev pub own_width : PassRecord → ℕ
+own_width p = width p.knows.shape.widths p.number
+
+-- a fresh Pass found this in the level word and changed nothing
+abbrev pub looked : PassRecord → Level → Knowledge → PassRecord
+looked p l u = record p { saw_no_room = p.saw_no_room || is_no_room l (own_width p); no_room = is_no_room l (own_width p); knows = u }
+
+-- the step that the model knows of a load
+abbrev pub sees : PassRecord → Level → List Move
+sees p l = if is_no_room l (own_width p) then See p.number ∷ [] else []
+
+abbrev pub Looks : PassRecord → Level → PassRecord → Type 0
+Looks p l q = (u : Knowledge) × SawLevel p.knows l (sees p l) u × (q ≡ looked p l u)
+
+-- the exchange took the seats
+abbrev pub Takes : PassRecord → Level → PassRecord → Type 0
+Takes p l q = (u : Knowledge) × SawLevel p.knows l (Take p.number ∷ []) u × (q ≡ record p { state = Took; took = true; no_room = false; knows = u })
+
+-- the seats were given back
+abbrev pub Releases : PassRecord → Level → PassRecord → Type 0
+Releases p l q = (u : Knowledge) × SawLevel p.knows l (Release p.number ∷ []) u × (q ≡ record p { state = Over; no_room = false; knows = u })
+
+-- a load of the request's own word
+abbrev pub heard : PassRecord → Knowledge → PassRecord
+heard p u = record p { no_room = false; knows = u }
+
+abbrev pub Hears : PassRecord → Option Decision → PassRecord → Type 0
+Hears p d q = (u : Knowledge) × SawDecision p.knows p.number d d [] u × (q ≡ heard p u)
+
+-- a Pass that asks is in line if it was fresh
+abbrev pub asking_state : State → State
+asking_state Fresh = InLine
+asking_state f = f
+
+abbrev pub asking : State → Bool → Bool
+asking Fresh b = true
+asking _ b = b
+
+abbrev pub Asks : PassRecord → Option Decision → PassRecord → Type 0
+Asks p d q = (u : Knowledge) × SawDecision p.knows p.number d d [] u × (q ≡ record p { state = asking_state p.state; asked = asking p.state p.asked; no_room = false; knows = u })
+
+-- a Pass that wrote execute, or tried to, holds its seats still. After a refusal it is over
+abbrev pub deciding_state : Decision → State → State
+deciding_state Execute f = f
+deciding_state _ f = Over
+
+-- the exchange wrote the decision
+abbrev pub Writes : PassRecord → Decision → PassRecord → Type 0
+Writes p d q = (u : Knowledge) × SawDecision p.knows p.number None (Some d) (Decide p.number d ∷ []) u × (q ≡ record p { state = deciding_state d p.state; no_room = false; wrote = Some d; knows = u })
+
+-- the exchange found another decision
+abbrev pub Loses : PassRecord → Decision → Option Decision → PassRecord → Type 0
+Loses p d e q = (u : Knowledge) × SawDecision p.knows p.number e e [] u × (q ≡ record p { state = deciding_state d p.state; no_room = false; knows = u })
+
+-- what a step of a Pass tells
+abbrev pub ByPass : (PassRecord → ℕ → PassRecord → Type 0) → Me (Unit {0}) (List Record) → ℕ → Me (Unit {0}) (List Record) → Type 0
+ByPass Tells me n now = (now.1 ≡ me.1) × ((q : PassRecord) × (now.0 ≡ Pass q ∷ []) × Tells (pass_of me.0) n q)
+
+-- the number of a level word, and what it says
+abbrev pub OfLevel : (Level → Type 0) → ℕ → Type 0
+OfLevel Says n = (l : Level) × (n ≡ packed l) × Says l
+
+-- the number of a decision word, and what it says
+abbrev pub OfDecision : (Option Decision → Type 0) → ℕ → Type 0
+OfDecision Says n = (d : Option Decision) × (n ≡ code_in d) × Says d
+
+abbrev pub LooksAt : PassRecord → ℕ → PassRecord → Type 0
+LooksAt p n q = OfLevel (λ l. Looks p l q) n
+
+-- an exchange of the level word that expects this number
+abbrev pub TakesAt : PassRecord → ℕ → ℕ → PassRecord → Type 0
+TakesAt p expected n q = OfLevel (λ l. MatchBool (n == expected) (Takes p l q) (Looks p l q)) n
+
+abbrev pub ReleasesAt : PassRecord → ℕ → PassRecord → Type 0
+ReleasesAt p n q = OfLevel (λ l. Releases p l q) n
+
+abbrev pub HearsAt : PassRecord → ℕ → PassRecord → Type 0
+HearsAt p n q = OfDecision (λ d. Hears p d q) n
+
+abbrev pub AsksAt : PassRecord → ℕ → PassRecord → Type 0
+AsksAt p n q = OfDecision (λ d. Asks p d q) n
+
+-- an exchange of 0 for the code of a decision
+abbrev pub DecidesAt : PassRecord → ℕ → ℕ → PassRecord → Type 0
+DecidesAt p code n q = (d : Decision) → code ≡ code_of d → OfDecision (λ e. MatchBool (n == 0) (Writes p d q) (Loses p d e q)) n
+
+-- a Station's load of the level word
+abbrev pub LooksFrom : StationRecord → Level → StationRecord → Type 0
+LooksFrom t l b = (u : Knowledge) × SawLevel t.knows l [] u × (b ≡ record t { knows = u })
+
+-- a Station's load of the word of r
+abbrev pub Reads : StationRecord → ℕ → Option Decision → StationRecord → Type 0
+Reads t r d b = (u : Knowledge) × SawDecision t.knows r d d [] u × (b ≡ record t { knows = u })
+
+-- the exchange wrote cancelled
+abbrev pub Cancels : StationRecord → ℕ → StationRecord → Type 0
+Cancels t r b = (u : Knowledge) × SawDecision t.knows r None (Some Cancelled) (Decide r Cancelled ∷ []) u × (b ≡ record t { cancelled = r ∷ t.cancelled; knows = u })
+
+-- the level is closed now, and this close was the first if it was open
+abbrev pub Closes : StationRecord → Level → StationRecord → Type 0
+Closes t l b = (u : Knowledge) × SawLevel t.knows l (Close ∷ []) u × (b ≡ record t { closed_first = t.closed_first || not l.closed; knows = record u { saw_closed = true } })
+
+-- the exchange set the limit
+abbrev pub Sets : StationRecord → Level → ℕ → StationRecord → Type 0
+Sets t l n b = (u : Knowledge) × SawLevel t.knows l (SetLimit n ∷ []) u × (b ≡ record t { limits = n ∷ t.limits; knows = u })
+
+-- what a step of a Station tells
+abbrev pub ByStation : (StationRecord → ℕ → StationRecord → Type 0) → Me (Unit {0}) (List Record) → ℕ → Me (Unit {0}) (List Record) → Type 0
+ByStation Tells me n now = (now.1 ≡ me.1) × ((b : StationRecord) × (now.0 ≡ Station b ∷ []) × Tells (station_of me.0) n b)
+
+abbrev pub LooksFromAt : StationRecord → ℕ → StationRecord → Type 0
+LooksFromAt t n b = OfLevel (λ l. LooksFrom t l b) n
+
+abbrev pub ReadsAt : StationRecord → ℕ → ℕ → StationRecord → Type 0
+ReadsAt t word n b = (r : ℕ) → word ≡ r + 1 → OfDecision (λ d. Reads t r d b) n
+
+-- an exchange of 0 for the code of cancelled
+abbrev pub CancelsAt : StationRecord → ℕ → ℕ → StationRecord → Type 0
+CancelsAt t word n b = (r : ℕ) → word ≡ r + 1 → OfDecision (λ d. MatchBool (n == 0) (Cancels t r b) (Reads t r d b)) n
+
+abbrev pub ClosesAt : StationRecord → ℕ → StationRecord → Type 0
+ClosesAt t n b = OfLevel (λ l. Closes t l b) n
+
+-- the limit in the number of a level word
+abbrev pub limit_in : ℕ → ℕ
+limit_in n = n / 2 ^ 40 % 2 ^ 20
+
+abbrev pub SetsAt : StationRecord → ℕ → ℕ → ℕ → StationRecord → Type 0
+SetsAt t expected new n b = OfLevel (λ l. MatchBool (n == expected) (Sets t l (limit_in new) b) (LooksFrom t l b)) n

@@ -1,0 +1,191 @@
+//! The token of a request, and its steps.
+
+ghost use Rattle.std.specs.Prelude.{◌≡◌, ◌≢◌, ◌==◌, not, true, false, MatchBool, Option, Some, None};
+ghost use Rattle.apf_words.specs.Fits.{Fits};
+ghost use Rattle.apf_words.specs.Level.{Level};
+ghost use Rattle.apf_words.specs.declared.decision.Decision.{Decision};
+ghost use Rattle.apf_model.specs.declared.response.Response.TheVariants.{Reject};
+ghost use Rattle.apf_gate.specs.declared.record.State.TheVariants.{Fresh, InLine, Over};
+ghost use Rattle.apf_gate.specs.Records.{told_own};
+ghost use Rattle.apf_gate.specs.Steps.{IsInRange, own_width, deciding_state, Looks, Takes, Asks, Hears, Releases};
+ghost use Rattle.apf_gate.specs.Calls.{TriesToTake, MayWrite, MayRelease, Decides};
+
+use crate::answers::TryTake;
+use crate::gate::{Gate, decision_in, level_in};
+use crate::plays::{Asking, Deciding, Hearing, Looking, Releasing, Taking};
+use crate::rule::Place;
+use apf_words::{Decision, LevelWord, fits};
+use std::alloc::Allocator;
+use std::marker::Model;
+
+/// The token of one request.
+#[derive(Drop)]
+pub struct Pass {
+    pub(crate) seat: Place,
+    pub(crate) number: u32,
+    pub(crate) width: u32,
+}
+
+impl Model for Pass {
+    ghost use Rattle.apf_gate.specs.Calls.{PassToken};
+    ghost use Rattle.apf_gate.specs.Rule.{pass_of};
+    ghost use Rattle.apf_gate.specs.Passes.{IsPass};
+
+    ghost Value = { PassToken };
+
+    ghost view = { λ p. record {
+      gate = record { table = p.seat.table_id; shape = (pass_of p.seat.me.0).knows.shape };
+      pass = pass_of p.seat.me.0;
+    } };
+
+    ghost invariant = { λ p. IsPass p.seat.me p.number p.width };
+}
+
+impl Pass {
+    /// The request's number, from 0.
+    pub fn number(&self) -> u32
+        ensures { result ≡ self.now.pass.number }
+    {
+        self.number
+    }
+}
+
+impl<A: Allocator> Gate<A> {
+    /// Takes the request's seats, where the level is open, nobody waits and they fit.
+    ///
+    /// It makes one load of the level word, and an exchange where that showed room.
+    pub fn try_take(&self, pass: &mut Pass) -> TryTake
+        requires own { pass.old.gate ≡ self.now }
+        requires fresh { pass.old.pass.state ≡ Fresh }
+        ensures gate { pass.new.gate ≡ pass.old.gate }
+        ensures answer { TriesToTake pass.old.pass result pass.new.pass }
+        ensures stays_closed { pass.old.pass.knows.saw_closed ≡ true → result ≡ TryTake.Closed }
+        ensures no_queues { self.now.shape.response ≡ Reject → result ≢ TryTake.Waiters }
+    {
+        let level = self.load_as_pass(pass);
+        if level.closed() {
+            return TryTake::Closed;
+        }
+        if level.waiters() != 0 {
+            return TryTake::Waiters;
+        }
+        if !fits(level.seats(), level.limit(), pass.width) {
+            return TryTake::NoRoom;
+        }
+        if !self.exchange_for_seats(pass, level) {
+            return TryTake::Raced;
+        }
+        TryTake::Taken
+    }
+
+    /// Asks for what others decide: a fresh Pass is in line afterwards. It makes one load of the request's
+    /// decision word.
+    pub fn ask(&self, pass: &mut Pass)
+        requires own { pass.old.gate ≡ self.now }
+        ensures gate { pass.new.gate ≡ pass.old.gate }
+        ensures answer { (d : Option Decision) × Asks pass.old.pass d pass.new.pass }
+        ensures in_line { pass.old.pass.state ≡ Fresh → pass.new.pass.state ≡ InLine }
+    {
+        let word = pass.number as usize + 1;
+        self.board.shared.load::<Asking>(&mut pass.seat, word);
+    }
+
+    /// Reads the request's decision, by one load of its word.
+    pub fn told(&self, pass: &mut Pass) -> Option<Decision>
+        requires own { pass.old.gate ≡ self.now }
+        ensures gate { pass.new.gate ≡ pass.old.gate }
+        ensures answer { Hears pass.old.pass result pass.new.pass }
+        ensures told { result ≢ None → told_own pass.new.pass ≡ result }
+        ensures stays { told_own pass.old.pass ≢ None → result ≡ told_own pass.old.pass }
+        ensures state { pass.new.pass.state ≡ pass.old.pass.state }
+    {
+        let word = pass.number as usize + 1;
+        decision_in(self.board.shared.load::<Hearing>(&mut pass.seat, word))
+    }
+
+    /// Writes the decision, unless one is written. Answers the one that is written then.
+    ///
+    /// It makes one exchange of the request's decision word. `Execute` is for a Pass that took its seats
+    /// and wrote nothing yet, and it holds them still. `Closed` is for a fresh Pass that saw the level
+    /// closed, and `ConcurrencyLimit` for one whose last step found no room on a level without queues:
+    /// after these it is over.
+    pub fn decide(&self, pass: &mut Pass, decision: Decision) -> Decision
+        requires own { pass.old.gate ≡ self.now }
+        requires may { MayWrite pass.old.pass decision }
+        ensures gate { pass.new.gate ≡ pass.old.gate }
+        ensures answer { Decides pass.old.pass decision result pass.new.pass }
+        ensures told { told_own pass.new.pass ≡ Some result }
+        ensures stays { told_own pass.old.pass ≢ None → Some result ≡ told_own pass.old.pass }
+        ensures state { pass.new.pass.state ≡ deciding_state decision pass.old.pass.state }
+    {
+        let word = pass.number as usize + 1;
+        let code = decision.code();
+        let found = self
+            .board
+            .shared
+            .compare_exchange::<Deciding>(&mut pass.seat, word, 0, code);
+        match decision_in(found) {
+            None => decision,
+            Some(other) => other,
+        }
+    }
+
+    /// Gives the request's seats back. Says whether requests waited.
+    ///
+    /// It takes the width from the level word by one step. The seats stand, and the Pass was told its
+    /// decision: it took them, or it is in line and was told execute.
+    pub fn release(&self, pass: &mut Pass) -> bool
+        requires own { pass.old.gate ≡ self.now }
+        requires stands { MayRelease pass.old.pass }
+        ensures gate { pass.new.gate ≡ pass.old.gate }
+        ensures answer { (l : Level) × Releases pass.old.pass l pass.new.pass × (result ≡ not (l.waiters == 0)) }
+        ensures state { pass.new.pass.state ≡ Over }
+        ensures told { told_own pass.new.pass ≡ told_own pass.old.pass }
+    {
+        let width = u64::from(pass.width);
+        let found = self
+            .board
+            .shared
+            .fetch_sub::<Releasing>(&mut pass.seat, 0, width);
+        level_in(found).waiters() != 0
+    }
+
+    // One load of the level word.
+    fn load_as_pass(&self, pass: &mut Pass) -> LevelWord
+        requires own { pass.old.gate ≡ self.now }
+        requires fresh { pass.old.pass.state ≡ Fresh }
+        ensures gate { pass.new.gate ≡ pass.old.gate }
+        ensures same { (pass.new.pass.number ≡ pass.old.pass.number) × (pass.new.pass.state ≡ Fresh) × (pass.new.pass.knows.shape ≡ pass.old.pass.knows.shape) }
+        ensures looked { Looks pass.old.pass result pass.new.pass }
+        ensures no_queues { self.now.shape.response ≡ Reject → result.waiters ≡ 0 }
+    {
+        level_in(self.board.shared.load::<Looking>(&mut pass.seat, 0))
+    }
+
+    // One exchange, of the word that says this for one with the request's seats. Says whether it was
+    // made.
+    fn exchange_for_seats(&self, pass: &mut Pass, level: LevelWord) -> bool
+        requires own { pass.old.gate ≡ self.now }
+        requires fresh { pass.old.pass.state ≡ Fresh }
+        requires in_range { IsInRange level }
+        requires no_queues { self.now.shape.response ≡ Reject → level.waiters ≡ 0 }
+        requires open_ { level.closed ≡ false }
+        requires nobody { level.waiters ≡ 0 }
+        requires room { Fits level.seats level.limit (own_width pass.old.pass) }
+        ensures gate { pass.new.gate ≡ pass.old.gate }
+        ensures took { MatchBool result
+            (Takes pass.old.pass level pass.new.pass)
+            ((other : Level) × (other ≢ level) × Looks pass.old.pass other pass.new.pass) }
+    {
+        let word = level.pack();
+        let new = word + u64::from(pass.width);
+        let found = self
+            .board
+            .shared
+            .compare_exchange::<Taking>(&mut pass.seat, 0, word, new);
+        if found != word {
+            return false;
+        }
+        true
+    }
+}

@@ -6,14 +6,18 @@ use Rattle.apf_words.specs.declared.decision.Decision.{Decision}
 use Rattle.apf_gate.specs.declared.record.PassRecord.{PassRecord}
 use Rattle.apf_gate.specs.declared.record.Record.{Record}
 use Rattle.apf_gate.specs.Records.{code_in}
-use Rattle.apf_gate.specs.Rule.{pass_of}
-use Rattle.apf_gate.specs.Steps.{IsInRange, ByPass, OfLevel, OfDecision}
+use Rattle.apf_gate.specs.declared.record.StationRecord.{StationRecord}
+use Rattle.apf_gate.specs.Rule.{pass_of, station_of}
+use Rattle.apf_gate.specs.Steps.{IsInRange, ByPass, ByStation, OfLevel, OfDecision}
 use Rattle.apf_gate.proofs.Words.{packed_same, code_same}
 use Rattle.apf_gate.proofs.Packing.{is_small}
 use Rattle.atomic_table.specs.Table.{Me}
 
 pub by_pass : (Tells : PassRecord → ℕ → PassRecord → Type 0) (me : Me (Unit {0}) (List Record)) (n : ℕ) (now : Me (Unit {0}) (List Record)) → ByPass Tells me n now → Tells (pass_of me.0) n (pass_of now.0)
 by_pass Tells me n now h = subst (Tells (pass_of me.0) n) (sym (ap pass_of h.1.1)) h.1.2
+
+pub by_station : (Tells : StationRecord → ℕ → StationRecord → Type 0) (me : Me (Unit {0}) (List Record)) (n : ℕ) (now : Me (Unit {0}) (List Record)) → ByStation Tells me n now → Tells (station_of me.0) n (station_of now.0)
+by_station Tells me n now h = subst (Tells (station_of me.0) n) (sym (ap station_of h.1.1)) h.1.2
 
 -- an exchange that found the word of this level
 pub hit_level : (P Q : Level → Type 0) (n expected : ℕ) (l : Level) → ((k : Level) → P k → IsInRange k) → n ≡ expected → expected ≡ packed l → IsInRange l → OfLevel (λ k. MatchBool (n == expected) (P k) (Q k)) n → P l

@@ -114,3 +114,8 @@ closes false w s n a =
 pub with_limit : (c : Bool) (w s n : ℕ) → IsSmall (level c w s n) → packed (level c w s n) / 2 ^ 40 % 2 ^ 20 ≡ n
 with_limit true w s n a = omega arith
 with_limit false w s n a = omega arith
+
+-- another limit in the word
+pub other_limit : (c : Bool) (w s n m : ℕ) → packed (level c w s n) - n * 1099511627776 + m * 1099511627776 ≡ packed (level c w s m)
+other_limit true w s n m = omega arith
+other_limit false w s n m = omega arith

@@ -12,10 +12,15 @@ use Rattle.apf_model.specs.Schedule.{IsSchedule, AreWidths}
 use Rattle.apf_gate.specs.declared.record.Shape.{Shape}
 use Rattle.apf_gate.specs.declared.record.State.TheVariants.{Fresh, Took, InLine, Over}
 use Rattle.apf_gate.specs.declared.record.PassRecord.{PassRecord}
+use Rattle.apf_gate.specs.declared.record.StationRecord.{StationRecord}
+use Rattle.apf_gate.specs.declared.answers.Close.{Close}
+use Rattle.apf_gate.specs.declared.answers.Close.TheVariants as closed
+use Rattle.apf_gate.specs.declared.answers.TrySetLimit.{TrySetLimit}
+use Rattle.apf_gate.specs.declared.answers.TrySetLimit.TheVariants as set
 use Rattle.apf_gate.specs.declared.answers.TryTake.{TryTake}
 use Rattle.apf_gate.specs.declared.answers.TryTake.TheVariants as tried
 use Rattle.apf_gate.specs.Records.{opening_of, world_of, told_own}
-use Rattle.apf_gate.specs.Steps.{own_width, Looks, Takes, Writes, Loses}
+use Rattle.apf_gate.specs.Steps.{own_width, Looks, Takes, Writes, Loses, LooksFrom, Reads, Cancels, Closes, Sets}
 use Rattle.atomic_table.specs.Seated.{TableId}
 
 -- which gate it is: its table, and the shape that it was opened with
@@ -52,3 +57,22 @@ MayRelease p = ((p.state ≡ Took) × (told_own p ≢ None)) ⊎ ((p.state ≡ I
 -- one exchange: the decision was written, or another was found, and that is the answer
 abbrev pub Decides : PassRecord → Decision → Decision → PassRecord → Type 0
 Decides p d answer q = (Writes p d q × (answer ≡ d)) ⊎ Loses p d (Some answer) q
+
+-- the token of a Station: its gate, and what it knows
+pub record StationToken : Type 0 where
+  pub gate : GateId
+  pub station : StationRecord
+
+-- one exchange: cancelled was written, or another decision was found, and that is the answer
+abbrev pub CancelsTo : StationRecord → ℕ → Decision → StationRecord → Type 0
+CancelsTo t r answer b = (Cancels t r b × (answer ≡ Cancelled)) ⊎ Reads t r (Some answer) b
+
+-- one step, and whether it found the level open
+abbrev pub ClosesTo : StationRecord → Close → StationRecord → Type 0
+ClosesTo t closed.First b = (l : Level) × Closes t l b × (l.closed ≡ false)
+ClosesTo t closed.Already b = (l : Level) × Closes t l b × (l.closed ≡ true)
+
+-- one load, and an exchange of what it found
+abbrev pub TriesToSet : StationRecord → ℕ → TrySetLimit → StationRecord → Type 0
+TriesToSet t n (set.Set old waiting) b = (l : Level) × (old ≡ l.limit) × (waiting ≡ not (l.waiters == 0)) × ((between : StationRecord) × LooksFrom t l between × Sets between l n b)
+TriesToSet t n set.Raced b = (l other : Level) × (other ≢ l) × ((between : StationRecord) × LooksFrom t l between × LooksFrom between other b)

@@ -1,5 +1,5 @@
 -- What each step tells the token that makes it.
-use Rattle.std.specs.Prelude.{◌≡◌, ◌≢◌, ◌⊎◌, ℕ, ◌+◌, ◌/◌, ◌%◌, ◌^◌, ◌<◌, ◌≤◌, ◌==◌, ◌||◌, ◌&&◌, not, nat_le, MatchBool, Bool, true, false, if◌then◌else◌, List, [], ◌∷◌, ◌++◌, Option, Some, None}
+use Rattle.std.specs.Prelude.{◌≡◌, ◌≢◌, ◌⊎◌, ℕ, ◌+◌, ◌-◌, ◌/◌, ◌%◌, ◌^◌, ◌<◌, ◌≤◌, ◌==◌, ◌||◌, ◌&&◌, not, nat_le, MatchBool, Bool, true, false, if◌then◌else◌, List, [], ◌∷◌, ◌++◌, Option, Some, None}
 use Rattle.apf_words.specs.Codes.{code_of}
 use Rattle.apf_words.specs.Level.{Level, packed}
 use Rattle.apf_words.specs.declared.decision.Decision.{Decision}
@@ -171,11 +171,11 @@ abbrev pub LooksFromAt : StationRecord → ℕ → StationRecord → Type 0
 LooksFromAt t n b = OfLevel (λ l. LooksFrom t l b) n
 
 abbrev pub ReadsAt : StationRecord → ℕ → ℕ → StationRecord → Type 0
-ReadsAt t word n b = (r : ℕ) → word ≡ r + 1 → OfDecision (λ d. Reads t r d b) n
+ReadsAt t word n b = OfDecision (λ d. Reads t (word - 1) d b) n
 
 -- an exchange of 0 for the code of cancelled
 abbrev pub CancelsAt : StationRecord → ℕ → ℕ → StationRecord → Type 0
-CancelsAt t word n b = (r : ℕ) → word ≡ r + 1 → OfDecision (λ d. MatchBool (n == 0) (Cancels t r b) (Reads t r d b)) n
+CancelsAt t word n b = OfDecision (λ d. MatchBool (n == 0) (Cancels t (word - 1) b) (Reads t (word - 1) d b)) n
 
 abbrev pub ClosesAt : StationRecord → ℕ → StationRecord → Type 0
 ClosesAt t n b = OfLevel (λ l. Closes t l b) n

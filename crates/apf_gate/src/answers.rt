@@ -14,3 +14,21 @@ pub enum TryTake {
     /// The level word changed before the exchange.
     Raced,
 }
+
+/// What a close found.
+#[derive(Clone, Copy, Debug, PartialEq, Eq)]
+pub enum Close {
+    /// The level was open.
+    First,
+    /// The level was closed already.
+    Already,
+}
+
+/// What became of an attempt to set the limit.
+#[derive(Clone, Copy, Debug, PartialEq, Eq)]
+pub enum TrySetLimit {
+    /// The limit was set. Tells the old one, in seats, and whether requests waited then.
+    Set(u32, bool),
+    /// The level word changed before the exchange.
+    Raced,
+}

@@ -7,7 +7,9 @@ mod pass;
 mod plays;
 mod record;
 mod rule;
+mod station;
 
-pub use answers::TryTake;
+pub use answers::{Close, TrySetLimit, TryTake};
 pub use gate::Gate;
 pub use pass::Pass;
+pub use station::Station;

@@ -58,6 +58,51 @@ impl Play<(), LinkedList<Record>> for Deciding {
     ghost then = { λ s. ByPass (λ p n q. DecidesAt p s.second n q) };
 }
 
+/// A Station loads the level word.
+pub(crate) struct LookingFrom;
+
+impl Play<(), LinkedList<Record>> for LookingFrom {
+    ghost use Rattle.apf_gate.specs.Steps.{ByStation, LooksFromAt};
+
+    ghost then = { λ _. ByStation LooksFromAt };
+}
+
+/// A Station loads a decision word.
+pub(crate) struct Reading;
+
+impl Play<(), LinkedList<Record>> for Reading {
+    ghost use Rattle.apf_gate.specs.Steps.{ByStation, ReadsAt};
+
+    ghost then = { λ s. ByStation (λ t n b. ReadsAt t s.word n b) };
+}
+
+/// A Station exchanges a decision word, where it is 0, for the code of cancelled.
+pub(crate) struct Cancelling;
+
+impl Play<(), LinkedList<Record>> for Cancelling {
+    ghost use Rattle.apf_gate.specs.Steps.{ByStation, CancelsAt};
+
+    ghost then = { λ s. ByStation (λ t n b. CancelsAt t s.word n b) };
+}
+
+/// A Station closes the level.
+pub(crate) struct Closing;
+
+impl Play<(), LinkedList<Record>> for Closing {
+    ghost use Rattle.apf_gate.specs.Steps.{ByStation, ClosesAt};
+
+    ghost then = { λ _. ByStation ClosesAt };
+}
+
+/// A Station exchanges the level word for one with its limit.
+pub(crate) struct Setting;
+
+impl Play<(), LinkedList<Record>> for Setting {
+    ghost use Rattle.apf_gate.specs.Steps.{ByStation, SetsAt};
+
+    ghost then = { λ s. ByStation (λ t n b. SetsAt t s.first s.second n b) };
+}
+
 /// The first token's part of a seat goes to a seat of its own, or is joined in front of another's.
 pub(crate) struct First;
 

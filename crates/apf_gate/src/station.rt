@@ -1,0 +1,165 @@
+//! The token that cancels, closes, changes the limit and looks.
+
+ghost use Rattle.std.specs.Prelude.{◌≡◌, ◌≢◌, ◌⊎◌, ◌↔◌, ◌<◌, ◌≤◌, ◌==◌, length, not, true, false, MatchBool, Option, Some, None};
+ghost use Rattle.apf_words.specs.Level.{Level};
+ghost use Rattle.apf_words.specs.declared.decision.Decision.TheVariants.{Cancelled};
+ghost use Rattle.apf_gate.specs.Records.{told_of};
+ghost use Rattle.apf_gate.specs.Steps.{IsInRange, OfDecision, LooksFrom, Reads, Cancels, Closes, Sets};
+ghost use Rattle.apf_gate.specs.Calls.{CancelsTo, ClosesTo, TriesToSet};
+
+use crate::answers::{Close, TrySetLimit};
+use crate::gate::{Gate, decision_in, level_in};
+use crate::plays::{Cancelling, Closing, LookingFrom, Reading, Setting};
+use crate::rule::Place;
+use apf_words::{Decision, LevelWord};
+use std::alloc::Allocator;
+use std::marker::Model;
+
+/// The bit of a closed level.
+const CLOSED: u64 = 1 << 63;
+
+/// The place of the limit in a level word.
+const LIMIT: u64 = 1 << 40;
+
+/// A token that cancels requests, closes the level, changes the limit and looks.
+#[derive(Drop)]
+pub struct Station {
+    pub(crate) seat: Place,
+}
+
+impl Model for Station {
+    ghost use Rattle.std.specs.Prelude.{◌≡◌, [], ◌∷◌};
+    ghost use Rattle.apf_gate.specs.declared.record.Record.TheVariants as records;
+    ghost use Rattle.apf_gate.specs.Calls.{StationToken};
+    ghost use Rattle.apf_gate.specs.Rule.{station_of};
+
+    ghost Value = { StationToken };
+
+    ghost view = { λ t. record {
+      gate = record { table = t.seat.table_id; shape = (station_of t.seat.me.0).knows.shape };
+      station = station_of t.seat.me.0;
+    } };
+
+    ghost invariant = { λ t. t.seat.me ≡ (records.Station (station_of t.seat.me.0) ∷ [], []) };
+}
+
+impl<A: Allocator> Gate<A> {
+    /// Reads the level word, by one load.
+    pub fn look(&self, station: &mut Station) -> LevelWord
+        requires own { station.old.gate ≡ self.now }
+        ensures gate { station.new.gate ≡ station.old.gate }
+        ensures answer { LooksFrom station.old.station result station.new.station }
+        ensures in_range { IsInRange result }
+        ensures stays_closed { station.old.station.knows.saw_closed ≡ true → result.closed ≡ true }
+    {
+        level_in(self.board.shared.load::<LookingFrom>(&mut station.seat, 0))
+    }
+
+    /// Reads a request's decision, by one load of its word.
+    pub fn read(&self, station: &mut Station, request: u32) -> Option<Decision>
+        requires own { station.old.gate ≡ self.now }
+        requires is_request { request < length self.now.shape.widths }
+        ensures gate { station.new.gate ≡ station.old.gate }
+        ensures answer { Reads station.old.station request result station.new.station }
+        ensures told { result ≢ None → told_of station.new.station.knows.told request ≡ result }
+        ensures stays { told_of station.old.station.knows.told request ≢ None → result ≡ told_of station.old.station.knows.told request }
+    {
+        decision_in(self.load_word(station, request))
+    }
+
+    /// Cancels a request, if it is undecided. Answers its decision. It makes one exchange of the request's
+    /// decision word.
+    pub fn cancel(&self, station: &mut Station, request: u32) -> Decision
+        requires own { station.old.gate ≡ self.now }
+        requires is_request { request < length self.now.shape.widths }
+        ensures gate { station.new.gate ≡ station.old.gate }
+        ensures answer { CancelsTo station.old.station request result station.new.station }
+        ensures told { told_of station.new.station.knows.told request ≡ Some result }
+        ensures stays { told_of station.old.station.knows.told request ≢ None → Some result ≡ told_of station.old.station.knows.told request }
+    {
+        match decision_in(self.exchange_word(station, request)) {
+            None => Decision::Cancelled,
+            Some(decision) => decision,
+        }
+    }
+
+    /// Closes the level, by one step on the level word. Says whether this close was the first.
+    pub fn close(&self, station: &mut Station) -> Close
+        requires own { station.old.gate ≡ self.now }
+        ensures gate { station.new.gate ≡ station.old.gate }
+        ensures answer { ClosesTo station.old.station result station.new.station }
+        ensures closed { station.new.station.knows.saw_closed ≡ true }
+        ensures stays_closed { station.old.station.knows.saw_closed ≡ true → result ≡ Close.Already }
+    {
+        let found = self
+            .board
+            .shared
+            .fetch_or::<Closing>(&mut station.seat, 0, CLOSED);
+        if level_in(found).closed() {
+            return Close::Already;
+        }
+        Close::First
+    }
+
+    /// Sets the limit, of 1 to 10,000 seats. It makes one load of the level word and one exchange, and
+    /// tells the old limit and whether requests waited. `Raced` if the word changed in between.
+    pub fn try_set_limit(&self, station: &mut Station, limit: u32) -> TrySetLimit
+        requires own { station.old.gate ≡ self.now }
+        requires some_limit { 1 ≤ limit }
+        requires small_limit { limit ≤ 10000 }
+        ensures gate { station.new.gate ≡ station.old.gate }
+        ensures answer { TriesToSet station.old.station limit result station.new.station }
+    {
+        let level = self.look(station);
+        if !self.exchange_limit(station, level, limit) {
+            return TrySetLimit::Raced;
+        }
+        TrySetLimit::Set(level.limit(), level.waiters() != 0)
+    }
+
+    // One load of a decision word.
+    fn load_word(&self, station: &mut Station, request: u32) -> u64
+        requires own { station.old.gate ≡ self.now }
+        requires is_request { request < length self.now.shape.widths }
+        ensures gate { station.new.gate ≡ station.old.gate }
+        ensures found { OfDecision (λ d. Reads station.old.station request d station.new.station) result }
+    {
+        let word = request as usize + 1;
+        self.board.shared.load::<Reading>(&mut station.seat, word)
+    }
+
+    // One exchange of a decision word, for the code of cancelled where it is 0.
+    fn exchange_word(&self, station: &mut Station, request: u32) -> u64
+        requires own { station.old.gate ≡ self.now }
+        requires is_request { request < length self.now.shape.widths }
+        ensures gate { station.new.gate ≡ station.old.gate }
+        ensures found { OfDecision (λ d. MatchBool (result == 0) (Cancels station.old.station request station.new.station) (Reads station.old.station request d station.new.station)) result }
+    {
+        let word = request as usize + 1;
+        self.board
+            .shared
+            .compare_exchange::<Cancelling>(&mut station.seat, word, 0, 4)
+    }
+
+    // One exchange, of the word that says this for one with the limit. Says whether it was made.
+    fn exchange_limit(&self, station: &mut Station, level: LevelWord, limit: u32) -> bool
+        requires own { station.old.gate ≡ self.now }
+        requires in_range { IsInRange level }
+        requires small_limit { limit ≤ 10000 }
+        ensures gate { station.new.gate ≡ station.old.gate }
+        ensures set { MatchBool result
+            (Sets station.old.station level limit station.new.station)
+            ((other : Level) × (other ≢ level) × LooksFrom station.old.station other station.new.station) }
+    {
+        let word = level.pack();
+        let new = word - u64::from(level.limit()) * LIMIT + u64::from(limit) * LIMIT;
+        let found = self
+            .board
+            .shared
+            .compare_exchange::<Setting>(&mut station.seat, 0, word, new);
+        if found != word {
+            return false;
+        }
+        true
+    }
+}

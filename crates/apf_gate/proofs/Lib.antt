@@ -8,5 +8,7 @@ pub mod Rooms
 pub mod Knowing
 pub mod PassSteps
 pub mod StationSteps
+pub mod DeskLines
+pub mod DeskSteps
 pub mod Seats
 pub mod Told

@@ -1,5 +1,5 @@
 -- The lines of the rule after one step.
-use Rattle.std.proofs.Common.{◌≡◌, ◌≢◌, ℕ, ◌+◌, ◌*◌, ◌<◌, ◌≤◌, Bool, true, false, List, [], ◌∷◌, length, set, Some, None, sym, refl, ap, ◌∙◌, subst, inl, inr, ⊎_elim}
+use Rattle.std.proofs.Common.{◌≡◌, ◌≢◌, ℕ, ◌+◌, ◌*◌, ◌<◌, ◌≤◌, Bool, true, false, List, [], ◌∷◌, length, set, Some, None, sym, refl, ap, ◌∙◌, subst, inl, inr, ⊎_elim, arith}
 use mathlib.Core.Logic.{dite}
 use mathlib.Core.Option.{some}
 use lib.ListN.{get_elem?}
@@ -173,3 +173,70 @@ module _ (s : Shape) where
         stations = stations;
       })
       packs
+
+  -- a step of the Desk, after which its record is e and the schedule ms
+  pub desk_step : (t : Table) (h : IsRuled s t) (id : ℕ) (d e : DeskRecord) (i n : ℕ) (ms : List Move)
+      → get_elem? t.views id ≡ some (Desk d ∷ []) → IsLater s h.account.schedule ms → IsSchedule (opening_of s) ms
+      → ((r : ℕ) → r < length s.widths → IsRequest s r (h.account.pass r) (service_of e.services r) (world_of s ms))
+      → Packs s (set t.words i n) (world_of s ms)
+      → IsKnown s e.knows ms
+      → ((r : ℕ) → e.held ≡ Some r → service_of e.services r ≡ Held) → ((r : ℕ) → service_of e.services r ≡ Held → e.held ≡ Some r)
+      → AreStations s h.account.station h.account.canceller h.account.closer (world_of s ms)
+      → IsRuled s record { words = set t.words i n; homes = t.homes; views = set t.views id (Desk e ∷ []) }
+  desk_step t h id d e i n ms at later schedule requests packs known held is_held stations =
+      let g = h.account in
+      let was = (h.views id (Desk d ∷ []) at).0.0 in
+      let g' : Account = record g { schedule = ms; desk = e } in
+      kept s t h id i n (Desk e ∷ []) g'
+          (record { seat = λ x. refl; pass = λ _ _. refl; desk = λ away. absurd (away was.0); station = λ _ _. refl })
+          (((was.0, refl), tt), (tt, tt))
+          (record {
+            schedule = schedule;
+            request = requests;
+            pass_knows = λ j l. known_later s (g.pass j).knows g.schedule ms later (h.sound.pass_knows j l);
+            desk_knows = known;
+            station_knows = λ k. known_later s (g.station k).knows g.schedule ms later (h.sound.station_knows k);
+            held = held;
+            is_held = is_held;
+            stations = stations;
+          })
+          packs
+
+  -- a step of the Desk that a Pass is joined to, after which their records are q and e and the schedule ms
+  pub both_step : (t : Table) (h : IsRuled s t) (id : ℕ) (p q : PassRecord) (d e : DeskRecord) (i n : ℕ) (ms : List Move)
+      → get_elem? t.views id ≡ some (Pass p ∷ Desk d ∷ []) → IsLater s h.account.schedule ms → IsSchedule (opening_of s) ms
+      → ((j : ℕ) → j ≢ p.number → IsSame (world_of s h.account.schedule) (world_of s ms) j × (service_of e.services j ≡ service_of h.account.desk.services j))
+      → Packs s (set t.words i n) (world_of s ms)
+      → IsRequest s p.number q (service_of e.services p.number) (world_of s ms)
+      → IsKnown s q.knows ms → IsKnown s e.knows ms
+      → ((r : ℕ) → e.held ≡ Some r → service_of e.services r ≡ Held) → ((r : ℕ) → service_of e.services r ≡ Held → e.held ≡ Some r)
+      → AreStations s h.account.station h.account.canceller h.account.closer (world_of s ms)
+      → IsRuled s record { words = set t.words i n; homes = t.homes; views = set t.views id (Pass q ∷ Desk e ∷ []) }
+  both_step t h id p q d e i n ms at later schedule elsewhere packs mine known known_desk held is_held stations =
+      let g = h.account in
+      let r = p.number in
+      let v = h.views id (Pass p ∷ Desk d ∷ []) at in
+      let was = v.0.0 in
+      let w' = world_of s ms in
+      let g' : Account = record g { schedule = ms; pass = put g.pass r q; desk = e } in
+      kept s t h id i n (Pass q ∷ Desk e ∷ []) g'
+          (record {
+            seat = λ x. refl;
+            pass = λ j away. put_else g.pass r q j (λ y. away (ap (λ x. g.seat (2 * x + 1)) y ∙ was.0));
+            desk = λ away. absurd (away v.0.1.0.0);
+            station = λ _ _. refl;
+          })
+          (((ap (λ x. g.seat (2 * x + 1)) mine.number ∙ was.0, (subst (λ x. x < length s.widths) (sym mine.number) was.1.0, ap (put g.pass r q) mine.number ∙ put_here g.pass r q)), ((v.0.1.0.0, refl), tt)), (((λ y. omega arith), tt), (tt, tt)))
+          (record {
+            schedule = schedule;
+            request = λ j l. put_each (λ k o. IsRequest s k o (service_of e.services k) w') g.pass r q mine j
+                (λ ne. subst (λ a. IsRequest s j (g.pass j) a w') (sym (elsewhere j ne).1) (request_elsewhere j (g.pass j) (service_of g.desk.services j) (world_of s g.schedule) w' (elsewhere j ne).0 later.closed (h.sound.request j l)));
+            pass_knows = λ j l. put_each (λ k o. IsKnown s o.knows ms) g.pass r q known j (λ ne. known_later s (g.pass j).knows g.schedule ms later (h.sound.pass_knows j l));
+            desk_knows = known_desk;
+            station_knows = λ k. known_later s (g.station k).knows g.schedule ms later (h.sound.station_knows k);
+            held = held;
+            is_held = is_held;
+            stations = stations;
+          })
+          packs
+

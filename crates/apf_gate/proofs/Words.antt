@@ -119,3 +119,17 @@ with_limit false w s n a = omega arith
 pub other_limit : (c : Bool) (w s n m : ℕ) → packed (level c w s n) - n * 1099511627776 + m * 1099511627776 ≡ packed (level c w s m)
 other_limit true w s n m = omega arith
 other_limit false w s n m = omega arith
+
+-- the word after a grant: one waits less, and the seats are taken
+pub granted : (c : Bool) (w s n k was new : ℕ) → was ≡ packed (level c (w + 1) s n) → new + 1048576 ≡ was + k → new ≡ packed (level c w (s + k) n)
+granted true w s n k was new is sum = omega arith
+granted false w s n k was new is sum = omega arith
+
+-- the word with one waiter less, or more
+pub less_waiters : (c : Bool) (w s n : ℕ) → IsSmall (level c (w + 1) s n) → (packed (level c (w + 1) s n) + (2 ^ 64 - 1048576)) % 2 ^ 64 ≡ packed (level c w s n)
+less_waiters true w s n a = omega arith
+less_waiters false w s n a = omega arith
+
+pub more_waiters : (c : Bool) (w s n : ℕ) → packed (level c (w + 1) s n) ≡ packed (level c w s n) + 1048576
+more_waiters true w s n = omega arith
+more_waiters false w s n = omega arith

@@ -3,9 +3,9 @@ use Rattle.std.specs.Prelude.{◌≡◌, ◌≢◌, ◌⊎◌, ℕ, ◌+◌, ◌
 use Rattle.apf_words.specs.Codes.{code_of}
 use Rattle.apf_words.specs.Level.{Level, packed}
 use Rattle.apf_words.specs.declared.decision.Decision.{Decision}
-use Rattle.apf_words.specs.declared.decision.Decision.TheVariants.{Execute, Cancelled}
+use Rattle.apf_words.specs.declared.decision.Decision.TheVariants.{Execute, QueueFull, Cancelled}
 use Rattle.apf_model.specs.declared.moves.Move.{Move}
-use Rattle.apf_model.specs.declared.moves.Move.TheVariants.{Take, Decide, Release, Close, SetLimit, See}
+use Rattle.apf_model.specs.declared.moves.Move.TheVariants.{Take, Enter, Grant, Leave, Decide, Release, Close, SetLimit, See}
 use Rattle.apf_model.specs.declared.response.Response.TheVariants.{Reject}
 use Rattle.apf_model.specs.World.{width}
 use Rattle.apf_model.specs.Schedule.{IsSchedule}
@@ -14,11 +14,14 @@ use Rattle.apf_gate.specs.declared.record.Knowledge.{Knowledge}
 use Rattle.apf_gate.specs.declared.record.State.{State}
 use Rattle.apf_gate.specs.declared.record.State.TheVariants.{Fresh, Took, InLine, Over}
 use Rattle.apf_gate.specs.declared.record.PassRecord.{PassRecord}
+use Rattle.apf_gate.specs.declared.record.Service.{Service}
+use Rattle.apf_gate.specs.declared.record.Service.TheVariants.{Handed, Full, Waiting, Held, Settled, Left}
+use Rattle.apf_gate.specs.declared.record.DeskRecord.{DeskRecord}
 use Rattle.apf_gate.specs.declared.record.StationRecord.{StationRecord}
 use Rattle.apf_gate.specs.declared.record.Record.{Record}
-use Rattle.apf_gate.specs.declared.record.Record.TheVariants.{Pass, Station}
-use Rattle.apf_gate.specs.Records.{opening_of, world_of, level_of, code_in, told_of, told_own, saw_level, saw_decision}
-use Rattle.apf_gate.specs.Rule.{pass_of, station_of}
+use Rattle.apf_gate.specs.declared.record.Record.TheVariants.{Pass, Desk, Station}
+use Rattle.apf_gate.specs.Records.{opening_of, world_of, level_of, code_in, told_of, told_own, service_of, saw_level, saw_decision}
+use Rattle.apf_gate.specs.Rule.{pass_of, desk_of, station_of, without_first}
 use Rattle.atomic_table.specs.Table.{Me}
 
 -- the numbers of a level word
@@ -186,3 +189,102 @@ limit_in n = n / 2 ^ 40 % 2 ^ 20
 
 abbrev pub SetsAt : StationRecord → ℕ → ℕ → ℕ → StationRecord → Type 0
 SetsAt t expected new n b = OfLevel (λ l. MatchBool (n == expected) (Sets t l (limit_in new) b) (LooksFrom t l b)) n
+
+-- what the Desk did with a request
+abbrev pub service : DeskRecord → ℕ → Service
+service d r = service_of d.services r
+
+-- the Desk did this with the request r, and knows this
+abbrev pub served : DeskRecord → ℕ → Service → Knowledge → DeskRecord
+served d r x u = record d { services = (r, x) ∷ d.services; knows = u }
+
+-- the Desk's load of the level word
+abbrev pub Views : DeskRecord → Level → DeskRecord → Type 0
+Views d l e = (u : Knowledge) × SawLevel d.knows l [] u × (e ≡ record d { knows = u })
+
+-- the Desk's load of the word of r
+abbrev pub Sees : DeskRecord → ℕ → Option Decision → DeskRecord → Type 0
+Sees d r x e = (u : Knowledge) × SawDecision d.knows r x x [] u × (e ≡ record d { knows = u })
+
+-- the exchange granted r its seats, which the Desk holds
+abbrev pub Grants : DeskRecord → ℕ → Level → DeskRecord → Type 0
+Grants d r l e = (u : Knowledge) × SawLevel d.knows l (Grant r ∷ []) u × (e ≡ record d { services = (r, Held) ∷ d.services; held = Some r; knows = u })
+
+-- the exchange wrote execute of the request that it held
+abbrev pub Settles : DeskRecord → ℕ → DeskRecord → Type 0
+Settles d r e = (u : Knowledge) × SawDecision d.knows r None (Some Execute) (Decide r Execute ∷ []) u × (e ≡ record d { services = (r, Settled) ∷ d.services; held = None; knows = u })
+
+-- the seats of the request that it held were given back
+abbrev pub GivesBack : DeskRecord → ℕ → Level → DeskRecord → Type 0
+GivesBack d r l e = (u : Knowledge) × SawLevel d.knows l (Release r ∷ []) u × (e ≡ record d { services = (r, Left) ∷ d.services; held = None; knows = u })
+
+-- r left the line
+abbrev pub Leaves : DeskRecord → ℕ → Level → DeskRecord → Type 0
+Leaves d r l e = (u : Knowledge) × SawLevel d.knows l (Leave r ∷ []) u × (e ≡ served d r Left u)
+
+-- what a step of the Desk tells
+abbrev pub ByDesk : (DeskRecord → ℕ → DeskRecord → Type 0) → Me (Unit {0}) (List Record) → ℕ → Me (Unit {0}) (List Record) → Type 0
+ByDesk Tells me n now = (now.1 ≡ me.1) × ((e : DeskRecord) × (now.0 ≡ Desk e ∷ []) × Tells (desk_of me.0) n e)
+
+abbrev pub ViewsAt : DeskRecord → ℕ → DeskRecord → Type 0
+ViewsAt d n e = OfLevel (λ l. Views d l e) n
+
+abbrev pub SeesAt : DeskRecord → ℕ → ℕ → DeskRecord → Type 0
+SeesAt d word n e = OfDecision (λ x. Sees d (word - 1) x e) n
+
+-- an exchange of the level word that expects this number, to grant r its seats
+abbrev pub GrantsAt : DeskRecord → ℕ → ℕ → ℕ → DeskRecord → Type 0
+GrantsAt d r expected n e = OfLevel (λ l. MatchBool (n == expected) (Grants d r l e) (Views d l e)) n
+
+-- an exchange of 0 for the code of execute
+abbrev pub SettlesAt : DeskRecord → ℕ → ℕ → DeskRecord → Type 0
+SettlesAt d word n e = OfDecision (λ x. MatchBool (n == 0) (Settles d (word - 1) e) (Sees d (word - 1) x e)) n
+
+abbrev pub GivesBackAt : DeskRecord → ℕ → ℕ → DeskRecord → Type 0
+GivesBackAt d r n e = OfLevel (λ l. GivesBack d r l e) n
+
+abbrev pub LeavesAt : DeskRecord → ℕ → ℕ → DeskRecord → Type 0
+LeavesAt d r n e = OfLevel (λ l. Leaves d r l e) n
+
+-- A Pass is joined to the Desk. The steps are the Desk's, and the first hands it the request.
+-- the level word was loaded
+abbrev pub Hands : PassRecord → DeskRecord → Level → PassRecord → DeskRecord → Type 0
+Hands p d l q e = (u : Knowledge) × SawLevel d.knows l [] u × (q ≡ p) × (e ≡ served d p.number Handed u)
+
+-- the exchange entered the request
+abbrev pub Enters : PassRecord → DeskRecord → Level → PassRecord → DeskRecord → Type 0
+Enters p d l q e = (u : Knowledge) × SawLevel d.knows l (Enter p.number ∷ []) u × (q ≡ record p { entered = true }) × (e ≡ served d p.number Waiting u)
+
+-- what a refusal leaves
+abbrev pub refusing : Decision → Service
+refusing QueueFull = Full
+refusing _ = Handed
+
+-- the exchange wrote the refusal
+abbrev pub Refuses : PassRecord → DeskRecord → Decision → PassRecord → DeskRecord → Type 0
+Refuses p d x q e = (u : Knowledge) × SawDecision d.knows p.number None (Some x) (Decide p.number x ∷ []) u × (q ≡ p) × (e ≡ served d p.number (refusing x) u)
+
+-- the exchange found another decision
+abbrev pub Spares : PassRecord → DeskRecord → Option Decision → PassRecord → DeskRecord → Type 0
+Spares p d x q e = (u : Knowledge) × SawDecision d.knows p.number x x [] u × (q ≡ p) × (e ≡ served d p.number Handed u)
+
+-- the decision word was loaded. Nothing is handed over
+abbrev pub Learns : PassRecord → DeskRecord → Option Decision → PassRecord → DeskRecord → Type 0
+Learns p d x q e = (q ≡ p) × Sees d p.number x e
+
+-- what a step of the Desk tells while a Pass is joined to it
+abbrev pub ByBoth : (PassRecord → DeskRecord → ℕ → PassRecord → DeskRecord → Type 0) → Me (Unit {0}) (List Record) → ℕ → Me (Unit {0}) (List Record) → Type 0
+ByBoth Tells me n now = (now.1 ≡ me.1) × ((q : PassRecord) × (e : DeskRecord) × (now.0 ≡ Pass q ∷ Desk e ∷ []) × Tells (pass_of me.0) (desk_of (without_first me.0)) n q e)
+
+abbrev pub HandsAt : PassRecord → DeskRecord → ℕ → PassRecord → DeskRecord → Type 0
+HandsAt p d n q e = OfLevel (λ l. Hands p d l q e) n
+
+abbrev pub EntersAt : PassRecord → DeskRecord → ℕ → ℕ → PassRecord → DeskRecord → Type 0
+EntersAt p d expected n q e = OfLevel (λ l. MatchBool (n == expected) (Enters p d l q e) (Hands p d l q e)) n
+
+-- an exchange of 0 for the code of a refusal
+abbrev pub RefusesAt : PassRecord → DeskRecord → ℕ → ℕ → PassRecord → DeskRecord → Type 0
+RefusesAt p d code n q e = (x : Decision) → code ≡ code_of x → OfDecision (λ y. MatchBool (n == 0) (Refuses p d x q e) (Spares p d y q e)) n
+
+abbrev pub LearnsAt : PassRecord → DeskRecord → ℕ → PassRecord → DeskRecord → Type 0
+LearnsAt p d n q e = OfDecision (λ x. Learns p d x q e) n

@@ -42,7 +42,7 @@ use Rattle.apf_gate.proofs.DeskLines.{Services, HoldsOne, holds_still, holds_now
 
 module _ (s : Shape) where
   -- a step that moves no request and decides nothing leaves the lines on Stations
-  stations_moved : (t : Table) (h : IsRuled s t) (w' : World) → let w = world_of s h.account.schedule in w'.is_open ≡ w.is_open → w'.limit ≡ w.limit → w'.largest ≡ w.largest → ((r : ℕ) → w'.decision r ≡ w.decision r)
+  pub stations_moved : (t : Table) (h : IsRuled s t) (w' : World) → let w = world_of s h.account.schedule in w'.is_open ≡ w.is_open → w'.limit ≡ w.limit → w'.largest ≡ w.largest → ((r : ℕ) → w'.decision r ≡ w.decision r)
       → AreStations s h.account.station h.account.canceller h.account.closer w'
   stations_moved t h w' is_open limit largest same =
       stations_same s h.account.station h.account.canceller h.account.closer (world_of s h.account.schedule) w' is_open limit largest (λ r e. sym (same r) ∙ e) (λ r e. same r ∙ e) h.sound.stations

@@ -10,5 +10,6 @@ pub mod PassSteps
 pub mod StationSteps
 pub mod DeskLines
 pub mod DeskSteps
+pub mod BothSteps
 pub mod Seats
 pub mod Told

@@ -12,6 +12,8 @@ use Rattle.apf_model.specs.Schedule.{IsSchedule, AreWidths}
 use Rattle.apf_gate.specs.declared.record.Shape.{Shape}
 use Rattle.apf_gate.specs.declared.record.State.TheVariants.{Fresh, Took, InLine, Over}
 use Rattle.apf_gate.specs.declared.record.PassRecord.{PassRecord}
+use Rattle.apf_gate.specs.declared.record.Service.TheVariants.{NotHanded, Handed, Waiting}
+use Rattle.apf_gate.specs.declared.record.DeskRecord.{DeskRecord}
 use Rattle.apf_gate.specs.declared.record.StationRecord.{StationRecord}
 use Rattle.apf_gate.specs.declared.answers.Close.{Close}
 use Rattle.apf_gate.specs.declared.answers.Close.TheVariants as closed
@@ -20,7 +22,7 @@ use Rattle.apf_gate.specs.declared.answers.TrySetLimit.TheVariants as set
 use Rattle.apf_gate.specs.declared.answers.TryTake.{TryTake}
 use Rattle.apf_gate.specs.declared.answers.TryTake.TheVariants as tried
 use Rattle.apf_gate.specs.Records.{opening_of, world_of, told_own}
-use Rattle.apf_gate.specs.Steps.{own_width, Looks, Takes, Writes, Loses, LooksFrom, Reads, Cancels, Closes, Sets}
+use Rattle.apf_gate.specs.Steps.{own_width, Looks, Takes, Writes, Loses, service, LooksFrom, Reads, Cancels, Closes, Sets}
 use Rattle.atomic_table.specs.Seated.{TableId}
 
 -- which gate it is: its table, and the shape that it was opened with
@@ -76,3 +78,13 @@ ClosesTo t closed.Already b = (l : Level) × Closes t l b × (l.closed ≡ true)
 abbrev pub TriesToSet : StationRecord → ℕ → TrySetLimit → StationRecord → Type 0
 TriesToSet t n (set.Set old waiting) b = (l : Level) × (old ≡ l.limit) × (waiting ≡ not (l.waiters == 0)) × ((between : StationRecord) × LooksFrom t l between × Sets between l n b)
 TriesToSet t n set.Raced b = (l other : Level) × (other ≢ l) × ((between : StationRecord) × LooksFrom t l between × LooksFrom between other b)
+
+-- the Pass may hand its request to the Desk: it is in line, and the request never entered and was not refused as full
+abbrev pub MayHand : PassRecord → DeskRecord → Type 0
+MayHand p d = (p.state ≡ InLine) × ((service d p.number ≡ NotHanded) ⊎ (service d p.number ≡ Handed))
+
+-- the Desk may refuse with this: as full, or as closed where it saw the level closed
+abbrev pub MayRefuse : DeskRecord → Decision → Type 0
+MayRefuse d QueueFull = Unit {0}
+MayRefuse d Closed = d.knows.saw_closed ≡ true
+MayRefuse d _ = ⊥

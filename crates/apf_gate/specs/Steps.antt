@@ -268,9 +268,9 @@ Refuses p d x q e = (u : Knowledge) × SawDecision d.knows p.number None (Some x
 abbrev pub Spares : PassRecord → DeskRecord → Option Decision → PassRecord → DeskRecord → Type 0
 Spares p d x q e = (u : Knowledge) × SawDecision d.knows p.number x x [] u × (q ≡ p) × (e ≡ served d p.number Handed u)
 
--- the decision word was loaded. Nothing is handed over
+-- the decision word was loaded, and it holds what the Pass was told. Nothing is handed over
 abbrev pub Learns : PassRecord → DeskRecord → Option Decision → PassRecord → DeskRecord → Type 0
-Learns p d x q e = (q ≡ p) × Sees d p.number x e
+Learns p d x q e = (q ≡ p) × (x ≡ told_own p) × Sees d p.number x e
 
 -- what a step of the Desk tells while a Pass is joined to it
 abbrev pub ByBoth : (PassRecord → DeskRecord → ℕ → PassRecord → DeskRecord → Type 0) → Me (Unit {0}) (List Record) → ℕ → Me (Unit {0}) (List Record) → Type 0

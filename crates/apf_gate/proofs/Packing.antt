@@ -91,7 +91,7 @@ module _ (s : Shape) where
       let b = shape.few_requests in
       let c = h.sound.stations.limit_small in
       let l : w.largest ≤ 20000 = (let z = h.sound.stations.largest_small in omega arith) in
-      let d = laws.bounded ms h.sound.schedule l in record { waiters = omega arith; seats = d; limit = c }
+      let d = laws.bounded ms h.sound.schedule l in record { waiters = omega arith; seats = d; some_limit = h.sound.stations.some_limit; limit = c }
 
   pub no_queues : AreLaws s → (t : Table) (h : IsRuled s t) → s.response ≡ Reject → waiters s.widths (world_of s h.account.schedule) ≡ 0
   no_queues laws t h reject = laws.nobody_waits (world_of s h.account.schedule) (λ r l. waits_in_queues (h.account.pass r) (service_of h.account.desk.services r) r (world_of s h.account.schedule) (h.sound.request r l) reject)

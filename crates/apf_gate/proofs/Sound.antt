@@ -66,6 +66,7 @@ module _ (s : Shape) where
     largest = subst (λ n. WasSet s station n) (sym largest) k.largest;
     is_largest = λ j n e. subst (λ x. n ≤ x) (sym largest) (k.is_largest j n e);
     opening = subst (λ x. s.limit ≤ x) (sym largest) k.opening;
+    some_limit = subst (λ x. 1 ≤ x) (sym limit) k.some_limit;
     limit_small = subst (λ x. x ≤ 10000) (sym limit) k.limit_small;
     largest_small = subst (λ x. x ≤ 10000) (sym largest) k.largest_small;
   }
@@ -136,6 +137,7 @@ module _ (s : Shape) where
         largest = was_set station (put station k b) w.largest (λ j e. ap (λ x. has x w.largest) (limits j) ∙ e) a.largest;
         is_largest = λ j n e. a.is_largest j n (ap (λ x. has x n) (sym (limits j)) ∙ e);
         opening = a.opening;
+        some_limit = a.some_limit;
         limit_small = a.limit_small;
         largest_small = a.largest_small;
       }
@@ -188,19 +190,19 @@ module _ (s : Shape) where
       let was = (h.views id (Desk d ∷ []) at).0.0 in
       let g' : Account = record g { schedule = ms; desk = e } in
       kept s t h id i n (Desk e ∷ []) g'
-          (record { seat = λ x. refl; pass = λ _ _. refl; desk = λ away. absurd (away was.0); station = λ _ _. refl })
-          (((was.0, refl), tt), (tt, tt))
-          (record {
-            schedule = schedule;
-            request = requests;
-            pass_knows = λ j l. known_later s (g.pass j).knows g.schedule ms later (h.sound.pass_knows j l);
-            desk_knows = known;
-            station_knows = λ k. known_later s (g.station k).knows g.schedule ms later (h.sound.station_knows k);
-            held = held;
-            is_held = is_held;
-            stations = stations;
-          })
-          packs
+      (record { seat = λ x. refl; pass = λ _ _. refl; desk = λ away. absurd (away was.0); station = λ _ _. refl })
+      (((was.0, refl), tt), (tt, tt))
+      (record {
+        schedule = schedule;
+        request = requests;
+        pass_knows = λ j l. known_later s (g.pass j).knows g.schedule ms later (h.sound.pass_knows j l);
+        desk_knows = known;
+        station_knows = λ k. known_later s (g.station k).knows g.schedule ms later (h.sound.station_knows k);
+        held = held;
+        is_held = is_held;
+        stations = stations;
+      })
+      packs
 
   -- a step of the Desk that a Pass is joined to, after which their records are q and e and the schedule ms
   pub both_step : (t : Table) (h : IsRuled s t) (id : ℕ) (p q : PassRecord) (d e : DeskRecord) (i n : ℕ) (ms : List Move)
@@ -220,23 +222,22 @@ module _ (s : Shape) where
       let w' = world_of s ms in
       let g' : Account = record g { schedule = ms; pass = put g.pass r q; desk = e } in
       kept s t h id i n (Pass q ∷ Desk e ∷ []) g'
-          (record {
-            seat = λ x. refl;
-            pass = λ j away. put_else g.pass r q j (λ y. away (ap (λ x. g.seat (2 * x + 1)) y ∙ was.0));
-            desk = λ away. absurd (away v.0.1.0.0);
-            station = λ _ _. refl;
-          })
-          (((ap (λ x. g.seat (2 * x + 1)) mine.number ∙ was.0, (subst (λ x. x < length s.widths) (sym mine.number) was.1.0, ap (put g.pass r q) mine.number ∙ put_here g.pass r q)), ((v.0.1.0.0, refl), tt)), (((λ y. omega arith), tt), (tt, tt)))
-          (record {
-            schedule = schedule;
-            request = λ j l. put_each (λ k o. IsRequest s k o (service_of e.services k) w') g.pass r q mine j
-                (λ ne. subst (λ a. IsRequest s j (g.pass j) a w') (sym (elsewhere j ne).1) (request_elsewhere j (g.pass j) (service_of g.desk.services j) (world_of s g.schedule) w' (elsewhere j ne).0 later.closed (h.sound.request j l)));
-            pass_knows = λ j l. put_each (λ k o. IsKnown s o.knows ms) g.pass r q known j (λ ne. known_later s (g.pass j).knows g.schedule ms later (h.sound.pass_knows j l));
-            desk_knows = known_desk;
-            station_knows = λ k. known_later s (g.station k).knows g.schedule ms later (h.sound.station_knows k);
-            held = held;
-            is_held = is_held;
-            stations = stations;
-          })
-          packs
-
+      (record {
+        seat = λ x. refl;
+        pass = λ j away. put_else g.pass r q j (λ y. away (ap (λ x. g.seat (2 * x + 1)) y ∙ was.0));
+        desk = λ away. absurd (away v.0.1.0.0);
+        station = λ _ _. refl;
+      })
+      (((ap (λ x. g.seat (2 * x + 1)) mine.number ∙ was.0, (subst (λ x. x < length s.widths) (sym mine.number) was.1.0, ap (put g.pass r q) mine.number ∙ put_here g.pass r q)), ((v.0.1.0.0, refl), tt)), (((λ y. omega arith), tt), (tt, tt)))
+      (record {
+        schedule = schedule;
+        request = λ j l. put_each (λ k o. IsRequest s k o (service_of e.services k) w') g.pass r q mine j
+            (λ ne. subst (λ a. IsRequest s j (g.pass j) a w') (sym (elsewhere j ne).1) (request_elsewhere j (g.pass j) (service_of g.desk.services j) (world_of s g.schedule) w' (elsewhere j ne).0 later.closed (h.sound.request j l)));
+        pass_knows = λ j l. put_each (λ k o. IsKnown s o.knows ms) g.pass r q known j (λ ne. known_later s (g.pass j).knows g.schedule ms later (h.sound.pass_knows j l));
+        desk_knows = known_desk;
+        station_knows = λ k. known_later s (g.station k).knows g.schedule ms later (h.sound.station_knows k);
+        held = held;
+        is_held = is_held;
+        stations = stations;
+      })
+      packs

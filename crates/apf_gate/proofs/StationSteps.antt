@@ -138,6 +138,7 @@ module _ (s : Shape) where
       largest = was_set s g.station station w.largest (λ j e. ap (λ x. has x w.largest) (limits j) ∙ e) was.largest;
       is_largest = λ j m e. was.is_largest j m (ap (λ x. has x m) (sym (limits j)) ∙ e);
       opening = was.opening;
+      some_limit = was.some_limit;
       limit_small = was.limit_small;
       largest_small = was.largest_small;
     }
@@ -237,6 +238,7 @@ module _ (s : Shape) where
         largest = was_set s g.station station w.largest (λ j e. ap (λ x. has x w.largest) (limits j) ∙ e) was.largest;
         is_largest = λ j m e. was.is_largest j m (ap (λ x. has x m) (sym (limits j)) ∙ e);
         opening = was.opening;
+        some_limit = was.some_limit;
         limit_small = was.limit_small;
         largest_small = was.largest_small;
       },
@@ -320,9 +322,9 @@ module _ (s : Shape) where
     max_or x y = ⊎_elim (λ (e : x < y). inr (max-eq_right (let z = e in omega arith))) (λ (e : y ≤ x). inl (max-eq_left e)) (cases_lt x y)
 
     -- the lines on Stations, where one sets the limit
-    set_now : (t : Table) (h : IsRuled s t) (a : StationRecord) (u : Knowledge) (m : ℕ) → m ≤ 10000 → IsAt t h a
+    set_now : (t : Table) (h : IsRuled s t) (a : StationRecord) (u : Knowledge) (m : ℕ) → 1 ≤ m → m ≤ 10000 → IsAt t h a
         → AreStations s (put h.account.station a.number (record a { limits = m ∷ a.limits; knows = u })) h.account.canceller h.account.closer (world_of s (SetLimit m ∷ h.account.schedule))
-    set_now t h a u m low k = record {
+    set_now t h a u m positive low k = record {
       number = λ j. put_field s (λ x. x.number) g.station n b (ap (λ (x : StationRecord). x.number) (sym k.record_is)) j ∙ was.number j;
       cancelled = λ r e. let c = was.cancelled r e in (c.0, ap (λ x. has x r) (cancelled (g.canceller r)) ∙ c.1);
       canceller_is = λ j r e. was.canceller_is j r (ap (λ x. has x r) (sym (cancelled j)) ∙ e);
@@ -332,6 +334,7 @@ module _ (s : Shape) where
       largest = ⊎_elim (λ (e : max w.largest m ≡ w.largest). subst (WasSet s station) (sym e) (was_set s g.station station w.largest (still w.largest) was.largest)) (λ (e : max w.largest m ≡ m). subst (WasSet s station) (sym e) set_here) (max_or w.largest m);
       is_largest = λ j x e. ⊎_elim (λ (y : x ≡ m). let z = le-max_right w.largest m in omega arith) (λ (y : has (g.station j).limits x ≡ true). let z = le-max_left w.largest m in let v = was.is_largest j x y in omega arith) (earlier j x e);
       opening = (let z = le-max_left w.largest m in let v = was.opening in omega arith);
+      some_limit = positive;
       limit_small = low;
       largest_small = ⊎_elim (λ (e : max w.largest m ≡ w.largest). let v = was.largest_small in omega arith) (λ (e : max w.largest m ≡ m). omega arith) (max_or w.largest m);
     }
@@ -387,9 +390,9 @@ module _ (s : Shape) where
         × ((carried_after [] c ≡ []) × ((o : StationRecord) × (v ≡ Station o ∷ []) × ((l : Level) × (n ≡ packed l) × MatchBool b (Sets a l (limit_in new) o) (LooksFrom a l o))))
 
     -- an exchange that sets the limit
-    pub sets : (id slots : ℕ) (a : StationRecord) (expected new m : ℕ) (l : Level) → expected ≡ packed l → IsInRange l → m ≤ 10000 → new ≡ packed (record l { limit = m })
+    pub sets : (id slots : ℕ) (a : StationRecord) (expected new m : ℕ) (l : Level) → expected ≡ packed l → IsInRange l → 1 ≤ m → m ≤ 10000 → new ≡ packed (record l { limit = m })
         → Allows (IsRuled s) slots id (Station a ∷ [], []) 0 (λ n. either (n == expected) new n) (ByStation (λ o n b. SetsAt o expected new n b) (Station a ∷ [], []))
-    sets id slots a expected new m l said in_range low is_new t h deep at small =
+    sets id slots a expected new m l said in_range positive low is_new t h deep at small =
         dite (ℕ_discrete n expected) (λ e. subst (Setting expected new id a t n) (sym (eq-eqb n expected e)) (hit e)) (λ ne. subst (Setting expected new id a t n) (sym (ne_eqb n expected ne)) miss)
       where
         n : ℕ
@@ -409,7 +412,7 @@ module _ (s : Shape) where
             let own : List Move = SetLimit m ∷ [] in
             let later = one_more s (SetLimit m) ms tt in
             let w' = world_of s (own ++ ms) in
-            let read : limit_in new ≡ m = ap limit_in is_new ∙ with_limit l.closed l.waiters l.seats m (is_small (record l { limit = m }) (record { waiters = in_range.waiters; seats = in_range.seats; limit = low })) in
+            let read : limit_in new ≡ m = ap limit_in is_new ∙ with_limit l.closed l.waiters l.seats m (is_small (record l { limit = m }) (record { waiters = in_range.waiters; seats = in_range.seats; some_limit = positive; limit = low })) in
             let u : Knowledge = saw_level a.knows l (own ++ ms) in
             let b : StationRecord = record a { limits = m ∷ a.limits; knows = u } in
             let level : new ≡ packed (level_of s.widths w') = is_new ∙ (λ i. packed (record { closed = (sym now i).closed; waiters = (sym now i).waiters; seats = (sym now i).seats; limit = m })) in (
@@ -420,7 +423,7 @@ module _ (s : Shape) where
                   (λ j i. request_elsewhere s j (g.pass j) (service_of g.desk.services j) w w' (record { stage = refl; decision = refl; saw = refl }) (λ x. x) (h.sound.request j i))
                   (packs_level s t.words w w' new level (λ _. refl) h.packs) refl
                   (level_known s a.knows ms own k.known later l now)
-                  (set_now t h a u m low k),
+                  (set_now t h a u m positive low k),
               (
                 refl,
                 (

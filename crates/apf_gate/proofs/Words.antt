@@ -133,3 +133,8 @@ less_waiters false w s n a = omega arith
 pub more_waiters : (c : Bool) (w s n : ℕ) → packed (level c (w + 1) s n) ≡ packed (level c w s n) + 1048576
 more_waiters true w s n = omega arith
 more_waiters false w s n = omega arith
+
+-- a word with a limit is larger than a place of the waiters
+pub at_least : (c : Bool) (w s n x : ℕ) → 1 ≤ n → x ≡ packed (level c w s n) → 1048576 ≤ x
+at_least true w s n x some is = omega arith
+at_least false w s n x some is = omega arith

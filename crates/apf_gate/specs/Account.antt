@@ -121,6 +121,7 @@ pub record AreStations (s : Shape) (station : ℕ → StationRecord) (canceller 
   pub largest : WasSet s station w.largest
   pub is_largest : (k n : ℕ) → has (station k).limits n ≡ true → n ≤ w.largest
   pub opening : s.limit ≤ w.largest
+  pub some_limit : 1 ≤ w.limit
   pub limit_small : w.limit ≤ 10000
   pub largest_small : w.largest ≤ 10000
 

@@ -19,10 +19,12 @@ use Rattle.apf_gate.specs.declared.answers.Close.{Close}
 use Rattle.apf_gate.specs.declared.answers.Close.TheVariants as closed
 use Rattle.apf_gate.specs.declared.answers.TrySetLimit.{TrySetLimit}
 use Rattle.apf_gate.specs.declared.answers.TrySetLimit.TheVariants as set
+use Rattle.apf_gate.specs.declared.answers.TryGrant.{TryGrant}
+use Rattle.apf_gate.specs.declared.answers.TryGrant.TheVariants as granted
 use Rattle.apf_gate.specs.declared.answers.TryTake.{TryTake}
 use Rattle.apf_gate.specs.declared.answers.TryTake.TheVariants as tried
 use Rattle.apf_gate.specs.Records.{opening_of, world_of, told_own}
-use Rattle.apf_gate.specs.Steps.{own_width, Looks, Takes, Writes, Loses, service, LooksFrom, Reads, Cancels, Closes, Sets}
+use Rattle.apf_gate.specs.Steps.{own_width, Looks, Takes, Writes, Loses, service, Views, Sees, Grants, Settles, LooksFrom, Reads, Cancels, Closes, Sets}
 use Rattle.atomic_table.specs.Seated.{TableId}
 
 -- which gate it is: its table, and the shape that it was opened with
@@ -30,10 +32,14 @@ pub record GateId : Type 0 where
   pub table : TableId
   pub shape : Shape
 
--- the token of a request: its gate, and what it knows
+-- the token of a request: its table, and what it knows
 pub record PassToken : Type 0 where
-  pub gate : GateId
+  pub table : TableId
   pub pass : PassRecord
+
+-- the gate that the token is of
+abbrev pub pass_gate : PassToken → GateId
+pass_gate t = record { table = t.table; shape = t.pass.knows.shape }
 
 -- one load, and where it showed room an exchange
 abbrev pub TriesToTake : PassRecord → TryTake → PassRecord → Type 0
@@ -60,10 +66,14 @@ MayRelease p = ((p.state ≡ Took) × (told_own p ≢ None)) ⊎ ((p.state ≡ I
 abbrev pub Decides : PassRecord → Decision → Decision → PassRecord → Type 0
 Decides p d answer q = (Writes p d q × (answer ≡ d)) ⊎ Loses p d (Some answer) q
 
--- the token of a Station: its gate, and what it knows
+-- the token of a Station: its table, and what it knows
 pub record StationToken : Type 0 where
-  pub gate : GateId
+  pub table : TableId
   pub station : StationRecord
+
+-- the gate that the token is of
+abbrev pub station_gate : StationToken → GateId
+station_gate t = record { table = t.table; shape = t.station.knows.shape }
 
 -- one exchange: cancelled was written, or another decision was found, and that is the answer
 abbrev pub CancelsTo : StationRecord → ℕ → Decision → StationRecord → Type 0
@@ -88,3 +98,22 @@ abbrev pub MayRefuse : DeskRecord → Decision → Type 0
 MayRefuse d QueueFull = Unit {0}
 MayRefuse d Closed = d.knows.saw_closed ≡ true
 MayRefuse d _ = ⊥
+
+-- the Desk's token: its table, and what it knows
+pub record DeskToken : Type 0 where
+  pub table : TableId
+  pub desk : DeskRecord
+
+-- the gate that the token is of
+abbrev pub desk_gate : DeskToken → GateId
+desk_gate t = record { table = t.table; shape = t.desk.knows.shape }
+
+-- one load, and where it showed room an exchange
+abbrev pub TriesToGrant : DeskRecord → ℕ → TryGrant → DeskRecord → Type 0
+TriesToGrant d r granted.NoRoom e = (l : Level) × Views d l e × (¬ Fits l.seats l.limit (width d.knows.shape.widths r))
+TriesToGrant d r granted.Granted e = (l : Level) × Fits l.seats l.limit (width d.knows.shape.widths r) × ((between : DeskRecord) × Views d l between × Grants between r l e)
+TriesToGrant d r granted.Raced e = (l other : Level) × (other ≢ l) × ((between : DeskRecord) × Views d l between × Views between other e)
+
+-- one exchange: execute was written of the request that the Desk held, or another decision was found, and that is the answer
+abbrev pub SettlesTo : DeskRecord → Decision → DeskRecord → Type 0
+SettlesTo d answer e = (r : ℕ) × (d.held ≡ Some r) × ((Settles d r e × (answer ≡ Execute)) ⊎ Sees d r (Some answer) e)

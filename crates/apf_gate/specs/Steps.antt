@@ -28,6 +28,7 @@ use Rattle.atomic_table.specs.Table.{Me}
 pub record IsInRange (l : Level) : Type 0 where
   pub waiters : l.waiters ≤ 10000
   pub seats : l.seats ≤ 20000
+  pub some_limit : 1 ≤ l.limit
   pub limit : l.limit ≤ 10000
 
 -- A step on the level word: between two steps of the token others made these, and then the word said this. The token's own step made these

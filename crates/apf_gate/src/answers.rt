@@ -32,3 +32,14 @@ pub enum TrySetLimit {
     /// The level word changed before the exchange.
     Raced,
 }
+
+/// What became of an attempt to grant.
+#[derive(Clone, Copy, Debug, PartialEq, Eq)]
+pub enum TryGrant {
+    /// The Desk holds the request's seats.
+    Granted,
+    /// The request does not fit.
+    NoRoom,
+    /// The level word changed before the exchange.
+    Raced,
+}

@@ -2,6 +2,7 @@
 #![tactic(auto)]
 
 mod answers;
+mod desk;
 mod gate;
 mod pass;
 mod plays;
@@ -9,7 +10,8 @@ mod record;
 mod rule;
 mod station;
 
-pub use answers::{Close, TrySetLimit, TryTake};
+pub use answers::{Close, TryGrant, TrySetLimit, TryTake};
+pub use desk::Desk;
 pub use gate::Gate;
 pub use pass::Pass;
 pub use station::Station;

@@ -8,7 +8,7 @@ ghost use Rattle.apf_model.specs.declared.response.Response.TheVariants.{Reject}
 ghost use Rattle.apf_gate.specs.declared.record.State.TheVariants.{Fresh, InLine, Over};
 ghost use Rattle.apf_gate.specs.Records.{told_own};
 ghost use Rattle.apf_gate.specs.Steps.{IsInRange, own_width, deciding_state, Looks, Takes, Asks, Hears, Releases};
-ghost use Rattle.apf_gate.specs.Calls.{TriesToTake, MayWrite, MayRelease, Decides};
+ghost use Rattle.apf_gate.specs.Calls.{pass_gate, TriesToTake, MayWrite, MayRelease, Decides};
 
 use crate::answers::TryTake;
 use crate::gate::{Gate, decision_in, level_in};
@@ -34,7 +34,7 @@ impl Model for Pass {
     ghost Value = { PassToken };
 
     ghost view = { λ p. record {
-      gate = record { table = p.seat.table_id; shape = (pass_of p.seat.me.0).knows.shape };
+      table = p.seat.table_id;
       pass = pass_of p.seat.me.0;
     } };
 
@@ -55,9 +55,9 @@ impl<A: Allocator> Gate<A> {
     ///
     /// It makes one load of the level word, and an exchange where that showed room.
     pub fn try_take(&self, pass: &mut Pass) -> TryTake
-        requires own { pass.old.gate ≡ self.now }
+        requires own { pass_gate pass.old ≡ self.now }
         requires fresh { pass.old.pass.state ≡ Fresh }
-        ensures gate { pass.new.gate ≡ pass.old.gate }
+        ensures gate { pass_gate pass.new ≡ pass_gate pass.old }
         ensures answer { TriesToTake pass.old.pass result pass.new.pass }
         ensures stays_closed { pass.old.pass.knows.saw_closed ≡ true → result ≡ TryTake.Closed }
         ensures no_queues { self.now.shape.response ≡ Reject → result ≢ TryTake.Waiters }
@@ -81,8 +81,8 @@ impl<A: Allocator> Gate<A> {
     /// Asks for what others decide: a fresh Pass is in line afterwards. It makes one load of the request's
     /// decision word.
     pub fn ask(&self, pass: &mut Pass)
-        requires own { pass.old.gate ≡ self.now }
-        ensures gate { pass.new.gate ≡ pass.old.gate }
+        requires own { pass_gate pass.old ≡ self.now }
+        ensures gate { pass_gate pass.new ≡ pass_gate pass.old }
         ensures answer { (d : Option Decision) × Asks pass.old.pass d pass.new.pass }
         ensures in_line { pass.old.pass.state ≡ Fresh → pass.new.pass.state ≡ InLine }
     {
@@ -92,8 +92,8 @@ impl<A: Allocator> Gate<A> {
 
     /// Reads the request's decision, by one load of its word.
     pub fn told(&self, pass: &mut Pass) -> Option<Decision>
-        requires own { pass.old.gate ≡ self.now }
-        ensures gate { pass.new.gate ≡ pass.old.gate }
+        requires own { pass_gate pass.old ≡ self.now }
+        ensures gate { pass_gate pass.new ≡ pass_gate pass.old }
         ensures answer { Hears pass.old.pass result pass.new.pass }
         ensures told { result ≢ None → told_own pass.new.pass ≡ result }
         ensures stays { told_own pass.old.pass ≢ None → result ≡ told_own pass.old.pass }
@@ -110,9 +110,9 @@ impl<A: Allocator> Gate<A> {
     /// closed, and `ConcurrencyLimit` for one whose last step found no room on a level without queues:
     /// after these it is over.
     pub fn decide(&self, pass: &mut Pass, decision: Decision) -> Decision
-        requires own { pass.old.gate ≡ self.now }
+        requires own { pass_gate pass.old ≡ self.now }
         requires may { MayWrite pass.old.pass decision }
-        ensures gate { pass.new.gate ≡ pass.old.gate }
+        ensures gate { pass_gate pass.new ≡ pass_gate pass.old }
         ensures answer { Decides pass.old.pass decision result pass.new.pass }
         ensures told { told_own pass.new.pass ≡ Some result }
         ensures stays { told_own pass.old.pass ≢ None → Some result ≡ told_own pass.old.pass }
@@ -135,9 +135,9 @@ impl<A: Allocator> Gate<A> {
     /// It takes the width from the level word by one step. The seats stand, and the Pass was told its
     /// decision: it took them, or it is in line and was told execute.
     pub fn release(&self, pass: &mut Pass) -> bool
-        requires own { pass.old.gate ≡ self.now }
+        requires own { pass_gate pass.old ≡ self.now }
         requires stands { MayRelease pass.old.pass }
-        ensures gate { pass.new.gate ≡ pass.old.gate }
+        ensures gate { pass_gate pass.new ≡ pass_gate pass.old }
         ensures answer { (l : Level) × Releases pass.old.pass l pass.new.pass × (result ≡ not (l.waiters == 0)) }
         ensures state { pass.new.pass.state ≡ Over }
         ensures told { told_own pass.new.pass ≡ told_own pass.old.pass }
@@ -152,9 +152,9 @@ impl<A: Allocator> Gate<A> {
 
     // One load of the level word.
     fn load_as_pass(&self, pass: &mut Pass) -> LevelWord
-        requires own { pass.old.gate ≡ self.now }
+        requires own { pass_gate pass.old ≡ self.now }
         requires fresh { pass.old.pass.state ≡ Fresh }
-        ensures gate { pass.new.gate ≡ pass.old.gate }
+        ensures gate { pass_gate pass.new ≡ pass_gate pass.old }
         ensures same { (pass.new.pass.number ≡ pass.old.pass.number) × (pass.new.pass.state ≡ Fresh) × (pass.new.pass.knows.shape ≡ pass.old.pass.knows.shape) }
         ensures looked { Looks pass.old.pass result pass.new.pass }
         ensures no_queues { self.now.shape.response ≡ Reject → result.waiters ≡ 0 }
@@ -165,14 +165,14 @@ impl<A: Allocator> Gate<A> {
     // One exchange, of the word that says this for one with the request's seats. Says whether it was
     // made.
     fn exchange_for_seats(&self, pass: &mut Pass, level: LevelWord) -> bool
-        requires own { pass.old.gate ≡ self.now }
+        requires own { pass_gate pass.old ≡ self.now }
         requires fresh { pass.old.pass.state ≡ Fresh }
         requires in_range { IsInRange level }
         requires no_queues { self.now.shape.response ≡ Reject → level.waiters ≡ 0 }
         requires open_ { level.closed ≡ false }
         requires nobody { level.waiters ≡ 0 }
         requires room { Fits level.seats level.limit (own_width pass.old.pass) }
-        ensures gate { pass.new.gate ≡ pass.old.gate }
+        ensures gate { pass_gate pass.new ≡ pass_gate pass.old }
         ensures took { MatchBool result
             (Takes pass.old.pass level pass.new.pass)
             ((other : Level) × (other ≢ level) × Looks pass.old.pass other pass.new.pass) }

@@ -3,6 +3,7 @@
 use crate::record::Record;
 use atomic_table::{Join, Play, Split};
 use std::collections::LinkedList;
+use std::marker::{Brand, PhantomData};
 
 /// A Pass loads the level word.
 pub(crate) struct Looking;
@@ -101,6 +102,71 @@ impl Play<(), LinkedList<Record>> for Setting {
     ghost use Rattle.apf_gate.specs.Steps.{ByStation, SetsAt};
 
     ghost then = { λ s. ByStation (λ t n b. SetsAt t s.first s.second n b) };
+}
+
+/// Names the request that a step of the Desk is about, where its word does not. A call picks it.
+pub(crate) trait Chosen {
+    ghost use Rattle.std.specs.Prelude.{ℕ};
+
+    ghost request: { ℕ };
+}
+
+impl Chosen for Brand {
+    ghost request = { 0 };
+}
+
+/// The Desk loads the level word.
+pub(crate) struct Viewing;
+
+impl Play<(), LinkedList<Record>> for Viewing {
+    ghost use Rattle.apf_gate.specs.Steps.{ByDesk, ViewsAt};
+
+    ghost then = { λ _. ByDesk ViewsAt };
+}
+
+/// The Desk loads a decision word.
+pub(crate) struct Seeing;
+
+impl Play<(), LinkedList<Record>> for Seeing {
+    ghost use Rattle.apf_gate.specs.Steps.{ByDesk, SeesAt};
+
+    ghost then = { λ s. ByDesk (λ d n e. SeesAt d s.word n e) };
+}
+
+/// The Desk exchanges the level word for one with a request granted.
+pub(crate) struct Granting<J: Chosen>(PhantomData<J>);
+
+impl<J: Chosen> Play<(), LinkedList<Record>> for Granting<J> {
+    ghost use Rattle.apf_gate.specs.Steps.{ByDesk, GrantsAt};
+
+    ghost then = { λ s. ByDesk (λ d n e. GrantsAt d J.request s.first n e) };
+}
+
+/// The Desk exchanges a decision word, where it is 0, for the code of execute.
+pub(crate) struct Settling;
+
+impl Play<(), LinkedList<Record>> for Settling {
+    ghost use Rattle.apf_gate.specs.Steps.{ByDesk, SettlesAt};
+
+    ghost then = { λ s. ByDesk (λ d n e. SettlesAt d s.word n e) };
+}
+
+/// The Desk gives the seats back that it holds.
+pub(crate) struct GivingBack<J: Chosen>(PhantomData<J>);
+
+impl<J: Chosen> Play<(), LinkedList<Record>> for GivingBack<J> {
+    ghost use Rattle.apf_gate.specs.Steps.{ByDesk, GivesBackAt};
+
+    ghost then = { λ _. ByDesk (λ d n e. GivesBackAt d J.request n e) };
+}
+
+/// A cancelled request leaves the line.
+pub(crate) struct Leaving<J: Chosen>(PhantomData<J>);
+
+impl<J: Chosen> Play<(), LinkedList<Record>> for Leaving<J> {
+    ghost use Rattle.apf_gate.specs.Steps.{ByDesk, LeavesAt};
+
+    ghost then = { λ _. ByDesk (λ d n e. LeavesAt d J.request n e) };
 }
 
 /// The first token's part of a seat goes to a seat of its own, or is joined in front of another's.

@@ -5,7 +5,7 @@ ghost use Rattle.apf_words.specs.Level.{Level};
 ghost use Rattle.apf_words.specs.declared.decision.Decision.TheVariants.{Cancelled};
 ghost use Rattle.apf_gate.specs.Records.{told_of};
 ghost use Rattle.apf_gate.specs.Steps.{IsInRange, OfDecision, LooksFrom, Reads, Cancels, Closes, Sets};
-ghost use Rattle.apf_gate.specs.Calls.{CancelsTo, ClosesTo, TriesToSet};
+ghost use Rattle.apf_gate.specs.Calls.{station_gate, CancelsTo, ClosesTo, TriesToSet};
 
 use crate::answers::{Close, TrySetLimit};
 use crate::gate::{Gate, decision_in, level_in};
@@ -36,7 +36,7 @@ impl Model for Station {
     ghost Value = { StationToken };
 
     ghost view = { λ t. record {
-      gate = record { table = t.seat.table_id; shape = (station_of t.seat.me.0).knows.shape };
+      table = t.seat.table_id;
       station = station_of t.seat.me.0;
     } };
 
@@ -46,8 +46,8 @@ impl Model for Station {
 impl<A: Allocator> Gate<A> {
     /// Reads the level word, by one load.
     pub fn look(&self, station: &mut Station) -> LevelWord
-        requires own { station.old.gate ≡ self.now }
-        ensures gate { station.new.gate ≡ station.old.gate }
+        requires own { station_gate station.old ≡ self.now }
+        ensures gate { station_gate station.new ≡ station_gate station.old }
         ensures answer { LooksFrom station.old.station result station.new.station }
         ensures in_range { IsInRange result }
         ensures stays_closed { station.old.station.knows.saw_closed ≡ true → result.closed ≡ true }
@@ -57,9 +57,9 @@ impl<A: Allocator> Gate<A> {
 
     /// Reads a request's decision, by one load of its word.
     pub fn read(&self, station: &mut Station, request: u32) -> Option<Decision>
-        requires own { station.old.gate ≡ self.now }
+        requires own { station_gate station.old ≡ self.now }
         requires is_request { request < length self.now.shape.widths }
-        ensures gate { station.new.gate ≡ station.old.gate }
+        ensures gate { station_gate station.new ≡ station_gate station.old }
         ensures answer { Reads station.old.station request result station.new.station }
         ensures told { result ≢ None → told_of station.new.station.knows.told request ≡ result }
         ensures stays { told_of station.old.station.knows.told request ≢ None → result ≡ told_of station.old.station.knows.told request }
@@ -70,9 +70,9 @@ impl<A: Allocator> Gate<A> {
     /// Cancels a request, if it is undecided. Answers its decision. It makes one exchange of the request's
     /// decision word.
     pub fn cancel(&self, station: &mut Station, request: u32) -> Decision
-        requires own { station.old.gate ≡ self.now }
+        requires own { station_gate station.old ≡ self.now }
         requires is_request { request < length self.now.shape.widths }
-        ensures gate { station.new.gate ≡ station.old.gate }
+        ensures gate { station_gate station.new ≡ station_gate station.old }
         ensures answer { CancelsTo station.old.station request result station.new.station }
         ensures told { told_of station.new.station.knows.told request ≡ Some result }
         ensures stays { told_of station.old.station.knows.told request ≢ None → Some result ≡ told_of station.old.station.knows.told request }
@@ -85,8 +85,8 @@ impl<A: Allocator> Gate<A> {
 
     /// Closes the level, by one step on the level word. Says whether this close was the first.
     pub fn close(&self, station: &mut Station) -> Close
-        requires own { station.old.gate ≡ self.now }
-        ensures gate { station.new.gate ≡ station.old.gate }
+        requires own { station_gate station.old ≡ self.now }
+        ensures gate { station_gate station.new ≡ station_gate station.old }
         ensures answer { ClosesTo station.old.station result station.new.station }
         ensures closed { station.new.station.knows.saw_closed ≡ true }
         ensures stays_closed { station.old.station.knows.saw_closed ≡ true → result ≡ Close.Already }
@@ -104,10 +104,10 @@ impl<A: Allocator> Gate<A> {
     /// Sets the limit, of 1 to 10,000 seats. It makes one load of the level word and one exchange, and
     /// tells the old limit and whether requests waited. `Raced` if the word changed in between.
     pub fn try_set_limit(&self, station: &mut Station, limit: u32) -> TrySetLimit
-        requires own { station.old.gate ≡ self.now }
+        requires own { station_gate station.old ≡ self.now }
         requires some_limit { 1 ≤ limit }
         requires small_limit { limit ≤ 10000 }
-        ensures gate { station.new.gate ≡ station.old.gate }
+        ensures gate { station_gate station.new ≡ station_gate station.old }
         ensures answer { TriesToSet station.old.station limit result station.new.station }
     {
         let level = self.look(station);
@@ -119,9 +119,9 @@ impl<A: Allocator> Gate<A> {
 
     // One load of a decision word.
     fn load_word(&self, station: &mut Station, request: u32) -> u64
-        requires own { station.old.gate ≡ self.now }
+        requires own { station_gate station.old ≡ self.now }
         requires is_request { request < length self.now.shape.widths }
-        ensures gate { station.new.gate ≡ station.old.gate }
+        ensures gate { station_gate station.new ≡ station_gate station.old }
         ensures found { OfDecision (λ d. Reads station.old.station request d station.new.station) result }
     {
         let word = request as usize + 1;
@@ -130,9 +130,9 @@ impl<A: Allocator> Gate<A> {
 
     // One exchange of a decision word, for the code of cancelled where it is 0.
     fn exchange_word(&self, station: &mut Station, request: u32) -> u64
-        requires own { station.old.gate ≡ self.now }
+        requires own { station_gate station.old ≡ self.now }
         requires is_request { request < length self.now.shape.widths }
-        ensures gate { station.new.gate ≡ station.old.gate }
+        ensures gate { station_gate station.new ≡ station_gate station.old }
         ensures found { OfDecision (λ d. MatchBool (result == 0) (Cancels station.old.station request station.new.station) (Reads station.old.station request d station.new.station)) result }
     {
         let word = request as usize + 1;
@@ -143,10 +143,11 @@ impl<A: Allocator> Gate<A> {
 
     // One exchange, of the word that says this for one with the limit. Says whether it was made.
     fn exchange_limit(&self, station: &mut Station, level: LevelWord, limit: u32) -> bool
-        requires own { station.old.gate ≡ self.now }
+        requires own { station_gate station.old ≡ self.now }
         requires in_range { IsInRange level }
+        requires some_limit { 1 ≤ limit }
         requires small_limit { limit ≤ 10000 }
-        ensures gate { station.new.gate ≡ station.old.gate }
+        ensures gate { station_gate station.new ≡ station_gate station.old }
         ensures set { MatchBool result
             (Sets station.old.station level limit station.new.station)
             ((other : Level) × (other ≢ level) × LooksFrom station.old.station other station.new.station) }

@@ -16,7 +16,7 @@ compare_exchange-found-requires g c =
     let l = c.args.level in
     let fresh = subst (λ (t : PassToken). t.pass.state ≡ Fresh) (sym c.pass.view_is) c.requires.fresh in
     let room = subst (λ (t : PassToken). Fits l.seats l.limit (own_width t.pass)) (sym c.pass.view_is) c.requires.room in
-    let queues = λ (e : (pass_of c.pass.inside.seat.me.0).knows.shape.response ≡ Reject). c.requires.no_queues (ap (λ (x : GateId). x.shape.response) (sym c.requires.own) ∙ (ap (λ (t : PassToken). t.gate.shape.response) (sym c.pass.view_is) ∙ e)) in
+    let queues = λ (e : (pass_of c.pass.inside.seat.me.0).knows.shape.response ≡ Reject). c.requires.no_queues (ap (λ (x : GateId). x.shape.response) (sym c.requires.own) ∙ (ap (λ (t : PassToken). t.pass.knows.shape.response) (sym c.pass.view_is) ∙ e)) in
     (search rules, omega (arith, i.has_words), rw (i.same_key, m.alone) (takes _ i.shape i.laws _ _ _ c.pack-word.result _ l fresh c.pack-word.ensures.value c.requires.in_range queues c.requires.open_ c.requires.nobody room (ap (λ k. c.pack-word.result + k) (c.from.ensures ∙ m.same_width))))
 
 pub returns-clause-took : goal.returns-clause-took

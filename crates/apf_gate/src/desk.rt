@@ -1,0 +1,223 @@
+//! The token of whoever holds the level's lock, and its steps.
+
+ghost use Rattle.std.specs.Prelude.{◌≡◌, ◌≢◌, ◌⊎◌, ℕ, ◌<◌, ◌≤◌, ◌==◌, length, not, true, false, MatchBool, Option, Some, None};
+ghost use Rattle.apf_words.specs.Fits.{Fits};
+ghost use Rattle.apf_words.specs.Level.{Level};
+ghost use Rattle.apf_words.specs.declared.decision.Decision.TheVariants.{Execute, Cancelled};
+ghost use Rattle.apf_model.specs.World.{width};
+ghost use Rattle.apf_gate.specs.declared.record.Service.TheVariants.{Waiting};
+ghost use Rattle.apf_gate.specs.Records.{told_of};
+ghost use Rattle.apf_gate.specs.Steps.{IsInRange, OfDecision, service, Views, Sees, Grants, Settles, GivesBack, Leaves};
+ghost use Rattle.apf_gate.specs.Calls.{desk_gate, TriesToGrant, SettlesTo};
+
+use crate::answers::TryGrant;
+use crate::gate::{Gate, decision_in, level_in};
+use crate::plays::{Chosen, GivingBack, Granting, Leaving, Seeing, Settling, Viewing};
+use crate::rule::Place;
+use apf_words::{Decision, LevelWord, fits};
+use std::alloc::Allocator;
+use std::marker::{Brand, Model};
+
+/// The place of the waiters in a level word.
+const WAITER: u64 = 1 << 20;
+
+/// The one token that enters, grants and refuses: of whoever holds the level's lock.
+#[derive(Drop)]
+pub struct Desk {
+    pub(crate) seat: Place,
+    pub(crate) held: Option<u32>,
+}
+
+impl Model for Desk {
+    ghost use Rattle.apf_gate.specs.Calls.{DeskToken};
+    ghost use Rattle.apf_gate.specs.Rule.{desk_of};
+    ghost use Rattle.apf_gate.specs.Passes.{IsDesk};
+
+    ghost Value = { DeskToken };
+
+    ghost view = { λ d. record {
+      table = d.seat.table_id;
+      desk = desk_of d.seat.me.0;
+    } };
+
+    ghost invariant = { λ d. IsDesk d.seat.me d.held };
+}
+
+impl<A: Allocator> Gate<A> {
+    /// Reads the level word, by one load.
+    pub fn view(&self, desk: &mut Desk) -> LevelWord
+        requires own { desk_gate desk.old ≡ self.now }
+        ensures gate { desk_gate desk.new ≡ desk_gate desk.old }
+        ensures answer { Views desk.old.desk result desk.new.desk }
+        ensures in_range { IsInRange result }
+        ensures stays_closed { desk.old.desk.knows.saw_closed ≡ true → result.closed ≡ true }
+    {
+        level_in(self.board.shared.load::<Viewing>(&mut desk.seat, 0))
+    }
+
+    /// Reads a request's decision, by one load of its word.
+    pub fn seen(&self, desk: &mut Desk, request: u32) -> Option<Decision>
+        requires own { desk_gate desk.old ≡ self.now }
+        requires is_request { request < length self.now.shape.widths }
+        ensures gate { desk_gate desk.new ≡ desk_gate desk.old }
+        ensures answer { Sees desk.old.desk request result desk.new.desk }
+        ensures told { result ≢ None → told_of desk.new.desk.knows.told request ≡ result }
+        ensures stays { told_of desk.old.desk.knows.told request ≢ None → result ≡ told_of desk.old.desk.knows.told request }
+    {
+        decision_in(self.load_seen(desk, request))
+    }
+
+    /// Grants a waiting request its seats, where they fit: the Desk holds them then. It makes one load of
+    /// the level word, and an exchange where that showed room.
+    pub fn try_grant(&self, desk: &mut Desk, request: u32) -> TryGrant
+        requires own { desk_gate desk.old ≡ self.now }
+        requires is_request { request < length self.now.shape.widths }
+        requires waits { service desk.old.desk request ≡ Waiting }
+        requires holds_none { desk.old.desk.held ≡ None }
+        ensures gate { desk_gate desk.new ≡ desk_gate desk.old }
+        ensures answer { TriesToGrant desk.old.desk request result desk.new.desk }
+    {
+        let level = self.view(desk);
+        let width = self.gauge.widths[request as usize];
+        if !fits(level.seats(), level.limit(), width) {
+            return TryGrant::NoRoom;
+        }
+        if !self.exchange_grant::<Brand>(desk, level, request) {
+            return TryGrant::Raced;
+        }
+        TryGrant::Granted
+    }
+
+    /// Writes execute of the request whose seats the Desk holds, unless a decision is written. Answers the
+    /// one that is written then: with execute the Desk holds nothing any more. It makes one exchange.
+    pub fn settle(&self, desk: &mut Desk) -> Decision
+        requires own { desk_gate desk.old ≡ self.now }
+        requires holds { desk.old.desk.held ≢ None }
+        ensures gate { desk_gate desk.new ≡ desk_gate desk.old }
+        ensures answer { SettlesTo desk.old.desk result desk.new.desk }
+    {
+        let Some(request) = desk.held else {
+            unreachable!()
+        };
+        match decision_in(self.exchange_settled(desk, request)) {
+            None => Decision::Execute,
+            Some(decision) => decision,
+        }
+    }
+
+    /// Gives back the seats that the Desk holds of a request that was decided otherwise. It takes the width
+    /// from the level word by one step.
+    pub fn give_back(&self, desk: &mut Desk)
+        requires own { desk_gate desk.old ≡ self.now }
+        requires holds { desk.old.desk.held ≢ None }
+        requires lost { (r : ℕ) → desk.old.desk.held ≡ Some r → told_of desk.old.desk.knows.told r ≢ None }
+        ensures gate { desk_gate desk.new ≡ desk_gate desk.old }
+        ensures answer { (r : ℕ) × (desk.old.desk.held ≡ Some r) × ((l : Level) × GivesBack desk.old.desk r l desk.new.desk) }
+        ensures holds_none { desk.new.desk.held ≡ None }
+    {
+        let Some(request) = desk.held else {
+            unreachable!()
+        };
+        self.give_back_of::<Brand>(desk, request);
+    }
+
+    /// Takes a waiting request that was seen cancelled out of the count of those that wait, by one step on
+    /// the level word.
+    pub fn leave(&self, desk: &mut Desk, request: u32)
+        requires own { desk_gate desk.old ≡ self.now }
+        requires is_request { request < length self.now.shape.widths }
+        requires waits { service desk.old.desk request ≡ Waiting }
+        requires seen_cancelled { told_of desk.old.desk.knows.told request ≡ Some Cancelled }
+        ensures gate { desk_gate desk.new ≡ desk_gate desk.old }
+        ensures answer { (l : Level) × Leaves desk.old.desk request l desk.new.desk }
+    {
+        self.leave_of::<Brand>(desk, request);
+    }
+
+    // One load of a decision word.
+    fn load_seen(&self, desk: &mut Desk, request: u32) -> u64
+        requires own { desk_gate desk.old ≡ self.now }
+        requires is_request { request < length self.now.shape.widths }
+        ensures gate { desk_gate desk.new ≡ desk_gate desk.old }
+        ensures found { OfDecision (λ x. Sees desk.old.desk request x desk.new.desk) result }
+    {
+        let word = request as usize + 1;
+        self.board.shared.load::<Seeing>(&mut desk.seat, word)
+    }
+
+    // One exchange, of the word that says this for one with the request granted. Says whether it was made.
+    fn exchange_grant<J: Chosen>(&self, desk: &mut Desk, level: LevelWord, request: u32) -> bool
+        requires own { desk_gate desk.old ≡ self.now }
+        requires is_request { request < length self.now.shape.widths }
+        requires chosen { request ≡ J.request }
+        requires waits { service desk.old.desk request ≡ Waiting }
+        requires holds_none { desk.old.desk.held ≡ None }
+        requires in_range { IsInRange level }
+        requires room { Fits level.seats level.limit (width self.now.shape.widths request) }
+        ensures gate { desk_gate desk.new ≡ desk_gate desk.old }
+        ensures granted { MatchBool result
+            (Grants desk.old.desk request level desk.new.desk)
+            ((other : Level) × (other ≢ level) × Views desk.old.desk other desk.new.desk) }
+    {
+        let word = level.pack();
+        let width = u64::from(self.gauge.widths[request as usize]);
+        let new = word - WAITER + width;
+        let found = self
+            .board
+            .shared
+            .compare_exchange::<Granting<J>>(&mut desk.seat, 0, word, new);
+        if found != word {
+            return false;
+        }
+        desk.held = Some(request);
+        true
+    }
+
+    // One exchange of the decision word of the request that is held, for the code of execute where it is 0.
+    fn exchange_settled(&self, desk: &mut Desk, request: u32) -> u64
+        requires own { desk_gate desk.old ≡ self.now }
+        requires holds { desk.old.desk.held ≡ Some request }
+        ensures gate { desk_gate desk.new ≡ desk_gate desk.old }
+        ensures found { OfDecision (λ x. MatchBool (result == 0) (Settles desk.old.desk request desk.new.desk) (Sees desk.old.desk request x desk.new.desk)) result }
+    {
+        let word = request as usize + 1;
+        let found = self
+            .board
+            .shared
+            .compare_exchange::<Settling>(&mut desk.seat, word, 0, 1);
+        if found == 0 {
+            desk.held = None;
+        }
+        found
+    }
+
+    fn give_back_of<J: Chosen>(&self, desk: &mut Desk, request: u32)
+        requires own { desk_gate desk.old ≡ self.now }
+        requires is_request { request < length self.now.shape.widths }
+        requires chosen { request ≡ J.request }
+        requires holds { desk.old.desk.held ≡ Some request }
+        requires lost { told_of desk.old.desk.knows.told request ≢ None }
+        ensures gate { desk_gate desk.new ≡ desk_gate desk.old }
+        ensures answer { (l : Level) × GivesBack desk.old.desk request l desk.new.desk }
+    {
+        let width = u64::from(self.gauge.widths[request as usize]);
+        self.board
+            .shared
+            .fetch_sub::<GivingBack<J>>(&mut desk.seat, 0, width);
+        desk.held = None;
+    }
+
+    fn leave_of<J: Chosen>(&self, desk: &mut Desk, request: u32)
+        requires own { desk_gate desk.old ≡ self.now }
+        requires is_request { request < length self.now.shape.widths }
+        requires chosen { request ≡ J.request }
+        requires waits { service desk.old.desk request ≡ Waiting }
+        requires seen_cancelled { told_of desk.old.desk.knows.told request ≡ Some Cancelled }
+        ensures gate { desk_gate desk.new ≡ desk_gate desk.old }
+        ensures answer { (l : Level) × Leaves desk.old.desk request l desk.new.desk }
+    {
+        self.board
+            .shared
+            .fetch_sub::<Leaving<J>>(&mut desk.seat, 0, WAITER);
+    }
+}

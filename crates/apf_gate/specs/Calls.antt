@@ -19,12 +19,14 @@ use Rattle.apf_gate.specs.declared.answers.Close.{Close}
 use Rattle.apf_gate.specs.declared.answers.Close.TheVariants as closed
 use Rattle.apf_gate.specs.declared.answers.TrySetLimit.{TrySetLimit}
 use Rattle.apf_gate.specs.declared.answers.TrySetLimit.TheVariants as set
+use Rattle.apf_gate.specs.declared.answers.TryEnter.{TryEnter}
+use Rattle.apf_gate.specs.declared.answers.TryEnter.TheVariants as entered
 use Rattle.apf_gate.specs.declared.answers.TryGrant.{TryGrant}
 use Rattle.apf_gate.specs.declared.answers.TryGrant.TheVariants as granted
 use Rattle.apf_gate.specs.declared.answers.TryTake.{TryTake}
 use Rattle.apf_gate.specs.declared.answers.TryTake.TheVariants as tried
 use Rattle.apf_gate.specs.Records.{opening_of, world_of, told_own}
-use Rattle.apf_gate.specs.Steps.{own_width, Looks, Takes, Writes, Loses, service, Views, Sees, Grants, Settles, LooksFrom, Reads, Cancels, Closes, Sets}
+use Rattle.apf_gate.specs.Steps.{own_width, Looks, Takes, Writes, Loses, service, Views, Sees, Grants, Settles, Hands, Enters, Refuses, Spares, LooksFrom, Reads, Cancels, Closes, Sets}
 use Rattle.atomic_table.specs.Seated.{TableId}
 
 -- which gate it is: its table, and the shape that it was opened with
@@ -117,3 +119,13 @@ TriesToGrant d r granted.Raced e = (l other : Level) × (other ≢ l) × ((betwe
 -- one exchange: execute was written of the request that the Desk held, or another decision was found, and that is the answer
 abbrev pub SettlesTo : DeskRecord → Decision → DeskRecord → Type 0
 SettlesTo d answer e = (r : ℕ) × (d.held ≡ Some r) × ((Settles d r e × (answer ≡ Execute)) ⊎ Sees d r (Some answer) e)
+
+-- by the joined token: one load, and where the level was open an exchange
+abbrev pub TriesToEnter : PassRecord → DeskRecord → TryEnter → PassRecord → DeskRecord → Type 0
+TriesToEnter p d entered.Closed q e = (l : Level) × Hands p d l q e × (l.closed ≡ true)
+TriesToEnter p d entered.Entered q e = (l : Level) × (l.closed ≡ false) × ((o : PassRecord) × (c : DeskRecord) × Hands p d l o c × Enters o c l q e)
+TriesToEnter p d entered.Raced q e = (l other : Level) × (other ≢ l) × ((o : PassRecord) × (c : DeskRecord) × Hands p d l o c × Hands o c other q e)
+
+-- by the joined token: one exchange wrote the refusal, or found another decision, and that is the answer
+abbrev pub RefusesTo : PassRecord → DeskRecord → Decision → Decision → PassRecord → DeskRecord → Type 0
+RefusesTo p d x answer q e = (Refuses p d x q e × (answer ≡ x)) ⊎ Spares p d (Some answer) q e

@@ -43,3 +43,14 @@ pub enum TryGrant {
     /// The level word changed before the exchange.
     Raced,
 }
+
+/// What became of an attempt to enter.
+#[derive(Clone, Copy, Debug, PartialEq, Eq)]
+pub enum TryEnter {
+    /// The request waits.
+    Entered,
+    /// The level is closed.
+    Closed,
+    /// The level word changed before the exchange.
+    Raced,
+}

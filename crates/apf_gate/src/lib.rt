@@ -4,13 +4,14 @@
 mod answers;
 mod desk;
 mod gate;
+mod joined;
 mod pass;
 mod plays;
 mod record;
 mod rule;
 mod station;
 
-pub use answers::{Close, TryGrant, TrySetLimit, TryTake};
+pub use answers::{Close, TryEnter, TryGrant, TrySetLimit, TryTake};
 pub use desk::Desk;
 pub use gate::Gate;
 pub use pass::Pass;

@@ -169,6 +169,42 @@ impl<J: Chosen> Play<(), LinkedList<Record>> for Leaving<J> {
     ghost then = { λ _. ByDesk (λ d n e. LeavesAt d J.request n e) };
 }
 
+/// The Desk, with a Pass joined, loads the level word.
+pub(crate) struct Handing;
+
+impl Play<(), LinkedList<Record>> for Handing {
+    ghost use Rattle.apf_gate.specs.Steps.{ByBoth, HandsAt};
+
+    ghost then = { λ _. ByBoth HandsAt };
+}
+
+/// The Desk, with a Pass joined, exchanges the level word for one with one waiter more.
+pub(crate) struct Entering;
+
+impl Play<(), LinkedList<Record>> for Entering {
+    ghost use Rattle.apf_gate.specs.Steps.{ByBoth, EntersAt};
+
+    ghost then = { λ s. ByBoth (λ p d n q e. EntersAt p d s.first n q e) };
+}
+
+/// The Desk, with a Pass joined, exchanges the decision word, where it is 0, for the code of a refusal.
+pub(crate) struct Refusing;
+
+impl Play<(), LinkedList<Record>> for Refusing {
+    ghost use Rattle.apf_gate.specs.Steps.{ByBoth, RefusesAt};
+
+    ghost then = { λ s. ByBoth (λ p d n q e. RefusesAt p d s.second n q e) };
+}
+
+/// The Desk, with a Pass joined, loads the decision word.
+pub(crate) struct Learning;
+
+impl Play<(), LinkedList<Record>> for Learning {
+    ghost use Rattle.apf_gate.specs.Steps.{ByBoth, LearnsAt};
+
+    ghost then = { λ _. ByBoth LearnsAt };
+}
+
 /// The first token's part of a seat goes to a seat of its own, or is joined in front of another's.
 pub(crate) struct First;
 

@@ -13,3 +13,4 @@ pub mod DeskSteps
 pub mod BothSteps
 pub mod Seats
 pub mod Told
+pub mod Opening

@@ -1,5 +1,5 @@
 -- What the calls ask and promise, by the records of their tokens.
-use Rattle.std.specs.Prelude.{◌≡◌, ◌≢◌, ◌⊎◌, ℕ, ◌+◌, ◌<◌, ◌≤◌, ◌==◌, not, Bool, true, false, List, [], ◌∷◌, ◌++◌, length, Option, Some, None}
+use Rattle.std.specs.Prelude.{◌≡◌, ◌≢◌, ◌⊎◌, ℕ, zero, suc, ◌+◌, ◌<◌, ◌≤◌, ◌==◌, not, Bool, true, false, List, [], ◌∷◌, ◌++◌, length, Option, Some, None}
 use Rattle.apf_words.specs.Fits.{Fits}
 use Rattle.apf_words.specs.Level.{Level}
 use Rattle.apf_words.specs.declared.decision.Decision.{Decision}
@@ -15,6 +15,8 @@ use Rattle.apf_gate.specs.declared.record.PassRecord.{PassRecord}
 use Rattle.apf_gate.specs.declared.record.Service.TheVariants.{NotHanded, Handed, Waiting}
 use Rattle.apf_gate.specs.declared.record.DeskRecord.{DeskRecord}
 use Rattle.apf_gate.specs.declared.record.StationRecord.{StationRecord}
+use Rattle.apf_gate.specs.declared.fault.GateFault.{GateFault}
+use Rattle.apf_gate.specs.declared.fault.GateFault.TheVariants as fault
 use Rattle.apf_gate.specs.declared.answers.Close.{Close}
 use Rattle.apf_gate.specs.declared.answers.Close.TheVariants as closed
 use Rattle.apf_gate.specs.declared.answers.TrySetLimit.{TrySetLimit}
@@ -25,7 +27,8 @@ use Rattle.apf_gate.specs.declared.answers.TryGrant.{TryGrant}
 use Rattle.apf_gate.specs.declared.answers.TryGrant.TheVariants as granted
 use Rattle.apf_gate.specs.declared.answers.TryTake.{TryTake}
 use Rattle.apf_gate.specs.declared.answers.TryTake.TheVariants as tried
-use Rattle.apf_gate.specs.Records.{opening_of, world_of, told_own}
+use Rattle.apf_gate.specs.Records.{told_own, new_pass, new_station}
+use Rattle.apf_gate.specs.Gauges.{IsShape}
 use Rattle.apf_gate.specs.Steps.{own_width, Looks, Takes, Writes, Loses, service, Views, Sees, Grants, Settles, Hands, Enters, Refuses, Spares, LooksFrom, Reads, Cancels, Closes, Sets}
 use Rattle.atomic_table.specs.Seated.{TableId}
 
@@ -129,3 +132,23 @@ TriesToEnter p d entered.Raced q e = (l other : Level) × (other ≢ l) × ((o :
 -- by the joined token: one exchange wrote the refusal, or found another decision, and that is the answer
 abbrev pub RefusesTo : PassRecord → DeskRecord → Decision → Decision → PassRecord → DeskRecord → Type 0
 RefusesTo p d x answer q e = (Refuses p d x q e × (answer ≡ x)) ⊎ Spares p d (Some answer) q e
+
+-- the tokens of the first requests, and of the first Stations, as they begin
+abbrev pub new_passes : GateId → ℕ → List PassToken
+new_passes g zero = []
+new_passes g (suc r) = new_passes g r ++ record { table = g.table; pass = new_pass g.shape r } ∷ []
+
+abbrev pub new_stations : GateId → ℕ → List StationToken
+new_stations g zero = []
+new_stations g (suc k) = new_stations g k ++ record { table = g.table; station = new_station g.shape k } ∷ []
+
+-- the width is in range
+abbrev pub IsWidth : ℕ → Type 0
+IsWidth k = (1 ≤ k) × (k ≤ 20000)
+
+-- the first fault, in this order: the limit, the first bad width, too many requests or Stations, want of memory
+abbrev pub FaultOf : Shape → GateFault → Type 0
+FaultOf s fault.BadLimit = (s.limit < 1) ⊎ (10000 < s.limit)
+FaultOf s (fault.BadWidth r) = (1 ≤ s.limit) × (s.limit ≤ 10000) × (r < length s.widths) × (¬ IsWidth (width s.widths r)) × ((j : ℕ) → j < r → IsWidth (width s.widths j))
+FaultOf s fault.TooMany = (1 ≤ s.limit) × (s.limit ≤ 10000) × AreWidths s.widths × ((10000 < length s.widths) ⊎ (64 < s.stations))
+FaultOf s fault.NoMemory = IsShape s

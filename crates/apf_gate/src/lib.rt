@@ -3,8 +3,10 @@
 
 mod answers;
 mod desk;
+mod fault;
 mod gate;
 mod joined;
+mod open;
 mod pass;
 mod plays;
 mod record;
@@ -13,6 +15,8 @@ mod station;
 
 pub use answers::{Close, TryEnter, TryGrant, TrySetLimit, TryTake};
 pub use desk::Desk;
+pub use fault::GateFault;
 pub use gate::Gate;
+pub use open::Opened;
 pub use pass::Pass;
 pub use station::Station;

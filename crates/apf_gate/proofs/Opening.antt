@@ -1,0 +1,140 @@
+-- The table at the start, and the tokens that are dealt off its first seat.
+use Rattle.std.proofs.Common.{◌≡◌, ◌≢◌, ℕ, zero, suc, ◌+◌, ◌-◌, ◌*◌, ◌^◌, ◌<◌, ◌≤◌, Bool, true, false, List, [], ◌∷◌, length, get_or, set, replicate, Some, None, inl, sym, refl, ap, ◌∙◌, subst, arith, length-set, get_or-set_other, get_or-set_same}
+use Rattle.std.proofs.lemmas.List.{length-replicate}
+use Rattle.std.specs.Prelude.{slice_index}
+use mathlib.Core.Option.{some, some-injective, some-ne-none}
+use lib.ListN.{get_elem?}
+use Rattle.atomic_table.specs.Table.{opening}
+use Rattle.apf_words.specs.Level.{packed}
+use Rattle.apf_gate.specs.declared.record.Shape.{Shape}
+use Rattle.apf_gate.specs.declared.record.Record.{Record}
+use Rattle.apf_gate.specs.declared.record.Record.TheVariants.{Pass, Desk, Station}
+use Rattle.apf_gate.specs.Records.{world_of, level_of, new_knowledge, new_pass, new_desk, new_station}
+use Rattle.apf_gate.specs.Account.{Account, IsKnown}
+use Rattle.apf_gate.specs.Gauges.{IsShape, AreLaws}
+use Rattle.apf_gate.specs.Rule.{Every, AreApart, IsKeptAt, IsView, IsRuled, token_of, passes_from, stations_from, opening_stations, opening_records, without_first, first_alone}
+
+get_replicated : {A : Type 0} (n k : ℕ) (a : A) → get_or (replicate n a) k a ≡ a
+get_replicated zero k a = refl
+get_replicated (suc n) zero a = refl
+get_replicated (suc n) (suc k) a = get_replicated n k a
+
+module _ (s : Shape) where
+  -- nothing was done
+  abbrev first_account : Account
+  first_account = record { schedule = []; pass = new_pass s; desk = new_desk s; station = new_station s; seat = λ _. 0; canceller = λ _. 0; closer = 0 }
+
+  first_known : IsKnown s (new_knowledge s) []
+  first_known = record { shape = refl; closed = λ e. absurd (cc); told = λ r ne. absurd (ne refl); newer = ([], refl) }
+
+  -- the records that are dealt are the account's
+  kept_stations : (n k : ℕ) → k + n ≤ s.stations → Every (IsKeptAt s first_account 0) (stations_from s n k (Desk (new_desk s) ∷ []))
+  kept_stations zero k l = ((refl, refl), tt)
+  kept_stations (suc n) k l = ((refl, (omega arith, refl)), kept_stations n (k + 1) (omega arith))
+
+  kept_passes : (n r : ℕ) (rest : List Record) → r + n ≤ length s.widths → Every (IsKeptAt s first_account 0) rest → Every (IsKeptAt s first_account 0) (passes_from s n r rest)
+  kept_passes zero r rest l k = k
+  kept_passes (suc n) r rest l k = ((refl, (omega arith, refl)), kept_passes n (r + 1) rest (omega arith) k)
+
+  -- no two of them are of one token
+  above_stations : (n k a : ℕ) → a < k → Every (λ y. token_of y ≢ 2 * a + 2) (stations_from s n k (Desk (new_desk s) ∷ []))
+  above_stations zero k a l = ((λ e. omega arith), tt)
+  above_stations (suc n) k a l = ((λ e. omega arith), above_stations n (k + 1) a (omega arith))
+
+  apart_stations : (n k : ℕ) → AreApart (stations_from s n k (Desk (new_desk s) ∷ []))
+  apart_stations zero k = (tt, tt)
+  apart_stations (suc n) k = (above_stations n (k + 1) k (omega arith), apart_stations n (k + 1))
+
+  even_stations : (n k a : ℕ) → Every (λ y. token_of y ≢ 2 * a + 1) (stations_from s n k (Desk (new_desk s) ∷ []))
+  even_stations zero k a = ((λ e. omega arith), tt)
+  even_stations (suc n) k a = ((λ e. omega arith), even_stations n (k + 1) a)
+
+  above_passes : (n r a : ℕ) (rest : List Record) → a < r → Every (λ y. token_of y ≢ 2 * a + 1) rest → Every (λ y. token_of y ≢ 2 * a + 1) (passes_from s n r rest)
+  above_passes zero r a rest l k = k
+  above_passes (suc n) r a rest l k = ((λ e. omega arith), above_passes n (r + 1) a rest (omega arith) k)
+
+  apart_passes : (n r : ℕ) (rest : List Record) → ((a : ℕ) → Every (λ y. token_of y ≢ 2 * a + 1) rest) → AreApart rest → AreApart (passes_from s n r rest)
+  apart_passes zero r rest even k = k
+  apart_passes (suc n) r rest even k = (above_passes n (r + 1) r rest (omega arith) (even r), apart_passes n (r + 1) rest even k)
+
+  first_view : IsView s first_account 0 (opening_records s 0)
+  first_view = (
+    kept_passes (length s.widths - 0) 0 (opening_stations s 0) (omega arith) (kept_stations (s.stations - 0) 0 (omega arith)),
+    apart_passes (length s.widths - 0) 0 (opening_stations s 0) (λ a. even_stations (s.stations - 0) 0 a) (apart_stations (s.stations - 0) 0),
+  )
+
+  seats : (i : ℕ) (v : List Record) → get_elem? (opening_records s 0 ∷ []) i ≡ some v → IsView s first_account i v
+  seats zero v e = subst (IsView s first_account 0) (some-injective _ _ e) first_view
+  seats (suc i) v e = absurd (some-ne-none v (sym e))
+
+  pub begins : IsShape s → AreLaws s → (words : List ℕ) → words ≡ set (replicate (length s.widths + 1) 0) 0 (s.limit * 1099511627776) → IsRuled s (opening words [] (opening_records s 0))
+  begins shape laws words is = record {
+    account = first_account;
+    sound = record {
+      schedule = tt;
+      request = λ r l. record {
+        number = refl;
+        stage = refl;
+        saw = refl;
+        state = (refl, refl, refl);
+        entered = refl;
+        queues = λ e. absurd (cc);
+        handed = λ ne. absurd (ne refl);
+        wrote = λ ne. absurd (ne refl);
+        executed = λ e. absurd (cc);
+        settled = λ e. absurd (cc);
+        is_full = λ e. absurd (cc);
+        full = λ e. absurd (cc);
+        closed = λ e. absurd (cc);
+        limited = λ e. absurd (cc);
+        refused = λ e. absurd e;
+        no_room = λ e. absurd (cc);
+      };
+      pass_knows = λ r l. first_known;
+      desk_knows = first_known;
+      station_knows = λ k. first_known;
+      held = λ r e. absurd (cc);
+      is_held = λ r e. absurd (cc);
+      stations = record {
+        number = λ k. refl;
+        cancelled = λ r e. absurd (cc);
+        canceller_is = λ k r e. absurd (cc);
+        closed = λ e. absurd (cc);
+        closer_is = λ k e. absurd (cc);
+        limit = inl refl;
+        largest = inl refl;
+        is_largest = λ k n e. absurd (cc);
+        opening = omega arith;
+        some_limit = shape.some_limit;
+        limit_small = shape.small_limit;
+        largest_small = shape.small_limit;
+      };
+    };
+    packs = record {
+      count = ap length is ∙ (length-set (replicate (length s.widths + 1) 0) 0 (s.limit * 1099511627776) ∙ length-replicate (length s.widths + 1) 0);
+      level = ap (λ ws. slice_index ws 0) is ∙ (get_or-set_same (replicate (length s.widths + 1) 0) 0 (s.limit * 1099511627776) 0 some_words ∙ first_word);
+      decisions = λ r l. ap (λ ws. slice_index ws (r + 1)) is ∙ (get_or-set_other (replicate (length s.widths + 1) 0) 0 (r + 1) (s.limit * 1099511627776) 0 (λ e. omega arith) ∙ get_replicated (length s.widths + 1) (r + 1) 0);
+    };
+    views = seats;
+  }
+    where
+      some_words : 0 < length {A = ℕ} (replicate (length s.widths + 1) 0)
+      some_words = let e : length {A = ℕ} (replicate (length s.widths + 1) 0) ≡ length s.widths + 1 = length-replicate (length s.widths + 1) 0 in omega arith
+
+      first_word : s.limit * 1099511627776 ≡ packed (level_of s.widths (world_of s []))
+      first_word =
+          let a = laws.nobody_waits (world_of s []) (λ r l e. cc) in
+          let b = laws.nobody_stands (world_of s []) (λ r l e. cc) in omega arith
+
+  -- one more token is dealt
+  pub pass_dealt : (r : ℕ) → r < length s.widths → opening_records s r ≡ Pass (new_pass s r) ∷ opening_records s (r + 1)
+  pass_dealt r l = let e : length s.widths - r ≡ suc (length s.widths - (r + 1)) = omega arith in ap (λ k. passes_from s k r (opening_stations s 0)) e
+
+  pub all_passes : (r : ℕ) → length s.widths ≤ r → opening_records s r ≡ opening_stations s 0
+  all_passes r l = let e : length s.widths - r ≡ 0 = omega arith in ap (λ k. passes_from s k r (opening_stations s 0)) e
+
+  pub station_dealt : (k : ℕ) → k < s.stations → opening_stations s k ≡ Station (new_station s k) ∷ opening_stations s (k + 1)
+  station_dealt k l = let e : s.stations - k ≡ suc (s.stations - (k + 1)) = omega arith in ap (λ n. stations_from s n k (Desk (new_desk s) ∷ [])) e
+
+  pub all_stations : (k : ℕ) → s.stations ≤ k → opening_stations s k ≡ Desk (new_desk s) ∷ []
+  all_stations k l = let e : s.stations - k ≡ 0 = omega arith in ap (λ n. stations_from s n k (Desk (new_desk s) ∷ [])) e

@@ -1,0 +1,49 @@
+use Rattle.std.proofs.Common.{rules, ◌≡◌, ℕ, ◌+◌, ◌*◌, ◌<◌, ◌≤◌, List, length, set, replicate, arith, refl, sym, ap, ◌∙◌, subst, length-set}
+use Rattle.apf_model.specs.World.{width}
+use Rattle.apf_gate.specs.declared.record.Shape.{Shape}
+use Rattle.apf_gate.specs.Records.{opening_of}
+use Rattle.apf_gate.specs.Gauges.{shape_of, IsShape, AreLaws}
+use Rattle.std.proofs.lemmas.List.{length-replicate}
+use Rattle.std.specs.declared.snapshot.Snapshot.{Snapshot}
+use Rattle.apf_gate.specs.declared.rule.Gauge.{Gauge}
+use Rattle.apf_gate.proofs.Opening.{begins}
+use Rattle.apf_gate.proofs.gate.Gate.empty.Goals as goal
+
+pub of_words-requires : goal.of_words-requires
+of_words-requires g c =
+    let e = c.every_schedule_is_safe.ensures in
+    let items : c.in_ok-from_slice.field-0.items ≡ c.args.widths.now = search rules in
+    let zeros : c.in_ok-words.words.items ≡ replicate (length c.args.widths.now + 1) 0 = search rules in
+    let s : Shape = shape_of c.args.limit c.args.response c.in_ok-from_slice.field-0.items c.args.stations in
+    let shape : IsShape s = subst (λ ws. IsShape (shape_of c.args.limit c.args.response ws c.args.stations)) (sym items) c.requires in
+    let laws : AreLaws s = record {
+      sums = λ w. e.sums s.widths w;
+      few_wait = λ w. e.few_wait s.widths w;
+      nobody_waits = λ w. e.nobody_waits s.widths w;
+      nobody_stands = λ w. e.nobody_stands s.widths w;
+      bounded = λ ms schedule l. e.bounded (opening_of s) ms 20000 shape.widths schedule l (omega arith);
+    } in
+    rw (c.of.ensures) (begins s shape laws _ (c.as_slice.ensures.value ∙ (λ k. set ((zeros ∙ ap (λ ws. replicate (length ws + 1) 0) (sym items)) k) 0 (c.from.ensures k * 1099511627776))))
+
+pub invariant_of-result : goal.invariant_of-result
+invariant_of-result g c =
+    let e = c.every_schedule_is_safe.ensures in
+    let items : c.in_ok-from_slice.field-0.items ≡ c.args.widths.now = search rules in
+    let zeros : c.in_ok-words.words.items ≡ replicate (length c.args.widths.now + 1) 0 = search rules in
+    let s : Shape = shape_of c.args.limit c.args.response c.in_ok-from_slice.field-0.items c.args.stations in
+    let shape : IsShape s = subst (λ ws. IsShape (shape_of c.args.limit c.args.response ws c.args.stations)) (sym items) c.requires in
+    let board = c.in_ok-board.ensures in
+    let made : c.as_slice.result.now ≡ set (replicate (length s.widths + 1) 0) 0 (c.args.limit * 1099511627776) =
+    c.as_slice.ensures.value ∙ (λ k. set ((zeros ∙ ap (λ ws. replicate (length ws + 1) 0) (sym items)) k) 0 (c.from.ensures k * 1099511627776)) in record {
+      has_words = board.0 ∙ (ap length made ∙ (length-set (replicate (length s.widths + 1) 0) 0 (c.args.limit * 1099511627776) ∙ length-replicate (length s.widths + 1) 0));
+      no_slots = search rules;
+      same_key = ap (λ (k : Snapshot (Gauge g.row.A.Denot)). shape_of k.value.limit k.value.response k.value.widths.items k.value.stations) board.5 ∙ ap (λ (v : Gauge g.row.A.Denot). shape_of v.limit v.response v.widths.items v.stations) c.of.ensures;
+      shape = shape;
+      laws = record {
+        sums = λ w. e.sums s.widths w;
+        few_wait = λ w. e.few_wait s.widths w;
+        nobody_waits = λ w. e.nobody_waits s.widths w;
+        nobody_stands = λ w. e.nobody_stands s.widths w;
+        bounded = λ ms schedule l. e.bounded (opening_of s) ms 20000 shape.widths schedule l (omega arith);
+      };
+    }

@@ -33,7 +33,7 @@ use Rattle.apf_gate.specs.Rule.{IsRuled}
 use Rattle.apf_gate.specs.Steps.{IsInRange, SawLevel, SawDecision, OfLevel, OfDecision, service, served, Sees, Hands, Enters, refusing, Refuses, Spares, Learns, ByBoth, HandsAt, EntersAt, RefusesAt, LearnsAt}
 use Rattle.apf_gate.specs.Calls.{MayHand, MayRefuse}
 use Rattle.apf_gate.proofs.Puts.{put_here, put_else}
-use Rattle.apf_gate.proofs.Words.{packed_same, code_same, some_same, more_waiters}
+use Rattle.apf_gate.proofs.WordNumbers.{packed_same, code_same, some_same, more_waiters}
 use Rattle.apf_gate.proofs.Later.{IsLater, same_schedule, one_more, known_later, same_response}
 use Rattle.apf_gate.proofs.Views.{Table}
 use Rattle.apf_gate.proofs.Sound.{IsSame, both_step}

@@ -21,7 +21,7 @@ use Rattle.apf_gate.specs.Records.{world_of, service_of, told_own}
 use Rattle.apf_gate.specs.Account.{Account, IsRequest, IsRefusal, IsState, IsKnown, stage_of, stage_of_settled}
 use Rattle.apf_gate.specs.Rule.{IsRuled}
 use Rattle.apf_gate.proofs.Puts.{put_here, put_else}
-use Rattle.apf_gate.proofs.Words.{some_same}
+use Rattle.apf_gate.proofs.WordNumbers.{some_same}
 use Rattle.apf_gate.proofs.Views.{Table}
 use Rattle.apf_gate.proofs.Sound.{IsSame, request_elsewhere, put_field}
 

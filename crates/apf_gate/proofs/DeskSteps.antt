@@ -31,7 +31,7 @@ use Rattle.apf_gate.specs.Gauges.{IsShape, AreLaws}
 use Rattle.apf_gate.specs.Rule.{IsRuled}
 use Rattle.apf_gate.specs.Steps.{IsInRange, SawLevel, SawDecision, OfLevel, OfDecision, service, served, Views, Sees, Grants, Settles, GivesBack, Leaves, ByDesk, ViewsAt, SeesAt, GrantsAt, SettlesAt, GivesBackAt, LeavesAt}
 use Rattle.apf_gate.proofs.Puts.{put_here, put_else}
-use Rattle.apf_gate.proofs.Words.{packed_same, code_same, some_same, less_seats, less_waiters, granted}
+use Rattle.apf_gate.proofs.WordNumbers.{packed_same, code_same, some_same, less_seats, less_waiters, granted}
 use Rattle.apf_gate.proofs.Later.{IsLater, same_schedule, one_more}
 use Rattle.apf_gate.proofs.Views.{Table}
 use Rattle.apf_gate.proofs.Sound.{IsSame, stations_same, desk_step}

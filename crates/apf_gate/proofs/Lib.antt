@@ -1,5 +1,5 @@
 pub mod Puts
-pub mod Words
+pub mod WordNumbers
 pub mod Later
 pub mod Views
 pub mod Sound
@@ -14,3 +14,4 @@ pub mod BothSteps
 pub mod Seats
 pub mod Told
 pub mod Opening
+pub mod Gathering

@@ -23,7 +23,7 @@ use Rattle.apf_gate.specs.Steps.{IsInRange}
 use Rattle.apf_gate.specs.Gauges.{IsShape, AreLaws}
 use Rattle.apf_gate.specs.Rule.{Packs, IsRuled}
 use Rattle.apf_gate.proofs.Puts.{put_here, put_else}
-use Rattle.apf_gate.proofs.Words.{IsSmall}
+use Rattle.apf_gate.proofs.WordNumbers.{IsSmall}
 use Rattle.apf_gate.proofs.Views.{Table}
 
 module _ (s : Shape) where

@@ -34,7 +34,7 @@ use Rattle.apf_gate.specs.Rule.{IsRuled}
 use Rattle.apf_gate.specs.Steps.{IsInRange, SawLevel, SawDecision, is_no_room, own_width, looked, sees, Looks, Takes, Hears, heard, Asks, asking, asking_state, deciding_state, Writes, Loses, Releases, ByPass, OfLevel, OfDecision, LooksAt, TakesAt, ReleasesAt, HearsAt, AsksAt, DecidesAt}
 use Rattle.apf_gate.specs.Calls.{MayWrite, MayRelease}
 use Rattle.apf_gate.proofs.Puts.{put_here, put_else}
-use Rattle.apf_gate.proofs.Words.{IsSmall, packed_same, code_same, more_seats, less_seats}
+use Rattle.apf_gate.proofs.WordNumbers.{IsSmall, packed_same, code_same, more_seats, less_seats}
 use Rattle.apf_gate.proofs.Later.{IsLater, same_schedule, one_more, same_response}
 use Rattle.apf_gate.proofs.Views.{Table}
 use Rattle.apf_gate.proofs.Sound.{IsSame, stations_same, pass_step}
@@ -389,7 +389,7 @@ module _ (s : Shape) where
         let w = world_of s g.schedule in
         stations_same s g.station g.canceller g.closer w (world_of s (Decide r d ∷ g.schedule)) refl refl refl
         (λ j e. dite (ℕ_discrete j r)
-        (λ y. absurd (not_cancelled (Rattle.apf_gate.proofs.Words.some_same d Cancelled (sym (put_here w.decision r (Some d)) ∙ (ap (put w.decision r (Some d)) (sym y) ∙ e)))))
+        (λ y. absurd (not_cancelled (Rattle.apf_gate.proofs.WordNumbers.some_same d Cancelled (sym (put_here w.decision r (Some d)) ∙ (ap (put w.decision r (Some d)) (sym y) ∙ e)))))
         (λ ne. sym (put_else w.decision r (Some d) j ne) ∙ e))
         (λ j e. put_else w.decision r (Some d) j (λ y. let z = ap w.decision (sym y) ∙ e in absurd (cc)) ∙ e)
         h.sound.stations
@@ -546,7 +546,7 @@ module _ (s : Shape) where
         k = is_at t h id p at
 
         same_decision : (P : Decision → Type 0) → P d → (c : Decision) → code_of d ≡ code_of c → P c
-        same_decision P x c e = subst P (Rattle.apf_gate.proofs.Words.some_same d c (code_same (Some d) (Some c) e)) x
+        same_decision P x c e = subst P (Rattle.apf_gate.proofs.WordNumbers.some_same d c (code_same (Some d) (Some c) e)) x
 
         miss : Decided id p d t n false
         miss =

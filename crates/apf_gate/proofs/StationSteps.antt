@@ -28,7 +28,7 @@ use Rattle.apf_gate.specs.Gauges.{IsShape, AreLaws}
 use Rattle.apf_gate.specs.Rule.{IsRuled}
 use Rattle.apf_gate.specs.Steps.{IsInRange, SawLevel, SawDecision, LooksFrom, Reads, Cancels, Closes, Sets, ByStation, OfLevel, OfDecision, LooksFromAt, ReadsAt, CancelsAt, ClosesAt, SetsAt, limit_in}
 use Rattle.apf_gate.proofs.Puts.{put_here, put_else}
-use Rattle.apf_gate.proofs.Words.{packed_same, code_same, closes, with_limit}
+use Rattle.apf_gate.proofs.WordNumbers.{packed_same, code_same, closes, with_limit}
 use Rattle.apf_gate.proofs.Later.{IsLater, same_schedule, one_more}
 use Rattle.apf_gate.proofs.Views.{Table}
 use Rattle.apf_gate.proofs.Sound.{IsSame, request_elsewhere, stations_learnt, put_field, was_set, station_step}

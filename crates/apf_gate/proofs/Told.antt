@@ -9,7 +9,7 @@ use Rattle.apf_gate.specs.Records.{code_in}
 use Rattle.apf_gate.specs.declared.record.StationRecord.{StationRecord}
 use Rattle.apf_gate.specs.Rule.{pass_of, station_of}
 use Rattle.apf_gate.specs.Steps.{IsInRange, ByPass, ByStation, OfLevel, OfDecision}
-use Rattle.apf_gate.proofs.Words.{packed_same, code_same}
+use Rattle.apf_gate.proofs.WordNumbers.{packed_same, code_same}
 use Rattle.apf_gate.proofs.Packing.{is_small}
 use Rattle.atomic_table.specs.Table.{Me}
 

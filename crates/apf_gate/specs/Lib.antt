@@ -6,3 +6,4 @@ pub mod Steps
 pub mod Passes
 pub mod Calls
 pub mod Joined
+pub mod Ends

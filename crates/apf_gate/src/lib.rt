@@ -3,6 +3,7 @@
 
 mod answers;
 mod desk;
+mod end;
 mod fault;
 mod gate;
 mod joined;
@@ -15,6 +16,7 @@ mod station;
 
 pub use answers::{Close, TryEnter, TryGrant, TrySetLimit, TryTake};
 pub use desk::Desk;
+pub use end::Words;
 pub use fault::GateFault;
 pub use gate::Gate;
 pub use open::Opened;

@@ -6,7 +6,7 @@ use Rattle.apf_gate.specs.Steps.{service}
 use Rattle.apf_gate.specs.Calls.{GateId, DeskToken}
 use Rattle.apf_gate.proofs.DeskSteps.{grants}
 use Rattle.apf_gate.proofs.Puts.{any_default}
-use Rattle.apf_gate.proofs.Words.{at_least}
+use Rattle.apf_gate.proofs.WordNumbers.{at_least}
 use Rattle.apf_gate.proofs.gate.Gate.exchange_grant.Goals as goal
 
 pub compare_exchange-found-requires : goal.compare_exchange-found-requires

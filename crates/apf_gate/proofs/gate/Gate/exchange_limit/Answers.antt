@@ -1,6 +1,6 @@
 use Rattle.std.proofs.Common.{rules, ◌+◌, ◌-◌, ◌*◌, arith, ◌∙◌}
 use Rattle.apf_gate.proofs.StationSteps.{sets}
-use Rattle.apf_gate.proofs.Words.{other_limit}
+use Rattle.apf_gate.proofs.WordNumbers.{other_limit}
 use Rattle.apf_gate.proofs.gate.Gate.exchange_limit.Goals as goal
 
 pub compare_exchange-found-requires : goal.compare_exchange-found-requires

@@ -1,0 +1,51 @@
+use Rattle.std.proofs.Common.{rules, ◌≡◌, ℕ, ◌+◌, ◌<◌, [], ◌∷◌, List, length, arith, refl, sym, ap, ◌∙◌, subst}
+use Rattle.std.specs.Prelude.{slice_index}
+use mathlib.Core.Option.{some}
+use Rattle.apf_gate.specs.declared.record.Shape.{Shape}
+use Rattle.apf_gate.specs.declared.record.Record.{Record}
+use Rattle.apf_gate.specs.declared.record.Record.TheVariants.{Desk}
+use Rattle.apf_gate.specs.Gauges.{shape_of}
+use Rattle.apf_gate.specs.Records.{world_of, level_of}
+use Rattle.apf_gate.specs.Rule.{IsRuled, IsRecord, IsKeptAt, desk_of}
+use Rattle.apf_gate.specs.Calls.{GateId, DeskToken}
+use Rattle.apf_gate.specs.Ends.{EndsWith, passes_before, stations_before, handed_in}
+use Rattle.apf_gate.proofs.Packing.{level_in_range}
+use Rattle.apf_gate.proofs.Views.{Table, every_map}
+use Rattle.apf_gate.proofs.gate.Gate.end.Goals as goal
+
+pub read-requires-clause-level : goal.read-requires-clause-level
+read-requires-clause-level g c =
+    let i = c.self.invariant in
+    let own : Shape = shape_of c.self.inside.gauge.limit c.self.inside.gauge.response c.self.inside.gauge.widths.items c.self.inside.gauge.stations in
+    let f = c.close_with.ensures.values.2 in
+    let h : IsRuled own f.0 = subst (λ (s : Shape). IsRuled s f.0) i.same_key f.1.0 in
+    (level_of own.widths (world_of own h.account.schedule), ap (λ (ws : List ℕ). slice_index ws 0) (sym f.2) ∙ h.packs.level, level_in_range own i.shape i.laws f.0 h)
+
+pub read-requires-clause-codes : goal.read-requires-clause-codes
+read-requires-clause-codes g c =
+    let i = c.self.invariant in
+    let own : Shape = shape_of c.self.inside.gauge.limit c.self.inside.gauge.response c.self.inside.gauge.widths.items c.self.inside.gauge.stations in
+    let f = c.close_with.ensures.values.2 in
+    let h : IsRuled own f.0 = subst (λ (s : Shape). IsRuled s f.0) i.same_key f.1.0 in
+    λ r l. ((world_of own h.account.schedule).decision r, ap (λ (ws : List ℕ). slice_index ws (r + 1)) (sym f.2) ∙ h.packs.decisions r (let n : length own.widths ≡ c.len-count.result = search rules in subst (λ k. r < k) (sym n) l))
+
+pub returns : goal.returns
+returns g c =
+    let i = c.self.invariant in
+    let own : Shape = shape_of c.self.inside.gauge.limit c.self.inside.gauge.response c.self.inside.gauge.widths.items c.self.inside.gauge.stations in
+    let n : length own.widths ≡ c.len-count.result = search rules in
+    let f = c.close_with.ensures.values.2 in
+    let h : IsRuled own f.0 = subst (λ (s : Shape). IsRuled s f.0) i.same_key f.1.0 in
+    let all = handed_in (desk_of c.desk.inside.seat.me.0) c.args.passes.items c.args.stations.items in
+    let view : c.gather_stations-seat.result.me.0 ≡ all = ap (λ x. x.0) c.gather_stations-seat.ensures.view ∙ ap (λ x. stations_before c.args.stations.items x.0) c.gather_passes-seat.ensures.view in
+    let kept = h.views c.gather_stations-seat.result.id all (f.1.1 ∙ ap some view) in
+    let ended : EndsWith (record { table = c.args.self.table; shape = own }) (desk_of c.desk.inside.seat.me.0) c.args.passes.items c.args.stations.items c.read.result = record {
+      account = h.account;
+      sound = h.sound;
+      level = c.read.ensures.level (level_of own.widths (world_of own h.account.schedule)) (ap (λ (ws : List ℕ). slice_index ws 0) (sym f.2) ∙ h.packs.level) (level_in_range own i.shape i.laws f.0 h);
+      count = c.read.ensures.count ∙ sym n;
+      decided = λ r l. c.read.ensures.decisions r ((world_of own h.account.schedule).decision r) (subst (λ k. r < k) n l) (ap (λ (ws : List ℕ). slice_index ws (r + 1)) (sym f.2) ∙ h.packs.decisions r l);
+      stand = every_map (IsKeptAt own h.account c.gather_stations-seat.result.id) (IsRecord own h.account) all (λ x k. k.1) kept.0;
+      apart = kept.1;
+    } in
+    subst (λ (x : GateId × DeskToken). EndsWith x.0 x.1.desk c.args.passes.items c.args.stations.items c.read.result) (λ k. (record { table = c.args.self.table; shape = (c.self.view_is k).shape }, c.desk.view_is k)) ended

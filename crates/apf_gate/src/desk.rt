@@ -100,7 +100,10 @@ impl<A: Allocator> Gate<A> {
             unreachable!()
         };
         match decision_in(self.exchange_settled(desk, request)) {
-            None => Decision::Execute,
+            None => {
+                self.wake(request);
+                Decision::Execute
+            }
             Some(decision) => decision,
         }
     }

@@ -12,6 +12,7 @@ mod pass;
 mod plays;
 mod record;
 mod rule;
+mod sleep;
 mod station;
 
 pub use answers::{Close, TryEnter, TryGrant, TrySetLimit, TryTake};

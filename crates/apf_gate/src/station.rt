@@ -78,7 +78,10 @@ impl<A: Allocator> Gate<A> {
         ensures stays { told_of station.old.station.knows.told request ≢ None → Some result ≡ told_of station.old.station.knows.told request }
     {
         match decision_in(self.exchange_word(station, request)) {
-            None => Decision::Cancelled,
+            None => {
+                self.wake(request);
+                Decision::Cancelled
+            }
             Some(decision) => decision,
         }
     }

@@ -1,0 +1,27 @@
+//! Sleeping until a request is decided.
+
+ghost use Rattle.std.specs.Prelude.{◌<◌, length};
+
+use crate::gate::Gate;
+use std::alloc::Allocator;
+use std::sync::Wait;
+
+impl<A: Allocator> Gate<A> {
+    /// Sleeps if the request is undecided, until it is decided. It may also return for no reason, so read
+    /// the decision again.
+    ///
+    /// It is no step: the kernel compares the decision word and sleeps in one, and `settle` and `cancel`,
+    /// which alone decide a request that waits, wake those who sleep once they wrote.
+    pub fn park<R: Wait>(&self, rt: &R, request: u32)
+        requires is_request { request < length self.now.shape.widths }
+    {
+        self.board.shared.park(rt, request as usize + 1, 0);
+    }
+
+    /// Wakes all who sleep until the request is decided.
+    pub(crate) fn wake(&self, request: u32)
+        requires is_request { request < length self.now.shape.widths }
+    {
+        self.board.shared.wake_all(request as usize + 1);
+    }
+}

@@ -1,5 +1,5 @@
 -- Each step of the Desk with a Pass joined to it keeps the rule.
-use Rattle.std.proofs.Common.{◌≡◌, ◌≢◌, ◌⊎◌, ℕ, ◌+◌, ◌-◌, ◌*◌, ◌%◌, ◌^◌, ◌<◌, ◌≤◌, Bool, true, false, List, [], ◌∷◌, ◌++◌, length, get_or, set, Option, Some, None, sym, refl, ap, ◌∙◌, subst, inl, inr, ⊎_elim, arith, eq-eqb, ne_eqb}
+use Rattle.std.proofs.Common.{◌≡◌, ◌≢◌, ◌⊎◌, ℕ, ◌+◌, ◌<◌, Bool, true, false, List, [], ◌∷◌, ◌++◌, length, set, Option, Some, None, sym, refl, ap, ◌∙◌, subst, ⊎_elim, arith, eq-eqb, ne_eqb}
 use Rattle.std.specs.Prelude.{slice_index, ◌==◌, MatchBool}
 use Rattle.std.proofs.lemmas.Bool.{not-false}
 use mathlib.Core.Logic.{dite}
@@ -16,31 +16,31 @@ use Rattle.apf_model.specs.declared.moves.Move.{Move}
 use Rattle.apf_model.specs.declared.moves.Move.TheVariants.{Enter, Decide}
 use Rattle.apf_model.specs.declared.moves.Stage.TheVariants.{Away, Waits}
 use Rattle.apf_model.specs.declared.response.Response.TheVariants.{Queue}
-use Rattle.apf_model.specs.World.{World, put, width, seats, waiters, Allowed, MayDecide}
+use Rattle.apf_model.specs.World.{World, put, seats, waiters, Allowed, MayDecide}
 use Rattle.apf_gate.specs.declared.record.Shape.{Shape}
-use Rattle.apf_gate.specs.declared.record.State.TheVariants.{InLine, Over}
+use Rattle.apf_gate.specs.declared.record.State.TheVariants.{InLine}
 use Rattle.apf_gate.specs.declared.record.Knowledge.{Knowledge}
 use Rattle.apf_gate.specs.declared.record.Service.{Service}
-use Rattle.apf_gate.specs.declared.record.Service.TheVariants.{NotHanded, Handed, Full, Waiting, Held, Settled, Left}
+use Rattle.apf_gate.specs.declared.record.Service.TheVariants.{NotHanded, Handed, Full, Waiting, Held, Settled}
 use Rattle.apf_gate.specs.declared.record.PassRecord.{PassRecord}
 use Rattle.apf_gate.specs.declared.record.DeskRecord.{DeskRecord}
 use Rattle.apf_gate.specs.declared.record.Record.{Record}
 use Rattle.apf_gate.specs.declared.record.Record.TheVariants.{Pass, Desk}
-use Rattle.apf_gate.specs.Records.{opening_of, world_of, level_of, code_in, told_own, service_of, saw_level, saw_decision}
-use Rattle.apf_gate.specs.Account.{Account, IsRequest, IsHanded, IsRefusal, IsState, IsKnown, stage_of, stage_of_pass, has_entered}
+use Rattle.apf_gate.specs.Records.{world_of, level_of, code_in, told_own, service_of, saw_level, saw_decision}
+use Rattle.apf_gate.specs.Account.{IsRequest, IsHanded, IsRefusal, IsState, IsKnown, stage_of, stage_of_pass, has_entered}
 use Rattle.apf_gate.specs.Gauges.{IsShape, AreLaws}
 use Rattle.apf_gate.specs.Rule.{IsRuled}
-use Rattle.apf_gate.specs.Steps.{IsInRange, SawLevel, SawDecision, OfLevel, OfDecision, service, served, Sees, Hands, Enters, refusing, Refuses, Spares, Learns, ByBoth, HandsAt, EntersAt, RefusesAt, LearnsAt}
+use Rattle.apf_gate.specs.Steps.{IsInRange, service, served, Hands, Enters, refusing, Refuses, Spares, ByBoth, HandsAt, EntersAt, RefusesAt, LearnsAt}
 use Rattle.apf_gate.specs.Calls.{MayHand, MayRefuse}
 use Rattle.apf_gate.proofs.Puts.{put_here, put_else}
 use Rattle.apf_gate.proofs.WordNumbers.{packed_same, code_same, some_same, more_waiters}
-use Rattle.apf_gate.proofs.Later.{IsLater, same_schedule, one_more, known_later, same_response}
+use Rattle.apf_gate.proofs.Later.{same_schedule, one_more, known_later, same_response}
 use Rattle.apf_gate.proofs.Views.{Table}
-use Rattle.apf_gate.proofs.Sound.{IsSame, both_step}
+use Rattle.apf_gate.proofs.Sound.{both_step}
 use Rattle.apf_gate.proofs.Packing.{packs_same, packs_level, packs_decided, level_in_range, no_queues, is_small}
 use Rattle.apf_gate.proofs.Knowing.{level_known, level_told, decision_known, decision_told}
 use Rattle.apf_gate.proofs.PassSteps.{in_state, stations_decided}
-use Rattle.apf_gate.proofs.DeskLines.{Services, HoldsOne, holds_still, IsAt, is_at_desk}
+use Rattle.apf_gate.proofs.DeskLines.{holds_still, IsAt, is_at_desk}
 use Rattle.apf_gate.proofs.DeskSteps.{stations_moved}
 
 module _ (s : Shape) where

@@ -1,19 +1,16 @@
 -- The lines on requests and on the one that is held, as a step of the Desk changes one.
-use Rattle.std.proofs.Common.{◌≡◌, ◌≢◌, ◌⊎◌, ℕ, ◌+◌, ◌<◌, ◌≤◌, Bool, true, false, List, [], ◌∷◌, ◌++◌, length, Option, Some, None, sym, refl, ap, ◌∙◌, subst, inl, inr, ⊎_elim}
+use Rattle.std.proofs.Common.{◌≡◌, ◌≢◌, ◌⊎◌, ℕ, ◌<◌, true, false, List, [], ◌∷◌, length, Option, Some, None, sym, refl, ap, ◌∙◌, subst, ⊎_elim}
 use mathlib.Core.Logic.{dite}
 use mathlib.Core.Option.{some}
 use lib.ListN.{get_elem?}
 use native.Mathlib.Decide.{ℕ_discrete}
-use Rattle.apf_words.specs.declared.decision.Decision.{Decision}
-use Rattle.apf_words.specs.declared.decision.Decision.TheVariants.{Execute, QueueFull, Closed, Cancelled, ConcurrencyLimit}
-use Rattle.apf_model.specs.declared.moves.Stage.{Stage}
-use Rattle.apf_model.specs.declared.moves.Stage.TheVariants.{Away, Waits, Stands, Gone}
+use Rattle.apf_words.specs.declared.decision.Decision.TheVariants.{Execute, QueueFull, ConcurrencyLimit}
+use Rattle.apf_model.specs.declared.moves.Stage.TheVariants.{Away}
 use Rattle.apf_model.specs.World.{World, put}
 use Rattle.apf_gate.specs.declared.record.Shape.{Shape}
-use Rattle.apf_gate.specs.declared.record.State.{State}
-use Rattle.apf_gate.specs.declared.record.State.TheVariants.{Fresh, Took, InLine, Over}
+use Rattle.apf_gate.specs.declared.record.State.TheVariants.{Over}
 use Rattle.apf_gate.specs.declared.record.Service.{Service}
-use Rattle.apf_gate.specs.declared.record.Service.TheVariants.{NotHanded, Handed, Full, Waiting, Held, Settled, Left}
+use Rattle.apf_gate.specs.declared.record.Service.TheVariants.{NotHanded, Full, Waiting, Held, Settled}
 use Rattle.apf_gate.specs.declared.record.PassRecord.{PassRecord}
 use Rattle.apf_gate.specs.declared.record.DeskRecord.{DeskRecord}
 use Rattle.apf_gate.specs.declared.record.Record.TheVariants.{Desk}
@@ -23,7 +20,7 @@ use Rattle.apf_gate.specs.Rule.{IsRuled}
 use Rattle.apf_gate.proofs.Puts.{put_here, put_else}
 use Rattle.apf_gate.proofs.WordNumbers.{some_same}
 use Rattle.apf_gate.proofs.Views.{Table}
-use Rattle.apf_gate.proofs.Sound.{IsSame, request_elsewhere, put_field}
+use Rattle.apf_gate.proofs.Sound.{IsSame, request_elsewhere}
 
 -- what the Desk has of requests, and which of them it holds
 abbrev pub Services : Type 0

@@ -1,16 +1,14 @@
 -- Each step of the Desk alone keeps the rule.
-use Rattle.std.proofs.Common.{◌≡◌, ◌≢◌, ◌⊎◌, ℕ, ◌+◌, ◌-◌, ◌*◌, ◌/◌, ◌%◌, ◌^◌, ◌<◌, ◌≤◌, Bool, true, false, List, [], ◌∷◌, ◌++◌, length, get_or, set, Option, Some, None, sym, refl, ap, ◌∙◌, subst, inl, inr, ⊎_elim, arith, eq-eqb, ne_eqb}
+use Rattle.std.proofs.Common.{◌≡◌, ◌≢◌, ◌⊎◌, ℕ, ◌+◌, ◌-◌, ◌%◌, ◌^◌, ◌<◌, Bool, true, false, List, [], ◌∷◌, ◌++◌, length, Option, Some, None, sym, refl, ap, ◌∙◌, subst, inl, inr, ⊎_elim, arith, eq-eqb, ne_eqb}
 use Rattle.std.specs.Prelude.{slice_index, ◌==◌, MatchBool}
 use mathlib.Core.Logic.{dite}
-use mathlib.Core.Option.{some}
-use lib.ListN.{get_elem?}
 use native.Mathlib.Decide.{ℕ_discrete}
 use prog.Atomic.{either}
 use Rattle.atomic_table.specs.Table.{Act, keeps, Valid, carried_after, stepped, Allows}
 use Rattle.apf_words.specs.Fits.{Fits}
 use Rattle.apf_words.specs.Level.{Level, packed}
 use Rattle.apf_words.specs.declared.decision.Decision.{Decision}
-use Rattle.apf_words.specs.declared.decision.Decision.TheVariants.{Execute, QueueFull, Closed, Cancelled, ConcurrencyLimit}
+use Rattle.apf_words.specs.declared.decision.Decision.TheVariants.{Execute, Cancelled}
 use Rattle.apf_model.specs.declared.moves.Move.{Move}
 use Rattle.apf_model.specs.declared.moves.Move.TheVariants.{Grant, Leave, Decide, Release}
 use Rattle.apf_model.specs.declared.moves.Stage.TheVariants.{Waits, Stands, Gone}
@@ -20,25 +18,25 @@ use Rattle.apf_gate.specs.declared.record.State.{State}
 use Rattle.apf_gate.specs.declared.record.State.TheVariants.{Fresh, Took, InLine, Over}
 use Rattle.apf_gate.specs.declared.record.Knowledge.{Knowledge}
 use Rattle.apf_gate.specs.declared.record.Service.{Service}
-use Rattle.apf_gate.specs.declared.record.Service.TheVariants.{NotHanded, Handed, Full, Waiting, Held, Settled, Left}
+use Rattle.apf_gate.specs.declared.record.Service.TheVariants.{Waiting, Held, Settled, Left}
 use Rattle.apf_gate.specs.declared.record.PassRecord.{PassRecord}
 use Rattle.apf_gate.specs.declared.record.DeskRecord.{DeskRecord}
 use Rattle.apf_gate.specs.declared.record.Record.{Record}
 use Rattle.apf_gate.specs.declared.record.Record.TheVariants.{Desk}
-use Rattle.apf_gate.specs.Records.{opening_of, world_of, level_of, code_in, told_of, told_own, service_of, saw_level, saw_decision}
-use Rattle.apf_gate.specs.Account.{Account, IsRequest, IsHanded, IsRefusal, IsState, IsKnown, AreStations, stage_of, stage_of_settled, has_entered}
+use Rattle.apf_gate.specs.Records.{world_of, level_of, code_in, told_of, told_own, saw_level, saw_decision}
+use Rattle.apf_gate.specs.Account.{IsRequest, IsRefusal, IsState, AreStations, stage_of, stage_of_settled, has_entered}
 use Rattle.apf_gate.specs.Gauges.{IsShape, AreLaws}
 use Rattle.apf_gate.specs.Rule.{IsRuled}
-use Rattle.apf_gate.specs.Steps.{IsInRange, SawLevel, SawDecision, OfLevel, OfDecision, service, served, Views, Sees, Grants, Settles, GivesBack, Leaves, ByDesk, ViewsAt, SeesAt, GrantsAt, SettlesAt, GivesBackAt, LeavesAt}
+use Rattle.apf_gate.specs.Steps.{IsInRange, OfDecision, service, served, Views, Sees, Grants, Settles, ByDesk, ViewsAt, SeesAt, GrantsAt, SettlesAt, GivesBackAt, LeavesAt}
 use Rattle.apf_gate.proofs.Puts.{put_here, put_else}
-use Rattle.apf_gate.proofs.WordNumbers.{packed_same, code_same, some_same, less_seats, less_waiters, granted}
-use Rattle.apf_gate.proofs.Later.{IsLater, same_schedule, one_more}
+use Rattle.apf_gate.proofs.WordNumbers.{packed_same, code_same, less_seats, less_waiters, granted}
+use Rattle.apf_gate.proofs.Later.{same_schedule, one_more}
 use Rattle.apf_gate.proofs.Views.{Table}
-use Rattle.apf_gate.proofs.Sound.{IsSame, stations_same, desk_step}
+use Rattle.apf_gate.proofs.Sound.{stations_same, desk_step}
 use Rattle.apf_gate.proofs.Packing.{packs_same, packs_level, packs_decided, level_in_range, no_queues, is_small}
 use Rattle.apf_gate.proofs.Knowing.{level_known, level_told, decision_known, decision_told}
 use Rattle.apf_gate.proofs.PassSteps.{stations_decided}
-use Rattle.apf_gate.proofs.DeskLines.{Services, HoldsOne, holds_still, holds_now, holds_none, IsAt, is_at, requests_but, InHand, in_hand}
+use Rattle.apf_gate.proofs.DeskLines.{HoldsOne, holds_still, holds_now, holds_none, is_at, requests_but, InHand, in_hand}
 
 module _ (s : Shape) where
   -- a step that moves no request and decides nothing leaves the lines on Stations

@@ -1,5 +1,5 @@
 -- The table at the start, and the tokens that are dealt off its first seat.
-use Rattle.std.proofs.Common.{◌≡◌, ◌≢◌, ℕ, zero, suc, ◌+◌, ◌-◌, ◌*◌, ◌^◌, ◌<◌, ◌≤◌, Bool, true, false, List, [], ◌∷◌, length, get_or, set, replicate, Some, None, inl, sym, refl, ap, ◌∙◌, subst, arith, length-set, get_or-set_other, get_or-set_same}
+use Rattle.std.proofs.Common.{◌≡◌, ◌≢◌, ℕ, zero, suc, ◌+◌, ◌-◌, ◌*◌, ◌<◌, ◌≤◌, List, [], ◌∷◌, length, get_or, set, replicate, inl, sym, refl, ap, ◌∙◌, subst, arith, length-set, get_or-set_other, get_or-set_same}
 use Rattle.std.proofs.lemmas.List.{length-replicate}
 use Rattle.std.specs.Prelude.{slice_index}
 use mathlib.Core.Option.{some, some-injective, some-ne-none}
@@ -12,7 +12,7 @@ use Rattle.apf_gate.specs.declared.record.Record.TheVariants.{Pass, Desk, Statio
 use Rattle.apf_gate.specs.Records.{world_of, level_of, new_knowledge, new_pass, new_desk, new_station}
 use Rattle.apf_gate.specs.Account.{Account, IsKnown}
 use Rattle.apf_gate.specs.Gauges.{IsShape, AreLaws}
-use Rattle.apf_gate.specs.Rule.{Every, AreApart, IsKeptAt, IsView, IsRuled, token_of, passes_from, stations_from, opening_stations, opening_records, without_first, first_alone}
+use Rattle.apf_gate.specs.Rule.{Every, AreApart, IsKeptAt, IsView, IsRuled, token_of, passes_from, stations_from, opening_stations, opening_records}
 
 get_replicated : {A : Type 0} (n k : ℕ) (a : A) → get_or (replicate n a) k a ≡ a
 get_replicated zero k a = refl

@@ -1,23 +1,21 @@
 -- The words as one step changes them.
-use Rattle.std.proofs.Common.{◌≡◌, ◌≢◌, ℕ, ◌+◌, ◌<◌, ◌≤◌, Bool, true, false, List, length, get_or, set, Some, sym, refl, ap, ◌∙◌, subst, arith, length-set, get_or-set_other, get_or-set_same}
+use Rattle.std.proofs.Common.{◌≡◌, ℕ, ◌+◌, ◌<◌, ◌≤◌, Bool, true, false, List, length, get_or, set, Some, sym, refl, ap, ◌∙◌, subst, arith, length-set, get_or-set_other, get_or-set_same}
 use mathlib.Core.Logic.{dite}
 use lib.Seq.{set-get_or}
 use native.Mathlib.Decide.{ℕ_discrete}
 use Rattle.apf_words.specs.Codes.{code_of}
 use Rattle.apf_words.specs.Level.{Level, packed}
 use Rattle.apf_words.specs.declared.decision.Decision.{Decision}
-use Rattle.apf_model.specs.declared.moves.Move.{Move}
-use Rattle.apf_model.specs.declared.response.Response.TheVariants.{Queue, Reject}
+use Rattle.apf_model.specs.declared.response.Response.TheVariants.{Reject}
 use Rattle.apf_model.specs.declared.moves.Stage.TheVariants.{Waits}
 use Rattle.apf_model.specs.World.{World, put, waiters, IsWaiting}
-use Rattle.apf_model.specs.Schedule.{IsSchedule}
 use Rattle.apf_gate.specs.declared.record.Shape.{Shape}
 use Rattle.apf_gate.specs.declared.record.State.{State}
 use Rattle.apf_gate.specs.declared.record.State.TheVariants.{Fresh, Took, InLine, Over}
 use Rattle.apf_gate.specs.declared.record.Service.{Service}
 use Rattle.apf_gate.specs.declared.record.Service.TheVariants.{NotHanded, Handed, Full, Waiting, Held, Settled, Left}
 use Rattle.apf_gate.specs.declared.record.PassRecord.{PassRecord}
-use Rattle.apf_gate.specs.Records.{opening_of, world_of, level_of, code_in, service_of}
+use Rattle.apf_gate.specs.Records.{world_of, level_of, code_in, service_of}
 use Rattle.apf_gate.specs.Account.{IsRequest, stage_of, stage_of_pass, stage_of_settled, has_entered}
 use Rattle.apf_gate.specs.Steps.{IsInRange}
 use Rattle.apf_gate.specs.Gauges.{IsShape, AreLaws}

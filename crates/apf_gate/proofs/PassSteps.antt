@@ -1,5 +1,5 @@
 -- Each step of a Pass keeps the rule.
-use Rattle.std.proofs.Common.{◌≡◌, ◌≢◌, ◌⊎◌, ℕ, ◌+◌, ◌-◌, ◌%◌, ◌^◌, ◌<◌, Bool, true, false, List, [], ◌∷◌, ◌++◌, length, get_or, set, Option, Some, None, sym, refl, ap, ◌∙◌, subst, inl, inr, ⊎_elim, arith, eq-eqb, ne_eqb}
+use Rattle.std.proofs.Common.{◌≡◌, ◌≢◌, ◌⊎◌, ℕ, ◌+◌, ◌-◌, ◌%◌, ◌^◌, ◌<◌, Bool, true, false, List, [], ◌∷◌, ◌++◌, length, set, Option, Some, None, sym, refl, ap, ◌∙◌, subst, inl, inr, ⊎_elim, arith, eq-eqb, ne_eqb}
 use Rattle.std.specs.Prelude.{slice_index, ◌==◌, ◌||◌, if◌then◌else◌, MatchBool}
 use mathlib.Core.Logic.{dite}
 use mathlib.Core.Option.{some}
@@ -31,7 +31,7 @@ use Rattle.apf_gate.specs.Records.{opening_of, world_of, level_of, code_in, told
 use Rattle.apf_gate.specs.Account.{Account, IsRequest, IsHanded, IsState, IsKnown, stage_of, stage_of_pass, stage_of_settled}
 use Rattle.apf_gate.specs.Gauges.{IsShape, AreLaws}
 use Rattle.apf_gate.specs.Rule.{IsRuled}
-use Rattle.apf_gate.specs.Steps.{IsInRange, SawLevel, SawDecision, is_no_room, own_width, looked, sees, Looks, Takes, Hears, heard, Asks, asking, asking_state, deciding_state, Writes, Loses, Releases, ByPass, OfLevel, OfDecision, LooksAt, TakesAt, ReleasesAt, HearsAt, AsksAt, DecidesAt}
+use Rattle.apf_gate.specs.Steps.{IsInRange, SawDecision, is_no_room, own_width, looked, Looks, Takes, heard, asking, asking_state, deciding_state, Writes, Loses, ByPass, LooksAt, TakesAt, ReleasesAt, HearsAt, AsksAt, DecidesAt}
 use Rattle.apf_gate.specs.Calls.{MayWrite, MayRelease}
 use Rattle.apf_gate.proofs.Puts.{put_here, put_else}
 use Rattle.apf_gate.proofs.WordNumbers.{IsSmall, packed_same, code_same, more_seats, less_seats}
@@ -39,7 +39,7 @@ use Rattle.apf_gate.proofs.Later.{IsLater, same_schedule, one_more, same_respons
 use Rattle.apf_gate.proofs.Views.{Table}
 use Rattle.apf_gate.proofs.Sound.{IsSame, stations_same, pass_step}
 use Rattle.apf_gate.proofs.Packing.{packs_same, packs_level, packs_decided, level_in_range, no_queues, is_small}
-use Rattle.apf_gate.proofs.Rooms.{HasNoRoom, true_or_false, or_yes, no_room_true}
+use Rattle.apf_gate.proofs.Rooms.{or_yes, no_room_true}
 use Rattle.apf_gate.proofs.Knowing.{level_known, level_told, decision_known, decision_told}
 
 handed_or_not : (a : Service) → (a ≡ NotHanded) ⊎ (a ≢ NotHanded)

@@ -9,7 +9,7 @@ use Rattle.apf_gate.specs.declared.record.Shape.{Shape}
 use Rattle.apf_gate.specs.declared.record.Record.{Record}
 use Rattle.apf_gate.specs.declared.record.Record.TheVariants.{Pass, Desk, Station}
 use Rattle.apf_gate.specs.Account.{Account, IsSound}
-use Rattle.apf_gate.specs.Rule.{Every, token_of, IsRecord, IsKeptAt, AreApart, IsView, IsRuled, without_first, first_alone}
+use Rattle.apf_gate.specs.Rule.{Every, token_of, IsRecord, IsKeptAt, IsView, IsRuled, without_first, first_alone}
 use Rattle.apf_gate.proofs.Puts.{put_here, put_else}
 use Rattle.apf_gate.proofs.Views.{every_map}
 

@@ -1,5 +1,5 @@
 -- The lines of the rule after one step.
-use Rattle.std.proofs.Common.{◌≡◌, ◌≢◌, ℕ, ◌+◌, ◌*◌, ◌<◌, ◌≤◌, Bool, true, false, List, [], ◌∷◌, length, set, Some, None, sym, refl, ap, ◌∙◌, subst, inl, inr, ⊎_elim, arith}
+use Rattle.std.proofs.Common.{◌≡◌, ◌≢◌, ℕ, ◌+◌, ◌*◌, ◌<◌, ◌≤◌, true, false, List, [], ◌∷◌, length, set, Some, sym, refl, ap, ◌∙◌, subst, inl, inr, ⊎_elim, arith}
 use mathlib.Core.Logic.{dite}
 use mathlib.Core.Option.{some}
 use lib.ListN.{get_elem?}
@@ -14,15 +14,14 @@ use Rattle.apf_gate.specs.declared.record.Service.TheVariants.{Held}
 use Rattle.apf_gate.specs.declared.record.PassRecord.{PassRecord}
 use Rattle.apf_gate.specs.declared.record.DeskRecord.{DeskRecord}
 use Rattle.apf_gate.specs.declared.record.StationRecord.{StationRecord}
-use Rattle.apf_gate.specs.declared.record.Record.{Record}
 use Rattle.apf_gate.specs.declared.record.Record.TheVariants.{Pass, Desk, Station}
 use Rattle.apf_gate.specs.declared.record.Knowledge.{Knowledge}
 use Rattle.apf_gate.specs.Records.{opening_of, world_of, service_of, has}
-use Rattle.apf_gate.specs.Account.{Account, IsRequest, IsRefusal, IsKnown, WasSet, AreStations, IsSound}
+use Rattle.apf_gate.specs.Account.{Account, IsRequest, IsRefusal, IsKnown, WasSet, AreStations}
 use Rattle.apf_gate.specs.Rule.{Packs, IsRuled}
 use Rattle.apf_gate.proofs.Puts.{put_here, put_else}
 use Rattle.apf_gate.proofs.Later.{IsLater, known_later}
-use Rattle.apf_gate.proofs.Views.{Table, AgreeBut, kept}
+use Rattle.apf_gate.proofs.Views.{Table, kept}
 
 -- a step leaves this request alone
 pub record IsSame (w w' : World) (r : ℕ) : Type 0 where

@@ -1,5 +1,5 @@
 -- Each step of a Station keeps the rule.
-use Rattle.std.proofs.Common.{◌≡◌, ◌≢◌, ◌⊎◌, ℕ, ◌+◌, ◌-◌, ◌*◌, ◌/◌, ◌%◌, ◌^◌, ◌<◌, ◌≤◌, Bool, true, false, List, [], ◌∷◌, ◌++◌, length, get_or, set, Option, Some, None, sym, refl, ap, ◌∙◌, subst, inl, inr, ⊎_elim, arith, eq-eqb, ne_eqb}
+use Rattle.std.proofs.Common.{◌≡◌, ◌≢◌, ◌⊎◌, ℕ, ◌+◌, ◌-◌, ◌<◌, ◌≤◌, Bool, true, false, List, [], ◌∷◌, ◌++◌, length, Option, Some, None, sym, refl, ap, ◌∙◌, subst, inl, inr, ⊎_elim, arith, eq-eqb, ne_eqb}
 use Rattle.std.specs.Prelude.{slice_index, ◌==◌, ◌||◌, not, max, MatchBool, bit_or}
 use Rattle.std.proofs.Math.Nat.{le-max_left, le-max_right, max-eq_left, max-eq_right}
 use Rattle.std.proofs.lemmas.Bool.{cases_lt}
@@ -11,10 +11,10 @@ use prog.Atomic.{either}
 use Rattle.atomic_table.specs.Table.{Act, keeps, Valid, carried_after, stepped, Allows}
 use Rattle.apf_words.specs.Level.{Level, packed}
 use Rattle.apf_words.specs.declared.decision.Decision.{Decision}
-use Rattle.apf_words.specs.declared.decision.Decision.TheVariants.{Execute, QueueFull, Closed, Cancelled, ConcurrencyLimit}
+use Rattle.apf_words.specs.declared.decision.Decision.TheVariants.{Cancelled}
 use Rattle.apf_model.specs.declared.moves.Move.{Move}
 use Rattle.apf_model.specs.declared.moves.Move.TheVariants.{Decide, Close, SetLimit}
-use Rattle.apf_model.specs.World.{World, put, Allowed, seats, waiters}
+use Rattle.apf_model.specs.World.{World, put, Allowed}
 use Rattle.apf_gate.specs.declared.record.Shape.{Shape}
 use Rattle.apf_gate.specs.declared.record.Knowledge.{Knowledge}
 use Rattle.apf_gate.specs.declared.record.Service.{Service}
@@ -22,18 +22,17 @@ use Rattle.apf_gate.specs.declared.record.PassRecord.{PassRecord}
 use Rattle.apf_gate.specs.declared.record.StationRecord.{StationRecord}
 use Rattle.apf_gate.specs.declared.record.Record.{Record}
 use Rattle.apf_gate.specs.declared.record.Record.TheVariants.{Station}
-use Rattle.apf_gate.specs.Records.{opening_of, world_of, level_of, code_in, service_of, has, saw_level, saw_decision}
+use Rattle.apf_gate.specs.Records.{world_of, level_of, code_in, service_of, has, saw_level, saw_decision}
 use Rattle.apf_gate.specs.Account.{Account, IsRequest, IsRefusal, IsKnown, WasSet, AreStations}
 use Rattle.apf_gate.specs.Gauges.{IsShape, AreLaws}
 use Rattle.apf_gate.specs.Rule.{IsRuled}
-use Rattle.apf_gate.specs.Steps.{IsInRange, SawLevel, SawDecision, LooksFrom, Reads, Cancels, Closes, Sets, ByStation, OfLevel, OfDecision, LooksFromAt, ReadsAt, CancelsAt, ClosesAt, SetsAt, limit_in}
+use Rattle.apf_gate.specs.Steps.{IsInRange, LooksFrom, Reads, Cancels, Sets, ByStation, OfDecision, LooksFromAt, ReadsAt, CancelsAt, ClosesAt, SetsAt, limit_in}
 use Rattle.apf_gate.proofs.Puts.{put_here, put_else}
 use Rattle.apf_gate.proofs.WordNumbers.{packed_same, code_same, closes, with_limit}
-use Rattle.apf_gate.proofs.Later.{IsLater, same_schedule, one_more}
+use Rattle.apf_gate.proofs.Later.{same_schedule, one_more}
 use Rattle.apf_gate.proofs.Views.{Table}
-use Rattle.apf_gate.proofs.Sound.{IsSame, request_elsewhere, stations_learnt, put_field, was_set, station_step}
+use Rattle.apf_gate.proofs.Sound.{request_elsewhere, stations_learnt, put_field, was_set, station_step}
 use Rattle.apf_gate.proofs.Packing.{packs_same, packs_level, packs_decided, level_in_range, no_queues, is_small}
-use Rattle.apf_gate.proofs.Rooms.{true_or_false}
 use Rattle.apf_gate.proofs.Knowing.{level_known, level_told, decision_known, decision_told}
 
 module _ (s : Shape) where

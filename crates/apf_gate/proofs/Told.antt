@@ -1,15 +1,13 @@
 -- What a step told, read off the step.
-use Rattle.std.proofs.Common.{◌≡◌, ◌≢◌, ℕ, Bool, true, false, List, Option, None, sym, refl, ap, ◌∙◌, subst, eq-eqb, ne_eqb}
+use Rattle.std.proofs.Common.{◌≡◌, ◌≢◌, ℕ, Bool, List, sym, ap, ◌∙◌, subst, eq-eqb, ne_eqb}
 use Rattle.std.specs.Prelude.{◌==◌, MatchBool}
 use Rattle.apf_words.specs.Level.{Level, packed}
-use Rattle.apf_words.specs.declared.decision.Decision.{Decision}
 use Rattle.apf_gate.specs.declared.record.PassRecord.{PassRecord}
 use Rattle.apf_gate.specs.declared.record.Record.{Record}
-use Rattle.apf_gate.specs.Records.{code_in}
 use Rattle.apf_gate.specs.declared.record.StationRecord.{StationRecord}
 use Rattle.apf_gate.specs.Rule.{pass_of, station_of}
-use Rattle.apf_gate.specs.Steps.{IsInRange, ByPass, ByStation, OfLevel, OfDecision}
-use Rattle.apf_gate.proofs.WordNumbers.{packed_same, code_same}
+use Rattle.apf_gate.specs.Steps.{IsInRange, ByPass, ByStation, OfLevel}
+use Rattle.apf_gate.proofs.WordNumbers.{packed_same}
 use Rattle.apf_gate.proofs.Packing.{is_small}
 use Rattle.atomic_table.specs.Table.{Me}
 

@@ -1,21 +1,15 @@
 -- The views of the seats as one step changes them.
-use Rattle.std.proofs.Common.{◌≡◌, ◌≢◌, ◌⊎◌, ℕ, zero, suc, ◌+◌, ◌*◌, ◌<◌, List, [], ◌∷◌, ◌++◌, length, set, sym, refl, ap, ◌∙◌, subst, inl, inr, ⊎_elim, arith}
-use mathlib.Core.Logic.{dite}
-use mathlib.Core.Option.{some, some-injective, some-ne-none}
+use Rattle.std.proofs.Common.{◌≡◌, ◌≢◌, ℕ, ◌+◌, ◌*◌, List, [], ◌∷◌, set, sym, ◌∙◌, subst, ⊎_elim}
+use mathlib.Core.Option.{some}
 use lib.ListN.{get_elem?}
-use native.Mathlib.Decide.{ℕ_discrete}
-use Rattle.atomic_table.specs.Table.{State, Splits, Joins}
+use Rattle.atomic_table.specs.Table.{State}
 use Rattle.atomic_table.proofs.Lists.{at_set}
 use Rattle.apf_gate.specs.declared.record.Shape.{Shape}
-use Rattle.apf_gate.specs.declared.record.PassRecord.{PassRecord}
-use Rattle.apf_gate.specs.declared.record.DeskRecord.{DeskRecord}
-use Rattle.apf_gate.specs.declared.record.StationRecord.{StationRecord}
 use Rattle.apf_gate.specs.declared.record.Record.{Record}
 use Rattle.apf_gate.specs.declared.record.Record.TheVariants.{Pass, Desk, Station}
 use Rattle.apf_gate.specs.Records.{world_of}
 use Rattle.apf_gate.specs.Account.{Account, IsSound}
-use Rattle.apf_gate.specs.Rule.{Every, Packs, token_of, IsRecord, IsKeptAt, AreApart, IsView, IsRuled, without_first, first_alone}
-use Rattle.apf_gate.proofs.Puts.{put_here, put_else}
+use Rattle.apf_gate.specs.Rule.{Every, Packs, IsKeptAt, IsView, IsRuled}
 
 pub every_map : {A : Type 0} (P Q : A → Type 0) (xs : List A) → ((x : A) → P x → Q x) → Every P xs → Every Q xs
 every_map P Q [] f a = a

@@ -1,5 +1,5 @@
 -- One schedule of the level and one record for each token, which explain the words: the lines of the rule.
-use Rattle.std.specs.Prelude.{◌≡◌, ◌≢◌, ◌⊎◌, ℕ, ◌<◌, ◌≤◌, Bool, true, false, List, [], ◌∷◌, ◌++◌, length, Option, Some, None}
+use Rattle.std.specs.Prelude.{◌≡◌, ◌≢◌, ◌⊎◌, ℕ, ◌<◌, ◌≤◌, Bool, true, false, List, ◌++◌, length, Option, Some, None}
 use Rattle.apf_words.specs.declared.decision.Decision.{Decision}
 use Rattle.apf_words.specs.declared.decision.Decision.TheVariants.{Execute, QueueFull, Closed, Cancelled, ConcurrencyLimit}
 use Rattle.apf_model.specs.declared.moves.Move.{Move}
@@ -14,7 +14,7 @@ use Rattle.apf_gate.specs.declared.record.State.{State}
 use Rattle.apf_gate.specs.declared.record.State.TheVariants.{Fresh, Took, InLine, Over}
 use Rattle.apf_gate.specs.declared.record.PassRecord.{PassRecord}
 use Rattle.apf_gate.specs.declared.record.Service.{Service}
-use Rattle.apf_gate.specs.declared.record.Service.TheVariants.{NotHanded, Handed, Full, Waiting, Held, Settled, Left}
+use Rattle.apf_gate.specs.declared.record.Service.TheVariants.{NotHanded, Full, Waiting, Held, Settled, Left}
 use Rattle.apf_gate.specs.declared.record.DeskRecord.{DeskRecord}
 use Rattle.apf_gate.specs.declared.record.StationRecord.{StationRecord}
 use Rattle.apf_gate.specs.Records.{opening_of, world_of, told_of, service_of, has, told_own}

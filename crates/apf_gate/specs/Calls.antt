@@ -1,18 +1,16 @@
 -- What the calls ask and promise, by the records of their tokens.
-use Rattle.std.specs.Prelude.{◌≡◌, ◌≢◌, ◌⊎◌, ℕ, zero, suc, ◌+◌, ◌<◌, ◌≤◌, ◌==◌, not, Bool, true, false, List, [], ◌∷◌, ◌++◌, length, Option, Some, None}
+use Rattle.std.specs.Prelude.{◌≡◌, ◌≢◌, ◌⊎◌, ℕ, zero, suc, ◌<◌, ◌≤◌, ◌==◌, not, true, false, List, [], ◌∷◌, ◌++◌, length, Some, None}
 use Rattle.apf_words.specs.Fits.{Fits}
 use Rattle.apf_words.specs.Level.{Level}
 use Rattle.apf_words.specs.declared.decision.Decision.{Decision}
 use Rattle.apf_words.specs.declared.decision.Decision.TheVariants.{Execute, QueueFull, Closed, Cancelled, ConcurrencyLimit}
-use Rattle.apf_model.specs.declared.moves.Stage.{Stage}
-use Rattle.apf_model.specs.declared.moves.Move.{Move}
 use Rattle.apf_model.specs.declared.response.Response.TheVariants.{Reject}
-use Rattle.apf_model.specs.World.{World, put, width, seats, seats_at, waiters, waits_at, IsWaiting, IsStanding}
-use Rattle.apf_model.specs.Schedule.{IsSchedule, AreWidths}
+use Rattle.apf_model.specs.World.{width}
+use Rattle.apf_model.specs.Schedule.{AreWidths}
 use Rattle.apf_gate.specs.declared.record.Shape.{Shape}
-use Rattle.apf_gate.specs.declared.record.State.TheVariants.{Fresh, Took, InLine, Over}
+use Rattle.apf_gate.specs.declared.record.State.TheVariants.{Fresh, Took, InLine}
 use Rattle.apf_gate.specs.declared.record.PassRecord.{PassRecord}
-use Rattle.apf_gate.specs.declared.record.Service.TheVariants.{NotHanded, Handed, Waiting}
+use Rattle.apf_gate.specs.declared.record.Service.TheVariants.{NotHanded, Handed}
 use Rattle.apf_gate.specs.declared.record.DeskRecord.{DeskRecord}
 use Rattle.apf_gate.specs.declared.record.StationRecord.{StationRecord}
 use Rattle.apf_gate.specs.declared.fault.GateFault.{GateFault}

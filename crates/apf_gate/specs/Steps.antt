@@ -1,5 +1,5 @@
 -- What each step tells the token that makes it.
-use Rattle.std.specs.Prelude.{◌≡◌, ◌≢◌, ◌⊎◌, ℕ, ◌+◌, ◌-◌, ◌/◌, ◌%◌, ◌^◌, ◌<◌, ◌≤◌, ◌==◌, ◌||◌, ◌&&◌, not, nat_le, MatchBool, Bool, true, false, if◌then◌else◌, List, [], ◌∷◌, ◌++◌, Option, Some, None}
+use Rattle.std.specs.Prelude.{◌≡◌, ◌≢◌, ℕ, ◌+◌, ◌-◌, ◌/◌, ◌%◌, ◌^◌, ◌≤◌, ◌==◌, ◌||◌, ◌&&◌, not, nat_le, MatchBool, Bool, true, false, if◌then◌else◌, List, [], ◌∷◌, ◌++◌, Option, Some, None}
 use Rattle.apf_words.specs.Codes.{code_of}
 use Rattle.apf_words.specs.Level.{Level, packed}
 use Rattle.apf_words.specs.declared.decision.Decision.{Decision}
@@ -9,7 +9,6 @@ use Rattle.apf_model.specs.declared.moves.Move.TheVariants.{Take, Enter, Grant, 
 use Rattle.apf_model.specs.declared.response.Response.TheVariants.{Reject}
 use Rattle.apf_model.specs.World.{width}
 use Rattle.apf_model.specs.Schedule.{IsSchedule}
-use Rattle.apf_gate.specs.declared.record.Shape.{Shape}
 use Rattle.apf_gate.specs.declared.record.Knowledge.{Knowledge}
 use Rattle.apf_gate.specs.declared.record.State.{State}
 use Rattle.apf_gate.specs.declared.record.State.TheVariants.{Fresh, Took, InLine, Over}

@@ -1,5 +1,5 @@
 -- How many steps of each kind a request has had, by its stage.
-use Rattle.std.proofs.Common.{◌≡◌, ◌≢◌, ◌⊎◌, ℕ, ◌+◌, ◌<◌, ◌≤◌, Bool, true, false, List, [], ◌∷◌, ◌++◌, length, sym, refl, ap, ◌∙◌, subst, arith, eq-eqb, ne_eqb}
+use Rattle.std.proofs.Common.{◌≡◌, ◌≢◌, ℕ, ◌+◌, ◌≤◌, false, List, [], ◌∷◌, ◌++◌, sym, refl, ap, ◌∙◌, subst, arith, eq-eqb, ne_eqb}
 use Rattle.std.specs.Prelude.{count_by}
 use mathlib.Core.Logic.{dite}
 use native.Mathlib.Decide.{ℕ_discrete}
@@ -7,7 +7,7 @@ use Rattle.apf_model.specs.declared.moves.Stage.{Stage}
 use Rattle.apf_model.specs.declared.moves.Stage.TheVariants.{Away, Waits, Stands, Gone}
 use Rattle.apf_model.specs.declared.moves.Move.{Move}
 use Rattle.apf_model.specs.declared.moves.Move.TheVariants.{Take, Enter, Grant, Leave, Decide, Release, Close, SetLimit, See}
-use Rattle.apf_model.specs.World.{Opening, World, put, after, IsStanding}
+use Rattle.apf_model.specs.World.{Opening, put, IsStanding}
 use Rattle.apf_model.specs.Schedule.{world, IsSchedule, takes, enters, arrives, is_granted, leaves, releases}
 use Rattle.apf_model.proofs.Sums.{put_here, put_else}
 use Rattle.apf_model.proofs.Places.{IsSchedule-append, count_by-append, count_yes, count_no}

@@ -1,5 +1,5 @@
 -- What a schedule's decisions say of the steps.
-use Rattle.std.proofs.Common.{◌≡◌, ◌≢◌, ◌⊎◌, ℕ, ◌+◌, ◌<◌, ◌≤◌, Bool, true, false, List, [], ◌∷◌, ◌++◌, length, Option, Some, None, sym, refl, ap, ◌∙◌, subst, inl, inr, ⊎_elim, arith, eq-eqb, ne_eqb}
+use Rattle.std.proofs.Common.{◌≡◌, ◌≢◌, ◌⊎◌, ℕ, ◌≤◌, Bool, true, false, List, [], ◌∷◌, ◌++◌, Option, Some, None, sym, refl, ap, ◌∙◌, subst, inl, inr, ⊎_elim, arith, eq-eqb, ne_eqb}
 use Rattle.std.specs.Prelude.{count_by}
 use mathlib.Core.Logic.{dite}
 use native.Mathlib.Decide.{ℕ_discrete}
@@ -11,10 +11,10 @@ use Rattle.apf_model.specs.declared.moves.Stage.{Stage}
 use Rattle.apf_model.specs.declared.moves.Stage.TheVariants.{Away, Waits, Stands, Gone}
 use Rattle.apf_model.specs.declared.moves.Move.{Move}
 use Rattle.apf_model.specs.declared.moves.Move.TheVariants.{Take, Enter, Grant, Leave, Decide, Release, Close, SetLimit, See}
-use Rattle.apf_model.specs.World.{Opening, World, put, after, IsStanding, IsWaiting, MayBe}
+use Rattle.apf_model.specs.World.{Opening, World, put, IsStanding, IsWaiting, MayBe}
 use Rattle.apf_model.specs.Schedule.{world, IsSchedule, arrives, is_decided}
 use Rattle.apf_model.proofs.Sums.{put_here, put_else}
-use Rattle.apf_model.proofs.Places.{IsSchedule-append, count_yes, count_no}
+use Rattle.apf_model.proofs.Places.{count_yes, count_no}
 
 some_not : {A : Type 0} {a : A} → Some a ≡ None → ⊥
 some_not e = cc

@@ -1,10 +1,9 @@
 -- The places of a schedule.
-use Rattle.std.proofs.Common.{◌≡◌, ℕ, ◌+◌, ◌≤◌, Bool, true, false, cond, List, [], ◌∷◌, ◌++◌, sym, refl, ap, ◌∙◌, zero-add, arith}
+use Rattle.std.proofs.Common.{◌≡◌, ◌+◌, Bool, true, false, cond, List, [], ◌∷◌, ◌++◌, ap, ◌∙◌, zero-add}
 use Rattle.std.specs.Prelude.{count_by}
 use Rattle.std.proofs.lemmas.List.Sums.{sum_by-cons, sum_by-append}
 use Rattle.apf_model.specs.declared.moves.Move.{Move}
-use Rattle.apf_model.specs.declared.moves.Move.TheVariants.{Take, Grant, Enter}
-use Rattle.apf_model.specs.World.{Opening, World, Allowed, FitsIn}
+use Rattle.apf_model.specs.World.{Opening, Allowed}
 use Rattle.apf_model.specs.Schedule.{world, IsSchedule}
 
 -- each beginning of a schedule is a schedule

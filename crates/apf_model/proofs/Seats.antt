@@ -1,5 +1,5 @@
 -- The seats of a schedule's world: past the largest limit so far one over-wide grant stands alone.
-use Rattle.std.proofs.Common.{◌≡◌, ◌≢◌, ◌⊎◌, ℕ, ◌+◌, ◌<◌, ◌≤◌, List, [], ◌∷◌, length, sym, refl, ap, ◌∙◌, ⊎_elim, arith}
+use Rattle.std.proofs.Common.{◌≡◌, ℕ, ◌+◌, ◌<◌, ◌≤◌, List, [], ◌∷◌, length, sym, refl, ap, ◌∙◌, ⊎_elim, arith}
 use Rattle.std.specs.Prelude.{max}
 use mathlib.Core.Logic.{dite}
 use native.Mathlib.Decide.{ℕ_discrete}
@@ -11,7 +11,7 @@ use Rattle.apf_model.specs.declared.moves.Move.TheVariants.{Take, Enter, Grant, 
 use Rattle.apf_model.specs.Tally.{tally}
 use Rattle.apf_model.specs.World.{Opening, World, put, seats_at, width, seats, after, FitsIn}
 use Rattle.apf_model.specs.Schedule.{world, IsSchedule, AreWidths, StandsAlone, Alone}
-use Rattle.apf_model.proofs.Sums.{put_here, put_else, tally_same, tally_member, tally_nothing, tally_one, moved}
+use Rattle.apf_model.proofs.Sums.{put_here, put_else, tally_member, tally_nothing, tally_one, moved}
 
 not_standing : (s : Stage) (k : ℕ) → (s ≡ Stands → ⊥) → seats_at s k ≡ 0
 not_standing Away k n = refl

@@ -1,7 +1,7 @@
 -- A step that is allowed keeps the seats at most 20,000.
-use Rattle.std.proofs.Common.{◌≡◌, ◌⊎◌, ℕ, ◌+◌, ◌<◌, ◌≤◌, List, length, ⊎_elim, arith}
+use Rattle.std.proofs.Common.{◌≡◌, ℕ, ◌+◌, ◌<◌, ◌≤◌, List, length, ⊎_elim, arith}
 use Rattle.apf_model.specs.declared.moves.Stage.{Stage}
-use Rattle.apf_model.specs.declared.moves.Stage.TheVariants.{Away, Waits, Stands, Gone}
+use Rattle.apf_model.specs.declared.moves.Stage.TheVariants.{Stands}
 use Rattle.apf_model.specs.Tally.{tally}
 use Rattle.apf_model.specs.World.{World, put, seats_at, width, seats, FitsIn}
 use Rattle.apf_model.specs.Schedule.{AreWidths}

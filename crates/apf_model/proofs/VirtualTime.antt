@@ -1,5 +1,5 @@
 -- How large the numbers of a history can be.
-use Rattle.std.proofs.Common.{◌≡◌, ◌≢◌, ℕ, zero, suc, ◌+◌, ◌*◌, ◌^◌, ◌<◌, ◌≤◌, List, [], ◌∷◌, length, slice_index, sym, ap, subst, arith}
+use Rattle.std.proofs.Common.{◌≡◌, ℕ, suc, ◌+◌, ◌*◌, ◌≤◌, List, [], ◌∷◌, length, slice_index, ap, subst, arith}
 use Rattle.std.proofs.Math.Decide.{dec_lt}
 use Rattle.std.proofs.lemmas.List.{get_or_past}
 use Rattle.std.specs.Prelude.{max}
@@ -9,7 +9,7 @@ use Rattle.apf_model.specs.declared.events.Event.{Event}
 use Rattle.apf_model.specs.declared.events.Event.TheVariants.{Enter, Full, Dispatch, Strike}
 use Rattle.apf_model.specs.World.{put, width}
 use Rattle.apf_model.specs.History.{waiting}
-use Rattle.apf_model.specs.Fair.{Numbers, after_enter, after_dispatch, after_event, numbers}
+use Rattle.apf_model.specs.Fair.{Numbers, after_enter, after_event, numbers}
 use Rattle.apf_model.specs.declared.plain.virtual_time.Numbers.{Numbers as PlainNumbers}
 use Rattle.apf_model.specs.Plain.{AreNumbers}
 use Rattle.apf_model.proofs.Sums.{put_here, put_else}

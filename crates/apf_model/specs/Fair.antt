@@ -1,7 +1,7 @@
 -- Virtual time, the choice of a queue, and the service of a queue.
-use Rattle.std.specs.Prelude.{◌≡◌, ◌≢◌, ℕ, ◌+◌, ◌-◌, ◌*◌, ◌%◌, ◌<◌, ◌≤◌, ◌==◌, if◌then◌else◌, max, List, [], ◌∷◌, slice_index, drop}
+use Rattle.std.specs.Prelude.{◌≡◌, ◌≢◌, ℕ, ◌+◌, ◌-◌, ◌%◌, ◌<◌, ◌≤◌, ◌==◌, if◌then◌else◌, max, List, [], ◌∷◌, slice_index, drop}
 use Rattle.apf_model.specs.declared.events.Event.{Event}
-use Rattle.apf_model.specs.declared.events.Event.TheVariants.{Enter, Full, Dispatch, Strike}
+use Rattle.apf_model.specs.declared.events.Event.TheVariants.{Enter, Dispatch}
 use Rattle.apf_model.specs.World.{put, width}
 use Rattle.apf_model.specs.History.{waiting, IsLegal}
 

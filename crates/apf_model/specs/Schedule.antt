@@ -1,8 +1,7 @@
 -- Schedules: steps by any actors in any order, each allowed where it comes. The newest step comes first in the list.
-use Rattle.std.specs.Prelude.{◌≡◌, ℕ, ◌<◌, ◌≤◌, ◌==◌, Bool, true, false, List, [], ◌∷◌, length, All}
-use Rattle.apf_words.specs.declared.decision.Decision.{Decision}
+use Rattle.std.specs.Prelude.{◌≡◌, ℕ, ◌<◌, ◌≤◌, ◌==◌, Bool, false, List, [], ◌∷◌, length}
 use Rattle.apf_model.specs.declared.moves.Move.{Move}
-use Rattle.apf_model.specs.declared.moves.Move.TheVariants.{Take, Enter, Grant, Leave, Decide, Release, Close, SetLimit, See}
+use Rattle.apf_model.specs.declared.moves.Move.TheVariants.{Take, Enter, Grant, Leave, Decide, Release}
 use Rattle.apf_model.specs.World.{Opening, World, opening_world, width, seats, IsStanding, Allowed, after}
 
 -- the world after these steps

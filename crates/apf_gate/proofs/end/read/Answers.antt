@@ -1,10 +1,8 @@
-use Rattle.std.proofs.Common.{rules, ◌≡◌, ℕ, ◌+◌, ◌<◌, ◌≤◌, [], ◌∷◌, ◌++◌, length, Option, Some, arith, refl, sym, ap, ◌∙◌, subst, ⊎_elim}
+use Rattle.std.proofs.Common.{rules, ◌+◌, ◌<◌, [], ◌∷◌, ◌++◌, Some, arith, refl, sym, ap, ◌∙◌, subst}
 use Rattle.std.specs.Prelude.{slice_get, slice_index}
 use Rattle.std.specs.Mem.Slots.{slots_items}
 use mathlib.Core.Logic.{dite}
 use native.Mathlib.Decide.{ℕ_discrete}
-use Rattle.apf_words.specs.declared.decision.Decision.{Decision}
-use Rattle.apf_gate.specs.Records.{code_in}
 use Rattle.apf_gate.proofs.Gathering.{found_at, snoc_front, snoc_last}
 use Rattle.apf_gate.proofs.end.read.Goals as goal
 

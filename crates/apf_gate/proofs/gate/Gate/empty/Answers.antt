@@ -1,5 +1,4 @@
-use Rattle.std.proofs.Common.{rules, ◌≡◌, ℕ, ◌+◌, ◌*◌, ◌<◌, ◌≤◌, List, length, set, replicate, arith, refl, sym, ap, ◌∙◌, subst, length-set}
-use Rattle.apf_model.specs.World.{width}
+use Rattle.std.proofs.Common.{rules, ◌≡◌, ◌+◌, ◌*◌, length, set, replicate, arith, sym, ap, ◌∙◌, subst, length-set}
 use Rattle.apf_gate.specs.declared.record.Shape.{Shape}
 use Rattle.apf_gate.specs.Records.{opening_of}
 use Rattle.apf_gate.specs.Gauges.{shape_of, IsShape, AreLaws}

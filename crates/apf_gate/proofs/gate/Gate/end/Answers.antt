@@ -1,16 +1,14 @@
-use Rattle.std.proofs.Common.{rules, ◌≡◌, ℕ, ◌+◌, ◌<◌, [], ◌∷◌, List, length, arith, refl, sym, ap, ◌∙◌, subst}
+use Rattle.std.proofs.Common.{rules, ◌≡◌, ℕ, ◌+◌, ◌<◌, List, length, sym, ap, ◌∙◌, subst}
 use Rattle.std.specs.Prelude.{slice_index}
 use mathlib.Core.Option.{some}
 use Rattle.apf_gate.specs.declared.record.Shape.{Shape}
-use Rattle.apf_gate.specs.declared.record.Record.{Record}
-use Rattle.apf_gate.specs.declared.record.Record.TheVariants.{Desk}
 use Rattle.apf_gate.specs.Gauges.{shape_of}
 use Rattle.apf_gate.specs.Records.{world_of, level_of}
 use Rattle.apf_gate.specs.Rule.{IsRuled, IsRecord, IsKeptAt, desk_of}
 use Rattle.apf_gate.specs.Calls.{GateId, DeskToken}
-use Rattle.apf_gate.specs.Ends.{EndsWith, passes_before, stations_before, handed_in}
+use Rattle.apf_gate.specs.Ends.{EndsWith, stations_before, handed_in}
 use Rattle.apf_gate.proofs.Packing.{level_in_range}
-use Rattle.apf_gate.proofs.Views.{Table, every_map}
+use Rattle.apf_gate.proofs.Views.{every_map}
 use Rattle.apf_gate.proofs.gate.Gate.end.Goals as goal
 
 pub read-requires-clause-level : goal.read-requires-clause-level

@@ -1,4 +1,4 @@
-use Rattle.std.proofs.Common.{rules, ◌≡◌, ℕ, ◌+◌, arith, sym, ap, ◌∙◌, subst}
+use Rattle.std.proofs.Common.{rules, ◌≡◌, ◌+◌, arith, sym, ap, ◌∙◌, subst}
 use Rattle.apf_words.specs.Fits.{Fits}
 use Rattle.apf_model.specs.declared.response.Response.TheVariants.{Reject}
 use Rattle.apf_gate.specs.declared.record.State.TheVariants.{Fresh}

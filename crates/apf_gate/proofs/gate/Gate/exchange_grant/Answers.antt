@@ -1,4 +1,4 @@
-use Rattle.std.proofs.Common.{rules, ◌≡◌, ◌+◌, ◌-◌, ◌<◌, ◌≤◌, length, None, arith, sym, ap, ◌∙◌, subst}
+use Rattle.std.proofs.Common.{rules, ◌≡◌, ◌+◌, ◌-◌, ◌<◌, ◌≤◌, length, None, arith, sym, ◌∙◌, subst}
 use Rattle.apf_words.specs.Fits.{Fits}
 use Rattle.apf_model.specs.World.{width}
 use Rattle.apf_gate.specs.declared.record.Service.TheVariants.{Waiting}

@@ -1,4 +1,4 @@
-use Rattle.std.proofs.Common.{◌+◌, arith, refl, sym, ap, ◌∙◌}
+use Rattle.std.proofs.Common.{arith, refl, sym, ap, ◌∙◌}
 use Rattle.apf_gate.specs.declared.record.Shape.{Shape}
 use Rattle.apf_gate.specs.Calls.{GateId}
 use Rattle.apf_gate.proofs.BothSteps.{enters}

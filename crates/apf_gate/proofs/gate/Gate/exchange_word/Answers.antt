@@ -1,4 +1,4 @@
-use Rattle.std.proofs.Common.{rules, ◌<◌, length, arith, sym, ap, subst}
+use Rattle.std.proofs.Common.{rules, ◌<◌, length, arith, sym, subst}
 use Rattle.apf_gate.specs.Calls.{GateId}
 use Rattle.apf_gate.proofs.StationSteps.{cancels}
 use Rattle.apf_gate.proofs.gate.Gate.exchange_word.Goals as goal

@@ -1,4 +1,4 @@
-use Rattle.std.proofs.Common.{rules, ◌≡◌, List, [], ◌∷◌, ◌++◌, arith, refl, sym, ap, ◌∙◌, subst}
+use Rattle.std.proofs.Common.{rules, ◌≡◌, List, [], ◌∷◌, ◌++◌, arith, sym, ap, ◌∙◌, subst}
 use Rattle.apf_gate.specs.declared.record.Record.TheVariants.{Station}
 use Rattle.apf_gate.specs.Rule.{Every}
 use Rattle.apf_gate.specs.Calls.{GateId, StationToken, station_gate}

@@ -1,4 +1,4 @@
-use Rattle.std.proofs.Common.{rules, ◌<◌, length, arith, sym, ap, subst}
+use Rattle.std.proofs.Common.{rules, ◌<◌, length, arith, sym, subst}
 use Rattle.apf_gate.specs.Calls.{GateId}
 use Rattle.apf_gate.proofs.StationSteps.{reads}
 use Rattle.apf_gate.proofs.gate.Gate.load_word.Goals as goal

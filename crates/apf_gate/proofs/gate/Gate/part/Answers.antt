@@ -1,4 +1,4 @@
-use Rattle.std.proofs.Common.{rules, [], ◌∷◌, arith, refl, sym, ap, ◌∙◌}
+use Rattle.std.proofs.Common.{[], ◌∷◌, arith, refl, sym, ap, ◌∙◌}
 use Rattle.apf_gate.specs.declared.record.Record.TheVariants.{Pass, Desk}
 use Rattle.apf_gate.specs.Joined.{pass_at, desk_at}
 use Rattle.apf_gate.specs.Calls.{GateId}

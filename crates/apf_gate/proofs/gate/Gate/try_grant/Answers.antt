@@ -1,6 +1,5 @@
-use Rattle.std.proofs.Common.{◌≡◌, ℕ, ◌<◌, length, sym, ap, ◌∙◌, subst}
+use Rattle.std.proofs.Common.{ℕ, ◌<◌, length, sym, ap, ◌∙◌, subst}
 use Rattle.apf_words.specs.Fits.{Fits}
-use Rattle.apf_words.specs.Level.{Level}
 use Rattle.apf_model.specs.World.{width}
 use Rattle.apf_gate.specs.Calls.{GateId}
 use Rattle.apf_gate.proofs.Puts.{any_default}

@@ -1,5 +1,5 @@
 -- The numbers are small, as each event adds one width at most.
-use Rattle.std.proofs.Common.{◌≡◌, ℕ, ◌+◌, ◌*◌, ◌<◌, ◌≤◌, ◌∷◌, length, slice_index, arith}
+use Rattle.std.proofs.Common.{◌≡◌, ◌*◌, ◌≤◌, ◌∷◌, length, slice_index, arith}
 use Rattle.apf_model.specs.Fair.{numbers}
 use Rattle.apf_model.specs.Plain.{AreNumbers}
 use Rattle.apf_model.proofs.VirtualTime.{numbers_below, items_below}

@@ -1,11 +1,8 @@
 -- A step that is allowed keeps the seats at most 20,000.
-use Rattle.std.proofs.Common.{◌≡◌, ℕ, ◌<◌, ◌≤◌, length, set, refl, subst, arith}
+use Rattle.std.proofs.Common.{refl, subst, arith}
 use Rattle.apf_model.specs.declared.moves.Move.{Move}
-use Rattle.apf_model.specs.declared.moves.Move.TheVariants.{Take, Grant, Enter, Leave, Release}
 use Rattle.apf_model.specs.declared.moves.Stage.TheVariants.{Away, Waits, Stands, Gone}
-use Rattle.apf_model.specs.declared.plain.world.World.{World as PlainWorld}
-use Rattle.apf_model.specs.World.{Allowed, FitsIn, MayTake, MayEnter, MayGrant, MayLeave, MayRelease}
-use Rattle.apf_model.specs.PlainWorld.{seats_of, stage_in}
+use Rattle.apf_model.specs.World.{Allowed, MayTake, MayEnter, MayGrant, MayLeave, MayRelease}
 use Rattle.apf_model.specs.Plain.{world_of, widths_of}
 use Rattle.apf_model.proofs.PlainWorlds.{seats_written}
 use Rattle.apf_model.proofs.Small.{stands_small, goes_small}

@@ -1,14 +1,13 @@
 -- All requests are away.
-use Rattle.std.proofs.Common.{◌≡◌, ℕ, ◌+◌, ◌<◌, ◌≤◌, List, length, get_or, replicate, sym, ap, ◌∙◌, subst, arith, Bool, true, false, Option, None}
+use Rattle.std.proofs.Common.{◌≡◌, ℕ, List, length, get_or, sym, ap, ◌∙◌, subst, arith, Bool, true, false, Option, None}
 use Rattle.std.proofs.Math.Path.{fun_ext}
 use Rattle.apf_words.specs.declared.decision.Decision.{Decision}
 use Rattle.apf_model.specs.declared.response.Response.{Response}
 use Rattle.apf_model.specs.declared.moves.Stage.{Stage}
 use Rattle.apf_model.specs.declared.moves.Stage.TheVariants.{Away}
-use Rattle.apf_model.specs.Tally.{tally}
-use Rattle.apf_model.specs.World.{World, Opening, opening_world, seats_at, width}
+use Rattle.apf_model.specs.World.{World, seats_at, width}
 use Rattle.apf_model.specs.Schedule.{AreWidths}
-use Rattle.apf_model.specs.PlainWorld.{stage_in, seats_of}
+use Rattle.apf_model.specs.PlainWorld.{stage_in}
 use Rattle.apf_model.proofs.Sums.{tally_nothing}
 use Rattle.apf_model.proofs.PlainWorlds.{same_in_list}
 use Rattle.apf_model.proofs.plain.world.World.new.Goals as goal

@@ -1,9 +1,8 @@
 -- The seats so far are at most all seats.
-use Rattle.std.proofs.Common.{◌≡◌, ℕ, ◌+◌, ◌<◌, ◌≤◌, suc, length, ap, ◌∙◌, arith}
+use Rattle.std.proofs.Common.{◌≡◌, ◌<◌, suc, length, ap, ◌∙◌, arith}
 use Rattle.std.proofs.lemmas.List.{get_or_default}
 use Rattle.apf_model.specs.declared.moves.Stage.{Stage}
 use Rattle.apf_model.specs.declared.moves.Stage.TheVariants.{Away}
-use Rattle.apf_model.specs.Tally.{tally}
 use Rattle.apf_model.specs.World.{seats_at, width}
 use Rattle.apf_model.specs.PlainWorld.{stage_in}
 use Rattle.apf_model.proofs.Sums.{tally_fewer}

@@ -1,5 +1,5 @@
 -- The waiters so far are at most the requests so far.
-use Rattle.std.proofs.Common.{◌≡◌, ℕ, ◌+◌, ◌<◌, ◌≤◌, length, arith}
+use Rattle.std.proofs.Common.{arith}
 use Rattle.apf_model.specs.World.{waits_at}
 use Rattle.apf_model.specs.PlainWorld.{stage_in}
 use Rattle.apf_model.proofs.Sums.{tally_bound, waits_at-le-one}

@@ -23,3 +23,6 @@ pub use gate::Gate;
 pub use open::Opened;
 pub use pass::Pass;
 pub use station::Station;
+
+#[cfg(test)]
+mod tests;

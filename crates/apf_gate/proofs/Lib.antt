@@ -15,3 +15,5 @@ pub mod Seats
 pub mod Told
 pub mod Opening
 pub mod Gathering
+pub mod Numbers
+pub mod Ending

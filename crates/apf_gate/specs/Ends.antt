@@ -1,11 +1,11 @@
 -- How a gate ends.
-use Rattle.std.specs.Prelude.{◌≡◌, ℕ, ◌<◌, List, [], ◌∷◌, length, slice_get, Option, Some}
+use Rattle.std.specs.Prelude.{◌≡◌, ◌⊎◌, ℕ, ◌<◌, true, List, [], ◌∷◌, length, slice_get, Option, Some}
 use Rattle.apf_words.specs.Level.{Level}
 use Rattle.apf_words.specs.declared.decision.Decision.{Decision}
 use Rattle.apf_gate.specs.declared.record.Record.{Record}
 use Rattle.apf_gate.specs.declared.record.Record.TheVariants.{Pass, Desk, Station}
 use Rattle.apf_gate.specs.declared.record.DeskRecord.{DeskRecord}
-use Rattle.apf_gate.specs.Records.{world_of, level_of}
+use Rattle.apf_gate.specs.Records.{world_of, level_of, told_of, has}
 use Rattle.apf_gate.specs.Account.{Account, IsSound}
 use Rattle.apf_gate.specs.Rule.{Every, AreApart, IsRecord}
 use Rattle.apf_gate.specs.Calls.{GateId, PassToken, StationToken}
@@ -37,3 +37,22 @@ pub record EndsWith (gate : GateId) (d : DeskRecord) (ps : List PassToken) (ts :
   pub decided : (r : ℕ) → r < length gate.shape.widths → slice_get words.decisions r ≡ Some ((world_of gate.shape account.schedule).decision r)
   pub stand : Every (IsRecord gate.shape account) (handed_in d ps ts)
   pub apart : AreApart (handed_in d ps ts)
+  pub all_passes : length ps ≡ length gate.shape.widths
+  pub all_stations : length ts ≡ gate.shape.stations
+
+-- P holds of one of them
+abbrev pub AnyOf : {A : Type 0} → (A → Type 0) → List A → Type 0
+AnyOf P [] = ⊥
+AnyOf P (x ∷ xs) = P x ⊎ AnyOf P xs
+
+-- a token that was handed in was told this decision of r
+abbrev pub WasTold : DeskRecord → List PassToken → List StationToken → ℕ → Decision → Type 0
+WasTold d ps ts r x = (told_of d.knows.told r ≡ Some x) ⊎ (AnyOf (λ t. told_of t.pass.knows.told r ≡ Some x) ps ⊎ AnyOf (λ t. told_of t.station.knows.told r ≡ Some x) ts)
+
+-- the Station wrote cancelled of r
+abbrev pub WroteCancelled : ℕ → StationToken → Type 0
+WroteCancelled r t = has t.station.cancelled r ≡ true
+
+-- the Station's close was the first
+abbrev pub ClosedFirst : StationToken → Type 0
+ClosedFirst t = t.station.closed_first ≡ true

@@ -45,5 +45,7 @@ returns g c =
       decided = λ r l. c.read.ensures.decisions r ((world_of own h.account.schedule).decision r) (subst (λ k. r < k) n l) (ap (λ (ws : List ℕ). slice_index ws (r + 1)) (sym f.2) ∙ h.packs.decisions r l);
       stand = every_map (IsKeptAt own h.account c.gather_stations-seat.result.id) (IsRecord own h.account) all (λ x k. k.1) kept.0;
       apart = kept.1;
+      all_passes = c.requires.all_passes ∙ sym (ap (λ (x : GateId). length x.shape.widths) c.self.view_is);
+      all_stations = c.requires.all_stations ∙ sym (ap (λ (x : GateId). x.shape.stations) c.self.view_is);
     } in
     subst (λ (x : GateId × DeskToken). EndsWith x.0 x.1.desk c.args.passes.items c.args.stations.items c.read.result) (λ k. (record { table = c.args.self.table; shape = (c.self.view_is k).shape }, c.desk.view_is k)) ended

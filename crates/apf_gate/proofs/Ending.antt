@@ -1,0 +1,178 @@
+-- What the end of a gate tells of its tokens.
+use Rattle.std.proofs.Common.{◌≡◌, ◌≢◌, ◌⊎◌, ℕ, ◌+◌, ◌*◌, ◌<◌, Bool, true, false, List, [], ◌∷◌, length, Option, Some, None, sym, refl, ap, ◌∙◌, subst, inl, inr, ⊎_elim, arith}
+use Rattle.std.specs.Prelude.{slice_get, not}
+use Rattle.std.proofs.lemmas.Bool.{not-true, not_from_false}
+use Rattle.apf_words.specs.Level.{Level}
+use Rattle.apf_words.specs.declared.decision.Decision.{Decision}
+use Rattle.apf_words.specs.declared.decision.Decision.TheVariants.{Cancelled}
+use Rattle.apf_model.specs.declared.moves.Stage.TheVariants.{Waits, Stands}
+use Rattle.apf_model.specs.World.{World, IsStanding, IsWaiting, seats, waiters}
+use Rattle.apf_gate.specs.declared.record.Knowledge.{Knowledge}
+use Rattle.apf_gate.specs.declared.record.State.TheVariants.{Over}
+use Rattle.apf_gate.specs.declared.record.Service.{Service}
+use Rattle.apf_gate.specs.declared.record.Service.TheVariants.{NotHanded, Handed, Full, Waiting, Held, Settled, Left}
+use Rattle.apf_gate.specs.declared.record.PassRecord.{PassRecord}
+use Rattle.apf_gate.specs.declared.record.DeskRecord.{DeskRecord}
+use Rattle.apf_gate.specs.declared.record.StationRecord.{StationRecord}
+use Rattle.apf_gate.specs.declared.record.Record.{Record}
+use Rattle.apf_gate.specs.declared.record.Record.TheVariants.{Pass, Desk, Station}
+use Rattle.apf_gate.specs.declared.record.Shape.{Shape}
+use Rattle.apf_gate.specs.Records.{world_of, told_of, has, service_of}
+use Rattle.apf_gate.specs.Account.{IsKnown, IsRequest, stage_of, stage_of_pass, stage_of_settled}
+use Rattle.apf_gate.specs.Steps.{service}
+use Rattle.apf_gate.proofs.WordNumbers.{some_same}
+use Rattle.apf_gate.specs.Rule.{Every, IsRecord, AreApart, token_of}
+use Rattle.apf_gate.specs.Calls.{GateId, PassToken, StationToken}
+use Rattle.apf_gate.specs.Ends.{WordsView, EndsWith, AnyOf, WasTold, WroteCancelled, ClosedFirst, passes_before, stations_before, handed_in}
+use Rattle.apf_gate.proofs.Numbers.{AreNumbered, all_there}
+use Rattle.apf_gate.proofs.Views.{every_map}
+
+-- the parts of what was handed in
+every_stations : (P : Record → Type 0) (ts : List StationToken) (rest : List Record) → Every P (stations_before ts rest) → Every (λ t. P (Station t.station)) ts × Every P rest
+every_stations P [] rest k = (tt, k)
+every_stations P (t ∷ ts) rest k = let h = every_stations P ts rest k.1 in ((k.0, h.0), h.1)
+
+every_passes : (P : Record → Type 0) (ps : List PassToken) (rest : List Record) → Every P (passes_before ps rest) → Every (λ t. P (Pass t.pass)) ps × Every P rest
+every_passes P [] rest k = (tt, k)
+every_passes P (t ∷ ts) rest k = let h = every_passes P ts rest k.1 in ((k.0, h.0), h.1)
+
+numbered_stations : (ts : List StationToken) (rest : List Record) → AreApart (stations_before ts rest) → AreNumbered (λ (t : StationToken). t.station.number) ts × AreApart rest
+numbered_stations [] rest k = (tt, k)
+numbered_stations (t ∷ ts) rest k =
+    let h = numbered_stations ts rest k.1 in
+    ((every_map (λ (u : StationToken). 2 * u.station.number + 2 ≢ 2 * t.station.number + 2) (λ (u : StationToken). u.station.number ≢ t.station.number) ts (λ u ne e. ne (ap (λ n. 2 * n + 2) e)) (every_stations (λ y. token_of y ≢ 2 * t.station.number + 2) ts rest k.0).0, h.0), h.1)
+
+numbered_passes : (ps : List PassToken) (rest : List Record) → AreApart (passes_before ps rest) → AreNumbered (λ (t : PassToken). t.pass.number) ps × AreApart rest
+numbered_passes [] rest k = (tt, k)
+numbered_passes (t ∷ ts) rest k =
+    let h = numbered_passes ts rest k.1 in
+    ((every_map (λ (u : PassToken). 2 * u.pass.number + 1 ≢ 2 * t.pass.number + 1) (λ (u : PassToken). u.pass.number ≢ t.pass.number) ts (λ u ne e. ne (ap (λ n. 2 * n + 1) e)) (every_passes (λ y. token_of y ≢ 2 * t.pass.number + 1) ts rest k.0).0, h.0), h.1)
+
+any_with : {A : Type 0} (P Q R : A → Type 0) (xs : List A) → ((x : A) → P x → Q x → R x) → AnyOf P xs → Every Q xs → AnyOf R xs
+any_with P Q R [] f a k = elim a [ ]
+any_with P Q R (x ∷ xs) f a k = ⊎_elim (λ (p : P x). inl (f x p k.0)) (λ (p : AnyOf P xs). inr (any_with P Q R xs f p k.1)) a
+
+any_elim : {A : Type 0} {C : Type 0} (P Q : A → Type 0) (xs : List A) → ((x : A) → P x → Q x → C) → AnyOf P xs → Every Q xs → C
+any_elim P Q [] f a k = elim a [ ]
+any_elim P Q (x ∷ xs) f a k = ⊎_elim (λ (p : P x). f x p k.0) (λ (p : AnyOf P xs). any_elim P Q xs f p k.1) a
+
+every_pair : {A : Type 0} (P Q : A → Type 0) (xs : List A) → Every P xs → Every Q xs → Every (λ x. P x × Q x) xs
+every_pair P Q [] a b = tt
+every_pair P Q (x ∷ xs) a b = ((a.0, b.0), every_pair P Q xs a.1 b.1)
+
+-- a Pass that is over stands no more and waits no more, where the Desk did not enter its request
+over_stage : (took : Bool) → (stage_of_pass Over took ≢ Stands) × (stage_of_pass Over took ≢ Waits)
+over_stage true = ((λ x. cc), (λ x. cc))
+over_stage false = ((λ x. cc), (λ x. cc))
+
+passed : (p : PassRecord) → p.state ≡ Over → (stage_of_pass p.state p.took ≢ Stands) × (stage_of_pass p.state p.took ≢ Waits)
+passed p over = subst (λ f. (stage_of_pass f p.took ≢ Stands) × (stage_of_pass f p.took ≢ Waits)) (sym over) (over_stage p.took)
+
+module _ (g : GateId) (d : DeskRecord) (ps : List PassToken) (ts : List StationToken) (w : WordsView) (e : EndsWith g d ps ts w) where
+  abbrev IsPassHere : PassToken → Type 0
+  IsPassHere t = (t.pass.number < length g.shape.widths) × (e.account.pass t.pass.number ≡ t.pass)
+
+  abbrev IsStationHere : StationToken → Type 0
+  IsStationHere t = (t.station.number < g.shape.stations) × (e.account.station t.station.number ≡ t.station)
+
+  stations_here : Every IsStationHere ts
+  stations_here = (every_stations (IsRecord g.shape e.account) ts (passes_before ps (Desk d ∷ [])) e.stand).0
+
+  passes_here : Every IsPassHere ps
+  passes_here = (every_passes (IsRecord g.shape e.account) ps (Desk d ∷ []) (every_stations (IsRecord g.shape e.account) ts (passes_before ps (Desk d ∷ [])) e.stand).1).0
+
+  desk_here : e.account.desk ≡ d
+  desk_here = (every_passes (IsRecord g.shape e.account) ps (Desk d ∷ []) (every_stations (IsRecord g.shape e.account) ts (passes_before ps (Desk d ∷ [])) e.stand).1).1.0
+
+  -- each Station, and each request's Pass, was handed in
+  station_there : (k : ℕ) → k < g.shape.stations → AnyOf (λ t. t.station.number ≡ k) ts
+  station_there = all_there (λ (t : StationToken). t.station.number) g.shape.stations ts e.all_stations (every_map IsStationHere (λ (t : StationToken). t.station.number < g.shape.stations) ts (λ t k. k.0) stations_here) (numbered_stations ts (passes_before ps (Desk d ∷ [])) e.apart).0
+
+  pass_there : (r : ℕ) → r < length g.shape.widths → AnyOf (λ t. t.pass.number ≡ r) ps
+  pass_there = all_there (λ (t : PassToken). t.pass.number) (length g.shape.widths) ps e.all_passes (every_map IsPassHere (λ (t : PassToken). t.pass.number < length g.shape.widths) ps (λ t k. k.0) passes_here) (numbered_passes ps (Desk d ∷ []) (numbered_stations ts (passes_before ps (Desk d ∷ [])) e.apart).1).0
+
+  known_told : (k : Knowledge) (r : ℕ) (x : Decision) → IsKnown g.shape k e.account.schedule → told_of k.told r ≡ Some x → (world_of g.shape e.account.schedule).decision r ≡ Some x
+  known_told k r x known is = known.told r (λ none. let z = sym is ∙ none in cc) ∙ is
+
+  pass_known : (t : PassToken) → IsPassHere t → IsKnown g.shape t.pass.knows e.account.schedule
+  pass_known t h = subst (λ (o : PassRecord). IsKnown g.shape o.knows e.account.schedule) h.1 (e.sound.pass_knows t.pass.number h.0)
+
+  station_known : (t : StationToken) → IsStationHere t → IsKnown g.shape t.station.knows e.account.schedule
+  station_known t h = subst (λ (o : StationRecord). IsKnown g.shape o.knows e.account.schedule) h.1 (e.sound.station_knows t.station.number)
+
+  pub told : (r : ℕ) (x : Decision) → r < length g.shape.widths → WasTold d ps ts r x → slice_get w.decisions r ≡ Some (Some x)
+  told r x l was = e.decided r l ∙ ap Some (⊎_elim
+      (λ (t : told_of d.knows.told r ≡ Some x). known_told d.knows r x (subst (λ (o : DeskRecord). IsKnown g.shape o.knows e.account.schedule) desk_here e.sound.desk_knows) t)
+      (λ (o : AnyOf (λ t. told_of t.pass.knows.told r ≡ Some x) ps ⊎ AnyOf (λ t. told_of t.station.knows.told r ≡ Some x) ts). ⊎_elim
+      (λ (a : AnyOf (λ t. told_of t.pass.knows.told r ≡ Some x) ps). any_elim (λ (t : PassToken). told_of t.pass.knows.told r ≡ Some x) IsPassHere ps (λ t is h. known_told t.pass.knows r x (pass_known t h) is) a passes_here)
+      (λ (a : AnyOf (λ t. told_of t.station.knows.told r ≡ Some x) ts). any_elim (λ (t : StationToken). told_of t.station.knows.told r ≡ Some x) IsStationHere ts (λ t is h. known_told t.station.knows r x (station_known t h) is) a stations_here)
+      o) was)
+
+  -- what the lines on Stations say of one that was handed in
+  wrote : (t : StationToken) (r : ℕ) → IsStationHere t → WroteCancelled r t → ((world_of g.shape e.account.schedule).decision r ≡ Some Cancelled) × (e.account.canceller r ≡ t.station.number)
+  wrote t r h c = e.sound.stations.canceller_is t.station.number r (ap (λ (o : StationRecord). has o.cancelled r) h.1 ∙ c)
+
+  first : (t : StationToken) → IsStationHere t → ClosedFirst t → ((world_of g.shape e.account.schedule).is_open ≡ false) × (e.account.closer ≡ t.station.number)
+  first t h c = e.sound.stations.closer_is t.station.number (ap (λ (o : StationRecord). o.closed_first) h.1 ∙ c)
+
+  shut : (world_of g.shape e.account.schedule).is_open ≡ false → w.level.closed ≡ true
+  shut c = ap (λ (l : Level). l.closed) e.level ∙ not_from_false _ c
+
+  pub cancelled_by_one : (r : ℕ) → r < length g.shape.widths → slice_get w.decisions r ≡ Some (Some Cancelled) → AnyOf (WroteCancelled r) ts
+  cancelled_by_one r l is =
+      let c = e.sound.stations.cancelled r (some_same _ _ (sym (e.decided r l) ∙ is)) in
+      any_with (λ (t : StationToken). t.station.number ≡ e.account.canceller r) IsStationHere (WroteCancelled r) ts
+      (λ t n h. ap (λ (o : StationRecord). has o.cancelled r) (sym h.1) ∙ (ap (λ k. has (e.account.station k).cancelled r) n ∙ c.1)) (station_there (e.account.canceller r) c.0) stations_here
+
+  pub cancelled_is_written : (r : ℕ) → r < length g.shape.widths → Every (λ t. WroteCancelled r t → slice_get w.decisions r ≡ Some (Some Cancelled)) ts
+  cancelled_is_written r l = every_map IsStationHere (λ (t : StationToken). WroteCancelled r t → slice_get w.decisions r ≡ Some (Some Cancelled)) ts (λ t h c. e.decided r l ∙ ap Some (wrote t r h c).0) stations_here
+
+  pub cancelled_by_no_other : (r : ℕ) → Every (λ t. Every (λ u. WroteCancelled r t → WroteCancelled r u → t.station.number ≡ u.station.number) ts) ts
+  cancelled_by_no_other r = every_map IsStationHere (λ (t : StationToken). Every (λ u. WroteCancelled r t → WroteCancelled r u → t.station.number ≡ u.station.number) ts) ts
+      (λ t h. every_map IsStationHere (λ (u : StationToken). WroteCancelled r t → WroteCancelled r u → t.station.number ≡ u.station.number) ts (λ u k a b. sym (wrote t r h a).1 ∙ (wrote u r k b).1) stations_here) stations_here
+
+  pub closed_by_one : w.level.closed ≡ true → AnyOf ClosedFirst ts
+  closed_by_one is =
+      let c = e.sound.stations.closed (not-true _ (ap (λ (l : Level). l.closed) (sym e.level) ∙ is)) in
+      any_with (λ (t : StationToken). t.station.number ≡ e.account.closer) IsStationHere ClosedFirst ts
+      (λ t n h. ap (λ (o : StationRecord). o.closed_first) (sym h.1) ∙ (ap (λ k. (e.account.station k).closed_first) n ∙ c.1)) (station_there e.account.closer c.0) stations_here
+
+  pub closed_is_seen : Every (λ t. t.station.knows.saw_closed ≡ true → w.level.closed ≡ true) ts
+  closed_is_seen = every_map IsStationHere (λ (t : StationToken). t.station.knows.saw_closed ≡ true → w.level.closed ≡ true) ts (λ t h c. shut ((station_known t h).closed c)) stations_here
+
+  pub closed_is_first : Every (λ t. ClosedFirst t → w.level.closed ≡ true) ts
+  closed_is_first = every_map IsStationHere (λ (t : StationToken). ClosedFirst t → w.level.closed ≡ true) ts (λ t h c. shut (first t h c).0) stations_here
+
+  pub closed_by_no_other : Every (λ t. Every (λ u. ClosedFirst t → ClosedFirst u → t.station.number ≡ u.station.number) ts) ts
+  closed_by_no_other = every_map IsStationHere (λ (t : StationToken). Every (λ u. ClosedFirst t → ClosedFirst u → t.station.number ≡ u.station.number) ts) ts
+      (λ t h. every_map IsStationHere (λ (u : StationToken). ClosedFirst t → ClosedFirst u → t.station.number ≡ u.station.number) ts (λ u k a b. sym (first t h a).1 ∙ (first u k b).1) stations_here) stations_here
+
+  -- a request whose Pass is over stands no more, nor waits, if the Desk neither holds it nor has it waiting
+  stage_over : (p : PassRecord) (a : Service) → p.state ≡ Over → a ≢ Held → a ≢ Waiting → (stage_of p a ≢ Stands) × (stage_of p a ≢ Waits)
+  stage_over p Waiting over held waits = absurd (waits refl)
+  stage_over p Held over held waits = absurd (held refl)
+  stage_over p Settled over held waits = ((λ x. let z = sym (ap stage_of_settled over) ∙ x in cc), (λ x. let z = sym (ap stage_of_settled over) ∙ x in cc))
+  stage_over p Left over held waits = ((λ x. cc), (λ x. cc))
+  stage_over p NotHanded over held waits = passed p over
+  stage_over p Handed over held waits = passed p over
+  stage_over p Full over held waits = passed p over
+
+  pub drained : ((u : World) → ((r : ℕ) → r < length g.shape.widths → ¬ IsStanding u r) → seats g.shape.widths u ≡ 0) → ((u : World) → ((r : ℕ) → r < length g.shape.widths → ¬ IsWaiting u r) → waiters g.shape.widths u ≡ 0)
+      → Every (λ t. t.pass.state ≡ Over) ps → d.held ≡ None → ((r : ℕ) → r < length g.shape.widths → service d r ≢ Waiting) → (w.level.seats ≡ 0) × (w.level.waiters ≡ 0)
+  drained none_stands none_waits over held waits = (
+    ap (λ (l : Level). l.seats) e.level ∙ none_stands (world_of g.shape e.account.schedule) (λ r l x. (gone r l).0 (sym (line r l).stage ∙ x)),
+    ap (λ (l : Level). l.waiters) e.level ∙ none_waits (world_of g.shape e.account.schedule) (λ r l x. (gone r l).1 (sym (line r l).stage ∙ x)),
+  )
+    where
+      line : (r : ℕ) → r < length g.shape.widths → IsRequest g.shape r (e.account.pass r) (service_of e.account.desk.services r) (world_of g.shape e.account.schedule)
+      line r l = e.sound.request r l
+
+      is_over : (r : ℕ) → r < length g.shape.widths → (e.account.pass r).state ≡ Over
+      is_over r l = any_elim (λ (t : PassToken). t.pass.number ≡ r) (λ (t : PassToken). IsPassHere t × (t.pass.state ≡ Over)) ps
+          (λ t n h. ap (λ k. (e.account.pass k).state) (sym n) ∙ (ap (λ (o : PassRecord). o.state) h.0.1 ∙ h.1)) (pass_there r l) (every_pair IsPassHere (λ (t : PassToken). t.pass.state ≡ Over) ps passes_here over)
+
+      not_held : (r : ℕ) → service_of e.account.desk.services r ≢ Held
+      not_held r x = let z = sym (ap (λ (o : DeskRecord). o.held) desk_here ∙ held) ∙ e.sound.is_held r x in cc
+
+      gone : (r : ℕ) → r < length g.shape.widths → (stage_of (e.account.pass r) (service_of e.account.desk.services r) ≢ Stands) × (stage_of (e.account.pass r) (service_of e.account.desk.services r) ≢ Waits)
+      gone r l = stage_over (e.account.pass r) (service_of e.account.desk.services r) (is_over r l) (not_held r) (λ x. waits r l (ap (λ (o : DeskRecord). service o r) (sym desk_here) ∙ x))

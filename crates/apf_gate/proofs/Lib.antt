@@ -15,5 +15,6 @@ pub mod Seats
 pub mod Told
 pub mod Opening
 pub mod Gathering
+pub mod NewTokens
 pub mod Numbers
 pub mod Ending

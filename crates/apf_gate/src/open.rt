@@ -1,10 +1,10 @@
 //! How a gate begins.
 
-ghost use Rattle.std.specs.Prelude.{◌≡◌, ◌≢◌, ◌⊎◌, ℕ, ◌<◌, ◌≤◌, [], length, slice_index, IfOk, IfErr, OnOk, MatchOption};
+ghost use Rattle.std.specs.Prelude.{◌≡◌, ◌≢◌, ◌⊎◌, ℕ, ◌<◌, ◌≤◌, [], length, slice_get, Some, IfOk, IfErr, OnOk, MatchOption};
 ghost use Rattle.apf_model.specs.World.{width};
 ghost use Rattle.apf_model.specs.Schedule.{AreWidths};
 ghost use Rattle.apf_gate.specs.declared.record.Record.TheVariants as records;
-ghost use Rattle.apf_gate.specs.Records.{new_desk};
+ghost use Rattle.apf_gate.specs.Records.{new_desk, new_pass, new_station};
 ghost use Rattle.apf_gate.specs.Gauges.{shape_of, IsShape};
 ghost use Rattle.apf_gate.specs.Rule.{opening_records, opening_stations};
 ghost use Rattle.apf_gate.specs.Calls.{FaultOf, IsWidth, new_passes, new_stations};
@@ -51,6 +51,11 @@ impl<A: Allocator + Copy> Gate<A> {
         ensures desk { IfOk result (λ o. o.1 ≡ record { table = o.0.table; desk = new_desk o.0.shape }) }
         ensures passes { IfOk result (λ o. o.2.items ≡ new_passes o.0 (length widths.now)) }
         ensures stations { IfOk result (λ o. o.3.items ≡ new_stations o.0 stations) }
+        ensures each_pass { IfOk result (λ o. (r : ℕ) → r < length widths.now
+            → slice_get o.2.items r ≡ Some (record { table = o.0.table; pass = new_pass o.0.shape r })) }
+        ensures each_station { IfOk result (λ o. (k : ℕ) → k < stations
+            → slice_get o.3.items k ≡ Some (record { table = o.0.table; station = new_station o.0.shape k })) }
+        ensures counts { IfOk result (λ o. (length o.2.items ≡ length widths.now) × (length o.3.items ≡ stations)) }
         ensures fault { IfErr result (FaultOf (shape_of limit response widths.now stations)) }
     {
         if limit < 1 || limit > 10_000 {

@@ -1,10 +1,11 @@
 use crate::{Close, Gate, GateFault, TryEnter, TryGrant, TrySetLimit, TryTake};
 use apf_model::Response;
+use apf_short::Refusing;
 use apf_words::Decision;
 
 #[test]
 fn plain(rt: HostRuntime) {
-    let Ok((gate, _desk, mut passes, _stations)) = Gate::open(
+    let Ok((gate, desk, mut passes, stations)) = Gate::open(
         rt.alloc(),
         1,
         &[1, 1],
@@ -24,11 +25,17 @@ fn plain(rt: HostRuntime) {
     assert_eq!(rt; gate.told(&mut passes[0]), Some(Decision::Execute));
     assert_eq!(rt; gate.release(&mut passes[0]), false);
     assert_eq!(rt; gate.try_take(&mut passes[1]), TryTake::Taken);
+    let Ok(words) = gate.end(rt.alloc(), desk, passes, stations) else {
+        panic!(rt; "memory")
+    };
+    assert_eq!(rt; words.level().seats(), 1);
+    assert_eq!(rt; words.decision(0), Some(Decision::Execute));
+    assert_eq!(rt; words.decision(1), None);
 }
 
 #[test]
 fn a_lost_decision(rt: HostRuntime) {
-    let Ok((gate, _desk, mut passes, mut stations)) = Gate::open(
+    let Ok((gate, desk, mut passes, mut stations)) = Gate::open(
         rt.alloc(),
         1,
         &[1, 1],
@@ -48,6 +55,13 @@ fn a_lost_decision(rt: HostRuntime) {
     assert_eq!(rt; gate.try_take(&mut passes[1]), TryTake::NoRoom);
     assert_eq!(rt; gate.release(&mut passes[0]), false);
     assert_eq!(rt; gate.try_take(&mut passes[1]), TryTake::Taken);
+    let Ok(words) = gate.end(rt.alloc(), desk, passes, stations) else {
+        panic!(rt; "memory")
+    };
+    assert_eq!(rt; words.level().seats(), 1);
+    assert_eq!(rt; words.level().waiters(), 0);
+    assert_eq!(rt; words.decision(0), Some(Decision::Cancelled));
+    assert_eq!(rt; words.decision(1), None);
 }
 
 #[test]
@@ -88,6 +102,13 @@ fn a_lost_grant(rt: HostRuntime) {
     assert_eq!(rt; level.closed(), false);
     assert_eq!(rt; level.waiters(), 0);
     assert_eq!(rt; level.seats(), 0);
+    let Ok(words) = gate.end(rt.alloc(), desk, passes, stations) else {
+        panic!(rt; "memory")
+    };
+    assert_eq!(rt; words.level().seats(), 0);
+    assert_eq!(rt; words.level().waiters(), 0);
+    assert_eq!(rt; words.decision(0), Some(Decision::Execute));
+    assert_eq!(rt; words.decision(1), Some(Decision::Cancelled));
 }
 
 #[test]
@@ -117,6 +138,12 @@ fn cancels_before_the_grant(rt: HostRuntime) {
     assert_eq!(rt; level.closed(), false);
     assert_eq!(rt; level.waiters(), 0);
     assert_eq!(rt; level.seats(), 0);
+    let Ok(words) = gate.end(rt.alloc(), desk, passes, stations) else {
+        panic!(rt; "memory")
+    };
+    assert_eq!(rt; words.level().seats(), 0);
+    assert_eq!(rt; words.level().waiters(), 0);
+    assert_eq!(rt; words.decision(0), Some(Decision::Cancelled));
 }
 
 #[test]
@@ -147,6 +174,12 @@ fn cancels_after_the_grant(rt: HostRuntime) {
     assert_eq!(rt; level.closed(), false);
     assert_eq!(rt; level.waiters(), 0);
     assert_eq!(rt; level.seats(), 0);
+    let Ok(words) = gate.end(rt.alloc(), desk, passes, stations) else {
+        panic!(rt; "memory")
+    };
+    assert_eq!(rt; words.level().seats(), 0);
+    assert_eq!(rt; words.level().waiters(), 0);
+    assert_eq!(rt; words.decision(0), Some(Decision::Execute));
 }
 
 #[test]
@@ -173,6 +206,12 @@ fn cancels_in_line(rt: HostRuntime) {
     assert_eq!(rt; level.closed(), false);
     assert_eq!(rt; level.waiters(), 0);
     assert_eq!(rt; level.seats(), 0);
+    let Ok(words) = gate.end(rt.alloc(), desk, passes, stations) else {
+        panic!(rt; "memory")
+    };
+    assert_eq!(rt; words.level().seats(), 0);
+    assert_eq!(rt; words.level().waiters(), 0);
+    assert_eq!(rt; words.decision(0), Some(Decision::Cancelled));
 }
 
 #[test]
@@ -193,7 +232,7 @@ fn faults(rt: HostRuntime) {
 
 #[test]
 fn over_wide(rt: HostRuntime) {
-    let Ok((gate, _desk, mut passes, _stations)) = Gate::open(
+    let Ok((gate, desk, mut passes, stations)) = Gate::open(
         rt.alloc(),
         2,
         &[5, 1],
@@ -204,11 +243,18 @@ fn over_wide(rt: HostRuntime) {
     };
     assert_eq!(rt; gate.try_take(&mut passes[0]), TryTake::Taken);
     assert_eq!(rt; gate.try_take(&mut passes[1]), TryTake::NoRoom);
+    let Ok(words) = gate.end(rt.alloc(), desk, passes, stations) else {
+        panic!(rt; "memory")
+    };
+    assert_eq!(rt; words.level().seats(), 5);
+    assert_eq!(rt; words.level().waiters(), 0);
+    assert_eq!(rt; words.decision(0), None);
+    assert_eq!(rt; words.decision(1), None);
 }
 
 #[test]
 fn over_wide_beside_another(rt: HostRuntime) {
-    let Ok((gate, _desk, mut passes, _stations)) = Gate::open(
+    let Ok((gate, desk, mut passes, stations)) = Gate::open(
         rt.alloc(),
         2,
         &[1, 5],
@@ -219,11 +265,18 @@ fn over_wide_beside_another(rt: HostRuntime) {
     };
     assert_eq!(rt; gate.try_take(&mut passes[0]), TryTake::Taken);
     assert_eq!(rt; gate.try_take(&mut passes[1]), TryTake::NoRoom);
+    let Ok(words) = gate.end(rt.alloc(), desk, passes, stations) else {
+        panic!(rt; "memory")
+    };
+    assert_eq!(rt; words.level().seats(), 1);
+    assert_eq!(rt; words.level().waiters(), 0);
+    assert_eq!(rt; words.decision(0), None);
+    assert_eq!(rt; words.decision(1), None);
 }
 
 #[test]
 fn reject(rt: HostRuntime) {
-    let Ok((gate, _desk, mut passes, _stations)) = Gate::open(
+    let Ok((gate, desk, mut passes, stations)) = Gate::open(
         rt.alloc(),
         1,
         &[1, 1],
@@ -241,11 +294,18 @@ fn reject(rt: HostRuntime) {
         Decision::ConcurrencyLimit
     );
     assert_eq!(rt; gate.told(&mut passes[1]), Some(Decision::ConcurrencyLimit));
+    let Ok(words) = gate.end(rt.alloc(), desk, passes, stations) else {
+        panic!(rt; "memory")
+    };
+    assert_eq!(rt; words.level().seats(), 1);
+    assert_eq!(rt; words.level().waiters(), 0);
+    assert_eq!(rt; words.decision(0), None);
+    assert_eq!(rt; words.decision(1), Some(Decision::ConcurrencyLimit));
 }
 
 #[test]
 fn closing(rt: HostRuntime) {
-    let Ok((gate, _desk, mut passes, mut stations)) = Gate::open(
+    let Ok((gate, desk, mut passes, mut stations)) = Gate::open(
         rt.alloc(),
         1,
         &[1, 1],
@@ -264,6 +324,14 @@ fn closing(rt: HostRuntime) {
         Decision::Closed
     );
     assert_eq!(rt; gate.look(&mut stations[1]).closed(), true);
+    let Ok(words) = gate.end(rt.alloc(), desk, passes, stations) else {
+        panic!(rt; "memory")
+    };
+    assert_eq!(rt; words.level().seats(), 0);
+    assert_eq!(rt; words.level().waiters(), 0);
+    assert_eq!(rt; words.decision(0), Some(Decision::Closed));
+    assert_eq!(rt; words.decision(1), None);
+    assert_eq!(rt; words.level().closed(), true);
 }
 
 #[test]
@@ -291,11 +359,19 @@ fn limits(rt: HostRuntime) {
         gate.try_set_limit(&mut stations[0], 2),
         TrySetLimit::Set(4, true)
     );
+    let Ok(words) = gate.end(rt.alloc(), desk, passes, stations) else {
+        panic!(rt; "memory")
+    };
+    assert_eq!(rt; words.level().seats(), 0);
+    assert_eq!(rt; words.level().waiters(), 1);
+    assert_eq!(rt; words.decision(0), None);
+    assert_eq!(rt; words.decision(1), None);
+    assert_eq!(rt; words.level().limit(), 2);
 }
 
 #[test]
 fn refusals_and_hearing(rt: HostRuntime) {
-    let Ok((gate, mut desk, mut passes, _stations)) = Gate::open(
+    let Ok((gate, mut desk, mut passes, stations)) = Gate::open(
         rt.alloc(),
         1,
         &[1],
@@ -314,6 +390,12 @@ fn refusals_and_hearing(rt: HostRuntime) {
     };
     gate.hear(&mut desk, &mut passes[0]);
     assert_eq!(rt; gate.seen(&mut desk, 0), Some(Decision::QueueFull));
+    let Ok(words) = gate.end(rt.alloc(), desk, passes, stations) else {
+        panic!(rt; "memory")
+    };
+    assert_eq!(rt; words.level().seats(), 0);
+    assert_eq!(rt; words.level().waiters(), 0);
+    assert_eq!(rt; words.decision(0), Some(Decision::QueueFull));
 }
 
 #[test]
@@ -337,4 +419,51 @@ fn refusals_of_a_closed_level(rt: HostRuntime) {
         Decision::Closed
     );
     assert_eq!(rt; gate.told(&mut passes[0]), Some(Decision::Closed));
+    let Ok(words) = gate.end(rt.alloc(), desk, passes, stations) else {
+        panic!(rt; "memory")
+    };
+    assert_eq!(rt; words.level().seats(), 0);
+    assert_eq!(rt; words.level().waiters(), 0);
+    assert_eq!(rt; words.decision(0), Some(Decision::Closed));
+    assert_eq!(rt; words.level().closed(), true);
+}
+
+#[test]
+fn each_refusal_of_memory_is_told_by_open(rt: HostRuntime) {
+    let mut opened = false;
+    for refused in 1..20 {
+        let alloc = Refusing::new(rt.alloc(), refused);
+        match Gate::open(&alloc, 1, &[1, 2, 3], 2, Response::Queue) {
+            Ok(_) => {
+                assert!(rt; !alloc.has_refused());
+                assert!(rt; 1 < refused);
+                opened = true;
+            }
+            Err(fault) => {
+                assert!(rt; alloc.has_refused());
+                assert_eq!(rt; fault, GateFault::NoMemory);
+                assert!(rt; !opened);
+            }
+        }
+    }
+    assert!(rt; opened);
+}
+
+#[test]
+fn each_refusal_of_memory_is_told_by_end(rt: HostRuntime) {
+    for refused in 1..3 {
+        let Ok((gate, desk, passes, stations)) = Gate::open(
+            rt.alloc(),
+            1,
+            &[1, 2, 3],
+            2,
+            Response::Queue,
+        ) else {
+            panic!(rt; "opens")
+        };
+        let alloc = Refusing::new(rt.alloc(), refused);
+        let words = gate.end(&alloc, desk, passes, stations);
+        assert_eq!(rt; words.is_err(), refused == 1);
+        assert_eq!(rt; alloc.has_refused(), refused == 1);
+    }
 }

@@ -1,0 +1,24 @@
+use Rattle.std.proofs.Common.{◌≡◌, ℕ, ◌<◌, length, Some, refl, ap, ◌∙◌}
+use Rattle.std.specs.Prelude.{slice_get, IfOk, Result, Ok, Err}
+use Rattle.apf_gate.specs.Records.{new_pass, new_station}
+use Rattle.apf_gate.specs.Calls.{new_passes, new_stations}
+use Rattle.apf_gate.proofs.NewTokens.{length_passes, length_stations, pass_at, station_at}
+use Rattle.apf_gate.proofs.gate.Gate.open.Goals as goal
+
+-- a promise of an answer that follows from another
+ok_map : {X E : Type 0} (P Q : X → Type 0) (r : Result X E) → ((x : X) → P x → Q x) → IfOk r P → IfOk r Q
+ok_map P Q (Ok x) f k = f x k
+ok_map P Q (Err e) f k = tt
+
+ok_both : {X E : Type 0} (P Q : X → Type 0) (r : Result X E) → IfOk r P → IfOk r Q → IfOk r (λ x. P x × Q x)
+ok_both P Q (Ok x) a b = (a, b)
+ok_both P Q (Err e) a b = tt
+
+pub returns-clause-each_pass : goal.returns-clause-each_pass
+returns-clause-each_pass g c = ok_map _ _ c.laid.result (λ o is r l. ap (λ xs. slice_get xs r) is ∙ pass_at o.0 (length c.args.widths.now) r l) c.laid.ensures.passes
+
+pub returns-clause-each_station : goal.returns-clause-each_station
+returns-clause-each_station g c = ok_map _ _ c.laid.result (λ o is k l. ap (λ xs. slice_get xs k) is ∙ station_at o.0 c.args.stations k l) c.laid.ensures.stations
+
+pub returns-clause-counts : goal.returns-clause-counts
+returns-clause-counts g c = ok_map _ _ c.laid.result (λ o is. (ap length is.0 ∙ length_passes o.0 (length c.args.widths.now), ap length is.1 ∙ length_stations o.0 c.args.stations)) (ok_both _ _ c.laid.result c.laid.ensures.passes c.laid.ensures.stations)

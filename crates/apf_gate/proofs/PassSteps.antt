@@ -269,7 +269,7 @@ module _ (s : Shape) where
                   })
                   (level_known s p.knows ms (Take r ∷ []) k.known later l now)
                   (stations_same s g.station g.canceller g.closer w w' refl refl refl (λ _ x. x) (λ _ x. x) h.sound.stations),
-              (refl, (q, refl, (l, e ∙ said, (u, level_told s p.knows ms (Take r ∷ []) k.known later l now (may, h.sound.schedule) in_range (λ e. queues (ap (λ (y : Shape). y.response) k.known.shape ∙ e)), refl)))),
+              (refl, (q, refl, (l, e ∙ said, (u, level_told s p.knows ms (Take r ∷ []) k.known later l now (may, h.sound.schedule) in_range (λ e. queues (ap (λ (y : Shape). y.response) k.known.shape ∙ e)), state.2, refl)))),
             )
           where
             -- a fresh Pass of an open level was not refused

@@ -74,9 +74,9 @@ sees p l = if is_no_room l (own_width p) then See p.number ∷ [] else []
 abbrev pub Looks : PassRecord → Level → PassRecord → Type 0
 Looks p l q = (u : Knowledge) × SawLevel p.knows l (sees p l) u × (q ≡ looked p l u)
 
--- the exchange took the seats
+-- the exchange took the seats, of a Pass that wrote nothing
 abbrev pub Takes : PassRecord → Level → PassRecord → Type 0
-Takes p l q = (u : Knowledge) × SawLevel p.knows l (Take p.number ∷ []) u × (q ≡ record p { state = Took; took = true; no_room = false; knows = u })
+Takes p l q = (u : Knowledge) × SawLevel p.knows l (Take p.number ∷ []) u × (p.wrote ≡ None) × (q ≡ record p { state = Took; took = true; no_room = false; knows = u })
 
 -- the seats were given back
 abbrev pub Releases : PassRecord → Level → PassRecord → Type 0

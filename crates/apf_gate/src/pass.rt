@@ -5,7 +5,7 @@ ghost use Rattle.apf_words.specs.Fits.{Fits};
 ghost use Rattle.apf_words.specs.Level.{Level};
 ghost use Rattle.apf_words.specs.declared.decision.Decision.{Decision};
 ghost use Rattle.apf_model.specs.declared.response.Response.TheVariants.{Reject};
-ghost use Rattle.apf_gate.specs.declared.record.State.TheVariants.{Fresh, InLine, Over};
+ghost use Rattle.apf_gate.specs.declared.record.State.TheVariants.{Fresh, Took, InLine, Over};
 ghost use Rattle.apf_gate.specs.Records.{told_own};
 ghost use Rattle.apf_gate.specs.Steps.{IsInRange, own_width, deciding_state, Looks, Takes, Asks, Hears, Releases};
 ghost use Rattle.apf_gate.specs.Calls.{pass_gate, TriesToTake, MayWrite, MayRelease, Decides};
@@ -59,6 +59,9 @@ impl<A: Allocator> Gate<A> {
         requires fresh { pass.old.pass.state ≡ Fresh }
         ensures gate { pass_gate pass.new ≡ pass_gate pass.old }
         ensures answer { TriesToTake pass.old.pass result pass.new.pass }
+        ensures took { result ≡ TryTake.Taken → (pass.new.pass.state ≡ Took) × (pass.new.pass.wrote ≡ None) }
+        ensures fresh { result ≢ TryTake.Taken → pass.new.pass.state ≡ Fresh }
+        ensures number { pass.new.pass.number ≡ pass.old.pass.number }
         ensures stays_closed { pass.old.pass.knows.saw_closed ≡ true → result ≡ TryTake.Closed }
         ensures no_queues { self.now.shape.response ≡ Reject → result ≢ TryTake.Waiters }
     {

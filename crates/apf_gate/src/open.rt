@@ -1,13 +1,14 @@
 //! How a gate begins.
 
-ghost use Rattle.std.specs.Prelude.{◌≡◌, ◌≢◌, ◌⊎◌, ℕ, ◌<◌, ◌≤◌, [], length, slice_get, Some, IfOk, IfErr, OnOk, MatchOption};
+ghost use Rattle.std.specs.Prelude.{◌≡◌, ◌≢◌, ◌⊎◌, ℕ, ◌<◌, ◌≤◌, [], length, slice_get, Some, All, IfOk, IfErr, OnOk, MatchOption};
 ghost use Rattle.apf_model.specs.World.{width};
 ghost use Rattle.apf_model.specs.Schedule.{AreWidths};
 ghost use Rattle.apf_gate.specs.declared.record.Record.TheVariants as records;
 ghost use Rattle.apf_gate.specs.Records.{new_desk, new_pass, new_station};
 ghost use Rattle.apf_gate.specs.Gauges.{shape_of, IsShape};
 ghost use Rattle.apf_gate.specs.Rule.{opening_records, opening_stations};
-ghost use Rattle.apf_gate.specs.Calls.{FaultOf, IsWidth, new_passes, new_stations};
+ghost use Rattle.apf_gate.specs.declared.record.State.TheVariants.{Fresh};
+ghost use Rattle.apf_gate.specs.Calls.{FaultOf, IsWidth, new_passes, new_stations, pass_gate, station_gate};
 ghost use Rattle.apf_gate.specs.declared.fault.GateFault.TheVariants.{NoMemory};
 
 use crate::desk::Desk;
@@ -55,6 +56,8 @@ impl<A: Allocator + Copy> Gate<A> {
             → slice_get o.2.items r ≡ Some (record { table = o.0.table; pass = new_pass o.0.shape r })) }
         ensures each_station { IfOk result (λ o. (k : ℕ) → k < stations
             → slice_get o.3.items k ≡ Some (record { table = o.0.table; station = new_station o.0.shape k })) }
+        ensures fresh { IfOk result (λ o. All (λ t. (pass_gate t ≡ o.0) × (t.pass.state ≡ Fresh)) o.2.items) }
+        ensures own { IfOk result (λ o. All (λ t. station_gate t ≡ o.0) o.3.items) }
         ensures counts { IfOk result (λ o. (length o.2.items ≡ length widths.now) × (length o.3.items ≡ stations)) }
         ensures fault { IfErr result (FaultOf (shape_of limit response widths.now stations)) }
     {

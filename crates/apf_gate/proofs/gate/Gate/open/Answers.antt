@@ -1,8 +1,8 @@
-use Rattle.std.proofs.Common.{◌≡◌, ℕ, ◌<◌, length, Some, refl, ap, ◌∙◌}
-use Rattle.std.specs.Prelude.{slice_get, IfOk, Result, Ok, Err}
-use Rattle.apf_gate.specs.Records.{new_pass, new_station}
-use Rattle.apf_gate.specs.Calls.{new_passes, new_stations}
-use Rattle.apf_gate.proofs.NewTokens.{length_passes, length_stations, pass_at, station_at}
+use Rattle.std.proofs.Common.{◌≡◌, ℕ, ◌<◌, length, Some, refl, sym, ap, ◌∙◌, subst}
+use Rattle.std.specs.Prelude.{slice_get, All, IfOk, Result, Ok, Err}
+use Rattle.apf_gate.specs.declared.record.State.TheVariants.{Fresh}
+use Rattle.apf_gate.specs.Calls.{PassToken, StationToken, pass_gate, station_gate}
+use Rattle.apf_gate.proofs.NewTokens.{all_passes, all_stations, length_passes, length_stations, pass_at, station_at}
 use Rattle.apf_gate.proofs.gate.Gate.open.Goals as goal
 
 -- a promise of an answer that follows from another
@@ -22,3 +22,9 @@ returns-clause-each_station g c = ok_map _ _ c.laid.result (λ o is k l. ap (λ 
 
 pub returns-clause-counts : goal.returns-clause-counts
 returns-clause-counts g c = ok_map _ _ c.laid.result (λ o is. (ap length is.0 ∙ length_passes o.0 (length c.args.widths.now), ap length is.1 ∙ length_stations o.0 c.args.stations)) (ok_both _ _ c.laid.result c.laid.ensures.passes c.laid.ensures.stations)
+
+pub returns-clause-fresh : goal.returns-clause-fresh
+returns-clause-fresh g c = ok_map _ _ c.laid.result (λ o is. subst (All (λ (t : PassToken). (pass_gate t ≡ o.0) × (t.pass.state ≡ Fresh))) (sym is) (all_passes o.0 (length c.args.widths.now))) c.laid.ensures.passes
+
+pub returns-clause-own : goal.returns-clause-own
+returns-clause-own g c = ok_map _ _ c.laid.result (λ o is. subst (All (λ (t : StationToken). station_gate t ≡ o.0)) (sym is) (all_stations o.0 c.args.stations)) c.laid.ensures.stations

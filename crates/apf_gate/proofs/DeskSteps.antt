@@ -29,7 +29,7 @@ use Rattle.apf_gate.specs.Gauges.{IsShape, AreLaws}
 use Rattle.apf_gate.specs.Rule.{IsRuled}
 use Rattle.apf_gate.specs.Steps.{IsInRange, OfDecision, service, served, Views, Sees, Grants, Settles, ByDesk, ViewsAt, SeesAt, GrantsAt, SettlesAt, GivesBackAt, LeavesAt}
 use Rattle.apf_gate.proofs.Puts.{put_here, put_else}
-use Rattle.apf_gate.proofs.WordNumbers.{packed_same, code_same, less_seats, less_waiters, granted}
+use Rattle.apf_gate.proofs.WordNumbers.{packed_same, code_same, less_seats, less_waiters, granted, word_request}
 use Rattle.apf_gate.proofs.Later.{same_schedule, one_more}
 use Rattle.apf_gate.proofs.Views.{Table}
 use Rattle.apf_gate.proofs.Sound.{stations_same, desk_step}
@@ -87,9 +87,6 @@ module _ (s : Shape) where
           (refl, (e, refl, (l, h.packs.level, (u, level_told s d.knows ms [] k.known x l refl h.sound.schedule (level_in_range s shape laws t h) (no_queues s laws t h), refl)))),
         )
 
-    back : (r : ℕ) → r + 1 - 1 ≡ r
-    back r = omega arith
-
     -- a load of the word of r
     pub sees_word : (id slots : ℕ) (d : DeskRecord) (r : ℕ) → r < length s.widths → Allows (IsRuled s) slots id (Desk d ∷ [], []) (r + 1) (λ n. n) (ByDesk (λ o n e. SeesAt o (r + 1) n e) (Desk d ∷ [], []))
     sees_word id slots d r inside t h deep at small =
@@ -106,7 +103,7 @@ module _ (s : Shape) where
           tt,
           desk_step s t h id d e (r + 1) (slice_index t.words (r + 1)) ms at later h.sound.schedule k.request (packs_same s t.words w w (r + 1) refl (λ _. refl) h.packs)
               (decision_known s d.knows ms [] k.known later r x x refl (λ _. refl)) k.holds.held_is k.holds.is_held h.sound.stations,
-          (refl, (e, refl, subst (λ q. OfDecision (λ y. Sees d q y e) (slice_index t.words (r + 1))) (sym (back r)) (x, h.packs.decisions r inside, (u, decision_told s d.knows ms [] k.known later r x x refl (λ _. refl) h.sound.schedule, refl)))),
+          (refl, (e, refl, subst (λ q. OfDecision (λ y. Sees d q y e) (slice_index t.words (r + 1))) (sym (word_request r)) (x, h.packs.decisions r inside, (u, decision_told s d.knows ms [] k.known later r x x refl (λ _. refl) h.sound.schedule, refl)))),
         )
 
     abbrev Granting : ℕ → ℕ → ℕ → ℕ → DeskRecord → Table → ℕ → Bool → Type 0
@@ -253,7 +250,7 @@ module _ (s : Shape) where
                   (decision_known s d.knows ms own k.known later r None (Some Execute) none (λ _. now))
                   holds.held_is holds.is_held
                   (stations_decided s shape laws t h r Execute (λ x. cc) none),
-              (refl, (e, refl, subst (λ q. (x : Option Decision) × (n ≡ code_in x) × Settles d q e) (sym (back r)) (None, eq, (u, decision_told s d.knows ms own k.known later r None (Some Execute) none (λ _. now) (may, h.sound.schedule), refl)))),
+              (refl, (e, refl, subst (λ q. (x : Option Decision) × (n ≡ code_in x) × Settles d q e) (sym (word_request r)) (None, eq, (u, decision_told s d.knows ms own k.known later r None (Some Execute) none (λ _. now) (may, h.sound.schedule), refl)))),
             )
 
     -- the seats of the request that is held are given back

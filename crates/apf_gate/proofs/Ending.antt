@@ -1,6 +1,6 @@
 -- What the end of a gate tells of its tokens.
-use Rattle.std.proofs.Common.{◌≡◌, ◌≢◌, ◌⊎◌, ℕ, ◌+◌, ◌*◌, ◌<◌, Bool, true, false, List, [], ◌∷◌, length, Option, Some, None, sym, refl, ap, ◌∙◌, subst, inl, inr, ⊎_elim, arith}
-use Rattle.std.specs.Prelude.{slice_get, not}
+use Rattle.std.proofs.Common.{◌≡◌, ◌≢◌, ◌⊎◌, ℕ, ◌+◌, ◌*◌, ◌<◌, Bool, true, false, List, [], ◌∷◌, length, Some, None, sym, refl, ap, ◌∙◌, subst, inl, inr, ⊎_elim}
+use Rattle.std.specs.Prelude.{slice_get}
 use Rattle.std.proofs.lemmas.Bool.{not-true, not_from_false}
 use Rattle.apf_words.specs.Level.{Level}
 use Rattle.apf_words.specs.declared.decision.Decision.{Decision}
@@ -16,14 +16,13 @@ use Rattle.apf_gate.specs.declared.record.DeskRecord.{DeskRecord}
 use Rattle.apf_gate.specs.declared.record.StationRecord.{StationRecord}
 use Rattle.apf_gate.specs.declared.record.Record.{Record}
 use Rattle.apf_gate.specs.declared.record.Record.TheVariants.{Pass, Desk, Station}
-use Rattle.apf_gate.specs.declared.record.Shape.{Shape}
 use Rattle.apf_gate.specs.Records.{world_of, told_of, has, service_of}
 use Rattle.apf_gate.specs.Account.{IsKnown, IsRequest, stage_of, stage_of_pass, stage_of_settled}
 use Rattle.apf_gate.specs.Steps.{service}
 use Rattle.apf_gate.proofs.WordNumbers.{some_same}
 use Rattle.apf_gate.specs.Rule.{Every, IsRecord, AreApart, token_of}
 use Rattle.apf_gate.specs.Calls.{GateId, PassToken, StationToken}
-use Rattle.apf_gate.specs.Ends.{WordsView, EndsWith, AnyOf, WasTold, WroteCancelled, ClosedFirst, passes_before, stations_before, handed_in}
+use Rattle.apf_gate.specs.Ends.{WordsView, EndsWith, AnyOf, WasTold, WroteCancelled, ClosedFirst, passes_before, stations_before}
 use Rattle.apf_gate.proofs.Numbers.{AreNumbered, all_there}
 use Rattle.apf_gate.proofs.Views.{every_map}
 

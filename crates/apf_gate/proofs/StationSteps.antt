@@ -28,7 +28,7 @@ use Rattle.apf_gate.specs.Gauges.{IsShape, AreLaws}
 use Rattle.apf_gate.specs.Rule.{IsRuled}
 use Rattle.apf_gate.specs.Steps.{IsInRange, LooksFrom, Reads, Cancels, Sets, ByStation, OfDecision, LooksFromAt, ReadsAt, CancelsAt, ClosesAt, SetsAt, limit_in}
 use Rattle.apf_gate.proofs.Puts.{put_here, put_else}
-use Rattle.apf_gate.proofs.WordNumbers.{packed_same, code_same, closes, with_limit}
+use Rattle.apf_gate.proofs.WordNumbers.{packed_same, code_same, closes, with_limit, word_request}
 use Rattle.apf_gate.proofs.Later.{same_schedule, one_more}
 use Rattle.apf_gate.proofs.Views.{Table}
 use Rattle.apf_gate.proofs.Sound.{request_elsewhere, stations_learnt, put_field, was_set, station_step}
@@ -75,9 +75,6 @@ module _ (s : Shape) where
           (refl, (b, refl, (l, h.packs.level, (u, level_told s a.knows ms [] k.known x l refl h.sound.schedule (level_in_range s shape laws t h) (no_queues s laws t h), refl)))),
         )
 
-    back : (r : ℕ) → r + 1 - 1 ≡ r
-    back r = omega arith
-
     -- a load of the word of r
     pub reads : (id slots : ℕ) (a : StationRecord) (r : ℕ) → r < length s.widths → Allows (IsRuled s) slots id (Station a ∷ [], []) (r + 1) (λ n. n) (ByStation (λ o n b. ReadsAt o (r + 1) n b) (Station a ∷ [], []))
     reads id slots a r inside t h deep at small =
@@ -94,7 +91,7 @@ module _ (s : Shape) where
           station_step s t h id a b (r + 1) (slice_index t.words (r + 1)) ms g.canceller g.closer at x h.sound.schedule h.sound.request (packs_same s t.words (world_of s ms) (world_of s ms) (r + 1) refl (λ _. refl) h.packs) refl
               (decision_known s a.knows ms [] k.known x r d d refl (λ _. refl))
               (learnt t h a u k),
-          (refl, (b, refl, subst (λ q. OfDecision (λ e. Reads a q e b) (slice_index t.words (r + 1))) (sym (back r)) (d, h.packs.decisions r inside, (u, decision_told s a.knows ms [] k.known x r d d refl (λ _. refl) h.sound.schedule, refl)))),
+          (refl, (b, refl, subst (λ q. OfDecision (λ e. Reads a q e b) (slice_index t.words (r + 1))) (sym (word_request r)) (d, h.packs.decisions r inside, (u, decision_told s a.knows ms [] k.known x r d d refl (λ _. refl) h.sound.schedule, refl)))),
         )
 
     -- the lines on a request that is cancelled now
@@ -211,7 +208,7 @@ module _ (s : Shape) where
                   (packs_decided s t.words w r Cancelled inside h.packs) refl
                   (decision_known s a.knows ms own k.known later r None (Some Cancelled) none (λ _. now))
                   (cancelled_now t h a r u k inside none),
-              (refl, (b, refl, subst (λ q. (d : Option Decision) × (n ≡ code_in d) × Cancels a q b) (sym (back r)) (None, e, (u, decision_told s a.knows ms own k.known later r None (Some Cancelled) none (λ _. now) (may, h.sound.schedule), refl)))),
+              (refl, (b, refl, subst (λ q. (d : Option Decision) × (n ≡ code_in d) × Cancels a q b) (sym (word_request r)) (None, e, (u, decision_told s a.knows ms own k.known later r None (Some Cancelled) none (λ _. now) (may, h.sound.schedule), refl)))),
             )
 
     or_true : (x : Bool) → (x || true) ≡ true

@@ -138,3 +138,7 @@ more_waiters false w s n = omega arith
 pub at_least : (c : Bool) (w s n x : ℕ) → 1 ≤ n → x ≡ packed (level c w s n) → 1048576 ≤ x
 at_least true w s n x some is = omega arith
 at_least false w s n x some is = omega arith
+
+-- the request of its decision word
+pub word_request : (r : ℕ) → r + 1 - 1 ≡ r
+word_request r = omega arith

@@ -11,15 +11,12 @@ ghost use Rattle.apf_gate.specs.Steps.{IsInRange, OfDecision, service, Views, Se
 ghost use Rattle.apf_gate.specs.Calls.{desk_gate, TriesToGrant, SettlesTo};
 
 use crate::answers::TryGrant;
-use crate::gate::{Gate, decision_in, level_in};
+use crate::gate::{Gate, WAITER, decision_in, level_in};
 use crate::plays::{Chosen, GivingBack, Granting, Leaving, Seeing, Settling, Viewing};
 use crate::rule::Place;
 use apf_words::{Decision, LevelWord, fits};
 use std::alloc::Allocator;
 use std::marker::{Brand, Model};
-
-/// The place of the waiters in a level word.
-const WAITER: u64 = 1 << 20;
 
 /// The one token that enters, grants and refuses: of whoever holds the level's lock.
 #[derive(Drop)]

@@ -11,6 +11,15 @@ use apf_words::{Decision, LevelWord};
 use std::alloc::Allocator;
 use std::marker::Model;
 
+/// One request that waits, in a level word.
+pub(crate) const WAITER: u64 = 1 << 20;
+
+/// One seat of the limit, in a level word.
+pub(crate) const LIMIT: u64 = 1 << 40;
+
+/// The bit of a closed level.
+pub(crate) const CLOSED: u64 = 1 << 63;
+
 /// The words of a level: the level word, and a decision word for each request.
 ///
 /// Every thread may step on them, each with a token of its own.

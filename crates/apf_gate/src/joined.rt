@@ -13,15 +13,12 @@ ghost use Rattle.apf_gate.specs.declared.record.Record.TheVariants as records;
 
 use crate::answers::TryEnter;
 use crate::desk::Desk;
-use crate::gate::{Gate, decision_in, level_in};
+use crate::gate::{Gate, WAITER, decision_in, level_in};
 use crate::pass::Pass;
 use crate::plays::{Entering, First, Handing, Learning, Refusing};
 use crate::rule::Place;
 use apf_words::{Decision, LevelWord};
 use std::alloc::Allocator;
-
-/// The place of the waiters in a level word.
-const WAITER: u64 = 1 << 20;
 
 impl<A: Allocator> Gate<A> {
     /// Enters a request that is in line, where the level is open: it waits then.

@@ -1,4 +1,18 @@
 //! The lock-free words of a level, under one rule.
+//!
+//! One table has the level word and a decision word for each request. Every thread may step on them, each with
+//! a token of its own: a Pass for each request, one Desk, and Stations. In the order of the data's way:
+//!
+//! - `record`: what a token knows, changed by its own steps alone. It stands in contracts.
+//! - `rule`: the table, and what holds of it between any two steps.
+//! - `plays`: what each kind of step tells.
+//! - `gate`: the words, as the calls share them.
+//! - `open`: how a gate begins, `fault` why it may not.
+//! - `pass`, `desk`, `station`: the tokens and their calls, `joined` those of a Pass with the Desk, `answers` what
+//!   they answer.
+//! - `sleep`: sleeping until a request is decided.
+//! - `end`: how a gate ends, and what its words said.
+//! - `laws`: what follows for the tokens that were handed in.
 #![tactic(auto)]
 
 mod answers;

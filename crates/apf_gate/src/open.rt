@@ -13,7 +13,7 @@ ghost use Rattle.apf_gate.specs.declared.fault.GateFault.TheVariants.{NoMemory};
 
 use crate::desk::Desk;
 use crate::fault::GateFault;
-use crate::gate::Gate;
+use crate::gate::{Gate, LIMIT};
 use crate::pass::Pass;
 use crate::plays::First;
 use crate::rule::{Board, Gauge, Place};
@@ -25,9 +25,6 @@ use std::snapshot::Snapshot;
 /// A gate that was opened, with its tokens: the Desk, a Pass for each request, in their order, and the
 /// Stations.
 pub type Opened<A> = (Gate<A>, Desk, Vec<Pass, A>, Vec<Station, A>);
-
-/// The place of the limit in a level word.
-const LIMIT: u64 = 1 << 40;
 
 impl<A: Allocator + Copy> Gate<A> {
     /// Opens a gate, and hands out its tokens: the Desk, a Pass for each width, in their order, and as many

@@ -1,6 +1,6 @@
 //! The token of a request, and its steps.
 
-ghost use Rattle.std.specs.Prelude.{◌≡◌, ◌≢◌, ◌==◌, not, true, false, MatchBool, Option, Some, None};
+ghost use Rattle.std.specs.Prelude.{◌≡◌, ◌≢◌, ◌<◌, ◌==◌, length, not, true, false, MatchBool, Option, Some, None};
 ghost use Rattle.apf_words.specs.Fits.{Fits};
 ghost use Rattle.apf_words.specs.Level.{Level};
 ghost use Rattle.apf_words.specs.declared.decision.Decision.{Decision};
@@ -44,7 +44,8 @@ impl Model for Pass {
 impl Pass {
     /// The request's number, from 0.
     pub fn number(&self) -> u32
-        ensures { result ≡ self.now.pass.number }
+        ensures number { result ≡ self.now.pass.number }
+        ensures inside { result < length self.now.pass.knows.shape.widths }
     {
         self.number
     }

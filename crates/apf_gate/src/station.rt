@@ -8,18 +8,12 @@ ghost use Rattle.apf_gate.specs.Steps.{IsInRange, OfDecision, LooksFrom, Reads, 
 ghost use Rattle.apf_gate.specs.Calls.{station_gate, CancelsTo, ClosesTo, TriesToSet};
 
 use crate::answers::{Close, TrySetLimit};
-use crate::gate::{Gate, decision_in, level_in};
+use crate::gate::{CLOSED, Gate, LIMIT, decision_in, level_in};
 use crate::plays::{Cancelling, Closing, LookingFrom, Reading, Setting};
 use crate::rule::Place;
 use apf_words::{Decision, LevelWord};
 use std::alloc::Allocator;
 use std::marker::Model;
-
-/// The bit of a closed level.
-const CLOSED: u64 = 1 << 63;
-
-/// The place of the limit in a level word.
-const LIMIT: u64 = 1 << 40;
 
 /// A token that cancels requests, closes the level, changes the limit and looks.
 #[derive(Drop)]

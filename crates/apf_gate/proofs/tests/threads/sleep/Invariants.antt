@@ -1,0 +1,6 @@
+use Rattle.std.proofs.Common.{◌≡◌}
+use Rattle.apf_gate.specs.Calls.{pass_gate}
+use Rattle.apf_gate.proofs.tests.threads.sleep.Given as goal
+
+abbrev pub invariant-loop-turn : goal.invariant-loop-turn
+invariant-loop-turn g l = (pass_gate l.pass ≡ l.gate) × (l.pass.pass.state ≡ l.fn.pass.pass.state) × (l.pass.pass.number ≡ l.request)

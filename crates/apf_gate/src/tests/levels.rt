@@ -1,0 +1,203 @@
+//! Over-wide requests, levels without queues, closing, limits and refusals.
+
+use crate::{Close, Gate, TryEnter, TrySetLimit, TryTake};
+use apf_model::Response;
+use apf_words::Decision;
+
+#[test]
+fn over_wide(rt: HostRuntime) {
+    let Ok((gate, desk, mut passes, stations)) = Gate::open(
+        rt.alloc(),
+        2,
+        &[5, 1],
+        0,
+        Response::Queue,
+    ) else {
+        panic!(rt; "opens")
+    };
+    assert_eq!(rt; gate.try_take(&mut passes[0]), TryTake::Taken);
+    assert_eq!(rt; gate.try_take(&mut passes[1]), TryTake::NoRoom);
+    let Ok(words) = gate.end(rt.alloc(), desk, passes, stations) else {
+        panic!(rt; "memory")
+    };
+    assert_eq!(rt; words.level().seats(), 5);
+    assert_eq!(rt; words.level().waiters(), 0);
+    assert_eq!(rt; words.decision(0), None);
+    assert_eq!(rt; words.decision(1), None);
+}
+
+#[test]
+fn over_wide_beside_another(rt: HostRuntime) {
+    let Ok((gate, desk, mut passes, stations)) = Gate::open(
+        rt.alloc(),
+        2,
+        &[1, 5],
+        0,
+        Response::Queue,
+    ) else {
+        panic!(rt; "opens")
+    };
+    assert_eq!(rt; gate.try_take(&mut passes[0]), TryTake::Taken);
+    assert_eq!(rt; gate.try_take(&mut passes[1]), TryTake::NoRoom);
+    let Ok(words) = gate.end(rt.alloc(), desk, passes, stations) else {
+        panic!(rt; "memory")
+    };
+    assert_eq!(rt; words.level().seats(), 1);
+    assert_eq!(rt; words.level().waiters(), 0);
+    assert_eq!(rt; words.decision(0), None);
+    assert_eq!(rt; words.decision(1), None);
+}
+
+#[test]
+fn reject(rt: HostRuntime) {
+    let Ok((gate, desk, mut passes, stations)) = Gate::open(
+        rt.alloc(),
+        1,
+        &[1, 1],
+        0,
+        Response::Reject,
+    ) else {
+        panic!(rt; "opens")
+    };
+    assert_eq!(rt; gate.try_take(&mut passes[0]), TryTake::Taken);
+    let TryTake::NoRoom = gate.try_take(&mut passes[1]) else {
+        panic!(rt; "no room")
+    };
+    assert_eq!(rt;
+        gate.decide(&mut passes[1], Decision::ConcurrencyLimit),
+        Decision::ConcurrencyLimit
+    );
+    assert_eq!(rt; gate.told(&mut passes[1]), Some(Decision::ConcurrencyLimit));
+    let Ok(words) = gate.end(rt.alloc(), desk, passes, stations) else {
+        panic!(rt; "memory")
+    };
+    assert_eq!(rt; words.level().seats(), 1);
+    assert_eq!(rt; words.level().waiters(), 0);
+    assert_eq!(rt; words.decision(0), None);
+    assert_eq!(rt; words.decision(1), Some(Decision::ConcurrencyLimit));
+}
+
+#[test]
+fn closing(rt: HostRuntime) {
+    let Ok((gate, desk, mut passes, mut stations)) = Gate::open(
+        rt.alloc(),
+        1,
+        &[1, 1],
+        2,
+        Response::Queue,
+    ) else {
+        panic!(rt; "opens")
+    };
+    assert_eq!(rt; gate.close(&mut stations[0]), Close::First);
+    assert_eq!(rt; gate.close(&mut stations[1]), Close::Already);
+    let TryTake::Closed = gate.try_take(&mut passes[0]) else {
+        panic!(rt; "closed")
+    };
+    assert_eq!(rt;
+        gate.decide(&mut passes[0], Decision::Closed),
+        Decision::Closed
+    );
+    assert_eq!(rt; gate.look(&mut stations[1]).closed(), true);
+    let Ok(words) = gate.end(rt.alloc(), desk, passes, stations) else {
+        panic!(rt; "memory")
+    };
+    assert_eq!(rt; words.level().seats(), 0);
+    assert_eq!(rt; words.level().waiters(), 0);
+    assert_eq!(rt; words.decision(0), Some(Decision::Closed));
+    assert_eq!(rt; words.decision(1), None);
+    assert_eq!(rt; words.level().closed(), true);
+}
+
+#[test]
+fn limits(rt: HostRuntime) {
+    let Ok((gate, mut desk, mut passes, mut stations)) = Gate::open(
+        rt.alloc(),
+        1,
+        &[1, 1],
+        1,
+        Response::Queue,
+    ) else {
+        panic!(rt; "opens")
+    };
+    assert_eq!(rt;
+        gate.try_set_limit(&mut stations[0], 4),
+        TrySetLimit::Set(1, false)
+    );
+    assert_eq!(rt; gate.look(&mut stations[0]).limit(), 4);
+    gate.ask(&mut passes[1]);
+    assert_eq!(rt;
+        gate.try_enter(&mut desk, &mut passes[1]),
+        TryEnter::Entered
+    );
+    assert_eq!(rt;
+        gate.try_set_limit(&mut stations[0], 2),
+        TrySetLimit::Set(4, true)
+    );
+    let Ok(words) = gate.end(rt.alloc(), desk, passes, stations) else {
+        panic!(rt; "memory")
+    };
+    assert_eq!(rt; words.level().seats(), 0);
+    assert_eq!(rt; words.level().waiters(), 1);
+    assert_eq!(rt; words.decision(0), None);
+    assert_eq!(rt; words.decision(1), None);
+    assert_eq!(rt; words.level().limit(), 2);
+}
+
+#[test]
+fn refusals_and_hearing(rt: HostRuntime) {
+    let Ok((gate, mut desk, mut passes, stations)) = Gate::open(
+        rt.alloc(),
+        1,
+        &[1],
+        0,
+        Response::Queue,
+    ) else {
+        panic!(rt; "opens")
+    };
+    gate.ask(&mut passes[0]);
+    assert_eq!(rt;
+        gate.refuse(&mut desk, &mut passes[0], Decision::QueueFull),
+        Decision::QueueFull
+    );
+    let Some(Decision::QueueFull) = gate.told(&mut passes[0]) else {
+        panic!(rt; "refused")
+    };
+    gate.hear(&mut desk, &mut passes[0]);
+    assert_eq!(rt; gate.seen(&mut desk, 0), Some(Decision::QueueFull));
+    let Ok(words) = gate.end(rt.alloc(), desk, passes, stations) else {
+        panic!(rt; "memory")
+    };
+    assert_eq!(rt; words.level().seats(), 0);
+    assert_eq!(rt; words.level().waiters(), 0);
+    assert_eq!(rt; words.decision(0), Some(Decision::QueueFull));
+}
+
+#[test]
+fn refusals_of_a_closed_level(rt: HostRuntime) {
+    let Ok((gate, mut desk, mut passes, mut stations)) = Gate::open(
+        rt.alloc(),
+        1,
+        &[1],
+        1,
+        Response::Queue,
+    ) else {
+        panic!(rt; "opens")
+    };
+    assert_eq!(rt; gate.close(&mut stations[0]), Close::First);
+    if !gate.view(&mut desk).closed() {
+        panic!(rt; "closed")
+    }
+    gate.ask(&mut passes[0]);
+    assert_eq!(rt;
+        gate.refuse(&mut desk, &mut passes[0], Decision::Closed),
+        Decision::Closed
+    );
+    assert_eq!(rt; gate.told(&mut passes[0]), Some(Decision::Closed));
+    let Ok(words) = gate.end(rt.alloc(), desk, passes, stations) else {
+        panic!(rt; "memory")
+    };
+    assert_eq!(rt; words.level().seats(), 0);
+    assert_eq!(rt; words.level().waiters(), 0);
+    assert_eq!(rt; words.decision(0), Some(Decision::Closed));
+    assert_eq!(rt; words.level().closed(), true);
+}

@@ -40,7 +40,7 @@ use Rattle.apf_gate.proofs.Sound.{both_step}
 use Rattle.apf_gate.proofs.Packing.{packs_same, packs_level, packs_decided, level_in_range, no_queues, is_small}
 use Rattle.apf_gate.proofs.Knowing.{level_known, level_told, decision_known, decision_told}
 use Rattle.apf_gate.proofs.PassSteps.{in_state, stations_decided}
-use Rattle.apf_gate.proofs.DeskLines.{holds_still, IsAt, is_at_desk}
+use Rattle.apf_gate.proofs.DeskLines.{holds_still, IsAt, is_at_desk, closed_or_cancelled, may_say}
 use Rattle.apf_gate.proofs.DeskSteps.{stations_moved}
 
 module _ (s : Shape) where
@@ -107,6 +107,7 @@ module _ (s : Shape) where
     queues = k.queues;
     handed = λ _. is_handed p w i line;
     wrote = k.wrote;
+    took = k.took;
     executed = λ e. absurd (i.not_executed e);
     settled = λ e. absurd (let x = e in cc);
     is_full = λ e. absurd (i.not_full e);
@@ -202,6 +203,7 @@ module _ (s : Shape) where
                     queues = λ _. has_queues;
                     handed = λ _. record { asked = i.asked; took_none = i.took_none; wrote_none = i.wrote_none; over = λ y. absurd (let x = sym may.0 ∙ y in cc) };
                     wrote = k.request.wrote;
+                    took = k.request.took;
                     executed = λ y. absurd (i.not_executed y);
                     settled = λ y. absurd (let x = y in cc);
                     is_full = λ y. absurd (i.not_full y);
@@ -250,7 +252,7 @@ module _ (s : Shape) where
               k.known
               (decision_known s d.knows ms [] k.desk.known later r x x refl (λ _. refl))
               holds.held_is holds.is_held h.sound.stations,
-          (x, h.packs.decisions r k.inside, (u, decision_told s d.knows ms [] k.desk.known later r x x refl (λ _. refl) h.sound.schedule, refl, refl)),
+          (x, h.packs.decisions r k.inside, (u, decision_told s d.knows ms [] k.desk.known later r x x refl (λ _. refl) h.sound.schedule, closed_or_cancelled s x i.not_executed i.not_full i.not_limited, refl, refl)),
         )
 
     -- what is so where the Desk may refuse an undecided request
@@ -278,6 +280,7 @@ module _ (s : Shape) where
             queues = k.request.queues;
             handed = λ _. is_handed p w i hand.0;
             wrote = λ e. absurd (e i.wrote_none);
+            took = k.request.took;
             executed = λ e. absurd (let x = sym here ∙ e in cc);
             settled = λ e. absurd (let x = e in cc);
             is_full = λ _. refl;
@@ -306,6 +309,7 @@ module _ (s : Shape) where
             queues = k.request.queues;
             handed = λ _. is_handed p w i hand.0;
             wrote = λ e. absurd (e i.wrote_none);
+            took = k.request.took;
             executed = λ e. absurd (let x = sym here ∙ e in cc);
             settled = λ e. absurd (let x = e in cc);
             is_full = λ e. absurd (let x = sym here ∙ e in cc);
@@ -394,5 +398,5 @@ module _ (s : Shape) where
               k.known
               (decision_known s d.knows ms [] k.desk.known later r x x refl (λ _. refl))
               k.desk.holds.held_is k.desk.holds.is_held h.sound.stations,
-          (refl, (p, e, refl, (x, h.packs.decisions r k.inside, (refl, k.known.told r told, (u, decision_told s d.knows ms [] k.desk.known later r x x refl (λ _. refl) h.sound.schedule, refl))))),
+          (refl, (p, e, refl, (x, h.packs.decisions r k.inside, (refl, k.known.told r told, (u, decision_told s d.knows ms [] k.desk.known later r x x refl (λ _. refl) h.sound.schedule, may_say s r p (service d r) w k.request, refl))))),
         )

@@ -1,22 +1,24 @@
 -- The lines on requests and on the one that is held, as a step of the Desk changes one.
-use Rattle.std.proofs.Common.{◌≡◌, ◌≢◌, ◌⊎◌, ℕ, ◌<◌, true, false, List, [], ◌∷◌, length, Option, Some, None, sym, refl, ap, ◌∙◌, subst, ⊎_elim}
+use Rattle.std.proofs.Common.{◌≡◌, ◌≢◌, ◌⊎◌, ℕ, ◌<◌, true, false, List, [], ◌∷◌, length, Option, Some, None, sym, refl, ap, ◌∙◌, subst, inl, inr, ⊎_elim}
 use mathlib.Core.Logic.{dite}
 use mathlib.Core.Option.{some}
 use lib.ListN.{get_elem?}
 use native.Mathlib.Decide.{ℕ_discrete}
-use Rattle.apf_words.specs.declared.decision.Decision.TheVariants.{Execute, QueueFull, ConcurrencyLimit}
+use Rattle.apf_words.specs.declared.decision.Decision.{Decision}
+use Rattle.apf_words.specs.declared.decision.Decision.TheVariants.{Execute, QueueFull, Closed, Cancelled, ConcurrencyLimit}
 use Rattle.apf_model.specs.declared.moves.Stage.TheVariants.{Away}
 use Rattle.apf_model.specs.World.{World, put}
 use Rattle.apf_gate.specs.declared.record.Shape.{Shape}
 use Rattle.apf_gate.specs.declared.record.State.TheVariants.{Over}
 use Rattle.apf_gate.specs.declared.record.Service.{Service}
-use Rattle.apf_gate.specs.declared.record.Service.TheVariants.{NotHanded, Full, Waiting, Held, Settled}
+use Rattle.apf_gate.specs.declared.record.Service.TheVariants.{NotHanded, Handed, Full, Waiting, Held, Settled, Left}
 use Rattle.apf_gate.specs.declared.record.PassRecord.{PassRecord}
 use Rattle.apf_gate.specs.declared.record.DeskRecord.{DeskRecord}
 use Rattle.apf_gate.specs.declared.record.Record.TheVariants.{Desk}
 use Rattle.apf_gate.specs.Records.{world_of, service_of, told_own}
-use Rattle.apf_gate.specs.Account.{Account, IsRequest, IsRefusal, IsState, IsKnown, stage_of, stage_of_settled}
+use Rattle.apf_gate.specs.Account.{IsRequest, IsRefusal, IsKnown, stage_of, has_entered}
 use Rattle.apf_gate.specs.Rule.{IsRuled}
+use Rattle.apf_gate.specs.Steps.{MaySay}
 use Rattle.apf_gate.proofs.Puts.{put_here, put_else}
 use Rattle.apf_gate.proofs.WordNumbers.{some_same}
 use Rattle.apf_gate.proofs.Views.{Table}
@@ -96,19 +98,55 @@ module _ (s : Shape) where
     pub handed : (p.state ≡ Over → told_own p ≡ Some Execute)
     pub is_queue : s.response ≡ Rattle.apf_model.specs.declared.response.Response.TheVariants.Queue
 
+  -- a request that entered and was not settled
+  entered_in_hand : (r : ℕ) (p : PassRecord) (a : Service) (w : World) → IsRequest s r p a w → (a ≢ NotHanded) → (a ≢ Settled) → (a ≢ Full) → has_entered a ≡ true → (stage_of p a ≢ Away) → InHand p w r
+  entered_in_hand r p a w k handed settled full entered away =
+      let h = k.handed handed in record {
+        asked = h.asked;
+        took_none = h.took_none;
+        wrote_none = h.wrote_none;
+        not_executed = λ x. ⊎_elim (λ (y : p.wrote ≡ Some Execute). let z = h.wrote_none in absurd (cc)) settled (k.executed x);
+        not_full = λ x. full (k.is_full x);
+        not_limited = λ x. let y = (k.limited x).0 in let z = h.wrote_none in cc;
+        not_refused = λ x. away (sym k.stage ∙ k.refused x);
+        handed = h.over;
+        is_queue = k.queues (k.entered ∙ entered);
+      }
+
   pub in_hand : (r : ℕ) (p : PassRecord) (a : Service) (w : World) → IsRequest s r p a w → (a ≡ Waiting) ⊎ (a ≡ Held) → InHand p w r
-  in_hand r p a w k is = ⊎_elim (λ (e : a ≡ Waiting). there Waiting e (λ x. cc) (λ x. cc) (λ x. cc) refl (λ x. cc)) (λ (e : a ≡ Held). there Held e (λ x. cc) (λ x. cc) (λ x. cc) refl (λ x. cc)) is
-    where
-      there : (b : Service) → a ≡ b → (b ≢ NotHanded) → (b ≢ Settled) → (b ≢ Full) → Rattle.apf_gate.specs.Account.has_entered b ≡ true → (stage_of p b ≢ Away) → InHand p w r
-      there b e handed settled full entered away =
-          let h = k.handed (λ x. handed (sym e ∙ x)) in record {
-            asked = h.asked;
-            took_none = h.took_none;
-            wrote_none = h.wrote_none;
-            not_executed = λ x. ⊎_elim (λ (y : p.wrote ≡ Some Execute). let z = h.wrote_none in absurd (cc)) (λ (y : a ≡ Settled). settled (sym e ∙ y)) (k.executed x);
-            not_full = λ x. full (sym e ∙ k.is_full x);
-            not_limited = λ x. let y = (k.limited x).0 in let z = h.wrote_none in cc;
-            not_refused = λ x. away (ap (stage_of p) (sym e) ∙ (sym k.stage ∙ k.refused x));
-            handed = h.over;
-            is_queue = k.queues (k.entered ∙ (ap Rattle.apf_gate.specs.Account.has_entered e ∙ entered));
-          }
+  in_hand r p a w k is = ⊎_elim
+      (λ (e : a ≡ Waiting). entered_in_hand r p Waiting w (subst (λ b. IsRequest s r p b w) e k) (λ x. cc) (λ x. cc) (λ x. cc) refl (λ x. cc))
+      (λ (e : a ≡ Held). entered_in_hand r p Held w (subst (λ b. IsRequest s r p b w) e k) (λ x. cc) (λ x. cc) (λ x. cc) refl (λ x. cc)) is
+
+  -- a decision that is neither execute nor a refusal
+  undecided_or_cancelled : (x : Option Decision) → x ≢ Some Execute → (IsRefusal x → ⊥) → (x ≡ None) ⊎ (x ≡ Some Cancelled)
+  undecided_or_cancelled None not_executed not_refused = inl refl
+  undecided_or_cancelled (Some Cancelled) not_executed not_refused = inr refl
+  undecided_or_cancelled (Some Execute) not_executed not_refused = absurd (not_executed refl)
+  undecided_or_cancelled (Some QueueFull) not_executed not_refused = absurd (not_refused tt)
+  undecided_or_cancelled (Some Closed) not_executed not_refused = absurd (not_refused tt)
+  undecided_or_cancelled (Some ConcurrencyLimit) not_executed not_refused = absurd (not_refused tt)
+
+  -- a decision that is neither execute, nor a refusal but as closed
+  pub closed_or_cancelled : (x : Option Decision) → x ≢ Some Execute → x ≢ Some QueueFull → x ≢ Some ConcurrencyLimit → MaySay Handed x
+  closed_or_cancelled None not_executed not_full not_limited = inl refl
+  closed_or_cancelled (Some Cancelled) not_executed not_full not_limited = inr (inr refl)
+  closed_or_cancelled (Some Closed) not_executed not_full not_limited = inr (inl refl)
+  closed_or_cancelled (Some Execute) not_executed not_full not_limited = absurd (not_executed refl)
+  closed_or_cancelled (Some QueueFull) not_executed not_full not_limited = absurd (not_full refl)
+  closed_or_cancelled (Some ConcurrencyLimit) not_executed not_full not_limited = absurd (not_limited refl)
+
+  -- the decision of a request is one that it may have, by what the Desk did with it
+  pub may_say : (r : ℕ) (p : PassRecord) (a : Service) (w : World) → IsRequest s r p a w → MaySay a (w.decision r)
+  may_say r p NotHanded w k = λ e. let z = k.is_full e in cc
+  may_say r p Handed w k =
+      let h = k.handed (λ x. cc) in
+      closed_or_cancelled (w.decision r)
+      (λ x. ⊎_elim (λ (y : p.wrote ≡ Some Execute). let z = h.wrote_none in absurd (cc)) (λ (y : Handed ≡ Settled). absurd (cc)) (k.executed x))
+      (λ x. let y = k.is_full x in cc)
+      (λ x. let y = (k.limited x).0 in let z = h.wrote_none in cc)
+  may_say r p Full w k = k.full refl
+  may_say r p Settled w k = k.settled refl
+  may_say r p Waiting w k = let i = entered_in_hand r p Waiting w k (λ x. cc) (λ x. cc) (λ x. cc) refl (λ x. cc) in undecided_or_cancelled (w.decision r) i.not_executed i.not_refused
+  may_say r p Held w k = let i = entered_in_hand r p Held w k (λ x. cc) (λ x. cc) (λ x. cc) refl (λ x. cc) in undecided_or_cancelled (w.decision r) i.not_executed i.not_refused
+  may_say r p Left w k = let i = entered_in_hand r p Left w k (λ x. cc) (λ x. cc) (λ x. cc) refl (λ x. cc) in undecided_or_cancelled (w.decision r) i.not_executed i.not_refused

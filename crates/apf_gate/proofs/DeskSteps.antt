@@ -1,7 +1,9 @@
 -- Each step of the Desk alone keeps the rule.
-use Rattle.std.proofs.Common.{◌≡◌, ◌≢◌, ◌⊎◌, ℕ, ◌+◌, ◌-◌, ◌%◌, ◌^◌, ◌<◌, Bool, true, false, List, [], ◌∷◌, ◌++◌, length, Option, Some, None, sym, refl, ap, ◌∙◌, subst, inl, inr, ⊎_elim, arith, eq-eqb, ne_eqb}
+use Rattle.std.proofs.Common.{◌≡◌, ◌≢◌, ◌⊎◌, ℕ, ◌+◌, ◌-◌, ◌%◌, ◌^◌, ◌<◌, Bool, true, false, List, [], ◌∷◌, ◌++◌, length, set, Option, Some, None, sym, refl, ap, ◌∙◌, subst, inl, inr, ⊎_elim, arith, eq-eqb, ne_eqb}
 use Rattle.std.specs.Prelude.{slice_index, ◌==◌, MatchBool}
 use mathlib.Core.Logic.{dite}
+use mathlib.Core.Option.{some}
+use lib.ListN.{get_elem?}
 use native.Mathlib.Decide.{ℕ_discrete}
 use prog.Atomic.{either}
 use Rattle.atomic_table.specs.Table.{Act, keeps, Valid, carried_after, stepped, Allows}
@@ -27,7 +29,7 @@ use Rattle.apf_gate.specs.Records.{world_of, level_of, code_in, told_of, told_ow
 use Rattle.apf_gate.specs.Account.{IsRequest, IsRefusal, IsState, AreStations, stage_of, stage_of_settled, has_entered}
 use Rattle.apf_gate.specs.Gauges.{IsShape, AreLaws}
 use Rattle.apf_gate.specs.Rule.{IsRuled}
-use Rattle.apf_gate.specs.Steps.{IsInRange, OfDecision, service, served, Views, Sees, Grants, Settles, ByDesk, ViewsAt, SeesAt, GrantsAt, SettlesAt, GivesBackAt, LeavesAt}
+use Rattle.apf_gate.specs.Steps.{IsInRange, OfDecision, service, served, MaySay, Views, Sees, Grants, Settles, ByDesk, ViewsAt, SeesAt, GrantsAt, SettlesAt, GivesBackAt, LeavesAt}
 use Rattle.apf_gate.proofs.Puts.{put_here, put_else}
 use Rattle.apf_gate.proofs.WordNumbers.{packed_same, code_same, less_seats, less_waiters, granted, word_request}
 use Rattle.apf_gate.proofs.Later.{same_schedule, one_more}
@@ -36,7 +38,7 @@ use Rattle.apf_gate.proofs.Sound.{stations_same, desk_step}
 use Rattle.apf_gate.proofs.Packing.{packs_same, packs_level, packs_decided, level_in_range, no_queues, is_small}
 use Rattle.apf_gate.proofs.Knowing.{level_known, level_told, decision_known, decision_told}
 use Rattle.apf_gate.proofs.PassSteps.{stations_decided}
-use Rattle.apf_gate.proofs.DeskLines.{HoldsOne, holds_still, holds_now, holds_none, is_at, requests_but, InHand, in_hand}
+use Rattle.apf_gate.proofs.DeskLines.{HoldsOne, holds_still, holds_now, holds_none, is_at, requests_but, InHand, in_hand, may_say}
 
 module _ (s : Shape) where
   -- a step that moves no request and decides nothing leaves the lines on Stations
@@ -57,6 +59,7 @@ module _ (s : Shape) where
     queues = k.queues;
     handed = λ _. record { asked = i.asked; took_none = i.took_none; wrote_none = i.wrote_none; over = i.handed };
     wrote = λ e. absurd (e i.wrote_none);
+    took = k.took;
     executed = λ e. absurd (i.not_executed (sym decision ∙ e));
     settled = λ e. absurd (⊎_elim (λ (x : b ≡ Held). let z = sym x ∙ e in cc) (λ (x : b ≡ Left). let z = sym x ∙ e in cc) to);
     is_full = λ e. absurd (i.not_full (sym decision ∙ e));
@@ -87,9 +90,11 @@ module _ (s : Shape) where
           (refl, (e, refl, (l, h.packs.level, (u, level_told s d.knows ms [] k.known x l refl h.sound.schedule (level_in_range s shape laws t h) (no_queues s laws t h), refl)))),
         )
 
-    -- a load of the word of r
-    pub sees_word : (id slots : ℕ) (d : DeskRecord) (r : ℕ) → r < length s.widths → Allows (IsRuled s) slots id (Desk d ∷ [], []) (r + 1) (λ n. n) (ByDesk (λ o n e. SeesAt o (r + 1) n e) (Desk d ∷ [], []))
-    sees_word id slots d r inside t h deep at small =
+    -- a load or a failed exchange of the word of r
+    seen_word : (id : ℕ) (d : DeskRecord) (r : ℕ) → r < length s.widths → (t : Table) (h : IsRuled s t) → get_elem? t.views id ≡ some (Desk d ∷ [])
+        → (e : DeskRecord) × IsRuled s record { words = set t.words (r + 1) (slice_index t.words (r + 1)); homes = t.homes; views = set t.views id (Desk e ∷ []) }
+        × (slice_index t.words (r + 1) ≡ code_in ((world_of s h.account.schedule).decision r)) × Sees d r ((world_of s h.account.schedule).decision r) e
+    seen_word id d r inside t h at =
         let g = h.account in
         let ms = g.schedule in
         let w = world_of s ms in
@@ -98,13 +103,19 @@ module _ (s : Shape) where
         let later = same_schedule s ms in
         let u : Knowledge = saw_decision d.knows r x x ms in
         let e : DeskRecord = record d { knows = u } in (
-          Desk e ∷ [],
-          keeps,
-          tt,
+          e,
           desk_step s t h id d e (r + 1) (slice_index t.words (r + 1)) ms at later h.sound.schedule k.request (packs_same s t.words w w (r + 1) refl (λ _. refl) h.packs)
               (decision_known s d.knows ms [] k.known later r x x refl (λ _. refl)) k.holds.held_is k.holds.is_held h.sound.stations,
-          (refl, (e, refl, subst (λ q. OfDecision (λ y. Sees d q y e) (slice_index t.words (r + 1))) (sym (word_request r)) (x, h.packs.decisions r inside, (u, decision_told s d.knows ms [] k.known later r x x refl (λ _. refl) h.sound.schedule, refl)))),
+          h.packs.decisions r inside,
+          (u, decision_told s d.knows ms [] k.known later r x x refl (λ _. refl) h.sound.schedule, may_say s r (g.pass r) (service d r) w (k.request r inside), refl),
         )
+
+    -- a load of the word of r
+    pub sees_word : (id slots : ℕ) (d : DeskRecord) (r : ℕ) → r < length s.widths → Allows (IsRuled s) slots id (Desk d ∷ [], []) (r + 1) (λ n. n) (ByDesk (λ o n e. SeesAt o (r + 1) n e) (Desk d ∷ [], []))
+    sees_word id slots d r inside t h deep at small =
+        let x = (world_of s h.account.schedule).decision r in
+        let y = seen_word id d r inside t h at in
+        (Desk y.0 ∷ [], keeps, tt, y.1, (refl, (y.0, refl, subst (λ q. OfDecision (λ z. Sees d q z y.0) (slice_index t.words (r + 1))) (sym (word_request r)) (x, y.2, y.3))))
 
     abbrev Granting : ℕ → ℕ → ℕ → ℕ → DeskRecord → Table → ℕ → Bool → Type 0
     Granting expected new id r d t n b = (v : List Record) × (a : Act (Unit {0})) × Valid t.homes [] a × IsRuled s (stepped t 0 (either b new n) id [] v a)
@@ -185,6 +196,7 @@ module _ (s : Shape) where
       queues = k.queues;
       handed = λ _. record { asked = i.asked; took_none = i.took_none; wrote_none = i.wrote_none; over = i.handed };
       wrote = λ e. absurd (e i.wrote_none);
+      took = k.took;
       executed = λ _. inr refl;
       settled = λ _. here;
       is_full = λ e. absurd (let x = sym here ∙ e in cc);
@@ -206,18 +218,28 @@ module _ (s : Shape) where
 
     abbrev Settling : ℕ → DeskRecord → ℕ → Table → ℕ → Bool → Type 0
     Settling id d r t n b = (v : List Record) × (a : Act (Unit {0})) × Valid t.homes [] a × IsRuled s (stepped t (r + 1) (either b 1 n) id [] v a)
-        × ((carried_after [] a ≡ []) × ((e : DeskRecord) × (v ≡ Desk e ∷ []) × ((x : Option Decision) × (n ≡ code_in x) × MatchBool b (Settles d (r + 1 - 1) e) (Sees d (r + 1 - 1) x e))))
+        × ((carried_after [] a ≡ []) × ((e : DeskRecord) × (v ≡ Desk e ∷ []) × ((x : Option Decision) × (n ≡ code_in x) × MatchBool b (Settles d (r + 1 - 1) e) ((x ≡ Some Cancelled) × Sees d (r + 1 - 1) x e))))
 
     -- execute is written of the request that is held, where nothing was
     pub settles : (id slots : ℕ) (d : DeskRecord) (r : ℕ) → r < length s.widths → d.held ≡ Some r → Allows (IsRuled s) slots id (Desk d ∷ [], []) (r + 1) (λ n. either (n == 0) 1 n) (ByDesk (λ o n e. SettlesAt o (r + 1) n e) (Desk d ∷ [], []))
     settles id slots d r inside held t h deep at small =
-        dite (ℕ_discrete n 0) (λ e. subst (Settling id d r t n) (sym (eq-eqb n 0 e)) (hit e)) (λ ne. subst (Settling id d r t n) (sym (ne_eqb n 0 ne)) miss)
+        dite (ℕ_discrete n 0) (λ e. subst (Settling id d r t n) (sym (eq-eqb n 0 e)) (hit e)) (λ ne. subst (Settling id d r t n) (sym (ne_eqb n 0 ne)) (miss ne))
       where
         n : ℕ
         n = slice_index t.words (r + 1)
 
-        miss : Settling id d r t n false
-        miss = sees_word id slots d r inside t h deep at small
+        -- another decision of a request that is held is cancelled
+        miss : n ≢ 0 → Settling id d r t n false
+        miss ne =
+            let k = is_at s t h id d at in
+            let w = world_of s h.account.schedule in
+            let is : service d r ≡ Held = k.holds.held_is r held in
+            let says = subst (λ a. MaySay a (w.decision r)) is (may_say s r (h.account.pass r) (service d r) w (k.request r inside)) in
+            let cancelled : w.decision r ≡ Some Cancelled = ⊎_elim
+            (λ (e : w.decision r ≡ None). absurd (ne (h.packs.decisions r inside ∙ ap code_in e)))
+            (λ (e : w.decision r ≡ Some Cancelled). e) says in
+            let y = seen_word id d r inside t h at in
+            (Desk y.0 ∷ [], keeps, tt, y.1, (refl, (y.0, refl, subst (λ q. (x : Option Decision) × (n ≡ code_in x) × MatchBool false (Settles d q y.0) ((x ≡ Some Cancelled) × Sees d q x y.0)) (sym (word_request r)) (w.decision r, y.2, (cancelled, y.3)))))
 
         hit : n ≡ 0 → Settling id d r t n true
         hit eq =

@@ -4,11 +4,12 @@ use Rattle.std.specs.Prelude.{slice_get}
 use Rattle.std.proofs.lemmas.Bool.{not-true, not_from_false}
 use Rattle.apf_words.specs.Level.{Level}
 use Rattle.apf_words.specs.declared.decision.Decision.{Decision}
-use Rattle.apf_words.specs.declared.decision.Decision.TheVariants.{Cancelled}
+use Rattle.apf_words.specs.declared.decision.Decision.TheVariants.{Execute, QueueFull, Cancelled}
 use Rattle.apf_model.specs.declared.moves.Stage.TheVariants.{Waits, Stands}
 use Rattle.apf_model.specs.World.{World, IsStanding, IsWaiting, seats, waiters}
 use Rattle.apf_gate.specs.declared.record.Knowledge.{Knowledge}
-use Rattle.apf_gate.specs.declared.record.State.TheVariants.{Over}
+use Rattle.apf_gate.specs.declared.record.State.{State}
+use Rattle.apf_gate.specs.declared.record.State.TheVariants.{Fresh, Took, InLine, Over}
 use Rattle.apf_gate.specs.declared.record.Service.{Service}
 use Rattle.apf_gate.specs.declared.record.Service.TheVariants.{NotHanded, Handed, Full, Waiting, Held, Settled, Left}
 use Rattle.apf_gate.specs.declared.record.PassRecord.{PassRecord}
@@ -16,13 +17,13 @@ use Rattle.apf_gate.specs.declared.record.DeskRecord.{DeskRecord}
 use Rattle.apf_gate.specs.declared.record.StationRecord.{StationRecord}
 use Rattle.apf_gate.specs.declared.record.Record.{Record}
 use Rattle.apf_gate.specs.declared.record.Record.TheVariants.{Pass, Desk, Station}
-use Rattle.apf_gate.specs.Records.{world_of, told_of, has, service_of}
+use Rattle.apf_gate.specs.Records.{world_of, told_of, told_own, has}
 use Rattle.apf_gate.specs.Account.{IsKnown, IsRequest, stage_of, stage_of_pass, stage_of_settled}
 use Rattle.apf_gate.specs.Steps.{service}
 use Rattle.apf_gate.proofs.WordNumbers.{some_same}
 use Rattle.apf_gate.specs.Rule.{Every, IsRecord, AreApart, token_of}
 use Rattle.apf_gate.specs.Calls.{GateId, PassToken, StationToken}
-use Rattle.apf_gate.specs.Ends.{WordsView, EndsWith, AnyOf, WasTold, WroteCancelled, ClosedFirst, passes_before, stations_before}
+use Rattle.apf_gate.specs.Ends.{WordsView, EndsWith, AnyOf, WasTold, ExecutedIt, IsBack, WroteCancelled, ClosedFirst, passes_before, stations_before}
 use Rattle.apf_gate.proofs.Numbers.{AreNumbered, all_there}
 use Rattle.apf_gate.proofs.Views.{every_map}
 
@@ -59,13 +60,13 @@ every_pair : {A : Type 0} (P Q : A → Type 0) (xs : List A) → Every P xs → 
 every_pair P Q [] a b = tt
 every_pair P Q (x ∷ xs) a b = ((a.0, b.0), every_pair P Q xs a.1 b.1)
 
--- a Pass that is over stands no more and waits no more, where the Desk did not enter its request
-over_stage : (took : Bool) → (stage_of_pass Over took ≢ Stands) × (stage_of_pass Over took ≢ Waits)
-over_stage true = ((λ x. cc), (λ x. cc))
-over_stage false = ((λ x. cc), (λ x. cc))
-
-passed : (p : PassRecord) → p.state ≡ Over → (stage_of_pass p.state p.took ≢ Stands) × (stage_of_pass p.state p.took ≢ Waits)
-passed p over = subst (λ f. (stage_of_pass f p.took ≢ Stands) × (stage_of_pass f p.took ≢ Waits)) (sym over) (over_stage p.took)
+-- a Pass that holds no seats that it took stands not, nor waits, where the Desk did not enter its request
+not_taken : (f : State) (took : Bool) → f ≢ Took → (stage_of_pass f took ≢ Stands) × (stage_of_pass f took ≢ Waits)
+not_taken Fresh took other = ((λ x. cc), (λ x. cc))
+not_taken Took took other = absurd (other refl)
+not_taken InLine took other = ((λ x. cc), (λ x. cc))
+not_taken Over true other = ((λ x. cc), (λ x. cc))
+not_taken Over false other = ((λ x. cc), (λ x. cc))
 
 module _ (g : GateId) (d : DeskRecord) (ps : List PassToken) (ts : List StationToken) (w : WordsView) (e : EndsWith g d ps ts w) where
   abbrev IsPassHere : PassToken → Type 0
@@ -146,32 +147,66 @@ module _ (g : GateId) (d : DeskRecord) (ps : List PassToken) (ts : List StationT
   closed_by_no_other = every_map IsStationHere (λ (t : StationToken). Every (λ u. ClosedFirst t → ClosedFirst u → t.station.number ≡ u.station.number) ts) ts
       (λ t h. every_map IsStationHere (λ (u : StationToken). ClosedFirst t → ClosedFirst u → t.station.number ≡ u.station.number) ts (λ u k a b. sym (first t h a).1 ∙ (first u k b).1) stations_here) stations_here
 
-  -- a request whose Pass is over stands no more, nor waits, if the Desk neither holds it nor has it waiting
-  stage_over : (p : PassRecord) (a : Service) → p.state ≡ Over → a ≢ Held → a ≢ Waiting → (stage_of p a ≢ Stands) × (stage_of p a ≢ Waits)
-  stage_over p Waiting over held waits = absurd (waits refl)
-  stage_over p Held over held waits = absurd (held refl)
-  stage_over p Settled over held waits = ((λ x. let z = sym (ap stage_of_settled over) ∙ x in cc), (λ x. let z = sym (ap stage_of_settled over) ∙ x in cc))
-  stage_over p Left over held waits = ((λ x. cc), (λ x. cc))
-  stage_over p NotHanded over held waits = passed p over
-  stage_over p Handed over held waits = passed p over
-  stage_over p Full over held waits = passed p over
+  -- the lines on a request, with the Desk that was handed in
+  line : (r : ℕ) → r < length g.shape.widths → IsRequest g.shape r (e.account.pass r) (service d r) (world_of g.shape e.account.schedule)
+  line r l = subst (λ (o : DeskRecord). IsRequest g.shape r (e.account.pass r) (service o r) (world_of g.shape e.account.schedule)) desk_here (e.sound.request r l)
+
+  pub settled : (r : ℕ) → r < length g.shape.widths → service d r ≡ Settled → slice_get w.decisions r ≡ Some (Some Execute)
+  settled r l is = e.decided r l ∙ ap Some ((line r l).settled is)
+
+  pub refused_as_full : (r : ℕ) → r < length g.shape.widths → service d r ≡ Full → slice_get w.decisions r ≡ Some (Some QueueFull)
+  refused_as_full r l is = e.decided r l ∙ ap Some ((line r l).full is)
+
+  pub full_was_refused : (r : ℕ) → r < length g.shape.widths → slice_get w.decisions r ≡ Some (Some QueueFull) → service d r ≡ Full
+  full_was_refused r l is = (line r l).is_full (some_same _ _ (sym (e.decided r l) ∙ is))
+
+  pub executed : (r : ℕ) → r < length g.shape.widths → slice_get w.decisions r ≡ Some (Some Execute) → (service d r ≡ Settled) ⊎ AnyOf (ExecutedIt r) ps
+  executed r l is = ⊎_elim
+      (λ (o : (e.account.pass r).wrote ≡ Some Execute). inr (any_with (λ (t : PassToken). t.pass.number ≡ r) IsPassHere (ExecutedIt r) ps
+      (λ t n h.
+      let same : e.account.pass r ≡ t.pass = ap e.account.pass (sym n) ∙ h.1 in
+      (n, ap (λ (p : PassRecord). p.took) (sym same) ∙ (line r l).took o, ap (λ (p : PassRecord). p.wrote) (sym same) ∙ o)) (pass_there r l) passes_here))
+      (λ (s : service d r ≡ Settled). inl s)
+      ((line r l).executed (some_same _ _ (sym (e.decided r l) ∙ is)))
+
+  -- what a Pass that holds no seats says of its request, by what the Desk did with it
+  stage_back : (r : ℕ) (p : PassRecord) (a : Service) → IsRequest g.shape r p a (world_of g.shape e.account.schedule) → p.state ≢ Took → (a ≡ Settled → p.state ≡ Over) → a ≢ Held → a ≢ Waiting → (stage_of p a ≢ Stands) × (stage_of p a ≢ Waits)
+  stage_back r p Waiting k took over held waits = absurd (waits refl)
+  stage_back r p Held k took over held waits = absurd (held refl)
+  stage_back r p Settled k took over held waits = ((λ x. let z = sym (ap stage_of_settled (over refl)) ∙ x in cc), (λ x. let z = sym (ap stage_of_settled (over refl)) ∙ x in cc))
+  stage_back r p Left k took over held waits = ((λ x. cc), (λ x. cc))
+  stage_back r p NotHanded k took over held waits = not_taken p.state p.took took
+  stage_back r p Handed k took over held waits = not_taken p.state p.took took
+  stage_back r p Full k took over held waits = not_taken p.state p.took took
+
+  -- a Pass that is back did not take seats that it holds, and is over if the Desk settled its request
+  not_took : (t : PassToken) → IsBack t → t.pass.state ≢ Took
+  not_took t back x = ⊎_elim (λ (o : t.pass.state ≡ Over). let z = sym o ∙ x in absurd (cc)) (λ (o : (t.pass.state ≢ Took) × (told_own t.pass ≢ None) × (told_own t.pass ≢ Some Execute)). o.0 x) back
+
+  over_if_settled : (t : PassToken) (r : ℕ) → t.pass.number ≡ r → r < length g.shape.widths → IsPassHere t → IsBack t → service d r ≡ Settled → t.pass.state ≡ Over
+  over_if_settled t r n l h back is = ⊎_elim (λ (o : t.pass.state ≡ Over). o)
+      (λ (o : (t.pass.state ≢ Took) × (told_own t.pass ≢ None) × (told_own t.pass ≢ Some Execute)).
+      let known : (world_of g.shape e.account.schedule).decision t.pass.number ≡ told_own t.pass = (pass_known t h).told t.pass.number o.1 in
+      absurd (o.2 (sym known ∙ (ap (world_of g.shape e.account.schedule).decision n ∙ (line r l).settled is))))
+      back
 
   pub drained : ((u : World) → ((r : ℕ) → r < length g.shape.widths → ¬ IsStanding u r) → seats g.shape.widths u ≡ 0) → ((u : World) → ((r : ℕ) → r < length g.shape.widths → ¬ IsWaiting u r) → waiters g.shape.widths u ≡ 0)
-      → Every (λ t. t.pass.state ≡ Over) ps → d.held ≡ None → ((r : ℕ) → r < length g.shape.widths → service d r ≢ Waiting) → (w.level.seats ≡ 0) × (w.level.waiters ≡ 0)
-  drained none_stands none_waits over held waits = (
+      → Every IsBack ps → d.held ≡ None → ((r : ℕ) → r < length g.shape.widths → service d r ≢ Waiting) → (w.level.seats ≡ 0) × (w.level.waiters ≡ 0)
+  drained none_stands none_waits back held waits = (
     ap (λ (l : Level). l.seats) e.level ∙ none_stands (world_of g.shape e.account.schedule) (λ r l x. (gone r l).0 (sym (line r l).stage ∙ x)),
     ap (λ (l : Level). l.waiters) e.level ∙ none_waits (world_of g.shape e.account.schedule) (λ r l x. (gone r l).1 (sym (line r l).stage ∙ x)),
   )
     where
-      line : (r : ℕ) → r < length g.shape.widths → IsRequest g.shape r (e.account.pass r) (service_of e.account.desk.services r) (world_of g.shape e.account.schedule)
-      line r l = e.sound.request r l
+      -- what is so of a request by the token of its Pass
+      by_token : (r : ℕ) → r < length g.shape.widths → ((e.account.pass r).state ≢ Took) × (service d r ≡ Settled → (e.account.pass r).state ≡ Over)
+      by_token r l = any_elim (λ (t : PassToken). t.pass.number ≡ r) (λ (t : PassToken). IsPassHere t × IsBack t) ps
+          (λ t n h.
+          let same : (e.account.pass r).state ≡ t.pass.state = ap (λ k. (e.account.pass k).state) (sym n) ∙ ap (λ (o : PassRecord). o.state) h.0.1 in
+          ((λ x. not_took t h.1 (sym same ∙ x)), (λ x. same ∙ over_if_settled t r n l h.0 h.1 x)))
+          (pass_there r l) (every_pair IsPassHere IsBack ps passes_here back)
 
-      is_over : (r : ℕ) → r < length g.shape.widths → (e.account.pass r).state ≡ Over
-      is_over r l = any_elim (λ (t : PassToken). t.pass.number ≡ r) (λ (t : PassToken). IsPassHere t × (t.pass.state ≡ Over)) ps
-          (λ t n h. ap (λ k. (e.account.pass k).state) (sym n) ∙ (ap (λ (o : PassRecord). o.state) h.0.1 ∙ h.1)) (pass_there r l) (every_pair IsPassHere (λ (t : PassToken). t.pass.state ≡ Over) ps passes_here over)
+      not_held : (r : ℕ) → service d r ≢ Held
+      not_held r x = let z = sym (ap (λ (o : DeskRecord). o.held) desk_here ∙ held) ∙ e.sound.is_held r (ap (λ (o : DeskRecord). service o r) desk_here ∙ x) in cc
 
-      not_held : (r : ℕ) → service_of e.account.desk.services r ≢ Held
-      not_held r x = let z = sym (ap (λ (o : DeskRecord). o.held) desk_here ∙ held) ∙ e.sound.is_held r x in cc
-
-      gone : (r : ℕ) → r < length g.shape.widths → (stage_of (e.account.pass r) (service_of e.account.desk.services r) ≢ Stands) × (stage_of (e.account.pass r) (service_of e.account.desk.services r) ≢ Waits)
-      gone r l = stage_over (e.account.pass r) (service_of e.account.desk.services r) (is_over r l) (not_held r) (λ x. waits r l (ap (λ (o : DeskRecord). service o r) (sym desk_here) ∙ x))
+      gone : (r : ℕ) → r < length g.shape.widths → (stage_of (e.account.pass r) (service d r) ≢ Stands) × (stage_of (e.account.pass r) (service d r) ≢ Waits)
+      gone r l = let t = by_token r l in stage_back r (e.account.pass r) (service d r) (line r l) t.0 t.1 (not_held r) (waits r l)

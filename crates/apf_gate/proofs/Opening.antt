@@ -81,6 +81,7 @@ module _ (s : Shape) where
         queues = λ e. absurd (cc);
         handed = λ ne. absurd (ne refl);
         wrote = λ ne. absurd (ne refl);
+        took = λ e. absurd (let x = e in cc);
         executed = λ e. absurd (cc);
         settled = λ e. absurd (cc);
         is_full = λ e. absurd (cc);

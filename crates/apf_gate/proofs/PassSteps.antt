@@ -163,6 +163,7 @@ module _ (s : Shape) where
       queues = k.queues;
       handed = λ ne. let h = k.handed ne in record { asked = h.asked; took_none = h.took_none; wrote_none = h.wrote_none; over = λ e. ap (λ x. Rattle.apf_gate.specs.Records.told_of x p.number) told ∙ h.over e };
       wrote = λ e. decision ∙ k.wrote e;
+      took = k.took;
       executed = λ e. k.executed (sym decision ∙ e);
       settled = λ e. decision ∙ k.settled e;
       is_full = λ e. k.is_full (sym decision ∙ e);
@@ -258,6 +259,7 @@ module _ (s : Shape) where
                     queues = k.request.queues;
                     handed = λ ne. absurd (ne away.1);
                     wrote = k.request.wrote;
+                    took = λ _. refl;
                     executed = k.request.executed;
                     settled = k.request.settled;
                     is_full = k.request.is_full;
@@ -301,6 +303,7 @@ module _ (s : Shape) where
       queues = k.queues;
       handed = λ ne. let h = k.handed ne in record { asked = h.asked; took_none = h.took_none; wrote_none = h.wrote_none; over = λ e. stays (h.over e) };
       wrote = k.wrote;
+      took = k.took;
       executed = k.executed;
       settled = k.settled;
       is_full = k.is_full;
@@ -324,6 +327,7 @@ module _ (s : Shape) where
           queues = k.queues;
           handed = λ ne. absurd (ne away.1);
           wrote = k.wrote;
+          took = k.took;
           executed = k.executed;
           settled = k.settled;
           is_full = k.is_full;
@@ -423,6 +427,7 @@ module _ (s : Shape) where
             queues = k.request.queues;
             handed = λ ne. absurd (ne free);
             wrote = λ _. here;
+            took = λ _. f.0;
             executed = λ _. inl refl;
             settled = λ _. here;
             is_full = λ e. absurd (let x = sym here ∙ e in cc);
@@ -452,6 +457,7 @@ module _ (s : Shape) where
             queues = k.request.queues;
             handed = λ ne. absurd (ne away.1);
             wrote = λ _. here;
+            took = λ e. absurd (let x = e in cc);
             executed = λ e. absurd (let x = sym here ∙ e in cc);
             settled = λ e. absurd (let x = sym away.1 ∙ e in cc);
             is_full = λ e. absurd (let x = sym here ∙ e in cc);
@@ -482,6 +488,7 @@ module _ (s : Shape) where
             queues = k.request.queues;
             handed = λ ne. absurd (ne away.1);
             wrote = λ _. here;
+            took = λ e. absurd (let x = e in cc);
             executed = λ e. absurd (let x = sym here ∙ e in cc);
             settled = λ e. absurd (let x = sym away.1 ∙ e in cc);
             is_full = λ e. absurd (let x = sym here ∙ e in cc);
@@ -508,6 +515,7 @@ module _ (s : Shape) where
           queues = k.queues;
           handed = λ ne. absurd (ne away.1);
           wrote = k.wrote;
+          took = k.took;
           executed = k.executed;
           settled = k.settled;
           is_full = k.is_full;
@@ -652,6 +660,7 @@ module _ (s : Shape) where
                 queues = k.request.queues;
                 handed = λ ne. let y = k.request.handed ne in record { asked = y.asked; took_none = y.took_none; wrote_none = y.wrote_none; over = λ _. ⊎_elim (λ e. e) (λ e. absurd (ne e)) x.over };
                 wrote = k.request.wrote;
+                took = k.request.took;
                 executed = k.request.executed;
                 settled = k.request.settled;
                 is_full = k.request.is_full;

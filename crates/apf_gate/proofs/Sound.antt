@@ -41,6 +41,7 @@ module _ (s : Shape) where
     queues = k.queues;
     handed = k.handed;
     wrote = λ e. same.decision ∙ k.wrote e;
+    took = k.took;
     executed = λ e. k.executed (sym same.decision ∙ e);
     settled = λ e. same.decision ∙ k.settled e;
     is_full = λ e. k.is_full (sym same.decision ∙ e);

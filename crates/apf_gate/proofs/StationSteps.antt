@@ -105,6 +105,7 @@ module _ (s : Shape) where
       queues = k.queues;
       handed = k.handed;
       wrote = λ ne. absurd (ne (sym (k.wrote ne) ∙ none));
+      took = k.took;
       executed = λ e. absurd (let x = sym here ∙ e in cc);
       settled = λ e. absurd (let x = sym (k.settled e) ∙ none in cc);
       is_full = λ e. absurd (let x = sym here ∙ e in cc);

@@ -88,6 +88,7 @@ pub record IsRequest (s : Shape) (r : ℕ) (p : PassRecord) (a : Service) (w : W
   pub queues : p.entered ≡ true → s.response ≡ Queue
   pub handed : a ≢ NotHanded → IsHanded p
   pub wrote : p.wrote ≢ None → w.decision r ≡ p.wrote
+  pub took : p.wrote ≡ Some Execute → p.took ≡ true
   pub executed : w.decision r ≡ Some Execute → (p.wrote ≡ Some Execute) ⊎ (a ≡ Settled)
   pub settled : a ≡ Settled → w.decision r ≡ Some Execute
   pub is_full : w.decision r ≡ Some QueueFull → a ≡ Full

@@ -117,9 +117,9 @@ TriesToGrant d r granted.NoRoom e = (l : Level) × Views d l e × (¬ Fits l.sea
 TriesToGrant d r granted.Granted e = (l : Level) × Fits l.seats l.limit (width d.knows.shape.widths r) × ((between : DeskRecord) × Views d l between × Grants between r l e)
 TriesToGrant d r granted.Raced e = (l other : Level) × (other ≢ l) × ((between : DeskRecord) × Views d l between × Views between other e)
 
--- one exchange: execute was written of the request that the Desk held, or another decision was found, and that is the answer
+-- one exchange: execute was written of the request that the Desk held, or it was found cancelled
 abbrev pub SettlesTo : DeskRecord → Decision → DeskRecord → Type 0
-SettlesTo d answer e = (r : ℕ) × (d.held ≡ Some r) × ((Settles d r e × (answer ≡ Execute)) ⊎ Sees d r (Some answer) e)
+SettlesTo d answer e = (r : ℕ) × (d.held ≡ Some r) × ((Settles d r e × (answer ≡ Execute)) ⊎ (Sees d r (Some Cancelled) e × (answer ≡ Cancelled)))
 
 -- by the joined token: one load, and where the level was open an exchange
 abbrev pub TriesToEnter : PassRecord → DeskRecord → TryEnter → PassRecord → DeskRecord → Type 0

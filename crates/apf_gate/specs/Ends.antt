@@ -1,11 +1,13 @@
 -- How a gate ends.
-use Rattle.std.specs.Prelude.{◌≡◌, ◌⊎◌, ℕ, ◌<◌, true, List, [], ◌∷◌, length, slice_get, Option, Some}
+use Rattle.std.specs.Prelude.{◌≡◌, ◌≢◌, ◌⊎◌, ℕ, ◌<◌, true, List, [], ◌∷◌, length, slice_get, Option, Some, None}
 use Rattle.apf_words.specs.Level.{Level}
 use Rattle.apf_words.specs.declared.decision.Decision.{Decision}
+use Rattle.apf_words.specs.declared.decision.Decision.TheVariants.{Execute}
 use Rattle.apf_gate.specs.declared.record.Record.{Record}
 use Rattle.apf_gate.specs.declared.record.Record.TheVariants.{Pass, Desk, Station}
+use Rattle.apf_gate.specs.declared.record.State.TheVariants.{Took, Over}
 use Rattle.apf_gate.specs.declared.record.DeskRecord.{DeskRecord}
-use Rattle.apf_gate.specs.Records.{world_of, level_of, told_of, has}
+use Rattle.apf_gate.specs.Records.{world_of, level_of, told_of, told_own, has}
 use Rattle.apf_gate.specs.Account.{Account, IsSound}
 use Rattle.apf_gate.specs.Rule.{Every, AreApart, IsRecord}
 use Rattle.apf_gate.specs.Calls.{GateId, PassToken, StationToken}
@@ -48,6 +50,14 @@ AnyOf P (x ∷ xs) = P x ⊎ AnyOf P xs
 -- a token that was handed in was told this decision of r
 abbrev pub WasTold : DeskRecord → List PassToken → List StationToken → ℕ → Decision → Type 0
 WasTold d ps ts r x = (told_of d.knows.told r ≡ Some x) ⊎ (AnyOf (λ t. told_of t.pass.knows.told r ≡ Some x) ps ⊎ AnyOf (λ t. told_of t.station.knows.told r ≡ Some x) ts)
+
+-- the request's own Pass took its seats and wrote execute
+abbrev pub ExecutedIt : ℕ → PassToken → Type 0
+ExecutedIt r t = (t.pass.number ≡ r) × (t.pass.took ≡ true) × (t.pass.wrote ≡ Some Execute)
+
+-- the Pass holds no seats: it is over, or it took none and was told another decision than execute
+abbrev pub IsBack : PassToken → Type 0
+IsBack t = (t.pass.state ≡ Over) ⊎ ((t.pass.state ≢ Took) × (told_own t.pass ≢ None) × (told_own t.pass ≢ Some Execute))
 
 -- the Station wrote cancelled of r
 abbrev pub WroteCancelled : ℕ → StationToken → Type 0

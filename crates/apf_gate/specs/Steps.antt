@@ -1,9 +1,9 @@
 -- What each step tells the token that makes it.
-use Rattle.std.specs.Prelude.{◌≡◌, ◌≢◌, ℕ, ◌+◌, ◌-◌, ◌/◌, ◌%◌, ◌^◌, ◌≤◌, ◌==◌, ◌||◌, ◌&&◌, not, nat_le, MatchBool, Bool, true, false, if◌then◌else◌, List, [], ◌∷◌, ◌++◌, Option, Some, None}
+use Rattle.std.specs.Prelude.{◌≡◌, ◌≢◌, ◌⊎◌, ℕ, ◌+◌, ◌-◌, ◌/◌, ◌%◌, ◌^◌, ◌≤◌, ◌==◌, ◌||◌, ◌&&◌, not, nat_le, MatchBool, Bool, true, false, if◌then◌else◌, List, [], ◌∷◌, ◌++◌, Option, Some, None}
 use Rattle.apf_words.specs.Codes.{code_of}
 use Rattle.apf_words.specs.Level.{Level, packed}
 use Rattle.apf_words.specs.declared.decision.Decision.{Decision}
-use Rattle.apf_words.specs.declared.decision.Decision.TheVariants.{Execute, QueueFull, Cancelled}
+use Rattle.apf_words.specs.declared.decision.Decision.TheVariants.{Execute, QueueFull, Closed, Cancelled}
 use Rattle.apf_model.specs.declared.moves.Move.{Move}
 use Rattle.apf_model.specs.declared.moves.Move.TheVariants.{Take, Enter, Grant, Leave, Decide, Release, Close, SetLimit, See}
 use Rattle.apf_model.specs.declared.response.Response.TheVariants.{Reject}
@@ -14,7 +14,7 @@ use Rattle.apf_gate.specs.declared.record.State.{State}
 use Rattle.apf_gate.specs.declared.record.State.TheVariants.{Fresh, Took, InLine, Over}
 use Rattle.apf_gate.specs.declared.record.PassRecord.{PassRecord}
 use Rattle.apf_gate.specs.declared.record.Service.{Service}
-use Rattle.apf_gate.specs.declared.record.Service.TheVariants.{Handed, Full, Waiting, Held, Settled, Left}
+use Rattle.apf_gate.specs.declared.record.Service.TheVariants.{NotHanded, Handed, Full, Waiting, Held, Settled, Left}
 use Rattle.apf_gate.specs.declared.record.DeskRecord.{DeskRecord}
 use Rattle.apf_gate.specs.declared.record.StationRecord.{StationRecord}
 use Rattle.apf_gate.specs.declared.record.Record.{Record}
@@ -202,9 +202,17 @@ served d r x u = record d { services = (r, x) ∷ d.services; knows = u }
 abbrev pub Views : DeskRecord → Level → DeskRecord → Type 0
 Views d l e = (u : Knowledge) × SawLevel d.knows l [] u × (e ≡ record d { knows = u })
 
+-- what the decision of a request may be, by what the Desk did with it
+abbrev pub MaySay : Service → Option Decision → Type 0
+MaySay NotHanded x = x ≢ Some QueueFull
+MaySay Handed x = (x ≡ None) ⊎ ((x ≡ Some Closed) ⊎ (x ≡ Some Cancelled))
+MaySay Full x = x ≡ Some QueueFull
+MaySay Settled x = x ≡ Some Execute
+MaySay _ x = (x ≡ None) ⊎ (x ≡ Some Cancelled)
+
 -- the Desk's load of the word of r
 abbrev pub Sees : DeskRecord → ℕ → Option Decision → DeskRecord → Type 0
-Sees d r x e = (u : Knowledge) × SawDecision d.knows r x x [] u × (e ≡ record d { knows = u })
+Sees d r x e = (u : Knowledge) × SawDecision d.knows r x x [] u × MaySay (service d r) x × (e ≡ record d { knows = u })
 
 -- the exchange granted r its seats, which the Desk holds
 abbrev pub Grants : DeskRecord → ℕ → Level → DeskRecord → Type 0
@@ -236,9 +244,9 @@ SeesAt d word n e = OfDecision (λ x. Sees d (word - 1) x e) n
 abbrev pub GrantsAt : DeskRecord → ℕ → ℕ → ℕ → DeskRecord → Type 0
 GrantsAt d r expected n e = OfLevel (λ l. MatchBool (n == expected) (Grants d r l e) (Views d l e)) n
 
--- an exchange of 0 for the code of execute
+-- an exchange of 0 for the code of execute, of the request that is held. Another decision is cancelled
 abbrev pub SettlesAt : DeskRecord → ℕ → ℕ → DeskRecord → Type 0
-SettlesAt d word n e = OfDecision (λ x. MatchBool (n == 0) (Settles d (word - 1) e) (Sees d (word - 1) x e)) n
+SettlesAt d word n e = OfDecision (λ x. MatchBool (n == 0) (Settles d (word - 1) e) ((x ≡ Some Cancelled) × Sees d (word - 1) x e)) n
 
 abbrev pub GivesBackAt : DeskRecord → ℕ → ℕ → DeskRecord → Type 0
 GivesBackAt d r n e = OfLevel (λ l. GivesBack d r l e) n
@@ -266,7 +274,7 @@ Refuses p d x q e = (u : Knowledge) × SawDecision d.knows p.number None (Some x
 
 -- the exchange found another decision
 abbrev pub Spares : PassRecord → DeskRecord → Option Decision → PassRecord → DeskRecord → Type 0
-Spares p d x q e = (u : Knowledge) × SawDecision d.knows p.number x x [] u × (q ≡ p) × (e ≡ served d p.number Handed u)
+Spares p d x q e = (u : Knowledge) × SawDecision d.knows p.number x x [] u × MaySay Handed x × (q ≡ p) × (e ≡ served d p.number Handed u)
 
 -- the decision word was loaded, and it holds what the Pass was told. Nothing is handed over
 abbrev pub Learns : PassRecord → DeskRecord → Option Decision → PassRecord → DeskRecord → Type 0

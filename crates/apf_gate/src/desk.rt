@@ -46,6 +46,7 @@ impl<A: Allocator> Gate<A> {
         requires own { desk_gate desk.old ≡ self.now }
         ensures gate { desk_gate desk.new ≡ desk_gate desk.old }
         ensures answer { Views desk.old.desk result desk.new.desk }
+        ensures same { (desk.new.desk.services ≡ desk.old.desk.services) × (desk.new.desk.held ≡ desk.old.desk.held) }
         ensures in_range { IsInRange result }
         ensures stays_closed { desk.old.desk.knows.saw_closed ≡ true → result.closed ≡ true }
     {
@@ -58,6 +59,8 @@ impl<A: Allocator> Gate<A> {
         requires is_request { request < length self.now.shape.widths }
         ensures gate { desk_gate desk.new ≡ desk_gate desk.old }
         ensures answer { Sees desk.old.desk request result desk.new.desk }
+        ensures same { (desk.new.desk.services ≡ desk.old.desk.services) × (desk.new.desk.held ≡ desk.old.desk.held) }
+        ensures waits { service desk.old.desk request ≡ Waiting → (result ≡ None) ⊎ (result ≡ Some Cancelled) }
         ensures told { result ≢ None → told_of desk.new.desk.knows.told request ≡ result }
         ensures stays { told_of desk.old.desk.knows.told request ≢ None → result ≡ told_of desk.old.desk.knows.told request }
     {
@@ -73,6 +76,8 @@ impl<A: Allocator> Gate<A> {
         requires holds_none { desk.old.desk.held ≡ None }
         ensures gate { desk_gate desk.new ≡ desk_gate desk.old }
         ensures answer { TriesToGrant desk.old.desk request result desk.new.desk }
+        ensures held { result ≡ TryGrant.Granted → desk.new.desk.held ≡ Some request }
+        ensures same { result ≢ TryGrant.Granted → (desk.new.desk.services ≡ desk.old.desk.services) × (desk.new.desk.held ≡ None) }
     {
         let level = self.view(desk);
         let width = self.gauge.widths[request as usize];
@@ -85,13 +90,18 @@ impl<A: Allocator> Gate<A> {
         TryGrant::Granted
     }
 
-    /// Writes execute of the request whose seats the Desk holds, unless a decision is written. Answers the
-    /// one that is written then: with execute the Desk holds nothing any more. It makes one exchange.
+    /// Writes execute of the request whose seats the Desk holds, unless it is cancelled. Answers the decision
+    /// that is written then: with `Execute` the Desk holds nothing any more, with `Cancelled` it holds the
+    /// seats still. It makes one exchange.
     pub fn settle(&self, desk: &mut Desk) -> Decision
         requires own { desk_gate desk.old ≡ self.now }
         requires holds { desk.old.desk.held ≢ None }
         ensures gate { desk_gate desk.new ≡ desk_gate desk.old }
         ensures answer { SettlesTo desk.old.desk result desk.new.desk }
+        ensures answers { (result ≡ Execute) ⊎ (result ≡ Cancelled) }
+        ensures told { (r : ℕ) → desk.old.desk.held ≡ Some r → told_of desk.new.desk.knows.told r ≡ Some result }
+        ensures settled { result ≡ Execute → desk.new.desk.held ≡ None }
+        ensures lost { result ≡ Cancelled → desk.new.desk.held ≡ desk.old.desk.held }
     {
         let Some(request) = desk.held else {
             unreachable!()
@@ -178,7 +188,7 @@ impl<A: Allocator> Gate<A> {
         requires own { desk_gate desk.old ≡ self.now }
         requires holds { desk.old.desk.held ≡ Some request }
         ensures gate { desk_gate desk.new ≡ desk_gate desk.old }
-        ensures found { OfDecision (λ x. MatchBool (result == 0) (Settles desk.old.desk request desk.new.desk) (Sees desk.old.desk request x desk.new.desk)) result }
+        ensures found { OfDecision (λ x. MatchBool (result == 0) (Settles desk.old.desk request desk.new.desk) ((x ≡ Some Cancelled) × Sees desk.old.desk request x desk.new.desk)) result }
     {
         let word = request as usize + 1;
         let found = self

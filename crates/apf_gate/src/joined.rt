@@ -3,10 +3,12 @@
 ghost use Rattle.std.specs.Prelude.{◌≡◌, ◌≢◌, ◌⊎◌, [], ◌∷◌, ◌+◌, ◌==◌, true, false, MatchBool, Option, Some, None};
 ghost use Rattle.apf_words.specs.Level.{Level};
 ghost use Rattle.apf_words.specs.declared.decision.Decision.{Decision};
+ghost use Rattle.apf_words.specs.declared.decision.Decision.TheVariants.{QueueFull, Closed, Cancelled};
 ghost use Rattle.apf_model.specs.declared.response.Response.TheVariants.{Queue};
 ghost use Rattle.apf_gate.specs.Records.{told_own, told_of};
 ghost use Rattle.apf_gate.specs.Rule.{pass_of, desk_of};
-ghost use Rattle.apf_gate.specs.Steps.{IsInRange, OfDecision, Hands, Enters, Refuses, Spares, Learns};
+ghost use Rattle.apf_gate.specs.declared.record.Service.TheVariants.{Full, Waiting};
+ghost use Rattle.apf_gate.specs.Steps.{IsInRange, OfDecision, service, Hands, Enters, Refuses, Spares, Learns};
 ghost use Rattle.apf_gate.specs.Calls.{pass_gate, desk_gate, MayHand, MayRefuse, TriesToEnter, RefusesTo};
 ghost use Rattle.apf_gate.specs.Joined.{pass_at, desk_at, AreBoth, IsAlone};
 ghost use Rattle.apf_gate.specs.declared.record.Record.TheVariants as records;
@@ -33,6 +35,11 @@ impl<A: Allocator> Gate<A> {
         ensures desk { desk_gate desk.new ≡ desk_gate desk.old }
         ensures pass { pass_gate pass.new ≡ pass_gate pass.old }
         ensures answer { TriesToEnter pass.old.pass desk.old.desk result pass.new.pass desk.new.desk }
+        ensures entered { result ≡ TryEnter.Entered → (pass.new.pass.entered ≡ true) × (service desk.new.desk pass.old.pass.number ≡ Waiting) }
+        ensures same { result ≢ TryEnter.Entered → pass.new ≡ pass.old }
+        ensures number { pass.new.pass.number ≡ pass.old.pass.number }
+        ensures state { pass.new.pass.state ≡ pass.old.pass.state }
+        ensures held { desk.new.desk.held ≡ desk.old.desk.held }
         ensures stays_closed { desk.old.desk.knows.saw_closed ≡ true → result ≡ TryEnter.Closed }
     {
         self.join(&mut desk.seat, &mut pass.seat);
@@ -53,6 +60,11 @@ impl<A: Allocator> Gate<A> {
         ensures desk { desk_gate desk.new ≡ desk_gate desk.old }
         ensures pass { pass_gate pass.new ≡ pass_gate pass.old }
         ensures answer { RefusesTo pass.old.pass desk.old.desk decision result pass.new.pass desk.new.desk }
+        ensures answers { (result ≡ decision) ⊎ ((result ≡ Closed) ⊎ (result ≡ Cancelled)) }
+        ensures full { result ≡ QueueFull → service desk.new.desk pass.old.pass.number ≡ Full }
+        ensures told { told_of desk.new.desk.knows.told pass.old.pass.number ≡ Some result }
+        ensures same { pass.new ≡ pass.old }
+        ensures held { desk.new.desk.held ≡ desk.old.desk.held }
     {
         let word = pass.number as usize + 1;
         self.join(&mut desk.seat, &mut pass.seat);
@@ -73,6 +85,8 @@ impl<A: Allocator> Gate<A> {
         ensures desk { desk_gate desk.new ≡ desk_gate desk.old }
         ensures same { pass.new ≡ pass.old }
         ensures answer { (x : Option Decision) × Learns pass.old.pass desk.old.desk x pass.new.pass desk.new.desk }
+        ensures told { told_of desk.new.desk.knows.told pass.old.pass.number ≡ told_own pass.old.pass }
+        ensures served { (desk.new.desk.services ≡ desk.old.desk.services) × (desk.new.desk.held ≡ desk.old.desk.held) }
     {
         let word = pass.number as usize + 1;
         self.join(&mut desk.seat, &mut pass.seat);

@@ -1,15 +1,14 @@
 //! What the end of a gate tells of its tokens.
 
-ghost use Rattle.std.specs.Prelude.{◌≡◌, ◌≢◌, ℕ, ◌<◌, List, length, slice_get, true, Some, None};
+ghost use Rattle.std.specs.Prelude.{◌≡◌, ◌≢◌, ◌⊎◌, ℕ, ◌<◌, List, length, slice_get, true, Some, None};
 ghost use Rattle.apf_words.specs.declared.decision.Decision.{Decision};
-ghost use Rattle.apf_words.specs.declared.decision.Decision.TheVariants.{Cancelled};
+ghost use Rattle.apf_words.specs.declared.decision.Decision.TheVariants.{Execute, QueueFull, Cancelled};
 ghost use Rattle.apf_gate.specs.declared.record.DeskRecord.{DeskRecord};
-ghost use Rattle.apf_gate.specs.declared.record.State.TheVariants.{Over};
-ghost use Rattle.apf_gate.specs.declared.record.Service.TheVariants.{Waiting};
+ghost use Rattle.apf_gate.specs.declared.record.Service.TheVariants.{Full, Waiting, Settled};
 ghost use Rattle.apf_gate.specs.Rule.{Every};
 ghost use Rattle.apf_gate.specs.Steps.{service};
 ghost use Rattle.apf_gate.specs.Calls.{GateId, PassToken, StationToken};
-ghost use Rattle.apf_gate.specs.Ends.{WordsView, EndsWith, AnyOf, WasTold, WroteCancelled, ClosedFirst};
+ghost use Rattle.apf_gate.specs.Ends.{WordsView, EndsWith, AnyOf, WasTold, ExecutedIt, IsBack, WroteCancelled, ClosedFirst};
 
 use apf_model::every_schedule_is_safe;
 
@@ -41,9 +40,21 @@ pub fn every_end_agrees()
     ensures closed_by_no_other { (g : GateId) (d : DeskRecord) (ps : List PassToken) (ts : List StationToken) (w : WordsView)
         → EndsWith g d ps ts w → Every (λ t. Every (λ u. ClosedFirst t → ClosedFirst u → t.station.number ≡ u.station.number) ts) ts }
 
-    // If every Pass is over and the Desk holds and has waiting nothing, no seat is taken and nobody waits.
+    // What the Desk did with a request agrees with its decision: it settled only requests that are
+    // executed, and those that it refused as full are exactly those decided so. Who is executed was settled
+    // by the Desk, or took its seats.
+    ensures settled { (g : GateId) (d : DeskRecord) (ps : List PassToken) (ts : List StationToken) (w : WordsView) (r : ℕ)
+        → EndsWith g d ps ts w → r < length g.shape.widths → service d r ≡ Settled → slice_get w.decisions r ≡ Some (Some Execute) }
+    ensures executed { (g : GateId) (d : DeskRecord) (ps : List PassToken) (ts : List StationToken) (w : WordsView) (r : ℕ)
+        → EndsWith g d ps ts w → r < length g.shape.widths → slice_get w.decisions r ≡ Some (Some Execute) → (service d r ≡ Settled) ⊎ AnyOf (ExecutedIt r) ps }
+    ensures refused_as_full { (g : GateId) (d : DeskRecord) (ps : List PassToken) (ts : List StationToken) (w : WordsView) (r : ℕ)
+        → EndsWith g d ps ts w → r < length g.shape.widths → service d r ≡ Full → slice_get w.decisions r ≡ Some (Some QueueFull) }
+    ensures full_was_refused { (g : GateId) (d : DeskRecord) (ps : List PassToken) (ts : List StationToken) (w : WordsView) (r : ℕ)
+        → EndsWith g d ps ts w → r < length g.shape.widths → slice_get w.decisions r ≡ Some (Some QueueFull) → service d r ≡ Full }
+
+    // If no Pass holds seats and the Desk holds and has waiting nothing, no seat is taken and nobody waits.
     ensures drained { (g : GateId) (d : DeskRecord) (ps : List PassToken) (ts : List StationToken) (w : WordsView)
-        → EndsWith g d ps ts w → Every (λ t. t.pass.state ≡ Over) ps → d.held ≡ None
+        → EndsWith g d ps ts w → Every IsBack ps → d.held ≡ None
         → ((r : ℕ) → r < length g.shape.widths → service d r ≢ Waiting) → (w.level.seats ≡ 0) × (w.level.waiters ≡ 0) }
 {
     every_schedule_is_safe();

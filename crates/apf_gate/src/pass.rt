@@ -89,6 +89,8 @@ impl<A: Allocator> Gate<A> {
         ensures gate { pass_gate pass.new ≡ pass_gate pass.old }
         ensures answer { (d : Option Decision) × Asks pass.old.pass d pass.new.pass }
         ensures in_line { pass.old.pass.state ≡ Fresh → pass.new.pass.state ≡ InLine }
+        ensures number { pass.new.pass.number ≡ pass.old.pass.number }
+        ensures stays { told_own pass.old.pass ≢ None → told_own pass.new.pass ≡ told_own pass.old.pass }
     {
         let word = pass.number as usize + 1;
         self.board.shared.load::<Asking>(&mut pass.seat, word);
@@ -102,6 +104,7 @@ impl<A: Allocator> Gate<A> {
         ensures told { result ≢ None → told_own pass.new.pass ≡ result }
         ensures stays { told_own pass.old.pass ≢ None → result ≡ told_own pass.old.pass }
         ensures state { pass.new.pass.state ≡ pass.old.pass.state }
+        ensures number { pass.new.pass.number ≡ pass.old.pass.number }
     {
         let word = pass.number as usize + 1;
         decision_in(self.board.shared.load::<Hearing>(&mut pass.seat, word))
@@ -121,6 +124,7 @@ impl<A: Allocator> Gate<A> {
         ensures told { told_own pass.new.pass ≡ Some result }
         ensures stays { told_own pass.old.pass ≢ None → Some result ≡ told_own pass.old.pass }
         ensures state { pass.new.pass.state ≡ deciding_state decision pass.old.pass.state }
+        ensures number { pass.new.pass.number ≡ pass.old.pass.number }
     {
         let word = pass.number as usize + 1;
         let code = decision.code();
@@ -144,6 +148,7 @@ impl<A: Allocator> Gate<A> {
         ensures gate { pass_gate pass.new ≡ pass_gate pass.old }
         ensures answer { (l : Level) × Releases pass.old.pass l pass.new.pass × (result ≡ not (l.waiters == 0)) }
         ensures state { pass.new.pass.state ≡ Over }
+        ensures number { pass.new.pass.number ≡ pass.old.pass.number }
         ensures told { told_own pass.new.pass ≡ told_own pass.old.pass }
     {
         let width = u64::from(pass.width);

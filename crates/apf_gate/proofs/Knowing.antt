@@ -1,6 +1,6 @@
 -- What a token knows after a step.
 use Rattle.std.proofs.Common.{◌≡◌, ◌≢◌, ℕ, true, List, [], ◌∷◌, ◌++◌, Option, Some, None, refl, sym, ap, ◌∙◌, subst, ⊎_elim}
-use Rattle.std.proofs.lemmas.Bool.{not-true, not_from_false}
+use Rattle.std.proofs.lemmas.Bool.{not-true, not_from_false, or_cases}
 use mathlib.Core.Logic.{dite}
 use native.Mathlib.Decide.{ℕ_discrete}
 use Rattle.apf_words.specs.Level.{Level}
@@ -15,7 +15,6 @@ use Rattle.apf_gate.specs.Account.{IsKnown}
 use Rattle.apf_gate.specs.Steps.{IsInRange, SawLevel, SawDecision}
 use Rattle.apf_gate.proofs.Puts.{put_here, put_else}
 use Rattle.apf_gate.proofs.Later.{IsLater}
-use Rattle.apf_gate.proofs.Rooms.{either_true}
 
 module _ (s : Shape) (t : Knowledge) (ms own : List Move) (known : IsKnown s t ms) (later : IsLater s ms (own ++ ms)) where
   -- after a step on the level word
@@ -23,7 +22,7 @@ module _ (s : Shape) (t : Knowledge) (ms own : List Move) (known : IsKnown s t m
     pub level_known : IsKnown s (saw_level t l (own ++ ms)) (own ++ ms)
     level_known = record {
       shape = known.shape;
-      closed = λ e. later.closed (⊎_elim known.closed (λ (c : l.closed ≡ true). not-true _ (ap (λ (x : Level). x.closed) is ∙ c)) (either_true t.saw_closed l.closed e));
+      closed = λ e. later.closed (⊎_elim known.closed (λ (c : l.closed ≡ true). not-true _ (ap (λ (x : Level). x.closed) is ∙ c)) (or_cases t.saw_closed l.closed e));
       told = λ r some. later.kept r (λ none. some (sym (known.told r some) ∙ none)) ∙ known.told r some;
       newer = ([], refl);
     }

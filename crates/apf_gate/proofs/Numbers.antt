@@ -1,13 +1,12 @@
 -- Things with numbers below n, as many as n and no two of one number, have all the numbers below n.
 use Rattle.std.proofs.Common.{◌≡◌, ◌≢◌, ◌⊎◌, ℕ, ◌<◌, true, false, List, [], ◌∷◌, length, map, sym, refl, subst, inl, inr, ⊎_elim, arith, eqb, ne_eqb}
 use Rattle.std.specs.List.{IsDistinct, AllByRecursion, list_any}
-use Rattle.std.proofs.lemmas.Bool.{eqb-true}
+use Rattle.std.proofs.lemmas.Bool.{eqb-true, or_cases}
 use Rattle.std.proofs.lemmas.Map.Steps.{length-le_from_distinct_below}
 use mathlib.Core.Logic.{dite}
 use native.Mathlib.Decide.{ℕ_discrete}
 use Rattle.apf_gate.specs.Rule.{Every}
 use Rattle.apf_gate.specs.Ends.{AnyOf}
-use Rattle.apf_gate.proofs.Rooms.{either_true}
 
 -- no two are equal
 abbrev AreDistinct : List ℕ → Type 0
@@ -25,7 +24,7 @@ distinct (x ∷ xs) k = (none_equal x xs k.0, distinct xs k.1)
 
 below : (n : ℕ) (xs : List ℕ) → Every (λ x. x < n) xs → (q : ℕ) → list_any (eqb q) xs ≡ true → q < n
 below n [] k q e = absurd (cc)
-below n (x ∷ xs) k q e = ⊎_elim (λ (t : eqb q x ≡ true). subst (λ z. z < n) (sym (eqb-true q x t)) k.0) (λ (t : list_any (eqb q) xs ≡ true). below n xs k.1 q t) (either_true (eqb q x) (list_any (eqb q) xs) e)
+below n (x ∷ xs) k q e = ⊎_elim (λ (t : eqb q x ≡ true). subst (λ z. z < n) (sym (eqb-true q x t)) k.0) (λ (t : list_any (eqb q) xs ≡ true). below n xs k.1 q t) (or_cases (eqb q x) (list_any (eqb q) xs) e)
 
 module _ {A : Type 0} (f : A → ℕ) where
   -- no two have one number

@@ -1,6 +1,7 @@
 -- Each step of a Pass keeps the rule.
 use Rattle.std.proofs.Common.{◌≡◌, ◌≢◌, ◌⊎◌, ℕ, ◌+◌, ◌-◌, ◌%◌, ◌^◌, ◌<◌, Bool, true, false, List, [], ◌∷◌, ◌++◌, length, set, Option, Some, None, sym, refl, ap, ◌∙◌, subst, inl, inr, ⊎_elim, arith, eq-eqb, ne_eqb}
 use Rattle.std.specs.Prelude.{slice_index, ◌==◌, ◌||◌, if◌then◌else◌, MatchBool}
+use Rattle.std.proofs.lemmas.Bool.{or_right}
 use mathlib.Core.Logic.{dite}
 use mathlib.Core.Option.{some}
 use lib.ListN.{get_elem?}
@@ -39,7 +40,7 @@ use Rattle.apf_gate.proofs.Later.{IsLater, same_schedule, one_more, same_respons
 use Rattle.apf_gate.proofs.Views.{Table}
 use Rattle.apf_gate.proofs.Sound.{IsSame, stations_same, pass_step}
 use Rattle.apf_gate.proofs.Packing.{packs_same, packs_level, packs_decided, level_in_range, no_queues, is_small}
-use Rattle.apf_gate.proofs.Rooms.{or_yes, no_room_true}
+use Rattle.apf_gate.proofs.Rooms.{no_room_true}
 use Rattle.apf_gate.proofs.Knowing.{level_known, level_told, decision_known, decision_told}
 
 handed_or_not : (a : Service) → (a ≡ NotHanded) ⊎ (a ≢ NotHanded)
@@ -171,7 +172,7 @@ module _ (s : Shape) where
       closed = λ e. closes (k.closed (sym decision ∙ e));
       limited = λ e. let x = k.limited (sym decision ∙ e) in (x.0, x.1, ap (λ y. y || b) x.2);
       refused = λ e. stage ∙ k.refused (subst Rattle.apf_gate.specs.Account.IsRefusal decision e);
-      no_room = λ e. or_yes p.saw_no_room b e;
+      no_room = λ e. or_right p.saw_no_room b e;
     }
 
     -- a load of the level word

@@ -1,7 +1,7 @@
 -- When a level word shows no room.
-use Rattle.std.proofs.Common.{◌≡◌, ◌⊎◌, ℕ, ◌+◌, ◌<◌, ◌≤◌, Bool, true, false, refl, ap, ◌∙◌, inl, inr, ⊎_elim, arith, eq-eqb}
+use Rattle.std.proofs.Common.{◌≡◌, ℕ, ◌+◌, ◌<◌, ◌≤◌, Bool, true, false, refl, ap, ◌∙◌, inl, inr, ⊎_elim, arith, eq-eqb}
 use Rattle.std.specs.Prelude.{◌||◌, ◌&&◌, not, nat_le, ◌==◌}
-use Rattle.std.proofs.lemmas.Bool.{leb-true, le-leb, eqb-true, not-true, not_from_false, false_from_ne_true, cases_lt}
+use Rattle.std.proofs.lemmas.Bool.{leb-true, le-leb, eqb-true, not-true, not_from_false, false_from_ne_true, cases_lt, or_cases, or_right}
 use Rattle.apf_words.specs.Fits.{Fits}
 use Rattle.apf_words.specs.Level.{Level}
 use Rattle.apf_gate.specs.Steps.{has_room, is_no_room}
@@ -10,24 +10,12 @@ pub both_true : (a b : Bool) → (a && b) ≡ true → (a ≡ true) × (b ≡ tr
 both_true true b e = (refl, e)
 both_true false b e = absurd (cc)
 
-pub either_true : (a b : Bool) → (a || b) ≡ true → (a ≡ true) ⊎ (b ≡ true)
-either_true true b e = inl refl
-either_true false b e = inr e
-
-pub or_yes : (a b : Bool) → b ≡ true → (a || b) ≡ true
-or_yes true b e = refl
-or_yes false b e = e
-
-pub true_or_false : (b : Bool) → (b ≡ true) ⊎ (b ≡ false)
-true_or_false true = inl refl
-true_or_false false = inr refl
-
 pub has_room_fits : (l : Level) (k : ℕ) → has_room l k ≡ true → Fits l.seats l.limit k
 has_room_fits l k e = ⊎_elim
     (λ (a : nat_le (l.seats + k) l.limit ≡ true). inl (leb-true (l.seats + k) l.limit a))
     (λ (a : (not (nat_le k l.limit) && (l.seats == 0)) ≡ true). let b = both_true _ _ a in
     inr (over (not-true (nat_le k l.limit) b.0), eqb-true l.seats 0 b.1))
-    (either_true _ _ e)
+    (or_cases _ _ e)
   where
     over : nat_le k l.limit ≡ false → l.limit < k
     over f = ⊎_elim (λ (t : l.limit < k). t) (λ (t : k ≤ l.limit). let z = le-leb k l.limit t in absurd (cc)) (cases_lt l.limit k)
@@ -35,7 +23,7 @@ has_room_fits l k e = ⊎_elim
 pub fits_has_room : (l : Level) (k : ℕ) → Fits l.seats l.limit k → has_room l k ≡ true
 fits_has_room l k f = ⊎_elim
     (λ (a : l.seats + k ≤ l.limit). ap (λ b. b || (not (nat_le k l.limit) && (l.seats == 0))) (le-leb (l.seats + k) l.limit a))
-    (λ (a : (l.limit < k) × (l.seats ≡ 0)). or_yes (nat_le (l.seats + k) l.limit) (not (nat_le k l.limit) && (l.seats == 0))
+    (λ (a : (l.limit < k) × (l.seats ≡ 0)). or_right (nat_le (l.seats + k) l.limit) (not (nat_le k l.limit) && (l.seats == 0))
     (ap (λ b. b && (l.seats == 0)) (not_from_false (nat_le k l.limit) (false_from_ne_true (nat_le k l.limit) (λ t. let z = leb-true k l.limit t in let y = a.0 in omega arith)))
     ∙ eq-eqb l.seats 0 a.1))
     f

@@ -48,6 +48,7 @@ impl<A: Allocator> Gate<A> {
         ensures answer { Views desk.old.desk result desk.new.desk }
         ensures same { (desk.new.desk.services ≡ desk.old.desk.services) × (desk.new.desk.held ≡ desk.old.desk.held) }
         ensures in_range { IsInRange result }
+        ensures closed { result.closed ≡ true → desk.new.desk.knows.saw_closed ≡ true }
         ensures stays_closed { desk.old.desk.knows.saw_closed ≡ true → result.closed ≡ true }
     {
         level_in(self.board.shared.load::<Viewing>(&mut desk.seat, 0))

@@ -40,6 +40,7 @@ impl<A: Allocator> Gate<A> {
         ensures number { pass.new.pass.number ≡ pass.old.pass.number }
         ensures state { pass.new.pass.state ≡ pass.old.pass.state }
         ensures held { desk.new.desk.held ≡ desk.old.desk.held }
+        ensures closed { result ≡ TryEnter.Closed → desk.new.desk.knows.saw_closed ≡ true }
         ensures stays_closed { desk.old.desk.knows.saw_closed ≡ true → result ≡ TryEnter.Closed }
     {
         self.join(&mut desk.seat, &mut pass.seat);
@@ -123,6 +124,7 @@ impl<A: Allocator> Gate<A> {
         requires may { MayHand (pass_at seat.old.me) (desk_at seat.old.me) }
         ensures own { AreBoth self.now seat.new.table_id seat.new.me }
         ensures answer { TriesToEnter (pass_at seat.old.me) (desk_at seat.old.me) result (pass_at seat.new.me) (desk_at seat.new.me) }
+        ensures closed { result ≡ TryEnter.Closed → (desk_at seat.new.me).knows.saw_closed ≡ true }
         ensures stays_closed { (desk_at seat.old.me).knows.saw_closed ≡ true → result ≡ TryEnter.Closed }
     {
         let level = self.load_joined(seat);
@@ -142,6 +144,7 @@ impl<A: Allocator> Gate<A> {
         ensures own { AreBoth self.now seat.new.table_id seat.new.me }
         ensures may { MayHand (pass_at seat.new.me) (desk_at seat.new.me) }
         ensures hands { Hands (pass_at seat.old.me) (desk_at seat.old.me) result (pass_at seat.new.me) (desk_at seat.new.me) }
+        ensures closed { result.closed ≡ true → (desk_at seat.new.me).knows.saw_closed ≡ true }
     {
         level_in(self.board.shared.load::<Handing>(seat, 0))
     }

@@ -63,6 +63,8 @@ impl<A: Allocator> Gate<A> {
         ensures took { result ≡ TryTake.Taken → (pass.new.pass.state ≡ Took) × (pass.new.pass.wrote ≡ None) }
         ensures fresh { result ≢ TryTake.Taken → pass.new.pass.state ≡ Fresh }
         ensures number { pass.new.pass.number ≡ pass.old.pass.number }
+        ensures closed { result ≡ TryTake.Closed → pass.new.pass.knows.saw_closed ≡ true }
+        ensures no_room { result ≡ TryTake.NoRoom → pass.new.pass.no_room ≡ true }
         ensures stays_closed { pass.old.pass.knows.saw_closed ≡ true → result ≡ TryTake.Closed }
         ensures no_queues { self.now.shape.response ≡ Reject → result ≢ TryTake.Waiters }
     {
@@ -166,6 +168,8 @@ impl<A: Allocator> Gate<A> {
         ensures gate { pass_gate pass.new ≡ pass_gate pass.old }
         ensures same { (pass.new.pass.number ≡ pass.old.pass.number) × (pass.new.pass.state ≡ Fresh) × (pass.new.pass.knows.shape ≡ pass.old.pass.knows.shape) }
         ensures looked { Looks pass.old.pass result pass.new.pass }
+        ensures closed { result.closed ≡ true → pass.new.pass.knows.saw_closed ≡ true }
+        ensures no_room { result.closed ≡ false → result.waiters ≡ 0 → ¬ Fits result.seats result.limit (own_width pass.old.pass) → pass.new.pass.no_room ≡ true }
         ensures no_queues { self.now.shape.response ≡ Reject → result.waiters ≡ 0 }
     {
         level_in(self.board.shared.load::<Looking>(&mut pass.seat, 0))

@@ -44,6 +44,7 @@ impl<A: Allocator> Gate<A> {
         ensures gate { station_gate station.new ≡ station_gate station.old }
         ensures answer { LooksFrom station.old.station result station.new.station }
         ensures in_range { IsInRange result }
+        ensures closed { result.closed ≡ true → station.new.station.knows.saw_closed ≡ true }
         ensures stays_closed { station.old.station.knows.saw_closed ≡ true → result.closed ≡ true }
     {
         level_in(self.board.shared.load::<LookingFrom>(&mut station.seat, 0))

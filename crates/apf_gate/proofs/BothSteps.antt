@@ -143,7 +143,7 @@ module _ (s : Shape) where
               k.known
               (level_known s d.knows ms [] k.desk.known x l refl)
               holds.held_is holds.is_held h.sound.stations,
-          (refl, (p, e, refl, (l, h.packs.level, (u, level_told s d.knows ms [] k.desk.known x l refl h.sound.schedule (level_in_range s shape laws t h) (no_queues s laws t h), refl, refl)))),
+          (refl, (p, e, refl, (l, h.packs.level, (u, level_told s d.knows ms [] k.desk.known x l refl h.sound.schedule (level_in_range s shape laws t h) (no_queues s laws t h), i.entered, refl, refl)))),
         )
 
     abbrev Entering : ℕ → ℕ → ℕ → PassRecord → DeskRecord → Table → ℕ → Bool → Type 0
@@ -252,7 +252,7 @@ module _ (s : Shape) where
               k.known
               (decision_known s d.knows ms [] k.desk.known later r x x refl (λ _. refl))
               holds.held_is holds.is_held h.sound.stations,
-          (x, h.packs.decisions r k.inside, (u, decision_told s d.knows ms [] k.desk.known later r x x refl (λ _. refl) h.sound.schedule, closed_or_cancelled s x i.not_executed i.not_full i.not_limited, refl, refl)),
+          (x, h.packs.decisions r k.inside, (u, decision_told s d.knows ms [] k.desk.known later r x x refl (λ _. refl) h.sound.schedule, closed_or_cancelled s x i.not_executed i.not_full i.not_limited, i.entered, refl, refl)),
         )
 
     -- what is so where the Desk may refuse an undecided request
@@ -373,12 +373,12 @@ module _ (s : Shape) where
                   (decision_known s d.knows ms own k.desk.known later r None (Some x) none (λ _. now))
                   holds.held_is holds.is_held
                   (stations_decided s shape laws t h r x y.other none),
-              (refl, (p, e, refl, same_decision (λ c. (z : Option Decision) × (n ≡ code_in z) × Refuses p d c p e) (None, eq, (u, decision_told s d.knows ms own k.desk.known later r None (Some x) none (λ _. now) (y.may, h.sound.schedule), refl, refl)))),
+              (refl, (p, e, refl, same_decision (λ c. (z : Option Decision) × (n ≡ code_in z) × Refuses p d c p e) (None, eq, (u, decision_told s d.knows ms own k.desk.known later r None (Some x) none (λ _. now) (y.may, h.sound.schedule), i.entered, refl, refl)))),
             )
 
-    -- a load of the request's word, of which the Pass was told
-    pub learns : (id slots : ℕ) (p : PassRecord) (d : DeskRecord) → told_own p ≢ None → Allows (IsRuled s) slots id (Pass p ∷ Desk d ∷ [], []) (p.number + 1) (λ n. n) (ByBoth LearnsAt (Pass p ∷ Desk d ∷ [], []))
-    learns id slots p d told t h deep at small =
+    -- a load of the request's word
+    pub learns : (id slots : ℕ) (p : PassRecord) (d : DeskRecord) → Allows (IsRuled s) slots id (Pass p ∷ Desk d ∷ [], []) (p.number + 1) (λ n. n) (ByBoth LearnsAt (Pass p ∷ Desk d ∷ [], []))
+    learns id slots p d t h deep at small =
         let g = h.account in
         let ms = g.schedule in
         let w = world_of s ms in
@@ -398,5 +398,5 @@ module _ (s : Shape) where
               k.known
               (decision_known s d.knows ms [] k.desk.known later r x x refl (λ _. refl))
               k.desk.holds.held_is k.desk.holds.is_held h.sound.stations,
-          (refl, (p, e, refl, (x, h.packs.decisions r k.inside, (refl, k.known.told r told, (u, decision_told s d.knows ms [] k.desk.known later r x x refl (λ _. refl) h.sound.schedule, may_say s r p (service d r) w k.request, refl))))),
+          (refl, (p, e, refl, (x, h.packs.decisions r k.inside, (refl, k.known.told r, k.request.entered, (u, decision_told s d.knows ms [] k.desk.known later r x x refl (λ _. refl) h.sound.schedule, may_say s r p (service d r) w k.request, refl))))),
         )

@@ -20,6 +20,7 @@ use Rattle.apf_gate.specs.declared.record.StationRecord.{StationRecord}
 use Rattle.apf_gate.specs.declared.record.Record.{Record}
 use Rattle.apf_gate.specs.declared.record.Record.TheVariants.{Pass, Desk, Station}
 use Rattle.apf_gate.specs.Records.{opening_of, world_of, level_of, code_in, told_of, told_own, service_of, saw_level, saw_decision}
+use Rattle.apf_gate.specs.Account.{has_entered}
 use Rattle.apf_gate.specs.Rule.{pass_of, desk_of, station_of, without_first}
 use Rattle.atomic_table.specs.Table.{Me}
 
@@ -254,10 +255,10 @@ GivesBackAt d r n e = OfLevel (λ l. GivesBack d r l e) n
 abbrev pub LeavesAt : DeskRecord → ℕ → ℕ → DeskRecord → Type 0
 LeavesAt d r n e = OfLevel (λ l. Leaves d r l e) n
 
--- A Pass is joined to the Desk. The steps are the Desk's, and the first hands it the request.
+-- A Pass is joined to the Desk. The steps are the Desk's, and the first hands it the request, which did not enter.
 -- the level word was loaded
 abbrev pub Hands : PassRecord → DeskRecord → Level → PassRecord → DeskRecord → Type 0
-Hands p d l q e = (u : Knowledge) × SawLevel d.knows l [] u × (q ≡ p) × (e ≡ served d p.number Handed u)
+Hands p d l q e = (u : Knowledge) × SawLevel d.knows l [] u × (p.entered ≡ false) × (q ≡ p) × (e ≡ served d p.number Handed u)
 
 -- the exchange entered the request
 abbrev pub Enters : PassRecord → DeskRecord → Level → PassRecord → DeskRecord → Type 0
@@ -270,15 +271,15 @@ refusing _ = Handed
 
 -- the exchange wrote the refusal
 abbrev pub Refuses : PassRecord → DeskRecord → Decision → PassRecord → DeskRecord → Type 0
-Refuses p d x q e = (u : Knowledge) × SawDecision d.knows p.number None (Some x) (Decide p.number x ∷ []) u × (q ≡ p) × (e ≡ served d p.number (refusing x) u)
+Refuses p d x q e = (u : Knowledge) × SawDecision d.knows p.number None (Some x) (Decide p.number x ∷ []) u × (p.entered ≡ false) × (q ≡ p) × (e ≡ served d p.number (refusing x) u)
 
 -- the exchange found another decision
 abbrev pub Spares : PassRecord → DeskRecord → Option Decision → PassRecord → DeskRecord → Type 0
-Spares p d x q e = (u : Knowledge) × SawDecision d.knows p.number x x [] u × MaySay Handed x × (q ≡ p) × (e ≡ served d p.number Handed u)
+Spares p d x q e = (u : Knowledge) × SawDecision d.knows p.number x x [] u × MaySay Handed x × (p.entered ≡ false) × (q ≡ p) × (e ≡ served d p.number Handed u)
 
--- the decision word was loaded, and it holds what the Pass was told. Nothing is handed over
+-- the decision word was loaded: it holds what the Pass was told, if it was, and the Pass entered exactly if the Desk entered it. Nothing is handed over
 abbrev pub Learns : PassRecord → DeskRecord → Option Decision → PassRecord → DeskRecord → Type 0
-Learns p d x q e = (q ≡ p) × (x ≡ told_own p) × Sees d p.number x e
+Learns p d x q e = (q ≡ p) × (told_own p ≢ None → x ≡ told_own p) × (p.entered ≡ has_entered (service d p.number)) × Sees d p.number x e
 
 -- what a step of the Desk tells while a Pass is joined to it
 abbrev pub ByBoth : (PassRecord → DeskRecord → ℕ → PassRecord → DeskRecord → Type 0) → Me (Unit {0}) (List Record) → ℕ → Me (Unit {0}) (List Record) → Type 0

@@ -6,6 +6,7 @@ ghost use Rattle.apf_words.specs.declared.decision.Decision.{Decision};
 ghost use Rattle.apf_words.specs.declared.decision.Decision.TheVariants.{QueueFull, Closed, Cancelled};
 ghost use Rattle.apf_model.specs.declared.response.Response.TheVariants.{Queue};
 ghost use Rattle.apf_gate.specs.Records.{told_own, told_of};
+ghost use Rattle.apf_gate.specs.Account.{has_entered};
 ghost use Rattle.apf_gate.specs.Rule.{pass_of, desk_of};
 ghost use Rattle.apf_gate.specs.declared.record.Service.TheVariants.{Full, Waiting};
 ghost use Rattle.apf_gate.specs.Steps.{IsInRange, OfDecision, service, Hands, Enters, Refuses, Spares, Learns};
@@ -36,7 +37,7 @@ impl<A: Allocator> Gate<A> {
         ensures pass { pass_gate pass.new ≡ pass_gate pass.old }
         ensures answer { TriesToEnter pass.old.pass desk.old.desk result pass.new.pass desk.new.desk }
         ensures entered { result ≡ TryEnter.Entered → (pass.new.pass.entered ≡ true) × (service desk.new.desk pass.old.pass.number ≡ Waiting) }
-        ensures same { result ≢ TryEnter.Entered → pass.new ≡ pass.old }
+        ensures same { result ≢ TryEnter.Entered → (pass.new ≡ pass.old) × (pass.old.pass.entered ≡ false) }
         ensures number { pass.new.pass.number ≡ pass.old.pass.number }
         ensures state { pass.new.pass.state ≡ pass.old.pass.state }
         ensures held { desk.new.desk.held ≡ desk.old.desk.held }
@@ -62,6 +63,7 @@ impl<A: Allocator> Gate<A> {
         ensures pass { pass_gate pass.new ≡ pass_gate pass.old }
         ensures answer { RefusesTo pass.old.pass desk.old.desk decision result pass.new.pass desk.new.desk }
         ensures answers { (result ≡ decision) ⊎ ((result ≡ Closed) ⊎ (result ≡ Cancelled)) }
+        ensures never_entered { pass.old.pass.entered ≡ false }
         ensures full { result ≡ QueueFull → service desk.new.desk pass.old.pass.number ≡ Full }
         ensures told { told_of desk.new.desk.knows.told pass.old.pass.number ≡ Some result }
         ensures same { pass.new ≡ pass.old }
@@ -77,16 +79,16 @@ impl<A: Allocator> Gate<A> {
         }
     }
 
-    /// Lets the Desk know the decision that the Pass was told, by one load of the request's decision word
-    /// with the tokens joined.
+    /// Lets the Desk know the decision of the Pass's request, which is the one that the Pass was told, if it
+    /// was. It makes one load of the request's decision word with the tokens joined.
     pub fn hear(&self, desk: &mut Desk, pass: &mut Pass)
         requires own_desk { desk_gate desk.old ≡ self.now }
         requires own_pass { pass_gate pass.old ≡ self.now }
-        requires told { told_own pass.old.pass ≢ None }
         ensures desk { desk_gate desk.new ≡ desk_gate desk.old }
         ensures same { pass.new ≡ pass.old }
         ensures answer { (x : Option Decision) × Learns pass.old.pass desk.old.desk x pass.new.pass desk.new.desk }
-        ensures told { told_of desk.new.desk.knows.told pass.old.pass.number ≡ told_own pass.old.pass }
+        ensures told { told_own pass.old.pass ≢ None → told_of desk.new.desk.knows.told pass.old.pass.number ≡ told_own pass.old.pass }
+        ensures entered { pass.old.pass.entered ≡ has_entered (service desk.old.desk pass.old.pass.number) }
         ensures served { (desk.new.desk.services ≡ desk.old.desk.services) × (desk.new.desk.held ≡ desk.old.desk.held) }
     {
         let word = pass.number as usize + 1;
@@ -193,7 +195,6 @@ impl<A: Allocator> Gate<A> {
     fn load_told(&self, seat: &mut Place, word: usize)
         requires own { AreBoth self.now seat.old.table_id seat.old.me }
         requires word { word ≡ (pass_at seat.old.me).number + 1 }
-        requires told { told_own (pass_at seat.old.me) ≢ None }
         ensures own { AreBoth self.now seat.new.table_id seat.new.me }
         ensures learns { (x : Option Decision)
             × Learns (pass_at seat.old.me) (desk_at seat.old.me) x (pass_at seat.new.me) (desk_at seat.new.me) }

@@ -11,4 +11,4 @@ load-requires g c =
     let m = c.requires.own in
     let shape = m.pass_shape ∙ sym (ap (λ (x : GateId). x.shape) c.self.view_is) in
     let inside = subst (λ (x : Shape). (pass_at c.args.seat.now.me).number < length x.widths) shape m.inside in
-    (m.same_table ∙ sym (ap (λ (x : GateId). x.table) c.self.view_is), omega (arith, i.has_words, inside, c.requires.word), rw (i.same_key, m.both, c.requires.word) (learns _ i.shape i.laws _ _ _ _ c.requires.told))
+    (m.same_table ∙ sym (ap (λ (x : GateId). x.table) c.self.view_is), omega (arith, i.has_words, inside, c.requires.word), rw (i.same_key, m.both, c.requires.word) (learns _ i.shape i.laws _ _ _ _))

@@ -26,7 +26,7 @@ use Rattle.apf_gate.specs.declared.record.PassRecord.{PassRecord}
 use Rattle.apf_gate.specs.declared.record.DeskRecord.{DeskRecord}
 use Rattle.apf_gate.specs.declared.record.Record.{Record}
 use Rattle.apf_gate.specs.declared.record.Record.TheVariants.{Pass, Desk}
-use Rattle.apf_gate.specs.Records.{world_of, level_of, code_in, told_own, service_of, saw_level, saw_decision}
+use Rattle.apf_gate.specs.Records.{world_of, level_of, code_in, service_of, saw_level, saw_decision}
 use Rattle.apf_gate.specs.Account.{IsRequest, IsHanded, IsRefusal, IsState, IsKnown, stage_of, stage_of_pass, has_entered}
 use Rattle.apf_gate.specs.Gauges.{IsShape, AreLaws}
 use Rattle.apf_gate.specs.Rule.{IsRuled}
@@ -39,8 +39,9 @@ use Rattle.apf_gate.proofs.Views.{Table}
 use Rattle.apf_gate.proofs.Sound.{both_step}
 use Rattle.apf_gate.proofs.Packing.{packs_same, packs_level, packs_decided, level_in_range, no_queues, is_small}
 use Rattle.apf_gate.proofs.Knowing.{level_known, level_told, decision_known, decision_told}
-use Rattle.apf_gate.proofs.PassSteps.{in_state, stations_decided}
-use Rattle.apf_gate.proofs.DeskLines.{holds_still, IsAt, is_at_desk, closed_or_cancelled, may_say}
+use Rattle.apf_gate.proofs.PassLines.{in_state, closed_or_cancelled}
+use Rattle.apf_gate.proofs.PassSteps.{stations_decided}
+use Rattle.apf_gate.proofs.DeskLines.{holds_still, IsAt, is_at_desk, may_say}
 use Rattle.apf_gate.proofs.DeskSteps.{stations_moved}
 
 module _ (s : Shape) where
@@ -252,7 +253,7 @@ module _ (s : Shape) where
               k.known
               (decision_known s d.knows ms [] k.desk.known later r x x refl (λ _. refl))
               holds.held_is holds.is_held h.sound.stations,
-          (x, h.packs.decisions r k.inside, (u, decision_told s d.knows ms [] k.desk.known later r x x refl (λ _. refl) h.sound.schedule, closed_or_cancelled s x i.not_executed i.not_full i.not_limited, i.entered, refl, refl)),
+          (x, h.packs.decisions r k.inside, (u, decision_told s d.knows ms [] k.desk.known later r x x refl (λ _. refl) h.sound.schedule, closed_or_cancelled x i.not_executed i.not_full i.not_limited, i.entered, refl, refl)),
         )
 
     -- what is so where the Desk may refuse an undecided request

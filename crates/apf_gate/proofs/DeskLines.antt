@@ -1,11 +1,10 @@
 -- The lines on requests and on the one that is held, as a step of the Desk changes one.
-use Rattle.std.proofs.Common.{◌≡◌, ◌≢◌, ◌⊎◌, ℕ, ◌<◌, true, false, List, [], ◌∷◌, length, Option, Some, None, sym, refl, ap, ◌∙◌, subst, inl, inr, ⊎_elim}
+use Rattle.std.proofs.Common.{◌≡◌, ◌≢◌, ◌⊎◌, ℕ, ◌<◌, true, false, List, [], ◌∷◌, length, Option, Some, None, sym, refl, ap, ◌∙◌, subst, ⊎_elim}
 use mathlib.Core.Logic.{dite}
 use mathlib.Core.Option.{some}
 use lib.ListN.{get_elem?}
 use native.Mathlib.Decide.{ℕ_discrete}
-use Rattle.apf_words.specs.declared.decision.Decision.{Decision}
-use Rattle.apf_words.specs.declared.decision.Decision.TheVariants.{Execute, QueueFull, Closed, Cancelled, ConcurrencyLimit}
+use Rattle.apf_words.specs.declared.decision.Decision.TheVariants.{Execute, QueueFull, ConcurrencyLimit}
 use Rattle.apf_model.specs.declared.moves.Stage.TheVariants.{Away}
 use Rattle.apf_model.specs.World.{World, put}
 use Rattle.apf_gate.specs.declared.record.Shape.{Shape}
@@ -21,6 +20,7 @@ use Rattle.apf_gate.specs.Rule.{IsRuled}
 use Rattle.apf_gate.specs.Steps.{MaySay}
 use Rattle.apf_gate.proofs.Puts.{put_here, put_else}
 use Rattle.apf_gate.proofs.WordNumbers.{some_same}
+use Rattle.apf_gate.proofs.PassLines.{undecided_or_cancelled, closed_or_cancelled}
 use Rattle.apf_gate.proofs.Views.{Table}
 use Rattle.apf_gate.proofs.Sound.{IsSame, request_elsewhere}
 
@@ -117,24 +117,6 @@ module _ (s : Shape) where
   in_hand r p a w k is = ⊎_elim
       (λ (e : a ≡ Waiting). entered_in_hand r p Waiting w (subst (λ b. IsRequest s r p b w) e k) (λ x. cc) (λ x. cc) (λ x. cc) refl (λ x. cc))
       (λ (e : a ≡ Held). entered_in_hand r p Held w (subst (λ b. IsRequest s r p b w) e k) (λ x. cc) (λ x. cc) (λ x. cc) refl (λ x. cc)) is
-
-  -- a decision that is neither execute nor a refusal
-  undecided_or_cancelled : (x : Option Decision) → x ≢ Some Execute → (IsRefusal x → ⊥) → (x ≡ None) ⊎ (x ≡ Some Cancelled)
-  undecided_or_cancelled None not_executed not_refused = inl refl
-  undecided_or_cancelled (Some Cancelled) not_executed not_refused = inr refl
-  undecided_or_cancelled (Some Execute) not_executed not_refused = absurd (not_executed refl)
-  undecided_or_cancelled (Some QueueFull) not_executed not_refused = absurd (not_refused tt)
-  undecided_or_cancelled (Some Closed) not_executed not_refused = absurd (not_refused tt)
-  undecided_or_cancelled (Some ConcurrencyLimit) not_executed not_refused = absurd (not_refused tt)
-
-  -- a decision that is neither execute, nor a refusal but as closed
-  pub closed_or_cancelled : (x : Option Decision) → x ≢ Some Execute → x ≢ Some QueueFull → x ≢ Some ConcurrencyLimit → MaySay Handed x
-  closed_or_cancelled None not_executed not_full not_limited = inl refl
-  closed_or_cancelled (Some Cancelled) not_executed not_full not_limited = inr (inr refl)
-  closed_or_cancelled (Some Closed) not_executed not_full not_limited = inr (inl refl)
-  closed_or_cancelled (Some Execute) not_executed not_full not_limited = absurd (not_executed refl)
-  closed_or_cancelled (Some QueueFull) not_executed not_full not_limited = absurd (not_full refl)
-  closed_or_cancelled (Some ConcurrencyLimit) not_executed not_full not_limited = absurd (not_limited refl)
 
   -- the decision of a request is one that it may have, by what the Desk did with it
   pub may_say : (r : ℕ) (p : PassRecord) (a : Service) (w : World) → IsRequest s r p a w → MaySay a (w.decision r)

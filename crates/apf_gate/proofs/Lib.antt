@@ -6,6 +6,7 @@ pub mod Sound
 pub mod Packing
 pub mod Rooms
 pub mod Knowing
+pub mod PassLines
 pub mod PassSteps
 pub mod StationSteps
 pub mod DeskLines

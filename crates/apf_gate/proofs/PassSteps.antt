@@ -24,7 +24,7 @@ use Rattle.apf_gate.specs.declared.record.Knowledge.{Knowledge}
 use Rattle.apf_gate.specs.declared.record.State.{State}
 use Rattle.apf_gate.specs.declared.record.State.TheVariants.{Fresh, Took, InLine, Over}
 use Rattle.apf_gate.specs.declared.record.Service.{Service}
-use Rattle.apf_gate.specs.declared.record.Service.TheVariants.{NotHanded, Handed, Full, Waiting, Held, Settled, Left}
+use Rattle.apf_gate.specs.declared.record.Service.TheVariants.{NotHanded, Settled}
 use Rattle.apf_gate.specs.declared.record.PassRecord.{PassRecord}
 use Rattle.apf_gate.specs.declared.record.Record.{Record}
 use Rattle.apf_gate.specs.declared.record.Record.TheVariants.{Pass}
@@ -32,7 +32,7 @@ use Rattle.apf_gate.specs.Records.{opening_of, world_of, level_of, code_in, told
 use Rattle.apf_gate.specs.Account.{Account, IsRequest, IsHanded, IsState, IsKnown, stage_of, stage_of_pass, stage_of_settled}
 use Rattle.apf_gate.specs.Gauges.{IsShape, AreLaws}
 use Rattle.apf_gate.specs.Rule.{IsRuled}
-use Rattle.apf_gate.specs.Steps.{IsInRange, SawDecision, is_no_room, own_width, looked, Looks, Takes, heard, asking, asking_state, deciding_state, Writes, Loses, ByPass, LooksAt, TakesAt, ReleasesAt, HearsAt, AsksAt, DecidesAt}
+use Rattle.apf_gate.specs.Steps.{IsInRange, SawDecision, MayTell, is_no_room, own_width, looked, Looks, Takes, heard, asking, asking_state, deciding_state, Writes, Loses, ByPass, LooksAt, TakesAt, ReleasesAt, HearsAt, AsksAt, DecidesAt}
 use Rattle.apf_gate.specs.Calls.{MayWrite, MayRelease}
 use Rattle.apf_gate.proofs.Puts.{put_here, put_else}
 use Rattle.apf_gate.proofs.WordNumbers.{IsSmall, packed_same, code_same, more_seats, less_seats}
@@ -40,54 +40,11 @@ use Rattle.apf_gate.proofs.Later.{IsLater, same_schedule, one_more, same_respons
 use Rattle.apf_gate.proofs.Views.{Table}
 use Rattle.apf_gate.proofs.Sound.{IsSame, stations_same, pass_step}
 use Rattle.apf_gate.proofs.Packing.{packs_same, packs_level, packs_decided, level_in_range, no_queues, is_small}
+use Rattle.apf_gate.proofs.PassLines.{state_same, in_state, not_handed, IsAt, is_at, fresh_away, may_tell}
 use Rattle.apf_gate.proofs.Rooms.{no_room_true}
 use Rattle.apf_gate.proofs.Knowing.{level_known, level_told, decision_known, decision_told}
 
-handed_or_not : (a : Service) → (a ≡ NotHanded) ⊎ (a ≢ NotHanded)
-handed_or_not NotHanded = inl refl
-handed_or_not Handed = inr (λ e. cc)
-handed_or_not Full = inr (λ e. cc)
-handed_or_not Waiting = inr (λ e. cc)
-handed_or_not Held = inr (λ e. cc)
-handed_or_not Settled = inr (λ e. cc)
-handed_or_not Left = inr (λ e. cc)
-
--- the Desk did nothing with the request of a Pass that did not ask
-pub not_handed : (s : Shape) (r : ℕ) (p : PassRecord) (a : Service) (w : World) → IsRequest s r p a w → p.asked ≡ false → a ≡ NotHanded
-not_handed s r p a w k e = ⊎_elim (λ y. y) (λ ne. let h = (k.handed ne).asked in absurd (cc)) (handed_or_not a)
-
--- a step that leaves these alone
-pub state_same : (f : State) (p q : PassRecord) → q.took ≡ p.took → q.asked ≡ p.asked → q.wrote ≡ p.wrote → IsState f p → IsState f q
-state_same Fresh p q took asked wrote k = (took ∙ k.0, asked ∙ k.1, wrote ∙ k.2)
-state_same Took p q took asked wrote k = (took ∙ k.0, asked ∙ k.1)
-state_same InLine p q took asked wrote k = (took ∙ k.0, asked ∙ k.1, wrote ∙ k.2)
-state_same Over p q took asked wrote k = λ e. asked ∙ k (sym took ∙ e)
-
--- what the state of a Pass says of it
-pub in_state : (s : Shape) (r : ℕ) (p : PassRecord) (a : Service) (w : World) (f : State) → IsRequest s r p a w → p.state ≡ f → IsState f p
-in_state s r p a w f k e = subst (λ x. IsState x p) e k.state
-
 module _ (s : Shape) where
-  -- what the rule says of the Pass at a seat
-  pub record IsAt (t : Table) (h : IsRuled s t) (id : ℕ) (p : PassRecord) : Type 0 where
-    pub inside : p.number < length s.widths
-    pub request : IsRequest s p.number p (service_of h.account.desk.services p.number) (world_of s h.account.schedule)
-    pub known : IsKnown s p.knows h.account.schedule
-
-  pub is_at : (t : Table) (h : IsRuled s t) (id : ℕ) (p : PassRecord) → get_elem? t.views id ≡ some (Pass p ∷ []) → IsAt t h id p
-  is_at t h id p at = let f = (h.views id (Pass p ∷ []) at).0.0.1 in record {
-    inside = f.0;
-    request = subst (λ (o : PassRecord). IsRequest s p.number o (service_of h.account.desk.services p.number) (world_of s h.account.schedule)) f.1 (h.sound.request p.number f.0);
-    known = subst (λ (o : PassRecord). IsKnown s o.knows h.account.schedule) f.1 (h.sound.pass_knows p.number f.0);
-  }
-
-  -- a fresh Pass has not come
-  pub fresh_away : (r : ℕ) (p : PassRecord) (a : Service) (w : World) → IsRequest s r p a w → p.state ≡ Fresh → (w.stage r ≡ Away) × (a ≡ NotHanded)
-  fresh_away r p a w k e =
-      let f = in_state s r p a w Fresh k e in
-      let none = not_handed s r p a w k f.1 in
-      (k.stage ∙ (ap (stage_of p) none ∙ ap (λ x. stage_of_pass x p.took) e), none)
-
   -- what a load may add to the schedule
   abbrev seen : Bool → ℕ → List Move
   seen b r = if b then See r ∷ [] else []
@@ -181,10 +138,10 @@ module _ (s : Shape) where
         let g = h.account in
         let ms = g.schedule in
         let w = world_of s ms in
-        let k = is_at t h id p at in
+        let k = is_at s t h id p at in
         let l : Level = level_of s.widths w in
         let b : Bool = is_no_room l (own_width p) in
-        let x = quiet ms b p.number h.sound.schedule (may_see t h p k.inside (ap (λ (y : Shape). width y.widths p.number) k.known.shape) (fresh_away p.number p (service_of g.desk.services p.number) w k.request fresh).0) in
+        let x = quiet ms b p.number h.sound.schedule (may_see t h p k.inside (ap (λ (y : Shape). width y.widths p.number) k.known.shape) (fresh_away s p.number p (service_of g.desk.services p.number) w k.request fresh).0) in
         let own = seen b p.number in
         let u : Knowledge = saw_level p.knows l (own ++ ms) in
         let q : PassRecord = looked p l u in (
@@ -217,8 +174,8 @@ module _ (s : Shape) where
         w : World
         w = world_of s h.account.schedule
 
-        k : IsAt t h id p
-        k = is_at t h id p at
+        k : IsAt s t h id p
+        k = is_at s t h id p at
 
         miss : Taken expected new id p t n false
         miss = looks id slots p fresh t h deep at small_word
@@ -233,7 +190,7 @@ module _ (s : Shape) where
             let nobody : waiters s.widths w ≡ 0 = ap (λ (x : Level). x.waiters) now ∙ none in
             let own : own_width p ≡ width s.widths r = ap (λ (y : Shape). width y.widths r) k.known.shape in
             let fits : FitsIn s.widths w r = subst (λ (y : Level × ℕ). Fits y.0.seats y.0.limit y.1) (λ i. (sym now i, own i)) room in
-            let away = fresh_away r p a w k.request fresh in
+            let away = fresh_away s r p a w k.request fresh in
             let may : MayTake s.widths w r = record { is_request = k.inside; is_open = is_open; has_not_come = away.0; nobody_waits = nobody; fits = fits } in
             let later = one_more s (Take r) ms may in
             let m = laws.sums w r Away Stands k.inside away.0 in
@@ -280,7 +237,7 @@ module _ (s : Shape) where
             not_refused None is x = x
             not_refused (Some Execute) is x = x
             not_refused (Some Cancelled) is x = x
-            not_refused (Some QueueFull) is x = let y = k.request.is_full is in let z = (fresh_away r p (service_of h.account.desk.services r) w k.request fresh).1 in absurd (cc)
+            not_refused (Some QueueFull) is x = let y = k.request.is_full is in let z = (fresh_away s r p (service_of h.account.desk.services r) w k.request fresh).1 in absurd (cc)
             not_refused (Some Closed) is x = let y = k.request.closed is in let z = ap (λ (x : Level). x.closed) (packed_same _ _ (is_small _ (level_in_range s shape laws t h)) (is_small l in_range) (sym h.packs.level ∙ (e ∙ said))) ∙ opened in absurd (cc)
             not_refused (Some ConcurrencyLimit) is x = let y = (k.request.limited is).0 in let z = (in_state s r p (service_of h.account.desk.services r) w Fresh k.request fresh).2 in absurd (cc)
 
@@ -318,7 +275,7 @@ module _ (s : Shape) where
     -- the same where the Pass was fresh and is in line now
     request_asked : (p : PassRecord) (a : Service) (w : World) (u : Knowledge) → p.state ≡ Fresh → IsRequest s p.number p a w → IsRequest s p.number (record p { state = InLine; asked = true; no_room = false; knows = u }) a w
     request_asked p a w u fresh k =
-        let away = fresh_away p.number p a w k fresh in
+        let away = fresh_away s p.number p a w k fresh in
         let f = in_state s p.number p a w Fresh k fresh in record {
           number = refl;
           stage = away.0 ∙ sym (ap (stage_of (record p { state = InLine; asked = true; no_room = false; knows = u })) away.1);
@@ -343,13 +300,13 @@ module _ (s : Shape) where
     loads_own : (id slots : ℕ) (p : PassRecord) (t : Table) (h : IsRuled s t) → get_elem? t.views id ≡ some (Pass p ∷ []) → (q : Knowledge → PassRecord) → ((u : Knowledge) → (q u).knows ≡ u)
         → ((u : Knowledge) → (told_own p ≡ Some Execute → told_of u.told p.number ≡ Some Execute) → IsRequest s p.number p (service_of h.account.desk.services p.number) (world_of s h.account.schedule) → IsRequest s p.number (q u) (service_of h.account.desk.services p.number) (world_of s h.account.schedule))
         → (u : Knowledge) × IsRuled s record { words = set t.words (p.number + 1) (slice_index t.words (p.number + 1)); homes = t.homes; views = set t.views id (Pass (q u) ∷ []) }
-        × ((d : Option Decision) × (slice_index t.words (p.number + 1) ≡ code_in d) × SawDecision p.knows p.number d d [] u)
+        × ((d : Option Decision) × (slice_index t.words (p.number + 1) ≡ code_in d) × SawDecision p.knows p.number d d [] u × MayTell p.state p.wrote d)
     loads_own id slots p t h at q knows request =
         let g = h.account in
         let ms = g.schedule in
         let w = world_of s ms in
         let r = p.number in
-        let k = is_at t h id p at in
+        let k = is_at s t h id p at in
         let d = w.decision r in
         let x = same_schedule s ms in
         let u : Knowledge = saw_decision p.knows r d d ms in (
@@ -359,14 +316,14 @@ module _ (s : Shape) where
               (request u (λ e. execute_told p.knows.told r d e (k.known.told r (λ none. cc) ∙ e)) k.request)
               (subst (λ o. IsKnown s o ms) (sym (knows u)) (decision_known s p.knows ms [] k.known x r d d refl (λ _. refl)))
               h.sound.stations,
-          (d, own_word t h r k.inside, decision_told s p.knows ms [] k.known x r d d refl (λ _. refl) h.sound.schedule),
+          (d, own_word t h r k.inside, decision_told s p.knows ms [] k.known x r d d refl (λ _. refl) h.sound.schedule, may_tell s r p (service_of g.desk.services r) w k.request),
         )
 
     -- a load of the own word
     pub hears : (id slots : ℕ) (p : PassRecord) → Allows (IsRuled s) slots id (Pass p ∷ [], []) (p.number + 1) (λ n. n) (ByPass HearsAt (Pass p ∷ [], []))
     hears id slots p t h deep at small =
         let x = loads_own id slots p t h at (heard p) (λ _. refl) (λ u stays k. request_heard p _ _ u stays k) in
-        (Pass (heard p x.0) ∷ [], keeps, tt, x.1, (refl, (heard p x.0, refl, (x.2.0, x.2.1, (x.0, x.2.2, refl)))))
+        (Pass (heard p x.0) ∷ [], keeps, tt, x.1, (refl, (heard p x.0, refl, (x.2.0, x.2.1, (x.0, x.2.2, x.2.3, refl)))))
 
     fresh_or_not : (f : State) → (f ≡ Fresh) ⊎ ((asking_state f ≡ f) × ((b : Bool) → asking f b ≡ b))
     fresh_or_not Fresh = inl refl
@@ -384,7 +341,7 @@ module _ (s : Shape) where
         (λ (e : p.state ≡ Fresh). subst (λ (o : PassRecord). IsRequest s p.number o (service_of h.account.desk.services p.number) (world_of s h.account.schedule)) (λ i. record p { state = asking_state (sym e i); asked = asking (sym e i) p.asked; no_room = false; knows = u }) (request_asked p _ _ u e k))
         (λ (e : (asking_state p.state ≡ p.state) × ((b : Bool) → asking p.state b ≡ b)). subst (λ (o : PassRecord). IsRequest s p.number o (service_of h.account.desk.services p.number) (world_of s h.account.schedule)) (λ i. record p { state = sym e.0 i; asked = sym (e.1 p.asked) i; no_room = false; knows = u }) (request_heard p _ _ u stays k))
         (fresh_or_not p.state)) in
-        (Pass (asked p x.0) ∷ [], keeps, tt, x.1, (refl, (asked p x.0, refl, (x.2.0, x.2.1, (x.0, x.2.2, refl)))))
+        (Pass (asked p x.0) ∷ [], keeps, tt, x.1, (refl, (asked p x.0, refl, (x.2.0, x.2.1, (x.0, x.2.2, x.2.3, refl)))))
 
     -- a decision of a request that was undecided, but cancelled, leaves the lines on Stations
     pub stations_decided : (t : Table) (h : IsRuled s t) (r : ℕ) (d : Decision) → d ≢ Cancelled → (world_of s h.account.schedule).decision r ≡ None
@@ -408,7 +365,7 @@ module _ (s : Shape) where
       other : d ≢ Cancelled
       request : (u : Knowledge) → IsRequest s p.number (record p { state = deciding_state d p.state; no_room = false; wrote = Some d; knows = u }) (service_of h.account.desk.services p.number) (world_of s (Decide p.number d ∷ h.account.schedule))
 
-    writing : (t : Table) (h : IsRuled s t) (id : ℕ) (p : PassRecord) → IsAt t h id p → (d : Decision) → MayWrite p d → (world_of s h.account.schedule).decision p.number ≡ None → Writing t h p d
+    writing : (t : Table) (h : IsRuled s t) (id : ℕ) (p : PassRecord) → IsAt s t h id p → (d : Decision) → MayWrite p d → (world_of s h.account.schedule).decision p.number ≡ None → Writing t h p d
     writing t h id p k Execute may none =
         let w = world_of s h.account.schedule in
         let r = p.number in
@@ -444,7 +401,7 @@ module _ (s : Shape) where
         let r = p.number in
         let a : Service = service_of h.account.desk.services r in
         let f = in_state s r p a w Fresh k.request may.0 in
-        let away = fresh_away r p a w k.request may.0 in
+        let away = fresh_away s r p a w k.request may.0 in
         let shut : w.is_open ≡ false = k.known.closed may.1 in
         let here : put w.decision r (Some Closed) r ≡ Some Closed = put_here w.decision r (Some Closed) in record {
           may = record { is_request = k.inside; is_undecided = none; may_be = (away.0, shut) };
@@ -474,7 +431,7 @@ module _ (s : Shape) where
         let r = p.number in
         let a : Service = service_of h.account.desk.services r in
         let f = in_state s r p a w Fresh k.request may.0 in
-        let away = fresh_away r p a w k.request may.0 in
+        let away = fresh_away s r p a w k.request may.0 in
         let reject : s.response ≡ Reject = ap (λ (y : Shape). y.response) (sym k.known.shape) ∙ may.1 in
         let saw : p.saw_no_room ≡ true = k.request.no_room may.2 in
         let here : put w.decision r (Some ConcurrencyLimit) r ≡ Some ConcurrencyLimit = put_here w.decision r (Some ConcurrencyLimit) in record {
@@ -506,7 +463,7 @@ module _ (s : Shape) where
     -- the lines on a fresh Pass that lost its refusal
     request_over : (p : PassRecord) (a : Service) (w : World) (u : Knowledge) → p.state ≡ Fresh → IsRequest s p.number p a w → IsRequest s p.number (record p { state = Over; no_room = false; knows = u }) a w
     request_over p a w u fresh k =
-        let away = fresh_away p.number p a w k fresh in
+        let away = fresh_away s p.number p a w k fresh in
         let f = in_state s p.number p a w Fresh k fresh in record {
           number = refl;
           stage = away.0 ∙ sym (ap (stage_of (record p { state = Over; no_room = false; knows = u })) away.1 ∙ ap (stage_of_pass Over) f.0);
@@ -551,8 +508,8 @@ module _ (s : Shape) where
         w : World
         w = world_of s h.account.schedule
 
-        k : IsAt t h id p
-        k = is_at t h id p at
+        k : IsAt s t h id p
+        k = is_at s t h id p at
 
         same_decision : (P : Decision → Type 0) → P d → (c : Decision) → code_of d ≡ code_of c → P c
         same_decision P x c e = subst P (Rattle.apf_gate.proofs.WordNumbers.some_same d c (code_same (Some d) (Some c) e)) x
@@ -561,7 +518,7 @@ module _ (s : Shape) where
         miss =
             let x = loads_own id slots p t h at (λ u. record p { state = deciding_state d p.state; no_room = false; knows = u }) (λ _. refl) (λ u stays l. request_lost p _ _ d u may stays l) in
             let q : PassRecord = record p { state = deciding_state d p.state; no_room = false; knows = x.0 } in
-            (Pass q ∷ [], keeps, tt, x.1, (refl, (q, refl, same_decision (λ c. (e : Option Decision) × (n ≡ code_in e) × Loses p c e q) (x.2.0, x.2.1, (x.0, x.2.2, refl)))))
+            (Pass q ∷ [], keeps, tt, x.1, (refl, (q, refl, same_decision (λ c. (e : Option Decision) × (n ≡ code_in e) × Loses p c e q) (x.2.0, x.2.1, (x.0, x.2.2, x.2.3, refl)))))
 
         hit : n ≡ 0 → Decided id p d t n true
         hit e =
@@ -625,7 +582,7 @@ module _ (s : Shape) where
         let w = world_of s ms in
         let r = p.number in
         let n : ℕ = slice_index t.words 0 in
-        let k = is_at t h id p at in
+        let k = is_at s t h id p at in
         let a : Service = service_of g.desk.services r in
         let x = standing p a w k.request (k.known.told r) may in
         let release : Rattle.apf_model.specs.World.MayRelease s.widths w r = record { is_request = k.inside; is_standing = x.stands; is_decided = x.decided } in

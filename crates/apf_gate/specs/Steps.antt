@@ -3,7 +3,7 @@ use Rattle.std.specs.Prelude.{◌≡◌, ◌≢◌, ◌⊎◌, ℕ, ◌+◌, ◌
 use Rattle.apf_words.specs.Codes.{code_of}
 use Rattle.apf_words.specs.Level.{Level, packed}
 use Rattle.apf_words.specs.declared.decision.Decision.{Decision}
-use Rattle.apf_words.specs.declared.decision.Decision.TheVariants.{Execute, QueueFull, Closed, Cancelled}
+use Rattle.apf_words.specs.declared.decision.Decision.TheVariants.{Execute, QueueFull, Closed, Cancelled, ConcurrencyLimit}
 use Rattle.apf_model.specs.declared.moves.Move.{Move}
 use Rattle.apf_model.specs.declared.moves.Move.TheVariants.{Take, Enter, Grant, Leave, Decide, Release, Close, SetLimit, See}
 use Rattle.apf_model.specs.declared.response.Response.TheVariants.{Reject}
@@ -87,8 +87,15 @@ Releases p l q = (u : Knowledge) × SawLevel p.knows l (Release p.number ∷ [])
 abbrev pub heard : PassRecord → Knowledge → PassRecord
 heard p u = record p { no_room = false; knows = u }
 
+-- what the decision of a request may be, by the state of its Pass and what that wrote
+abbrev pub MayTell : State → Option Decision → Option Decision → Type 0
+MayTell Fresh wrote x = (x ≡ None) ⊎ ((x ≡ Some Closed) ⊎ (x ≡ Some Cancelled))
+MayTell Took wrote x = (x ≡ wrote) ⊎ (x ≡ Some Cancelled)
+MayTell InLine wrote x = x ≢ Some ConcurrencyLimit
+MayTell Over wrote x = wrote ≢ None → x ≡ wrote
+
 abbrev pub Hears : PassRecord → Option Decision → PassRecord → Type 0
-Hears p d q = (u : Knowledge) × SawDecision p.knows p.number d d [] u × (q ≡ heard p u)
+Hears p d q = (u : Knowledge) × SawDecision p.knows p.number d d [] u × MayTell p.state p.wrote d × (q ≡ heard p u)
 
 -- a Pass that asks is in line if it was fresh
 abbrev pub asking_state : State → State
@@ -100,7 +107,7 @@ asking Fresh b = true
 asking _ b = b
 
 abbrev pub Asks : PassRecord → Option Decision → PassRecord → Type 0
-Asks p d q = (u : Knowledge) × SawDecision p.knows p.number d d [] u × (q ≡ record p { state = asking_state p.state; asked = asking p.state p.asked; no_room = false; knows = u })
+Asks p d q = (u : Knowledge) × SawDecision p.knows p.number d d [] u × MayTell p.state p.wrote d × (q ≡ record p { state = asking_state p.state; asked = asking p.state p.asked; no_room = false; knows = u })
 
 -- a Pass that wrote execute, or tried to, holds its seats still. After a refusal it is over
 abbrev pub deciding_state : Decision → State → State
@@ -113,7 +120,7 @@ Writes p d q = (u : Knowledge) × SawDecision p.knows p.number None (Some d) (De
 
 -- the exchange found another decision
 abbrev pub Loses : PassRecord → Decision → Option Decision → PassRecord → Type 0
-Loses p d e q = (u : Knowledge) × SawDecision p.knows p.number e e [] u × (q ≡ record p { state = deciding_state d p.state; no_room = false; knows = u })
+Loses p d e q = (u : Knowledge) × SawDecision p.knows p.number e e [] u × MayTell p.state p.wrote e × (q ≡ record p { state = deciding_state d p.state; no_room = false; knows = u })
 
 -- what a step of a Pass tells
 abbrev pub ByPass : (PassRecord → ℕ → PassRecord → Type 0) → Me (Unit {0}) (List Record) → ℕ → Me (Unit {0}) (List Record) → Type 0

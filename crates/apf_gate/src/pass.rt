@@ -1,9 +1,10 @@
 //! The token of a request, and its steps.
 
-ghost use Rattle.std.specs.Prelude.{◌≡◌, ◌≢◌, ◌<◌, ◌==◌, length, not, true, false, MatchBool, Option, Some, None};
+ghost use Rattle.std.specs.Prelude.{◌≡◌, ◌≢◌, ◌⊎◌, ◌<◌, ◌==◌, length, not, true, false, MatchBool, Option, Some, None};
 ghost use Rattle.apf_words.specs.Fits.{Fits};
 ghost use Rattle.apf_words.specs.Level.{Level};
 ghost use Rattle.apf_words.specs.declared.decision.Decision.{Decision};
+ghost use Rattle.apf_words.specs.declared.decision.Decision.TheVariants.{Execute, Closed, Cancelled};
 ghost use Rattle.apf_model.specs.declared.response.Response.TheVariants.{Reject};
 ghost use Rattle.apf_gate.specs.declared.record.State.TheVariants.{Fresh, Took, InLine, Over};
 ghost use Rattle.apf_gate.specs.Records.{told_own};
@@ -104,6 +105,7 @@ impl<A: Allocator> Gate<A> {
         ensures gate { pass_gate pass.new ≡ pass_gate pass.old }
         ensures answer { Hears pass.old.pass result pass.new.pass }
         ensures told { result ≢ None → told_own pass.new.pass ≡ result }
+        ensures fresh { pass.old.pass.state ≡ Fresh → result ≢ Some Execute }
         ensures stays { told_own pass.old.pass ≢ None → result ≡ told_own pass.old.pass }
         ensures state { pass.new.pass.state ≡ pass.old.pass.state }
         ensures number { pass.new.pass.number ≡ pass.old.pass.number }
@@ -123,6 +125,8 @@ impl<A: Allocator> Gate<A> {
         requires may { MayWrite pass.old.pass decision }
         ensures gate { pass_gate pass.new ≡ pass_gate pass.old }
         ensures answer { Decides pass.old.pass decision result pass.new.pass }
+        ensures answers { (result ≡ decision) ⊎ ((result ≡ Closed) ⊎ (result ≡ Cancelled)) }
+        ensures executes { decision ≡ Execute → (result ≡ Execute) ⊎ (result ≡ Cancelled) }
         ensures told { told_own pass.new.pass ≡ Some result }
         ensures stays { told_own pass.old.pass ≢ None → Some result ≡ told_own pass.old.pass }
         ensures state { pass.new.pass.state ≡ deciding_state decision pass.old.pass.state }

@@ -40,7 +40,7 @@ use Rattle.apf_gate.proofs.Sound.{both_step}
 use Rattle.apf_gate.proofs.Packing.{packs_same, packs_level, packs_decided, level_in_range, no_queues, is_small}
 use Rattle.apf_gate.proofs.Knowing.{level_known, level_told, decision_known, decision_told}
 use Rattle.apf_gate.proofs.PassLines.{in_state, closed_or_cancelled}
-use Rattle.apf_gate.proofs.PassSteps.{stations_decided}
+use Rattle.apf_gate.proofs.PassWordSteps.{stations_decided}
 use Rattle.apf_gate.proofs.DeskLines.{holds_still, IsAt, is_at_desk, may_say}
 use Rattle.apf_gate.proofs.DeskSteps.{stations_moved}
 

@@ -37,7 +37,7 @@ use Rattle.apf_gate.proofs.Views.{Table}
 use Rattle.apf_gate.proofs.Sound.{stations_same, desk_step}
 use Rattle.apf_gate.proofs.Packing.{packs_same, packs_level, packs_decided, level_in_range, no_queues, is_small}
 use Rattle.apf_gate.proofs.Knowing.{level_known, level_told, decision_known, decision_told}
-use Rattle.apf_gate.proofs.PassSteps.{stations_decided}
+use Rattle.apf_gate.proofs.PassWordSteps.{stations_decided}
 use Rattle.apf_gate.proofs.DeskLines.{HoldsOne, holds_still, holds_now, holds_none, is_at, requests_but, InHand, in_hand, may_say}
 
 module _ (s : Shape) where

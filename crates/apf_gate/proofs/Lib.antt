@@ -8,6 +8,7 @@ pub mod Rooms
 pub mod Knowing
 pub mod PassLines
 pub mod PassSteps
+pub mod PassWordSteps
 pub mod StationSteps
 pub mod DeskLines
 pub mod DeskSteps

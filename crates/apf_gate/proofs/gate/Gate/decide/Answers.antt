@@ -2,7 +2,7 @@ use Rattle.std.proofs.Common.{rules, ◌<◌, length, arith, sym, ap, ◌∙◌,
 use Rattle.apf_gate.specs.declared.record.Shape.{Shape}
 use Rattle.apf_gate.specs.Rule.{pass_of}
 use Rattle.apf_gate.specs.Calls.{GateId, PassToken, MayWrite}
-use Rattle.apf_gate.proofs.PassSteps.{decides}
+use Rattle.apf_gate.proofs.PassWordSteps.{decides}
 use Rattle.apf_gate.proofs.gate.Gate.decide.Goals as goal
 
 pub compare_exchange-found-requires : goal.compare_exchange-found-requires

@@ -2,7 +2,7 @@ use Rattle.std.proofs.Common.{rules, ◌<◌, length, arith, sym, ap, ◌∙◌,
 use Rattle.apf_gate.specs.declared.record.Shape.{Shape}
 use Rattle.apf_gate.specs.Rule.{pass_of}
 use Rattle.apf_gate.specs.Calls.{GateId, PassToken}
-use Rattle.apf_gate.proofs.PassSteps.{hears}
+use Rattle.apf_gate.proofs.PassWordSteps.{hears}
 use Rattle.apf_gate.proofs.gate.Gate.told.Goals as goal
 
 pub load-requires : goal.load-requires

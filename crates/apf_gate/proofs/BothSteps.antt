@@ -137,7 +137,7 @@ module _ (s : Shape) where
           Pass p ∷ Desk e ∷ [],
           keeps,
           tt,
-          both_step s t h id p p d e 0 (slice_index t.words 0) ms at x h.sound.schedule
+          both_step s t h id p p d e 0 (slice_index t.words 0) ms at x h.sound.schedule refl
               (λ j ne. (record { stage = refl; decision = refl; saw = refl }, put_else (service_of d.services) r Handed j ne ∙ ap (λ (o : DeskRecord). service_of o.services j) (sym k.desk.record_is)))
               (packs_same s t.words w w 0 refl (λ _. refl) h.packs)
               (subst (λ a. IsRequest s r p a w) (sym (put_here (service_of d.services) r Handed)) (request_handed p (service d r) w k.request i may.0))
@@ -192,7 +192,7 @@ module _ (s : Shape) where
               Pass q ∷ Desk e ∷ [],
               keeps,
               tt,
-              both_step s t h id p q d e 0 new (own ++ ms) at later (allowed, h.sound.schedule)
+              both_step s t h id p q d e 0 new (own ++ ms) at later (allowed, h.sound.schedule) refl
                   (λ j ne. (record { stage = put_else w.stage r Waits j ne; decision = refl; saw = refl }, put_else (service_of d.services) r Waiting j ne ∙ ap (λ (o : DeskRecord). service_of o.services j) (sym k.desk.record_is)))
                   (packs_level s t.words w w' new level (λ _. refl) h.packs)
                   (subst (λ a. IsRequest s r q a w') (sym (put_here (service_of d.services) r Waiting)) (record {
@@ -246,7 +246,7 @@ module _ (s : Shape) where
         let e : DeskRecord = served d r Handed u in
         let holds = holds_still d.services d.held r Handed (i.not_held (service d r) may.1) (λ y. cc) k.desk.holds in (
           e,
-          both_step s t h id p p d e (r + 1) (slice_index t.words (r + 1)) ms at later h.sound.schedule
+          both_step s t h id p p d e (r + 1) (slice_index t.words (r + 1)) ms at later h.sound.schedule refl
               (λ j ne. (record { stage = refl; decision = refl; saw = refl }, put_else (service_of d.services) r Handed j ne ∙ ap (λ (o : DeskRecord). service_of o.services j) (sym k.desk.record_is)))
               (packs_same s t.words w w (r + 1) refl (λ _. refl) h.packs)
               (subst (λ a. IsRequest s r p a w) (sym (put_here (service_of d.services) r Handed)) (request_handed p (service d r) w k.request i may.0))
@@ -366,7 +366,7 @@ module _ (s : Shape) where
               Pass p ∷ Desk e ∷ [],
               keeps,
               tt,
-              both_step s t h id p p d e (r + 1) (code_of x) (own ++ ms) at later (y.may, h.sound.schedule)
+              both_step s t h id p p d e (r + 1) (code_of x) (own ++ ms) at later (y.may, h.sound.schedule) refl
                   (λ j ne. (record { stage = refl; decision = put_else w.decision r (Some x) j ne; saw = refl }, put_else (service_of d.services) r (refusing x) j ne ∙ ap (λ (o : DeskRecord). service_of o.services j) (sym k.desk.record_is)))
                   (packs_decided s t.words w r x k.inside h.packs)
                   (subst (λ a. IsRequest s r p a w') (sym (put_here (service_of d.services) r (refusing x))) y.request)
@@ -392,7 +392,7 @@ module _ (s : Shape) where
           Pass p ∷ Desk e ∷ [],
           keeps,
           tt,
-          both_step s t h id p p d e (r + 1) (slice_index t.words (r + 1)) ms at later h.sound.schedule
+          both_step s t h id p p d e (r + 1) (slice_index t.words (r + 1)) ms at later h.sound.schedule refl
               (λ j ne. (record { stage = refl; decision = refl; saw = refl }, ap (λ (o : DeskRecord). service_of o.services j) (sym k.desk.record_is)))
               (packs_same s t.words w w (r + 1) refl (λ _. refl) h.packs)
               k.request

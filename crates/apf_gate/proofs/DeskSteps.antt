@@ -85,7 +85,7 @@ module _ (s : Shape) where
           Desk e ∷ [],
           keeps,
           tt,
-          desk_step s t h id d e 0 (slice_index t.words 0) ms at x h.sound.schedule k.request (packs_same s t.words w w 0 refl (λ _. refl) h.packs)
+          desk_step s t h id d e 0 (slice_index t.words 0) ms at x h.sound.schedule refl k.request (packs_same s t.words w w 0 refl (λ _. refl) h.packs)
               (level_known s d.knows ms [] k.known x l refl) k.holds.held_is k.holds.is_held h.sound.stations,
           (refl, (e, refl, (l, h.packs.level, (u, level_told s d.knows ms [] k.known x l refl h.sound.schedule (level_in_range s shape laws t h) (no_queues s laws t h), refl)))),
         )
@@ -104,7 +104,7 @@ module _ (s : Shape) where
         let u : Knowledge = saw_decision d.knows r x x ms in
         let e : DeskRecord = record d { knows = u } in (
           e,
-          desk_step s t h id d e (r + 1) (slice_index t.words (r + 1)) ms at later h.sound.schedule k.request (packs_same s t.words w w (r + 1) refl (λ _. refl) h.packs)
+          desk_step s t h id d e (r + 1) (slice_index t.words (r + 1)) ms at later h.sound.schedule refl k.request (packs_same s t.words w w (r + 1) refl (λ _. refl) h.packs)
               (decision_known s d.knows ms [] k.known later r x x refl (λ _. refl)) k.holds.held_is k.holds.is_held h.sound.stations,
           h.packs.decisions r inside,
           (u, decision_told s d.knows ms [] k.known later r x x refl (λ _. refl) h.sound.schedule, may_say s r (g.pass r) (service d r) w (k.request r inside), refl),
@@ -163,7 +163,7 @@ module _ (s : Shape) where
               Desk e ∷ [],
               keeps,
               tt,
-              desk_step s t h id d e 0 new (own ++ ms) at later (may, h.sound.schedule)
+              desk_step s t h id d e 0 new (own ++ ms) at later (may, h.sound.schedule) refl
                   (requests_but s g.pass d.services w w' r Held (λ j ne. record { stage = put_else w.stage r Stands j ne; decision = refl; saw = refl }) (λ x. x) k.request
                   (request_moved r p (service d r) Held w w' line i (inl refl) (line.entered ∙ ap has_entered waits) (put_here w.stage r Stands) refl refl (λ x. x)))
                   (packs_level s t.words w w' new level (λ _. refl) h.packs)
@@ -265,7 +265,7 @@ module _ (s : Shape) where
               Desk e ∷ [],
               keeps,
               tt,
-              desk_step s t h id d e (r + 1) 1 (own ++ ms) at later (may, h.sound.schedule)
+              desk_step s t h id d e (r + 1) 1 (own ++ ms) at later (may, h.sound.schedule) refl
                   (requests_but s g.pass d.services w w' r Settled (λ j ne. record { stage = refl; decision = put_else w.decision r (Some Execute) j ne; saw = refl }) (λ x. x) k.request
                   (request_settled r p (service d r) w line i (line.entered ∙ ap has_entered is) not_told stage))
                   (packs_decided s t.words w r Execute inside h.packs)
@@ -312,7 +312,7 @@ module _ (s : Shape) where
           Desk e ∷ [],
           keeps,
           tt,
-          desk_step s t h id d e 0 new (own ++ ms) at later (may, h.sound.schedule)
+          desk_step s t h id d e 0 new (own ++ ms) at later (may, h.sound.schedule) refl
               (requests_but s g.pass d.services w w' r Left (λ j ne. record { stage = put_else w.stage r Gone j ne; decision = refl; saw = refl }) (λ x. x) k.request
               (request_moved r p (service d r) Left w w' line i (inr refl) (line.entered ∙ ap has_entered is) (put_here w.stage r Gone) refl refl (λ x. x)))
               (packs_level s t.words w w' new level (λ _. refl) h.packs)
@@ -358,7 +358,7 @@ module _ (s : Shape) where
           Desk e ∷ [],
           keeps,
           tt,
-          desk_step s t h id d e 0 new (own ++ ms) at later (may, h.sound.schedule)
+          desk_step s t h id d e 0 new (own ++ ms) at later (may, h.sound.schedule) refl
               (requests_but s g.pass d.services w w' r Left (λ j ne. record { stage = put_else w.stage r Gone j ne; decision = refl; saw = refl }) (λ x. x) k.request
               (request_moved r p (service d r) Left w w' line i (inr refl) (line.entered ∙ ap has_entered waits) (put_here w.stage r Gone) refl refl (λ x. x)))
               (packs_level s t.words w w' new level (λ _. refl) h.packs)

@@ -5,6 +5,7 @@ use Rattle.std.proofs.lemmas.Bool.{not-true, not_from_false}
 use Rattle.apf_words.specs.Level.{Level}
 use Rattle.apf_words.specs.declared.decision.Decision.{Decision}
 use Rattle.apf_words.specs.declared.decision.Decision.TheVariants.{Execute, QueueFull, Cancelled}
+use Rattle.apf_model.specs.declared.moves.Move.{Move}
 use Rattle.apf_model.specs.declared.moves.Stage.TheVariants.{Waits, Stands}
 use Rattle.apf_model.specs.World.{World, IsStanding, IsWaiting, seats, waiters}
 use Rattle.apf_gate.specs.declared.record.Knowledge.{Knowledge}
@@ -23,7 +24,7 @@ use Rattle.apf_gate.specs.Steps.{service}
 use Rattle.apf_gate.proofs.WordNumbers.{some_same}
 use Rattle.apf_gate.specs.Rule.{Every, IsRecord, AreApart, token_of}
 use Rattle.apf_gate.specs.Calls.{GateId, PassToken, StationToken}
-use Rattle.apf_gate.specs.Ends.{WordsView, EndsWith, AnyOf, WasTold, ExecutedIt, IsBack, WroteCancelled, ClosedFirst, passes_before, stations_before}
+use Rattle.apf_gate.specs.Ends.{WordsView, EndsWith, SawAtLast, GoesOn, IsLongest, AreOf, AnyOf, WasTold, ExecutedIt, IsBack, WroteCancelled, ClosedFirst, passes_before, stations_before}
 use Rattle.apf_gate.proofs.Numbers.{AreNumbered, all_there}
 use Rattle.apf_gate.proofs.Views.{every_map}
 
@@ -100,9 +101,36 @@ module _ (g : GateId) (d : DeskRecord) (ps : List PassToken) (ts : List StationT
   station_known : (t : StationToken) → IsStationHere t → IsKnown g.shape t.station.knows e.account.schedule
   station_known t h = subst (λ (o : StationRecord). IsKnown g.shape o.knows e.account.schedule) h.1 (e.sound.station_knows t.station.number)
 
+  desk_known : IsKnown g.shape d.knows e.account.schedule
+  desk_known = subst (λ (o : DeskRecord). IsKnown g.shape o.knows e.account.schedule) desk_here e.sound.desk_knows
+
+  -- some token saw the whole schedule
+  saw_at_last : SawAtLast d ps ts e.account.schedule
+  saw_at_last = ⊎_elim
+      (λ (x : e.account.desk.knows.seen ≡ e.account.schedule). inl (ap (λ (o : DeskRecord). o.knows.seen) (sym desk_here) ∙ x))
+      (λ (y : ((r : ℕ) × (r < length g.shape.widths) × ((e.account.pass r).knows.seen ≡ e.account.schedule)) ⊎ ((k : ℕ) × (k < g.shape.stations) × ((e.account.station k).knows.seen ≡ e.account.schedule))). inr (⊎_elim
+      (λ (x : (r : ℕ) × (r < length g.shape.widths) × ((e.account.pass r).knows.seen ≡ e.account.schedule)). inl (any_with (λ (t : PassToken). t.pass.number ≡ x.0) IsPassHere (λ (t : PassToken). t.pass.knows.seen ≡ e.account.schedule) ps
+      (λ t n h. ap (λ (o : PassRecord). o.knows.seen) (sym h.1) ∙ (ap (λ k. (e.account.pass k).knows.seen) n ∙ x.2)) (pass_there x.0 x.1) passes_here))
+      (λ (x : (k : ℕ) × (k < g.shape.stations) × ((e.account.station k).knows.seen ≡ e.account.schedule)). inr (any_with (λ (t : StationToken). t.station.number ≡ x.0) IsStationHere (λ (t : StationToken). t.station.knows.seen ≡ e.account.schedule) ts
+      (λ t n h. ap (λ (o : StationRecord). o.knows.seen) (sym h.1) ∙ (ap (λ k. (e.account.station k).knows.seen) n ∙ x.2)) (station_there x.0 x.1) stations_here))
+      y))
+      e.sound.last
+
+  pub last : (ms : List Move) × IsLongest d ps ts ms × AreOf g ms w
+  last = (
+    e.account.schedule,
+    (
+      saw_at_last,
+      desk_known.newer,
+      every_map IsPassHere (λ (t : PassToken). GoesOn e.account.schedule t.pass.knows.seen) ps (λ t h. (pass_known t h).newer) passes_here,
+      every_map IsStationHere (λ (t : StationToken). GoesOn e.account.schedule t.station.knows.seen) ts (λ t h. (station_known t h).newer) stations_here,
+    ),
+    (e.level, e.decided),
+  )
+
   pub told : (r : ℕ) (x : Decision) → r < length g.shape.widths → WasTold d ps ts r x → slice_get w.decisions r ≡ Some (Some x)
   told r x l was = e.decided r l ∙ ap Some (⊎_elim
-      (λ (t : told_of d.knows.told r ≡ Some x). known_told d.knows r x (subst (λ (o : DeskRecord). IsKnown g.shape o.knows e.account.schedule) desk_here e.sound.desk_knows) t)
+      (λ (t : told_of d.knows.told r ≡ Some x). known_told d.knows r x desk_known t)
       (λ (o : AnyOf (λ t. told_of t.pass.knows.told r ≡ Some x) ps ⊎ AnyOf (λ t. told_of t.station.knows.told r ≡ Some x) ts). ⊎_elim
       (λ (a : AnyOf (λ t. told_of t.pass.knows.told r ≡ Some x) ps). any_elim (λ (t : PassToken). told_of t.pass.knows.told r ≡ Some x) IsPassHere ps (λ t is h. known_told t.pass.knows r x (pass_known t h) is) a passes_here)
       (λ (a : AnyOf (λ t. told_of t.station.knows.told r ≡ Some x) ts). any_elim (λ (t : StationToken). told_of t.station.knows.told r ≡ Some x) IsStationHere ts (λ t is h. known_told t.station.knows r x (station_known t h) is) a stations_here)

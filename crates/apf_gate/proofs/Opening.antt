@@ -110,6 +110,7 @@ module _ (s : Shape) where
         limit_small = shape.small_limit;
         largest_small = shape.small_limit;
       };
+      last = inl refl;
     };
     packs = record {
       count = ap length is ∙ (length-set (replicate (length s.widths + 1) 0) 0 (s.limit * 1099511627776) ∙ length-replicate (length s.widths + 1) 0);

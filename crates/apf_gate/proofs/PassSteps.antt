@@ -145,7 +145,7 @@ module _ (s : Shape) where
           Pass q ∷ [],
           keeps,
           tt,
-          pass_step s t h id p q 0 (slice_index t.words 0) (own ++ ms) at x.later x.is_schedule x.others (packs_same s t.words w (world_of s (own ++ ms)) 0 x.level x.decision h.packs)
+          pass_step s t h id p q 0 (slice_index t.words 0) (own ++ ms) at x.later x.is_schedule refl x.others (packs_same s t.words w (world_of s (own ++ ms)) 0 x.level x.decision h.packs)
               (request_looked p.number p (service_of g.desk.services p.number) w (world_of s (own ++ ms)) b u refl (x.stage p.number) (x.decision p.number) (x.saw p.saw_no_room k.request.saw) x.later.closed k.request)
               (level_known s p.knows ms own k.known x.later l refl)
               (stations_same s g.station g.canceller g.closer w (world_of s (own ++ ms)) x.is_open x.limit x.largest (λ r e. sym (x.decision r) ∙ e) (λ r e. x.decision r ∙ e) h.sound.stations),
@@ -203,7 +203,7 @@ module _ (s : Shape) where
               Pass q ∷ [],
               keeps,
               tt,
-              pass_step s t h id p q 0 new (Take r ∷ ms) at later (may, h.sound.schedule) (λ j ne. record { stage = put_else w.stage r Stands j ne; decision = refl; saw = refl })
+              pass_step s t h id p q 0 new (Take r ∷ ms) at later (may, h.sound.schedule) refl (λ j ne. record { stage = put_else w.stage r Stands j ne; decision = refl; saw = refl })
                   (packs_level s t.words w w' new level (λ _. refl) h.packs)
                   (record {
                     number = refl;
@@ -302,7 +302,7 @@ module _ (s : Shape) where
           Pass q ∷ [],
           keeps,
           tt,
-          pass_step s t h id p q 0 new (own_moves ++ ms) at later (release, h.sound.schedule) (λ j ne. record { stage = put_else w.stage r Gone j ne; decision = refl; saw = refl })
+          pass_step s t h id p q 0 new (own_moves ++ ms) at later (release, h.sound.schedule) refl (λ j ne. record { stage = put_else w.stage r Gone j ne; decision = refl; saw = refl })
               (packs_level s t.words w w' new level (λ _. refl) h.packs)
               (record {
                 number = refl;

@@ -110,7 +110,7 @@ module _ (s : Shape) where
         let x = same_schedule s ms in
         let u : Knowledge = saw_decision p.knows r d d ms in (
           u,
-          pass_step s t h id p (q u) (r + 1) (slice_index t.words (r + 1)) ms at x h.sound.schedule (λ j ne. record { stage = refl; decision = refl; saw = refl })
+          pass_step s t h id p (q u) (r + 1) (slice_index t.words (r + 1)) ms at x h.sound.schedule (ap (λ (o : Knowledge). o.seen) (knows u)) (λ j ne. record { stage = refl; decision = refl; saw = refl })
               (packs_same s t.words w w (r + 1) refl (λ _. refl) h.packs)
               (request u (λ e. execute_told p.knows.told r d e (k.known.told r (λ none. cc) ∙ e)) k.request)
               (subst (λ o. IsKnown s o ms) (sym (knows u)) (decision_known s p.knows ms [] k.known x r d d refl (λ _. refl)))
@@ -334,7 +334,7 @@ module _ (s : Shape) where
               Pass q ∷ [],
               keeps,
               tt,
-              pass_step s t h id p q (r + 1) (code_of d) (own ++ ms) at later (x.may, h.sound.schedule) (λ j ne. record { stage = refl; decision = put_else w.decision r (Some d) j ne; saw = refl })
+              pass_step s t h id p q (r + 1) (code_of d) (own ++ ms) at later (x.may, h.sound.schedule) refl (λ j ne. record { stage = refl; decision = put_else w.decision r (Some d) j ne; saw = refl })
                   (packs_decided s t.words w r d k.inside h.packs)
                   (x.request u)
                   (decision_known s p.knows ms own k.known later r None (Some d) none (λ _. now))

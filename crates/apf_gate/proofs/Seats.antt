@@ -43,6 +43,7 @@ module _ (s : Shape) where
     held = k.held;
     is_held = k.is_held;
     stations = k.stations;
+    last = k.last;
   }
 
   -- a record that another token has stays where it was

@@ -86,14 +86,14 @@ module _ (s : Shape) where
 
   -- a step of a Pass, after which its record is q and the schedule ms
   pub pass_step : (t : Table) (h : IsRuled s t) (id : ℕ) (p q : PassRecord) (i n : ℕ) (ms : List Move)
-      → get_elem? t.views id ≡ some (Pass p ∷ []) → IsLater s h.account.schedule ms → IsSchedule (opening_of s) ms
+      → get_elem? t.views id ≡ some (Pass p ∷ []) → IsLater s h.account.schedule ms → IsSchedule (opening_of s) ms → q.knows.seen ≡ ms
       → ((j : ℕ) → j ≢ p.number → IsSame (world_of s h.account.schedule) (world_of s ms) j)
       → Packs s (set t.words i n) (world_of s ms)
       → IsRequest s p.number q (service_of h.account.desk.services p.number) (world_of s ms)
       → IsKnown s q.knows ms
       → AreStations s h.account.station h.account.canceller h.account.closer (world_of s ms)
       → IsRuled s record { words = set t.words i n; homes = t.homes; views = set t.views id (Pass q ∷ []) }
-  pass_step t h id p q i n ms at later schedule elsewhere packs mine known stations =
+  pass_step t h id p q i n ms at later schedule saw elsewhere packs mine known stations =
       let g = h.account in
       let r = p.number in
       let was = (h.views id (Pass p ∷ []) at).0.0 in
@@ -117,6 +117,7 @@ module _ (s : Shape) where
         held = h.sound.held;
         is_held = h.sound.is_held;
         stations = stations;
+        last = inr (inl (r, was.1.0, ap (λ (o : PassRecord). o.knows.seen) (put_here g.pass r q) ∙ saw));
       })
       packs
 
@@ -144,14 +145,14 @@ module _ (s : Shape) where
 
   -- a step of a Station, after which its record is b and the schedule ms
   pub station_step : (t : Table) (h : IsRuled s t) (id : ℕ) (a b : StationRecord) (i n : ℕ) (ms : List Move) (canceller : ℕ → ℕ) (closer : ℕ)
-      → get_elem? t.views id ≡ some (Station a ∷ []) → IsLater s h.account.schedule ms → IsSchedule (opening_of s) ms
+      → get_elem? t.views id ≡ some (Station a ∷ []) → IsLater s h.account.schedule ms → IsSchedule (opening_of s) ms → b.knows.seen ≡ ms
       → ((r : ℕ) → r < length s.widths → IsRequest s r (h.account.pass r) (service_of h.account.desk.services r) (world_of s ms))
       → Packs s (set t.words i n) (world_of s ms)
       → b.number ≡ a.number
       → IsKnown s b.knows ms
       → AreStations s (put h.account.station a.number b) canceller closer (world_of s ms)
       → IsRuled s record { words = set t.words i n; homes = t.homes; views = set t.views id (Station b ∷ []) }
-  station_step t h id a b i n ms canceller closer at later schedule requests packs number known stations =
+  station_step t h id a b i n ms canceller closer at later schedule saw requests packs number known stations =
       let g = h.account in
       let k = a.number in
       let was = (h.views id (Station a ∷ []) at).0.0 in
@@ -173,19 +174,20 @@ module _ (s : Shape) where
         held = h.sound.held;
         is_held = h.sound.is_held;
         stations = stations;
+        last = inr (inr (k, was.1.0, ap (λ (o : StationRecord). o.knows.seen) (put_here g.station k b) ∙ saw));
       })
       packs
 
   -- a step of the Desk, after which its record is e and the schedule ms
   pub desk_step : (t : Table) (h : IsRuled s t) (id : ℕ) (d e : DeskRecord) (i n : ℕ) (ms : List Move)
-      → get_elem? t.views id ≡ some (Desk d ∷ []) → IsLater s h.account.schedule ms → IsSchedule (opening_of s) ms
+      → get_elem? t.views id ≡ some (Desk d ∷ []) → IsLater s h.account.schedule ms → IsSchedule (opening_of s) ms → e.knows.seen ≡ ms
       → ((r : ℕ) → r < length s.widths → IsRequest s r (h.account.pass r) (service_of e.services r) (world_of s ms))
       → Packs s (set t.words i n) (world_of s ms)
       → IsKnown s e.knows ms
       → ((r : ℕ) → e.held ≡ Some r → service_of e.services r ≡ Held) → ((r : ℕ) → service_of e.services r ≡ Held → e.held ≡ Some r)
       → AreStations s h.account.station h.account.canceller h.account.closer (world_of s ms)
       → IsRuled s record { words = set t.words i n; homes = t.homes; views = set t.views id (Desk e ∷ []) }
-  desk_step t h id d e i n ms at later schedule requests packs known held is_held stations =
+  desk_step t h id d e i n ms at later schedule saw requests packs known held is_held stations =
       let g = h.account in
       let was = (h.views id (Desk d ∷ []) at).0.0 in
       let g' : Account = record g { schedule = ms; desk = e } in
@@ -201,12 +203,13 @@ module _ (s : Shape) where
         held = held;
         is_held = is_held;
         stations = stations;
+        last = inl saw;
       })
       packs
 
   -- a step of the Desk that a Pass is joined to, after which their records are q and e and the schedule ms
   pub both_step : (t : Table) (h : IsRuled s t) (id : ℕ) (p q : PassRecord) (d e : DeskRecord) (i n : ℕ) (ms : List Move)
-      → get_elem? t.views id ≡ some (Pass p ∷ Desk d ∷ []) → IsLater s h.account.schedule ms → IsSchedule (opening_of s) ms
+      → get_elem? t.views id ≡ some (Pass p ∷ Desk d ∷ []) → IsLater s h.account.schedule ms → IsSchedule (opening_of s) ms → e.knows.seen ≡ ms
       → ((j : ℕ) → j ≢ p.number → IsSame (world_of s h.account.schedule) (world_of s ms) j × (service_of e.services j ≡ service_of h.account.desk.services j))
       → Packs s (set t.words i n) (world_of s ms)
       → IsRequest s p.number q (service_of e.services p.number) (world_of s ms)
@@ -214,7 +217,7 @@ module _ (s : Shape) where
       → ((r : ℕ) → e.held ≡ Some r → service_of e.services r ≡ Held) → ((r : ℕ) → service_of e.services r ≡ Held → e.held ≡ Some r)
       → AreStations s h.account.station h.account.canceller h.account.closer (world_of s ms)
       → IsRuled s record { words = set t.words i n; homes = t.homes; views = set t.views id (Pass q ∷ Desk e ∷ []) }
-  both_step t h id p q d e i n ms at later schedule elsewhere packs mine known known_desk held is_held stations =
+  both_step t h id p q d e i n ms at later schedule saw elsewhere packs mine known known_desk held is_held stations =
       let g = h.account in
       let r = p.number in
       let v = h.views id (Pass p ∷ Desk d ∷ []) at in
@@ -239,5 +242,6 @@ module _ (s : Shape) where
         held = held;
         is_held = is_held;
         stations = stations;
+        last = inl saw;
       })
       packs

@@ -69,7 +69,7 @@ module _ (s : Shape) where
           Station b ∷ [],
           keeps,
           tt,
-          station_step s t h id a b 0 (slice_index t.words 0) ms g.canceller g.closer at x h.sound.schedule h.sound.request (packs_same s t.words (world_of s ms) (world_of s ms) 0 refl (λ _. refl) h.packs) refl
+          station_step s t h id a b 0 (slice_index t.words 0) ms g.canceller g.closer at x h.sound.schedule refl h.sound.request (packs_same s t.words (world_of s ms) (world_of s ms) 0 refl (λ _. refl) h.packs) refl
               (level_known s a.knows ms [] k.known x l refl)
               (learnt t h a u k),
           (refl, (b, refl, (l, h.packs.level, (u, level_told s a.knows ms [] k.known x l refl h.sound.schedule (level_in_range s shape laws t h) (no_queues s laws t h), refl)))),
@@ -88,7 +88,7 @@ module _ (s : Shape) where
           Station b ∷ [],
           keeps,
           tt,
-          station_step s t h id a b (r + 1) (slice_index t.words (r + 1)) ms g.canceller g.closer at x h.sound.schedule h.sound.request (packs_same s t.words (world_of s ms) (world_of s ms) (r + 1) refl (λ _. refl) h.packs) refl
+          station_step s t h id a b (r + 1) (slice_index t.words (r + 1)) ms g.canceller g.closer at x h.sound.schedule refl h.sound.request (packs_same s t.words (world_of s ms) (world_of s ms) (r + 1) refl (λ _. refl) h.packs) refl
               (decision_known s a.knows ms [] k.known x r d d refl (λ _. refl))
               (learnt t h a u k),
           (refl, (b, refl, subst (λ q. OfDecision (λ e. Reads a q e b) (slice_index t.words (r + 1))) (sym (word_request r)) (d, h.packs.decisions r inside, (u, decision_told s a.knows ms [] k.known x r d d refl (λ _. refl) h.sound.schedule, refl)))),
@@ -202,7 +202,7 @@ module _ (s : Shape) where
               Station b ∷ [],
               keeps,
               tt,
-              station_step s t h id a b (r + 1) 4 (own ++ ms) (put g.canceller r a.number) g.closer at later (may, h.sound.schedule)
+              station_step s t h id a b (r + 1) 4 (own ++ ms) (put g.canceller r a.number) g.closer at later (may, h.sound.schedule) refl
                   (λ j l. dite (ℕ_discrete j r)
                   (λ y. subst (λ z. IsRequest s z (g.pass z) (service_of g.desk.services z) w') (sym y) (request_cancelled r (g.pass r) (service_of g.desk.services r) w none (h.sound.request r inside)))
                   (λ ne. request_elsewhere s j (g.pass j) (service_of g.desk.services j) w w' (record { stage = refl; decision = put_else w.decision r (Some Cancelled) j ne; saw = refl }) (λ x. x) (h.sound.request j l)))
@@ -306,7 +306,7 @@ module _ (s : Shape) where
           Station b ∷ [],
           keeps,
           tt,
-          station_step s t h id a b 0 new (own ++ ms) g.canceller lines.0 at later (tt, h.sound.schedule)
+          station_step s t h id a b 0 new (own ++ ms) g.canceller lines.0 at later (tt, h.sound.schedule) refl
               (λ j i. request_elsewhere s j (g.pass j) (service_of g.desk.services j) w (world_of s (own ++ ms)) (record { stage = refl; decision = refl; saw = refl }) (λ _. refl) (h.sound.request j i))
               (packs_level s t.words w (world_of s (own ++ ms)) new level (λ _. refl) h.packs) refl
               (record { shape = known.shape; closed = λ _. refl; told = known.told; newer = known.newer })
@@ -416,7 +416,7 @@ module _ (s : Shape) where
               Station b ∷ [],
               keeps,
               tt,
-              station_step s t h id a b 0 new (own ++ ms) g.canceller g.closer at later (tt, h.sound.schedule)
+              station_step s t h id a b 0 new (own ++ ms) g.canceller g.closer at later (tt, h.sound.schedule) refl
                   (λ j i. request_elsewhere s j (g.pass j) (service_of g.desk.services j) w w' (record { stage = refl; decision = refl; saw = refl }) (λ x. x) (h.sound.request j i))
                   (packs_level s t.words w w' new level (λ _. refl) h.packs) refl
                   (level_known s a.knows ms own k.known later l now)

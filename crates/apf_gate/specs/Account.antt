@@ -126,6 +126,12 @@ pub record AreStations (s : Shape) (station : ℕ → StationRecord) (canceller 
   pub limit_small : w.limit ≤ 10000
   pub largest_small : w.largest ≤ 10000
 
+-- the token that stepped last saw the whole schedule
+abbrev pub SawAll : Shape → Account → Type 0
+SawAll s g = (g.desk.knows.seen ≡ g.schedule)
+    ⊎ (((r : ℕ) × (r < length s.widths) × ((g.pass r).knows.seen ≡ g.schedule))
+    ⊎ ((k : ℕ) × (k < s.stations) × ((g.station k).knows.seen ≡ g.schedule)))
+
 -- the lines of the rule
 pub record IsSound (s : Shape) (g : Account) : Type 0 where
   pub schedule : IsSchedule (opening_of s) g.schedule
@@ -136,3 +142,4 @@ pub record IsSound (s : Shape) (g : Account) : Type 0 where
   pub held : (r : ℕ) → g.desk.held ≡ Some r → service_of g.desk.services r ≡ Held
   pub is_held : (r : ℕ) → service_of g.desk.services r ≡ Held → g.desk.held ≡ Some r
   pub stations : AreStations s g.station g.canceller g.closer (world_of s g.schedule)
+  pub last : SawAll s g

@@ -1,8 +1,9 @@
 -- How a gate ends.
-use Rattle.std.specs.Prelude.{◌≡◌, ◌≢◌, ◌⊎◌, ℕ, ◌<◌, true, List, [], ◌∷◌, length, slice_get, Option, Some, None}
+use Rattle.std.specs.Prelude.{◌≡◌, ◌≢◌, ◌⊎◌, ℕ, ◌<◌, true, List, [], ◌∷◌, ◌++◌, length, slice_get, Option, Some, None}
 use Rattle.apf_words.specs.Level.{Level}
 use Rattle.apf_words.specs.declared.decision.Decision.{Decision}
 use Rattle.apf_words.specs.declared.decision.Decision.TheVariants.{Execute}
+use Rattle.apf_model.specs.declared.moves.Move.{Move}
 use Rattle.apf_gate.specs.declared.record.Record.{Record}
 use Rattle.apf_gate.specs.declared.record.Record.TheVariants.{Pass, Desk, Station}
 use Rattle.apf_gate.specs.declared.record.State.TheVariants.{Took, Over}
@@ -50,6 +51,23 @@ AnyOf P (x ∷ xs) = P x ⊎ AnyOf P xs
 -- a token that was handed in was told this decision of r
 abbrev pub WasTold : DeskRecord → List PassToken → List StationToken → ℕ → Decision → Type 0
 WasTold d ps ts r x = (told_of d.knows.told r ≡ Some x) ⊎ (AnyOf (λ t. told_of t.pass.knows.told r ≡ Some x) ps ⊎ AnyOf (λ t. told_of t.station.knows.told r ≡ Some x) ts)
+
+-- a token that was handed in saw just this schedule at its last step
+abbrev pub SawAtLast : DeskRecord → List PassToken → List StationToken → List Move → Type 0
+SawAtLast d ps ts ms = (d.knows.seen ≡ ms) ⊎ (AnyOf (λ t. t.pass.knows.seen ≡ ms) ps ⊎ AnyOf (λ t. t.station.knows.seen ≡ ms) ts)
+
+-- the schedule goes on from what the token saw
+abbrev pub GoesOn : List Move → List Move → Type 0
+GoesOn ms seen = (later : List Move) × (later ++ seen ≡ ms)
+
+-- the schedule is the longest that a token saw, and goes on from what each other saw
+abbrev pub IsLongest : DeskRecord → List PassToken → List StationToken → List Move → Type 0
+IsLongest d ps ts ms = SawAtLast d ps ts ms × GoesOn ms d.knows.seen × Every (λ t. GoesOn ms t.pass.knows.seen) ps × Every (λ t. GoesOn ms t.station.knows.seen) ts
+
+-- the words say what this schedule makes of the level
+abbrev pub AreOf : GateId → List Move → WordsView → Type 0
+AreOf g ms w = (w.level ≡ level_of g.shape.widths (world_of g.shape ms))
+    × ((r : ℕ) → r < length g.shape.widths → slice_get w.decisions r ≡ Some ((world_of g.shape ms).decision r))
 
 -- the request's own Pass took its seats and wrote execute
 abbrev pub ExecutedIt : ℕ → PassToken → Type 0

@@ -1,6 +1,9 @@
 -- Each clause is a lemma.
-use Rattle.apf_gate.proofs.Ending.{told, cancelled_by_one, cancelled_is_written, cancelled_by_no_other, closed_by_one, closed_is_seen, closed_is_first, closed_by_no_other, settled, executed, refused_as_full, full_was_refused, drained}
+use Rattle.apf_gate.proofs.Ending.{last, told, cancelled_by_one, cancelled_is_written, cancelled_by_no_other, closed_by_one, closed_is_seen, closed_is_first, closed_by_no_other, settled, executed, refused_as_full, full_was_refused, drained}
 use Rattle.apf_gate.proofs.laws.every_end_agrees.Goals as goal
+
+pub returns-clause-last : goal.returns-clause-last
+returns-clause-last c = last
 
 pub returns-clause-told : goal.returns-clause-told
 returns-clause-told c = λ g d ps ts w r x e. told g d ps ts w e r x

@@ -7,6 +7,7 @@ use native.Mathlib.Decide.{ℕ_discrete}
 use Rattle.apf_words.specs.declared.decision.Decision.TheVariants.{Execute, QueueFull, ConcurrencyLimit}
 use Rattle.apf_model.specs.declared.moves.Stage.TheVariants.{Away}
 use Rattle.apf_model.specs.World.{World, put}
+use Rattle.apf_gate.specs.declared.record.Actor.TheVariants.{OfPass, OfDesk, OfStation}
 use Rattle.apf_gate.specs.declared.record.Shape.{Shape}
 use Rattle.apf_gate.specs.declared.record.State.TheVariants.{Over}
 use Rattle.apf_gate.specs.declared.record.Service.{Service}
@@ -63,15 +64,15 @@ module _ (s : Shape) where
   -- what the rule says of the Desk at a seat
   pub record IsAt (t : Table) (h : IsRuled s t) (d : DeskRecord) : Type 0 where
     pub record_is : h.account.desk ≡ d
-    pub known : IsKnown s d.knows h.account.schedule
-    pub request : (r : ℕ) → r < length s.widths → IsRequest s r (h.account.pass r) (service_of d.services r) (world_of s h.account.schedule)
+    pub known : IsKnown s OfDesk d.knows h.account.trace
+    pub request : (r : ℕ) → r < length s.widths → IsRequest s r (h.account.pass r) (service_of d.services r) (world_of s h.account.trace)
     pub holds : HoldsOne d.services d.held
 
   pub is_at_desk : (t : Table) (h : IsRuled s t) (d : DeskRecord) → h.account.desk ≡ d → IsAt t h d
   is_at_desk t h d is = record {
     record_is = is;
-    known = subst (λ (o : DeskRecord). IsKnown s o.knows h.account.schedule) is h.sound.desk_knows;
-    request = subst (λ (o : DeskRecord). (r : ℕ) → r < length s.widths → IsRequest s r (h.account.pass r) (service_of o.services r) (world_of s h.account.schedule)) is h.sound.request;
+    known = subst (λ (o : DeskRecord). IsKnown s OfDesk o.knows h.account.trace) is h.sound.desk_knows;
+    request = subst (λ (o : DeskRecord). (r : ℕ) → r < length s.widths → IsRequest s r (h.account.pass r) (service_of o.services r) (world_of s h.account.trace)) is h.sound.request;
     holds = subst (λ (o : DeskRecord). HoldsOne o.services o.held) is (record { held_is = h.sound.held; is_held = h.sound.is_held });
   }
 

@@ -1,6 +1,7 @@
 pub mod Puts
 pub mod WordNumbers
 pub mod Later
+pub mod Traces
 pub mod Views
 pub mod Sound
 pub mod Packing
@@ -20,3 +21,4 @@ pub mod Gathering
 pub mod NewTokens
 pub mod Numbers
 pub mod Ending
+pub mod Determined

@@ -6,6 +6,8 @@ use mathlib.Core.Option.{some, some-injective, some-ne-none}
 use lib.ListN.{get_elem?}
 use Rattle.atomic_table.specs.Table.{opening}
 use Rattle.apf_words.specs.Level.{packed}
+use Rattle.apf_gate.specs.declared.record.Actor.{Actor}
+use Rattle.apf_gate.specs.declared.record.Actor.TheVariants.{OfPass, OfDesk, OfStation}
 use Rattle.apf_gate.specs.declared.record.Shape.{Shape}
 use Rattle.apf_gate.specs.declared.record.Record.{Record}
 use Rattle.apf_gate.specs.declared.record.Record.TheVariants.{Pass, Desk, Station}
@@ -22,10 +24,10 @@ get_replicated (suc n) (suc k) a = get_replicated n k a
 module _ (s : Shape) where
   -- nothing was done
   abbrev first_account : Account
-  first_account = record { schedule = []; pass = new_pass s; desk = new_desk s; station = new_station s; seat = λ _. 0; canceller = λ _. 0; closer = 0 }
+  first_account = record { trace = []; pass = new_pass s; desk = new_desk s; station = new_station s; seat = λ _. 0 }
 
-  first_known : IsKnown s (new_knowledge s) []
-  first_known = record { shape = refl; closed = λ e. absurd (cc); told = λ r ne. absurd (ne refl); newer = ([], refl) }
+  first_known : (who : Actor) → IsKnown s who (new_knowledge s) []
+  first_known who = record { shape = refl; closed = λ e. absurd (cc); told = λ r ne. absurd (ne refl); newer = ([], refl, tt) }
 
   -- the records that are dealt are the account's
   kept_stations : (n k : ℕ) → k + n ≤ s.stations → Every (IsKeptAt s first_account 0) (stations_from s n k (Desk (new_desk s) ∷ []))
@@ -72,6 +74,7 @@ module _ (s : Shape) where
     account = first_account;
     sound = record {
       schedule = tt;
+      made = tt;
       request = λ r l. record {
         number = refl;
         stage = refl;
@@ -91,26 +94,11 @@ module _ (s : Shape) where
         refused = λ e. absurd e;
         no_room = λ e. absurd (cc);
       };
-      pass_knows = λ r l. first_known;
-      desk_knows = first_known;
-      station_knows = λ k. first_known;
+      pass_knows = λ r l. first_known (OfPass r);
+      desk_knows = first_known OfDesk;
+      station_knows = λ k. first_known (OfStation k);
       held = λ r e. absurd (cc);
       is_held = λ r e. absurd (cc);
-      stations = record {
-        number = λ k. refl;
-        cancelled = λ r e. absurd (cc);
-        canceller_is = λ k r e. absurd (cc);
-        closed = λ e. absurd (cc);
-        closer_is = λ k e. absurd (cc);
-        limit = inl refl;
-        largest = inl refl;
-        is_largest = λ k n e. absurd (cc);
-        opening = omega arith;
-        some_limit = shape.some_limit;
-        limit_small = shape.small_limit;
-        largest_small = shape.small_limit;
-      };
-      last = inl refl;
     };
     packs = record {
       count = ap length is ∙ (length-set (replicate (length s.widths + 1) 0) 0 (s.limit * 1099511627776) ∙ length-replicate (length s.widths + 1) 0);

@@ -15,7 +15,7 @@ use Rattle.apf_gate.specs.declared.record.State.TheVariants.{Fresh, Took, InLine
 use Rattle.apf_gate.specs.declared.record.Service.{Service}
 use Rattle.apf_gate.specs.declared.record.Service.TheVariants.{NotHanded, Handed, Full, Waiting, Held, Settled, Left}
 use Rattle.apf_gate.specs.declared.record.PassRecord.{PassRecord}
-use Rattle.apf_gate.specs.Records.{world_of, level_of, code_in, service_of}
+use Rattle.apf_gate.specs.Records.{moves, world_of, level_of, code_in, service_of}
 use Rattle.apf_gate.specs.Account.{IsRequest, stage_of, stage_of_pass, stage_of_settled, has_entered}
 use Rattle.apf_gate.specs.Steps.{IsInRange}
 use Rattle.apf_gate.specs.Gauges.{IsShape, AreLaws}
@@ -23,6 +23,7 @@ use Rattle.apf_gate.specs.Rule.{Packs, IsRuled}
 use Rattle.apf_gate.proofs.Puts.{put_here, put_else}
 use Rattle.apf_gate.proofs.WordNumbers.{IsSmall}
 use Rattle.apf_gate.proofs.Views.{Table}
+use Rattle.apf_gate.proofs.Traces.{limit_range}
 
 module _ (s : Shape) where
   -- a step that changes no word
@@ -81,18 +82,18 @@ module _ (s : Shape) where
       waiting Left x = refl
 
   -- the numbers of the level word
-  pub level_in_range : IsShape s → AreLaws s → (t : Table) (h : IsRuled s t) → IsInRange (level_of s.widths (world_of s h.account.schedule))
+  pub level_in_range : IsShape s → AreLaws s → (t : Table) (h : IsRuled s t) → IsInRange (level_of s.widths (world_of s h.account.trace))
   level_in_range shape laws t h =
-      let ms = h.account.schedule in
+      let ms = h.account.trace in
       let w = world_of s ms in
       let a = laws.few_wait w in
       let b = shape.few_requests in
-      let c = h.sound.stations.limit_small in
-      let l : w.largest ≤ 20000 = (let z = h.sound.stations.largest_small in omega arith) in
-      let d = laws.bounded ms h.sound.schedule l in record { waiters = omega arith; seats = d; some_limit = h.sound.stations.some_limit; limit = c }
+      let c = limit_range s shape ms h.sound.made in
+      let l : w.largest ≤ 20000 = (let z = c.largest in omega arith) in
+      let d = laws.bounded (moves ms) h.sound.schedule l in record { waiters = omega arith; seats = d; some_limit = c.some; limit = c.limit }
 
-  pub no_queues : AreLaws s → (t : Table) (h : IsRuled s t) → s.response ≡ Reject → waiters s.widths (world_of s h.account.schedule) ≡ 0
-  no_queues laws t h reject = laws.nobody_waits (world_of s h.account.schedule) (λ r l. waits_in_queues (h.account.pass r) (service_of h.account.desk.services r) r (world_of s h.account.schedule) (h.sound.request r l) reject)
+  pub no_queues : AreLaws s → (t : Table) (h : IsRuled s t) → s.response ≡ Reject → waiters s.widths (world_of s h.account.trace) ≡ 0
+  no_queues laws t h reject = laws.nobody_waits (world_of s h.account.trace) (λ r l. waits_in_queues (h.account.pass r) (service_of h.account.desk.services r) r (world_of s h.account.trace) (h.sound.request r l) reject)
 
 pub is_small : (l : Level) → IsInRange l → IsSmall l
 is_small l k = let a = k.waiters in let b = k.seats in let c = k.limit in (omega arith, omega arith, omega arith)

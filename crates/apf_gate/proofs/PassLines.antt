@@ -6,6 +6,7 @@ use Rattle.apf_words.specs.declared.decision.Decision.{Decision}
 use Rattle.apf_words.specs.declared.decision.Decision.TheVariants.{Execute, QueueFull, Closed, Cancelled, ConcurrencyLimit}
 use Rattle.apf_model.specs.declared.moves.Stage.TheVariants.{Away, Stands}
 use Rattle.apf_model.specs.World.{World}
+use Rattle.apf_gate.specs.declared.record.Actor.TheVariants.{OfPass, OfDesk, OfStation}
 use Rattle.apf_gate.specs.declared.record.Shape.{Shape}
 use Rattle.apf_gate.specs.declared.record.State.{State}
 use Rattle.apf_gate.specs.declared.record.State.TheVariants.{Fresh, Took, InLine, Over}
@@ -65,14 +66,14 @@ module _ (s : Shape) where
   -- what the rule says of the Pass at a seat
   pub record IsAt (t : Table) (h : IsRuled s t) (id : ℕ) (p : PassRecord) : Type 0 where
     pub inside : p.number < length s.widths
-    pub request : IsRequest s p.number p (service_of h.account.desk.services p.number) (world_of s h.account.schedule)
-    pub known : IsKnown s p.knows h.account.schedule
+    pub request : IsRequest s p.number p (service_of h.account.desk.services p.number) (world_of s h.account.trace)
+    pub known : IsKnown s (OfPass p.number) p.knows h.account.trace
 
   pub is_at : (t : Table) (h : IsRuled s t) (id : ℕ) (p : PassRecord) → get_elem? t.views id ≡ some (Pass p ∷ []) → IsAt t h id p
   is_at t h id p at = let f = (h.views id (Pass p ∷ []) at).0.0.1 in record {
     inside = f.0;
-    request = subst (λ (o : PassRecord). IsRequest s p.number o (service_of h.account.desk.services p.number) (world_of s h.account.schedule)) f.1 (h.sound.request p.number f.0);
-    known = subst (λ (o : PassRecord). IsKnown s o.knows h.account.schedule) f.1 (h.sound.pass_knows p.number f.0);
+    request = subst (λ (o : PassRecord). IsRequest s p.number o (service_of h.account.desk.services p.number) (world_of s h.account.trace)) f.1 (h.sound.request p.number f.0);
+    known = subst (λ (o : PassRecord). IsKnown s (OfPass p.number) o.knows h.account.trace) f.1 (h.sound.pass_knows p.number f.0);
   }
 
   -- a fresh Pass has not come

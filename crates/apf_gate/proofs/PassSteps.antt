@@ -17,6 +17,9 @@ use Rattle.apf_model.specs.declared.moves.Stage.TheVariants.{Away, Stands, Gone}
 use Rattle.apf_model.specs.World.{World, put, width, seats, waiters, Allowed, FitsIn, MaySee, MayTake}
 use Rattle.apf_model.specs.Schedule.{IsSchedule}
 use Rattle.apf_gate.specs.declared.record.Shape.{Shape}
+use Rattle.apf_gate.specs.declared.record.Actor.{Actor}
+use Rattle.apf_gate.specs.declared.record.Actor.TheVariants.{OfPass, OfDesk, OfStation}
+use Rattle.apf_gate.specs.declared.record.Entry.{Entry}
 use Rattle.apf_gate.specs.declared.record.Knowledge.{Knowledge}
 use Rattle.apf_gate.specs.declared.record.State.{State}
 use Rattle.apf_gate.specs.declared.record.State.TheVariants.{Fresh, Took, InLine, Over}
@@ -25,8 +28,8 @@ use Rattle.apf_gate.specs.declared.record.Service.TheVariants.{NotHanded, Settle
 use Rattle.apf_gate.specs.declared.record.PassRecord.{PassRecord}
 use Rattle.apf_gate.specs.declared.record.Record.{Record}
 use Rattle.apf_gate.specs.declared.record.Record.TheVariants.{Pass}
-use Rattle.apf_gate.specs.Records.{opening_of, world_of, level_of, code_in, told_of, told_own, told_more, service_of, saw_level, saw_decision}
-use Rattle.apf_gate.specs.Account.{Account, IsRequest, IsHanded, IsState, IsKnown, stage_of, stage_of_pass, stage_of_settled}
+use Rattle.apf_gate.specs.Records.{opening_of, entry, moves, world_of, level_of, code_in, told_of, told_own, told_more, service_of, saw_level, saw_decision}
+use Rattle.apf_gate.specs.Account.{Account, IsOfPass, IsRequest, IsHanded, IsState, IsKnown, stage_of, stage_of_pass, stage_of_settled}
 use Rattle.apf_gate.specs.Gauges.{IsShape, AreLaws}
 use Rattle.apf_gate.specs.Rule.{IsRuled}
 use Rattle.apf_gate.specs.Steps.{IsInRange, is_no_room, own_width, looked, Looks, Takes, ByPass, LooksAt, TakesAt, ReleasesAt}
@@ -35,7 +38,7 @@ use Rattle.apf_gate.proofs.Puts.{put_here, put_else}
 use Rattle.apf_gate.proofs.WordNumbers.{packed_same, more_seats, less_seats}
 use Rattle.apf_gate.proofs.Later.{IsLater, same_schedule, one_more}
 use Rattle.apf_gate.proofs.Views.{Table}
-use Rattle.apf_gate.proofs.Sound.{IsSame, stations_same, pass_step}
+use Rattle.apf_gate.proofs.Sound.{IsSame, pass_step}
 use Rattle.apf_gate.proofs.Packing.{packs_same, packs_level, level_in_range, no_queues, is_small}
 use Rattle.apf_gate.proofs.PassLines.{state_same, in_state, not_handed, IsAt, is_at, fresh_away}
 use Rattle.apf_gate.proofs.Rooms.{no_room_true}
@@ -43,20 +46,21 @@ use Rattle.apf_gate.proofs.Knowing.{level_known, level_told}
 
 module _ (s : Shape) where
   -- what a load may add to the schedule
-  abbrev seen : Bool → ℕ → List Move
-  seen b r = if b then See r ∷ [] else []
+  abbrev seen : Bool → ℕ → Option Move
+  seen b r = if b then Some (See r) else None
 
-  record Quiet (ms : List Move) (b : Bool) (r : ℕ) : Type 0 where
-    later : IsLater s ms (seen b r ++ ms)
-    is_schedule : IsSchedule (opening_of s) (seen b r ++ ms)
-    others : (j : ℕ) → j ≢ r → IsSame (world_of s ms) (world_of s (seen b r ++ ms)) j
-    stage : (j : ℕ) → (world_of s (seen b r ++ ms)).stage j ≡ (world_of s ms).stage j
-    decision : (j : ℕ) → (world_of s (seen b r ++ ms)).decision j ≡ (world_of s ms).decision j
-    is_open : (world_of s (seen b r ++ ms)).is_open ≡ (world_of s ms).is_open
-    limit : (world_of s (seen b r ++ ms)).limit ≡ (world_of s ms).limit
-    largest : (world_of s (seen b r ++ ms)).largest ≡ (world_of s ms).largest
-    level : level_of s.widths (world_of s (seen b r ++ ms)) ≡ level_of s.widths (world_of s ms)
-    saw : (x : Bool) → (world_of s ms).saw_no_room r ≡ x → (world_of s (seen b r ++ ms)).saw_no_room r ≡ (x || b)
+  record Quiet (ms : List Entry) (b : Bool) (r : ℕ) : Type 0 where
+    later : IsLater s ms (entry (OfPass r) (seen b r) ∷ ms)
+    made : IsOfPass r (seen b r)
+    is_schedule : IsSchedule (opening_of s) (moves (entry (OfPass r) (seen b r) ∷ ms))
+    others : (j : ℕ) → j ≢ r → IsSame (world_of s ms) (world_of s (entry (OfPass r) (seen b r) ∷ ms)) j
+    stage : (j : ℕ) → (world_of s (entry (OfPass r) (seen b r) ∷ ms)).stage j ≡ (world_of s ms).stage j
+    decision : (j : ℕ) → (world_of s (entry (OfPass r) (seen b r) ∷ ms)).decision j ≡ (world_of s ms).decision j
+    is_open : (world_of s (entry (OfPass r) (seen b r) ∷ ms)).is_open ≡ (world_of s ms).is_open
+    limit : (world_of s (entry (OfPass r) (seen b r) ∷ ms)).limit ≡ (world_of s ms).limit
+    largest : (world_of s (entry (OfPass r) (seen b r) ∷ ms)).largest ≡ (world_of s ms).largest
+    level : level_of s.widths (world_of s (entry (OfPass r) (seen b r) ∷ ms)) ≡ level_of s.widths (world_of s ms)
+    saw : (x : Bool) → (world_of s ms).saw_no_room r ≡ x → (world_of s (entry (OfPass r) (seen b r) ∷ ms)).saw_no_room r ≡ (x || b)
 
   or_false : (x : Bool) → x ≡ (x || false)
   or_false true = refl
@@ -66,9 +70,10 @@ module _ (s : Shape) where
   or_true true = refl
   or_true false = refl
 
-  quiet : (ms : List Move) (b : Bool) (r : ℕ) → IsSchedule (opening_of s) ms → (b ≡ true → MaySee s.widths (world_of s ms) r) → Quiet ms b r
+  quiet : (ms : List Entry) (b : Bool) (r : ℕ) → IsSchedule (opening_of s) (moves ms) → (b ≡ true → MaySee s.widths (world_of s ms) r) → Quiet ms b r
   quiet ms true r legal may = let a = may refl in record {
-    later = one_more s (See r) ms a;
+    later = one_more s (OfPass r) (See r) ms a;
+    made = refl;
     is_schedule = (a, legal);
     others = λ j ne. record { stage = refl; decision = refl; saw = put_else (world_of s ms).saw_no_room r true j ne };
     stage = λ j. refl;
@@ -80,7 +85,8 @@ module _ (s : Shape) where
     saw = λ x e. put_here (world_of s ms).saw_no_room r true ∙ or_true x;
   }
   quiet ms false r legal may = record {
-    later = same_schedule s ms;
+    later = same_schedule s (OfPass r) ms;
+    made = tt;
     is_schedule = legal;
     others = λ j ne. record { stage = refl; decision = refl; saw = refl };
     stage = λ j. refl;
@@ -95,10 +101,10 @@ module _ (s : Shape) where
   module _ (shape : IsShape s) (laws : AreLaws s) where
     -- a fresh Pass that finds no room in the level word may see that
     may_see : (t : Table) (h : IsRuled s t) (p : PassRecord) → p.number < length s.widths → own_width p ≡ width s.widths p.number
-        → (world_of s h.account.schedule).stage p.number ≡ Away
-        → is_no_room (level_of s.widths (world_of s h.account.schedule)) (own_width p) ≡ true → MaySee s.widths (world_of s h.account.schedule) p.number
+        → (world_of s h.account.trace).stage p.number ≡ Away
+        → is_no_room (level_of s.widths (world_of s h.account.trace)) (own_width p) ≡ true → MaySee s.widths (world_of s h.account.trace) p.number
     may_see t h p inside own away e =
-        let w = world_of s h.account.schedule in
+        let w = world_of s h.account.trace in
         let none = no_room_true (level_of s.widths w) (own_width p) e in record {
           is_request = inside;
           is_open = Rattle.std.proofs.lemmas.Bool.not-false w.is_open none.is_open;
@@ -133,23 +139,22 @@ module _ (s : Shape) where
     pub looks : (id slots : ℕ) (p : PassRecord) → p.state ≡ Fresh → Allows (IsRuled s) slots id (Pass p ∷ [], []) 0 (λ n. n) (ByPass LooksAt (Pass p ∷ [], []))
     looks id slots p fresh t h deep at small =
         let g = h.account in
-        let ms = g.schedule in
+        let ms = g.trace in
         let w = world_of s ms in
         let k = is_at s t h id p at in
         let l : Level = level_of s.widths w in
         let b : Bool = is_no_room l (own_width p) in
         let x = quiet ms b p.number h.sound.schedule (may_see t h p k.inside (ap (λ (y : Shape). width y.widths p.number) k.known.shape) (fresh_away s p.number p (service_of g.desk.services p.number) w k.request fresh).0) in
         let own = seen b p.number in
-        let u : Knowledge = saw_level p.knows l (own ++ ms) in
+        let u : Knowledge = saw_level p.knows l (entry (OfPass p.number) own ∷ ms) in
         let q : PassRecord = looked p l u in (
           Pass q ∷ [],
           keeps,
           tt,
-          pass_step s t h id p q 0 (slice_index t.words 0) (own ++ ms) at x.later x.is_schedule refl x.others (packs_same s t.words w (world_of s (own ++ ms)) 0 x.level x.decision h.packs)
-              (request_looked p.number p (service_of g.desk.services p.number) w (world_of s (own ++ ms)) b u refl (x.stage p.number) (x.decision p.number) (x.saw p.saw_no_room k.request.saw) x.later.closed k.request)
-              (level_known s p.knows ms own k.known x.later l refl)
-              (stations_same s g.station g.canceller g.closer w (world_of s (own ++ ms)) x.is_open x.limit x.largest (λ r e. sym (x.decision r) ∙ e) (λ r e. x.decision r ∙ e) h.sound.stations),
-          (refl, (q, refl, (l, h.packs.level, (u, level_told s p.knows ms own k.known x.later l refl x.is_schedule (level_in_range s shape laws t h) (no_queues s laws t h), refl)))),
+          pass_step s t h id p q 0 (slice_index t.words 0) own at x.later x.is_schedule (k.inside, x.made) x.others (packs_same s t.words w (world_of s (entry (OfPass p.number) own ∷ ms)) 0 x.level x.decision h.packs)
+              (request_looked p.number p (service_of g.desk.services p.number) w (world_of s (entry (OfPass p.number) own ∷ ms)) b u refl (x.stage p.number) (x.decision p.number) (x.saw p.saw_no_room k.request.saw) x.later.closed k.request)
+              (level_known s (OfPass p.number) p.knows ms own k.known x.later l refl),
+          (refl, (q, refl, (l, h.packs.level, (u, level_told s (OfPass p.number) p.knows ms own k.known x.later l refl x.is_schedule (level_in_range s shape laws t h) (no_queues s laws t h), refl)))),
         )
 
     abbrev Taken : ℕ → ℕ → ℕ → PassRecord → Table → ℕ → Bool → Type 0
@@ -169,7 +174,7 @@ module _ (s : Shape) where
         r = p.number
 
         w : World
-        w = world_of s h.account.schedule
+        w = world_of s h.account.trace
 
         k : IsAt s t h id p
         k = is_at s t h id p at
@@ -180,7 +185,7 @@ module _ (s : Shape) where
         hit : n ≡ expected → Taken expected new id p t n true
         hit e =
             let g = h.account in
-            let ms = g.schedule in
+            let ms = g.trace in
             let a : Service = service_of g.desk.services r in
             let now : level_of s.widths w ≡ l = packed_same _ _ (is_small _ (level_in_range s shape laws t h)) (is_small l in_range) (sym h.packs.level ∙ (e ∙ said)) in
             let is_open : w.is_open ≡ true = Rattle.std.proofs.lemmas.Bool.not-false w.is_open (ap (λ (x : Level). x.closed) now ∙ opened) in
@@ -189,12 +194,12 @@ module _ (s : Shape) where
             let fits : FitsIn s.widths w r = subst (λ (y : Level × ℕ). Fits y.0.seats y.0.limit y.1) (λ i. (sym now i, own i)) room in
             let away = fresh_away s r p a w k.request fresh in
             let may : MayTake s.widths w r = record { is_request = k.inside; is_open = is_open; has_not_come = away.0; nobody_waits = nobody; fits = fits } in
-            let later = one_more s (Take r) ms may in
+            let later = one_more s (OfPass p.number) (Take r) ms may in
             let m = laws.sums w r Away Stands k.inside away.0 in
-            let w' = world_of s (Take r ∷ ms) in
+            let w' = world_of s (entry (OfPass p.number) (Some (Take r)) ∷ ms) in
             let more : seats s.widths w' ≡ seats s.widths w + width s.widths r = (let x = m.0 in omega arith) in
             let as_many : waiters s.widths w' ≡ waiters s.widths w = (let x = m.1 in omega arith) in
-            let u : Knowledge = saw_level p.knows l (Take r ∷ ms) in
+            let u : Knowledge = saw_level p.knows l (entry (OfPass p.number) (Some (Take r)) ∷ ms) in
             let q : PassRecord = record p { state = Took; took = true; no_room = false; knows = u } in
             let state = in_state s r p a w Fresh k.request fresh in
             let level : new ≡ packed (level_of s.widths w') = sum ∙ (ap (λ y. y + own_width p) (said ∙ ap packed (sym now)) ∙ (ap (λ y. packed (level_of s.widths w) + y) own
@@ -203,7 +208,7 @@ module _ (s : Shape) where
               Pass q ∷ [],
               keeps,
               tt,
-              pass_step s t h id p q 0 new (Take r ∷ ms) at later (may, h.sound.schedule) refl (λ j ne. record { stage = put_else w.stage r Stands j ne; decision = refl; saw = refl })
+              pass_step s t h id p q 0 new (Some (Take r)) at later (may, h.sound.schedule) (k.inside, refl) (λ j ne. record { stage = put_else w.stage r Stands j ne; decision = refl; saw = refl })
                   (packs_level s t.words w w' new level (λ _. refl) h.packs)
                   (record {
                     number = refl;
@@ -224,9 +229,8 @@ module _ (s : Shape) where
                     refused = λ x. absurd (not_refused (w.decision r) refl x);
                     no_room = λ x. absurd (cc);
                   })
-                  (level_known s p.knows ms (Take r ∷ []) k.known later l now)
-                  (stations_same s g.station g.canceller g.closer w w' refl refl refl (λ _ x. x) (λ _ x. x) h.sound.stations),
-              (refl, (q, refl, (l, e ∙ said, (u, level_told s p.knows ms (Take r ∷ []) k.known later l now (may, h.sound.schedule) in_range (λ e. queues (ap (λ (y : Shape). y.response) k.known.shape ∙ e)), state.2, refl)))),
+                  (level_known s (OfPass p.number) p.knows ms (Some (Take r)) k.known later l now),
+              (refl, (q, refl, (l, e ∙ said, (u, level_told s (OfPass p.number) p.knows ms (Some (Take r)) k.known later l now (may, h.sound.schedule) in_range (λ e. queues (ap (λ (y : Shape). y.response) k.known.shape ∙ e)), state.2, refl)))),
             )
           where
             -- a fresh Pass of an open level was not refused
@@ -273,7 +277,7 @@ module _ (s : Shape) where
     pub releases : (id slots : ℕ) (p : PassRecord) (back : ℕ) → MayRelease p → back ≡ own_width p → Allows (IsRuled s) slots id (Pass p ∷ [], []) 0 (λ n. (n + (2 ^ 64 - back)) % 2 ^ 64) (ByPass ReleasesAt (Pass p ∷ [], []))
     releases id slots p back may is_back t h deep at small =
         let g = h.account in
-        let ms = g.schedule in
+        let ms = g.trace in
         let w = world_of s ms in
         let r = p.number in
         let n : ℕ = slice_index t.words 0 in
@@ -281,9 +285,9 @@ module _ (s : Shape) where
         let a : Service = service_of g.desk.services r in
         let x = standing p a w k.request (k.known.told r) may in
         let release : Rattle.apf_model.specs.World.MayRelease s.widths w r = record { is_request = k.inside; is_standing = x.stands; is_decided = x.decided } in
-        let later = one_more s (Release r) ms release in
+        let later = one_more s (OfPass p.number) (Release r) ms release in
         let m = laws.sums w r Stands Gone k.inside x.stands in
-        let w' = world_of s (Release r ∷ ms) in
+        let w' = world_of s (entry (OfPass p.number) (Some (Release r)) ∷ ms) in
         let own : own_width p ≡ width s.widths r = ap (λ (y : Shape). width y.widths r) k.known.shape in
         let less : seats s.widths w' + width s.widths r ≡ seats s.widths w = (let y = m.0 in omega arith) in
         let as_many : waiters s.widths w' ≡ waiters s.widths w = (let y = m.1 in omega arith) in
@@ -296,13 +300,13 @@ module _ (s : Shape) where
         ap (λ y. (n + (2 ^ 64 - y)) % 2 ^ 64) (is_back ∙ own) ∙ (ap (λ y. (y + (2 ^ 64 - width s.widths r)) % 2 ^ 64) shown
         ∙ (less_seats l.closed (waiters s.widths w) (seats s.widths w') w.limit (width s.widths r) (fits.0, subst (λ y. y < 2 ^ 20) (sym less) fits.1, fits.2)
         ∙ (λ i. packed (record { closed = l.closed; waiters = sym as_many i; seats = seats s.widths w'; limit = w.limit })))) in
-        let own_moves : List Move = Release r ∷ [] in
-        let u : Knowledge = saw_level p.knows l (own_moves ++ ms) in
+        let own_moves : Option Move = Some (Release r) in
+        let u : Knowledge = saw_level p.knows l (entry (OfPass p.number) own_moves ∷ ms) in
         let q : PassRecord = record p { state = Over; no_room = false; knows = u } in (
           Pass q ∷ [],
           keeps,
           tt,
-          pass_step s t h id p q 0 new (own_moves ++ ms) at later (release, h.sound.schedule) refl (λ j ne. record { stage = put_else w.stage r Gone j ne; decision = refl; saw = refl })
+          pass_step s t h id p q 0 new own_moves at later (release, h.sound.schedule) (k.inside, refl) (λ j ne. record { stage = put_else w.stage r Gone j ne; decision = refl; saw = refl })
               (packs_level s t.words w w' new level (λ _. refl) h.packs)
               (record {
                 number = refl;
@@ -323,9 +327,8 @@ module _ (s : Shape) where
                 refused = λ y. absurd (let z = sym x.stands ∙ k.request.refused y in cc);
                 no_room = λ y. absurd (cc);
               })
-              (level_known s p.knows ms own_moves k.known later l refl)
-              (stations_same s g.station g.canceller g.closer w w' refl refl refl (λ _ y. y) (λ _ y. y) h.sound.stations),
-          (refl, (q, refl, (l, h.packs.level, (u, level_told s p.knows ms own_moves k.known later l refl (release, h.sound.schedule) range (no_queues s laws t h), refl)))),
+              (level_known s (OfPass p.number) p.knows ms own_moves k.known later l refl),
+          (refl, (q, refl, (l, h.packs.level, (u, level_told s (OfPass p.number) p.knows ms own_moves k.known later l refl (release, h.sound.schedule) range (no_queues s laws t h), refl)))),
         )
       where
         is_over : (o : PassRecord) → IsState o.state o → o.took ≡ true → o.asked ≡ false

@@ -16,6 +16,9 @@ use Rattle.apf_model.specs.declared.response.Response.TheVariants.{Reject}
 use Rattle.apf_model.specs.declared.moves.Stage.TheVariants.{Stands}
 use Rattle.apf_model.specs.World.{World, put, width, seats, waiters, Allowed, FitsIn, MaySee, MayTake}
 use Rattle.apf_gate.specs.declared.record.Shape.{Shape}
+use Rattle.apf_gate.specs.declared.record.Actor.{Actor}
+use Rattle.apf_gate.specs.declared.record.Actor.TheVariants.{OfPass, OfDesk, OfStation}
+use Rattle.apf_gate.specs.declared.record.Entry.{Entry}
 use Rattle.apf_gate.specs.declared.record.Knowledge.{Knowledge}
 use Rattle.apf_gate.specs.declared.record.State.{State}
 use Rattle.apf_gate.specs.declared.record.State.TheVariants.{Fresh, Took, InLine, Over}
@@ -23,7 +26,7 @@ use Rattle.apf_gate.specs.declared.record.Service.{Service}
 use Rattle.apf_gate.specs.declared.record.PassRecord.{PassRecord}
 use Rattle.apf_gate.specs.declared.record.Record.{Record}
 use Rattle.apf_gate.specs.declared.record.Record.TheVariants.{Pass}
-use Rattle.apf_gate.specs.Records.{world_of, code_in, told_of, told_own, told_more, service_of, saw_decision}
+use Rattle.apf_gate.specs.Records.{entry, moves, world_of, code_in, told_of, told_own, told_more, service_of, saw_decision}
 use Rattle.apf_gate.specs.Account.{Account, IsRequest, IsHanded, IsState, IsKnown, stage_of, stage_of_pass, stage_of_settled}
 use Rattle.apf_gate.specs.Gauges.{IsShape, AreLaws}
 use Rattle.apf_gate.specs.Rule.{IsRuled}
@@ -33,7 +36,7 @@ use Rattle.apf_gate.proofs.Puts.{put_here, put_else}
 use Rattle.apf_gate.proofs.WordNumbers.{IsSmall, packed_same, code_same, more_seats, less_seats}
 use Rattle.apf_gate.proofs.Later.{same_schedule, one_more, same_response}
 use Rattle.apf_gate.proofs.Views.{Table}
-use Rattle.apf_gate.proofs.Sound.{stations_same, pass_step}
+use Rattle.apf_gate.proofs.Sound.{pass_step}
 use Rattle.apf_gate.proofs.Packing.{packs_same, packs_decided}
 use Rattle.apf_gate.proofs.PassLines.{state_same, in_state, not_handed, IsAt, is_at, fresh_away, may_tell}
 use Rattle.apf_gate.proofs.Knowing.{decision_known, decision_told}
@@ -41,16 +44,16 @@ use Rattle.apf_gate.proofs.Knowing.{decision_known, decision_told}
 module _ (s : Shape) where
   module _ (shape : IsShape s) (laws : AreLaws s) where
     -- the word of a Pass's request
-    own_word : (t : Table) (h : IsRuled s t) (r : ℕ) → r < length s.widths → slice_index t.words (r + 1) ≡ code_in ((world_of s h.account.schedule).decision r)
+    own_word : (t : Table) (h : IsRuled s t) (r : ℕ) → r < length s.widths → slice_index t.words (r + 1) ≡ code_in ((world_of s h.account.trace).decision r)
     own_word t h r inside = h.packs.decisions r inside
 
     -- execute stays told
-    execute_told : (told : List (ℕ × Decision)) (r : ℕ) (d : Option Decision) → told_of told r ≡ Some Execute → d ≡ Some Execute → told_of (told_more told r d) r ≡ Some Execute
+    pub execute_told : (told : List (ℕ × Decision)) (r : ℕ) (d : Option Decision) → told_of told r ≡ Some Execute → d ≡ Some Execute → told_of (told_more told r d) r ≡ Some Execute
     execute_told told r None was is = was
     execute_told told r (Some x) was is = put_here (told_of told) r (Some x) ∙ is
 
     -- the lines on a Pass that heard of its decision
-    request_heard : (p : PassRecord) (a : Service) (w : World) (u : Knowledge) → (told_own p ≡ Some Execute → told_of u.told p.number ≡ Some Execute) → IsRequest s p.number p a w → IsRequest s p.number (heard p u) a w
+    pub request_heard : (p : PassRecord) (a : Service) (w : World) (u : Knowledge) → (told_own p ≡ Some Execute → told_of u.told p.number ≡ Some Execute) → IsRequest s p.number p a w → IsRequest s p.number (heard p u) a w
     request_heard p a w u stays k = record {
       number = refl;
       stage = k.stage;
@@ -97,25 +100,24 @@ module _ (s : Shape) where
 
     -- a load of the own word, after which the record is q
     loads_own : (id slots : ℕ) (p : PassRecord) (t : Table) (h : IsRuled s t) → get_elem? t.views id ≡ some (Pass p ∷ []) → (q : Knowledge → PassRecord) → ((u : Knowledge) → (q u).knows ≡ u)
-        → ((u : Knowledge) → (told_own p ≡ Some Execute → told_of u.told p.number ≡ Some Execute) → IsRequest s p.number p (service_of h.account.desk.services p.number) (world_of s h.account.schedule) → IsRequest s p.number (q u) (service_of h.account.desk.services p.number) (world_of s h.account.schedule))
+        → ((u : Knowledge) → (told_own p ≡ Some Execute → told_of u.told p.number ≡ Some Execute) → IsRequest s p.number p (service_of h.account.desk.services p.number) (world_of s h.account.trace) → IsRequest s p.number (q u) (service_of h.account.desk.services p.number) (world_of s h.account.trace))
         → (u : Knowledge) × IsRuled s record { words = set t.words (p.number + 1) (slice_index t.words (p.number + 1)); homes = t.homes; views = set t.views id (Pass (q u) ∷ []) }
-        × ((d : Option Decision) × (slice_index t.words (p.number + 1) ≡ code_in d) × SawDecision p.knows p.number d d [] u × MayTell p.state p.wrote d)
+        × ((d : Option Decision) × (slice_index t.words (p.number + 1) ≡ code_in d) × SawDecision (OfPass p.number) p.knows p.number d d None u × MayTell p.state p.wrote d)
     loads_own id slots p t h at q knows request =
         let g = h.account in
-        let ms = g.schedule in
+        let ms = g.trace in
         let w = world_of s ms in
         let r = p.number in
         let k = is_at s t h id p at in
         let d = w.decision r in
-        let x = same_schedule s ms in
-        let u : Knowledge = saw_decision p.knows r d d ms in (
+        let x = same_schedule s (OfPass p.number) ms in
+        let u : Knowledge = saw_decision p.knows r d d (entry (OfPass p.number) None ∷ ms) in (
           u,
-          pass_step s t h id p (q u) (r + 1) (slice_index t.words (r + 1)) ms at x h.sound.schedule (ap (λ (o : Knowledge). o.seen) (knows u)) (λ j ne. record { stage = refl; decision = refl; saw = refl })
+          pass_step s t h id p (q u) (r + 1) (slice_index t.words (r + 1)) None at x h.sound.schedule (k.inside, tt) (λ j ne. record { stage = refl; decision = refl; saw = refl })
               (packs_same s t.words w w (r + 1) refl (λ _. refl) h.packs)
               (request u (λ e. execute_told p.knows.told r d e (k.known.told r (λ none. cc) ∙ e)) k.request)
-              (subst (λ o. IsKnown s o ms) (sym (knows u)) (decision_known s p.knows ms [] k.known x r d d refl (λ _. refl)))
-              h.sound.stations,
-          (d, own_word t h r k.inside, decision_told s p.knows ms [] k.known x r d d refl (λ _. refl) h.sound.schedule, may_tell s r p (service_of g.desk.services r) w k.request),
+              (subst (λ o. IsKnown s (OfPass p.number) o (entry (OfPass p.number) None ∷ ms)) (sym (knows u)) (decision_known s (OfPass p.number) p.knows ms None k.known x r d d refl (λ _. refl))),
+          (d, own_word t h r k.inside, decision_told s (OfPass p.number) p.knows ms None k.known x r d d refl (λ _. refl) h.sound.schedule, may_tell s r p (service_of g.desk.services r) w k.request),
         )
 
     -- a load of the own word
@@ -137,36 +139,23 @@ module _ (s : Shape) where
     pub asks : (id slots : ℕ) (p : PassRecord) → Allows (IsRuled s) slots id (Pass p ∷ [], []) (p.number + 1) (λ n. n) (ByPass AsksAt (Pass p ∷ [], []))
     asks id slots p t h deep at small =
         let x = loads_own id slots p t h at (asked p) (λ _. refl) (λ u stays k. ⊎_elim
-        (λ (e : p.state ≡ Fresh). subst (λ (o : PassRecord). IsRequest s p.number o (service_of h.account.desk.services p.number) (world_of s h.account.schedule)) (λ i. record p { state = asking_state (sym e i); asked = asking (sym e i) p.asked; no_room = false; knows = u }) (request_asked p _ _ u e k))
-        (λ (e : (asking_state p.state ≡ p.state) × ((b : Bool) → asking p.state b ≡ b)). subst (λ (o : PassRecord). IsRequest s p.number o (service_of h.account.desk.services p.number) (world_of s h.account.schedule)) (λ i. record p { state = sym e.0 i; asked = sym (e.1 p.asked) i; no_room = false; knows = u }) (request_heard p _ _ u stays k))
+        (λ (e : p.state ≡ Fresh). subst (λ (o : PassRecord). IsRequest s p.number o (service_of h.account.desk.services p.number) (world_of s h.account.trace)) (λ i. record p { state = asking_state (sym e i); asked = asking (sym e i) p.asked; no_room = false; knows = u }) (request_asked p _ _ u e k))
+        (λ (e : (asking_state p.state ≡ p.state) × ((b : Bool) → asking p.state b ≡ b)). subst (λ (o : PassRecord). IsRequest s p.number o (service_of h.account.desk.services p.number) (world_of s h.account.trace)) (λ i. record p { state = sym e.0 i; asked = sym (e.1 p.asked) i; no_room = false; knows = u }) (request_heard p _ _ u stays k))
         (fresh_or_not p.state)) in
         (Pass (asked p x.0) ∷ [], keeps, tt, x.1, (refl, (asked p x.0, refl, (x.2.0, x.2.1, (x.0, x.2.2, x.2.3, refl)))))
-
-    -- a decision of a request that was undecided, but cancelled, leaves the lines on Stations
-    pub stations_decided : (t : Table) (h : IsRuled s t) (r : ℕ) (d : Decision) → d ≢ Cancelled → (world_of s h.account.schedule).decision r ≡ None
-        → Rattle.apf_gate.specs.Account.AreStations s h.account.station h.account.canceller h.account.closer (world_of s (Decide r d ∷ h.account.schedule))
-    stations_decided t h r d not_cancelled none =
-        let g = h.account in
-        let w = world_of s g.schedule in
-        stations_same s g.station g.canceller g.closer w (world_of s (Decide r d ∷ g.schedule)) refl refl refl
-        (λ j e. dite (ℕ_discrete j r)
-        (λ y. absurd (not_cancelled (Rattle.apf_gate.proofs.WordNumbers.some_same d Cancelled (sym (put_here w.decision r (Some d)) ∙ (ap (put w.decision r (Some d)) (sym y) ∙ e)))))
-        (λ ne. sym (put_else w.decision r (Some d) j ne) ∙ e))
-        (λ j e. put_else w.decision r (Some d) j (λ y. let z = ap w.decision (sym y) ∙ e in absurd (cc)) ∙ e)
-        h.sound.stations
 
     not_refusal : (d : Option Decision) → d ≡ None → Rattle.apf_gate.specs.Account.IsRefusal d → ⊥
     not_refusal d e x = subst Rattle.apf_gate.specs.Account.IsRefusal e x
 
     -- what is so where a Pass may write a decision of an undecided request
     record Writing (t : Table) (h : IsRuled s t) (p : PassRecord) (d : Decision) : Type 0 where
-      may : Rattle.apf_model.specs.World.MayDecide s.widths (world_of s h.account.schedule) p.number d
+      may : Rattle.apf_model.specs.World.MayDecide s.widths (world_of s h.account.trace) p.number d
       other : d ≢ Cancelled
-      request : (u : Knowledge) → IsRequest s p.number (record p { state = deciding_state d p.state; no_room = false; wrote = Some d; knows = u }) (service_of h.account.desk.services p.number) (world_of s (Decide p.number d ∷ h.account.schedule))
+      request : (u : Knowledge) → IsRequest s p.number (record p { state = deciding_state d p.state; no_room = false; wrote = Some d; knows = u }) (service_of h.account.desk.services p.number) (world_of s (entry (OfPass p.number) (Some (Decide p.number d)) ∷ h.account.trace))
 
-    writing : (t : Table) (h : IsRuled s t) (id : ℕ) (p : PassRecord) → IsAt s t h id p → (d : Decision) → MayWrite p d → (world_of s h.account.schedule).decision p.number ≡ None → Writing t h p d
+    writing : (t : Table) (h : IsRuled s t) (id : ℕ) (p : PassRecord) → IsAt s t h id p → (d : Decision) → MayWrite p d → (world_of s h.account.trace).decision p.number ≡ None → Writing t h p d
     writing t h id p k Execute may none =
-        let w = world_of s h.account.schedule in
+        let w = world_of s h.account.trace in
         let r = p.number in
         let a : Service = service_of h.account.desk.services r in
         let f = in_state s r p a w Took k.request may.0 in
@@ -196,7 +185,7 @@ module _ (s : Shape) where
           };
         }
     writing t h id p k Closed may none =
-        let w = world_of s h.account.schedule in
+        let w = world_of s h.account.trace in
         let r = p.number in
         let a : Service = service_of h.account.desk.services r in
         let f = in_state s r p a w Fresh k.request may.0 in
@@ -226,7 +215,7 @@ module _ (s : Shape) where
           };
         }
     writing t h id p k ConcurrencyLimit may none =
-        let w = world_of s h.account.schedule in
+        let w = world_of s h.account.trace in
         let r = p.number in
         let a : Service = service_of h.account.desk.services r in
         let f = in_state s r p a w Fresh k.request may.0 in
@@ -234,7 +223,7 @@ module _ (s : Shape) where
         let reject : s.response ≡ Reject = ap (λ (y : Shape). y.response) (sym k.known.shape) ∙ may.1 in
         let saw : p.saw_no_room ≡ true = k.request.no_room may.2 in
         let here : put w.decision r (Some ConcurrencyLimit) r ≡ Some ConcurrencyLimit = put_here w.decision r (Some ConcurrencyLimit) in record {
-          may = record { is_request = k.inside; is_undecided = none; may_be = (same_response s h.account.schedule ∙ reject, away.0, k.request.saw ∙ saw) };
+          may = record { is_request = k.inside; is_undecided = none; may_be = (same_response s h.account.trace ∙ reject, away.0, k.request.saw ∙ saw) };
           other = λ e. cc;
           request = λ u. record {
             number = refl;
@@ -305,7 +294,7 @@ module _ (s : Shape) where
         n = slice_index t.words (p.number + 1)
 
         w : World
-        w = world_of s h.account.schedule
+        w = world_of s h.account.trace
 
         k : IsAt s t h id p
         k = is_at s t h id p at
@@ -322,22 +311,21 @@ module _ (s : Shape) where
         hit : n ≡ 0 → Decided id p d t n true
         hit e =
             let g = h.account in
-            let ms = g.schedule in
+            let ms = g.trace in
             let r = p.number in
             let none : w.decision r ≡ None = code_same (w.decision r) None (sym (own_word t h r k.inside) ∙ e) in
             let x = writing t h id p k d may none in
-            let own : List Move = Decide r d ∷ [] in
-            let later = one_more s (Decide r d) ms x.may in
-            let now : (world_of s (own ++ ms)).decision r ≡ Some d = put_here w.decision r (Some d) in
-            let u : Knowledge = saw_decision p.knows r None (Some d) (own ++ ms) in
+            let own : Option Move = Some (Decide r d) in
+            let later = one_more s (OfPass p.number) (Decide r d) ms x.may in
+            let now : (world_of s (entry (OfPass p.number) own ∷ ms)).decision r ≡ Some d = put_here w.decision r (Some d) in
+            let u : Knowledge = saw_decision p.knows r None (Some d) (entry (OfPass p.number) own ∷ ms) in
             let q : PassRecord = record p { state = deciding_state d p.state; no_room = false; wrote = Some d; knows = u } in (
               Pass q ∷ [],
               keeps,
               tt,
-              pass_step s t h id p q (r + 1) (code_of d) (own ++ ms) at later (x.may, h.sound.schedule) refl (λ j ne. record { stage = refl; decision = put_else w.decision r (Some d) j ne; saw = refl })
+              pass_step s t h id p q (r + 1) (code_of d) own at later (x.may, h.sound.schedule) (k.inside, (refl, x.other)) (λ j ne. record { stage = refl; decision = put_else w.decision r (Some d) j ne; saw = refl })
                   (packs_decided s t.words w r d k.inside h.packs)
                   (x.request u)
-                  (decision_known s p.knows ms own k.known later r None (Some d) none (λ _. now))
-                  (stations_decided t h r d x.other none),
-              (refl, (q, refl, same_decision (λ c. (e : Option Decision) × (n ≡ code_in e) × Writes p c q) (None, e, (u, decision_told s p.knows ms own k.known later r None (Some d) none (λ _. now) (x.may, h.sound.schedule), refl)))),
+                  (decision_known s (OfPass p.number) p.knows ms own k.known later r None (Some d) none (λ _. now)),
+              (refl, (q, refl, same_decision (λ c. (e : Option Decision) × (n ≡ code_in e) × Writes p c q) (None, e, (u, decision_told s (OfPass p.number) p.knows ms own k.known later r None (Some d) none (λ _. now) (x.may, h.sound.schedule), refl)))),
             )

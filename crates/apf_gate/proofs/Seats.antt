@@ -36,14 +36,13 @@ module _ (s : Shape) where
   still_sound : (g : Account) (x i : ℕ) → IsSound s g → IsSound s (moved g x i)
   still_sound g x i k = record {
     schedule = k.schedule;
+    made = k.made;
     request = k.request;
     pass_knows = k.pass_knows;
     desk_knows = k.desk_knows;
     station_knows = k.station_knows;
     held = k.held;
     is_held = k.is_held;
-    stations = k.stations;
-    last = k.last;
   }
 
   -- a record that another token has stays where it was

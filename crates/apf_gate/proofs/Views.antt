@@ -33,7 +33,7 @@ module _ (s : Shape) where
 
   -- a step that changes one view and one word keeps the rule, if its account is sound and packs the words
   pub kept : (t : Table) (h : IsRuled s t) (id i n : ℕ) (w : List Record) (g' : Account)
-      → AgreeBut id h.account g' → IsView s g' id w → IsSound s g' → Packs s (set t.words i n) (world_of s g'.schedule)
+      → AgreeBut id h.account g' → IsView s g' id w → IsSound s g' → Packs s (set t.words i n) (world_of s g'.trace)
       → IsRuled s record { words = set t.words i n; homes = t.homes; views = set t.views id w }
   kept t h id i n w g' same mine sound packs = record {
     account = g';

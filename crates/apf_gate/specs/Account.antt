@@ -1,14 +1,18 @@
 -- One schedule of the level and one record for each token, which explain the words: the lines of the rule.
-use Rattle.std.specs.Prelude.{◌≡◌, ◌≢◌, ◌⊎◌, ℕ, ◌<◌, ◌≤◌, Bool, true, false, List, ◌++◌, length, Option, Some, None}
+use Rattle.std.specs.Prelude.{◌≡◌, ◌≢◌, ◌⊎◌, ℕ, ◌<◌, ◌≤◌, Bool, true, false, List, [], ◌∷◌, ◌++◌, length, Option, Some, None}
 use Rattle.apf_words.specs.declared.decision.Decision.{Decision}
 use Rattle.apf_words.specs.declared.decision.Decision.TheVariants.{Execute, QueueFull, Closed, Cancelled, ConcurrencyLimit}
 use Rattle.apf_model.specs.declared.moves.Move.{Move}
+use Rattle.apf_model.specs.declared.moves.Move.TheVariants.{Take, Enter, Grant, Leave, Decide, Release, Close, SetLimit, See}
 use Rattle.apf_model.specs.declared.moves.Stage.{Stage}
 use Rattle.apf_model.specs.declared.moves.Stage.TheVariants.{Away, Waits, Stands, Gone}
 use Rattle.apf_model.specs.declared.response.Response.TheVariants.{Queue, Reject}
 use Rattle.apf_model.specs.World.{World, HasNotCome}
 use Rattle.apf_model.specs.Schedule.{IsSchedule}
 use Rattle.apf_gate.specs.declared.record.Shape.{Shape}
+use Rattle.apf_gate.specs.declared.record.Actor.{Actor}
+use Rattle.apf_gate.specs.declared.record.Actor.TheVariants.{OfPass, OfDesk, OfStation}
+use Rattle.apf_gate.specs.declared.record.Entry.{Entry}
 use Rattle.apf_gate.specs.declared.record.Knowledge.{Knowledge}
 use Rattle.apf_gate.specs.declared.record.State.{State}
 use Rattle.apf_gate.specs.declared.record.State.TheVariants.{Fresh, Took, InLine, Over}
@@ -17,19 +21,16 @@ use Rattle.apf_gate.specs.declared.record.Service.{Service}
 use Rattle.apf_gate.specs.declared.record.Service.TheVariants.{NotHanded, Full, Waiting, Held, Settled, Left}
 use Rattle.apf_gate.specs.declared.record.DeskRecord.{DeskRecord}
 use Rattle.apf_gate.specs.declared.record.StationRecord.{StationRecord}
-use Rattle.apf_gate.specs.Records.{opening_of, world_of, told_of, service_of, has, told_own}
+use Rattle.apf_gate.specs.Records.{opening_of, moves, NoneOf, world_of, told_of, service_of, told_own}
 
 pub record Account : Type 0 where
-  pub schedule : List Move
+  -- every counted step of every token, the newest first
+  pub trace : List Entry
   pub pass : ℕ → PassRecord
   pub desk : DeskRecord
   pub station : ℕ → StationRecord
   -- the seat at which each token's record is kept, by the token's number
   pub seat : ℕ → ℕ
-  -- the Station that cancelled a request
-  pub canceller : ℕ → ℕ
-  -- the Station that closed the level
-  pub closer : ℕ
 
 -- where a request stands that the Desk did not enter
 abbrev pub stage_of_pass : State → Bool → Stage
@@ -98,48 +99,68 @@ pub record IsRequest (s : Shape) (r : ℕ) (p : PassRecord) (a : Service) (w : W
   pub refused : IsRefusal (w.decision r) → HasNotCome w r
   pub no_room : p.no_room ≡ true → p.saw_no_room ≡ true
 
--- what a token knows is so
-pub record IsKnown (s : Shape) (t : Knowledge) (ms : List Move) : Type 0 where
+-- what a token knows is so, and no step after its last one is its own
+pub record IsKnown (s : Shape) (who : Actor) (t : Knowledge) (es : List Entry) : Type 0 where
   pub shape : t.shape ≡ s
-  pub closed : t.saw_closed ≡ true → (world_of s ms).is_open ≡ false
-  pub told : (r : ℕ) → told_of t.told r ≢ None → (world_of s ms).decision r ≡ told_of t.told r
-  pub newer : (later : List Move) × (later ++ t.seen ≡ ms)
+  pub closed : t.saw_closed ≡ true → (world_of s es).is_open ≡ false
+  pub told : (r : ℕ) → told_of t.told r ≢ None → (world_of s es).decision r ≡ told_of t.told r
+  pub newer : (later : List Entry) × (later ++ t.trace ≡ es) × NoneOf who later
 
--- the limit was the opening one, or a Station set it
-abbrev pub WasSet : Shape → (ℕ → StationRecord) → ℕ → Type 0
-WasSet s station n = (n ≡ s.limit) ⊎ ((k : ℕ) × (k < s.stations) × (has (station k).limits n ≡ true))
+-- the kinds of move that each token makes
+abbrev pub IsOfPass : ℕ → Option Move → Type 0
+IsOfPass r None = Unit {0}
+IsOfPass r (Some (Take j)) = j ≡ r
+IsOfPass r (Some (Decide j d)) = (j ≡ r) × (d ≢ Cancelled)
+IsOfPass r (Some (Release j)) = j ≡ r
+IsOfPass r (Some (See j)) = j ≡ r
+IsOfPass r (Some (Enter j)) = ⊥
+IsOfPass r (Some (Grant j)) = ⊥
+IsOfPass r (Some (Leave j)) = ⊥
+IsOfPass r (Some Close) = ⊥
+IsOfPass r (Some (SetLimit n)) = ⊥
 
--- the lines on what Stations did
-pub record AreStations (s : Shape) (station : ℕ → StationRecord) (canceller : ℕ → ℕ) (closer : ℕ) (w : World) : Type 0 where
-  pub number : (k : ℕ) → (station k).number ≡ k
-  -- a request is cancelled exactly if one Station, and no other, wrote that
-  pub cancelled : (r : ℕ) → w.decision r ≡ Some Cancelled → (canceller r < s.stations) × (has (station (canceller r)).cancelled r ≡ true)
-  pub canceller_is : (k r : ℕ) → has (station k).cancelled r ≡ true → (w.decision r ≡ Some Cancelled) × (canceller r ≡ k)
-  -- the level is closed exactly if one Station's close, and no other's, was the first
-  pub closed : w.is_open ≡ false → (closer < s.stations) × ((station closer).closed_first ≡ true)
-  pub closer_is : (k : ℕ) → (station k).closed_first ≡ true → (w.is_open ≡ false) × (closer ≡ k)
-  pub limit : WasSet s station w.limit
-  pub largest : WasSet s station w.largest
-  pub is_largest : (k n : ℕ) → has (station k).limits n ≡ true → n ≤ w.largest
-  pub opening : s.limit ≤ w.largest
-  pub some_limit : 1 ≤ w.limit
-  pub limit_small : w.limit ≤ 10000
-  pub largest_small : w.largest ≤ 10000
+abbrev pub IsOfDesk : Option Move → Type 0
+IsOfDesk None = Unit {0}
+IsOfDesk (Some (Enter r)) = Unit {0}
+IsOfDesk (Some (Grant r)) = Unit {0}
+IsOfDesk (Some (Leave r)) = Unit {0}
+IsOfDesk (Some (Decide r d)) = d ≢ Cancelled
+IsOfDesk (Some (Release r)) = Unit {0}
+IsOfDesk (Some (Take r)) = ⊥
+IsOfDesk (Some (See r)) = ⊥
+IsOfDesk (Some Close) = ⊥
+IsOfDesk (Some (SetLimit n)) = ⊥
 
--- the token that stepped last saw the whole schedule
-abbrev pub SawAll : Shape → Account → Type 0
-SawAll s g = (g.desk.knows.seen ≡ g.schedule)
-    ⊎ (((r : ℕ) × (r < length s.widths) × ((g.pass r).knows.seen ≡ g.schedule))
-    ⊎ ((k : ℕ) × (k < s.stations) × ((g.station k).knows.seen ≡ g.schedule)))
+abbrev pub IsOfStation : Option Move → Type 0
+IsOfStation None = Unit {0}
+IsOfStation (Some (Decide r d)) = d ≡ Cancelled
+IsOfStation (Some Close) = Unit {0}
+IsOfStation (Some (SetLimit n)) = (1 ≤ n) × (n ≤ 10000)
+IsOfStation (Some (Take r)) = ⊥
+IsOfStation (Some (Enter r)) = ⊥
+IsOfStation (Some (Grant r)) = ⊥
+IsOfStation (Some (Leave r)) = ⊥
+IsOfStation (Some (Release r)) = ⊥
+IsOfStation (Some (See r)) = ⊥
+
+-- the token is one of this gate, and makes such steps
+abbrev pub MayMake : Shape → Actor → Option Move → Type 0
+MayMake s (OfPass r) m = (r < length s.widths) × IsOfPass r m
+MayMake s OfDesk m = IsOfDesk m
+MayMake s (OfStation k) m = (k < s.stations) × IsOfStation m
+
+-- each step was made by a token of this gate that makes such steps
+abbrev pub AreMade : Shape → List Entry → Type 0
+AreMade s [] = Unit {0}
+AreMade s (x ∷ xs) = MayMake s x.by x.step × AreMade s xs
 
 -- the lines of the rule
 pub record IsSound (s : Shape) (g : Account) : Type 0 where
-  pub schedule : IsSchedule (opening_of s) g.schedule
-  pub request : (r : ℕ) → r < length s.widths → IsRequest s r (g.pass r) (service_of g.desk.services r) (world_of s g.schedule)
-  pub pass_knows : (r : ℕ) → r < length s.widths → IsKnown s (g.pass r).knows g.schedule
-  pub desk_knows : IsKnown s g.desk.knows g.schedule
-  pub station_knows : (k : ℕ) → IsKnown s (g.station k).knows g.schedule
+  pub schedule : IsSchedule (opening_of s) (moves g.trace)
+  pub made : AreMade s g.trace
+  pub request : (r : ℕ) → r < length s.widths → IsRequest s r (g.pass r) (service_of g.desk.services r) (world_of s g.trace)
+  pub pass_knows : (r : ℕ) → r < length s.widths → IsKnown s (OfPass r) (g.pass r).knows g.trace
+  pub desk_knows : IsKnown s OfDesk g.desk.knows g.trace
+  pub station_knows : (k : ℕ) → IsKnown s (OfStation k) (g.station k).knows g.trace
   pub held : (r : ℕ) → g.desk.held ≡ Some r → service_of g.desk.services r ≡ Held
   pub is_held : (r : ℕ) → service_of g.desk.services r ≡ Held → g.desk.held ≡ Some r
-  pub stations : AreStations s g.station g.canceller g.closer (world_of s g.schedule)
-  pub last : SawAll s g

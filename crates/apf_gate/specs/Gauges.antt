@@ -4,9 +4,9 @@ use Rattle.apf_model.specs.declared.moves.Move.{Move}
 use Rattle.apf_model.specs.declared.moves.Stage.{Stage}
 use Rattle.apf_model.specs.declared.response.Response.{Response}
 use Rattle.apf_model.specs.World.{World, put, width, seats, seats_at, waiters, waits_at, IsWaiting, IsStanding}
-use Rattle.apf_model.specs.Schedule.{IsSchedule, AreWidths}
+use Rattle.apf_model.specs.Schedule.{world, IsSchedule, AreWidths}
 use Rattle.apf_gate.specs.declared.record.Shape.{Shape}
-use Rattle.apf_gate.specs.Records.{opening_of, world_of}
+use Rattle.apf_gate.specs.Records.{opening_of}
 
 abbrev pub shape_of : ℕ → Response → List ℕ → ℕ → Shape
 shape_of limit response widths stations = record { limit = limit; response = response; widths = widths; stations = stations }
@@ -27,7 +27,7 @@ pub record AreLaws (s : Shape) : Type 0 where
   pub few_wait : (w : World) → waiters s.widths w ≤ length s.widths
   pub nobody_waits : (w : World) → ((r : ℕ) → r < length s.widths → ¬ IsWaiting w r) → waiters s.widths w ≡ 0
   pub nobody_stands : (w : World) → ((r : ℕ) → r < length s.widths → ¬ IsStanding w r) → seats s.widths w ≡ 0
-  pub bounded : (ms : List Move) → IsSchedule (opening_of s) ms → (world_of s ms).largest ≤ 20000 → seats s.widths (world_of s ms) ≤ 20000
+  pub bounded : (ms : List Move) → IsSchedule (opening_of s) ms → (world (opening_of s) ms).largest ≤ 20000 → seats s.widths (world (opening_of s) ms) ≤ 20000
 
 -- what a gate's fields keep: its table has the words, no slots, and the shape as its key
 pub record IsGate (words slots : ℕ) (key own : Shape) : Type 0 where

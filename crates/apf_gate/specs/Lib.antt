@@ -7,3 +7,4 @@ pub mod Passes
 pub mod Calls
 pub mod Joined
 pub mod Ends
+pub mod Hidden

@@ -1,12 +1,15 @@
 -- What a token knows, and how a step changes it.
-use Rattle.std.specs.Prelude.{ℕ, ◌+◌, ◌||◌, not, Bool, true, false, List, [], ◌∷◌, Option, Some, None}
+use Rattle.std.specs.Prelude.{◌≡◌, ◌≢◌, ◌⊎◌, ℕ, ◌+◌, ◌||◌, not, Bool, true, false, List, [], ◌∷◌, Option, Some, None}
 use Rattle.apf_words.specs.Codes.{code_of}
 use Rattle.apf_words.specs.Level.{Level, packed}
 use Rattle.apf_words.specs.declared.decision.Decision.{Decision}
 use Rattle.apf_model.specs.declared.moves.Move.{Move}
+use Rattle.apf_model.specs.declared.moves.Move.TheVariants.{Close}
 use Rattle.apf_model.specs.World.{Opening, World, put, seats, waiters}
 use Rattle.apf_model.specs.Schedule.{world}
 use Rattle.apf_gate.specs.declared.record.Shape.{Shape}
+use Rattle.apf_gate.specs.declared.record.Actor.{Actor}
+use Rattle.apf_gate.specs.declared.record.Entry.{Entry}
 use Rattle.apf_gate.specs.declared.record.Knowledge.{Knowledge}
 use Rattle.apf_gate.specs.declared.record.State.TheVariants.{Fresh}
 use Rattle.apf_gate.specs.declared.record.PassRecord.{PassRecord}
@@ -19,9 +22,27 @@ use Rattle.apf_gate.specs.declared.record.StationRecord.{StationRecord}
 abbrev pub opening_of : Shape → Opening
 opening_of s = record { limit = s.limit; response = s.response; widths = s.widths }
 
--- the world of a gate of this shape after a schedule
-abbrev pub world_of : Shape → List Move → World
-world_of s ms = world (opening_of s) ms
+-- one step of a token: a move of the model, or none
+abbrev pub entry : Actor → Option Move → Entry
+entry who m = record { by = who; step = m }
+
+abbrev pub move_before : Option Move → List Move → List Move
+move_before None ms = ms
+move_before (Some m) ms = m ∷ ms
+
+-- the schedule of a trace: its moves
+abbrev pub moves : List Entry → List Move
+moves [] = []
+moves (x ∷ xs) = move_before x.step (moves xs)
+
+-- none of these steps is the token's own
+abbrev pub NoneOf : Actor → List Entry → Type 0
+NoneOf who [] = Unit {0}
+NoneOf who (x ∷ xs) = (x.by ≢ who) × NoneOf who xs
+
+-- the world of a gate of this shape after the steps of a trace
+abbrev pub world_of : Shape → List Entry → World
+world_of s es = world (opening_of s) (moves es)
 
 -- what the level word says of a world
 abbrev pub level_of : List ℕ → World → Level
@@ -31,6 +52,16 @@ level_of widths w = record { closed = not w.is_open; waiters = waiters widths w;
 abbrev pub code_in : Option Decision → ℕ
 code_in None = 0
 code_in (Some d) = code_of d
+
+-- the token made this move
+abbrev pub Made : List Entry → Actor → Move → Type 0
+Made [] who m = ⊥
+Made (x ∷ xs) who m = ((x.by ≡ who) × (x.step ≡ Some m)) ⊎ Made xs who m
+
+-- the token closed a level that was open
+abbrev pub MadeFirstClose : Shape → List Entry → Actor → Type 0
+MadeFirstClose s [] who = ⊥
+MadeFirstClose s (x ∷ xs) who = ((x.by ≡ who) × (x.step ≡ Some Close) × ((world_of s xs).is_open ≡ true)) ⊎ MadeFirstClose s xs who
 
 -- what was told of each request
 abbrev pub told_of : List (ℕ × Decision) → ℕ → Option Decision
@@ -42,11 +73,6 @@ abbrev pub service_of : List (ℕ × Service) → ℕ → Service
 service_of [] r = NotHanded
 service_of (x ∷ xs) r = put (service_of xs) x.0 x.1 r
 
--- the number stands in the list
-abbrev pub has : List ℕ → ℕ → Bool
-has [] n = false
-has (x ∷ xs) n = put (has xs) x true n
-
 -- the decision that a Pass was told of its own request
 abbrev pub told_own : PassRecord → Option Decision
 told_own p = told_of p.knows.told p.number
@@ -56,17 +82,17 @@ abbrev pub told_more : List (ℕ × Decision) → ℕ → Option Decision → Li
 told_more told r None = told
 told_more told r (Some d) = (r, d) ∷ told
 
--- a step found this in the level word, and made the schedule this
-abbrev pub saw_level : Knowledge → Level → List Move → Knowledge
-saw_level t l ms = record t { steps = t.steps + 1; last = (0, packed l); before = t.last; saw_closed = t.saw_closed || l.closed; seen = ms }
+-- a step found this in the level word, and made the trace this
+abbrev pub saw_level : Knowledge → Level → List Entry → Knowledge
+saw_level t l es = record t { saw_closed = t.saw_closed || l.closed; trace = es }
 
 -- a step found the word of the request r at d, and knows afterwards that it is at e
-abbrev pub saw_decision : Knowledge → ℕ → Option Decision → Option Decision → List Move → Knowledge
-saw_decision t r d e ms = record t { steps = t.steps + 1; last = (r + 1, code_in d); before = t.last; told = told_more t.told r e; seen = ms }
+abbrev pub saw_decision : Knowledge → ℕ → Option Decision → Option Decision → List Entry → Knowledge
+saw_decision t r d e es = record t { told = told_more t.told r e; trace = es }
 
 -- the records of tokens that made no step
 abbrev pub new_knowledge : Shape → Knowledge
-new_knowledge s = record { shape = s; steps = 0; last = (0, 0); before = (0, 0); saw_closed = false; told = []; seen = [] }
+new_knowledge s = record { shape = s; saw_closed = false; told = []; trace = [] }
 
 abbrev pub new_pass : Shape → ℕ → PassRecord
 new_pass s r = record { number = r; state = Fresh; asked = false; entered = false; took = false; saw_no_room = false; no_room = false; wrote = None; knows = new_knowledge s }
@@ -75,4 +101,4 @@ abbrev pub new_desk : Shape → DeskRecord
 new_desk s = record { services = []; held = None; knows = new_knowledge s }
 
 abbrev pub new_station : Shape → ℕ → StationRecord
-new_station s k = record { number = k; cancelled = []; closed_first = false; limits = []; knows = new_knowledge s }
+new_station s k = record { number = k; knows = new_knowledge s }

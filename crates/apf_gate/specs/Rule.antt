@@ -54,7 +54,7 @@ IsView s g i v = Every (IsKeptAt s g i) v × AreApart v
 pub record IsRuled (s : Shape) (t : State (Unit {0}) (List Record)) : Type 0 where
   pub account : Account
   pub sound : IsSound s account
-  pub packs : Packs s t.words (world_of s account.schedule)
+  pub packs : Packs s t.words (world_of s account.trace)
   pub views : (i : ℕ) (v : List Record) → get_elem? t.views i ≡ some v → IsView s account i v
 
 -- k new Passes, from the request r on, and then the records of these

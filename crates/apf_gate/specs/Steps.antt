@@ -9,6 +9,9 @@ use Rattle.apf_model.specs.declared.moves.Move.TheVariants.{Take, Enter, Grant, 
 use Rattle.apf_model.specs.declared.response.Response.TheVariants.{Reject}
 use Rattle.apf_model.specs.World.{width}
 use Rattle.apf_model.specs.Schedule.{IsSchedule}
+use Rattle.apf_gate.specs.declared.record.Actor.{Actor}
+use Rattle.apf_gate.specs.declared.record.Actor.TheVariants.{OfPass, OfDesk, OfStation}
+use Rattle.apf_gate.specs.declared.record.Entry.{Entry}
 use Rattle.apf_gate.specs.declared.record.Knowledge.{Knowledge}
 use Rattle.apf_gate.specs.declared.record.State.{State}
 use Rattle.apf_gate.specs.declared.record.State.TheVariants.{Fresh, Took, InLine, Over}
@@ -19,7 +22,7 @@ use Rattle.apf_gate.specs.declared.record.DeskRecord.{DeskRecord}
 use Rattle.apf_gate.specs.declared.record.StationRecord.{StationRecord}
 use Rattle.apf_gate.specs.declared.record.Record.{Record}
 use Rattle.apf_gate.specs.declared.record.Record.TheVariants.{Pass, Desk, Station}
-use Rattle.apf_gate.specs.Records.{opening_of, world_of, level_of, code_in, told_of, told_own, service_of, saw_level, saw_decision}
+use Rattle.apf_gate.specs.Records.{opening_of, entry, moves, NoneOf, world_of, level_of, code_in, told_of, told_own, service_of, saw_level, saw_decision}
 use Rattle.apf_gate.specs.Account.{has_entered}
 use Rattle.apf_gate.specs.Rule.{pass_of, desk_of, station_of, without_first}
 use Rattle.atomic_table.specs.Table.{Me}
@@ -31,24 +34,26 @@ pub record IsInRange (l : Level) : Type 0 where
   pub some_limit : 1 ≤ l.limit
   pub limit : l.limit ≤ 10000
 
--- A step on the level word: between two steps of the token others made these, and then the word said this. The token's own step made these
-pub record SawLevel (t : Knowledge) (l : Level) (own : List Move) (u : Knowledge) : Type 0 where
-  pub between : List Move
-  pub found : level_of t.shape.widths (world_of t.shape (between ++ t.seen)) ≡ l
-  pub is_after : u ≡ saw_level t l (own ++ (between ++ t.seen))
-  pub is_schedule : IsSchedule (opening_of t.shape) u.seen
+-- A step of this token on the level word: since its last step others made these, and then the word said this. Its own step stands in front of them
+pub record SawLevel (who : Actor) (t : Knowledge) (l : Level) (own : Option Move) (u : Knowledge) : Type 0 where
+  pub between : List Entry
+  pub of_others : NoneOf who between
+  pub found : level_of t.shape.widths (world_of t.shape (between ++ t.trace)) ≡ l
+  pub is_after : u ≡ saw_level t l (entry who own ∷ (between ++ t.trace))
+  pub is_schedule : IsSchedule (opening_of t.shape) (moves u.trace)
   pub in_range : IsInRange l
   -- nobody waits on a level without queues
   pub no_queues : t.shape.response ≡ Reject → l.waiters ≡ 0
   -- a level that was seen closed is found closed
   pub stays_closed : t.saw_closed ≡ true → l.closed ≡ true
 
--- A step on the word of the request r: it stood at d, and then at e
-pub record SawDecision (t : Knowledge) (r : ℕ) (d e : Option Decision) (own : List Move) (u : Knowledge) : Type 0 where
-  pub between : List Move
-  pub found : (world_of t.shape (between ++ t.seen)).decision r ≡ d
-  pub is_after : u ≡ saw_decision t r d e (own ++ (between ++ t.seen))
-  pub is_schedule : IsSchedule (opening_of t.shape) u.seen
+-- A step of this token on the word of the request r: it stood at d, and then at e
+pub record SawDecision (who : Actor) (t : Knowledge) (r : ℕ) (d e : Option Decision) (own : Option Move) (u : Knowledge) : Type 0 where
+  pub between : List Entry
+  pub of_others : NoneOf who between
+  pub found : (world_of t.shape (between ++ t.trace)).decision r ≡ d
+  pub is_after : u ≡ saw_decision t r d e (entry who own ∷ (between ++ t.trace))
+  pub is_schedule : IsSchedule (opening_of t.shape) (moves u.trace)
   -- a decision that was told is found again
   pub stays : told_of t.told r ≢ None → d ≡ told_of t.told r
 
@@ -69,19 +74,19 @@ abbrev pub looked : PassRecord → Level → Knowledge → PassRecord
 looked p l u = record p { saw_no_room = p.saw_no_room || is_no_room l (own_width p); no_room = is_no_room l (own_width p); knows = u }
 
 -- the step that the model knows of a load
-abbrev pub sees : PassRecord → Level → List Move
-sees p l = if is_no_room l (own_width p) then See p.number ∷ [] else []
+abbrev pub sees : PassRecord → Level → Option Move
+sees p l = if is_no_room l (own_width p) then Some (See p.number) else None
 
 abbrev pub Looks : PassRecord → Level → PassRecord → Type 0
-Looks p l q = (u : Knowledge) × SawLevel p.knows l (sees p l) u × (q ≡ looked p l u)
+Looks p l q = (u : Knowledge) × SawLevel (OfPass p.number) p.knows l (sees p l) u × (q ≡ looked p l u)
 
 -- the exchange took the seats, of a Pass that wrote nothing
 abbrev pub Takes : PassRecord → Level → PassRecord → Type 0
-Takes p l q = (u : Knowledge) × SawLevel p.knows l (Take p.number ∷ []) u × (p.wrote ≡ None) × (q ≡ record p { state = Took; took = true; no_room = false; knows = u })
+Takes p l q = (u : Knowledge) × SawLevel (OfPass p.number) p.knows l (Some (Take p.number)) u × (p.wrote ≡ None) × (q ≡ record p { state = Took; took = true; no_room = false; knows = u })
 
 -- the seats were given back
 abbrev pub Releases : PassRecord → Level → PassRecord → Type 0
-Releases p l q = (u : Knowledge) × SawLevel p.knows l (Release p.number ∷ []) u × (q ≡ record p { state = Over; no_room = false; knows = u })
+Releases p l q = (u : Knowledge) × SawLevel (OfPass p.number) p.knows l (Some (Release p.number)) u × (q ≡ record p { state = Over; no_room = false; knows = u })
 
 -- a load of the request's own word
 abbrev pub heard : PassRecord → Knowledge → PassRecord
@@ -95,7 +100,7 @@ MayTell InLine wrote x = x ≢ Some ConcurrencyLimit
 MayTell Over wrote x = wrote ≢ None → x ≡ wrote
 
 abbrev pub Hears : PassRecord → Option Decision → PassRecord → Type 0
-Hears p d q = (u : Knowledge) × SawDecision p.knows p.number d d [] u × MayTell p.state p.wrote d × (q ≡ heard p u)
+Hears p d q = (u : Knowledge) × SawDecision (OfPass p.number) p.knows p.number d d None u × MayTell p.state p.wrote d × (q ≡ heard p u)
 
 -- a Pass that asks is in line if it was fresh
 abbrev pub asking_state : State → State
@@ -107,7 +112,7 @@ asking Fresh b = true
 asking _ b = b
 
 abbrev pub Asks : PassRecord → Option Decision → PassRecord → Type 0
-Asks p d q = (u : Knowledge) × SawDecision p.knows p.number d d [] u × MayTell p.state p.wrote d × (q ≡ record p { state = asking_state p.state; asked = asking p.state p.asked; no_room = false; knows = u })
+Asks p d q = (u : Knowledge) × SawDecision (OfPass p.number) p.knows p.number d d None u × MayTell p.state p.wrote d × (q ≡ record p { state = asking_state p.state; asked = asking p.state p.asked; no_room = false; knows = u })
 
 -- a Pass that wrote execute, or tried to, holds its seats still. After a refusal it is over
 abbrev pub deciding_state : Decision → State → State
@@ -116,11 +121,11 @@ deciding_state _ f = Over
 
 -- the exchange wrote the decision
 abbrev pub Writes : PassRecord → Decision → PassRecord → Type 0
-Writes p d q = (u : Knowledge) × SawDecision p.knows p.number None (Some d) (Decide p.number d ∷ []) u × (q ≡ record p { state = deciding_state d p.state; no_room = false; wrote = Some d; knows = u })
+Writes p d q = (u : Knowledge) × SawDecision (OfPass p.number) p.knows p.number None (Some d) (Some (Decide p.number d)) u × (q ≡ record p { state = deciding_state d p.state; no_room = false; wrote = Some d; knows = u })
 
 -- the exchange found another decision
 abbrev pub Loses : PassRecord → Decision → Option Decision → PassRecord → Type 0
-Loses p d e q = (u : Knowledge) × SawDecision p.knows p.number e e [] u × MayTell p.state p.wrote e × (q ≡ record p { state = deciding_state d p.state; no_room = false; knows = u })
+Loses p d e q = (u : Knowledge) × SawDecision (OfPass p.number) p.knows p.number e e None u × MayTell p.state p.wrote e × (q ≡ record p { state = deciding_state d p.state; no_room = false; knows = u })
 
 -- what a step of a Pass tells
 abbrev pub ByPass : (PassRecord → ℕ → PassRecord → Type 0) → Me (Unit {0}) (List Record) → ℕ → Me (Unit {0}) (List Record) → Type 0
@@ -156,23 +161,23 @@ DecidesAt p code n q = (d : Decision) → code ≡ code_of d → OfDecision (λ 
 
 -- a Station's load of the level word
 abbrev pub LooksFrom : StationRecord → Level → StationRecord → Type 0
-LooksFrom t l b = (u : Knowledge) × SawLevel t.knows l [] u × (b ≡ record t { knows = u })
+LooksFrom t l b = (u : Knowledge) × SawLevel (OfStation t.number) t.knows l None u × (b ≡ record t { knows = u })
 
 -- a Station's load of the word of r
 abbrev pub Reads : StationRecord → ℕ → Option Decision → StationRecord → Type 0
-Reads t r d b = (u : Knowledge) × SawDecision t.knows r d d [] u × (b ≡ record t { knows = u })
+Reads t r d b = (u : Knowledge) × SawDecision (OfStation t.number) t.knows r d d None u × (b ≡ record t { knows = u })
 
 -- the exchange wrote cancelled
 abbrev pub Cancels : StationRecord → ℕ → StationRecord → Type 0
-Cancels t r b = (u : Knowledge) × SawDecision t.knows r None (Some Cancelled) (Decide r Cancelled ∷ []) u × (b ≡ record t { cancelled = r ∷ t.cancelled; knows = u })
+Cancels t r b = (u : Knowledge) × SawDecision (OfStation t.number) t.knows r None (Some Cancelled) (Some (Decide r Cancelled)) u × (b ≡ record t { knows = u })
 
 -- the level is closed now, and this close was the first if it was open
 abbrev pub Closes : StationRecord → Level → StationRecord → Type 0
-Closes t l b = (u : Knowledge) × SawLevel t.knows l (Close ∷ []) u × (b ≡ record t { closed_first = t.closed_first || not l.closed; knows = record u { saw_closed = true } })
+Closes t l b = (u : Knowledge) × SawLevel (OfStation t.number) t.knows l (Some Close) u × (b ≡ record t { knows = record u { saw_closed = true } })
 
 -- the exchange set the limit
 abbrev pub Sets : StationRecord → Level → ℕ → StationRecord → Type 0
-Sets t l n b = (u : Knowledge) × SawLevel t.knows l (SetLimit n ∷ []) u × (b ≡ record t { limits = n ∷ t.limits; knows = u })
+Sets t l n b = (u : Knowledge) × SawLevel (OfStation t.number) t.knows l (Some (SetLimit n)) u × (b ≡ record t { knows = u })
 
 -- what a step of a Station tells
 abbrev pub ByStation : (StationRecord → ℕ → StationRecord → Type 0) → Me (Unit {0}) (List Record) → ℕ → Me (Unit {0}) (List Record) → Type 0
@@ -208,7 +213,7 @@ served d r x u = record d { services = (r, x) ∷ d.services; knows = u }
 
 -- the Desk's load of the level word
 abbrev pub Views : DeskRecord → Level → DeskRecord → Type 0
-Views d l e = (u : Knowledge) × SawLevel d.knows l [] u × (e ≡ record d { knows = u })
+Views d l e = (u : Knowledge) × SawLevel OfDesk d.knows l None u × (e ≡ record d { knows = u })
 
 -- what the decision of a request may be, by what the Desk did with it
 abbrev pub MaySay : Service → Option Decision → Type 0
@@ -220,23 +225,23 @@ MaySay _ x = (x ≡ None) ⊎ (x ≡ Some Cancelled)
 
 -- the Desk's load of the word of r
 abbrev pub Sees : DeskRecord → ℕ → Option Decision → DeskRecord → Type 0
-Sees d r x e = (u : Knowledge) × SawDecision d.knows r x x [] u × MaySay (service d r) x × (e ≡ record d { knows = u })
+Sees d r x e = (u : Knowledge) × SawDecision OfDesk d.knows r x x None u × MaySay (service d r) x × (e ≡ record d { knows = u })
 
 -- the exchange granted r its seats, which the Desk holds
 abbrev pub Grants : DeskRecord → ℕ → Level → DeskRecord → Type 0
-Grants d r l e = (u : Knowledge) × SawLevel d.knows l (Grant r ∷ []) u × (e ≡ record d { services = (r, Held) ∷ d.services; held = Some r; knows = u })
+Grants d r l e = (u : Knowledge) × SawLevel OfDesk d.knows l (Some (Grant r)) u × (e ≡ record d { services = (r, Held) ∷ d.services; held = Some r; knows = u })
 
 -- the exchange wrote execute of the request that it held
 abbrev pub Settles : DeskRecord → ℕ → DeskRecord → Type 0
-Settles d r e = (u : Knowledge) × SawDecision d.knows r None (Some Execute) (Decide r Execute ∷ []) u × (e ≡ record d { services = (r, Settled) ∷ d.services; held = None; knows = u })
+Settles d r e = (u : Knowledge) × SawDecision OfDesk d.knows r None (Some Execute) (Some (Decide r Execute)) u × (e ≡ record d { services = (r, Settled) ∷ d.services; held = None; knows = u })
 
 -- the seats of the request that it held were given back
 abbrev pub GivesBack : DeskRecord → ℕ → Level → DeskRecord → Type 0
-GivesBack d r l e = (u : Knowledge) × SawLevel d.knows l (Release r ∷ []) u × (e ≡ record d { services = (r, Left) ∷ d.services; held = None; knows = u })
+GivesBack d r l e = (u : Knowledge) × SawLevel OfDesk d.knows l (Some (Release r)) u × (e ≡ record d { services = (r, Left) ∷ d.services; held = None; knows = u })
 
 -- r left the line
 abbrev pub Leaves : DeskRecord → ℕ → Level → DeskRecord → Type 0
-Leaves d r l e = (u : Knowledge) × SawLevel d.knows l (Leave r ∷ []) u × (e ≡ served d r Left u)
+Leaves d r l e = (u : Knowledge) × SawLevel OfDesk d.knows l (Some (Leave r)) u × (e ≡ served d r Left u)
 
 -- what a step of the Desk tells
 abbrev pub ByDesk : (DeskRecord → ℕ → DeskRecord → Type 0) → Me (Unit {0}) (List Record) → ℕ → Me (Unit {0}) (List Record) → Type 0
@@ -262,14 +267,25 @@ GivesBackAt d r n e = OfLevel (λ l. GivesBack d r l e) n
 abbrev pub LeavesAt : DeskRecord → ℕ → ℕ → DeskRecord → Type 0
 LeavesAt d r n e = OfLevel (λ l. Leaves d r l e) n
 
+-- what a joined Pass knows after the Desk's step: its trace, and, of a step on its own word, the decision
+abbrev pub along : PassRecord → Knowledge → Knowledge
+along p u = record p.knows { trace = u.trace }
+
+abbrev pub along_told : PassRecord → Option Decision → Knowledge → Knowledge
+along_told p x u = saw_decision p.knows p.number x x u.trace
+
+-- what the Desk's trace has beyond the Pass's is steps of others
+abbrev pub Ahead : PassRecord → Knowledge → Type 0
+Ahead p u = (later : List Entry) × (later ++ p.knows.trace ≡ u.trace) × NoneOf (OfPass p.number) later
+
 -- A Pass is joined to the Desk. The steps are the Desk's, and the first hands it the request, which did not enter.
 -- the level word was loaded
 abbrev pub Hands : PassRecord → DeskRecord → Level → PassRecord → DeskRecord → Type 0
-Hands p d l q e = (u : Knowledge) × SawLevel d.knows l [] u × (p.entered ≡ false) × (q ≡ p) × (e ≡ served d p.number Handed u)
+Hands p d l q e = (u : Knowledge) × SawLevel OfDesk d.knows l None u × Ahead p u × (p.entered ≡ false) × (q ≡ heard p (along p u)) × (e ≡ served d p.number Handed u)
 
 -- the exchange entered the request
 abbrev pub Enters : PassRecord → DeskRecord → Level → PassRecord → DeskRecord → Type 0
-Enters p d l q e = (u : Knowledge) × SawLevel d.knows l (Enter p.number ∷ []) u × (q ≡ record p { entered = true }) × (e ≡ served d p.number Waiting u)
+Enters p d l q e = (u : Knowledge) × SawLevel OfDesk d.knows l (Some (Enter p.number)) u × Ahead p u × (q ≡ record p { entered = true; no_room = false; knows = along p u }) × (e ≡ served d p.number Waiting u)
 
 -- what a refusal leaves
 abbrev pub refusing : Decision → Service
@@ -278,15 +294,15 @@ refusing _ = Handed
 
 -- the exchange wrote the refusal
 abbrev pub Refuses : PassRecord → DeskRecord → Decision → PassRecord → DeskRecord → Type 0
-Refuses p d x q e = (u : Knowledge) × SawDecision d.knows p.number None (Some x) (Decide p.number x ∷ []) u × (p.entered ≡ false) × (q ≡ p) × (e ≡ served d p.number (refusing x) u)
+Refuses p d x q e = (u : Knowledge) × SawDecision OfDesk d.knows p.number None (Some x) (Some (Decide p.number x)) u × Ahead p u × (p.entered ≡ false) × (q ≡ heard p (along_told p (Some x) u)) × (e ≡ served d p.number (refusing x) u)
 
 -- the exchange found another decision
 abbrev pub Spares : PassRecord → DeskRecord → Option Decision → PassRecord → DeskRecord → Type 0
-Spares p d x q e = (u : Knowledge) × SawDecision d.knows p.number x x [] u × MaySay Handed x × (p.entered ≡ false) × (q ≡ p) × (e ≡ served d p.number Handed u)
+Spares p d x q e = (u : Knowledge) × SawDecision OfDesk d.knows p.number x x None u × MaySay Handed x × Ahead p u × (p.entered ≡ false) × (q ≡ heard p (along_told p x u)) × (e ≡ served d p.number Handed u)
 
 -- the decision word was loaded: it holds what the Pass was told, if it was, and the Pass entered exactly if the Desk entered it. Nothing is handed over
 abbrev pub Learns : PassRecord → DeskRecord → Option Decision → PassRecord → DeskRecord → Type 0
-Learns p d x q e = (q ≡ p) × (told_own p ≢ None → x ≡ told_own p) × (p.entered ≡ has_entered (service d p.number)) × Sees d p.number x e
+Learns p d x q e = (u : Knowledge) × SawDecision OfDesk d.knows p.number x x None u × MaySay (service d p.number) x × Ahead p u × (told_own p ≢ None → x ≡ told_own p) × (p.entered ≡ has_entered (service d p.number)) × (q ≡ heard p (along_told p x u)) × (e ≡ record d { knows = u })
 
 -- what a step of the Desk tells while a Pass is joined to it
 abbrev pub ByBoth : (PassRecord → DeskRecord → ℕ → PassRecord → DeskRecord → Type 0) → Me (Unit {0}) (List Record) → ℕ → Me (Unit {0}) (List Record) → Type 0

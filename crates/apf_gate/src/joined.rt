@@ -37,7 +37,9 @@ impl<A: Allocator> Gate<A> {
         ensures pass { pass_gate pass.new ≡ pass_gate pass.old }
         ensures answer { TriesToEnter pass.old.pass desk.old.desk result pass.new.pass desk.new.desk }
         ensures entered { result ≡ TryEnter.Entered → (pass.new.pass.entered ≡ true) × (service desk.new.desk pass.old.pass.number ≡ Waiting) }
-        ensures same { result ≢ TryEnter.Entered → (pass.new ≡ pass.old) × (pass.old.pass.entered ≡ false) }
+        ensures not_entered { result ≢ TryEnter.Entered → (pass.new.pass.entered ≡ false) × (pass.old.pass.entered ≡ false) }
+        ensures told { told_own pass.new.pass ≡ told_own pass.old.pass }
+        ensures follows { pass.new.pass.knows.trace ≡ desk.new.desk.knows.trace }
         ensures number { pass.new.pass.number ≡ pass.old.pass.number }
         ensures state { pass.new.pass.state ≡ pass.old.pass.state }
         ensures held { desk.new.desk.held ≡ desk.old.desk.held }
@@ -66,7 +68,10 @@ impl<A: Allocator> Gate<A> {
         ensures never_entered { pass.old.pass.entered ≡ false }
         ensures full { result ≡ QueueFull → service desk.new.desk pass.old.pass.number ≡ Full }
         ensures told { told_of desk.new.desk.knows.told pass.old.pass.number ≡ Some result }
-        ensures same { pass.new ≡ pass.old }
+        ensures told_pass { told_own pass.new.pass ≡ Some result }
+        ensures state { pass.new.pass.state ≡ pass.old.pass.state }
+        ensures number { pass.new.pass.number ≡ pass.old.pass.number }
+        ensures follows { pass.new.pass.knows.trace ≡ desk.new.desk.knows.trace }
         ensures held { desk.new.desk.held ≡ desk.old.desk.held }
     {
         let word = pass.number as usize + 1;
@@ -85,7 +90,10 @@ impl<A: Allocator> Gate<A> {
         requires own_desk { desk_gate desk.old ≡ self.now }
         requires own_pass { pass_gate pass.old ≡ self.now }
         ensures desk { desk_gate desk.new ≡ desk_gate desk.old }
-        ensures same { pass.new ≡ pass.old }
+        ensures pass { pass_gate pass.new ≡ pass_gate pass.old }
+        ensures state { pass.new.pass.state ≡ pass.old.pass.state }
+        ensures number { pass.new.pass.number ≡ pass.old.pass.number }
+        ensures follows { pass.new.pass.knows.trace ≡ desk.new.desk.knows.trace }
         ensures answer { (x : Option Decision) × Learns pass.old.pass desk.old.desk x pass.new.pass desk.new.desk }
         ensures told { told_own pass.old.pass ≢ None → told_of desk.new.desk.knows.told pass.old.pass.number ≡ told_own pass.old.pass }
         ensures entered { pass.old.pass.entered ≡ has_entered (service desk.old.desk pass.old.pass.number) }

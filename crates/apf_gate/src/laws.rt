@@ -3,12 +3,13 @@
 ghost use Rattle.std.specs.Prelude.{◌≡◌, ◌≢◌, ◌⊎◌, ℕ, ◌<◌, List, length, slice_get, true, Some, None};
 ghost use Rattle.apf_words.specs.declared.decision.Decision.{Decision};
 ghost use Rattle.apf_words.specs.declared.decision.Decision.TheVariants.{Execute, QueueFull, Cancelled};
-ghost use Rattle.apf_model.specs.declared.moves.Move.{Move};
+ghost use Rattle.apf_gate.specs.declared.record.Entry.{Entry};
 ghost use Rattle.apf_gate.specs.declared.record.DeskRecord.{DeskRecord};
 ghost use Rattle.apf_gate.specs.declared.record.Service.TheVariants.{Full, Waiting, Settled};
 ghost use Rattle.apf_gate.specs.Rule.{Every};
 ghost use Rattle.apf_gate.specs.Steps.{service};
 ghost use Rattle.apf_gate.specs.Calls.{GateId, PassToken, StationToken};
+ghost use Rattle.apf_gate.specs.Hidden.{NothingIsHidden};
 ghost use Rattle.apf_gate.specs.Ends.{WordsView, EndsWith, IsLongest, AreOf, AnyOf, WasTold, ExecutedIt, IsBack, WroteCancelled, ClosedFirst};
 
 use apf_model::every_schedule_is_safe;
@@ -20,7 +21,7 @@ use apf_model::every_schedule_is_safe;
 pub fn every_end_agrees()
     // The words are those of the longest schedule that a token saw: of the token that stepped last.
     ensures last { (g : GateId) (d : DeskRecord) (ps : List PassToken) (ts : List StationToken) (w : WordsView)
-        → EndsWith g d ps ts w → (ms : List Move) × IsLongest d ps ts ms × AreOf g ms w }
+        → EndsWith g d ps ts w → (es : List Entry) × IsLongest g d ps ts es × AreOf g es w }
 
     // A decision that any of its tokens was told is the word's, so two that were told one of the same
     // request were told the same.
@@ -63,4 +64,12 @@ pub fn every_end_agrees()
         → ((r : ℕ) → r < length g.shape.widths → service d r ≢ Waiting) → (w.level.seats ≡ 0) × (w.level.waiters ≡ 0) }
 {
     every_schedule_is_safe();
+}
+
+/// No step of a gate is hidden: between two states under its rule.
+///
+/// It runs no code: the contract is the law.
+pub fn no_step_is_hidden()
+    ensures hidden { NothingIsHidden }
+{
 }

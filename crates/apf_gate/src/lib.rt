@@ -35,7 +35,7 @@ pub use desk::Desk;
 pub use end::Words;
 pub use fault::GateFault;
 pub use gate::Gate;
-pub use laws::every_end_agrees;
+pub use laws::{every_end_agrees, no_step_is_hidden};
 pub use open::Opened;
 pub use pass::Pass;
 pub use station::Station;

@@ -18,22 +18,34 @@ pub struct Shape {
     pub stations: u32,
 }
 
+/// Who makes a step.
+pub enum Actor {
+    /// The Pass of a request.
+    OfPass(u32),
+    /// The Desk.
+    OfDesk,
+    /// A Station.
+    OfStation(u32),
+}
+
+/// One counted step.
+pub struct Entry {
+    /// The token that made it.
+    pub by: Actor,
+    /// The step of the model, if it was one: a load is none.
+    pub step: Option<Move>,
+}
+
 /// What a token learnt by its steps.
 pub struct Knowledge {
     /// The shape of its gate.
     pub shape: Shape,
-    /// How many steps it made.
-    pub steps: u64,
-    /// The word of its last step and the value found there.
-    pub last: (u64, u64),
-    /// The same of the step before.
-    pub before: (u64, u64),
     /// Whether it saw the level closed.
     pub saw_closed: bool,
     /// The decisions that it was told, each with its request. The latest stands first.
     pub told: LinkedList<(u32, Decision)>,
-    /// The schedule of the level at its last step. The newest step stands first.
-    pub seen: LinkedList<Move>,
+    /// Every step of every token up to its own last one. The newest stands first.
+    pub trace: LinkedList<Entry>,
 }
 
 /// What a Pass may do next.
@@ -103,12 +115,6 @@ pub struct DeskRecord {
 pub struct StationRecord {
     /// Its number.
     pub number: u32,
-    /// The requests that it wrote cancelled of.
-    pub cancelled: LinkedList<u32>,
-    /// Whether its close was the first.
-    pub closed_first: bool,
-    /// The limits that it set.
-    pub limits: LinkedList<u32>,
     /// What its steps found.
     pub knows: Knowledge,
 }

@@ -17,7 +17,7 @@ read-requires-clause-level g c =
     let own : Shape = shape_of c.self.inside.gauge.limit c.self.inside.gauge.response c.self.inside.gauge.widths.items c.self.inside.gauge.stations in
     let f = c.close_with.ensures.values.2 in
     let h : IsRuled own f.0 = subst (λ (s : Shape). IsRuled s f.0) i.same_key f.1.0 in
-    (level_of own.widths (world_of own h.account.schedule), ap (λ (ws : List ℕ). slice_index ws 0) (sym f.2) ∙ h.packs.level, level_in_range own i.shape i.laws f.0 h)
+    (level_of own.widths (world_of own h.account.trace), ap (λ (ws : List ℕ). slice_index ws 0) (sym f.2) ∙ h.packs.level, level_in_range own i.shape i.laws f.0 h)
 
 pub read-requires-clause-codes : goal.read-requires-clause-codes
 read-requires-clause-codes g c =
@@ -25,7 +25,7 @@ read-requires-clause-codes g c =
     let own : Shape = shape_of c.self.inside.gauge.limit c.self.inside.gauge.response c.self.inside.gauge.widths.items c.self.inside.gauge.stations in
     let f = c.close_with.ensures.values.2 in
     let h : IsRuled own f.0 = subst (λ (s : Shape). IsRuled s f.0) i.same_key f.1.0 in
-    λ r l. ((world_of own h.account.schedule).decision r, ap (λ (ws : List ℕ). slice_index ws (r + 1)) (sym f.2) ∙ h.packs.decisions r (let n : length own.widths ≡ c.len-count.result = search rules in subst (λ k. r < k) (sym n) l))
+    λ r l. ((world_of own h.account.trace).decision r, ap (λ (ws : List ℕ). slice_index ws (r + 1)) (sym f.2) ∙ h.packs.decisions r (let n : length own.widths ≡ c.len-count.result = search rules in subst (λ k. r < k) (sym n) l))
 
 pub returns : goal.returns
 returns g c =
@@ -40,9 +40,9 @@ returns g c =
     let ended : EndsWith (record { table = c.args.self.table; shape = own }) (desk_of c.desk.inside.seat.me.0) c.args.passes.items c.args.stations.items c.read.result = record {
       account = h.account;
       sound = h.sound;
-      level = c.read.ensures.level (level_of own.widths (world_of own h.account.schedule)) (ap (λ (ws : List ℕ). slice_index ws 0) (sym f.2) ∙ h.packs.level) (level_in_range own i.shape i.laws f.0 h);
+      level = c.read.ensures.level (level_of own.widths (world_of own h.account.trace)) (ap (λ (ws : List ℕ). slice_index ws 0) (sym f.2) ∙ h.packs.level) (level_in_range own i.shape i.laws f.0 h);
       count = c.read.ensures.count ∙ sym n;
-      decided = λ r l. c.read.ensures.decisions r ((world_of own h.account.schedule).decision r) (subst (λ k. r < k) n l) (ap (λ (ws : List ℕ). slice_index ws (r + 1)) (sym f.2) ∙ h.packs.decisions r l);
+      decided = λ r l. c.read.ensures.decisions r ((world_of own h.account.trace).decision r) (subst (λ k. r < k) n l) (ap (λ (ws : List ℕ). slice_index ws (r + 1)) (sym f.2) ∙ h.packs.decisions r l);
       stand = every_map (IsKeptAt own h.account c.gather_stations-seat.result.id) (IsRecord own h.account) all (λ x k. k.1) kept.0;
       apart = kept.1;
       all_passes = c.requires.all_passes ∙ sym (ap (λ (x : GateId). length x.shape.widths) c.self.view_is);

@@ -1,3 +1,4 @@
 pub mod Level
 pub mod Fits
 pub mod Codes
+pub mod Limits

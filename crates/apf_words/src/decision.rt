@@ -3,6 +3,9 @@
 ghost use Rattle.std.specs.Prelude.{◌≡◌, ◌≤◌, ◌↔◌, IsSome, IfSome, Some};
 ghost use Rattle.apf_words.specs.Codes.{code_of};
 
+/// The word of a request that is not decided.
+pub const UNDECIDED: u64 = 0;
+
 /// What was decided of a request, once and for ever.
 ///
 /// Its code in a decision word is 1 to 5 in the order below, and 0 stands for undecided.

@@ -6,10 +6,10 @@ ghost use Rattle.apf_words.specs.Level.{Level, packed, AllBelow20Bits};
 use std::marker::Model;
 
 /// One more than the largest number that a field of the level word holds.
-const FIELD: u64 = 1 << 20;
+pub(crate) const FIELD: u64 = 1 << 20;
 
 /// The place of the waiters.
-const WAITERS: u64 = 1 << 20;
+pub(crate) const WAITERS: u64 = 1 << 20;
 
 /// The place of the limit.
 const LIMIT: u64 = 1 << 40;
@@ -18,7 +18,7 @@ const LIMIT: u64 = 1 << 40;
 const UNUSED: u64 = 1 << 60;
 
 /// The bit of a closed level.
-const CLOSED: u64 = 1 << 63;
+pub(crate) const CLOSED: u64 = 1 << 63;
 
 /// What a level word says: whether the level is closed, how many requests wait, how many seats are
 /// in use, and the limit in seats. Each number is below 2^20.
@@ -27,10 +27,10 @@ const CLOSED: u64 = 1 << 63;
 /// zero, and bit 63 is set if the level is closed.
 #[derive(Clone, Copy, Debug, PartialEq, Eq)]
 pub struct LevelWord {
-    closed: bool,
-    waiters: u32,
-    seats: u32,
-    limit: u32,
+    pub(crate) closed: bool,
+    pub(crate) waiters: u32,
+    pub(crate) seats: u32,
+    pub(crate) limit: u32,
 }
 
 impl Model for LevelWord {

@@ -1,0 +1,18 @@
+-- The limits of a level.
+use Rattle.std.specs.Prelude.{ℕ}
+
+-- the largest limit, in seats
+abbrev pub max_limit : ℕ
+max_limit = 10000
+
+-- the most requests
+abbrev pub max_requests : ℕ
+max_requests = 10000
+
+-- the largest width, in seats, and with it the most seats in use at once
+abbrev pub max_width : ℕ
+max_width = 20000
+
+-- the most Stations
+abbrev pub max_stations : ℕ
+max_stations = 64

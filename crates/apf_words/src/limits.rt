@@ -1,0 +1,14 @@
+//! The limits of a level, each stated once.
+
+/// The largest limit, in seats.
+pub const MAX_LIMIT: u32 = 10_000;
+
+/// The most requests of a level.
+pub const MAX_REQUESTS: u32 = 10_000;
+
+/// The largest width of a request, in seats. No more seats are ever in use at once, since the limit
+/// is smaller and a request that is wider than the limit runs alone.
+pub const MAX_WIDTH: u32 = 20_000;
+
+/// The most Stations of a level.
+pub const MAX_STATIONS: u32 = 64;

@@ -1,5 +1,5 @@
 -- The records of a gate's tokens determine its trace, and so its words: no step is hidden.
-use Rattle.std.proofs.Common.{◌≡◌, ◌≢◌, ◌⊎◌, ℕ, ◌+◌, ◌<◌, List, [], ◌∷◌, ◌++◌, length, Option, Some, None, sym, refl, ap, ◌∙◌, subst, inl, inr, ⊎_elim, arith}
+use Rattle.std.proofs.Common.{◌≡◌, ◌≢◌, ◌⊎◌, ℕ, ◌<◌, List, [], ◌∷◌, ◌++◌, length, Option, sym, refl, ap, ◌∙◌, subst, inl, inr, ⊎_elim, arith}
 use Rattle.std.proofs.lemmas.List.{append_cancel_right, length-append}
 use mathlib.Core.Logic.{dite}
 use native.Mathlib.Decide.{ℕ_discrete}
@@ -8,9 +8,9 @@ use Rattle.apf_gate.specs.declared.record.Shape.{Shape}
 use Rattle.apf_gate.specs.declared.record.Actor.{Actor}
 use Rattle.apf_gate.specs.declared.record.Actor.TheVariants.{OfPass, OfDesk, OfStation}
 use Rattle.apf_gate.specs.declared.record.Entry.{Entry}
-use Rattle.apf_gate.specs.Records.{entry, NoneOf}
-use Rattle.apf_gate.specs.Account.{Account, IsSound, IsKnown, MayMake, AreMade}
-use Rattle.apf_gate.specs.Hidden.{trace_of, IsToken, OthersStay, SaysOneStep}
+use Rattle.apf_gate.specs.Traces.{entry, NoneOf, GoesOn, IsToken, AreMade}
+use Rattle.apf_gate.specs.Account.{Account, IsSound}
+use Rattle.apf_gate.specs.Hidden.{trace_of, OthersStay, AllButJoinedStay, SaysOneStep}
 use Rattle.apf_gate.proofs.Later.{other_pass, other_station}
 
 -- two lists that are each an ending of the other are one
@@ -49,6 +49,10 @@ none_right : (who : Actor) (xs ys : List Entry) → NoneOf who (xs ++ ys) → No
 none_right who [] ys k = k
 none_right who (x ∷ xs) ys k = none_right who xs ys k.1
 
+none_joined : (who : Actor) (xs ys : List Entry) → NoneOf who xs → NoneOf who ys → NoneOf who (xs ++ ys)
+none_joined who [] ys a b = b
+none_joined who (x ∷ xs) ys a b = (a.0, none_joined who xs ys a.1 b)
+
 -- a token whose own step is the newest of the trace saw the whole of it
 newest : (who : Actor) (later saw : List Entry) (m : Entry) (es : List Entry) → later ++ saw ≡ m ∷ es → NoneOf who later → m.by ≡ who → saw ≡ m ∷ es
 newest who [] saw m es is none own = is
@@ -66,19 +70,10 @@ same_actor (OfStation i) OfDesk = inr (λ e. cc)
 same_actor (OfStation i) (OfStation j) = dite (ℕ_discrete i j) (λ e. inl (ap OfStation e)) (λ ne. inr (λ e. other_station j i (λ x. ne (sym x)) e))
 
 module _ (s : Shape) where
-  -- the trace goes on from what a token saw, by steps of others
-  abbrev GoesOn : Account → Actor → Type 0
-  GoesOn g who = (later : List Entry) × (later ++ trace_of g who ≡ g.trace) × NoneOf who later
-
-  known_of : (g : Account) → IsSound s g → (who : Actor) → IsToken s who → GoesOn g who
+  known_of : (g : Account) → IsSound s g → (who : Actor) → IsToken s who → GoesOn g.trace who (trace_of g who)
   known_of g k (OfPass r) in_range = (k.pass_knows r in_range).newer
   known_of g k OfDesk in_range = k.desk_knows.newer
   known_of g k (OfStation j) in_range = (k.station_knows j).newer
-
-  made_in : (who : Actor) (m : Option Move) → MayMake s who m → IsToken s who
-  made_in (OfPass r) m may = may.0
-  made_in OfDesk m may = tt
-  made_in (OfStation k) m may = may.0
 
   -- the maker of the newest step saw the whole trace
   newest_saw : (g : Account) → IsSound s g → (x : Entry) (es : List Entry) → g.trace ≡ x ∷ es → IsToken s x.by → trace_of g x.by ≡ x ∷ es
@@ -88,7 +83,7 @@ module _ (s : Shape) where
   goes_on : (g h : Account) → IsSound s g → IsSound s h → ((who : Actor) → IsToken s who → trace_of h who ≡ trace_of g who) → (es : List Entry) → h.trace ≡ es → AreMade s es → (later : List Entry) × (later ++ es ≡ g.trace)
   goes_on g h a b same [] is made = (g.trace, all_of g.trace)
   goes_on g h a b same (x ∷ es) is made =
-      let i = made_in x.by x.step made.0 in
+      let i = made.0 in
       let l = known_of g a x.by i in (l.0, ap (λ t. l.0 ++ t) (sym (newest_saw h b x es is i) ∙ same x.by i) ∙ l.1)
 
   pub none : (g h : Account) → IsSound s g → IsSound s h → ((who : Actor) → IsToken s who → trace_of h who ≡ trace_of g who) → h.trace ≡ g.trace
@@ -104,9 +99,10 @@ module _ (s : Shape) where
 
   all_own : (who : Actor) (xs ys : List Entry) → AreMade s (xs ++ ys) → ((other : Actor) → IsToken s other → other ≢ who → NoneOf other xs) → AllOf who xs
   all_own who [] ys made others = tt
-  all_own who (x ∷ xs) ys made others =
-      (⊎_elim (λ (e : x.by ≡ who). e) (λ (ne : x.by ≢ who). absurd ((others x.by (made_in x.by x.step made.0) ne).0 refl)) (same_actor x.by who),
-      all_own who xs ys made.1 (λ other i ne. (others other i ne).1))
+  all_own who (x ∷ xs) ys made others = (
+    ⊎_elim (λ (e : x.by ≡ who). e) (λ (ne : x.by ≢ who). absurd ((others x.by made.0 ne).0 refl)) (same_actor x.by who),
+    all_own who xs ys made.2 (λ other i ne. (others other i ne).1),
+  )
 
   -- an ending where one token's steps are all, and none
   no_more : (who : Actor) (xs : List Entry) → AllOf who xs → NoneOf who xs → xs ≡ []
@@ -121,33 +117,53 @@ module _ (s : Shape) where
       let rest = no_more who l own.1 (none_left who l a (subst (NoneOf who) (same_rest (entry who m) y between (l ++ a) is) none_between)) in
       λ i. sym (same_first (entry who m) y between (l ++ a) is) i ∷ rest i
 
+  -- what each token but this one saw goes on by steps of others
+  abbrev OthersGoOn : Actor → Account → Account → Type 0
+  OthersGoOn who g h = (other : Actor) → IsToken s other → other ≢ who → GoesOn (trace_of h other) other (trace_of g other)
+
   -- the new trace goes on from the old one
-  ahead : (g h : Account) (who : Actor) (m : Option Move) → IsSound s g → IsSound s h → IsToken s who → OthersStay s who g h → SaysOneStep who m (trace_of g who) (trace_of h who)
+  ahead : (g h : Account) (who : Actor) (m : Option Move) → IsSound s g → IsSound s h → IsToken s who → OthersGoOn who g h → SaysOneStep who m (trace_of g who) (trace_of h who)
       → (es : List Entry) → g.trace ≡ es → AreMade s es → (l : List Entry) × (l ++ es ≡ h.trace)
-  ahead g h who m a b i stay one [] is made = (h.trace, all_of h.trace)
-  ahead g h who m a b i stay one (x ∷ es) is made =
-      let j = made_in x.by x.step made.0 in
+  ahead g h who m a b i on one [] is made = (h.trace, all_of h.trace)
+  ahead g h who m a b i on one (x ∷ es) is made =
+      let j = made.0 in
       let saw = newest_saw g a x es is j in ⊎_elim
       (λ (e : x.by ≡ who).
-      let k = known_of h b who i in
-      (k.0 ++ (entry who m ∷ one.between),
-      joined k.0 (entry who m ∷ one.between) (x ∷ es) ∙ (ap (λ t. k.0 ++ (entry who m ∷ (one.between ++ t))) (sym saw ∙ ap (trace_of g) e) ∙ (ap (λ t. k.0 ++ t) (sym one.is_after) ∙ k.1))))
-      (λ (ne : x.by ≢ who). let k = known_of h b x.by j in (k.0, ap (λ t. k.0 ++ t) (sym saw ∙ sym (stay x.by j ne)) ∙ k.1))
+      let k = known_of h b who i in (
+        k.0 ++ (entry who m ∷ one.between),
+        joined k.0 (entry who m ∷ one.between) (x ∷ es) ∙ (ap (λ t. k.0 ++ (entry who m ∷ (one.between ++ t))) (sym saw ∙ ap (trace_of g) e) ∙ (ap (λ t. k.0 ++ t) (sym one.is_after) ∙ k.1)),
+      ))
+      (λ (ne : x.by ≢ who).
+      let k = known_of h b x.by j in
+      let z = on x.by j ne in
+      (k.0 ++ z.0, joined k.0 z.0 (x ∷ es) ∙ (ap (λ t. k.0 ++ (z.0 ++ t)) (sym saw) ∙ (ap (λ t. k.0 ++ t) z.1 ∙ k.1))))
       (same_actor x.by who)
 
-  pub one : (g h : Account) (who : Actor) (m : Option Move) → IsSound s g → IsSound s h → IsToken s who → OthersStay s who g h → SaysOneStep who m (trace_of g who) (trace_of h who) → h.trace ≡ entry who m ∷ g.trace
-  one g h who m a b i stay said =
-      let f = ahead g h who m a b i stay said g.trace refl a.made in
+  -- the one step that its token's record says is what stands in front of the old trace
+  one_more : (g h : Account) (who : Actor) (m : Option Move) → IsSound s g → IsSound s h → IsToken s who → OthersGoOn who g h → SaysOneStep who m (trace_of g who) (trace_of h who) → h.trace ≡ entry who m ∷ g.trace
+  one_more g h who m a b i on said =
+      let f = ahead g h who m a b i on said g.trace refl a.made in
       let l = f.0 in
       let own = known_of g a who i in
       let now = known_of h b who i in
       let others : (other : Actor) → IsToken s other → other ≢ who → NoneOf other l = (λ other j ne.
       let x = known_of g a other j in
       let y = known_of h b other j in
-      let same : y.0 ++ trace_of h other ≡ (l ++ x.0) ++ trace_of h other = y.1 ∙ (sym f.1 ∙ (ap (λ t. l ++ t) (sym x.1) ∙ (sym (joined l x.0 (trace_of g other)) ∙ ap (λ t. (l ++ x.0) ++ t) (sym (stay other j ne))))) in
-      none_left other l x.0 (subst (NoneOf other) (append_cancel_right y.0 (l ++ x.0) (trace_of h other) same) y.2)) in
+      let z = on other j ne in
+      let same : (y.0 ++ z.0) ++ trace_of g other ≡ (l ++ x.0) ++ trace_of g other = joined y.0 z.0 (trace_of g other) ∙ (ap (λ t. y.0 ++ t) z.1 ∙ (y.1 ∙ (sym f.1 ∙ (ap (λ t. l ++ t) (sym x.1) ∙ sym (joined l x.0 (trace_of g other)))))) in
+      none_left other l x.0 (subst (NoneOf other) (append_cancel_right (y.0 ++ z.0) (l ++ x.0) (trace_of g other) same) (none_joined other y.0 z.0 y.2 z.2))) in
       let all : AllOf who l = all_own who l g.trace (subst (AreMade s) (sym f.1) b.made) others in
       let split : (now.0 ++ (entry who m ∷ said.between)) ++ trace_of g who ≡ (l ++ own.0) ++ trace_of g who =
       joined now.0 (entry who m ∷ said.between) (trace_of g who) ∙ (ap (λ t. now.0 ++ t) (sym said.is_after) ∙ (now.1 ∙ (sym f.1 ∙ (ap (λ t. l ++ t) (sym own.1) ∙ sym (joined l own.0 (trace_of g who)))))) in
       let is = append_cancel_right (now.0 ++ (entry who m ∷ said.between)) (l ++ own.0) (trace_of g who) split in
       sym f.1 ∙ ap (λ t. t ++ g.trace) (only_step who m l own.0 now.0 said.between is now.2 said.of_others own.2 all)
+
+  pub one : (g h : Account) (who : Actor) (m : Option Move) → IsSound s g → IsSound s h → IsToken s who → OthersStay s who g h → SaysOneStep who m (trace_of g who) (trace_of h who) → h.trace ≡ entry who m ∷ g.trace
+  one g h who m a b i stay said = one_more g h who m a b i (λ other j ne. ([], sym (stay other j ne), tt)) said
+
+  pub both : (g h : Account) (r : ℕ) (m : Option Move) → IsSound s g → IsSound s h → r < length s.widths → AllButJoinedStay s r g h → SaysOneStep OfDesk m (trace_of g OfDesk) (trace_of h OfDesk)
+      → GoesOn (trace_of h OfDesk) (OfPass r) (trace_of g (OfPass r)) → trace_of h (OfPass r) ≡ trace_of h OfDesk → h.trace ≡ entry OfDesk m ∷ g.trace
+  both g h r m a b inside stay said on same = one_more g h OfDesk m a b tt (λ other j ne. ⊎_elim
+      (λ (e : other ≡ OfPass r). subst (λ (o : Actor). GoesOn (trace_of h o) o (trace_of g o)) (sym e) (on.0, on.1 ∙ sym same, on.2))
+      (λ (apart : other ≢ OfPass r). ([], sym (stay other j ne apart), tt))
+      (same_actor other (OfPass r))) said

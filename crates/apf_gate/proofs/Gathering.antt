@@ -1,13 +1,9 @@
 -- Lists of tokens that are taken from their end, and what was found in a closed table.
 use Rattle.std.proofs.Common.{◌≡◌, ℕ, zero, suc, ◌<◌, List, [], ◌∷◌, ◌++◌, get_or, sym, refl, ap, arith}
-use Rattle.std.specs.Prelude.{All, length, slice_get, Some}
+use Rattle.std.specs.Prelude.{length, slice_get, Some}
 use mathlib.Core.Option.{some, some-injective, some-ne-none}
 use lib.ListN.{get_elem?}
 use Rattle.apf_gate.specs.Rule.{Every}
-
-pub every_all : {A : Type 0} (P : A → Type 0) (xs : List A) → All P xs → Every P xs
-every_all P [] a = tt
-every_all P (x ∷ xs) a = (a 0 x (omega arith), every_all P xs (λ k d l. a (suc k) d (omega arith)))
 
 pub every_front : {A : Type 0} (P : A → Type 0) (xs : List A) (x : A) → Every P (xs ++ x ∷ []) → Every P xs
 every_front P [] x e = tt

@@ -1,4 +1,5 @@
--- What a token knows after a step.
+-- What a token knows after a step, and what the step tells it.
+use Rattle.std.specs.Prelude.{◌||◌}
 use Rattle.std.proofs.Common.{◌≡◌, ◌≢◌, ℕ, true, List, [], ◌∷◌, ◌++◌, Option, Some, None, refl, sym, ap, ◌∙◌, subst, ⊎_elim}
 use Rattle.std.proofs.lemmas.Bool.{not-true, not_from_false, or_cases}
 use mathlib.Core.Logic.{dite}
@@ -7,87 +8,92 @@ use Rattle.apf_words.specs.Level.{Level}
 use Rattle.apf_words.specs.declared.decision.Decision.{Decision}
 use Rattle.apf_model.specs.declared.moves.Move.{Move}
 use Rattle.apf_model.specs.declared.response.Response.TheVariants.{Reject}
+use Rattle.apf_model.specs.World.{put}
 use Rattle.apf_model.specs.Schedule.{IsSchedule}
 use Rattle.apf_gate.specs.declared.record.Shape.{Shape}
 use Rattle.apf_gate.specs.declared.record.Actor.{Actor}
 use Rattle.apf_gate.specs.declared.record.Entry.{Entry}
 use Rattle.apf_gate.specs.declared.record.Knowledge.{Knowledge}
-use Rattle.apf_gate.specs.Records.{opening_of, NoneOf, entry, moves, world_of, level_of, told_of, told_more, saw_level, saw_decision}
+use Rattle.apf_gate.specs.Records.{level_of, told_of, told_more, saw_level, saw_decision}
+use Rattle.apf_gate.specs.Traces.{opening_of, entry, moves, world_of, GoesOn}
 use Rattle.apf_gate.specs.Account.{IsKnown}
 use Rattle.apf_gate.specs.Steps.{IsInRange, SawLevel, SawDecision}
 use Rattle.apf_gate.proofs.Puts.{put_here, put_else}
-use Rattle.apf_gate.proofs.Later.{IsLater}
+use Rattle.apf_gate.proofs.Later.{IsNext}
 
--- after a step of this token or of another that it is joined to
-module _ (s : Shape) (who by : Actor) (t : Knowledge) (ms : List Entry) (own : Option Move) (known : IsKnown s who t ms) (later : IsLater s ms (entry by own ∷ ms)) where
-  pub follows : IsKnown s who (record t { trace = entry by own ∷ ms }) (entry by own ∷ ms)
-  follows = record {
-    shape = known.shape;
-    closed = λ c. later.closed (known.closed c);
-    told = λ r some. later.kept r (λ none. some (sym (known.told r some) ∙ none)) ∙ known.told r some;
+-- what the token `who` knows after a step of `by`, which is its own or that of a token that it is joined to
+module _ (s : Shape) (who by : Actor) (known : Knowledge) (es : List Entry) (m : Option Move) (k : IsKnown s who known es) (next : IsNext s by m es) where
+  abbrev now : List Entry
+  now = entry by m ∷ es
+
+  still_told : (r : ℕ) → told_of known.told r ≢ None → (world_of s now).decision r ≡ told_of known.told r
+  still_told r some = next.later.kept r (λ none. some (sym (k.told r some) ∙ none)) ∙ k.told r some
+
+  -- of a step that tells it no decision
+  pub follows : IsKnown s who (record known { trace = now }) now
+  follows = record { shape_is = k.shape_is; closed = λ c. next.later.closed (k.closed c); told = still_told; newer = ([], refl, tt) }
+
+  -- its trace is behind by steps of others
+  pub ahead : by ≢ who → GoesOn now who known.trace
+  ahead other = (entry by m ∷ k.newer.0, ap (λ l. entry by m ∷ l) k.newer.1, (other, k.newer.2))
+
+  told_now : (r : ℕ) (e : Option Decision) → (e ≢ None → (world_of s now).decision r ≡ e) → (j : ℕ) → told_of (told_more known.told r e) j ≢ None → (world_of s now).decision j ≡ told_of (told_more known.told r e) j
+  told_now r None becomes j some = still_told j some
+  told_now r (Some x) becomes j some = dite (ℕ_discrete j r)
+      (λ y. subst (λ z. (world_of s now).decision z ≡ told_of ((r, x) ∷ known.told) z) (sym y) (becomes (λ n. cc) ∙ sym (put_here (told_of known.told) r (Some x))))
+      (λ ne. still_told j (λ none. some (put_else (told_of known.told) r (Some x) j ne ∙ none)) ∙ sym (put_else (told_of known.told) r (Some x) j ne))
+
+  -- of a step on the word of r, which is at e now
+  pub decision_known : (r : ℕ) (e : Option Decision) → (e ≢ None → (world_of s now).decision r ≡ e) → IsKnown s who (saw_decision known r e now) now
+  decision_known r e becomes = record { shape_is = k.shape_is; closed = λ c. next.later.closed (k.closed c); told = told_now r e becomes; newer = ([], refl, tt) }
+
+  -- of a step on the level word, which said l
+  pub level_known : (l : Level) → level_of s.widths (world_of s es) ≡ l → IsKnown s who (saw_level known l now) now
+  level_known l is = record {
+    shape_is = k.shape_is;
+    closed = λ e. next.later.closed (⊎_elim k.closed (λ (c : l.closed ≡ true). not-true _ (ap (λ (x : Level). x.closed) is ∙ c)) (or_cases known.saw_closed l.closed e));
+    told = still_told;
     newer = ([], refl, tt);
   }
 
-  -- its trace is behind by steps of others
-  pub ahead : by ≢ who → (l : List Entry) × (l ++ t.trace ≡ entry by own ∷ ms) × NoneOf who l
-  ahead other = (entry by own ∷ known.newer.0, ap (λ es. entry by own ∷ es) known.newer.1, (other, known.newer.2))
+-- what a step tells its own token
+module _ (s : Shape) (who : Actor) (known : Knowledge) (es : List Entry) (m : Option Move) (k : IsKnown s who known es) (next : IsNext s who m es) where
+  legal_by_own : IsSchedule (opening_of known.shape) (moves (entry who m ∷ es))
+  legal_by_own = subst (λ x. IsSchedule (opening_of x) (moves (entry who m ∷ es))) (sym k.shape_is) next.schedule
 
-  module _ (r : ℕ) (d e : Option Decision) (becomes : e ≢ None → (world_of s (entry by own ∷ ms)).decision r ≡ e) where
-    told_now : (told : List (ℕ × Decision)) → ((j : ℕ) → told_of told j ≢ None → (world_of s (entry by own ∷ ms)).decision j ≡ told_of told j)
-        → (e : Option Decision) → (e ≢ None → (world_of s (entry by own ∷ ms)).decision r ≡ e)
-        → (j : ℕ) → told_of (told_more told r e) j ≢ None → (world_of s (entry by own ∷ ms)).decision j ≡ told_of (told_more told r e) j
-    told_now told before None now j some = before j some
-    told_now told before (Some x) now j some = dite (ℕ_discrete j r)
-        (λ y. subst (λ z. (world_of s (entry by own ∷ ms)).decision z ≡ told_of ((r, x) ∷ told) z) (sym y) (now (λ n. cc) ∙ sym (put_here (told_of told) r (Some x))))
-        (λ ne. before j (λ none. some (put_else (told_of told) r (Some x) j ne ∙ none)) ∙ sym (put_else (told_of told) r (Some x) j ne))
+  goes_on : (newer : List Entry) × (entry who m ∷ es ≡ newer ++ known.trace)
+  goes_on = (entry who m ∷ k.newer.0, ap (λ l. entry who m ∷ l) (sym k.newer.1))
 
-    pub hears_of : IsKnown s who (saw_decision t r d e (entry by own ∷ ms)) (entry by own ∷ ms)
-    hears_of = record {
-      shape = known.shape;
-      closed = λ c. later.closed (known.closed c);
-      told = told_now t.told (λ j some. later.kept j (λ none. some (sym (known.told j some) ∙ none)) ∙ known.told j some) e becomes;
-      newer = ([], refl, tt);
-    }
+  pub level_told : (l : Level) → level_of s.widths (world_of s es) ≡ l → IsInRange l → (s.response ≡ Reject → l.waiters ≡ 0) → SawLevel who known l m (saw_level known l (entry who m ∷ es))
+  level_told l is in_range no_queues = record {
+    between = k.newer.0;
+    of_others = k.newer.2;
+    found = (λ i. level_of (k.shape_is i).widths (world_of (k.shape_is i) (k.newer.1 i))) ∙ is;
+    is_after = ap (λ x. saw_level known l (entry who m ∷ x)) (sym k.newer.1);
+    is_schedule = legal_by_own;
+    in_range = in_range;
+    no_queues = λ e. no_queues (ap (λ (y : Shape). y.response) (sym k.shape_is) ∙ e);
+    stays_closed = λ e. ap (λ (x : Level). x.closed) (sym is) ∙ not_from_false _ (k.closed e);
+    more = record { shape = refl; closed = λ e. ap (λ b. b || l.closed) e; told = λ r some. refl; trace = goes_on };
+  }
 
-module _ (s : Shape) (who : Actor) (t : Knowledge) (ms : List Entry) (own : Option Move) (known : IsKnown s who t ms) (later : IsLater s ms (entry who own ∷ ms)) where
-  -- after a step on the level word
-  module _ (l : Level) (is : level_of s.widths (world_of s ms) ≡ l) where
-    pub level_known : IsKnown s who (saw_level t l (entry who own ∷ ms)) (entry who own ∷ ms)
-    level_known = record {
-      shape = known.shape;
-      closed = λ e. later.closed (⊎_elim known.closed (λ (c : l.closed ≡ true). not-true _ (ap (λ (x : Level). x.closed) is ∙ c)) (or_cases t.saw_closed l.closed e));
-      told = λ r some. later.kept r (λ none. some (sym (known.told r some) ∙ none)) ∙ known.told r some;
-      newer = ([], refl, tt);
-    }
+  -- what is told of one request more, and what was told of the others
+  told_stays : (r : ℕ) (e : Option Decision) → (e ≢ None → (world_of s (entry who m ∷ es)).decision r ≡ e) → (j : ℕ) → told_of known.told j ≢ None → told_of (told_more known.told r e) j ≡ told_of known.told j
+  told_stays r None becomes j some = refl
+  told_stays r (Some x) becomes j some = dite (ℕ_discrete j r)
+      (λ y. ap (put (told_of known.told) r (Some x)) y ∙ (put_here (told_of known.told) r (Some x) ∙ (sym (becomes (λ n. cc)) ∙ (ap (world_of s (entry who m ∷ es)).decision (sym y) ∙ still j some))))
+      (λ ne. put_else (told_of known.told) r (Some x) j ne)
+    where
+      still : (j : ℕ) → told_of known.told j ≢ None → (world_of s (entry who m ∷ es)).decision j ≡ told_of known.told j
+      still j some = next.later.kept j (λ none. some (sym (k.told j some) ∙ none)) ∙ k.told j some
 
-    pub level_told : IsSchedule (opening_of s) (moves (entry who own ∷ ms)) → IsInRange l → (s.response ≡ Reject → l.waiters ≡ 0) → SawLevel who t l own (saw_level t l (entry who own ∷ ms))
-    level_told schedule in_range no_queues = record {
-      between = known.newer.0;
-      of_others = known.newer.2;
-      found = (λ i. level_of (known.shape i).widths (world_of (known.shape i) (known.newer.1 i))) ∙ is;
-      is_after = ap (λ x. saw_level t l (entry who own ∷ x)) (sym known.newer.1);
-      is_schedule = subst (λ x. IsSchedule (opening_of x) (moves (entry who own ∷ ms))) (sym known.shape) schedule;
-      in_range = in_range;
-      no_queues = λ e. no_queues (ap (λ (y : Shape). y.response) (sym known.shape) ∙ e);
-      stays_closed = λ e. ap (λ (x : Level). x.closed) (sym is) ∙ not_from_false _ (known.closed e);
-    }
-
-  -- after a step on the word of r
-  module _ (r : ℕ) (d e : Option Decision) (was : (world_of s ms).decision r ≡ d) (becomes : e ≢ None → (world_of s (entry who own ∷ ms)).decision r ≡ e) where
-    pub decision_known : IsKnown s who (saw_decision t r d e (entry who own ∷ ms)) (entry who own ∷ ms)
-    decision_known = record {
-      shape = known.shape;
-      closed = λ c. later.closed (known.closed c);
-      told = (hears_of s who who t ms own known later r d e becomes).told;
-      newer = ([], refl, tt);
-    }
-
-    pub decision_told : IsSchedule (opening_of s) (moves (entry who own ∷ ms)) → SawDecision who t r d e own (saw_decision t r d e (entry who own ∷ ms))
-    decision_told schedule = record {
-      between = known.newer.0;
-      of_others = known.newer.2;
-      found = (λ i. (world_of (known.shape i) (known.newer.1 i)).decision r) ∙ was;
-      is_after = ap (λ x. saw_decision t r d e (entry who own ∷ x)) (sym known.newer.1);
-      is_schedule = subst (λ x. IsSchedule (opening_of x) (moves (entry who own ∷ ms))) (sym known.shape) schedule;
-      stays = λ some. sym was ∙ known.told r some;
-    }
+  pub decision_told : (r : ℕ) (d e : Option Decision) → (world_of s es).decision r ≡ d → (e ≢ None → (world_of s (entry who m ∷ es)).decision r ≡ e) → SawDecision who known r d e m (saw_decision known r e (entry who m ∷ es))
+  decision_told r d e was becomes = record {
+    between = k.newer.0;
+    of_others = k.newer.2;
+    found_is = (λ i. (world_of (k.shape_is i) (k.newer.1 i)).decision r) ∙ was;
+    is_after = ap (λ x. saw_decision known r e (entry who m ∷ x)) (sym k.newer.1);
+    is_schedule = legal_by_own;
+    stays = λ some. sym was ∙ k.told r some;
+    more = record { shape = refl; closed = λ e. e; told = told_stays r e becomes; trace = goes_on };
+  }

@@ -6,7 +6,8 @@ use Rattle.apf_gate.specs.declared.record.State.TheVariants.{Fresh}
 use mathlib.Core.Logic.{dite}
 use native.Mathlib.Decide.{ℕ_discrete}
 use Rattle.apf_gate.specs.Records.{new_pass, new_station}
-use Rattle.apf_gate.specs.Calls.{GateId, PassToken, StationToken, new_passes, new_stations, pass_gate, station_gate}
+use Rattle.apf_gate.specs.Tokens.{GateId, PassToken, StationToken, pass_gate, station_gate}
+use Rattle.apf_gate.specs.Opens.{new_passes, new_stations}
 use Rattle.apf_gate.proofs.Gathering.{snoc_front, snoc_last}
 
 length_snoc : {A : Type 0} (xs : List A) (x : A) → length (xs ++ x ∷ []) ≡ length xs + 1

@@ -6,7 +6,7 @@ use Rattle.std.proofs.lemmas.Map.Steps.{length-le_from_distinct_below}
 use mathlib.Core.Logic.{dite}
 use native.Mathlib.Decide.{ℕ_discrete}
 use Rattle.apf_gate.specs.Rule.{Every}
-use Rattle.apf_gate.specs.Ends.{AnyOf}
+use Rattle.apf_gate.proofs.Lists.{AnyOf}
 
 -- no two are equal
 abbrev AreDistinct : List ℕ → Type 0

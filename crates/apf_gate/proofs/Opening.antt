@@ -1,5 +1,5 @@
 -- The table at the start, and the tokens that are dealt off its first seat.
-use Rattle.std.proofs.Common.{◌≡◌, ◌≢◌, ℕ, zero, suc, ◌+◌, ◌-◌, ◌*◌, ◌<◌, ◌≤◌, List, [], ◌∷◌, length, get_or, set, replicate, inl, sym, refl, ap, ◌∙◌, subst, arith, length-set, get_or-set_other, get_or-set_same}
+use Rattle.std.proofs.Common.{◌≡◌, ◌≢◌, ℕ, false, zero, suc, ◌+◌, ◌-◌, ◌*◌, ◌<◌, ◌≤◌, List, [], ◌∷◌, length, get_or, set, replicate, inl, sym, refl, ap, ◌∙◌, subst, arith, length-set, get_or-set_other, get_or-set_same}
 use Rattle.std.proofs.lemmas.List.{length-replicate}
 use Rattle.std.specs.Prelude.{slice_index}
 use mathlib.Core.Option.{some, some-injective, some-ne-none}
@@ -11,10 +11,11 @@ use Rattle.apf_gate.specs.declared.record.Actor.TheVariants.{OfPass, OfDesk, OfS
 use Rattle.apf_gate.specs.declared.record.Shape.{Shape}
 use Rattle.apf_gate.specs.declared.record.Record.{Record}
 use Rattle.apf_gate.specs.declared.record.Record.TheVariants.{Pass, Desk, Station}
-use Rattle.apf_gate.specs.Records.{world_of, level_of, new_knowledge, new_pass, new_desk, new_station}
+use Rattle.apf_gate.specs.Records.{level_of, new_knowledge, new_pass, new_desk, new_station}
+use Rattle.apf_gate.specs.Traces.{world_of}
 use Rattle.apf_gate.specs.Account.{Account, IsKnown}
-use Rattle.apf_gate.specs.Gauges.{IsShape, AreLaws}
 use Rattle.apf_gate.specs.Rule.{Every, AreApart, IsKeptAt, IsView, IsRuled, token_of, passes_from, stations_from, opening_stations, opening_records}
+use Rattle.apf_gate.specs.Gauges.{IsShape, AreLaws}
 
 get_replicated : {A : Type 0} (n k : ℕ) (a : A) → get_or (replicate n a) k a ≡ a
 get_replicated zero k a = refl
@@ -27,7 +28,7 @@ module _ (s : Shape) where
   first_account = record { trace = []; pass = new_pass s; desk = new_desk s; station = new_station s; seat = λ _. 0 }
 
   first_known : (who : Actor) → IsKnown s who (new_knowledge s) []
-  first_known who = record { shape = refl; closed = λ e. absurd (cc); told = λ r ne. absurd (ne refl); newer = ([], refl, tt) }
+  first_known who = record { shape_is = refl; closed = λ e. absurd (cc); told = λ r ne. absurd (ne refl); newer = ([], refl, tt) }
 
   -- the records that are dealt are the account's
   kept_stations : (n k : ℕ) → k + n ≤ s.stations → Every (IsKeptAt s first_account 0) (stations_from s n k (Desk (new_desk s) ∷ []))
@@ -69,30 +70,23 @@ module _ (s : Shape) where
   seats zero v e = subst (IsView s first_account 0) (some-injective _ _ e) first_view
   seats (suc i) v e = absurd (some-ne-none v (sym e))
 
-  pub begins : IsShape s → AreLaws s → (words : List ℕ) → words ≡ set (replicate (length s.widths + 1) 0) 0 (s.limit * 1099511627776) → IsRuled s (opening words [] (opening_records s 0))
+  -- the level word as it begins
+  abbrev first_packed : ℕ
+  first_packed = packed (record { closed = false; waiters = 0; seats = 0; limit = s.limit })
+
+  pub begins : IsShape s → AreLaws s → (words : List ℕ) → words ≡ set (replicate (length s.widths + 1) 0) 0 (packed (record { closed = false; waiters = 0; seats = 0; limit = s.limit })) → IsRuled s (opening words [] (opening_records s 0))
   begins shape laws words is = record {
     account = first_account;
     sound = record {
       schedule = tt;
       made = tt;
       request = λ r l. record {
-        number = refl;
+        own = record { state = (refl, refl, refl); wrote = tt; handed = λ e. absurd (cc); queues = λ e. absurd (cc); no_room = λ e. absurd (cc) };
+        tied = record { number = refl; handed = refl; entered = refl };
         stage = refl;
         saw = refl;
-        state = (refl, refl, refl);
-        entered = refl;
-        queues = λ e. absurd (cc);
-        handed = λ ne. absurd (ne refl);
-        wrote = λ ne. absurd (ne refl);
-        took = λ e. absurd (let x = e in cc);
-        executed = λ e. absurd (cc);
-        settled = λ e. absurd (cc);
-        is_full = λ e. absurd (cc);
-        full = λ e. absurd (cc);
+        word = inl refl;
         closed = λ e. absurd (cc);
-        limited = λ e. absurd (cc);
-        refused = λ e. absurd e;
-        no_room = λ e. absurd (cc);
       };
       pass_knows = λ r l. first_known (OfPass r);
       desk_knows = first_known OfDesk;
@@ -101,9 +95,9 @@ module _ (s : Shape) where
       is_held = λ r e. absurd (cc);
     };
     packs = record {
-      count = ap length is ∙ (length-set (replicate (length s.widths + 1) 0) 0 (s.limit * 1099511627776) ∙ length-replicate (length s.widths + 1) 0);
-      level = ap (λ ws. slice_index ws 0) is ∙ (get_or-set_same (replicate (length s.widths + 1) 0) 0 (s.limit * 1099511627776) 0 some_words ∙ first_word);
-      decisions = λ r l. ap (λ ws. slice_index ws (r + 1)) is ∙ (get_or-set_other (replicate (length s.widths + 1) 0) 0 (r + 1) (s.limit * 1099511627776) 0 (λ e. omega arith) ∙ get_replicated (length s.widths + 1) (r + 1) 0);
+      count = ap length is ∙ (length-set (replicate (length s.widths + 1) 0) 0 first_packed ∙ length-replicate (length s.widths + 1) 0);
+      level = ap (λ ws. slice_index ws 0) is ∙ (get_or-set_same (replicate (length s.widths + 1) 0) 0 first_packed 0 some_words ∙ first_word);
+      decisions = λ r l. ap (λ ws. slice_index ws (r + 1)) is ∙ (get_or-set_other (replicate (length s.widths + 1) 0) 0 (r + 1) first_packed 0 (λ e. omega arith) ∙ get_replicated (length s.widths + 1) (r + 1) 0);
     };
     views = seats;
   }
@@ -111,10 +105,11 @@ module _ (s : Shape) where
       some_words : 0 < length {A = ℕ} (replicate (length s.widths + 1) 0)
       some_words = let e : length {A = ℕ} (replicate (length s.widths + 1) 0) ≡ length s.widths + 1 = length-replicate (length s.widths + 1) 0 in omega arith
 
-      first_word : s.limit * 1099511627776 ≡ packed (level_of s.widths (world_of s []))
+      first_word : first_packed ≡ packed (level_of s.widths (world_of s []))
       first_word =
           let a = laws.nobody_waits (world_of s []) (λ r l e. cc) in
-          let b = laws.nobody_stands (world_of s []) (λ r l e. cc) in omega arith
+          let b = laws.nobody_stands (world_of s []) (λ r l e. cc) in
+          λ i. packed (record { closed = false; waiters = sym a i; seats = sym b i; limit = s.limit })
 
   -- one more token is dealt
   pub pass_dealt : (r : ℕ) → r < length s.widths → opening_records s r ≡ Pass (new_pass s r) ∷ opening_records s (r + 1)

@@ -1,27 +1,22 @@
 -- The words as one step changes them.
-use Rattle.std.proofs.Common.{◌≡◌, ℕ, ◌+◌, ◌<◌, ◌≤◌, Bool, true, false, List, length, get_or, set, Some, sym, refl, ap, ◌∙◌, subst, arith, length-set, get_or-set_other, get_or-set_same}
+use Rattle.std.proofs.Common.{◌≡◌, ℕ, ◌+◌, ◌<◌, ◌≤◌, List, length, get_or, set, Some, sym, ap, ◌∙◌, subst, arith, length-set, get_or-set_other, get_or-set_same}
 use mathlib.Core.Logic.{dite}
 use lib.Seq.{set-get_or}
 use native.Mathlib.Decide.{ℕ_discrete}
-use Rattle.apf_words.specs.Codes.{code_of}
+use Rattle.apf_words.specs.Codes.{code_of, code_in}
 use Rattle.apf_words.specs.Level.{Level, packed}
 use Rattle.apf_words.specs.declared.decision.Decision.{Decision}
 use Rattle.apf_model.specs.declared.response.Response.TheVariants.{Reject}
-use Rattle.apf_model.specs.declared.moves.Stage.TheVariants.{Waits}
-use Rattle.apf_model.specs.World.{World, put, waiters, IsWaiting}
+use Rattle.apf_model.specs.World.{World, put, waiters}
 use Rattle.apf_gate.specs.declared.record.Shape.{Shape}
-use Rattle.apf_gate.specs.declared.record.State.{State}
-use Rattle.apf_gate.specs.declared.record.State.TheVariants.{Fresh, Took, InLine, Over}
-use Rattle.apf_gate.specs.declared.record.Service.{Service}
-use Rattle.apf_gate.specs.declared.record.Service.TheVariants.{NotHanded, Handed, Full, Waiting, Held, Settled, Left}
-use Rattle.apf_gate.specs.declared.record.PassRecord.{PassRecord}
-use Rattle.apf_gate.specs.Records.{moves, world_of, level_of, code_in, service_of}
-use Rattle.apf_gate.specs.Account.{IsRequest, stage_of, stage_of_pass, stage_of_settled, has_entered}
-use Rattle.apf_gate.specs.Steps.{IsInRange}
-use Rattle.apf_gate.specs.Gauges.{IsShape, AreLaws}
+use Rattle.apf_gate.specs.Records.{level_of, service}
+use Rattle.apf_gate.specs.Traces.{moves, world_of}
 use Rattle.apf_gate.specs.Rule.{Packs, IsRuled}
+use Rattle.apf_gate.specs.Gauges.{IsShape, AreLaws}
+use Rattle.apf_gate.specs.Steps.{IsInRange}
 use Rattle.apf_gate.proofs.Puts.{put_here, put_else}
 use Rattle.apf_gate.proofs.WordNumbers.{IsSmall}
+use Rattle.apf_gate.proofs.Requests.{waits_in_queues}
 use Rattle.apf_gate.proofs.Views.{Table}
 use Rattle.apf_gate.proofs.Traces.{limit_range}
 
@@ -55,32 +50,6 @@ module _ (s : Shape) where
         (λ ne. get_or-set_other words (r + 1) (j + 1) (code_of d) 0 (λ x. ne (omega arith)) ∙ (k.decisions j l ∙ ap code_in (sym (put_else w.decision r (Some d) j ne))));
   }
 
-  -- a request waits only on a level with queues
-  waits_in_queues : (p : PassRecord) (a : Service) (r : ℕ) (w : World) → IsRequest s r p a w → s.response ≡ Reject → ¬ IsWaiting w r
-  waits_in_queues p a r w k reject e = absurd (let x = k.queues (k.entered ∙ waiting a (sym k.stage ∙ e)) in cc)
-    where
-      of_pass : (f : State) (took : Bool) → stage_of_pass f took ≡ Waits → ⊥
-      of_pass Fresh took x = cc
-      of_pass Took took x = cc
-      of_pass InLine took x = cc
-      of_pass Over true x = cc
-      of_pass Over false x = cc
-
-      of_settled : (f : State) → stage_of_settled f ≡ Waits → ⊥
-      of_settled Fresh x = cc
-      of_settled Took x = cc
-      of_settled InLine x = cc
-      of_settled Over x = cc
-
-      waiting : (a : Service) → stage_of p a ≡ Waits → has_entered a ≡ true
-      waiting NotHanded x = absurd (of_pass p.state p.took x)
-      waiting Handed x = absurd (of_pass p.state p.took x)
-      waiting Full x = absurd (of_pass p.state p.took x)
-      waiting Waiting x = refl
-      waiting Held x = refl
-      waiting Settled x = refl
-      waiting Left x = refl
-
   -- the numbers of the level word
   pub level_in_range : IsShape s → AreLaws s → (t : Table) (h : IsRuled s t) → IsInRange (level_of s.widths (world_of s h.account.trace))
   level_in_range shape laws t h =
@@ -93,7 +62,7 @@ module _ (s : Shape) where
       let d = laws.bounded (moves ms) h.sound.schedule l in record { waiters = omega arith; seats = d; some_limit = c.some; limit = c.limit }
 
   pub no_queues : AreLaws s → (t : Table) (h : IsRuled s t) → s.response ≡ Reject → waiters s.widths (world_of s h.account.trace) ≡ 0
-  no_queues laws t h reject = laws.nobody_waits (world_of s h.account.trace) (λ r l. waits_in_queues (h.account.pass r) (service_of h.account.desk.services r) r (world_of s h.account.trace) (h.sound.request r l) reject)
+  no_queues laws t h reject = laws.nobody_waits (world_of s h.account.trace) (λ r l. waits_in_queues s r (h.account.pass r) (service h.account.desk r) (world_of s h.account.trace) (h.sound.request r l) reject)
 
 pub is_small : (l : Level) → IsInRange l → IsSmall l
 is_small l k = let a = k.waiters in let b = k.seats in let c = k.limit in (omega arith, omega arith, omega arith)

@@ -4,7 +4,7 @@ use Rattle.std.specs.Prelude.{◌||◌, ◌&&◌, not, nat_le, ◌==◌}
 use Rattle.std.proofs.lemmas.Bool.{leb-true, le-leb, eqb-true, not-true, not_from_false, false_from_ne_true, cases_lt, or_cases, or_right}
 use Rattle.apf_words.specs.Fits.{Fits}
 use Rattle.apf_words.specs.Level.{Level}
-use Rattle.apf_gate.specs.Steps.{has_room, is_no_room}
+use Rattle.apf_gate.specs.PassSteps.{has_room, is_no_room}
 
 pub both_true : (a b : Bool) → (a && b) ≡ true → (a ≡ true) × (b ≡ true)
 both_true true b e = (refl, e)

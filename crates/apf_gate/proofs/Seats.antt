@@ -9,13 +9,9 @@ use Rattle.apf_gate.specs.declared.record.Shape.{Shape}
 use Rattle.apf_gate.specs.declared.record.Record.{Record}
 use Rattle.apf_gate.specs.declared.record.Record.TheVariants.{Pass, Desk, Station}
 use Rattle.apf_gate.specs.Account.{Account, IsSound}
-use Rattle.apf_gate.specs.Rule.{Every, token_of, IsRecord, IsKeptAt, IsView, IsRuled, without_first, first_alone}
+use Rattle.apf_gate.specs.Rule.{token_of, IsRecord, IsKeptAt, IsView, IsRuled, without_first, first_alone}
 use Rattle.apf_gate.proofs.Puts.{put_here, put_else}
-use Rattle.apf_gate.proofs.Views.{every_map}
-
-every_both : {A : Type 0} (P Q R : A → Type 0) (xs : List A) → ((x : A) → P x → Q x → R x) → Every P xs → Every Q xs → Every R xs
-every_both P Q R [] f a b = a
-every_both P Q R (x ∷ xs) f a b = (f x a.0 b.0, every_both P Q R xs f a.1 b.1)
+use Rattle.apf_gate.proofs.Lists.{every_map, every_both}
 
 at_end : {A : Type 0} (l : List A) (a b : A) (j : ℕ) → get_elem? (l ++ a ∷ []) j ≡ some b → (get_elem? l j ≡ some b) ⊎ ((j ≡ length l) × (a ≡ b))
 at_end [] a b zero e = inr (refl, some-injective a b e)

@@ -1,5 +1,5 @@
 -- The views of the seats as one step changes them.
-use Rattle.std.proofs.Common.{◌≡◌, ◌≢◌, ℕ, ◌+◌, ◌*◌, List, [], ◌∷◌, set, sym, ◌∙◌, subst, ⊎_elim}
+use Rattle.std.proofs.Common.{◌≡◌, ◌≢◌, ℕ, ◌+◌, ◌*◌, List, set, sym, ◌∙◌, subst, ⊎_elim}
 use mathlib.Core.Option.{some}
 use lib.ListN.{get_elem?}
 use Rattle.atomic_table.specs.Table.{State}
@@ -7,13 +7,10 @@ use Rattle.atomic_table.proofs.Lists.{at_set}
 use Rattle.apf_gate.specs.declared.record.Shape.{Shape}
 use Rattle.apf_gate.specs.declared.record.Record.{Record}
 use Rattle.apf_gate.specs.declared.record.Record.TheVariants.{Pass, Desk, Station}
-use Rattle.apf_gate.specs.Records.{world_of}
+use Rattle.apf_gate.specs.Traces.{world_of}
 use Rattle.apf_gate.specs.Account.{Account, IsSound}
-use Rattle.apf_gate.specs.Rule.{Every, Packs, IsKeptAt, IsView, IsRuled}
-
-pub every_map : {A : Type 0} (P Q : A → Type 0) (xs : List A) → ((x : A) → P x → Q x) → Every P xs → Every Q xs
-every_map P Q [] f a = a
-every_map P Q (x ∷ xs) f a = (f x a.0, every_map P Q xs f a.1)
+use Rattle.apf_gate.specs.Rule.{Packs, IsKeptAt, IsView, IsRuled}
+use Rattle.apf_gate.proofs.Lists.{every_map}
 
 abbrev pub Table : Type 0
 Table = State (Unit {0}) (List Record)

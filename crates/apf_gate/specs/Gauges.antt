@@ -1,12 +1,13 @@
 -- The shape of a gate, and what the model says of its sums.
 use Rattle.std.specs.Prelude.{◌≡◌, ℕ, ◌+◌, ◌<◌, ◌≤◌, List, length}
+use Rattle.apf_words.specs.Limits.{max_limit, max_requests, max_width, max_stations}
 use Rattle.apf_model.specs.declared.moves.Move.{Move}
 use Rattle.apf_model.specs.declared.moves.Stage.{Stage}
 use Rattle.apf_model.specs.declared.response.Response.{Response}
 use Rattle.apf_model.specs.World.{World, put, width, seats, seats_at, waiters, waits_at, IsWaiting, IsStanding}
 use Rattle.apf_model.specs.Schedule.{world, IsSchedule, AreWidths}
 use Rattle.apf_gate.specs.declared.record.Shape.{Shape}
-use Rattle.apf_gate.specs.Records.{opening_of}
+use Rattle.apf_gate.specs.Traces.{opening_of}
 
 abbrev pub shape_of : ℕ → Response → List ℕ → ℕ → Shape
 shape_of limit response widths stations = record { limit = limit; response = response; widths = widths; stations = stations }
@@ -14,10 +15,10 @@ shape_of limit response widths stations = record { limit = limit; response = res
 -- the shapes that a gate may have: a limit of 1 to 10,000 seats, at most 10,000 requests of 1 to 20,000 seats, and at most 64 Stations
 pub record IsShape (s : Shape) : Type 0 where
   pub some_limit : 1 ≤ s.limit
-  pub small_limit : s.limit ≤ 10000
+  pub small_limit : s.limit ≤ max_limit
   pub widths : AreWidths s.widths
-  pub few_requests : length s.widths ≤ 10000
-  pub few_stations : s.stations ≤ 64
+  pub few_requests : length s.widths ≤ max_requests
+  pub few_stations : s.stations ≤ max_stations
 
 -- what every schedule keeps of the sums of a level of this shape
 pub record AreLaws (s : Shape) : Type 0 where
@@ -27,7 +28,7 @@ pub record AreLaws (s : Shape) : Type 0 where
   pub few_wait : (w : World) → waiters s.widths w ≤ length s.widths
   pub nobody_waits : (w : World) → ((r : ℕ) → r < length s.widths → ¬ IsWaiting w r) → waiters s.widths w ≡ 0
   pub nobody_stands : (w : World) → ((r : ℕ) → r < length s.widths → ¬ IsStanding w r) → seats s.widths w ≡ 0
-  pub bounded : (ms : List Move) → IsSchedule (opening_of s) ms → (world (opening_of s) ms).largest ≤ 20000 → seats s.widths (world (opening_of s) ms) ≤ 20000
+  pub bounded : (ms : List Move) → IsSchedule (opening_of s) ms → (world (opening_of s) ms).largest ≤ max_width → seats s.widths (world (opening_of s) ms) ≤ max_width
 
 -- what a gate's fields keep: its table has the words, no slots, and the shape as its key
 pub record IsGate (words slots : ℕ) (key own : Shape) : Type 0 where

@@ -11,7 +11,9 @@ use Rattle.apf_gate.specs.declared.record.DeskRecord.{DeskRecord}
 use Rattle.apf_gate.specs.declared.record.StationRecord.{StationRecord}
 use Rattle.apf_gate.specs.declared.record.Record.{Record}
 use Rattle.apf_gate.specs.declared.record.Record.TheVariants.{Pass, Desk, Station}
-use Rattle.apf_gate.specs.Records.{world_of, level_of, code_in, new_pass, new_desk, new_station}
+use Rattle.apf_words.specs.Codes.{code_in}
+use Rattle.apf_gate.specs.Records.{level_of, new_pass, new_desk, new_station}
+use Rattle.apf_gate.specs.Traces.{world_of}
 use Rattle.apf_gate.specs.Account.{Account, IsSound}
 use Rattle.atomic_table.specs.Table.{State}
 

@@ -1,20 +1,25 @@
 //! The token of whoever holds the level's lock, and its steps.
 
-ghost use Rattle.std.specs.Prelude.{◌≡◌, ◌≢◌, ◌⊎◌, ℕ, ◌<◌, ◌≤◌, ◌==◌, length, not, true, false, MatchBool, Option, Some, None};
+ghost use Rattle.std.specs.Prelude.{◌≡◌, ◌≢◌, ◌⊎◌, ◌∷◌, ℕ, ◌<◌, ◌≤◌, ◌==◌, length, not, true, false, MatchBool, Option, Some, None};
 ghost use Rattle.apf_words.specs.Fits.{Fits};
 ghost use Rattle.apf_words.specs.Level.{Level};
 ghost use Rattle.apf_words.specs.declared.decision.Decision.TheVariants.{Execute, Cancelled};
 ghost use Rattle.apf_model.specs.World.{width};
-ghost use Rattle.apf_gate.specs.declared.record.Service.TheVariants.{Waiting};
-ghost use Rattle.apf_gate.specs.Records.{told_of};
-ghost use Rattle.apf_gate.specs.Steps.{IsInRange, OfDecision, service, Views, Sees, Grants, Settles, GivesBack, Leaves};
-ghost use Rattle.apf_gate.specs.Calls.{desk_gate, TriesToGrant, SettlesTo};
+ghost use Rattle.apf_gate.specs.declared.record.Service.TheVariants.{Waiting, Held, Settled, Left};
+ghost use Rattle.apf_gate.specs.Records.{told_of, service, KnowsMore};
+ghost use Rattle.apf_gate.specs.Steps.{IsInRange, OfDecision};
+ghost use Rattle.apf_gate.specs.DeskSteps.{CountsWaiting, DeskLoadsLevel, DeskLoadsDecision, DeskExchangesLevel, DeskExchangesDecision, DeskMissesDecision, DeskSubtractsSeats, DeskSubtractsWaiter};
+ghost use Rattle.apf_gate.specs.Tokens.{desk_gate};
+ghost use Rattle.apf_gate.specs.DeskCalls.{TriesToGrant, SettlesTo};
 
 use crate::answers::TryGrant;
-use crate::gate::{Gate, WAITER, decision_in, level_in};
-use crate::plays::{Chosen, GivingBack, Granting, Leaving, Seeing, Settling, Viewing};
+use crate::gate::{Gate, decision_in, level_in};
+use crate::plays::{
+    Chosen, DeskExchangeDecision, DeskExchangeLevel, DeskLoadDecision, DeskLoadLevel,
+    DeskSubtractSeats, DeskSubtractWaiter,
+};
 use crate::rule::Place;
-use apf_words::{Decision, LevelWord, fits};
+use apf_words::{Decision, LevelWord, UNDECIDED, fits};
 use std::alloc::Allocator;
 use std::marker::{Brand, Model};
 
@@ -26,9 +31,8 @@ pub struct Desk {
 }
 
 impl Model for Desk {
-    ghost use Rattle.apf_gate.specs.Calls.{DeskToken};
     ghost use Rattle.apf_gate.specs.Rule.{desk_of};
-    ghost use Rattle.apf_gate.specs.Passes.{IsDesk};
+    ghost use Rattle.apf_gate.specs.Tokens.{DeskToken, IsDesk};
 
     ghost Value = { DeskToken };
 
@@ -45,13 +49,15 @@ impl<A: Allocator> Gate<A> {
     pub fn view(&self, desk: &mut Desk) -> LevelWord
         requires own { desk_gate desk.old ≡ self.now }
         ensures gate { desk_gate desk.new ≡ desk_gate desk.old }
-        ensures answer { Views desk.old.desk result desk.new.desk }
+        ensures answer { DeskLoadsLevel desk.old.desk result desk.new.desk }
         ensures same { (desk.new.desk.services ≡ desk.old.desk.services) × (desk.new.desk.held ≡ desk.old.desk.held) }
         ensures in_range { IsInRange result }
+        ensures waits { CountsWaiting desk.old.desk result }
         ensures closed { result.closed ≡ true → desk.new.desk.knows.saw_closed ≡ true }
         ensures stays_closed { desk.old.desk.knows.saw_closed ≡ true → result.closed ≡ true }
+        ensures more { KnowsMore desk.old.desk.knows desk.new.desk.knows }
     {
-        level_in(self.board.shared.load::<Viewing>(&mut desk.seat, 0))
+        level_in(self.board.shared.load::<DeskLoadLevel>(&mut desk.seat, 0))
     }
 
     /// Reads a request's decision, by one load of its word.
@@ -59,11 +65,12 @@ impl<A: Allocator> Gate<A> {
         requires own { desk_gate desk.old ≡ self.now }
         requires is_request { request < length self.now.shape.widths }
         ensures gate { desk_gate desk.new ≡ desk_gate desk.old }
-        ensures answer { Sees desk.old.desk request result desk.new.desk }
+        ensures answer { DeskLoadsDecision request desk.old.desk result desk.new.desk }
         ensures same { (desk.new.desk.services ≡ desk.old.desk.services) × (desk.new.desk.held ≡ desk.old.desk.held) }
         ensures waits { service desk.old.desk request ≡ Waiting → (result ≡ None) ⊎ (result ≡ Some Cancelled) }
         ensures told { result ≢ None → told_of desk.new.desk.knows.told request ≡ result }
         ensures stays { told_of desk.old.desk.knows.told request ≢ None → result ≡ told_of desk.old.desk.knows.told request }
+        ensures more { KnowsMore desk.old.desk.knows desk.new.desk.knows }
     {
         decision_in(self.load_seen(desk, request))
     }
@@ -77,8 +84,9 @@ impl<A: Allocator> Gate<A> {
         requires holds_none { desk.old.desk.held ≡ None }
         ensures gate { desk_gate desk.new ≡ desk_gate desk.old }
         ensures answer { TriesToGrant desk.old.desk request result desk.new.desk }
-        ensures held { result ≡ TryGrant.Granted → desk.new.desk.held ≡ Some request }
+        ensures held { result ≡ TryGrant.Granted → (desk.new.desk.held ≡ Some request) × (desk.new.desk.services ≡ (request, Held) ∷ desk.old.desk.services) }
         ensures same { result ≢ TryGrant.Granted → (desk.new.desk.services ≡ desk.old.desk.services) × (desk.new.desk.held ≡ None) }
+        ensures more { KnowsMore desk.old.desk.knows desk.new.desk.knows }
     {
         let level = self.view(desk);
         let width = self.gauge.widths[request as usize];
@@ -102,7 +110,9 @@ impl<A: Allocator> Gate<A> {
         ensures answers { (result ≡ Execute) ⊎ (result ≡ Cancelled) }
         ensures told { (r : ℕ) → desk.old.desk.held ≡ Some r → told_of desk.new.desk.knows.told r ≡ Some result }
         ensures settled { result ≡ Execute → desk.new.desk.held ≡ None }
-        ensures lost { result ≡ Cancelled → desk.new.desk.held ≡ desk.old.desk.held }
+        ensures services { (r : ℕ) → desk.old.desk.held ≡ Some r → result ≡ Execute → desk.new.desk.services ≡ (r, Settled) ∷ desk.old.desk.services }
+        ensures lost { result ≡ Cancelled → (desk.new.desk.held ≡ desk.old.desk.held) × (desk.new.desk.services ≡ desk.old.desk.services) }
+        ensures more { KnowsMore desk.old.desk.knows desk.new.desk.knows }
     {
         let Some(request) = desk.held else {
             unreachable!()
@@ -123,8 +133,10 @@ impl<A: Allocator> Gate<A> {
         requires holds { desk.old.desk.held ≢ None }
         requires lost { (r : ℕ) → desk.old.desk.held ≡ Some r → told_of desk.old.desk.knows.told r ≢ None }
         ensures gate { desk_gate desk.new ≡ desk_gate desk.old }
-        ensures answer { (r : ℕ) × (desk.old.desk.held ≡ Some r) × ((l : Level) × GivesBack desk.old.desk r l desk.new.desk) }
+        ensures answer { (r : ℕ) × (desk.old.desk.held ≡ Some r) × ((level : Level) × DeskSubtractsSeats r desk.old.desk level desk.new.desk) }
         ensures holds_none { desk.new.desk.held ≡ None }
+        ensures services { (r : ℕ) → desk.old.desk.held ≡ Some r → desk.new.desk.services ≡ (r, Left) ∷ desk.old.desk.services }
+        ensures more { KnowsMore desk.old.desk.knows desk.new.desk.knows }
     {
         let Some(request) = desk.held else {
             unreachable!()
@@ -140,7 +152,10 @@ impl<A: Allocator> Gate<A> {
         requires waits { service desk.old.desk request ≡ Waiting }
         requires seen_cancelled { told_of desk.old.desk.knows.told request ≡ Some Cancelled }
         ensures gate { desk_gate desk.new ≡ desk_gate desk.old }
-        ensures answer { (l : Level) × Leaves desk.old.desk request l desk.new.desk }
+        ensures answer { (level : Level) × DeskSubtractsWaiter request desk.old.desk level desk.new.desk }
+        ensures more { KnowsMore desk.old.desk.knows desk.new.desk.knows }
+        ensures services { desk.new.desk.services ≡ (request, Left) ∷ desk.old.desk.services }
+        ensures held { desk.new.desk.held ≡ desk.old.desk.held }
     {
         self.leave_of::<Brand>(desk, request);
     }
@@ -150,10 +165,13 @@ impl<A: Allocator> Gate<A> {
         requires own { desk_gate desk.old ≡ self.now }
         requires is_request { request < length self.now.shape.widths }
         ensures gate { desk_gate desk.new ≡ desk_gate desk.old }
-        ensures found { OfDecision (λ x. Sees desk.old.desk request x desk.new.desk) result }
+        ensures found { OfDecision (λ found. DeskLoadsDecision request desk.old.desk found desk.new.desk) result }
+        ensures more { KnowsMore desk.old.desk.knows desk.new.desk.knows }
     {
         let word = request as usize + 1;
-        self.board.shared.load::<Seeing>(&mut desk.seat, word)
+        self.board
+            .shared
+            .load::<DeskLoadDecision>(&mut desk.seat, word)
     }
 
     // One exchange, of the word that says this for one with the request granted. Says whether it was made.
@@ -164,19 +182,21 @@ impl<A: Allocator> Gate<A> {
         requires waits { service desk.old.desk request ≡ Waiting }
         requires holds_none { desk.old.desk.held ≡ None }
         requires in_range { IsInRange level }
+        requires some_wait { 1 ≤ level.waiters }
         requires room { Fits level.seats level.limit (width self.now.shape.widths request) }
         ensures gate { desk_gate desk.new ≡ desk_gate desk.old }
         ensures granted { MatchBool result
-            (Grants desk.old.desk request level desk.new.desk)
-            ((other : Level) × (other ≢ level) × Views desk.old.desk other desk.new.desk) }
+            (DeskExchangesLevel request desk.old.desk level desk.new.desk)
+            ((other : Level) × (other ≢ level) × DeskLoadsLevel desk.old.desk other desk.new.desk) }
+        ensures more { KnowsMore desk.old.desk.knows desk.new.desk.knows }
     {
         let word = level.pack();
-        let width = u64::from(self.gauge.widths[request as usize]);
-        let new = word - WAITER + width;
+        let width = self.gauge.widths[request as usize];
+        let new = level.with_grant(width).pack();
         let found = self
             .board
             .shared
-            .compare_exchange::<Granting<J>>(&mut desk.seat, 0, word, new);
+            .compare_exchange::<DeskExchangeLevel<J>>(&mut desk.seat, 0, word, new);
         if found != word {
             return false;
         }
@@ -189,14 +209,16 @@ impl<A: Allocator> Gate<A> {
         requires own { desk_gate desk.old ≡ self.now }
         requires holds { desk.old.desk.held ≡ Some request }
         ensures gate { desk_gate desk.new ≡ desk_gate desk.old }
-        ensures found { OfDecision (λ x. MatchBool (result == 0) (Settles desk.old.desk request desk.new.desk) ((x ≡ Some Cancelled) × Sees desk.old.desk request x desk.new.desk)) result }
+        ensures found { OfDecision (λ found. MatchBool (result == 0) (DeskExchangesDecision request desk.old.desk desk.new.desk) (DeskMissesDecision request desk.old.desk found desk.new.desk)) result }
+        ensures more { KnowsMore desk.old.desk.knows desk.new.desk.knows }
     {
         let word = request as usize + 1;
+        let code = Decision::Execute.code();
         let found = self
             .board
             .shared
-            .compare_exchange::<Settling>(&mut desk.seat, word, 0, 1);
-        if found == 0 {
+            .compare_exchange::<DeskExchangeDecision>(&mut desk.seat, word, UNDECIDED, code);
+        if found == UNDECIDED {
             desk.held = None;
         }
         found
@@ -209,12 +231,13 @@ impl<A: Allocator> Gate<A> {
         requires holds { desk.old.desk.held ≡ Some request }
         requires lost { told_of desk.old.desk.knows.told request ≢ None }
         ensures gate { desk_gate desk.new ≡ desk_gate desk.old }
-        ensures answer { (l : Level) × GivesBack desk.old.desk request l desk.new.desk }
+        ensures answer { (level : Level) × DeskSubtractsSeats request desk.old.desk level desk.new.desk }
+        ensures more { KnowsMore desk.old.desk.knows desk.new.desk.knows }
     {
-        let width = u64::from(self.gauge.widths[request as usize]);
+        let seats = LevelWord::to_release(self.gauge.widths[request as usize]);
         self.board
             .shared
-            .fetch_sub::<GivingBack<J>>(&mut desk.seat, 0, width);
+            .fetch_sub::<DeskSubtractSeats<J>>(&mut desk.seat, 0, seats);
         desk.held = None;
     }
 
@@ -225,10 +248,11 @@ impl<A: Allocator> Gate<A> {
         requires waits { service desk.old.desk request ≡ Waiting }
         requires seen_cancelled { told_of desk.old.desk.knows.told request ≡ Some Cancelled }
         ensures gate { desk_gate desk.new ≡ desk_gate desk.old }
-        ensures answer { (l : Level) × Leaves desk.old.desk request l desk.new.desk }
+        ensures answer { (level : Level) × DeskSubtractsWaiter request desk.old.desk level desk.new.desk }
+        ensures more { KnowsMore desk.old.desk.knows desk.new.desk.knows }
     {
         self.board
             .shared
-            .fetch_sub::<Leaving<J>>(&mut desk.seat, 0, WAITER);
+            .fetch_sub::<DeskSubtractWaiter<J>>(&mut desk.seat, 0, LevelWord::to_leave());
     }
 }

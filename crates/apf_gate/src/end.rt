@@ -7,10 +7,11 @@ ghost use Rattle.apf_words.specs.declared.decision.Decision.{Decision};
 ghost use Rattle.apf_model.specs.World.{World};
 ghost use Rattle.apf_gate.specs.declared.record.Record.TheVariants as records;
 ghost use Rattle.apf_gate.specs.declared.record.Shape.{Shape};
-ghost use Rattle.apf_gate.specs.Records.{level_of, code_in};
+ghost use Rattle.apf_words.specs.Codes.{code_in};
+ghost use Rattle.apf_gate.specs.Records.{level_of};
 ghost use Rattle.apf_gate.specs.Rule.{Packs, desk_of};
 ghost use Rattle.apf_gate.specs.Steps.{IsInRange};
-ghost use Rattle.apf_gate.specs.Calls.{pass_gate, desk_gate, station_gate};
+ghost use Rattle.apf_gate.specs.Tokens.{pass_gate, desk_gate, station_gate};
 ghost use Rattle.apf_gate.specs.Ends.{EndsWith, passes_before, stations_before};
 
 use crate::desk::Desk;

@@ -3,22 +3,13 @@
 ghost use Rattle.std.specs.Prelude.{◌≡◌, Option};
 ghost use Rattle.apf_words.specs.Level.{Level, packed};
 ghost use Rattle.apf_words.specs.declared.decision.Decision.{Decision};
-ghost use Rattle.apf_gate.specs.Records.{code_in};
+ghost use Rattle.apf_words.specs.Codes.{code_in};
 ghost use Rattle.apf_gate.specs.Steps.{IsInRange};
 
 use crate::rule::{Board, Gauge};
 use apf_words::{Decision, LevelWord};
 use std::alloc::Allocator;
 use std::marker::Model;
-
-/// One request that waits, in a level word.
-pub(crate) const WAITER: u64 = 1 << 20;
-
-/// One seat of the limit, in a level word.
-pub(crate) const LIMIT: u64 = 1 << 40;
-
-/// The bit of a closed level.
-pub(crate) const CLOSED: u64 = 1 << 63;
 
 /// The words of a level: the level word, and a decision word for each request.
 ///
@@ -30,7 +21,7 @@ pub struct Gate<A: Allocator> {
 }
 
 impl<A: Allocator> Model for Gate<A> {
-    ghost use Rattle.apf_gate.specs.Calls.{GateId};
+    ghost use Rattle.apf_gate.specs.Tokens.{GateId};
     ghost use Rattle.apf_gate.specs.Gauges.{shape_of, IsGate};
 
     ghost Value = { GateId };

@@ -5,22 +5,25 @@ ghost use Rattle.apf_words.specs.Level.{Level};
 ghost use Rattle.apf_words.specs.declared.decision.Decision.{Decision};
 ghost use Rattle.apf_words.specs.declared.decision.Decision.TheVariants.{QueueFull, Closed, Cancelled};
 ghost use Rattle.apf_model.specs.declared.response.Response.TheVariants.{Queue};
-ghost use Rattle.apf_gate.specs.Records.{told_own, told_of};
-ghost use Rattle.apf_gate.specs.Account.{has_entered};
-ghost use Rattle.apf_gate.specs.Rule.{pass_of, desk_of};
-ghost use Rattle.apf_gate.specs.declared.record.Service.TheVariants.{Full, Waiting};
-ghost use Rattle.apf_gate.specs.Steps.{IsInRange, OfDecision, service, Hands, Enters, Refuses, Spares, Learns};
-ghost use Rattle.apf_gate.specs.Calls.{pass_gate, desk_gate, MayHand, MayRefuse, TriesToEnter, RefusesTo};
-ghost use Rattle.apf_gate.specs.Joined.{pass_at, desk_at, AreBoth, IsAlone};
 ghost use Rattle.apf_gate.specs.declared.record.Record.TheVariants as records;
+ghost use Rattle.apf_gate.specs.declared.record.Service.TheVariants.{NotHanded, RefusedFull, RefusedClosed, Waiting};
+ghost use Rattle.apf_gate.specs.Records.{told_own, told_of, service, KnowsMore};
+ghost use Rattle.apf_gate.specs.Requests.{AreTied};
+ghost use Rattle.apf_gate.specs.Rule.{pass_of, desk_of};
+ghost use Rattle.apf_gate.specs.Steps.{IsInRange, OfDecision};
+ghost use Rattle.apf_gate.specs.JoinedSteps.{JoinedLoadsLevel, JoinedExchangesLevel, JoinedLoadsDecision, JoinedExchangesDecision, JoinedMissesDecision};
+ghost use Rattle.apf_gate.specs.Tokens.{pass_gate, desk_gate, both_at, AreBoth, IsAlone};
+ghost use Rattle.apf_gate.specs.DeskCalls.{MayHand, MayRefuse, TriesToEnter, RefusesTo};
 
 use crate::answers::TryEnter;
 use crate::desk::Desk;
-use crate::gate::{Gate, WAITER, decision_in, level_in};
+use crate::gate::{Gate, decision_in, level_in};
 use crate::pass::Pass;
-use crate::plays::{Entering, First, Handing, Learning, Refusing};
+use crate::plays::{
+    First, JoinedExchangeDecision, JoinedExchangeLevel, JoinedLoadDecision, JoinedLoadLevel,
+};
 use crate::rule::Place;
-use apf_words::{Decision, LevelWord};
+use apf_words::{Decision, LevelWord, UNDECIDED};
 use std::alloc::Allocator;
 
 impl<A: Allocator> Gate<A> {
@@ -32,12 +35,13 @@ impl<A: Allocator> Gate<A> {
         requires own_desk { desk_gate desk.old ≡ self.now }
         requires own_pass { pass_gate pass.old ≡ self.now }
         requires has_queues { self.now.shape.response ≡ Queue }
-        requires may { MayHand pass.old.pass desk.old.desk }
+        requires may { MayHand (record { pass = pass.old.pass; desk = desk.old.desk }) }
         ensures desk { desk_gate desk.new ≡ desk_gate desk.old }
         ensures pass { pass_gate pass.new ≡ pass_gate pass.old }
-        ensures answer { TriesToEnter pass.old.pass desk.old.desk result pass.new.pass desk.new.desk }
+        ensures answer { TriesToEnter (record { pass = pass.old.pass; desk = desk.old.desk }) result (record { pass = pass.new.pass; desk = desk.new.desk }) }
+        ensures tied { AreTied pass.old.pass.number pass.old.pass (service desk.old.desk pass.old.pass.number) }
         ensures entered { result ≡ TryEnter.Entered → (pass.new.pass.entered ≡ true) × (service desk.new.desk pass.old.pass.number ≡ Waiting) }
-        ensures not_entered { result ≢ TryEnter.Entered → (pass.new.pass.entered ≡ false) × (pass.old.pass.entered ≡ false) }
+        ensures not_entered { result ≢ TryEnter.Entered → pass.new.pass.entered ≡ false }
         ensures told { told_own pass.new.pass ≡ told_own pass.old.pass }
         ensures follows { pass.new.pass.knows.trace ≡ desk.new.desk.knows.trace }
         ensures number { pass.new.pass.number ≡ pass.old.pass.number }
@@ -45,6 +49,8 @@ impl<A: Allocator> Gate<A> {
         ensures held { desk.new.desk.held ≡ desk.old.desk.held }
         ensures closed { result ≡ TryEnter.Closed → desk.new.desk.knows.saw_closed ≡ true }
         ensures stays_closed { desk.old.desk.knows.saw_closed ≡ true → result ≡ TryEnter.Closed }
+        ensures more { KnowsMore desk.old.desk.knows desk.new.desk.knows }
+        ensures not_handed { pass.old.pass.handed ≡ false → service desk.old.desk pass.old.pass.number ≡ NotHanded }
     {
         self.join(&mut desk.seat, &mut pass.seat);
         let answer = self.enter_joined(&mut desk.seat);
@@ -59,20 +65,24 @@ impl<A: Allocator> Gate<A> {
     pub fn refuse(&self, desk: &mut Desk, pass: &mut Pass, decision: Decision) -> Decision
         requires own_desk { desk_gate desk.old ≡ self.now }
         requires own_pass { pass_gate pass.old ≡ self.now }
-        requires may { MayHand pass.old.pass desk.old.desk }
+        requires may { MayHand (record { pass = pass.old.pass; desk = desk.old.desk }) }
         requires refusal { MayRefuse desk.old.desk decision }
         ensures desk { desk_gate desk.new ≡ desk_gate desk.old }
         ensures pass { pass_gate pass.new ≡ pass_gate pass.old }
-        ensures answer { RefusesTo pass.old.pass desk.old.desk decision result pass.new.pass desk.new.desk }
+        ensures answer { RefusesTo (record { pass = pass.old.pass; desk = desk.old.desk }) decision result (record { pass = pass.new.pass; desk = desk.new.desk }) }
         ensures answers { (result ≡ decision) ⊎ ((result ≡ Closed) ⊎ (result ≡ Cancelled)) }
-        ensures never_entered { pass.old.pass.entered ≡ false }
-        ensures full { result ≡ QueueFull → service desk.new.desk pass.old.pass.number ≡ Full }
+        ensures tied { AreTied pass.old.pass.number pass.old.pass (service desk.old.desk pass.old.pass.number) }
+        ensures full { result ≡ QueueFull → service desk.new.desk pass.old.pass.number ≡ RefusedFull }
+        ensures closed { result ≡ Closed → service desk.new.desk pass.old.pass.number ≡ RefusedClosed }
         ensures told { told_of desk.new.desk.knows.told pass.old.pass.number ≡ Some result }
         ensures told_pass { told_own pass.new.pass ≡ Some result }
         ensures state { pass.new.pass.state ≡ pass.old.pass.state }
+        ensures entered { pass.new.pass.entered ≡ false }
         ensures number { pass.new.pass.number ≡ pass.old.pass.number }
         ensures follows { pass.new.pass.knows.trace ≡ desk.new.desk.knows.trace }
         ensures held { desk.new.desk.held ≡ desk.old.desk.held }
+        ensures more { KnowsMore desk.old.desk.knows desk.new.desk.knows }
+        ensures not_handed { pass.old.pass.handed ≡ false → service desk.old.desk pass.old.pass.number ≡ NotHanded }
     {
         let word = pass.number as usize + 1;
         self.join(&mut desk.seat, &mut pass.seat);
@@ -84,25 +94,31 @@ impl<A: Allocator> Gate<A> {
         }
     }
 
-    /// Lets the Desk know the decision of the Pass's request, which is the one that the Pass was told, if it
-    /// was. It makes one load of the request's decision word with the tokens joined.
-    pub fn hear(&self, desk: &mut Desk, pass: &mut Pass)
+    /// Lets the Desk and the Pass know the decision of the Pass's request, and answers it. It is the one that
+    /// the Pass was told, if it was. It makes one load of the request's decision word with the tokens joined.
+    pub fn hear(&self, desk: &mut Desk, pass: &mut Pass) -> Option<Decision>
         requires own_desk { desk_gate desk.old ≡ self.now }
         requires own_pass { pass_gate pass.old ≡ self.now }
         ensures desk { desk_gate desk.new ≡ desk_gate desk.old }
         ensures pass { pass_gate pass.new ≡ pass_gate pass.old }
+        ensures answer { JoinedLoadsDecision (record { pass = pass.old.pass; desk = desk.old.desk }) result (record { pass = pass.new.pass; desk = desk.new.desk }) }
+        ensures tied { AreTied pass.old.pass.number pass.old.pass (service desk.old.desk pass.old.pass.number) }
+        ensures stays { told_own pass.old.pass ≢ None → result ≡ told_own pass.old.pass }
+        ensures told { result ≢ None → told_of desk.new.desk.knows.told pass.old.pass.number ≡ result }
+        ensures told_pass { result ≢ None → told_own pass.new.pass ≡ result }
         ensures state { pass.new.pass.state ≡ pass.old.pass.state }
         ensures number { pass.new.pass.number ≡ pass.old.pass.number }
+        ensures entered { pass.new.pass.entered ≡ pass.old.pass.entered }
         ensures follows { pass.new.pass.knows.trace ≡ desk.new.desk.knows.trace }
-        ensures answer { (x : Option Decision) × Learns pass.old.pass desk.old.desk x pass.new.pass desk.new.desk }
-        ensures told { told_own pass.old.pass ≢ None → told_of desk.new.desk.knows.told pass.old.pass.number ≡ told_own pass.old.pass }
-        ensures entered { pass.old.pass.entered ≡ has_entered (service desk.old.desk pass.old.pass.number) }
         ensures served { (desk.new.desk.services ≡ desk.old.desk.services) × (desk.new.desk.held ≡ desk.old.desk.held) }
+        ensures more { KnowsMore desk.old.desk.knows desk.new.desk.knows }
+        ensures not_handed { pass.old.pass.handed ≡ false → service desk.old.desk pass.old.pass.number ≡ NotHanded }
     {
         let word = pass.number as usize + 1;
         self.join(&mut desk.seat, &mut pass.seat);
-        self.load_told(&mut desk.seat, word);
+        let found = self.load_joined_decision(&mut desk.seat, word);
         self.part(&mut desk.seat, &mut pass.seat);
+        decision_in(found)
     }
 
     // The Pass's part goes to the Desk's seat.
@@ -120,10 +136,10 @@ impl<A: Allocator> Gate<A> {
     // The Pass's part goes back to its seat.
     fn part(&self, desk: &mut Place, pass: &mut Place)
         requires table { desk.old.table_id ≡ self.now.table }
-        requires both { desk.old.me ≡ (records.Pass (pass_at desk.old.me) ∷ records.Desk (desk_at desk.old.me) ∷ [], []) }
+        requires both { desk.old.me ≡ (records.Pass (both_at desk.old.me).pass ∷ records.Desk (both_at desk.old.me).desk ∷ [], []) }
         ensures table { (desk.new.table_id ≡ desk.old.table_id) × (pass.new.table_id ≡ desk.old.table_id) }
-        ensures desk { desk.new.me ≡ (records.Desk (desk_at desk.old.me) ∷ [], []) }
-        ensures pass { pass.new.me ≡ (records.Pass (pass_at desk.old.me) ∷ [], []) }
+        ensures desk { desk.new.me ≡ (records.Desk (both_at desk.old.me).desk ∷ [], []) }
+        ensures pass { pass.new.me ≡ (records.Pass (both_at desk.old.me).pass ∷ [], []) }
     {
         *pass = self.board.shared.split_seat::<First>(desk);
     }
@@ -131,13 +147,14 @@ impl<A: Allocator> Gate<A> {
     fn enter_joined(&self, seat: &mut Place) -> TryEnter
         requires own { AreBoth self.now seat.old.table_id seat.old.me }
         requires has_queues { self.now.shape.response ≡ Queue }
-        requires may { MayHand (pass_at seat.old.me) (desk_at seat.old.me) }
+        requires may { MayHand (both_at seat.old.me) }
         ensures own { AreBoth self.now seat.new.table_id seat.new.me }
-        ensures answer { TriesToEnter (pass_at seat.old.me) (desk_at seat.old.me) result (pass_at seat.new.me) (desk_at seat.new.me) }
-        ensures closed { result ≡ TryEnter.Closed → (desk_at seat.new.me).knows.saw_closed ≡ true }
-        ensures stays_closed { (desk_at seat.old.me).knows.saw_closed ≡ true → result ≡ TryEnter.Closed }
+        ensures answer { TriesToEnter (both_at seat.old.me) result (both_at seat.new.me) }
+        ensures closed { result ≡ TryEnter.Closed → (both_at seat.new.me).desk.knows.saw_closed ≡ true }
+        ensures stays_closed { (both_at seat.old.me).desk.knows.saw_closed ≡ true → result ≡ TryEnter.Closed }
+        ensures more { KnowsMore (both_at seat.old.me).desk.knows (both_at seat.new.me).desk.knows }
     {
-        let level = self.load_joined(seat);
+        let level = self.load_joined_level(seat);
         if level.closed() {
             return TryEnter::Closed;
         }
@@ -148,65 +165,70 @@ impl<A: Allocator> Gate<A> {
     }
 
     // One load of the level word, with which the request is handed over.
-    fn load_joined(&self, seat: &mut Place) -> LevelWord
+    fn load_joined_level(&self, seat: &mut Place) -> LevelWord
         requires own { AreBoth self.now seat.old.table_id seat.old.me }
-        requires may { MayHand (pass_at seat.old.me) (desk_at seat.old.me) }
+        requires may { MayHand (both_at seat.old.me) }
         ensures own { AreBoth self.now seat.new.table_id seat.new.me }
-        ensures may { MayHand (pass_at seat.new.me) (desk_at seat.new.me) }
-        ensures hands { Hands (pass_at seat.old.me) (desk_at seat.old.me) result (pass_at seat.new.me) (desk_at seat.new.me) }
-        ensures closed { result.closed ≡ true → (desk_at seat.new.me).knows.saw_closed ≡ true }
+        ensures may { MayHand (both_at seat.new.me) }
+        ensures loads { JoinedLoadsLevel (both_at seat.old.me) result (both_at seat.new.me) }
+        ensures in_range { IsInRange result }
+        ensures closed { result.closed ≡ true → (both_at seat.new.me).desk.knows.saw_closed ≡ true }
+        ensures more { KnowsMore (both_at seat.old.me).desk.knows (both_at seat.new.me).desk.knows }
     {
-        level_in(self.board.shared.load::<Handing>(seat, 0))
+        level_in(self.board.shared.load::<JoinedLoadLevel>(seat, 0))
     }
 
     // One exchange, of the word that says this for one with one waiter more. Says whether it was made.
     fn exchange_joined(&self, seat: &mut Place, level: LevelWord) -> bool
         requires own { AreBoth self.now seat.old.table_id seat.old.me }
         requires has_queues { self.now.shape.response ≡ Queue }
-        requires may { MayHand (pass_at seat.old.me) (desk_at seat.old.me) }
+        requires may { MayHand (both_at seat.old.me) }
         requires in_range { IsInRange level }
         requires is_open { level.closed ≡ false }
         ensures own { AreBoth self.now seat.new.table_id seat.new.me }
         ensures entered { MatchBool result
-            (Enters (pass_at seat.old.me) (desk_at seat.old.me) level (pass_at seat.new.me) (desk_at seat.new.me))
-            ((other : Level) × (other ≢ level) × Hands (pass_at seat.old.me) (desk_at seat.old.me) other (pass_at seat.new.me) (desk_at seat.new.me)) }
+            (JoinedExchangesLevel (both_at seat.old.me) level (both_at seat.new.me))
+            ((other : Level) × (other ≢ level) × JoinedLoadsLevel (both_at seat.old.me) other (both_at seat.new.me)) }
+        ensures more { KnowsMore (both_at seat.old.me).desk.knows (both_at seat.new.me).desk.knows }
     {
         let word = level.pack();
+        let new = level.with_waiter().pack();
         let found = self
             .board
             .shared
-            .compare_exchange::<Entering>(seat, 0, word, word + WAITER);
+            .compare_exchange::<JoinedExchangeLevel>(seat, 0, word, new);
         if found != word {
             return false;
         }
         true
     }
 
-    // One exchange of the decision word, for the code of a refusal where it is 0.
+    // One exchange of the decision word, for the code of a refusal where it is undecided.
     fn exchange_refusal(&self, seat: &mut Place, word: usize, decision: Decision) -> u64
         requires own { AreBoth self.now seat.old.table_id seat.old.me }
-        requires word { word ≡ (pass_at seat.old.me).number + 1 }
-        requires may { MayHand (pass_at seat.old.me) (desk_at seat.old.me) }
-        requires refusal { MayRefuse (desk_at seat.old.me) decision }
+        requires word { word ≡ (both_at seat.old.me).pass.number + 1 }
+        requires may { MayHand (both_at seat.old.me) }
+        requires refusal { MayRefuse (both_at seat.old.me).desk decision }
         ensures own { AreBoth self.now seat.new.table_id seat.new.me }
-        ensures found { OfDecision (λ y. MatchBool (result == 0)
-            (Refuses (pass_at seat.old.me) (desk_at seat.old.me) decision (pass_at seat.new.me) (desk_at seat.new.me))
-            (Spares (pass_at seat.old.me) (desk_at seat.old.me) y (pass_at seat.new.me) (desk_at seat.new.me))) result }
+        ensures found { OfDecision (λ found. MatchBool (result == 0)
+            (JoinedExchangesDecision decision (both_at seat.old.me) (both_at seat.new.me))
+            (JoinedMissesDecision (both_at seat.old.me) found (both_at seat.new.me))) result }
+        ensures more { KnowsMore (both_at seat.old.me).desk.knows (both_at seat.new.me).desk.knows }
     {
         let code = decision.code();
         self.board
             .shared
-            .compare_exchange::<Refusing>(seat, word, 0, code)
+            .compare_exchange::<JoinedExchangeDecision>(seat, word, UNDECIDED, code)
     }
 
     // One load of the decision word.
-    fn load_told(&self, seat: &mut Place, word: usize)
+    fn load_joined_decision(&self, seat: &mut Place, word: usize) -> u64
         requires own { AreBoth self.now seat.old.table_id seat.old.me }
-        requires word { word ≡ (pass_at seat.old.me).number + 1 }
+        requires word { word ≡ (both_at seat.old.me).pass.number + 1 }
         ensures own { AreBoth self.now seat.new.table_id seat.new.me }
-        ensures learns { (x : Option Decision)
-            × Learns (pass_at seat.old.me) (desk_at seat.old.me) x (pass_at seat.new.me) (desk_at seat.new.me) }
+        ensures found { OfDecision (λ found. JoinedLoadsDecision (both_at seat.old.me) found (both_at seat.new.me)) result }
+        ensures more { KnowsMore (both_at seat.old.me).desk.knows (both_at seat.new.me).desk.knows }
     {
-        self.board.shared.load::<Learning>(seat, word);
+        self.board.shared.load::<JoinedLoadDecision>(seat, word)
     }
 }

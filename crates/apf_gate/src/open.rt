@@ -8,17 +8,19 @@ ghost use Rattle.apf_gate.specs.Records.{new_desk, new_pass, new_station};
 ghost use Rattle.apf_gate.specs.Gauges.{shape_of, IsShape};
 ghost use Rattle.apf_gate.specs.Rule.{opening_records, opening_stations};
 ghost use Rattle.apf_gate.specs.declared.record.State.TheVariants.{Fresh};
-ghost use Rattle.apf_gate.specs.Calls.{FaultOf, IsWidth, new_passes, new_stations, pass_gate, station_gate};
+ghost use Rattle.apf_gate.specs.Tokens.{pass_gate, station_gate};
+ghost use Rattle.apf_gate.specs.Opens.{FaultOf, IsWidth, new_passes, new_stations};
 ghost use Rattle.apf_gate.specs.declared.fault.GateFault.TheVariants.{NoMemory};
 
 use crate::desk::Desk;
 use crate::fault::GateFault;
-use crate::gate::{Gate, LIMIT};
+use crate::gate::Gate;
 use crate::pass::Pass;
 use crate::plays::First;
 use crate::rule::{Board, Gauge, Place};
 use crate::station::Station;
 use apf_model::{Response, every_schedule_is_safe};
+use apf_words::{LevelWord, MAX_LIMIT, MAX_REQUESTS, MAX_STATIONS, MAX_WIDTH};
 use std::alloc::{AllocError, Allocator};
 use std::snapshot::Snapshot;
 
@@ -58,13 +60,13 @@ impl<A: Allocator + Copy> Gate<A> {
         ensures counts { IfOk result (λ o. (length o.2.items ≡ length widths.now) × (length o.3.items ≡ stations)) }
         ensures fault { IfErr result (FaultOf (shape_of limit response widths.now stations)) }
     {
-        if limit < 1 || limit > 10_000 {
+        if limit < 1 || limit > MAX_LIMIT {
             return Err(GateFault::BadLimit);
         }
         if let Some(request) = first_bad(widths) {
             return Err(GateFault::BadWidth(request));
         }
-        if widths.len() > 10_000 || stations > 64 {
+        if widths.len() > MAX_REQUESTS as usize || stations > MAX_STATIONS {
             return Err(GateFault::TooMany);
         }
         Gate::laid(alloc, limit, widths, stations, response)
@@ -105,7 +107,7 @@ impl<A: Allocator + Copy> Gate<A> {
     {
         every_schedule_is_safe();
         let mut words = vec![in alloc; 0u64; widths.len() + 1]?;
-        words[0] = u64::from(limit) * LIMIT;
+        words[0] = LevelWord::opening(limit).pack();
         let gauge = Gauge {
             limit,
             response,
@@ -161,7 +163,7 @@ fn first_bad(widths: &[u32]) -> Option<usize>
         (λ r. (r < length widths.now) × (¬ IsWidth (width widths.now r)) × ((j : ℕ) → j < r → IsWidth (width widths.now j))) }
 {
     for (r, width) in widths.iter().enumerate() {
-        if !(1..=20_000).contains(width) {
+        if !(1..=MAX_WIDTH).contains(width) {
             return Some(r);
         }
     }

@@ -4,18 +4,23 @@ ghost use Rattle.std.specs.Prelude.{◌≡◌, ◌≢◌, ◌⊎◌, ◌<◌, �
 ghost use Rattle.apf_words.specs.Fits.{Fits};
 ghost use Rattle.apf_words.specs.Level.{Level};
 ghost use Rattle.apf_words.specs.declared.decision.Decision.{Decision};
-ghost use Rattle.apf_words.specs.declared.decision.Decision.TheVariants.{Execute, Closed, Cancelled};
+ghost use Rattle.apf_words.specs.declared.decision.Decision.TheVariants.{Execute, Cancelled};
 ghost use Rattle.apf_model.specs.declared.response.Response.TheVariants.{Reject};
 ghost use Rattle.apf_gate.specs.declared.record.State.TheVariants.{Fresh, Took, InLine, Over};
-ghost use Rattle.apf_gate.specs.Records.{told_own};
-ghost use Rattle.apf_gate.specs.Steps.{IsInRange, own_width, deciding_state, Looks, Takes, Asks, Hears, Releases};
-ghost use Rattle.apf_gate.specs.Calls.{pass_gate, TriesToTake, MayWrite, MayRelease, Decides};
+ghost use Rattle.apf_gate.specs.Records.{told_own, own_width, KnowsMore};
+ghost use Rattle.apf_gate.specs.Steps.{IsInRange};
+ghost use Rattle.apf_gate.specs.PassSteps.{deciding_state, PassLoadsLevel, PassMissesLevel, PassExchangesLevel, PassSubtractsLevel, PassLoadsDecision, PassAsksDecision};
+ghost use Rattle.apf_gate.specs.Tokens.{pass_gate};
+ghost use Rattle.apf_gate.specs.PassCalls.{TriesToTake, MayWrite, MayRelease, Decides};
 
 use crate::answers::TryTake;
 use crate::gate::{Gate, decision_in, level_in};
-use crate::plays::{Asking, Deciding, Hearing, Looking, Releasing, Taking};
+use crate::plays::{
+    PassAskDecision, PassExchangeDecision, PassExchangeLevel, PassLoadDecision, PassLoadLevel,
+    PassSubtractLevel,
+};
 use crate::rule::Place;
-use apf_words::{Decision, LevelWord, fits};
+use apf_words::{Decision, LevelWord, UNDECIDED, fits};
 use std::alloc::Allocator;
 use std::marker::Model;
 
@@ -28,9 +33,8 @@ pub struct Pass {
 }
 
 impl Model for Pass {
-    ghost use Rattle.apf_gate.specs.Calls.{PassToken};
     ghost use Rattle.apf_gate.specs.Rule.{pass_of};
-    ghost use Rattle.apf_gate.specs.Passes.{IsPass};
+    ghost use Rattle.apf_gate.specs.Tokens.{PassToken, IsPass};
 
     ghost Value = { PassToken };
 
@@ -66,8 +70,10 @@ impl<A: Allocator> Gate<A> {
         ensures number { pass.new.pass.number ≡ pass.old.pass.number }
         ensures closed { result ≡ TryTake.Closed → pass.new.pass.knows.saw_closed ≡ true }
         ensures no_room { result ≡ TryTake.NoRoom → pass.new.pass.no_room ≡ true }
+        ensures raced { result ≡ TryTake.Raced → pass.new.pass.no_room ≡ false }
         ensures stays_closed { pass.old.pass.knows.saw_closed ≡ true → result ≡ TryTake.Closed }
         ensures no_queues { self.now.shape.response ≡ Reject → result ≢ TryTake.Waiters }
+        ensures more { KnowsMore pass.old.pass.knows pass.new.pass.knows }
     {
         let level = self.load_as_pass(pass);
         if level.closed() {
@@ -85,59 +91,66 @@ impl<A: Allocator> Gate<A> {
         TryTake::Taken
     }
 
-    /// Asks for what others decide: a fresh Pass is in line afterwards. It makes one load of the request's
-    /// decision word.
-    pub fn ask(&self, pass: &mut Pass)
+    /// Asks for what others decide, and reads the request's decision: a fresh Pass is in line afterwards. It
+    /// makes one load of the request's decision word.
+    pub fn ask(&self, pass: &mut Pass) -> Option<Decision>
         requires own { pass_gate pass.old ≡ self.now }
         ensures gate { pass_gate pass.new ≡ pass_gate pass.old }
-        ensures answer { (d : Option Decision) × Asks pass.old.pass d pass.new.pass }
+        ensures answer { PassAsksDecision pass.old.pass result pass.new.pass }
         ensures in_line { pass.old.pass.state ≡ Fresh → pass.new.pass.state ≡ InLine }
         ensures number { pass.new.pass.number ≡ pass.old.pass.number }
-        ensures stays { told_own pass.old.pass ≢ None → told_own pass.new.pass ≡ told_own pass.old.pass }
+        ensures told { result ≢ None → told_own pass.new.pass ≡ result }
+        ensures fresh { pass.old.pass.state ≡ Fresh → (result ≡ None) ⊎ (result ≡ Some Cancelled) }
+        ensures not_handed { pass.old.pass.state ≡ Fresh → (pass.new.pass.handed ≡ false) × (pass.new.pass.entered ≡ false) }
+        ensures stays { told_own pass.old.pass ≢ None → result ≡ told_own pass.old.pass }
+        ensures more { KnowsMore pass.old.pass.knows pass.new.pass.knows }
     {
         let word = pass.number as usize + 1;
-        self.board.shared.load::<Asking>(&mut pass.seat, word);
+        let shared = &self.board.shared;
+        decision_in(shared.load::<PassAskDecision>(&mut pass.seat, word))
     }
 
     /// Reads the request's decision, by one load of its word.
     pub fn told(&self, pass: &mut Pass) -> Option<Decision>
         requires own { pass_gate pass.old ≡ self.now }
         ensures gate { pass_gate pass.new ≡ pass_gate pass.old }
-        ensures answer { Hears pass.old.pass result pass.new.pass }
+        ensures answer { PassLoadsDecision pass.old.pass result pass.new.pass }
         ensures told { result ≢ None → told_own pass.new.pass ≡ result }
-        ensures fresh { pass.old.pass.state ≡ Fresh → result ≢ Some Execute }
+        ensures fresh { pass.old.pass.state ≡ Fresh → (result ≡ None) ⊎ (result ≡ Some Cancelled) }
         ensures stays { told_own pass.old.pass ≢ None → result ≡ told_own pass.old.pass }
         ensures state { pass.new.pass.state ≡ pass.old.pass.state }
         ensures number { pass.new.pass.number ≡ pass.old.pass.number }
+        ensures more { KnowsMore pass.old.pass.knows pass.new.pass.knows }
     {
         let word = pass.number as usize + 1;
-        decision_in(self.board.shared.load::<Hearing>(&mut pass.seat, word))
+        let shared = &self.board.shared;
+        decision_in(shared.load::<PassLoadDecision>(&mut pass.seat, word))
     }
 
     /// Writes the decision, unless one is written. Answers the one that is written then.
     ///
     /// It makes one exchange of the request's decision word. `Execute` is for a Pass that took its seats
     /// and wrote nothing yet, and it holds them still. `Closed` is for a fresh Pass that saw the level
-    /// closed, and `ConcurrencyLimit` for one whose last step found no room on a level without queues:
-    /// after these it is over.
+    /// closed, and `ConcurrencyLimit` for one whose last step was a load that found no room on a level
+    /// without queues: after these it is over.
     pub fn decide(&self, pass: &mut Pass, decision: Decision) -> Decision
         requires own { pass_gate pass.old ≡ self.now }
         requires may { MayWrite pass.old.pass decision }
         ensures gate { pass_gate pass.new ≡ pass_gate pass.old }
         ensures answer { Decides pass.old.pass decision result pass.new.pass }
-        ensures answers { (result ≡ decision) ⊎ ((result ≡ Closed) ⊎ (result ≡ Cancelled)) }
-        ensures executes { decision ≡ Execute → (result ≡ Execute) ⊎ (result ≡ Cancelled) }
+        ensures answers { (result ≡ decision) ⊎ (result ≡ Cancelled) }
         ensures told { told_own pass.new.pass ≡ Some result }
         ensures stays { told_own pass.old.pass ≢ None → Some result ≡ told_own pass.old.pass }
         ensures state { pass.new.pass.state ≡ deciding_state decision pass.old.pass.state }
         ensures number { pass.new.pass.number ≡ pass.old.pass.number }
+        ensures more { KnowsMore pass.old.pass.knows pass.new.pass.knows }
     {
         let word = pass.number as usize + 1;
         let code = decision.code();
         let found = self
             .board
             .shared
-            .compare_exchange::<Deciding>(&mut pass.seat, word, 0, code);
+            .compare_exchange::<PassExchangeDecision>(&mut pass.seat, word, UNDECIDED, code);
         match decision_in(found) {
             None => decision,
             Some(other) => other,
@@ -152,16 +165,17 @@ impl<A: Allocator> Gate<A> {
         requires own { pass_gate pass.old ≡ self.now }
         requires stands { MayRelease pass.old.pass }
         ensures gate { pass_gate pass.new ≡ pass_gate pass.old }
-        ensures answer { (l : Level) × Releases pass.old.pass l pass.new.pass × (result ≡ not (l.waiters == 0)) }
+        ensures answer { (level : Level) × PassSubtractsLevel pass.old.pass level pass.new.pass × (result ≡ not (level.waiters == 0)) }
         ensures state { pass.new.pass.state ≡ Over }
         ensures number { pass.new.pass.number ≡ pass.old.pass.number }
         ensures told { told_own pass.new.pass ≡ told_own pass.old.pass }
+        ensures more { KnowsMore pass.old.pass.knows pass.new.pass.knows }
     {
-        let width = u64::from(pass.width);
+        let width = LevelWord::to_release(pass.width);
         let found = self
             .board
             .shared
-            .fetch_sub::<Releasing>(&mut pass.seat, 0, width);
+            .fetch_sub::<PassSubtractLevel>(&mut pass.seat, 0, width);
         level_in(found).waiters() != 0
     }
 
@@ -171,12 +185,14 @@ impl<A: Allocator> Gate<A> {
         requires fresh { pass.old.pass.state ≡ Fresh }
         ensures gate { pass_gate pass.new ≡ pass_gate pass.old }
         ensures same { (pass.new.pass.number ≡ pass.old.pass.number) × (pass.new.pass.state ≡ Fresh) × (pass.new.pass.knows.shape ≡ pass.old.pass.knows.shape) }
-        ensures looked { Looks pass.old.pass result pass.new.pass }
+        ensures looked { PassLoadsLevel pass.old.pass result pass.new.pass }
+        ensures in_range { IsInRange result }
         ensures closed { result.closed ≡ true → pass.new.pass.knows.saw_closed ≡ true }
         ensures no_room { result.closed ≡ false → result.waiters ≡ 0 → ¬ Fits result.seats result.limit (own_width pass.old.pass) → pass.new.pass.no_room ≡ true }
         ensures no_queues { self.now.shape.response ≡ Reject → result.waiters ≡ 0 }
+        ensures more { KnowsMore pass.old.pass.knows pass.new.pass.knows }
     {
-        level_in(self.board.shared.load::<Looking>(&mut pass.seat, 0))
+        level_in(self.board.shared.load::<PassLoadLevel>(&mut pass.seat, 0))
     }
 
     // One exchange, of the word that says this for one with the request's seats. Says whether it was
@@ -185,21 +201,21 @@ impl<A: Allocator> Gate<A> {
         requires own { pass_gate pass.old ≡ self.now }
         requires fresh { pass.old.pass.state ≡ Fresh }
         requires in_range { IsInRange level }
-        requires no_queues { self.now.shape.response ≡ Reject → level.waiters ≡ 0 }
         requires open_ { level.closed ≡ false }
         requires nobody { level.waiters ≡ 0 }
         requires room { Fits level.seats level.limit (own_width pass.old.pass) }
         ensures gate { pass_gate pass.new ≡ pass_gate pass.old }
         ensures took { MatchBool result
-            (Takes pass.old.pass level pass.new.pass)
-            ((other : Level) × (other ≢ level) × Looks pass.old.pass other pass.new.pass) }
+            (PassExchangesLevel pass.old.pass level pass.new.pass)
+            ((other : Level) × (other ≢ level) × PassMissesLevel pass.old.pass other pass.new.pass) }
+        ensures more { KnowsMore pass.old.pass.knows pass.new.pass.knows }
     {
         let word = level.pack();
-        let new = word + u64::from(pass.width);
+        let new = level.with_seats(pass.width).pack();
         let found = self
             .board
             .shared
-            .compare_exchange::<Taking>(&mut pass.seat, 0, word, new);
+            .compare_exchange::<PassExchangeLevel>(&mut pass.seat, 0, word, new);
         if found != word {
             return false;
         }

@@ -1,4 +1,5 @@
-//! What each step tells, and how a token's part goes from one seat to another.
+//! What each step tells, by its token, its operation and its word, and how a token's part goes from one
+//! seat to another.
 
 use crate::record::Record;
 use atomic_table::{Join, Play, Split};
@@ -6,102 +7,113 @@ use std::collections::LinkedList;
 use std::marker::{Brand, PhantomData};
 
 /// A Pass loads the level word.
-pub(crate) struct Looking;
+pub(crate) struct PassLoadLevel;
 
-impl Play<(), LinkedList<Record>> for Looking {
-    ghost use Rattle.apf_gate.specs.Steps.{ByPass, LooksAt};
+impl Play<(), LinkedList<Record>> for PassLoadLevel {
+    ghost use Rattle.apf_gate.specs.Steps.{ByPass, OnLevel};
+    ghost use Rattle.apf_gate.specs.PassSteps.{PassLoadsLevel};
 
-    ghost then = { λ _. ByPass LooksAt };
+    ghost then = { λ _. ByPass (OnLevel PassLoadsLevel) };
 }
 
 /// A Pass exchanges the level word for one with its seats.
-pub(crate) struct Taking;
+pub(crate) struct PassExchangeLevel;
 
-impl Play<(), LinkedList<Record>> for Taking {
-    ghost use Rattle.apf_gate.specs.Steps.{ByPass, TakesAt};
+impl Play<(), LinkedList<Record>> for PassExchangeLevel {
+    ghost use Rattle.apf_gate.specs.Steps.{ByPass, OnLevelIf};
+    ghost use Rattle.apf_gate.specs.PassSteps.{PassExchangesLevel, PassMissesLevel};
 
-    ghost then = { λ s. ByPass (λ p n q. TakesAt p s.first n q) };
+    ghost then = { λ s. ByPass (OnLevelIf s.first PassExchangesLevel PassMissesLevel) };
 }
 
-/// A Pass gives its seats back.
-pub(crate) struct Releasing;
+/// A Pass subtracts its seats from the level word.
+pub(crate) struct PassSubtractLevel;
 
-impl Play<(), LinkedList<Record>> for Releasing {
-    ghost use Rattle.apf_gate.specs.Steps.{ByPass, ReleasesAt};
+impl Play<(), LinkedList<Record>> for PassSubtractLevel {
+    ghost use Rattle.apf_gate.specs.Steps.{ByPass, OnLevel};
+    ghost use Rattle.apf_gate.specs.PassSteps.{PassSubtractsLevel};
 
-    ghost then = { λ _. ByPass ReleasesAt };
+    ghost then = { λ _. ByPass (OnLevel PassSubtractsLevel) };
 }
 
 /// A Pass loads its decision word.
-pub(crate) struct Hearing;
+pub(crate) struct PassLoadDecision;
 
-impl Play<(), LinkedList<Record>> for Hearing {
-    ghost use Rattle.apf_gate.specs.Steps.{ByPass, HearsAt};
+impl Play<(), LinkedList<Record>> for PassLoadDecision {
+    ghost use Rattle.apf_gate.specs.Steps.{ByPass, OnDecision};
+    ghost use Rattle.apf_gate.specs.PassSteps.{PassLoadsDecision};
 
-    ghost then = { λ _. ByPass HearsAt };
+    ghost then = { λ _. ByPass (OnDecision PassLoadsDecision) };
 }
 
 /// A Pass loads its decision word, and is in line if it was fresh.
-pub(crate) struct Asking;
+pub(crate) struct PassAskDecision;
 
-impl Play<(), LinkedList<Record>> for Asking {
-    ghost use Rattle.apf_gate.specs.Steps.{ByPass, AsksAt};
+impl Play<(), LinkedList<Record>> for PassAskDecision {
+    ghost use Rattle.apf_gate.specs.Steps.{ByPass, OnDecision};
+    ghost use Rattle.apf_gate.specs.PassSteps.{PassAsksDecision};
 
-    ghost then = { λ _. ByPass AsksAt };
+    ghost then = { λ _. ByPass (OnDecision PassAsksDecision) };
 }
 
-/// A Pass exchanges its decision word, where it is 0, for the code of a decision.
-pub(crate) struct Deciding;
+/// A Pass exchanges its decision word, where it is undecided, for the code of a decision.
+pub(crate) struct PassExchangeDecision;
 
-impl Play<(), LinkedList<Record>> for Deciding {
-    ghost use Rattle.apf_gate.specs.Steps.{ByPass, DecidesAt};
+impl Play<(), LinkedList<Record>> for PassExchangeDecision {
+    ghost use Rattle.apf_gate.specs.Steps.{ByPass, OnDecisionIf, Writing};
+    ghost use Rattle.apf_gate.specs.PassSteps.{PassExchangesDecision, PassMissesDecision};
 
-    ghost then = { λ s. ByPass (λ p n q. DecidesAt p s.second n q) };
+    ghost then = { λ s. ByPass (Writing s.second (λ decision. OnDecisionIf (PassExchangesDecision decision) (PassMissesDecision decision))) };
 }
 
 /// A Station loads the level word.
-pub(crate) struct LookingFrom;
+pub(crate) struct StationLoadLevel;
 
-impl Play<(), LinkedList<Record>> for LookingFrom {
-    ghost use Rattle.apf_gate.specs.Steps.{ByStation, LooksFromAt};
+impl Play<(), LinkedList<Record>> for StationLoadLevel {
+    ghost use Rattle.apf_gate.specs.Steps.{ByStation, OnLevel};
+    ghost use Rattle.apf_gate.specs.StationSteps.{StationLoadsLevel};
 
-    ghost then = { λ _. ByStation LooksFromAt };
-}
-
-/// A Station loads a decision word.
-pub(crate) struct Reading;
-
-impl Play<(), LinkedList<Record>> for Reading {
-    ghost use Rattle.apf_gate.specs.Steps.{ByStation, ReadsAt};
-
-    ghost then = { λ s. ByStation (λ t n b. ReadsAt t s.word n b) };
-}
-
-/// A Station exchanges a decision word, where it is 0, for the code of cancelled.
-pub(crate) struct Cancelling;
-
-impl Play<(), LinkedList<Record>> for Cancelling {
-    ghost use Rattle.apf_gate.specs.Steps.{ByStation, CancelsAt};
-
-    ghost then = { λ s. ByStation (λ t n b. CancelsAt t s.word n b) };
-}
-
-/// A Station closes the level.
-pub(crate) struct Closing;
-
-impl Play<(), LinkedList<Record>> for Closing {
-    ghost use Rattle.apf_gate.specs.Steps.{ByStation, ClosesAt};
-
-    ghost then = { λ _. ByStation ClosesAt };
+    ghost then = { λ _. ByStation (OnLevel StationLoadsLevel) };
 }
 
 /// A Station exchanges the level word for one with its limit.
-pub(crate) struct Setting;
+pub(crate) struct StationExchangeLevel;
 
-impl Play<(), LinkedList<Record>> for Setting {
-    ghost use Rattle.apf_gate.specs.Steps.{ByStation, SetsAt};
+impl Play<(), LinkedList<Record>> for StationExchangeLevel {
+    ghost use Rattle.apf_gate.specs.Steps.{ByStation, OnLevelIf, Setting};
+    ghost use Rattle.apf_gate.specs.StationSteps.{StationExchangesLevel, StationLoadsLevel};
 
-    ghost then = { λ s. ByStation (λ t n b. SetsAt t s.first s.second n b) };
+    ghost then = { λ s. ByStation (Setting s.second (λ limit. OnLevelIf s.first (StationExchangesLevel limit) StationLoadsLevel)) };
+}
+
+/// A Station sets the bit of a closed level.
+pub(crate) struct StationCloseLevel;
+
+impl Play<(), LinkedList<Record>> for StationCloseLevel {
+    ghost use Rattle.apf_gate.specs.Steps.{ByStation, OnLevel};
+    ghost use Rattle.apf_gate.specs.StationSteps.{StationClosesLevel};
+
+    ghost then = { λ _. ByStation (OnLevel StationClosesLevel) };
+}
+
+/// A Station loads a decision word.
+pub(crate) struct StationLoadDecision;
+
+impl Play<(), LinkedList<Record>> for StationLoadDecision {
+    ghost use Rattle.apf_gate.specs.Steps.{ByStation, OnDecision, request_at};
+    ghost use Rattle.apf_gate.specs.StationSteps.{StationLoadsDecision};
+
+    ghost then = { λ s. ByStation (OnDecision (StationLoadsDecision (request_at s.word))) };
+}
+
+/// A Station exchanges a decision word, where it is undecided, for the code of cancelled.
+pub(crate) struct StationExchangeDecision;
+
+impl Play<(), LinkedList<Record>> for StationExchangeDecision {
+    ghost use Rattle.apf_gate.specs.Steps.{ByStation, OnDecisionIf, request_at};
+    ghost use Rattle.apf_gate.specs.StationSteps.{StationExchangesDecision, StationLoadsDecision};
+
+    ghost then = { λ s. ByStation (OnDecisionIf (StationExchangesDecision (request_at s.word)) (StationLoadsDecision (request_at s.word))) };
 }
 
 /// Names the request that a step of the Desk is about, where its word does not. A call picks it.
@@ -116,93 +128,104 @@ impl Chosen for Brand {
 }
 
 /// The Desk loads the level word.
-pub(crate) struct Viewing;
+pub(crate) struct DeskLoadLevel;
 
-impl Play<(), LinkedList<Record>> for Viewing {
-    ghost use Rattle.apf_gate.specs.Steps.{ByDesk, ViewsAt};
+impl Play<(), LinkedList<Record>> for DeskLoadLevel {
+    ghost use Rattle.apf_gate.specs.Steps.{ByDesk, OnLevel};
+    ghost use Rattle.apf_gate.specs.DeskSteps.{DeskLoadsLevel};
 
-    ghost then = { λ _. ByDesk ViewsAt };
-}
-
-/// The Desk loads a decision word.
-pub(crate) struct Seeing;
-
-impl Play<(), LinkedList<Record>> for Seeing {
-    ghost use Rattle.apf_gate.specs.Steps.{ByDesk, SeesAt};
-
-    ghost then = { λ s. ByDesk (λ d n e. SeesAt d s.word n e) };
+    ghost then = { λ _. ByDesk (OnLevel DeskLoadsLevel) };
 }
 
 /// The Desk exchanges the level word for one with a request granted.
-pub(crate) struct Granting<J: Chosen>(PhantomData<J>);
+pub(crate) struct DeskExchangeLevel<J: Chosen>(PhantomData<J>);
 
-impl<J: Chosen> Play<(), LinkedList<Record>> for Granting<J> {
-    ghost use Rattle.apf_gate.specs.Steps.{ByDesk, GrantsAt};
+impl<J: Chosen> Play<(), LinkedList<Record>> for DeskExchangeLevel<J> {
+    ghost use Rattle.apf_gate.specs.Steps.{ByDesk, OnLevelIf};
+    ghost use Rattle.apf_gate.specs.DeskSteps.{DeskExchangesLevel, DeskLoadsLevel};
 
-    ghost then = { λ s. ByDesk (λ d n e. GrantsAt d J.request s.first n e) };
+    ghost then = { λ s. ByDesk (OnLevelIf s.first (DeskExchangesLevel J.request) DeskLoadsLevel) };
 }
 
-/// The Desk exchanges a decision word, where it is 0, for the code of execute.
-pub(crate) struct Settling;
+/// The Desk subtracts the seats that it holds from the level word.
+pub(crate) struct DeskSubtractSeats<J: Chosen>(PhantomData<J>);
 
-impl Play<(), LinkedList<Record>> for Settling {
-    ghost use Rattle.apf_gate.specs.Steps.{ByDesk, SettlesAt};
+impl<J: Chosen> Play<(), LinkedList<Record>> for DeskSubtractSeats<J> {
+    ghost use Rattle.apf_gate.specs.Steps.{ByDesk, OnLevel};
+    ghost use Rattle.apf_gate.specs.DeskSteps.{DeskSubtractsSeats};
 
-    ghost then = { λ s. ByDesk (λ d n e. SettlesAt d s.word n e) };
+    ghost then = { λ _. ByDesk (OnLevel (DeskSubtractsSeats J.request)) };
 }
 
-/// The Desk gives the seats back that it holds.
-pub(crate) struct GivingBack<J: Chosen>(PhantomData<J>);
+/// The Desk subtracts a cancelled request from those that wait in the level word.
+pub(crate) struct DeskSubtractWaiter<J: Chosen>(PhantomData<J>);
 
-impl<J: Chosen> Play<(), LinkedList<Record>> for GivingBack<J> {
-    ghost use Rattle.apf_gate.specs.Steps.{ByDesk, GivesBackAt};
+impl<J: Chosen> Play<(), LinkedList<Record>> for DeskSubtractWaiter<J> {
+    ghost use Rattle.apf_gate.specs.Steps.{ByDesk, OnLevel};
+    ghost use Rattle.apf_gate.specs.DeskSteps.{DeskSubtractsWaiter};
 
-    ghost then = { λ _. ByDesk (λ d n e. GivesBackAt d J.request n e) };
+    ghost then = { λ _. ByDesk (OnLevel (DeskSubtractsWaiter J.request)) };
 }
 
-/// A cancelled request leaves the line.
-pub(crate) struct Leaving<J: Chosen>(PhantomData<J>);
+/// The Desk loads a decision word.
+pub(crate) struct DeskLoadDecision;
 
-impl<J: Chosen> Play<(), LinkedList<Record>> for Leaving<J> {
-    ghost use Rattle.apf_gate.specs.Steps.{ByDesk, LeavesAt};
+impl Play<(), LinkedList<Record>> for DeskLoadDecision {
+    ghost use Rattle.apf_gate.specs.Steps.{ByDesk, OnDecision, request_at};
+    ghost use Rattle.apf_gate.specs.DeskSteps.{DeskLoadsDecision};
 
-    ghost then = { λ _. ByDesk (λ d n e. LeavesAt d J.request n e) };
+    ghost then = { λ s. ByDesk (OnDecision (DeskLoadsDecision (request_at s.word))) };
+}
+
+/// The Desk exchanges a decision word, where it is undecided, for the code of execute.
+pub(crate) struct DeskExchangeDecision;
+
+impl Play<(), LinkedList<Record>> for DeskExchangeDecision {
+    ghost use Rattle.apf_gate.specs.Steps.{ByDesk, OnDecisionIf, request_at};
+    ghost use Rattle.apf_gate.specs.DeskSteps.{DeskExchangesDecision, DeskMissesDecision};
+
+    ghost then = { λ s. ByDesk (OnDecisionIf (DeskExchangesDecision (request_at s.word)) (DeskMissesDecision (request_at s.word))) };
 }
 
 /// The Desk, with a Pass joined, loads the level word.
-pub(crate) struct Handing;
+pub(crate) struct JoinedLoadLevel;
 
-impl Play<(), LinkedList<Record>> for Handing {
-    ghost use Rattle.apf_gate.specs.Steps.{ByBoth, HandsAt};
+impl Play<(), LinkedList<Record>> for JoinedLoadLevel {
+    ghost use Rattle.apf_gate.specs.Steps.{ByBoth, OnLevel};
+    ghost use Rattle.apf_gate.specs.JoinedSteps.{JoinedLoadsLevel};
 
-    ghost then = { λ _. ByBoth HandsAt };
+    ghost then = { λ _. ByBoth (OnLevel JoinedLoadsLevel) };
 }
 
 /// The Desk, with a Pass joined, exchanges the level word for one with one waiter more.
-pub(crate) struct Entering;
+pub(crate) struct JoinedExchangeLevel;
 
-impl Play<(), LinkedList<Record>> for Entering {
-    ghost use Rattle.apf_gate.specs.Steps.{ByBoth, EntersAt};
+impl Play<(), LinkedList<Record>> for JoinedExchangeLevel {
+    ghost use Rattle.apf_gate.specs.Steps.{ByBoth, OnLevelIf};
+    ghost use Rattle.apf_gate.specs.JoinedSteps.{JoinedExchangesLevel, JoinedLoadsLevel};
 
-    ghost then = { λ s. ByBoth (λ p d n q e. EntersAt p d s.first n q e) };
-}
-
-/// The Desk, with a Pass joined, exchanges the decision word, where it is 0, for the code of a refusal.
-pub(crate) struct Refusing;
-
-impl Play<(), LinkedList<Record>> for Refusing {
-    ghost use Rattle.apf_gate.specs.Steps.{ByBoth, RefusesAt};
-
-    ghost then = { λ s. ByBoth (λ p d n q e. RefusesAt p d s.second n q e) };
+    ghost then = { λ s. ByBoth (OnLevelIf s.first JoinedExchangesLevel JoinedLoadsLevel) };
 }
 
 /// The Desk, with a Pass joined, loads the decision word.
-pub(crate) struct Learning;
+pub(crate) struct JoinedLoadDecision;
 
-impl Play<(), LinkedList<Record>> for Learning {
-    ghost use Rattle.apf_gate.specs.Steps.{ByBoth, LearnsAt};
+impl Play<(), LinkedList<Record>> for JoinedLoadDecision {
+    ghost use Rattle.apf_gate.specs.Steps.{ByBoth, OnDecision};
+    ghost use Rattle.apf_gate.specs.JoinedSteps.{JoinedLoadsDecision};
 
-    ghost then = { λ _. ByBoth LearnsAt };
+    ghost then = { λ _. ByBoth (OnDecision JoinedLoadsDecision) };
+}
+
+/// The Desk, with a Pass joined, exchanges the decision word, where it is undecided, for the code of a
+/// refusal.
+pub(crate) struct JoinedExchangeDecision;
+
+impl Play<(), LinkedList<Record>> for JoinedExchangeDecision {
+    ghost use Rattle.apf_gate.specs.Steps.{ByBoth, OnDecisionIf, Writing};
+    ghost use Rattle.apf_gate.specs.JoinedSteps.{JoinedExchangesDecision, JoinedMissesDecision};
+
+    ghost then = { λ s. ByBoth (Writing s.second (λ decision. OnDecisionIf (JoinedExchangesDecision decision) JoinedMissesDecision)) };
 }
 
 /// The first token's part of a seat goes to a seat of its own, or is joined in front of another's.

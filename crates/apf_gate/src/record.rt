@@ -68,14 +68,16 @@ pub struct PassRecord {
     pub state: State,
     /// Whether it asked.
     pub asked: bool,
+    /// Whether its request was handed to the Desk.
+    pub handed: bool,
     /// Whether its request entered.
     pub entered: bool,
     /// Whether it took seats.
     pub took: bool,
-    /// Whether a step of it found no room: an open level in which nobody waits and its request does
+    /// Whether a load of it found no room: an open level in which nobody waits and its request does
     /// not fit.
     pub saw_no_room: bool,
-    /// Whether its last step found no room.
+    /// Whether its last step was a load that found no room.
     pub no_room: bool,
     /// The decision that it wrote.
     pub wrote: Option<Decision>,
@@ -90,7 +92,9 @@ pub enum Service {
     /// It was handed the request.
     Handed,
     /// It refused the request, as its queue was full.
-    Full,
+    RefusedFull,
+    /// It refused the request, as the level was closed.
+    RefusedClosed,
     /// It entered the request, which waits.
     Waiting,
     /// It holds the request's seats, and the decision is still to be written.

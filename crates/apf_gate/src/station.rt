@@ -3,15 +3,21 @@
 ghost use Rattle.std.specs.Prelude.{◌≡◌, ◌≢◌, ◌⊎◌, ◌↔◌, ◌<◌, ◌≤◌, ◌==◌, length, not, true, false, MatchBool, Option, Some, None};
 ghost use Rattle.apf_words.specs.Level.{Level};
 ghost use Rattle.apf_words.specs.declared.decision.Decision.TheVariants.{Cancelled};
-ghost use Rattle.apf_gate.specs.Records.{told_of};
-ghost use Rattle.apf_gate.specs.Steps.{IsInRange, OfDecision, LooksFrom, Reads, Cancels, Closes, Sets};
-ghost use Rattle.apf_gate.specs.Calls.{station_gate, CancelsTo, ClosesTo, TriesToSet};
+ghost use Rattle.apf_gate.specs.Records.{told_of, KnowsMore};
+ghost use Rattle.apf_words.specs.Limits.{max_limit};
+ghost use Rattle.apf_gate.specs.Steps.{IsInRange, OfDecision};
+ghost use Rattle.apf_gate.specs.StationSteps.{StationLoadsLevel, StationLoadsDecision, StationExchangesDecision, StationExchangesLevel};
+ghost use Rattle.apf_gate.specs.Tokens.{station_gate};
+ghost use Rattle.apf_gate.specs.StationCalls.{CancelsTo, ClosesTo, TriesToSet};
 
 use crate::answers::{Close, TrySetLimit};
-use crate::gate::{CLOSED, Gate, LIMIT, decision_in, level_in};
-use crate::plays::{Cancelling, Closing, LookingFrom, Reading, Setting};
+use crate::gate::{Gate, decision_in, level_in};
+use crate::plays::{
+    StationCloseLevel, StationExchangeDecision, StationExchangeLevel, StationLoadDecision,
+    StationLoadLevel,
+};
 use crate::rule::Place;
-use apf_words::{Decision, LevelWord};
+use apf_words::{Decision, LevelWord, UNDECIDED};
 use std::alloc::Allocator;
 use std::marker::Model;
 
@@ -24,8 +30,8 @@ pub struct Station {
 impl Model for Station {
     ghost use Rattle.std.specs.Prelude.{◌≡◌, [], ◌∷◌};
     ghost use Rattle.apf_gate.specs.declared.record.Record.TheVariants as records;
-    ghost use Rattle.apf_gate.specs.Calls.{StationToken};
     ghost use Rattle.apf_gate.specs.Rule.{station_of};
+    ghost use Rattle.apf_gate.specs.Tokens.{StationToken};
 
     ghost Value = { StationToken };
 
@@ -42,12 +48,14 @@ impl<A: Allocator> Gate<A> {
     pub fn look(&self, station: &mut Station) -> LevelWord
         requires own { station_gate station.old ≡ self.now }
         ensures gate { station_gate station.new ≡ station_gate station.old }
-        ensures answer { LooksFrom station.old.station result station.new.station }
+        ensures answer { StationLoadsLevel station.old.station result station.new.station }
         ensures in_range { IsInRange result }
         ensures closed { result.closed ≡ true → station.new.station.knows.saw_closed ≡ true }
         ensures stays_closed { station.old.station.knows.saw_closed ≡ true → result.closed ≡ true }
+        ensures more { KnowsMore station.old.station.knows station.new.station.knows }
     {
-        level_in(self.board.shared.load::<LookingFrom>(&mut station.seat, 0))
+        let shared = &self.board.shared;
+        level_in(shared.load::<StationLoadLevel>(&mut station.seat, 0))
     }
 
     /// Reads a request's decision, by one load of its word.
@@ -55,9 +63,10 @@ impl<A: Allocator> Gate<A> {
         requires own { station_gate station.old ≡ self.now }
         requires is_request { request < length self.now.shape.widths }
         ensures gate { station_gate station.new ≡ station_gate station.old }
-        ensures answer { Reads station.old.station request result station.new.station }
+        ensures answer { StationLoadsDecision request station.old.station result station.new.station }
         ensures told { result ≢ None → told_of station.new.station.knows.told request ≡ result }
         ensures stays { told_of station.old.station.knows.told request ≢ None → result ≡ told_of station.old.station.knows.told request }
+        ensures more { KnowsMore station.old.station.knows station.new.station.knows }
     {
         decision_in(self.load_word(station, request))
     }
@@ -71,6 +80,7 @@ impl<A: Allocator> Gate<A> {
         ensures answer { CancelsTo station.old.station request result station.new.station }
         ensures told { told_of station.new.station.knows.told request ≡ Some result }
         ensures stays { told_of station.old.station.knows.told request ≢ None → Some result ≡ told_of station.old.station.knows.told request }
+        ensures more { KnowsMore station.old.station.knows station.new.station.knows }
     {
         match decision_in(self.exchange_word(station, request)) {
             None => {
@@ -88,11 +98,14 @@ impl<A: Allocator> Gate<A> {
         ensures answer { ClosesTo station.old.station result station.new.station }
         ensures closed { station.new.station.knows.saw_closed ≡ true }
         ensures stays_closed { station.old.station.knows.saw_closed ≡ true → result ≡ Close.Already }
+        ensures more { KnowsMore station.old.station.knows station.new.station.knows }
     {
-        let found = self
-            .board
-            .shared
-            .fetch_or::<Closing>(&mut station.seat, 0, CLOSED);
+        let shared = &self.board.shared;
+        let found = shared.fetch_or::<StationCloseLevel>(
+            &mut station.seat,
+            0,
+            LevelWord::to_close(),
+        );
         if level_in(found).closed() {
             return Close::Already;
         }
@@ -104,9 +117,10 @@ impl<A: Allocator> Gate<A> {
     pub fn try_set_limit(&self, station: &mut Station, limit: u32) -> TrySetLimit
         requires own { station_gate station.old ≡ self.now }
         requires some_limit { 1 ≤ limit }
-        requires small_limit { limit ≤ 10000 }
+        requires small_limit { limit ≤ max_limit }
         ensures gate { station_gate station.new ≡ station_gate station.old }
         ensures answer { TriesToSet station.old.station limit result station.new.station }
+        ensures more { KnowsMore station.old.station.knows station.new.station.knows }
     {
         let level = self.look(station);
         if !self.exchange_limit(station, level, limit) {
@@ -120,10 +134,13 @@ impl<A: Allocator> Gate<A> {
         requires own { station_gate station.old ≡ self.now }
         requires is_request { request < length self.now.shape.widths }
         ensures gate { station_gate station.new ≡ station_gate station.old }
-        ensures found { OfDecision (λ d. Reads station.old.station request d station.new.station) result }
+        ensures found { OfDecision (λ found. StationLoadsDecision request station.old.station found station.new.station) result }
+        ensures more { KnowsMore station.old.station.knows station.new.station.knows }
     {
         let word = request as usize + 1;
-        self.board.shared.load::<Reading>(&mut station.seat, word)
+        self.board
+            .shared
+            .load::<StationLoadDecision>(&mut station.seat, word)
     }
 
     // One exchange of a decision word, for the code of cancelled where it is 0.
@@ -131,12 +148,14 @@ impl<A: Allocator> Gate<A> {
         requires own { station_gate station.old ≡ self.now }
         requires is_request { request < length self.now.shape.widths }
         ensures gate { station_gate station.new ≡ station_gate station.old }
-        ensures found { OfDecision (λ d. MatchBool (result == 0) (Cancels station.old.station request station.new.station) (Reads station.old.station request d station.new.station)) result }
+        ensures found { OfDecision (λ found. MatchBool (result == 0) (StationExchangesDecision request station.old.station station.new.station) (StationLoadsDecision request station.old.station found station.new.station)) result }
+        ensures more { KnowsMore station.old.station.knows station.new.station.knows }
     {
         let word = request as usize + 1;
+        let code = Decision::Cancelled.code();
         self.board
             .shared
-            .compare_exchange::<Cancelling>(&mut station.seat, word, 0, 4)
+            .compare_exchange::<StationExchangeDecision>(&mut station.seat, word, UNDECIDED, code)
     }
 
     // One exchange, of the word that says this for one with the limit. Says whether it was made.
@@ -144,18 +163,19 @@ impl<A: Allocator> Gate<A> {
         requires own { station_gate station.old ≡ self.now }
         requires in_range { IsInRange level }
         requires some_limit { 1 ≤ limit }
-        requires small_limit { limit ≤ 10000 }
+        requires small_limit { limit ≤ max_limit }
         ensures gate { station_gate station.new ≡ station_gate station.old }
         ensures set { MatchBool result
-            (Sets station.old.station level limit station.new.station)
-            ((other : Level) × (other ≢ level) × LooksFrom station.old.station other station.new.station) }
+            (StationExchangesLevel limit station.old.station level station.new.station)
+            ((other : Level) × (other ≢ level) × StationLoadsLevel station.old.station other station.new.station) }
+        ensures more { KnowsMore station.old.station.knows station.new.station.knows }
     {
         let word = level.pack();
-        let new = word - u64::from(level.limit()) * LIMIT + u64::from(limit) * LIMIT;
+        let new = level.with_limit(limit).pack();
         let found = self
             .board
             .shared
-            .compare_exchange::<Setting>(&mut station.seat, 0, word, new);
+            .compare_exchange::<StationExchangeLevel>(&mut station.seat, 0, word, new);
         if found != word {
             return false;
         }

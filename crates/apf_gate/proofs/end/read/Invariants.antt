@@ -2,7 +2,7 @@ use Rattle.std.proofs.Common.{◌≡◌, ℕ, ◌+◌, ◌<◌, ◌≤◌, lengt
 use Rattle.std.specs.Prelude.{slice_get, slice_index, vec_capacity}
 use Rattle.std.specs.Mem.Slots.{slots_items}
 use Rattle.apf_words.specs.declared.decision.Decision.{Decision}
-use Rattle.apf_gate.specs.Records.{code_in}
+use Rattle.apf_words.specs.Codes.{code_in}
 use Rattle.apf_gate.proofs.end.read.Given as goal
 
 abbrev pub invariant-loop-r : goal.invariant-loop-r

@@ -1,6 +1,6 @@
 use Rattle.std.proofs.Common.{ℕ, ◌<◌}
 use Rattle.apf_model.specs.World.{width}
-use Rattle.apf_gate.specs.Calls.{IsWidth}
+use Rattle.apf_gate.specs.Opens.{IsWidth}
 use Rattle.apf_gate.proofs.open.first_bad.Given as goal
 
 abbrev pub invariant-loop-r : goal.invariant-loop-r

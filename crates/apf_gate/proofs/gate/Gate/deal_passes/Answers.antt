@@ -4,10 +4,9 @@ use Rattle.std.specs.Prelude.{List}
 use Rattle.apf_model.specs.World.{width}
 use Rattle.apf_gate.specs.declared.record.Record.{Record}
 use Rattle.apf_gate.specs.declared.record.Record.TheVariants.{Pass}
-use Rattle.apf_gate.specs.Records.{new_pass}
+use Rattle.apf_gate.specs.Records.{new_pass, own_width}
 use Rattle.apf_gate.specs.Rule.{pass_of, first_alone, without_first}
-use Rattle.apf_gate.specs.Steps.{own_width}
-use Rattle.apf_gate.specs.Calls.{GateId}
+use Rattle.apf_gate.specs.Tokens.{GateId}
 use Rattle.apf_gate.proofs.Opening.{pass_dealt}
 use Rattle.apf_gate.proofs.Puts.{any_default}
 use Rattle.apf_gate.proofs.Seats.{cuts}

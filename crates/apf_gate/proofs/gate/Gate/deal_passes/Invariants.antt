@@ -1,6 +1,6 @@
 use Rattle.std.proofs.Common.{◌≡◌, []}
 use Rattle.apf_gate.specs.Rule.{opening_records}
-use Rattle.apf_gate.specs.Calls.{new_passes}
+use Rattle.apf_gate.specs.Opens.{new_passes}
 use Rattle.apf_gate.proofs.gate.Gate.deal_passes.Given as goal
 
 abbrev pub invariant-loop-r : goal.invariant-loop-r

@@ -1,6 +1,6 @@
 use Rattle.std.proofs.Common.{◌≡◌, []}
 use Rattle.apf_gate.specs.Rule.{opening_stations}
-use Rattle.apf_gate.specs.Calls.{new_stations}
+use Rattle.apf_gate.specs.Opens.{new_stations}
 use Rattle.apf_gate.proofs.gate.Gate.deal_stations.Given as goal
 
 abbrev pub invariant-loop-k : goal.invariant-loop-k

@@ -1,8 +1,9 @@
 use Rattle.std.proofs.Common.{rules, ◌<◌, length, arith, sym, ap, ◌∙◌, subst}
 use Rattle.apf_gate.specs.declared.record.Shape.{Shape}
 use Rattle.apf_gate.specs.Rule.{pass_of}
-use Rattle.apf_gate.specs.Calls.{GateId, PassToken, MayWrite}
-use Rattle.apf_gate.proofs.PassWordSteps.{decides}
+use Rattle.apf_gate.specs.Tokens.{GateId, PassToken}
+use Rattle.apf_gate.specs.PassCalls.{MayWrite}
+use Rattle.apf_gate.proofs.PassDecision.{pass_exchanges_decision}
 use Rattle.apf_gate.proofs.gate.Gate.decide.Goals as goal
 
 pub compare_exchange-found-requires : goal.compare_exchange-found-requires
@@ -12,4 +13,4 @@ compare_exchange-found-requires g c =
     let may = subst (λ (t : PassToken). MayWrite t.pass c.args.decision) (sym c.pass.view_is) c.requires.may in
     let shape = ap (λ (t : PassToken). t.pass.knows.shape) c.pass.view_is ∙ (ap (λ (x : GateId). x.shape) c.requires.own ∙ sym (ap (λ (x : GateId). x.shape) c.self.view_is)) in
     let inside = subst (λ (x : Shape). (pass_of c.pass.inside.seat.me.0).number < length x.widths) shape m.inside in
-    (search rules, omega (arith, i.has_words, m.same_number, inside), rw (i.same_key, m.alone, m.same_number, c.code-code.ensures) (decides _ i.shape i.laws _ _ _ c.args.decision may))
+    (search rules, omega (arith, i.has_words, m.same_number, inside), rw (i.same_key, m.alone, m.same_number, c.code-code.ensures) (pass_exchanges_decision _ _ _ _ c.args.decision may))

@@ -1,6 +1,8 @@
-use Rattle.std.proofs.Common.{rules, ◌≡◌, ◌+◌, ◌*◌, length, set, replicate, arith, sym, ap, ◌∙◌, subst, length-set}
+use Rattle.std.proofs.Common.{rules, ◌≡◌, ◌+◌, false, length, set, replicate, arith, sym, ap, ◌∙◌, subst, length-set}
+use Rattle.apf_words.specs.Level.{packed}
+use Rattle.apf_words.specs.Limits.{max_width}
 use Rattle.apf_gate.specs.declared.record.Shape.{Shape}
-use Rattle.apf_gate.specs.Records.{opening_of}
+use Rattle.apf_gate.specs.Traces.{opening_of}
 use Rattle.apf_gate.specs.Gauges.{shape_of, IsShape, AreLaws}
 use Rattle.std.proofs.lemmas.List.{length-replicate}
 use Rattle.std.specs.declared.snapshot.Snapshot.{Snapshot}
@@ -20,9 +22,9 @@ of_words-requires g c =
       few_wait = λ w. e.few_wait s.widths w;
       nobody_waits = λ w. e.nobody_waits s.widths w;
       nobody_stands = λ w. e.nobody_stands s.widths w;
-      bounded = λ ms schedule l. e.bounded (opening_of s) ms 20000 shape.widths schedule l (omega arith);
+      bounded = λ ms schedule l. e.bounded (opening_of s) ms max_width shape.widths schedule l (omega arith);
     } in
-    rw (c.of.ensures) (begins s shape laws _ (c.as_slice.ensures.value ∙ (λ k. set ((zeros ∙ ap (λ ws. replicate (length ws + 1) 0) (sym items)) k) 0 (c.from.ensures k * 1099511627776))))
+    rw (c.of.ensures) (begins s shape laws _ (c.as_slice.ensures.value ∙ (λ k. set ((zeros ∙ ap (λ ws. replicate (length ws + 1) 0) (sym items)) k) 0 ((c.pack.ensures.value ∙ ap packed c.opening.ensures) k))))
 
 pub invariant_of-result : goal.invariant_of-result
 invariant_of-result g c =
@@ -32,9 +34,10 @@ invariant_of-result g c =
     let s : Shape = shape_of c.args.limit c.args.response c.in_ok-from_slice.field-0.items c.args.stations in
     let shape : IsShape s = subst (λ ws. IsShape (shape_of c.args.limit c.args.response ws c.args.stations)) (sym items) c.requires in
     let board = c.in_ok-board.ensures in
-    let made : c.as_slice.result.now ≡ set (replicate (length s.widths + 1) 0) 0 (c.args.limit * 1099511627776) =
-    c.as_slice.ensures.value ∙ (λ k. set ((zeros ∙ ap (λ ws. replicate (length ws + 1) 0) (sym items)) k) 0 (c.from.ensures k * 1099511627776)) in record {
-      has_words = board.0 ∙ (ap length made ∙ (length-set (replicate (length s.widths + 1) 0) 0 (c.args.limit * 1099511627776) ∙ length-replicate (length s.widths + 1) 0));
+    let first = packed (record { closed = false; waiters = 0; seats = 0; limit = c.args.limit }) in
+    let made : c.as_slice.result.now ≡ set (replicate (length s.widths + 1) 0) 0 first =
+    c.as_slice.ensures.value ∙ (λ k. set ((zeros ∙ ap (λ ws. replicate (length ws + 1) 0) (sym items)) k) 0 ((c.pack.ensures.value ∙ ap packed c.opening.ensures) k)) in record {
+      has_words = board.0 ∙ (ap length made ∙ (length-set (replicate (length s.widths + 1) 0) 0 first ∙ length-replicate (length s.widths + 1) 0));
       no_slots = search rules;
       same_key = ap (λ (k : Snapshot (Gauge g.row.A.Denot)). shape_of k.value.limit k.value.response k.value.widths.items k.value.stations) board.5 ∙ ap (λ (v : Gauge g.row.A.Denot). shape_of v.limit v.response v.widths.items v.stations) c.of.ensures;
       shape = shape;
@@ -43,6 +46,6 @@ invariant_of-result g c =
         few_wait = λ w. e.few_wait s.widths w;
         nobody_waits = λ w. e.nobody_waits s.widths w;
         nobody_stands = λ w. e.nobody_stands s.widths w;
-        bounded = λ ms schedule l. e.bounded (opening_of s) ms 20000 shape.widths schedule l (omega arith);
+        bounded = λ ms schedule l. e.bounded (opening_of s) ms max_width shape.widths schedule l (omega arith);
       };
     }

@@ -2,13 +2,14 @@ use Rattle.std.proofs.Common.{rules, ◌≡◌, ℕ, ◌+◌, ◌<◌, List, len
 use Rattle.std.specs.Prelude.{slice_index}
 use mathlib.Core.Option.{some}
 use Rattle.apf_gate.specs.declared.record.Shape.{Shape}
-use Rattle.apf_gate.specs.Gauges.{shape_of}
-use Rattle.apf_gate.specs.Records.{world_of, level_of}
+use Rattle.apf_gate.specs.Records.{level_of}
+use Rattle.apf_gate.specs.Traces.{world_of}
 use Rattle.apf_gate.specs.Rule.{IsRuled, IsRecord, IsKeptAt, desk_of}
-use Rattle.apf_gate.specs.Calls.{GateId, DeskToken}
+use Rattle.apf_gate.specs.Gauges.{shape_of}
+use Rattle.apf_gate.specs.Tokens.{GateId, DeskToken}
 use Rattle.apf_gate.specs.Ends.{EndsWith, stations_before, handed_in}
 use Rattle.apf_gate.proofs.Packing.{level_in_range}
-use Rattle.apf_gate.proofs.Views.{every_map}
+use Rattle.apf_gate.proofs.Lists.{every_map}
 use Rattle.apf_gate.proofs.gate.Gate.end.Goals as goal
 
 pub read-requires-clause-level : goal.read-requires-clause-level
@@ -40,6 +41,7 @@ returns g c =
     let ended : EndsWith (record { table = c.args.self.table; shape = own }) (desk_of c.desk.inside.seat.me.0) c.args.passes.items c.args.stations.items c.read.result = record {
       account = h.account;
       sound = h.sound;
+      laws = i.laws;
       level = c.read.ensures.level (level_of own.widths (world_of own h.account.trace)) (ap (λ (ws : List ℕ). slice_index ws 0) (sym f.2) ∙ h.packs.level) (level_in_range own i.shape i.laws f.0 h);
       count = c.read.ensures.count ∙ sym n;
       decided = λ r l. c.read.ensures.decisions r ((world_of own h.account.trace).decision r) (subst (λ k. r < k) n l) (ap (λ (ws : List ℕ). slice_index ws (r + 1)) (sym f.2) ∙ h.packs.decisions r l);

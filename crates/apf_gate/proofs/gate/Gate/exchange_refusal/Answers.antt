@@ -1,14 +1,14 @@
 use Rattle.std.proofs.Common.{◌<◌, length, arith, sym, ap, ◌∙◌, subst}
 use Rattle.apf_gate.specs.declared.record.Shape.{Shape}
-use Rattle.apf_gate.specs.Joined.{pass_at}
-use Rattle.apf_gate.specs.Calls.{GateId}
-use Rattle.apf_gate.proofs.BothSteps.{refuses}
+use Rattle.apf_gate.specs.Tokens.{GateId, both_at}
+use Rattle.apf_gate.proofs.JoinedSteps.{joined_exchanges_decision}
 use Rattle.apf_gate.proofs.gate.Gate.exchange_refusal.Goals as goal
 
 pub compare_exchange-requires : goal.compare_exchange-requires
 compare_exchange-requires g c =
     let i = c.self.invariant in
     let m = c.requires.own in
+    let table = m.same_table ∙ sym (ap (λ (x : GateId). x.table) c.self.view_is) in
     let shape = m.pass_shape ∙ sym (ap (λ (x : GateId). x.shape) c.self.view_is) in
-    let inside = subst (λ (x : Shape). (pass_at c.args.seat.now.me).number < length x.widths) shape m.inside in
-    (m.same_table ∙ sym (ap (λ (x : GateId). x.table) c.self.view_is), omega (arith, i.has_words, inside, c.requires.word), rw (i.same_key, m.both, c.requires.word, c.code-code.ensures) (refuses _ i.shape i.laws _ _ _ _ c.args.decision c.requires.may c.requires.refusal))
+    let inside = subst (λ (x : Shape). (both_at c.args.seat.now.me).pass.number < length x.widths) shape m.inside in
+    (table, omega (arith, i.has_words, inside, c.requires.word), rw (i.same_key, m.both, c.requires.word, c.code-code.ensures) (joined_exchanges_decision _ _ _ _ _ c.args.decision c.requires.may c.requires.refusal))

@@ -1,7 +1,7 @@
 use Rattle.std.proofs.Common.{rules, ◌≡◌, ◌<◌, length, Some, arith, sym, ap, ◌∙◌, subst}
 use Rattle.apf_gate.specs.declared.record.Shape.{Shape}
-use Rattle.apf_gate.specs.Calls.{GateId, DeskToken}
-use Rattle.apf_gate.proofs.DeskSteps.{settles}
+use Rattle.apf_gate.specs.Tokens.{GateId, DeskToken}
+use Rattle.apf_gate.proofs.DeskSteps.{desk_exchanges_decision}
 use Rattle.apf_gate.proofs.gate.Gate.exchange_settled.Goals as goal
 
 pub compare_exchange-found-requires : goal.compare_exchange-found-requires
@@ -11,4 +11,4 @@ compare_exchange-found-requires g c =
     let held = subst (λ (x : DeskToken). x.desk.held ≡ Some c.args.request) (sym c.desk.view_is) c.requires.holds in
     let shape = ap (λ (x : DeskToken). x.desk.knows.shape) c.desk.view_is ∙ (ap (λ (x : GateId). x.shape) c.requires.own ∙ sym (ap (λ (x : GateId). x.shape) c.self.view_is)) in
     let inside = subst (λ (x : Shape). c.args.request < length x.widths) shape (m.inside c.args.request (m.same_held ∙ held)) in
-    (search rules, omega (arith, i.has_words, inside), rw (i.same_key, m.alone) (settles _ i.shape i.laws _ _ _ c.args.request inside held))
+    (search rules, omega (arith, i.has_words, inside), rw (i.same_key, m.alone, c.code-code.ensures) (desk_exchanges_decision _ _ _ _ c.args.request inside held))

@@ -1,9 +1,10 @@
 use Rattle.std.proofs.Common.{rules, ◌≡◌, List, [], ◌∷◌, ◌++◌, arith, sym, ap, ◌∙◌, subst}
 use Rattle.apf_gate.specs.declared.record.Record.TheVariants.{Pass, Desk}
 use Rattle.apf_gate.specs.Rule.{Every, desk_of}
-use Rattle.apf_gate.specs.Calls.{GateId, PassToken, pass_gate}
+use Rattle.apf_gate.specs.Tokens.{GateId, PassToken, pass_gate}
 use Rattle.apf_gate.specs.Ends.{passes_before}
-use Rattle.apf_gate.proofs.Gathering.{every_all, every_front, every_last, regrouped}
+use Rattle.apf_gate.proofs.Lists.{every_all}
+use Rattle.apf_gate.proofs.Gathering.{every_front, every_last, regrouped}
 use Rattle.apf_gate.proofs.Seats.{joins}
 use Rattle.apf_gate.proofs.gate.Gate.gather_passes.Goals as goal
 

@@ -1,7 +1,7 @@
 use Rattle.std.proofs.Common.{◌≡◌, [], ◌∷◌, ◌++◌, List}
 use Rattle.apf_gate.specs.declared.record.Record.TheVariants.{Desk}
 use Rattle.apf_gate.specs.Rule.{Every, desk_of}
-use Rattle.apf_gate.specs.Calls.{PassToken, pass_gate}
+use Rattle.apf_gate.specs.Tokens.{PassToken, pass_gate}
 use Rattle.apf_gate.specs.Ends.{passes_before}
 use Rattle.apf_gate.proofs.gate.Gate.gather_passes.Given as goal
 

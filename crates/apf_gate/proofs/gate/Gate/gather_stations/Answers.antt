@@ -1,9 +1,10 @@
 use Rattle.std.proofs.Common.{rules, ◌≡◌, List, [], ◌∷◌, ◌++◌, arith, sym, ap, ◌∙◌, subst}
 use Rattle.apf_gate.specs.declared.record.Record.TheVariants.{Station}
 use Rattle.apf_gate.specs.Rule.{Every}
-use Rattle.apf_gate.specs.Calls.{GateId, StationToken, station_gate}
+use Rattle.apf_gate.specs.Tokens.{GateId, StationToken, station_gate}
 use Rattle.apf_gate.specs.Ends.{stations_before}
-use Rattle.apf_gate.proofs.Gathering.{every_all, every_front, every_last, regrouped}
+use Rattle.apf_gate.proofs.Lists.{every_all}
+use Rattle.apf_gate.proofs.Gathering.{every_front, every_last, regrouped}
 use Rattle.apf_gate.proofs.Seats.{joins}
 use Rattle.apf_gate.proofs.gate.Gate.gather_stations.Goals as goal
 

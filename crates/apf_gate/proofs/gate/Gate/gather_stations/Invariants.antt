@@ -1,6 +1,6 @@
 use Rattle.std.proofs.Common.{◌≡◌, [], ◌++◌, List}
 use Rattle.apf_gate.specs.Rule.{Every}
-use Rattle.apf_gate.specs.Calls.{StationToken, station_gate}
+use Rattle.apf_gate.specs.Tokens.{StationToken, station_gate}
 use Rattle.apf_gate.specs.Ends.{stations_before}
 use Rattle.apf_gate.proofs.gate.Gate.gather_stations.Given as goal
 

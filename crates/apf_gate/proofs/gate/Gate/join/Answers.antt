@@ -1,7 +1,7 @@
 use Rattle.std.proofs.Common.{◌≡◌, [], ◌∷◌, arith, refl, sym, ap, ◌∙◌}
 use Rattle.apf_gate.specs.declared.record.Record.TheVariants.{Pass}
 use Rattle.apf_gate.specs.Rule.{pass_of, first_alone}
-use Rattle.apf_gate.specs.Calls.{GateId}
+use Rattle.apf_gate.specs.Tokens.{GateId}
 use Rattle.apf_gate.proofs.Seats.{cuts, joins}
 use Rattle.apf_gate.proofs.gate.Gate.join.Goals as goal
 

@@ -1,10 +1,10 @@
 use Rattle.std.proofs.Common.{rules, ◌<◌, length, arith, sym, subst}
-use Rattle.apf_gate.specs.Calls.{GateId}
-use Rattle.apf_gate.proofs.StationSteps.{reads}
+use Rattle.apf_gate.specs.Tokens.{GateId}
+use Rattle.apf_gate.proofs.StationSteps.{station_loads_decision}
 use Rattle.apf_gate.proofs.gate.Gate.load_word.Goals as goal
 
 pub load-requires : goal.load-requires
 load-requires g c =
     let i = c.self.invariant in
     let inside = subst (λ (x : GateId). c.args.request < length x.shape.widths) (sym c.self.view_is) c.requires.is_request in
-    (search rules, omega (arith, i.has_words, inside), rw (i.same_key, c.station.invariant) (reads _ i.shape i.laws _ _ _ c.args.request inside))
+    (search rules, omega (arith, i.has_words, inside), rw (i.same_key, c.station.invariant) (station_loads_decision _ _ _ _ c.args.request inside))

@@ -1,7 +1,7 @@
 use Rattle.std.proofs.Common.{◌≡◌, length, sym, ap, ◌∙◌, subst}
 use Rattle.std.specs.Prelude.{slice_get, All, IfOk, Result, Ok, Err}
 use Rattle.apf_gate.specs.declared.record.State.TheVariants.{Fresh}
-use Rattle.apf_gate.specs.Calls.{PassToken, StationToken, pass_gate, station_gate}
+use Rattle.apf_gate.specs.Tokens.{PassToken, StationToken, pass_gate, station_gate}
 use Rattle.apf_gate.proofs.NewTokens.{all_passes, all_stations, length_passes, length_stations, pass_at, station_at}
 use Rattle.apf_gate.proofs.gate.Gate.open.Goals as goal
 

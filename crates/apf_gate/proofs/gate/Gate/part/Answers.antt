@@ -1,11 +1,11 @@
 use Rattle.std.proofs.Common.{[], ◌∷◌, arith, refl, sym, ap, ◌∙◌}
 use Rattle.apf_gate.specs.declared.record.Record.TheVariants.{Pass, Desk}
-use Rattle.apf_gate.specs.Joined.{pass_at, desk_at}
-use Rattle.apf_gate.specs.Calls.{GateId}
+use Rattle.apf_gate.specs.Tokens.{GateId, both_at}
 use Rattle.apf_gate.proofs.Seats.{cuts}
 use Rattle.apf_gate.proofs.gate.Gate.part.Goals as goal
 
 pub split_seat-requires : goal.split_seat-requires
 split_seat-requires g c =
     let i = c.self.invariant in
-    (c.requires.table ∙ sym (ap (λ (x : GateId). x.table) c.self.view_is), omega (arith, i.has_words), rw (c.requires.both) (cuts _ _ _ (Pass (pass_at c.args.desk.now.me)) (Desk (desk_at c.args.desk.now.me) ∷ []) refl))
+    let both = both_at c.args.desk.now.me in
+    (c.requires.table ∙ sym (ap (λ (x : GateId). x.table) c.self.view_is), omega (arith, i.has_words), rw (c.requires.both) (cuts _ _ _ (Pass both.pass) (Desk both.desk ∷ []) refl))

@@ -1,8 +1,8 @@
 use Rattle.std.proofs.Common.{rules, arith}
-use Rattle.apf_gate.proofs.DeskSteps.{views}
+use Rattle.apf_gate.proofs.DeskSteps.{desk_loads_level}
 use Rattle.apf_gate.proofs.gate.Gate.view.Goals as goal
 
 pub load-requires : goal.load-requires
 load-requires g c =
     let i = c.self.invariant in
-    (search rules, omega (arith, i.has_words), rw (i.same_key, c.desk.invariant.alone) (views _ i.shape i.laws _ _ _))
+    (search rules, omega (arith, i.has_words), rw (i.same_key, c.desk.invariant.alone) (desk_loads_level _ i.shape i.laws _ _ _))

@@ -1,6 +1,6 @@
 use Rattle.std.proofs.Common.{◌≡◌}
 use Rattle.apf_gate.specs.declared.record.State.TheVariants.{Fresh}
-use Rattle.apf_gate.specs.Calls.{pass_gate}
+use Rattle.apf_gate.specs.Tokens.{pass_gate}
 use Rattle.apf_gate.proofs.tests.threads.serve.Given as goal
 
 abbrev pub invariant-loop-turn : goal.invariant-loop-turn

@@ -1,5 +1,5 @@
 use Rattle.std.proofs.Common.{◌≡◌}
-use Rattle.apf_gate.specs.Calls.{station_gate}
+use Rattle.apf_gate.specs.Tokens.{station_gate}
 use Rattle.apf_gate.proofs.tests.threads.set_limit.Given as goal
 
 abbrev pub invariant-loop-turn : goal.invariant-loop-turn

@@ -1,5 +1,5 @@
 use Rattle.std.proofs.Common.{◌≡◌}
-use Rattle.apf_gate.specs.Calls.{pass_gate}
+use Rattle.apf_gate.specs.Tokens.{pass_gate}
 use Rattle.apf_gate.proofs.tests.threads.sleep.Given as goal
 
 abbrev pub invariant-loop-turn : goal.invariant-loop-turn

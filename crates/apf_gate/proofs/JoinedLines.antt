@@ -1,0 +1,140 @@
+-- A Pass and the Desk at one seat, and the lines on a request that is handed over.
+use Rattle.std.proofs.Common.{◌≡◌, ◌≢◌, ◌⊎◌, ℕ, ◌<◌, true, false, [], ◌∷◌, length, Some, None, sym, refl, ap, ◌∙◌, subst, inl, inr, ⊎_elim}
+use mathlib.Core.Option.{some}
+use lib.ListN.{get_elem?}
+use Rattle.apf_words.specs.declared.decision.Decision.TheVariants.{QueueFull, Closed}
+use Rattle.apf_model.specs.declared.moves.Stage.TheVariants.{Away}
+use Rattle.apf_model.specs.World.{World}
+use Rattle.apf_gate.specs.declared.record.Shape.{Shape}
+use Rattle.apf_gate.specs.declared.record.State.TheVariants.{InLine}
+use Rattle.apf_gate.specs.declared.record.Actor.TheVariants.{OfPass}
+use Rattle.apf_gate.specs.declared.record.Knowledge.{Knowledge}
+use Rattle.apf_gate.specs.declared.record.Service.{Service}
+use Rattle.apf_gate.specs.declared.record.Service.TheVariants.{NotHanded, Handed, RefusedFull, RefusedClosed, Waiting, Held, Settled, Left}
+use Rattle.apf_gate.specs.declared.record.PassRecord.{PassRecord}
+use Rattle.apf_gate.specs.declared.record.DeskRecord.{DeskRecord}
+use Rattle.apf_gate.specs.declared.record.Record.TheVariants.{Pass, Desk}
+use Rattle.apf_gate.specs.Records.{service}
+use Rattle.apf_gate.specs.Traces.{world_of}
+use Rattle.apf_gate.specs.Requests.{IsRequest, IsPassRecord, IsHanded, IsState, MayHold, stage_of, stage_of_pass, was_handed, has_entered, written}
+use Rattle.apf_gate.specs.Account.{IsKnown}
+use Rattle.apf_gate.specs.Rule.{IsRuled}
+use Rattle.apf_gate.specs.JoinedSteps.{handed_over, handed_by}
+use Rattle.apf_gate.specs.DeskCalls.{MayHand}
+use Rattle.apf_gate.proofs.Requests.{state_same, in_state, full_refused}
+use Rattle.apf_gate.proofs.Views.{Table}
+use Rattle.apf_gate.proofs.DeskLines.{IsAt, is_at_desk}
+
+-- a request that never entered and was not refused as full
+early : (a : Service) → has_entered a ≡ false → a ≢ RefusedFull → (a ≡ NotHanded) ⊎ ((a ≡ Handed) ⊎ (a ≡ RefusedClosed))
+early NotHanded e ne = inl refl
+early Handed e ne = inr (inl refl)
+early RefusedFull e ne = absurd (ne refl)
+early RefusedClosed e ne = inr (inr refl)
+early Waiting e ne = absurd (cc)
+early Held e ne = absurd (cc)
+early Settled e ne = absurd (cc)
+early Left e ne = absurd (cc)
+
+module _ (s : Shape) where
+  -- what the rule says of the Pass and the Desk at one seat
+  pub record AreAt (t : Table) (h : IsRuled s t) (p : PassRecord) (d : DeskRecord) : Type 0 where
+    pub inside : p.number < length s.widths
+    pub request : IsRequest s p.number p (service d p.number) (world_of s h.account.trace)
+    pub known : IsKnown s (OfPass p.number) p.knows h.account.trace
+    pub desk : IsAt s t h d
+
+  pub are_at : (t : Table) (h : IsRuled s t) (id : ℕ) (p : PassRecord) (d : DeskRecord) → get_elem? t.views id ≡ some (Pass p ∷ Desk d ∷ []) → AreAt t h p d
+  are_at t h id p d at =
+      let v = h.views id (Pass p ∷ Desk d ∷ []) at in
+      let f = v.0.0.1 in
+      let k = is_at_desk s t h d v.0.1.0.1 in record {
+        inside = f.0;
+        request = subst (λ (o : PassRecord). IsRequest s p.number o (service d p.number) (world_of s h.account.trace)) f.1 (k.request p.number f.0);
+        known = subst (λ (o : PassRecord). IsKnown s (OfPass p.number) o.knows h.account.trace) f.1 (h.sound.pass_knows p.number f.0);
+        desk = k;
+      }
+
+  -- a request in line that may be handed over
+  pub record IsEarly (p : PassRecord) (a : Service) (w : World) : Type 0 where
+    pub in_line : p.state ≡ InLine
+    pub not_entered : p.entered ≡ false
+    pub away : w.stage p.number ≡ Away
+    pub took_none : p.took ≡ false
+    pub asked : p.asked ≡ true
+    pub wrote_none : p.wrote ≡ None
+    pub handed : was_handed (handed_over a) ≡ true
+    pub entered : has_entered (handed_over a) ≡ false
+    pub stage : stage_of p (handed_over a) ≡ Away
+    pub same_written : written p (handed_over a) ≡ written p a
+    pub not_held : a ≢ Held
+    pub not_held_then : handed_over a ≢ Held
+    pub not_full : w.decision p.number ≢ Some QueueFull
+    -- an undecided request, and one of an open level, was not refused as closed
+    pub unwritten : (written p a ≡ Some Closed → ⊥) → written p a ≡ None
+
+  pub is_early : (p : PassRecord) (d : DeskRecord) (w : World) → IsRequest s p.number p (service d p.number) w → MayHand (record { pass = p; desk = d }) → IsEarly p (service d p.number) w
+  is_early p d w k may = ⊎_elim
+      (λ (e : service d p.number ≡ NotHanded). there NotHanded e refl refl refl refl (sym (line k may).2) (λ x. cc) (λ x. cc) (λ x. cc) (λ x. (line k may).2))
+      (λ (o : (service d p.number ≡ Handed) ⊎ (service d p.number ≡ RefusedClosed)). ⊎_elim
+      (λ (e : service d p.number ≡ Handed). there Handed e refl refl refl refl refl (λ x. cc) (λ x. cc) (λ x. cc) (λ x. refl))
+      (λ (e : service d p.number ≡ RefusedClosed). there RefusedClosed e refl refl refl refl refl (λ x. cc) (λ x. cc) (λ x. cc) (λ x. absurd (x refl)))
+      o)
+      (early (service d p.number) (sym k.tied.entered ∙ may.not_entered) may.not_full)
+    where
+      line : IsRequest s p.number p (service d p.number) w → MayHand (record { pass = p; desk = d }) → IsState InLine p
+      line k may = in_state s p.number p (service d p.number) w k InLine may.in_line
+
+      not_full : w.decision p.number ≢ Some QueueFull
+      not_full is = full_refused s p.number p (service d p.number) w k is may.not_full
+
+      there : (b : Service) → service d p.number ≡ b → was_handed (handed_over b) ≡ true → has_entered (handed_over b) ≡ false → stage_of p (handed_over b) ≡ stage_of_pass p.state p.took → stage_of p b ≡ stage_of_pass p.state p.took → written p (handed_over b) ≡ written p b
+          → b ≢ Held → handed_over b ≢ Held → b ≢ RefusedFull → ((written p b ≡ Some Closed → ⊥) → written p b ≡ None) → IsEarly p (service d p.number) w
+      there b e handed entered stage_then stage wrote held held_then full unwritten =
+          let f = line k may in
+          let is_away : stage_of_pass p.state p.took ≡ Away = ap (λ x. stage_of_pass x p.took) may.in_line in
+          subst (λ a. IsEarly p a w) (sym e) (record {
+            in_line = may.in_line;
+            not_entered = may.not_entered;
+            away = k.stage ∙ (ap (stage_of p) e ∙ (stage ∙ is_away));
+            took_none = f.0;
+            asked = f.1;
+            wrote_none = f.2;
+            handed = handed;
+            entered = entered;
+            stage = stage_then ∙ is_away;
+            same_written = wrote;
+            not_held = held;
+            not_held_then = held_then;
+            not_full = not_full;
+            unwritten = unwritten;
+          })
+
+  -- the record of a Pass that handed its request over
+  pub is_handed_by : (p : PassRecord) (a : Service) (w : World) (q : PassRecord) → IsEarly p a w → q.asked ≡ p.asked → q.took ≡ p.took → q.wrote ≡ p.wrote → q.state ≡ p.state → IsHanded q
+  is_handed_by p a w q i asked took wrote state = record {
+    asked = asked ∙ i.asked;
+    took_none = took ∙ i.took_none;
+    wrote_none = wrote ∙ i.wrote_none;
+    over = λ e. absurd (let x = sym (state ∙ i.in_line) ∙ e in cc);
+  }
+
+  pub own_handed : (p : PassRecord) (a : Service) (w : World) (u : Knowledge) → IsRequest s p.number p a w → IsEarly p a w → IsPassRecord s (handed_by p u)
+  own_handed p a w u k i = record {
+    state = state_same p.state p (handed_by p u) refl refl refl k.own.state;
+    wrote = k.own.wrote;
+    handed = λ _. is_handed_by p a w (handed_by p u) i refl refl refl refl;
+    queues = k.own.queues;
+    no_room = λ e. absurd (cc);
+  }
+
+  -- the lines on a request that is handed over
+  pub request_handed : (p : PassRecord) (a : Service) (w : World) (u : Knowledge) → IsRequest s p.number p a w → IsEarly p a w → IsRequest s p.number (handed_by p u) (handed_over a) w
+  request_handed p a w u k i = record {
+    own = own_handed p a w u k i;
+    tied = record { number = refl; handed = sym i.handed; entered = i.not_entered ∙ sym i.entered };
+    stage = i.away ∙ sym i.stage;
+    saw = k.saw;
+    word = subst (λ x. MayHold x (w.decision p.number)) (sym i.same_written) k.word;
+    closed = λ e. k.closed (sym i.same_written ∙ e);
+  }

@@ -19,7 +19,7 @@ use crate::pass::Pass;
 use crate::plays::First;
 use crate::rule::{Board, Gauge, Place};
 use crate::station::Station;
-use apf_model::{Response, every_schedule_is_safe};
+use apf_model::{Response, every_schedule_is_safe, every_world_adds_up};
 use apf_words::{LevelWord, MAX_LIMIT, MAX_REQUESTS, MAX_STATIONS, MAX_WIDTH};
 use std::alloc::{AllocError, Allocator};
 use std::snapshot::Snapshot;
@@ -106,6 +106,7 @@ impl<A: Allocator + Copy> Gate<A> {
         ensures seat { IfOk result (λ o. o.1.me ≡ (opening_records o.0.shape 0, [])) }
     {
         every_schedule_is_safe();
+        every_world_adds_up();
         let mut words = vec![in alloc; 0u64; widths.len() + 1]?;
         words[0] = LevelWord::opening(limit).pack();
         let gauge = Gauge {

@@ -6,3 +6,4 @@ pub mod Fair
 pub mod Outcome
 pub mod Plain
 pub mod PlainWorld
+pub mod Safety

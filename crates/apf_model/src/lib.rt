@@ -21,6 +21,6 @@ mod response;
 mod tests;
 
 pub use events::Event;
-pub use laws::every_schedule_is_safe;
+pub use laws::{every_schedule_is_safe, every_world_adds_up};
 pub use moves::{Move, Stage};
 pub use response::Response;

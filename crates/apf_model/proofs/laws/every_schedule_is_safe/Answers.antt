@@ -1,62 +1,29 @@
--- Each clause is a lemma.
+use Rattle.std.proofs.Common.{◌≡◌, ◌≤◌, List, sym, subst}
+use Rattle.std.specs.Prelude.{count_by}
+use Rattle.apf_model.specs.declared.moves.Move.{Move}
+use Rattle.apf_model.specs.declared.moves.Move.TheVariants.{Take, Grant}
+use Rattle.apf_model.specs.Schedule.{IsSchedule, leaves}
 use Rattle.apf_model.proofs.Places.{IsSchedule-append, allowed_at}
 use Rattle.apf_model.proofs.Counts.{few_steps, one_arrival, one_grant, grant_after_enter, left_never_stood}
 use Rattle.apf_model.proofs.Decided.{one_decide, executed_stood, waiting_undecided_or_cancelled, no_arrival_after_close}
 use Rattle.apf_model.proofs.Seats.{is_alone, seats_bounded}
-use Rattle.apf_model.proofs.Sums.{moved, waiters-le-length, nobody_waits, nobody_stands}
-use Rattle.apf_model.specs.declared.moves.Move.TheVariants.{Take, Grant}
 use Rattle.apf_model.proofs.laws.every_schedule_is_safe.Goals as goal
 
-pub returns-clause-beginnings : goal.returns-clause-beginnings
-returns-clause-beginnings c = λ o later earlier s. IsSchedule-append o later earlier s
-
-pub returns-clause-one_decide : goal.returns-clause-one_decide
-returns-clause-one_decide c = one_decide
-
-pub returns-clause-one_release : goal.returns-clause-one_release
-returns-clause-one_release c = λ o ms r s. (few_steps o ms r s).2
-
-pub returns-clause-one_arrival : goal.returns-clause-one_arrival
-returns-clause-one_arrival c = one_arrival
-
-pub returns-clause-one_grant : goal.returns-clause-one_grant
-returns-clause-one_grant c = one_grant
-
-pub returns-clause-grant_after_enter : goal.returns-clause-grant_after_enter
-returns-clause-grant_after_enter c = grant_after_enter
-
-pub returns-clause-executed_stood : goal.returns-clause-executed_stood
-returns-clause-executed_stood c = λ o ms r s is. let h = executed_stood o ms r s is in (h.0, (h.1.0, h.1.1, h.1.2))
-
-pub returns-clause-left_never_stood : goal.returns-clause-left_never_stood
-returns-clause-left_never_stood c = left_never_stood
-
-pub returns-clause-waiting_undecided_or_cancelled : goal.returns-clause-waiting_undecided_or_cancelled
-returns-clause-waiting_undecided_or_cancelled c = waiting_undecided_or_cancelled
-
-pub returns-clause-no_arrival_after_close : goal.returns-clause-no_arrival_after_close
-returns-clause-no_arrival_after_close c = no_arrival_after_close
-
-pub returns-clause-take_fits_its_limit : goal.returns-clause-take_fits_its_limit
-returns-clause-take_fits_its_limit c = λ o later earlier r s. (allowed_at o later (Take r) earlier s).fits
-
-pub returns-clause-grant_fits_its_limit : goal.returns-clause-grant_fits_its_limit
-returns-clause-grant_fits_its_limit c = λ o later earlier r s. (allowed_at o later (Grant r) earlier s).fits
-
-pub returns-clause-alone : goal.returns-clause-alone
-returns-clause-alone c = is_alone
-
-pub returns-clause-bounded : goal.returns-clause-bounded
-returns-clause-bounded c = seats_bounded
-
-pub returns-clause-sums : goal.returns-clause-sums
-returns-clause-sums c = moved
-
-pub returns-clause-few_wait : goal.returns-clause-few_wait
-returns-clause-few_wait c = waiters-le-length
-
-pub returns-clause-nobody_waits : goal.returns-clause-nobody_waits
-returns-clause-nobody_waits c = nobody_waits
-
-pub returns-clause-nobody_stands : goal.returns-clause-nobody_stands
-returns-clause-nobody_stands c = nobody_stands
+pub returns : goal.returns
+returns c = λ o ms s.
+    let at = λ (split : List Move) (e : split ≡ ms). subst (IsSchedule o) (sym e) s in record {
+      beginnings = λ later earlier e. IsSchedule-append o later earlier (at _ e);
+      one_decide = λ r. one_decide o ms r s;
+      one_release = λ r. (few_steps o ms r s).2;
+      one_arrival = λ r. one_arrival o ms r s;
+      one_grant = λ r. one_grant o ms r s;
+      grant_after_enter = λ later earlier r e. grant_after_enter o later earlier r (at _ e);
+      executed_stood = λ r is. let h = executed_stood o ms r s is in (h.0, (h.1.0, h.1.1, h.1.2));
+      left_never_stood = λ later earlier r e some. left_never_stood o later earlier r (at _ e) (subst (λ (l : List Move). 1 ≤ count_by (leaves r) l) (sym e) some);
+      waiting_undecided_or_cancelled = λ r. waiting_undecided_or_cancelled o ms r s;
+      no_arrival_after_close = λ later earlier r e. no_arrival_after_close o later earlier r (at _ e);
+      take_fits_its_limit = λ later earlier r e. (allowed_at o later (Take r) earlier (at _ e)).fits;
+      grant_fits_its_limit = λ later earlier r e. (allowed_at o later (Grant r) earlier (at _ e)).fits;
+      alone = λ widths. is_alone o ms widths s;
+      bounded = λ most widths. seats_bounded o ms most widths s;
+    }

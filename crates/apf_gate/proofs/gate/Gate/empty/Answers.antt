@@ -12,23 +12,25 @@ use Rattle.apf_gate.proofs.gate.Gate.empty.Goals as goal
 
 pub of_words-requires : goal.of_words-requires
 of_words-requires g c =
-    let e = c.every_schedule_is_safe.ensures in
+    let safe = c.every_schedule_is_safe.ensures in
+    let sums = c.every_world_adds_up.ensures in
     let items : c.in_ok-from_slice.field-0.items ≡ c.args.widths.now = search rules in
     let zeros : c.in_ok-words.words.items ≡ replicate (length c.args.widths.now + 1) 0 = search rules in
     let s : Shape = shape_of c.args.limit c.args.response c.in_ok-from_slice.field-0.items c.args.stations in
     let shape : IsShape s = subst (λ ws. IsShape (shape_of c.args.limit c.args.response ws c.args.stations)) (sym items) c.requires in
     let laws : AreLaws s = record {
-      sums = λ w. e.sums s.widths w;
-      few_wait = λ w. e.few_wait s.widths w;
-      nobody_waits = λ w. e.nobody_waits s.widths w;
-      nobody_stands = λ w. e.nobody_stands s.widths w;
-      bounded = λ ms schedule l. e.bounded (opening_of s) ms max_width shape.widths schedule l (omega arith);
+      sums = λ w. (sums s.widths w).change;
+      few_wait = λ w. (sums s.widths w).few_wait;
+      nobody_waits = λ w. (sums s.widths w).nobody_waits;
+      nobody_stands = λ w. (sums s.widths w).nobody_stands;
+      bounded = λ ms schedule l. (safe (opening_of s) ms schedule).bounded max_width shape.widths l (omega arith);
     } in
     rw (c.of.ensures) (begins s shape laws _ (c.as_slice.ensures.value ∙ (λ k. set ((zeros ∙ ap (λ ws. replicate (length ws + 1) 0) (sym items)) k) 0 ((c.pack.ensures.value ∙ ap packed c.opening.ensures) k))))
 
 pub invariant_of-result : goal.invariant_of-result
 invariant_of-result g c =
-    let e = c.every_schedule_is_safe.ensures in
+    let safe = c.every_schedule_is_safe.ensures in
+    let sums = c.every_world_adds_up.ensures in
     let items : c.in_ok-from_slice.field-0.items ≡ c.args.widths.now = search rules in
     let zeros : c.in_ok-words.words.items ≡ replicate (length c.args.widths.now + 1) 0 = search rules in
     let s : Shape = shape_of c.args.limit c.args.response c.in_ok-from_slice.field-0.items c.args.stations in
@@ -42,10 +44,10 @@ invariant_of-result g c =
       same_key = ap (λ (k : Snapshot (Gauge g.row.A.Denot)). shape_of k.value.limit k.value.response k.value.widths.items k.value.stations) board.5 ∙ ap (λ (v : Gauge g.row.A.Denot). shape_of v.limit v.response v.widths.items v.stations) c.of.ensures;
       shape = shape;
       laws = record {
-        sums = λ w. e.sums s.widths w;
-        few_wait = λ w. e.few_wait s.widths w;
-        nobody_waits = λ w. e.nobody_waits s.widths w;
-        nobody_stands = λ w. e.nobody_stands s.widths w;
-        bounded = λ ms schedule l. e.bounded (opening_of s) ms max_width shape.widths schedule l (omega arith);
+        sums = λ w. (sums s.widths w).change;
+        few_wait = λ w. (sums s.widths w).few_wait;
+        nobody_waits = λ w. (sums s.widths w).nobody_waits;
+        nobody_stands = λ w. (sums s.widths w).nobody_stands;
+        bounded = λ ms schedule l. (safe (opening_of s) ms schedule).bounded max_width shape.widths l (omega arith);
       };
     }

@@ -4,6 +4,8 @@ ghost use Rattle.std.specs.Prelude.{◌≡◌};
 ghost use Rattle.apf_gate.specs.declared.fault.GateFault.TheVariants.{NoMemory};
 
 use std::alloc::AllocError;
+use std::error::Error;
+use std::fmt;
 
 /// Why a gate is not opened. The faults are tested in this order, and the first is answered.
 #[derive(Clone, Copy, Debug, PartialEq, Eq)]
@@ -25,3 +27,16 @@ impl From<AllocError> for GateFault {
         Self::NoMemory
     }
 }
+
+impl fmt::Display for GateFault {
+    fn fmt<W: fmt::Write>(&self, f: &mut fmt::Formatter<W>) -> fmt::Result {
+        match self {
+            GateFault::BadLimit => f.write_str("bad limit"),
+            GateFault::BadWidth(request) => write!(f, "bad width of request {request}"),
+            GateFault::TooMany => f.write_str("too many requests or stations"),
+            GateFault::NoMemory => f.write_str("out of memory"),
+        }
+    }
+}
+
+impl Error for GateFault {}

@@ -36,17 +36,31 @@ for words, line in [
 ]:
     tally.check(" ".join(words), run(program, words), (2, b"", line))
 
-# help that is asked for goes to standard output, and says what the command takes
+# help that is asked for goes to standard output, and has a line for each command, argument and file
+COMMANDS = ["  hash ", "  deal ", "  replay ", "  run ", "  services ", "apf hash workload-low alice", "  2 "]
+DEAL = ["<DECK>", "<HAND>", "<HASH>", "printf %u 0x", "not positive", "hand too large", "deck too large", "too much entropy"]
+SCRIPT = ["<CONFIG>", "<REQUESTS>", "<SCRIPT>"]
+CONFIG = ["limit", "10000", "queues", "1024", "64", "handSize", "15", "queueLengthLimit", "50", "limitResponse", '"Queue"', '"Reject"']
+REQUESTS = ["hash", "schema", "distinguisher", "width", "20000", "work", "1000000", "cancels", "closes"]
+LINES = ["arrive N", "finish N", "cancel N", "close", "limit N"]
 for words, says in [
-    (["--help"], [b"hash", b"deal", b"replay", b"run", b"services"]),
-    (["-h"], [b"hash", b"deal", b"replay", b"run", b"services"]),
-    (["help"], [b"hash", b"deal", b"replay", b"run", b"services"]),
-    (["deal", "--help"], [b"DECK", b"HAND", b"HASH"]),
-    (["help", "deal"], [b"DECK", b"HAND", b"HASH"]),
-    (["run", "--help"], [b"CONFIG", b"REQUESTS", b"WORKERS"]),
+    (["--help"], COMMANDS),
+    (["-h"], COMMANDS),
+    (["help"], COMMANDS),
+    (["hash", "--help"], ["<SCHEMA>", "<DISTINGUISHER>", "16"]),
+    (["deal", "--help"], DEAL),
+    (["help", "deal"], DEAL),
+    (["replay", "--help"], SCRIPT + CONFIG + REQUESTS + LINES),
+    (["run", "--help"], ["<CONFIG>", "<REQUESTS>", "<WORKERS>", "1 to 64"] + CONFIG + REQUESTS),
+    (["services", "--help"], SCRIPT + CONFIG + REQUESTS + LINES),
 ]:
     status, out, err = run(program, words)
-    tally.check(" ".join(words), (status, [it in out for it in says], err), (0, [True] * len(says), b""))
+    tally.check(" ".join(words), (status, [it for it in says if it not in out.decode()], err), (0, [], b""))
+    tally.check(" ".join(words) + " is narrow", max(map(len, out.decode().split("\n"))) <= 100, True)
+
+# the version, which is the crate's own
+for words in (["--version"], ["-V"]):
+    tally.check(" ".join(words), run(program, words), (0, b"apf 0.1.0\n", b""))
 
 # a command line that is refused says so on standard error alone, in clap's words
 for words in [
@@ -74,6 +88,23 @@ for words in [
 ]:
     status, out, err = run(program, words)
     tally.check(" ".join(["apf", *words]), (status, out, len(err) > 0), (2, b"", True))
+
+# words that are not UTF-8, in any place: one line, and a command line's fault
+LINE = b"apf: the command line is not UTF-8\n"
+for words in ([b"hash", b"\xff", b"a"], [b"\xc3"], [b"replay", b"a", b"b", b"\xed\xa0\x80"], [b"hash", b"a", b"b\xff", b"c"]):
+    tally.check(repr(words), run(program, words), (2, b"", LINE))
+tally.check("UTF-8", run(program, ["hash", "ä€😀".encode(), b""])[0], 0)
+
+# what `hash` prints is dealt by the line of the help, which turns it into decimal digits
+for schema, distinguisher in [("", ""), ("workload-low", "alice"), ("ä", "😀"), ("a", "1"), ("b", "22")]:
+    status, out, err = run(program, ["hash", schema, distinguisher])
+    plain = run(program, ["deal", "64", "8", str(int(out, 16))])
+    line = '"$1" deal 64 8 $(printf %u 0x$("$1" hash "$2" "$3"))'
+    for shell in ("bash", "sh"):
+        tally.check(f"{shell}: {schema} {distinguisher}", run(shell, ["-c", line, shell, program, schema, distinguisher]), plain)
+    tally.check(f"deal {out}", (plain[0], plain[1].count(b" ")), (0, 7))
+    status, out, err = run(program, ["deal", "64", "8", "0x" + out.decode().strip()])
+    tally.check("0x is no decimal number", (status, out, err.startswith(b"error: invalid value '0x")), (2, b"", True))
 
 # texts of any kind
 status, out, err = run(program, ["hash", "--", "-a", "--help"])

@@ -1,4 +1,4 @@
-"""Bytes that no one wrote by hand: 2,000 files cut, flipped and spliced, and files of the largest sizes."""
+"""Files against an independent judge: 3,000 files cut, flipped, spliced and reworded, each fault by hand, and files of the largest sizes."""
 
 import os
 import random
@@ -7,23 +7,141 @@ import time
 
 sys.path.insert(0, os.path.join(os.path.dirname(os.path.abspath(__file__)), "lib"))
 from harness import Files, Tally, build, run
+from level import answer
 
 tally = Tally()
 program = build()
 files = Files()
+# the same draws each time; APF_SEED draws others
 draw = random.Random(int(os.environ.get("APF_SEED", "1040")))
 CONFIG = b'{"limit":2,"queues":4,"handSize":2,"queueLengthLimit":10,"limitResponse":"Queue"}'
 REQUESTS = b'[{"hash":18446744073709551615,"width":2,"work":7,"cancels":1,"closes":false},{"schema":"\\u00e4","distinguisher":"b"}]'
 SCRIPT = b"arrive 0\narrive 1\nfinish 0\narrive 1\nfinish 1\n"
 WHOLE = [CONFIG, REQUESTS, SCRIPT]
+NAMES = ["config", "requests", "script"]
+
+
+def replay(contents):
+    return run(program, ["replay", *[files(name, content) for name, content in zip(NAMES, contents)]])
+
+
+def judged(name, contents):
+    """The status, output and errors are those of the judge, to the letter."""
+    tally.check(name, replay(contents), answer(*contents))
+
+
+def with_file(place, content):
+    contents = [*WHOLE]
+    contents[place] = content
+    return contents
+
+
+# each fault by hand: the file in the place of a good one, and the number and text
+for place, content, line in [
+    (0, b"", "config fault 1: not JSON"),
+    (0, b'{"limit":1', "config fault 1: not JSON"),
+    (0, b'{"limit":01}', "config fault 1: not JSON"),
+    (0, b'{"limit":1}x', "config fault 1: not JSON"),
+    (0, b'{"limit":1,}', "config fault 1: not JSON"),
+    (0, b'{"limit":1} // seats', "config fault 1: not JSON"),
+    (0, b'\xef\xbb\xbf{"limit":1}', "config fault 1: not JSON"),
+    (0, b'{"\xff":1}', "config fault 1: not JSON"),
+    (0, b"[]", "config fault 2: not an object"),
+    (0, b'"limit"', "config fault 2: not an object"),
+    (0, b'{"limits":1}', "config fault 3: unknown key"),
+    (0, b'{"limit":1,"Queues":1}', "config fault 3: unknown key"),
+    (0, b"{}", "config fault 4: limit missing"),
+    (0, b'{"queues":0}', "config fault 4: limit missing"),
+    (0, b'{"limit":0}', "config fault 5: bad value of limit"),
+    (0, b'{"limit":10001}', "config fault 5: bad value of limit"),
+    (0, b'{"limit":1.0}', "config fault 5: bad value of limit"),
+    (0, b'{"limit":1e1}', "config fault 5: bad value of limit"),
+    (0, b'{"limit":-1}', "config fault 5: bad value of limit"),
+    (0, b'{"limit":"1"}', "config fault 5: bad value of limit"),
+    (0, b'{"limit":null}', "config fault 5: bad value of limit"),
+    (0, b'{"limit":true}', "config fault 5: bad value of limit"),
+    (0, b'{"limit":18446744073709551617}', "config fault 5: bad value of limit"),
+    (0, b'{"queues":0,"limit":0}', "config fault 5: bad value of limit"),
+    (0, b'{"limit":1,"queues":0}', "config fault 5: bad value of queues"),
+    (0, b'{"limit":1,"queues":1025,"handSize":0}', "config fault 5: bad value of queues"),
+    (0, b'{"limit":1,"handSize":0}', "config fault 5: bad value of handSize"),
+    (0, b'{"limit":1,"handSize":16}', "config fault 5: bad value of handSize"),
+    (0, b'{"limit":1,"queueLengthLimit":0}', "config fault 5: bad value of queueLengthLimit"),
+    (0, b'{"limit":1,"queueLengthLimit":10001}', "config fault 5: bad value of queueLengthLimit"),
+    (0, b'{"limit":1,"limitResponse":"reject"}', "config fault 5: bad value of limitResponse"),
+    (0, b'{"limit":1,"limitResponse":1}', "config fault 5: bad value of limitResponse"),
+    (0, b'{"limit":1,"queues":3}', "dealer fault 2: hand too large"),
+    (0, b'{"limit":1,"queues":1024,"handSize":7}', "dealer fault 4: too much entropy"),
+    (1, b"[", "requests fault 1: not JSON"),
+    (1, b'[{"schema":"\\ud800","distinguisher":""}]', "requests fault 1: not JSON"),
+    (1, b"{}", "requests fault 2: not an array"),
+    (1, b"[1]", "requests fault 4 at 0: not an object"),
+    (1, b'[{"hash":0},[]]', "requests fault 4 at 1: not an object"),
+    (1, b'[{"hash":0,"color":1,"width":0}]', "requests fault 5 at 0: unknown key"),
+    (1, b"[{}]", "requests fault 6 at 0: bad flow"),
+    (1, b'[{"width":0}]', "requests fault 6 at 0: bad flow"),
+    (1, b'[{"hash":-1}]', "requests fault 6 at 0: bad flow"),
+    (1, b'[{"hash":18446744073709551616}]', "requests fault 6 at 0: bad flow"),
+    (1, b'[{"hash":"987ab3ff9c0b346e"}]', "requests fault 6 at 0: bad flow"),
+    (1, b'[{"schema":"a"}]', "requests fault 6 at 0: bad flow"),
+    (1, b'[{"distinguisher":"a"}]', "requests fault 6 at 0: bad flow"),
+    (1, b'[{"schema":"a","distinguisher":1}]', "requests fault 6 at 0: bad flow"),
+    (1, b'[{"hash":0},{"hash":0,"schema":"a","distinguisher":"b"}]', "requests fault 6 at 1: bad flow"),
+    (1, b'[{"hash":0,"width":0,"work":-1}]', "requests fault 7 at 0: bad width"),
+    (1, b'[{"hash":0,"width":20001}]', "requests fault 7 at 0: bad width"),
+    (1, b'[{"hash":0,"work":1000001,"cancels":1}]', "requests fault 8 at 0: bad work"),
+    (1, b'[{"hash":0,"cancels":1,"closes":1}]', "requests fault 9 at 0: bad cancels"),
+    (1, b'[{"hash":0,"cancels":null}]', "requests fault 9 at 0: bad cancels"),
+    (1, b'[{"hash":0,"closes":1}]', "requests fault 10 at 0: bad closes"),
+    (2, b"close", "script fault 2 at line 1: truncated"),
+    (2, b"arrive 0\nfinish", "script fault 2 at line 2: truncated"),
+    (2, b"\n", "script fault 3 at line 1: bad line"),
+    (2, b"arrive 0\r\n", "script fault 3 at line 1: bad line"),
+    (2, b"arrive  0\n", "script fault 3 at line 1: bad line"),
+    (2, b"arrive 0 \n", "script fault 3 at line 1: bad line"),
+    (2, b" arrive 0\n", "script fault 3 at line 1: bad line"),
+    (2, b"arrive 00\n", "script fault 3 at line 1: bad line"),
+    (2, b"arrive 100000\n", "script fault 3 at line 1: bad line"),
+    (2, b"arrive +1\n", "script fault 3 at line 1: bad line"),
+    (2, b"arrive\n", "script fault 3 at line 1: bad line"),
+    (2, b"close 1\n", "script fault 3 at line 1: bad line"),
+    (2, b"# begin\n", "script fault 3 at line 1: bad line"),
+    (2, b"\xff\n", "script fault 3 at line 1: bad line"),
+    (2, b"arrive 0\nshut\narrive 9\n", "script fault 3 at line 2: bad line"),
+    (2, b"arrive 2\n", "script fault 4 at line 1: unknown request"),
+    (2, b"arrive 99999\nlimit 0\n", "script fault 4 at line 1: unknown request"),
+    (2, b"close\ncancel 2\n", "script fault 4 at line 2: unknown request"),
+    (2, b"limit 0\narrive 9\n", "script fault 6 at line 1: bad limit"),
+    (2, b"limit 10001\n", "script fault 6 at line 1: bad limit"),
+]:
+    contents = with_file(place, content)
+    tally.check(repr(content), replay(contents), (1, b"", f"apf: {line}\n".encode()))
+    judged(f"the judge of {content!r}", contents)
+
+# the first of two faults, by the order of the files
+judged("a bad config before bad requests", [b'{"limit":0}', b"{}", b"x"])
+judged("bad requests before a bad script", [b'{"limit":1}', b"{}", b"x"])
+judged("a bad script before a bad dealer", [b'{"limit":1,"queues":3}', b"[]", b"x"])
+
+# what is allowed at its ends
+for contents in [
+    [b' \t\r\n{ "limit" : 10000 , "limitResponse" : "Queue" }\n', b" [ ] ", b""],
+    [b'{"limit":1,"queues":1024,"handSize":6,"queueLengthLimit":10000}', b"[]", b""],
+    [b'{"limit":1,"handSize":1,"queues":1,"queueLengthLimit":1}', b"[]", b""],
+    [b'{"limit":1,"queues":16,"handSize":15}', b"[]", b""],
+    [b'{"\\u006cimit":1}', b'[{"hash":0,"width":20000,"work":1000000,"cancels":0,"closes":true}]', b"arrive 0\n"],
+    [b'{"limit":1}', b'[{"schema":"","distinguisher":"\\ud83d\\ude00"}]', b"arrive 0\nfinish 0\n"],
+]:
+    tally.check(f"{contents} is good", answer(*contents)[0], 0)
+    judged(f"{contents}", contents)
 
 
 def spoiled(content):
-    """Cut, flipped or spliced."""
+    """Cut, flipped, spliced, or one word put in the place of another."""
     content = bytearray(content)
     for _ in range(draw.choice([1, 1, 1, 2, 5])):
         at = draw.randint(0, len(content))
-        kind = draw.randrange(5)
+        kind = draw.randrange(6)
         if kind == 0:
             del content[at:]
         elif kind == 1 and content:
@@ -32,36 +150,46 @@ def spoiled(content):
             content[at:at] = draw.choice(WHOLE)[: draw.randint(0, 40)]
         elif kind == 3:
             content[at:at] = bytes(draw.randrange(256) for _ in range(draw.randint(1, 8)))
-        else:
+        elif kind == 4:
             del content[at : at + draw.randint(1, 6)]
+        else:
+            old, new = draw.choice(OLD), draw.choice(NEW)
+            content = bytearray(bytes(content).replace(old, new, 1))
     return bytes(content)
 
 
-for number in range(2000):
-    place = number % 3
-    contents = [*WHOLE]
-    contents[place] = spoiled(contents[place])
-    paths = [files(f"file{i}", content) for i, content in enumerate(contents)]
-    status, out, err = run(program, ["replay", *paths])
-    well = status == 0 and err == b"" or status == 1 and out == b"" and err.startswith(b"apf: ") and err.endswith(b"\n")
-    tally.check(f"{contents[place]!r}: status {status}, {err!r}", well and err.count(b"\n") <= 1, True)
+OLD = [b"2", b"4", b"10", b"7", b"1", b"0", b'"Queue"', b"false", b"limit", b"width", b"hash", b"arrive 0", b"finish 0", b"arrive 1"]
+NEW = [b"0", b"1", b"3", b"-1", b"1.0", b"1e3", b"10001", b"20001", b"null", b"true", b"[]", b"{}", b'""', b'"Reject"', b"close"]
+NEW += [b"limit 1", b"limit 0", b"cancel 1", b"queues", b"closes", b"18446744073709551616", b"0.5", b"00", b"99999"]
+kinds = {}
+for number in range(3000):
+    contents = with_file(number % 3, spoiled(WHOLE[number % 3]))
+    want = answer(*contents)
+    kinds[want[2].split(b" at ")[0].split(b":")[1] if want[0] else b""] = True
+    judged(f"{contents[number % 3]!r}", contents)
+tally.check(f"the files are of many kinds: {sorted(kinds)}", len(kinds) >= 15, True)
 
-# the largest files are read at once, and one more is refused
-config = files("config", CONFIG)
+# sizes: a want of memory that is none would show here
+blanks = b" " * 70_000
+judged("a config of over 64 KiB", [b'{"limit":1' + blanks + b"}", b"[]", b""])
+judged("a config of over 1 MiB", [b'{"limit":1' + 16 * blanks + b"}", b"[]", b""])
+judged("requests of over 64 KiB that are not JSON", [CONFIG, b"[" + blanks, b""])
+judged("a name of over 64 KiB", [CONFIG, b'[{"schema":"' + blanks + b'","distinguisher":""}]', b"arrive 0\n"])
+for count in (1_000, 9_999, 10_000, 10_001):
+    judged(f"{count} requests", [CONFIG, b"[" + b",".join([b'{"hash":0}'] * count) + b"]", b"arrive 0\nfinish 0\n"])
+for count in (9_999, 65_536, 99_999, 100_000, 100_001):
+    judged(f"{count} lines", [CONFIG, REQUESTS, b"arrive 1\n" * count])
+judged("100,001 lines, the last one cut", [CONFIG, REQUESTS, b"arrive 1\n" * 100_000 + b"arrive 1"])
+
+# the largest files are read at once
 ten_thousand = b"[" + b",".join([b'{"hash":1,"width":1,"work":0,"cancels":9999,"closes":false}'] * 10_000) + b"]"
-requests = files("requests", ten_thousand)
 lines = b"".join(b"arrive %d\n" % (number % 10_000) for number in range(100_000))
-script = files("script", lines)
+contents = [CONFIG, ten_thousand, lines]
+want = answer(*contents)
 began = time.monotonic()
-status, out, err = run(program, ["replay", config, requests, script])
+got = replay(contents)
 took = time.monotonic() - began
-tally.check("largest files", (status, out.count(b"\n"), err), (0, 100_004, b""))
+tally.check("largest files", got, want)
 tally.check(f"read in well under two seconds: {took:.2f} s", took < 2, True)
 print(f"10,000 requests and 100,000 lines took {took:.2f} s")
-more = files("more", lines + b"close\n")
-tally.check("one line more", run(program, ["replay", config, requests, more]), (1, b"", b"apf: script fault 1 at line 100001: too many lines\n"))
-cut = files("cut", lines + b"close")
-tally.check("one more without LF", run(program, ["replay", config, requests, cut]), (1, b"", b"apf: script fault 1 at line 100001: too many lines\n"))
-over = files("over", ten_thousand[:-1] + b",{}]")
-tally.check("one request more", run(program, ["replay", config, over, script]), (1, b"", b"apf: requests fault 3: too many requests\n"))
 tally.end()

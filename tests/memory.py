@@ -1,4 +1,4 @@
-"""Each allocation of a command refused in turn: no answer may change in place of the error."""
+"""Each allocation of a command refused in turn: the answer is the one with ample memory, or want of memory, and no other."""
 
 import os
 import subprocess
@@ -16,20 +16,36 @@ subprocess.run(["cc", "-O1", "-shared", "-fPIC", "-o", shim, os.path.join(HERE, 
 config = files("config", '{"limit":2,"queues":1,"handSize":1,"queueLengthLimit":10,"limitResponse":"Queue"}')
 requests = files("requests", '[{"hash":0,"width":5},{"schema":"a","distinguisher":"b","work":3,"cancels":0,"closes":true}]')
 script = files("script", "arrive 0\narrive 1\nfinish 0\nfinish 0\narrive 1\n")
+bad = files("bad", "[{]")
 marker = os.path.join(files.folder.name, "refused")
+WANT = (3, b"", b"apf: out of memory\n")
 
-for words in (["hash", "a", "b"], ["deal", "8", "3", "100"], ["replay", config, requests, script]):
+for words, status in (
+    (["hash", "a", "b"], 0),
+    (["deal", "8", "3", "100"], 0),
+    (["replay", config, requests, script], 0),
+    (["--version"], 0),
+    (["--help"], 0),
+    (["deal", "--help"], 0),
+    (["deal", "8", "3", "x"], 2),
+    (["deal", "8", "9", "0"], 2),
+    (["nonsense"], 2),
+    (["replay", config, bad, script], 1),
+    (["replay", config, requests, bad], 1),
+    (["replay", config, requests, "missing"], 1),
+):
+    name = " ".join(os.path.basename(word) for word in words)
     ample = run(program, words)
-    tally.check(f"{words[0]} with ample memory", (ample[0], ample[2]), (0, b""))
-    number, ends = 0, 0
+    tally.check(f"{name} with ample memory", (ample[0], ample != WANT), (status, True))
+    number, ends, refused = 0, 0, 0
     while ends == 0 and number < 10_000:
         number += 1
         if os.path.exists(marker):
             os.remove(marker)
         with_shim = dict(os.environ, LD_PRELOAD=shim, APF_REFUSE=str(number), APF_REFUSED=marker)
-        status, out, err = run(program, words, env=with_shim)
+        got = run(program, words, env=with_shim)
         ends = not os.path.exists(marker)
-        told = {0: (status, out, err) == ample, 2: out == b"" and len(err) > 0, 3: (out, err) == (b"", b"apf: out of memory\n")}
-        tally.check(f"{words[0]} without allocation {number}: status {status}", told.get(status, False), True)
-    tally.check(f"{words[0]} ends with a run that meets no refusal", (ends, number > 1, status), (True, True, 0))
+        refused += got == WANT
+        tally.check(f"{name} without allocation {number}", got, got if got == ample else WANT)
+    tally.check(f"{name} was refused memory, and ends with a run that meets no refusal", (refused > 0, ends, got), (True, True, ample))
 tally.end()

@@ -1,12 +1,13 @@
 """The commands on files: what is printed, the statuses, and faults of reading and writing."""
 
 import os
+import shutil
 import subprocess
 import sys
 import tempfile
 
 sys.path.insert(0, os.path.join(os.path.dirname(os.path.abspath(__file__)), "lib"))
-from harness import LAUNCHER, TOP, Files, Tally, build, run
+from harness import LAUNCHER, TOP, Files, Tally, build, drop_rights, run
 
 tally = Tally()
 program = build()
@@ -50,6 +51,39 @@ status, out, err = replay(config, two, files("s", "arrive 0\narrive 0\nfinish 0\
 tally.check("again", (status, out.split(b"level")[0], err), (
     0, b"arrive 0 execute\narrive 0 again\nfinish 0\nfinish 0 not running\narrive 1 execute\n", b""))
 
+# each request has its own width, and the level its limit
+WIDTHS = (
+    b"arrive 0 execute\narrive 1 no room\nfinish 0\n"
+    b"level open seats 0 waiting 0\nexecuted 1 rejected 0 cancelled 0 undecided 1\n"
+    b"queue-full 0 closed 0 concurrency-limit 0\nentered 0 dispatched 0 struck 0\n"
+)
+wide = files("wide", '[{"hash":0,"width":2},{"hash":0,"width":1}]')
+tally.check("widths 2 and 1 of 2 seats", replay(files("seats", '{"limit":2}'), wide, files("s", "arrive 0\narrive 1\nfinish 0\n")), (0, WIDTHS, b""))
+for limit, widths, seats in [(2, (1, 1), 2), (2, (2, 1), 2), (3, (1, 2), 3), (3, (2, 1), 3), (10_000, (9_999, 1), 10_000), (1, (20_000, 1), 20_000)]:
+    level = files("level", '{"limit":%d}' % limit)
+    both = files("both", '[{"hash":0,"width":%d},{"hash":0,"width":%d}]' % widths)
+    status, out, err = replay(level, both, files("s", "arrive 0\narrive 1\n"))
+    book = b"level open seats %d waiting 0\nexecuted %d " % (seats, 2 if seats == sum(widths) else 1)
+    tally.check(f"limit {limit}, widths {widths}", (status, book in out, err), (0, True, b""))
+
+# each file is judged before the next one is read, and the dealer after all of them
+missing = os.path.join(files.folder.name, "missing")
+zero, no_array, dealt = files("zero", '{"limit":0}'), files("no-array", "{}"), files("dealt", '{"limit":1,"queues":3}')
+for name, paths, line in [
+    ("the config before the requests", (zero, missing, missing), b"apf: config fault 5: bad value of limit\n"),
+    ("the requests before the script", (config, no_array, missing), b"apf: requests fault 2: not an array\n"),
+    ("the requests before the dealer", (dealt, no_array, missing), b"apf: requests fault 2: not an array\n"),
+    ("the script before the dealer", (dealt, one, missing), b"apf: cannot read script\n"),
+    ("a script's fault before the dealer", (dealt, one, files("s", "arrive 1\n")), b"apf: script fault 4 at line 1: unknown request\n"),
+]:
+    tally.check(name, replay(*paths), (1, b"", line))
+
+# a level that rejects has no queues, and is not built
+rejects = files("rejects", '{"limit":1,"limitResponse":"Reject"}')
+tally.check("Reject", replay(rejects, one, files("s", "arrive 0\n")), (1, b"", b"apf: not built yet: limitResponse Reject\n"))
+rejects = files("rejects", '{"limit":1,"queues":3,"limitResponse":"Reject"}')
+tally.check("Reject with a hand that can't be dealt", replay(rejects, one, files("s", "arrive 0\n")), (1, b"", b"apf: not built yet: limitResponse Reject\n"))
+
 # a part that isn't built ends with status 1 and one line, and prints nothing
 for line in ("cancel 0", "close", "limit 2"):
     status, out, err = replay(config, one, files("s", f"arrive 0\n{line}\n"))
@@ -80,14 +114,15 @@ for place, name in enumerate(("config", "requests", "script")):
         tally.check(f"{name} {bad}", replay(*paths), (1, b"", b"apf: cannot read %s\n" % name.encode()))
 closed = files("closed", "[]")
 os.chmod(closed, 0)
-if os.geteuid() == 0:
-    # root reads any file: the same as another user, if there is one
-    os.chmod(files.folder.name, 0o755)
-    drop = {"user": 65534, "group": 65534, "extra_groups": []}
-    if os.access(program, os.X_OK) and subprocess.run([program, "hash", "", ""], capture_output=True, **drop).returncode == 0:
-        tally.check("no right to read", run(program, ["replay", config, closed, config], **drop), (1, b"", b"apf: cannot read requests\n"))
+# root reads any file: the same as another user, by a copy of the program that this one reaches
+os.chmod(files.folder.name, 0o755)
+copy = os.path.join(files.folder.name, "program")
+shutil.copy(program, copy)
+rights, note = drop_rights()
+if rights is None:
+    print(note)
 else:
-    tally.check("no right to read", replay(config, closed, config), (1, b"", b"apf: cannot read requests\n"))
+    tally.check("no right to read", run(copy, ["replay", config, closed, config], **rights), (1, b"", b"apf: cannot read requests\n"))
 
 # output that can't be written
 for words in (["hash", "", ""], ["deal", "8", "3", "0"], ["replay", *good], ["--help"]):

@@ -10,7 +10,9 @@ LAUNCHER = os.path.join(TOP, "apf")
 
 
 def build():
-    """The built program's path; the launcher builds it where that is needed."""
+    """The built program's path; the launcher builds it where that is needed. APF_PROGRAM names another one to test."""
+    if os.environ.get("APF_PROGRAM"):
+        return os.environ["APF_PROGRAM"]
     subprocess.run([LAUNCHER, "hash", "", ""], stdout=subprocess.DEVNULL, check=True)
     return os.path.join(TOP, "crates", "apf", "out", "apf")
 
@@ -21,6 +23,18 @@ def run(program, words, **how):
         [program, *words], stdin=subprocess.DEVNULL, stdout=subprocess.PIPE, stderr=subprocess.PIPE, timeout=120, **how
     )
     return done.returncode, done.stdout, done.stderr
+
+
+def drop_rights():
+    """How to run a program with no right to write a file of ours, and what to say where that can't be had."""
+    if os.geteuid() != 0:
+        return {}, ""
+    other = {"user": 65534, "group": 65534, "extra_groups": []}
+    try:
+        subprocess.run(["/bin/sh", "-c", ":"], check=True, **other)
+    except (OSError, subprocess.SubprocessError):
+        return None, "not tried: rights of files, as root cannot become another user here"
+    return other, ""
 
 
 class Files:

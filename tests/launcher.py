@@ -1,0 +1,200 @@
+"""The launcher `apf` and the script `test`, with a stand-in for the toolchain's `rt`; and what git ignores."""
+
+import os
+import shutil
+import subprocess
+import sys
+import tempfile
+
+sys.path.insert(0, os.path.join(os.path.dirname(os.path.abspath(__file__)), "lib"))
+from harness import LAUNCHER, TOP, Tally, drop_rights
+
+tally = Tally()
+room = tempfile.TemporaryDirectory(prefix="apf-test-")
+os.chmod(room.name, 0o755)
+
+# what `rt lib` and `rt run` do here: note the crate, do what the file `meanwhile` says, and make a program that prints the source
+RT = r"""#!/usr/bin/env bash
+crate=$(basename "$PWD")
+echo "$1 $crate" >>"$NOTES"
+[ "$1 $crate" != "$REFUSES" ] || { echo "error: the goal is open"; exit 1; }
+source=$(cat src/main.rt 2>/dev/null)
+[ ! -f "$NOTES.meanwhile" ] || . "$NOTES.meanwhile"
+[ "$1" = run ] || exit 0
+mkdir -p out
+printf '#!/bin/sh\necho "%s" "$@"\nexit 7\n' "$source" >out/apf
+chmod +x out/apf
+"""
+CRATES = """# the crates
+low: std_of_kit
+middle may_wait=1: low
+apart: low
+apf_cli: middle low
+apf: apf_cli
+"""
+
+
+def write(path, text, mode=0o644):
+    os.makedirs(os.path.dirname(path), exist_ok=True)
+    with open(path, "w") as file:
+        file.write(text)
+    os.chmod(path, mode)
+
+
+class Checkout:
+    """A repository of small crates under the launcher, with the stand-in on the path."""
+
+    def __init__(self, name):
+        self.top = os.path.join(room.name, name)
+        self.notes = os.path.join(self.top, "notes")
+        write(os.path.join(self.top, "crates.txt"), CRATES)
+        for crate in ("low", "middle", "apart", "apf_cli"):
+            write(self.path(crate, "src", "lib.rt"), crate)
+        write(self.path("apf", "src", "main.rt"), "first")
+        write(self.path("apf", "src", "other.rt"), "other")
+        shutil.copy(LAUNCHER, os.path.join(self.top, "apf"))
+        write(os.path.join(self.top, "bin", "rt"), RT, 0o755)
+
+    def path(self, *parts):
+        return os.path.join(self.top, "crates", *parts)
+
+    def run(self, *words, refuses="", has_no_rt=False, **how):
+        """Runs the launcher; answers its status, its output, the lines on standard error, and the calls of rt."""
+        path = os.pathsep.join([TOOLS] if has_no_rt else [os.path.join(self.top, "bin"), TOOLS])
+        environment = dict(os.environ, PATH=path, NOTES=self.notes, REFUSES=refuses)
+        done = subprocess.run(
+            [os.path.join(self.top, "apf"), *words], stdin=subprocess.DEVNULL, capture_output=True, env=environment, timeout=60, **how
+        )
+        calls = open(self.notes).read().split("\n")[:-1] if os.path.exists(self.notes) else []
+        if os.path.exists(self.notes):
+            os.remove(self.notes)
+        return done.returncode, done.stdout.decode(), done.stderr.decode().split("\n")[:-1], calls
+
+
+# the tools that the launcher uses, and no other
+TOOLS = os.path.join(room.name, "tools")
+os.mkdir(TOOLS)
+for tool in ("bash", "sh", "env", "awk", "basename", "cat", "chmod", "dirname", "find", "mkdir", "mktemp", "readlink", "rm", "sort"):
+    os.symlink(shutil.which(tool), os.path.join(TOOLS, tool))
+
+ALL = ["lib low", "lib middle", "lib apf_cli", "run apf"]
+BEGIN = "apf: building the program, which proves its 4 crates first: about 6 minutes on four free cores"
+PROGRESS = [
+    "apf: proving low, 3 more to follow",
+    "apf: proving middle, 2 more to follow",
+    "apf: proving apf_cli, 1 more to follow",
+    "apf: proving apf, 0 more to follow",
+]
+
+# the first build: one line a crate, each after those that it stands on, and those alone that the program needs
+first = Checkout("first")
+status, out, err, calls = first.run("a b", "$c", "")
+tally.check("the words and the status go through", (status, out), (7, "first a b $c \n"))
+tally.check("each crate that is needed, in order", calls, ALL)
+tally.check("how long it takes, and then one line a crate, with what is left", err, [BEGIN, *PROGRESS])
+tally.check("a program that is built runs", first.run("x"), (7, "first x\n", [], []))
+
+# a source that is edited, made, deleted, or put back with an old time
+for name, change in [
+    ("edited", lambda it: write(it.path("apf", "src", "main.rt"), "second")),
+    ("of the same size", lambda it: write(it.path("apf", "src", "main.rt"), "fi**t")),
+    ("of a lower crate", lambda it: write(it.path("low", "src", "lib.rt"), "second")),
+    ("new", lambda it: write(it.path("apf", "src", "new.rt"), "new")),
+    ("deleted", lambda it: os.remove(it.path("apf", "src", "other.rt"))),
+    ("with an old time", lambda it: (write(it.path("apf", "src", "main.rt"), "older"), os.utime(it.path("apf", "src", "main.rt"), (1, 1)))),
+    ("the list of crates", lambda it: write(os.path.join(it.top, "crates.txt"), CRATES + "# more\n")),
+]:
+    checkout = Checkout("change-" + name.replace(" ", "-"))
+    checkout.run()
+    tally.check(f"{name}: built before", checkout.run()[3], [])
+    change(checkout)
+    wanted = open(checkout.path("apf", "src", "main.rt")).read()
+    status, out, err, calls = checkout.run()
+    tally.check(f"{name}: built again", (status, out, calls), (7, f"{wanted}\n", ALL))
+    tally.check(f"{name}: and then no more", checkout.run()[3], [])
+
+# a source that is edited while it builds
+for crate in ("low", "apf"):
+    busy = Checkout(f"busy-{crate}")
+    write(busy.notes + ".meanwhile", f'[ $crate != {crate} ] || printf later >"{busy.path("apf", "src", "main.rt")}"\n')
+    busy.run()
+    os.remove(busy.notes + ".meanwhile")
+    tally.check(f"edited while {crate} builds: built again", busy.run()[1:], ("later\n", [BEGIN, *PROGRESS], ALL))
+    tally.check(f"edited while {crate} builds: and then no more", busy.run()[3], [])
+
+# a build that fails says why, runs no older program, and is tried again
+failing = Checkout("failing")
+failing.run()
+write(failing.path("middle", "src", "lib.rt"), "wrong")
+for _ in range(2):
+    status, out, err, calls = failing.run(refuses="lib middle")
+    tally.check("a refused crate", (status, out, calls), (1, "", ["lib low", "lib middle"]))
+    tally.check("says which", err[-2:], ["error: the goal is open", "apf: the program could not be built: middle was refused"])
+tally.check("built once it is well", failing.run()[:2], (7, "first\n"))
+
+# no toolchain: one line, unless the program is built
+bare = Checkout("bare")
+status, out, err, calls = bare.run(has_no_rt=True)
+tally.check("no rt", (status, out, len(err), "rt" in err[0].split()), (1, "", 1, True))
+bare.run()
+tally.check("built, and no rt", bare.run(has_no_rt=True)[:3], (7, "first\n", []))
+
+# a checkout that can't be written: one line, unless the program is built
+rights, note = drop_rights()
+if rights is None:
+    print(note)
+else:
+    closed = Checkout("closed")
+    for at, folders, names in os.walk(closed.top):
+        for it in folders:
+            os.chmod(os.path.join(at, it), 0o555)
+    os.chmod(closed.top, 0o555)
+    status, out, err, calls = closed.run(**rights)
+    tally.check("read-only", (status, out, err, calls), (1, "", [f"apf: the program has yet to be built from these sources, and {closed.top} cannot be written"], []))
+    for at, folders, names in os.walk(closed.top):
+        for it in folders:
+            os.chmod(os.path.join(at, it), 0o755)
+    os.chmod(closed.top, 0o755)
+    closed.run()
+    os.chmod(closed.path("apf", "out"), 0o555)
+    os.chmod(closed.path("apf"), 0o555)
+    tally.check("read-only and built", closed.run(**rights)[:3], (7, "first\n", []))
+    os.chmod(closed.path("apf"), 0o755)
+    os.chmod(closed.path("apf", "out"), 0o755)
+
+
+def tested(name, ci, *scripts):
+    """Runs a copy of `test` on a stand-in for rt and scripts, each a text and a status; answers its status and lines."""
+    top = os.path.join(room.name, "test-" + name)
+    shutil.copy(os.path.join(TOP, "test"), write(os.path.join(top, "bin", "rt"), '#!/bin/sh\necho "%s"\nexit %d\n' % ci, 0o755) or os.path.join(top, "test"))
+    for place, (text, status) in enumerate(scripts):
+        write(os.path.join(top, "tests", f"{place}.py"), f"import sys\nprint({text!r})\nsys.exit({status})\n")
+    path = os.path.join(top, "bin") + os.pathsep + os.environ["PATH"]
+    done = subprocess.run([os.path.join(top, "test")], stdin=subprocess.DEVNULL, capture_output=True, env=dict(os.environ, PATH=path), timeout=60)
+    return done.returncode, done.stdout.decode().split("\n")[:-1]
+
+
+WELL = ("3 passed, 0 failed", 0)
+for name, parts, want in [
+    ("well", [WELL, ("2 passed, 0 failed", 0), ("4 passed, 0 failed", 0)], (0, "9 passed, 0 failed")),
+    ("a failed count with status 0", [WELL, ("2 passed, 1 failed", 0), WELL], (1, "5 passed, 1 failed")),
+    ("a failed count with status 0 of rt", [("3 passed, 2 failed", 0), WELL], (1, "3 passed, 2 failed")),
+    ("a failed count", [WELL, ("2 passed, 4 failed", 1), WELL], (1, "5 passed, 4 failed")),
+    ("a status without a failed count", [WELL, ("2 passed, 0 failed", 1), WELL], (1, "5 passed, 1 failed")),
+    ("a status without a count", [WELL, ("Traceback", 1), WELL], (1, "3 passed, 1 failed")),
+    ("nothing counted", [WELL, ("well", 0), WELL], (1, "3 passed, 1 failed")),
+    ("the last count", [WELL, ("9 passed, 9 failed\n1 passed, 0 failed", 0)], (0, "4 passed, 0 failed")),
+]:
+    status, lines = tested(name.replace(" ", "-"), *parts)
+    tally.check(f"test: {name}", (status, lines[-1]), want)
+    tally.check(f"test: {name}: says how long it takes", "minutes" in lines[0], True)
+
+# git sees nothing that a build or a test makes
+seen = os.path.join(room.name, "seen")
+for path in ("crates/apf/out/apf", "tests/__pycache__/a.pyc", "tests/lib/__pycache__/a.pyc", "README.md"):
+    write(os.path.join(seen, path), "")
+shutil.copy(os.path.join(TOP, ".gitignore"), seen)
+subprocess.run(["git", "init", "-q", seen], check=True)
+status = subprocess.run(["git", "status", "--porcelain", "-uall"], cwd=seen, capture_output=True, check=True).stdout
+tally.check("what git sees", status, b"?? .gitignore\n?? README.md\n")
+tally.end()

@@ -13,11 +13,11 @@ fault_of deck hand =
     else None)))
 
 -- the number of a fault
-abbrev pub number_of : DealerFault → ℕ
-number_of NotPositive = 1
-number_of HandTooLarge = 2
-number_of DeckTooLarge = 3
-number_of TooMuchEntropy = 4
+abbrev pub dealer_fault_number : DealerFault → ℕ
+dealer_fault_number NotPositive = 1
+dealer_fault_number HandTooLarge = 2
+dealer_fault_number DeckTooLarge = 3
+dealer_fault_number TooMuchEntropy = 4
 
 -- the text of a fault
 abbrev pub text_of : DealerFault → List ℕ

@@ -19,11 +19,11 @@ pub enum DealerFault {
 }
 
 impl DealerFault {
-    ghost use Rattle.apf_flow.specs.Fault.{number_of};
+    ghost use Rattle.apf_flow.specs.Fault.{dealer_fault_number};
 
     /// The fault's number, 1 to 4, in the order of testing.
     pub fn number(self) -> u8
-        ensures { result ≡ number_of self }
+        ensures { result ≡ dealer_fault_number self }
     {
         self as u8
     }

@@ -10,7 +10,7 @@ use Rattle.apf_model.specs.World.{put, width}
 use Rattle.apf_model.specs.Fair.{Numbers, after_enter, after_dispatch}
 use Rattle.apf_queue.specs.RingsView.{RingsView, ring, without}
 use Rattle.apf_queue.specs.TimeView.{TimeView, numbers_of}
-use Rattle.apf_queue.specs.View.{IsShape}
+use Rattle.apf_queue.specs.View.{IsQueueShape}
 use Rattle.apf_queue.specs.Consistent.{pushed_count, IsServed, AreConsistent}
 use Rattle.apf_queue.proofs.Places.{split_at, length-out, Contains-without}
 
@@ -227,7 +227,7 @@ empties (suc n) zero = refl
 empties (suc n) (suc i) = empties n i
 
 -- queues in which nothing ever was
-pub opening_consistent : (queues length_limit requests : ℕ) → IsShape queues length_limit requests
+pub opening_consistent : (queues length_limit requests : ℕ) → IsQueueShape queues length_limit requests
     → AreConsistent (record { queues = replicate queues []; requests = requests }) (replicate requests 0) (record { next = replicate queues 0; virtual_time = 0; robin = queues - 1 }) 0 length_limit
 opening_consistent queues length_limit requests shape =
     let a : length (replicate {A = List ℕ} queues []) ≡ queues = length-replicate queues [] in

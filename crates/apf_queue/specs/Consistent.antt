@@ -3,7 +3,7 @@ use Rattle.std.specs.Prelude.{◌≡◌, ℕ, ◌+◌, ◌*◌, ◌<◌, ◌≤�
 use Rattle.apf_model.specs.World.{width}
 use Rattle.apf_queue.specs.RingsView.{RingsView, ring}
 use Rattle.apf_queue.specs.TimeView.{TimeView}
-use Rattle.apf_queue.specs.View.{IsShape}
+use Rattle.apf_queue.specs.View.{IsQueueShape}
 
 -- how many requests were pushed
 abbrev pub pushed_count : List ℕ → ℕ
@@ -15,7 +15,7 @@ IsServed widths waiting n = n + 20000 * waiting ≤ 20000 * pushed_count widths
 
 -- the rings, the widths, the numbers, the count of those that wait and the length limit fit one another
 pub record AreConsistent (rings : RingsView) (widths : List ℕ) (time : TimeView) (waiting length_limit : ℕ) : Type 0 where
-  pub shape : IsShape (length rings.queues) length_limit (length widths)
+  pub shape : IsQueueShape (length rings.queues) length_limit (length widths)
   pub one_width_each : length widths ≡ rings.requests
   pub one_next_each : length time.next ≡ length rings.queues
   pub robin_is_queue : time.robin < length rings.queues

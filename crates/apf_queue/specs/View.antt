@@ -21,7 +21,7 @@ pub record QueuesView : Type 0 where
   pub length_limit : ℕ
 
 -- the shapes that queues may have: 1 to 1,024 queues, a length limit of 1 to 10,000, at most 10,000 requests
-pub record IsShape (queues length_limit requests : ℕ) : Type 0 where
+pub record IsQueueShape (queues length_limit requests : ℕ) : Type 0 where
   pub has_queues : 1 ≤ queues
   pub few_queues : queues ≤ 1024
   pub has_room : 1 ≤ length_limit

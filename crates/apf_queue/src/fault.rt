@@ -1,24 +1,26 @@
 //! What the queues refuse.
 
-ghost use Rattle.std.specs.Prelude.{◌≡◌};
-ghost use Rattle.apf_queue.specs.declared.fault.QueueFault.TheVariants.{BadShape, NoMemory};
+ghost use Rattle.std.specs.Prelude.{◌≡◌, Some, codes};
+ghost use Rattle.apf_queue.specs.declared.fault.QueueFault.TheVariants.{NoMemory};
+ghost use Rattle.apf_queue.specs.Faults.{queue_fault_number};
 
 use std::alloc::AllocError;
+use std::error::Error;
+use std::fmt;
 
 /// Why queues could not be made.
 #[derive(Clone, Copy, Debug, PartialEq, Eq)]
 pub enum QueueFault {
-    /// The number of queues, the length limit or the number of requests is out of range.
+    /// 1: the number of queues, the length limit or the number of requests is out of range.
     BadShape,
-    /// There was no memory.
+    /// 3: there was no memory.
     NoMemory,
 }
 
 impl QueueFault {
     /// The fault's number: 1 for a bad shape, 3 for want of memory. Number 2 is unused.
-    pub fn number(self) -> u32
-        ensures bad_shape { self ≡ QueueFault.BadShape → result ≡ 1 }
-        ensures no_memory { self ≡ QueueFault.NoMemory → result ≡ 3 }
+    pub fn number(self) -> u8
+        ensures { result ≡ queue_fault_number self }
     {
         match self {
             QueueFault::BadShape => 1,
@@ -26,6 +28,21 @@ impl QueueFault {
         }
     }
 }
+
+impl fmt::Display for QueueFault {
+    ghost use Rattle.apf_queue.specs.Faults.{queue_fault_text};
+
+    ghost output = { λ fault. Some (queue_fault_text fault) };
+
+    fn fmt<W: fmt::Write>(&self, f: &mut fmt::Formatter<W>) -> fmt::Result {
+        f.write_str(match self {
+            QueueFault::BadShape => "bad shape",
+            QueueFault::NoMemory => "out of memory",
+        })
+    }
+}
+
+impl Error for QueueFault {}
 
 impl From<AllocError> for QueueFault {
     ghost from_gives = { λ _ fault. fault ≡ NoMemory };
@@ -38,3 +55,13 @@ impl From<AllocError> for QueueFault {
 /// The queue has as many requests as the length limit allows.
 #[derive(Clone, Copy, Debug, PartialEq, Eq)]
 pub struct Full;
+
+impl fmt::Display for Full {
+    ghost output = { λ _. Some (codes "queue full") };
+
+    fn fmt<W: fmt::Write>(&self, f: &mut fmt::Formatter<W>) -> fmt::Result {
+        f.write_str("queue full")
+    }
+}
+
+impl Error for Full {}

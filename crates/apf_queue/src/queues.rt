@@ -4,7 +4,7 @@ ghost use Rattle.std.specs.Prelude.{◌≡◌, ◌≢◌, ◌≤◌, ◌<◌, �
 ghost use Rattle.apf_model.specs.History.{IsShortest};
 ghost use Rattle.apf_model.specs.Fair.{opening_numbers};
 ghost use Rattle.apf_queue.specs.RingsView.{without};
-ghost use Rattle.apf_queue.specs.View.{IsShape, opening_view, queue_count, request_count, queue_in, numbers_in, WasNeverPushed, NothingWaits, Enters, struck, Dispatches, IsHead, IsChosen, AreSmall};
+ghost use Rattle.apf_queue.specs.View.{IsQueueShape, opening_view, queue_count, request_count, queue_in, numbers_in, WasNeverPushed, NothingWaits, Enters, struck, Dispatches, IsHead, IsChosen, AreSmall};
 ghost use Rattle.apf_queue.specs.Scan.{IsBestRound, finish_in, steps_to};
 
 use crate::choice::{Chosen, Head, better, queue_round};
@@ -47,7 +47,7 @@ impl<A: Allocator> Model for Queues<A> {
 
 // Whether the numbers are in range.
 fn is_shape(queues: u32, length_limit: u32, requests: u32) -> bool
-    ensures { IsTrue result ↔ IsShape queues length_limit requests }
+    ensures { IsTrue result ↔ IsQueueShape queues length_limit requests }
 {
     (1..=1_024).contains(&queues) && (1..=10_000).contains(&length_limit) && requests <= 10_000
 }
@@ -69,8 +69,8 @@ impl<A: Allocator + Copy> Queues<A> {
         length_limit: u32,
         requests: u32,
     ) -> Result<Queues<A>, QueueFault>
-        ensures bad_shape { IsErrOf result QueueFault.BadShape ↔ (¬ IsShape queues length_limit requests) }
-        ensures shape { OnOk result (IsShape queues length_limit requests) }
+        ensures bad_shape { IsErrOf result QueueFault.BadShape ↔ (¬ IsQueueShape queues length_limit requests) }
+        ensures shape { OnOk result (IsQueueShape queues length_limit requests) }
         ensures opening { IfOk result (λ s. s ≡ opening_view queues length_limit requests) }
         ensures numbers { IfOk result (λ s. numbers_in s ≡ opening_numbers queues) }
     {

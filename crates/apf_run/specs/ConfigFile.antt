@@ -13,13 +13,13 @@ use Rattle.apf_run.specs.declared.config.ConfigFault.{ConfigFault}
 use Rattle.apf_run.specs.declared.config.ConfigFault.TheVariants.{NotJson, NotObject, UnknownKey, Missing, BadValue, NoMemory}
 
 -- the fault's number
-abbrev pub number_of : ConfigFault → ℕ
-number_of NotJson = 1
-number_of NotObject = 2
-number_of UnknownKey = 3
-number_of Missing = 4
-number_of (BadValue key) = 5
-number_of NoMemory = 6
+abbrev pub config_fault_number : ConfigFault → ℕ
+config_fault_number NotJson = 1
+config_fault_number NotObject = 2
+config_fault_number UnknownKey = 3
+config_fault_number Missing = 4
+config_fault_number (BadValue key) = 5
+config_fault_number NoMemory = 6
 
 -- the key's name in a file
 abbrev pub name_of : ConfigKey → List ℕ
@@ -80,8 +80,8 @@ abbrev pub IsConfigOf : List ℕ → Result Config ConfigFault → Type 0
 IsConfigOf bytes answer = IsJudgementOf NotJson config_of bytes answer
 
 -- each number is in its range
-abbrev pub IsInRange : Config → Type 0
-IsInRange config =
+abbrev pub IsConfigInRange : Config → Type 0
+IsConfigInRange config =
     (1 ≤ config.limit) × (config.limit ≤ 10000) × (1 ≤ config.queues) × (config.queues ≤ 1024)
     × (1 ≤ config.hand_size) × (config.hand_size ≤ 15)
     × (1 ≤ config.queue_length_limit) × (config.queue_length_limit ≤ 10000)

@@ -10,18 +10,18 @@ use Rattle.apf_run.specs.declared.requests.RequestFault.{RequestFault}
 use Rattle.apf_run.specs.declared.requests.RequestFault.TheVariants.{NotJson, NotArray, TooMany, NotObject, UnknownKey, BadFlow, BadWidth, BadWork, BadCancels, BadCloses, NoMemory}
 
 -- the fault's number
-abbrev pub number_of : RequestFault → ℕ
-number_of NotJson = 1
-number_of NotArray = 2
-number_of TooMany = 3
-number_of (NotObject i) = 4
-number_of (UnknownKey i) = 5
-number_of (BadFlow i) = 6
-number_of (BadWidth i) = 7
-number_of (BadWork i) = 8
-number_of (BadCancels i) = 9
-number_of (BadCloses i) = 10
-number_of NoMemory = 11
+abbrev pub request_fault_number : RequestFault → ℕ
+request_fault_number NotJson = 1
+request_fault_number NotArray = 2
+request_fault_number TooMany = 3
+request_fault_number (NotObject i) = 4
+request_fault_number (UnknownKey i) = 5
+request_fault_number (BadFlow i) = 6
+request_fault_number (BadWidth i) = 7
+request_fault_number (BadWork i) = 8
+request_fault_number (BadCancels i) = 9
+request_fault_number (BadCloses i) = 10
+request_fault_number NoMemory = 11
 
 -- the number of the fault's request
 abbrev pub place_of : RequestFault → Option ℕ
@@ -113,6 +113,6 @@ abbrev pub AreRequestsOf : List ℕ → Result (List Request) RequestFault → T
 AreRequestsOf bytes answer = IsJudgementOf NotJson requests_of bytes answer
 
 -- each number is in its range, where there are so many requests
-abbrev pub IsInRange : ℕ → Request → Type 0
-IsInRange count request =
+abbrev pub IsRequestInRange : ℕ → Request → Type 0
+IsRequestInRange count request =
     (1 ≤ request.width) × (request.width ≤ 20000) × (request.work ≤ 1000000) × IfSome request.cancels (λ n. n < count)

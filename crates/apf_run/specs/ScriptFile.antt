@@ -8,13 +8,13 @@ use Rattle.apf_run.specs.declared.script.ScriptFault.{ScriptFault}
 use Rattle.apf_run.specs.declared.script.ScriptFault.TheVariants.{TooLong, Truncated, BadLine, UnknownRequest, NoMemory, BadLimit}
 
 -- the fault's number
-abbrev pub number_of : ScriptFault → ℕ
-number_of (TooLong line) = 1
-number_of (Truncated line) = 2
-number_of (BadLine line) = 3
-number_of (UnknownRequest line) = 4
-number_of NoMemory = 5
-number_of (BadLimit line) = 6
+abbrev pub script_fault_number : ScriptFault → ℕ
+script_fault_number (TooLong line) = 1
+script_fault_number (Truncated line) = 2
+script_fault_number (BadLine line) = 3
+script_fault_number (UnknownRequest line) = 4
+script_fault_number NoMemory = 5
+script_fault_number (BadLimit line) = 6
 
 -- the fault's line
 abbrev pub line_of : ScriptFault → Option ℕ
@@ -90,9 +90,9 @@ unfoldable pub script_of : ℕ → List ℕ → Result (List Command) ScriptFaul
 script_of requests bytes = lines_from requests 1 [] bytes
 
 -- the command's number is in its range, where there are so many requests
-abbrev pub IsInRange : ℕ → Command → Type 0
-IsInRange requests (Arrive n) = n < requests
-IsInRange requests (Finish n) = n < requests
-IsInRange requests (Cancel n) = n < requests
-IsInRange requests Close = ⊤
-IsInRange requests (Limit n) = (1 ≤ n) × (n ≤ 10000)
+abbrev pub IsCommandInRange : ℕ → Command → Type 0
+IsCommandInRange requests (Arrive n) = n < requests
+IsCommandInRange requests (Finish n) = n < requests
+IsCommandInRange requests (Cancel n) = n < requests
+IsCommandInRange requests Close = ⊤
+IsCommandInRange requests (Limit n) = (1 ≤ n) × (n ≤ 10000)

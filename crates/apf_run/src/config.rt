@@ -4,7 +4,7 @@ ghost use Rattle.std.specs.Prelude.{◌≡◌, ◌≢◌, ◌<◌, ◌≤◌, If
 ghost use Rattle.serde_json.specs.Find.{as_str};
 ghost use Rattle.serde_json.specs.View.{view, members_view};
 ghost use Rattle.apf_run.specs.JsonFile.{all_known};
-ghost use Rattle.apf_run.specs.ConfigFile.{config_of, number_at as number_at_key, response_at as response_at_key, is_key, name_of, number_of, response_named, IsConfigOf, IsInRange};
+ghost use Rattle.apf_run.specs.ConfigFile.{config_of, number_at as number_at_key, response_at as response_at_key, is_key, name_of, config_fault_number, response_named, IsConfigOf, IsConfigInRange};
 
 use crate::json::whole_number;
 use apf_book::{Config, Response};
@@ -89,7 +89,7 @@ impl fmt::Display for ConfigKey {
 impl ConfigFault {
     /// The fault's number, 1 to 6.
     pub fn number(&self) -> u8
-        ensures { result ≡ number_of self.now }
+        ensures { result ≡ config_fault_number self.now }
     {
         match self {
             ConfigFault::NotJson => 1,
@@ -161,7 +161,7 @@ fn response_at(value: &Value, default: Response) -> Result<Response, ConfigFault
 #[tactic(auto, unfolding(crate::specs::ConfigFile::config_of))]
 fn config_of_value(value: &Value) -> Result<Config, ConfigFault>
     ensures value { result ≡ config_of (view value.now) }
-    ensures ranges { IfOk result IsInRange }
+    ensures ranges { IfOk result IsConfigInRange }
 {
     let Some(members) = value.as_object() else {
         return Err(ConfigFault::NotObject);
@@ -203,7 +203,7 @@ fn config_of_value(value: &Value) -> Result<Config, ConfigFault>
 /// `ConfigKey`; an absent `limit` is told before any bad value. `NoMemory` only where memory was refused.
 pub fn read_config(alloc: Global, bytes: &[u8]) -> Result<Config, ConfigFault>
     ensures ok { IfOk result (λ config. IsConfigOf bytes.now (Ok config)) }
-    ensures ranges { IfOk result IsInRange }
+    ensures ranges { IfOk result IsConfigInRange }
     ensures err { IfErr result (λ fault. fault ≢ ConfigFault.NoMemory → IsConfigOf bytes.now (Err fault)) }
     ensures memory { IfErr result (λ fault. fault ≡ ConfigFault.NoMemory → 0 < length bytes.now) }
 {

@@ -2,7 +2,7 @@
 
 ghost use Rattle.std.specs.Prelude.{◌≡◌, ◌≢◌, ◌<◌, ◌≤◌, IfOk, IfErr, Ok, Err, All, length, vec_len};
 ghost use Rattle.serde_json.specs.View.{view, items_view};
-ghost use Rattle.apf_run.specs.RequestsFile.{requests_of, requests_from, number_of, place_of, AreRequestsOf, IsInRange};
+ghost use Rattle.apf_run.specs.RequestsFile.{requests_of, requests_from, request_fault_number, place_of, AreRequestsOf, IsRequestInRange};
 
 mod member;
 
@@ -69,7 +69,7 @@ const MAX_REQUESTS: usize = 10_000;
 impl RequestFault {
     /// The fault's number, 1 to 11.
     pub fn number(&self) -> u8
-        ensures { result ≡ number_of self.now }
+        ensures { result ≡ request_fault_number self.now }
     {
         match self {
             RequestFault::NotJson => 1,
@@ -111,7 +111,7 @@ fn requests_of_items(alloc: Global, items: &[Value]) -> Result<Vec<Request>, Req
     ensures ok { IfOk result (λ requests.
         requests_from (length items.now) 0 (items_view items.now) ≡ Ok requests.items) }
     ensures count { IfOk result (λ requests. vec_len requests ≡ length items.now) }
-    ensures ranges { IfOk result (λ requests. All (IsInRange (length items.now)) requests.items) }
+    ensures ranges { IfOk result (λ requests. All (IsRequestInRange (length items.now)) requests.items) }
     ensures err { IfErr result (λ fault. fault ≢ RequestFault.NoMemory
         → requests_from (length items.now) 0 (items_view items.now) ≡ Err fault) }
 {
@@ -130,7 +130,7 @@ fn requests_of_items(alloc: Global, items: &[Value]) -> Result<Vec<Request>, Req
 fn requests_of_value(alloc: Global, value: &Value) -> Result<Vec<Request>, RequestFault>
     ensures ok { IfOk result (λ requests. requests_of (view value.now) ≡ Ok requests.items) }
     ensures ranges { IfOk result (λ requests. (vec_len requests ≤ 10000)
-        × All (IsInRange (vec_len requests)) requests.items) }
+        × All (IsRequestInRange (vec_len requests)) requests.items) }
     ensures err { IfErr result (λ fault. fault ≢ RequestFault.NoMemory
         → requests_of (view value.now) ≡ Err fault) }
 {
@@ -156,7 +156,7 @@ fn requests_of_value(alloc: Global, value: &Value) -> Result<Vec<Request>, Reque
 pub fn read_requests(alloc: Global, bytes: &[u8]) -> Result<Vec<Request>, RequestFault>
     ensures ok { IfOk result (λ requests. AreRequestsOf bytes.now (Ok requests.items)) }
     ensures ranges { IfOk result (λ requests. (vec_len requests ≤ 10000)
-        × All (IsInRange (vec_len requests)) requests.items) }
+        × All (IsRequestInRange (vec_len requests)) requests.items) }
     ensures err { IfErr result (λ fault. fault ≢ RequestFault.NoMemory
         → AreRequestsOf bytes.now (Err fault)) }
     ensures memory { IfErr result (λ fault. fault ≡ RequestFault.NoMemory → 0 < length bytes.now) }

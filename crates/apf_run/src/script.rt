@@ -1,7 +1,7 @@
 //! The script file: the commands that a replay carries out, one a line.
 
 ghost use Rattle.std.specs.Prelude.{◌≡◌, ◌≢◌, ◌+◌, ◌<◌, ◌≤◌, ◌^◌, ℕ, MatchOption, IfOk, IfErr, IfSome, OnOk, Ok, Err, All, length, vec_len, slice_index, drop};
-ghost use Rattle.apf_run.specs.ScriptFile.{script_of, judged_line, in_range as in_range_of, of_request as of_request_of, number_of, line_of, IsInRange};
+ghost use Rattle.apf_run.specs.ScriptFile.{script_of, judged_line, in_range as in_range_of, of_request as of_request_of, script_fault_number, line_of, IsCommandInRange};
 
 mod line;
 
@@ -54,7 +54,7 @@ const MAX_LIMIT: u32 = 10_000;
 impl ScriptFault {
     /// The fault's number, 1 to 6.
     pub fn number(&self) -> u8
-        ensures { result ≡ number_of self.now }
+        ensures { result ≡ script_fault_number self.now }
     {
         match self {
             ScriptFault::TooLong(_) => 1,
@@ -101,7 +101,7 @@ fn of_request(
 #[tactic(auto, unfolding(crate::specs::ScriptFile::in_range))]
 fn in_range(command: Command, requests: u32, line: u32) -> Result<Command, ScriptFault>
     ensures value { result ≡ in_range_of requests line command }
-    ensures ranges { IfOk result (IsInRange requests) }
+    ensures ranges { IfOk result (IsCommandInRange requests) }
 {
     match command {
         Command::Arrive(n) | Command::Finish(n) | Command::Cancel(n) => {
@@ -116,7 +116,7 @@ fn in_range(command: Command, requests: u32, line: u32) -> Result<Command, Scrip
 #[tactic(auto, unfolding(crate::specs::ScriptFile::judged_line))]
 fn judge(bytes: &[u8], line: u32, requests: u32) -> Result<Command, ScriptFault>
     ensures value { result ≡ judged_line requests line bytes.now }
-    ensures ranges { IfOk result (IsInRange requests) }
+    ensures ranges { IfOk result (IsCommandInRange requests) }
 {
     let command = command_of_line(bytes).ok_or(ScriptFault::BadLine(line))?;
     in_range(command, requests, line)
@@ -153,7 +153,7 @@ fn after(bytes: &[u8], at: usize) -> &[u8]
 pub fn read_script(alloc: Global, bytes: &[u8], requests: u32) -> Result<Vec<Command>, ScriptFault>
     ensures ok { IfOk result (λ commands. script_of requests bytes.now ≡ Ok commands.items) }
     ensures ranges { IfOk result (λ commands. (vec_len commands ≤ 100000)
-        × All (IsInRange requests) commands.items) }
+        × All (IsCommandInRange requests) commands.items) }
     ensures err { IfErr result (λ fault. fault ≢ ScriptFault.NoMemory
         → script_of requests bytes.now ≡ Err fault) }
     ensures memory { IfErr result (λ fault. fault ≡ ScriptFault.NoMemory → 0 < length bytes.now) }

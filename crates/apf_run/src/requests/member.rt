@@ -4,7 +4,7 @@ ghost use Rattle.std.specs.Prelude.{◌≡◌, ◌<◌, ◌≤◌, IfOk, IfSome,
 ghost use Rattle.serde_json.specs.Find.{get};
 ghost use Rattle.serde_json.specs.View.{view, members_view};
 ghost use Rattle.apf_run.specs.JsonFile.{all_known};
-ghost use Rattle.apf_run.specs.RequestsFile.{request_of, is_key, flow_of as flow_of_members, number_or as number_or_default, cancels_of as cancels_of_member, closes_of as closes_of_member, IsInRange};
+ghost use Rattle.apf_run.specs.RequestsFile.{request_of, is_key, flow_of as flow_of_members, number_or as number_or_default, cancels_of as cancels_of_member, closes_of as closes_of_member, IsRequestInRange};
 
 use crate::json::{whole_number, whole_number_below};
 use crate::requests::{Request, RequestFault};
@@ -92,7 +92,7 @@ fn closes_of(value: &Value) -> Option<bool>
 #[tactic(auto, unfolding(crate::specs::RequestsFile::request_of))]
 pub(crate) fn request_of_value(value: &Value, i: u32, count: u32) -> Result<Request, RequestFault>
     ensures value { result ≡ request_of count i (view value.now) }
-    ensures ranges { IfOk result (IsInRange count) }
+    ensures ranges { IfOk result (IsRequestInRange count) }
 {
     let Some(members) = value.as_object() else {
         return Err(RequestFault::NotObject(i));

@@ -1,6 +1,6 @@
 use Rattle.std.proofs.Common.{◌≡◌, ◌+◌, ◌<◌, [], ◌∷◌, ◌++◌, length, length-drop, vec_len, sym, ap, ◌∙◌, arith, rules, Err, lit≤}
 use Rattle.std.proofs.lemmas.List.Elements.{All-push}
-use Rattle.apf_run.specs.ScriptFile.{script_of, lines_from, IsInRange}
+use Rattle.apf_run.specs.ScriptFile.{script_of, lines_from, IsCommandInRange}
 use Rattle.apf_run.proofs.Judged.{with_front, with_front-nil, with_front-before}
 use Rattle.apf_run.proofs.ScriptLines.{lines_from-too_long, lines_from-line, lines_from-truncated}
 use Rattle.apf_run.proofs.script.read_script.Goals as goal
@@ -49,7 +49,7 @@ loop-rest-preserved c =
           ∙ ap (with_front c.loop-rest.commands.items) (sym went_on) ∙ c.loop-rest.invariant.so_far);
       few = omega arith;
       count = omega arith;
-      ranges = rw pushed (All-push (IsInRange c.args.requests) c.loop-rest.commands.items c.in_ok-command.command
+      ranges = rw pushed (All-push (IsCommandInRange c.args.requests) c.loop-rest.commands.items c.in_ok-command.command
           c.loop-rest.invariant.ranges c.in_ok-command.ensures.ranges);
       within = rw c.after-rest.ensures (omega (arith, length-drop (c.in-Some.end + 1) c.loop-rest.rest.now));
     }

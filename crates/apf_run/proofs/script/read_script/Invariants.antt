@@ -1,5 +1,5 @@
 use Rattle.std.proofs.Common.{◌≡◌, ◌≤◌, ◌+◌, All, length, [], vec_len}
-use Rattle.apf_run.specs.ScriptFile.{script_of, lines_from, IsInRange}
+use Rattle.apf_run.specs.ScriptFile.{script_of, lines_from, IsCommandInRange}
 use Rattle.apf_run.proofs.Judged.{with_front}
 use Rattle.apf_run.proofs.script.read_script.Given as goal
 
@@ -8,7 +8,7 @@ invariant-loop-rest l = record {
   so_far : with_front l.commands.items (lines_from l.requests l.line [] l.rest) ≡ script_of l.requests l.bytes;
   few : l.line ≤ 100001;
   count : vec_len l.commands + 1 ≡ l.line;
-  ranges : All (IsInRange l.requests) l.commands.items;
+  ranges : All (IsCommandInRange l.requests) l.commands.items;
   within : length l.rest ≤ length l.bytes;
 }
 

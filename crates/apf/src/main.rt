@@ -24,13 +24,34 @@ impl Files for Disk<'_> {
     }
 }
 
-// The status, or the refusal of what is allocated before the program begins.
-fn run(rt: &HostRuntime) -> Result<u8, AllocError> {
+// Why the program ends before it reads its words.
+enum Unread {
+    // A word of the command line is not UTF-8.
+    NotUtf8,
+    NoMemory,
+}
+
+impl From<AllocError> for Unread {
+    fn from(_refused: AllocError) -> Unread {
+        Unread::NoMemory
+    }
+}
+
+impl From<io::Error> for Unread {
+    fn from(error: io::Error) -> Unread {
+        match error.kind() {
+            io::ErrorKind::InvalidData => Unread::NotUtf8,
+            _ => Unread::NoMemory,
+        }
+    }
+}
+
+// The status, or why there is none: what the output needs of memory is taken before anything else.
+fn run(rt: &HostRuntime) -> Result<u8, Unread> {
     let alloc = rt.alloc();
-    let args = std::env::args(rt).map_err(|_| AllocError)?;
-    let owned: Vec<String> = args.collect(alloc)?;
+    let mut out = BufWriter::new(alloc, io::writer(rt)).map_err(|_| Unread::NoMemory)?;
+    let owned: Vec<String> = std::env::args(rt)?.collect(alloc)?;
     let words: Vec<&str> = owned.iter().map(|word| word.as_str()).collect(alloc)?;
-    let mut out = BufWriter::new(alloc, io::writer(rt)).map_err(|_| AllocError)?;
     let mut files = Disk { rt };
     Ok(act(
         alloc,
@@ -44,7 +65,11 @@ fn run(rt: &HostRuntime) -> Result<u8, AllocError> {
 fn main(rt: HostRuntime) -> ExitCode {
     match run(&rt) {
         Ok(status) => ExitCode::from(status),
-        Err(_) => {
+        Err(Unread::NotUtf8) => {
+            let _ = eprintln!(rt; "apf: the command line is not UTF-8");
+            ExitCode::from(2)
+        }
+        Err(Unread::NoMemory) => {
             let _ = eprintln!(rt; "apf: out of memory");
             ExitCode::from(3)
         }

@@ -1,11 +1,12 @@
 -- What a chain of `clap`'s builders makes.
-use Rattle.std.proofs.Common.{◌≡◌, ◌∙◌, ◌||◌, false, true, Option, Some, ap, ap₂, Bor}
+use Rattle.std.proofs.Common.{◌≡◌, ◌∙◌, ◌||◌, false, true, Option, Some, ap, ap₂, refl, Bor}
 use Rattle.clap.specs.declared.builder.value_parser.ValueParser.{ValueParser}
 use Rattle.clap.specs.Built.{AddsArg}
-use Rattle.clap.specs.Simple.{App, app_of, app_of_fields, with_rule}
+use Rattle.clap.specs.Simple.{App, app_of, app_of_fields, on_top, with_rule}
 use Rattle.clap.specs.Walk.{Rule, Text, rule_of}
 use Rattle.clap.specs.declared.builder.arg.Arg.{Arg}
 use Rattle.clap.specs.declared.builder.command.Command.{Command}
+use Rattle.clap.specs.declared.builder.command.Command.TheOpen.{Command-F}
 use Rattle.clap.specs.declared.builder.command.Command.TheViews.{out-Command}
 
 -- the command is read as `app`, and has no global argument
@@ -13,10 +14,38 @@ pub record IsMade (c : Command) (app : App) : Type 0 where
   pub app_is : app_of c ≡ app
   pub local : (out-Command c).has_globals ≡ false
 
--- a text for help changes neither
-pub described : (old new : Command) {text : Bor Text} (app : App) → app_of old ≡ app → (out-Command old).has_globals ≡ false
-    → out-Command new ≡ record (out-Command old) { about = Some text } → IsMade new app
-described old new app app_is local same = record { app_is = ap app_of_fields same ∙ app_is; local = ap (λ f. f.has_globals) same ∙ local }
+-- a setting, which changes the fields by f, and what a parse reads of them by g
+pub set_as : {old new : Command} {app : App} (f : Command-F Command → Command-F Command) (g : App → App)
+    → ((c : Command-F Command) → app_of_fields (f c) ≡ g (app_of_fields c)) → ((c : Command-F Command) → (f c).has_globals ≡ c.has_globals)
+    → IsMade old app → out-Command new ≡ f (out-Command old) → IsMade new (g app)
+set_as {old} f g reads keeps made same = record {
+  app_is = ap app_of_fields same ∙ (reads (out-Command old) ∙ ap g made.app_is);
+  local = ap (λ c. c.has_globals) same ∙ (keeps (out-Command old) ∙ made.local);
+}
+
+-- a setting that no parse reads, as a text of help
+pub described : {old new : Command} {app : App} (f : Command-F Command → Command-F Command)
+    → ((c : Command-F Command) → app_of_fields (f c) ≡ app_of_fields c) → ((c : Command-F Command) → (f c).has_globals ≡ c.has_globals)
+    → IsMade old app → out-Command new ≡ f (out-Command old) → IsMade new app
+described f = set_as f (λ app. app)
+
+-- the text at the top of help, and the one at its end
+pub with_texts : (new about : Command) {after : Command} {app : App} {top end : Bor Text} → app_of new ≡ app → (out-Command new).has_globals ≡ false
+    → out-Command about ≡ record (out-Command new) { about = Some top } → out-Command after ≡ record (out-Command about) { after_help = Some end }
+    → IsMade after app
+with_texts new about {top = top} {end = end} app_is local is_about is_after =
+    described (λ c. record c { after_help = Some end }) (λ c. refl) (λ c. refl)
+    (described (λ c. record c { about = Some top }) (λ c. refl) (λ c. refl) (record { app_is = app_is; local = local }) is_about) is_after
+
+-- a version
+pub versioned : {old new : Command} {app : App} {text : Bor Text} → IsMade old app
+    → out-Command new ≡ record (out-Command old) { version = Some text } → IsMade new (on_top (λ s. record s { has_version = true }) app)
+versioned {text = text} = set_as (λ c. record c { version = Some text }) (on_top (λ s. record s { has_version = true })) (λ c. refl) (λ c. refl)
+
+-- the command asks for a subcommand
+pub asking : {old new : Command} {app : App} → IsMade old app
+    → out-Command new ≡ record (out-Command old) { subcommand_required = true } → IsMade new (on_top (λ s. record s { subcommand_required = true }) app)
+asking = set_as (λ c. record c { subcommand_required = true }) (on_top (λ s. record s { subcommand_required = true })) (λ c. refl) (λ c. refl)
 
 -- one more argument
 pub added : {old new : Command} {a : Arg} {app : App} {rule : Rule} → IsMade old app → rule_of a ≡ rule → a.global ≡ false

@@ -69,9 +69,10 @@ abbrev is_set : ArgAction → Bool
 is_set Set = true
 is_set _ = false
 
-abbrev is_help : ArgAction → Bool
-is_help Help = true
-is_help _ = false
+abbrev is_request : ArgAction → Bool
+is_request Help = true
+is_request Version = true
+is_request _ = false
 
 set_only : (x : ArgAction) → is_set x ≡ true → x ≡ Set
 set_only Set e = refl
@@ -84,28 +85,29 @@ set_only HelpShort e = cc
 set_only HelpLong e = cc
 set_only Version e = cc
 
-help_only : (x : ArgAction) → is_help x ≡ true → x ≡ Help
-help_only Help e = refl
-help_only Set e = cc
-help_only Append e = cc
-help_only SetTrue e = cc
-help_only SetFalse e = cc
-help_only Count e = cc
-help_only HelpShort e = cc
-help_only HelpLong e = cc
-help_only Version e = cc
+-- no use of an argument that asks for help or the version passes
+request_fails : (x : ArgAction) (again : Bool) (a : Rule) (values : List Text) (rows : List Row) → is_request x ≡ true → action_fault x again a values rows ≡ [] → ⊥
+request_fails Help again a values rows e f = some_kind f
+request_fails Version again a values rows e f = some_kind f
+request_fails Set again a values rows e f = cc
+request_fails Append again a values rows e f = cc
+request_fails SetTrue again a values rows e f = cc
+request_fails SetFalse again a values rows e f = cc
+request_fails Count again a values rows e f = cc
+request_fails HelpShort again a values rows e f = cc
+request_fails HelpLong again a values rows e f = cc
 
 -- a positional of one value
 abbrev is_single : Rule → Bool
 is_single a = is_set (action_of a) && ((unwrap_or_range a.range).start_inclusive == 1 && most_values a == 1)
 
--- a flag that asks for help
-abbrev is_help_flag : Rule → Bool
-is_help_flag a = is_help (action_of a) && not (takes_values a)
+-- a flag that asks for help or the version
+abbrev is_request_flag : Rule → Bool
+is_request_flag a = is_request (action_of a) && not (takes_values a)
 
--- each argument is a positional of one value, or else a flag that asks for help, and has no default
+-- each argument is a positional of one value, or else a flag that asks for help or the version, and has no default
 abbrev pub is_plain_rule : Rule → Bool
-is_plain_rule a = cond (is_some a.index) (is_single a) (is_help_flag a)
+is_plain_rule a = cond (is_some a.index) (is_single a) (is_request_flag a)
 
 -- the row has a value that the argument takes
 pub record IsTakenBy (a : Rule) (r : Row) : Type 0 where
@@ -179,14 +181,11 @@ module _ (c : List Rule) (plain_rules : list_all is_plain_rule c ≡ true) where
   plain_found : (p : Rule → Bool) (a : Rule) → find p c ≡ Some a → (is_plain_rule a ≡ true) × (p a ≡ true)
   plain_found p a is = found (λ x. is_plain_rule x ≡ true) p c a (each_passes is_plain_rule c plain_rules) is
 
-  -- no use of a flag that asks for help passes
-  help_fails : (again : Bool) (a : Rule) (values : List Text) (rows : List Row) → is_help_flag a ≡ true → use_fault again a values rows ≡ [] → ⊥
-  help_fails again a values rows help e =
-      let action : action_of a ≡ Help = help_only _ (both _ _ help).0 in
-      let asked : action_fault (action_of a) again a (values_or_missing a values) rows ≡ []
-      = (no_fault (range_kinds (unwrap_or_range a.range).start_inclusive (most_values a) (length values)) _ e).1 in
-      let bad : kind.DisplayHelp ∷ [] ≡ [] = subst (λ (x : ArgAction). action_fault x again a (values_or_missing a values) rows ≡ []) action asked in
-      some_kind bad
+  -- no use of a flag that asks for help or the version passes
+  flag_fails : (again : Bool) (a : Rule) (values : List Text) (rows : List Row) → is_request_flag a ≡ true → use_fault again a values rows ≡ [] → ⊥
+  flag_fails again a values rows flag e =
+      request_fails (action_of a) again a (values_or_missing a values) rows (both _ _ flag).0
+      (no_fault (range_kinds (unwrap_or_range a.range).start_inclusive (most_values a) (length values)) _ e).1
 
   single_value : (again : Bool) (a : Rule) (values : List Text) (rows : List Row) → is_single a ≡ true → use_fault again a values rows ≡ []
       → (t : Text) × (values ≡ t ∷ []) × (value_kinds a.ignore_case (parser_of_value a.parser) t ≡ [])
@@ -214,12 +213,12 @@ module _ (c : List Rule) (plain_rules : list_all is_plain_rule c ≡ true) where
       by_own_id : arg_by_id c a.id ≡ Some a
       by_own_id = subst (λ (i : Text). arg_by_id c i ≡ Some a) (sym ((bytes_eq-Decides a.id id).0 got.1)) is
 
-      go : (b : Bool) → cond b (is_single a) (is_help_flag a) ≡ true → Each (IsTaken c) (used a values rows)
+      go : (b : Bool) → cond b (is_single a) (is_request_flag a) ≡ true → Each (IsTaken c) (used a values rows)
       go true single =
           let action : action_of a ≡ Set = set_only _ (both _ _ single).0 in
           let one = single_value again a values rows single e in
           rw (action, one.1) (with_taken c a one.0 rows by_own_id one.2 h)
-      go false help = absurd (help_fails again a values rows help e)
+      go false flag = absurd (flag_fails again a values rows flag e)
 
   pub settled_taken : (again : Bool) (h : Held) → settle_fault c again h ≡ [] → Each (IsTaken c) h.rows → Each (IsTaken c) (settled c h).rows
   settled_taken again h e taken = go h.pending e
@@ -237,31 +236,31 @@ module _ (c : List Rule) (plain_rules : list_all is_plain_rule c ≡ true) where
   -- ---- the walk
 
   -- a flag that is met fails
-  long_fails : (again : Bool) (a : Rule) (v : Option Text) (h : Held) → is_help_flag a ≡ true → long_fault c again (Some a) v h ≡ [] → ⊥
-  long_fails again a v h help e = go (takes_values a) (is_false _ (both _ _ help).1) v e
+  long_fails : (again : Bool) (a : Rule) (v : Option Text) (h : Held) → is_request_flag a ≡ true → long_fault c again (Some a) v h ≡ [] → ⊥
+  long_fails again a v h flag e = go (takes_values a) (is_false _ (both _ _ flag).1) v e
     where
       go : (b : Bool) → b ≡ false → (v : Option Text)
           → cond b (option_fault c again a v h) (cond (is_some v) (kind.TooManyValues ∷ []) (react_fault c again a [] h)) ≡ [] → ⊥
       go true miss v e = true≢false miss
       go false miss (Some t) e = some_kind e
-      go false miss None e = help_fails again a [] (settled c h).rows help (no_fault (settle_fault c again h) _ e).1
+      go false miss None e = flag_fails again a [] (settled c h).rows flag (no_fault (settle_fault c again h) _ e).1
 
-  short_fails : (again : Bool) (a : Rule) (rest : Text) (h : Held) (after : Held → Kinds) → is_help_flag a ≡ true → short_fault c again (Some a) rest h after ≡ [] → ⊥
-  short_fails again a rest h after help e = go (takes_values a) (is_false _ (both _ _ help).1) e
+  short_fails : (again : Bool) (a : Rule) (rest : Text) (h : Held) (after : Held → Kinds) → is_request_flag a ≡ true → short_fault c again (Some a) rest h after ≡ [] → ⊥
+  short_fails again a rest h after flag e = go (takes_values a) (is_false _ (both _ _ flag).1) e
     where
       go : (b : Bool) → b ≡ false
           → cond b (option_fault c again a (attached_value rest) h) (or_else (react_fault c again a [] h) (after (reacted c a [] h))) ≡ [] → ⊥
       go true miss e = true≢false miss
-      go false miss e = help_fails again a [] (settled c h).rows help (no_fault (settle_fault c again h) _ (no_fault (react_fault c again a [] h) _ e).0).1
+      go false miss e = flag_fails again a [] (settled c h).rows flag (no_fault (settle_fault c again h) _ (no_fault (react_fault c again a [] h) _ e).0).1
 
   -- what has no index is a flag
-  flag_found : (p : Rule → Bool) (a : Rule) → find (λ x. not (is_some x.index) && p x) c ≡ Some a → is_help_flag a ≡ true
+  flag_found : (p : Rule → Bool) (a : Rule) → find (λ x. not (is_some x.index) && p x) c ≡ Some a → is_request_flag a ≡ true
   flag_found p a is = go (is_some a.index) got.0 (is_false _ (both _ _ got.1).0)
     where
       got : (is_plain_rule a ≡ true) × ((not (is_some a.index) && p a) ≡ true)
       got = plain_found (λ x. not (is_some x.index) && p x) a is
 
-      go : (b : Bool) → cond b (is_single a) (is_help_flag a) ≡ true → b ≡ false → is_help_flag a ≡ true
+      go : (b : Bool) → cond b (is_single a) (is_request_flag a) ≡ true → b ≡ false → is_request_flag a ≡ true
       go true own miss = absurd (true≢false miss)
       go false own miss = own
 

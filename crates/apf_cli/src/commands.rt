@@ -5,9 +5,13 @@ ghost use Rattle.clap.specs.declared.builder.command.Command.TheViews.{out-Comma
 ghost use Rattle.apf_cli.specs.Commands.{apf_app, files_app, text_rule, number_rule};
 ghost use Rattle.apf_cli.specs.Commands.{hash_shape, deal_shape, replay_shape, run_shape, services_shape};
 
+use crate::help;
 use clap::builder::ValueParser;
 use clap::{Arg, Command, value_parser};
 use std::alloc::{AllocError, Global};
+
+/// What `--version` prints after the program's name.
+const VERSION: &str = "0.1.0";
 
 // A text that must be given.
 fn text<'a>(alloc: Global, id: &'a str, help: &'a str) -> Arg<'a>
@@ -31,6 +35,7 @@ fn hash_command<'a>(alloc: Global) -> Result<Command<'a>, AllocError>
 {
     Command::new(alloc, "hash")
         .about("Print the hash of a flow")
+        .after_help(help::HASH)
         .arg(text(alloc, "SCHEMA", "Name of the flow schema"))?
         .arg(text(
             alloc,
@@ -45,6 +50,7 @@ fn deal_command<'a>(alloc: Global) -> Result<Command<'a>, AllocError>
 {
     Command::new(alloc, "deal")
         .about("Print the hand of queues that a hash is dealt")
+        .after_help(help::DEAL)
         .arg(number(alloc, "DECK", value_parser!(u32), "Number of queues"))?
         .arg(number(
             alloc,
@@ -65,12 +71,14 @@ fn files_command<'a>(
     alloc: Global,
     name: &'a str,
     about: &'a str,
+    after_help: &'a str,
 ) -> Result<Command<'a>, AllocError>
     ensures app { IfOk result (λ c. app_of c ≡ files_app name.entry.now) }
     ensures local { IfOk result (λ c. (out-Command c).has_globals ≡ false) }
 {
     Command::new(alloc, name)
         .about(about)
+        .after_help(after_help)
         .arg(text(alloc, "CONFIG", "Configuration file of the priority level"))?
         .arg(text(alloc, "REQUESTS", "Requests file"))
 }
@@ -83,6 +91,7 @@ fn replay_command<'a>(alloc: Global) -> Result<Command<'a>, AllocError>
         alloc,
         "replay",
         "Run a script of requests and print each decision",
+        help::SCRIPT,
     )?
     .arg(text(alloc, "SCRIPT", "Script file"))
 }
@@ -96,6 +105,7 @@ fn run_command<'a>(alloc: Global) -> Result<Command<'a>, AllocError>
         alloc,
         "run",
         "Run the requests on worker threads and print the book",
+        help::RUN,
     )?
     .arg(number(
         alloc,
@@ -113,6 +123,7 @@ fn services_command<'a>(alloc: Global) -> Result<Command<'a>, AllocError>
         alloc,
         "services",
         "Run a script of requests and print each queue's service",
+        help::SCRIPT,
     )?
     .arg(text(alloc, "SCRIPT", "Script file"))
 }
@@ -127,6 +138,8 @@ pub(crate) fn apf_command<'a>(alloc: Global) -> Result<Command<'a>, AllocError>
 {
     Command::new(alloc, "apf")
         .about("Replay or run requests at one priority level of API Priority and Fairness")
+        .after_help(help::PROGRAM)
+        .version(VERSION)
         .subcommand_required(true)
         .subcommand(hash_command(alloc)?)?
         .subcommand(deal_command(alloc)?)?

@@ -43,13 +43,18 @@ impl fmt::Display for Part {
     }
 }
 
+/// Where a dealer's sizes come from.
+#[derive(Clone, Copy, Debug, PartialEq, Eq)]
+pub enum Sizes {
+    OfCommandLine,
+    OfConfig,
+}
+
 /// Why a command did not end well. Its `Display` is the line on standard error.
 #[derive(Clone, Copy, Debug, PartialEq, Eq)]
 pub enum Fault {
-    /// The sizes that the command line gave for a deal.
-    Deal(DealerFault),
-    /// The sizes that the config gave.
-    Dealer(DealerFault),
+    /// A deck and a hand that can't be dealt, and who gave them.
+    Dealer(DealerFault, Sizes),
     Config(ConfigFault),
     Requests(RequestFault),
     Script(ScriptFault),
@@ -65,9 +70,9 @@ impl Fault {
     /// fault; 3 want of memory.
     pub fn status(&self) -> u8 {
         match self {
-            Fault::Deal(_) => 2,
+            Fault::Dealer(_, Sizes::OfCommandLine) => 2,
             Fault::NoMemory => 3,
-            Fault::Dealer(_)
+            Fault::Dealer(_, Sizes::OfConfig)
             | Fault::Config(_)
             | Fault::Requests(_)
             | Fault::Script(_)
@@ -114,7 +119,7 @@ impl From<ScriptFault> for Fault {
 impl fmt::Display for Fault {
     fn fmt<W: fmt::Write>(&self, f: &mut fmt::Formatter<W>) -> fmt::Result {
         match self {
-            Fault::Deal(fault) | Fault::Dealer(fault) => {
+            Fault::Dealer(fault, _) => {
                 let number = fault.number();
                 write!(f, "apf: dealer fault {number}: {fault}")
             }

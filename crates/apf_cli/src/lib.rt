@@ -2,7 +2,7 @@
 //!
 //! In the order of the data's way:
 //!
-//! - `commands`, `words`: what a command line asks for, read by `clap`.
+//! - `help`, `commands`, `words`: what a command line asks for, read by `clap`.
 //! - `program`: does it, and answers the status.
 //! - `level`, `replay`: a script of arrivals and finishes on a level of one thread.
 //! - `faults`: the lines on standard error.
@@ -10,6 +10,7 @@
 
 mod commands;
 mod faults;
+mod help;
 mod level;
 mod program;
 mod replay;

@@ -1,6 +1,6 @@
 //! The whole program over files and writers that the caller passes.
 
-use crate::faults::{Fault, Input, Part};
+use crate::faults::{Fault, Input, Part, Sizes};
 use crate::replay::replay;
 use crate::words::{Action, read_words};
 use apf_flow::{Dealer, flow_hash};
@@ -40,7 +40,10 @@ fn print_hash<O: Write>(schema: &str, distinguisher: &str, out: &mut O) -> Resul
 
 // Prints the cards with one space between two.
 fn print_deal<O: Write>(deck: u32, hand: u32, hash: u64, out: &mut O) -> Result<(), Fault> {
-    let cards = Dealer::new(deck, hand).map_err(Fault::Deal)?.deal(hash);
+    let cards = match Dealer::new(deck, hand) {
+        Ok(dealer) => dealer.deal(hash),
+        Err(fault) => return Err(Fault::Dealer(fault, Sizes::OfCommandLine)),
+    };
     for (place, card) in cards.as_slice().iter().enumerate() {
         let gap = if place == 0 { "" } else { " " };
         if write!(out, "{gap}{card}").is_err() {

@@ -4,9 +4,9 @@
 
 ghost use Rattle.std.specs.Prelude.{◌≡◌, ◌<◌, ◌≤◌, length, IfOk};
 ghost use Rattle.apf_model.specs.Schedule.{AreWidths};
-ghost use Rattle.apf_cli.specs.Requests.{AreRequests};
+ghost use Rattle.apf_cli.specs.Requests.{AreRequests, widths_of};
 
-use crate::faults::{Fault, Part};
+use crate::faults::{Fault, Part, Sizes};
 use crate::level::{arrive, finish};
 use apf_flow::Dealer;
 use apf_model::Response;
@@ -46,7 +46,8 @@ pub struct Transcript {
 // The widths of the requests, in order.
 fn widths_of_requests(alloc: Global, requests: &[Request]) -> Result<Vec<u32>, AllocError>
     requires { AreRequests requests.now }
-    ensures { IfOk result (λ v. AreWidths v.items × (length v.items ≤ 10000)) }
+    ensures widths { IfOk result (λ v. v.items ≡ widths_of requests.now) }
+    ensures ranges { IfOk result (λ v. AreWidths v.items × (length v.items ≤ 10000)) }
 {
     requests.iter().map(|request| request.width).collect(alloc)
 }
@@ -114,7 +115,7 @@ pub fn replay(
         return Err(Fault::NotBuilt(Part::Reject));
     }
     if let Err(fault) = Dealer::new(config.queues, config.hand_size) {
-        return Err(Fault::Dealer(fault));
+        return Err(Fault::Dealer(fault, Sizes::OfConfig));
     }
     if !commands.iter().all(is_built) {
         return Err(Fault::NotBuilt(Part::Script));

@@ -15,7 +15,7 @@ static MOST: [&str; 5] = [
     "18446744073709551615",
 ];
 
-// The words give no action but an error, whose text goes to the standard error unless it is help.
+// The words give no action but an error, whose text goes to the standard error unless it was asked for.
 fn refused<'a>(rt: &impl Abort, alloc: Global, words: &'a [&'a str], kind: ErrorKind) -> Error {
     match read_words(alloc, words) {
         Ok(action) => panic!(rt; "{words:?} gives {action:?}"),
@@ -23,7 +23,7 @@ fn refused<'a>(rt: &impl Abort, alloc: Global, words: &'a [&'a str], kind: Error
             assert_eq!(rt; error.kind(), kind, "{words:?}");
             assert_eq!(rt;
                 error.use_stderr(),
-                kind != ErrorKind::DisplayHelp,
+                kind != ErrorKind::DisplayHelp && kind != ErrorKind::DisplayVersion,
                 "{words:?}"
             );
             error
@@ -163,6 +163,16 @@ fn answers_with_help(rt: HostRuntime) -> Result<(), Fail> {
         let help = refused(&rt, rt.alloc(), words, ErrorKind::DisplayHelp);
         let text = format!(in rt.alloc(); "{help}")?;
         assert!(rt; text.as_str().contains(line), "{words:?}: {text}");
+    }
+    Ok(())
+}
+
+#[test]
+fn answers_with_the_version(rt: HostRuntime) -> Result<(), Fail> {
+    for words in [&["apf", "--version"], &["apf", "-V"]] {
+        let version = refused(&rt, rt.alloc(), words, ErrorKind::DisplayVersion);
+        let text = format!(in rt.alloc(); "{version}")?;
+        assert_eq!(rt; text.as_str(), "apf 0.1.0\n", "{words:?}");
     }
     Ok(())
 }

@@ -1,19 +1,16 @@
 -- What the chain of builders makes.
 use Rattle.std.proofs.Common.{◌≡◌, ◌∙◌, ap, ap₂, codes, true}
 use Rattle.std.proofs.lemmas.Result.{IfOk-weaker}
-use Rattle.clap.specs.Simple.{App, app_of, app_of_fields, new_app, on_top, with_subcommand}
+use Rattle.clap.specs.Simple.{with_subcommand}
 use Rattle.apf_cli.specs.Commands.{apf_app}
-use Rattle.apf_cli.proofs.Chain.{described}
+use Rattle.apf_cli.proofs.Chain.{asking, versioned, with_texts}
 use Rattle.apf_cli.proofs.commands.apf_command.Goals as goal
-
-abbrev asking : App → App
-asking = on_top (λ s. record s { subcommand_required = true })
 
 pub returns : goal.returns
 unfolding apf_app
 returns c =
-    let start = described c.new.result c.about.result (new_app (codes "apf")) c.new.ensures.app c.new.ensures.local c.about.ensures in
-    let asks : app_of c.subcommand_required.result ≡ asking (new_app (codes "apf")) = ap app_of_fields c.subcommand_required.ensures ∙ ap asking start.app_is in
+    let start = with_texts c.new.result c.about.result c.new.ensures.app c.new.ensures.local c.about.ensures c.after_help.ensures in
+    let asks = (asking (versioned start c.version.ensures) c.subcommand_required.ensures).app_is in
     let hash = c.in_ok-subcommand.ensures.shape c.in_ok-hash_command.ensures.local ∙ ap₂ with_subcommand asks c.in_ok-hash_command.ensures.shape in
     let deal = c.in_ok-subcommand-2.ensures.shape c.in_ok-deal_command.ensures.local ∙ ap₂ with_subcommand hash c.in_ok-deal_command.ensures.shape in
     let replay = c.in_ok-subcommand-3.ensures.shape c.in_ok-replay_command.ensures.local ∙ ap₂ with_subcommand deal c.in_ok-replay_command.ensures.shape in

@@ -1,15 +1,15 @@
 -- What the chain of builders makes.
 use Rattle.std.proofs.Common.{◌∙◌, ap, codes}
 use Rattle.std.proofs.lemmas.Result.{IfOk-weaker}
-use Rattle.clap.specs.Simple.{App, new_app}
+use Rattle.clap.specs.Simple.{App}
 use Rattle.apf_cli.specs.Commands.{deal_shape, number_rule}
-use Rattle.apf_cli.proofs.Chain.{added, described}
+use Rattle.apf_cli.proofs.Chain.{added, with_texts}
 use Rattle.apf_cli.proofs.commands.deal_command.Goals as goal
 
 pub returns : goal.returns
 unfolding deal_shape
 returns c =
-    let start = described c.new.result c.about.result (new_app (codes "deal")) c.new.ensures.app c.new.ensures.local c.about.ensures in
+    let start = with_texts c.new.result c.about.result c.new.ensures.app c.new.ensures.local c.about.ensures c.after_help.ensures in
     let deck = c.number.ensures.rule ∙ ap (number_rule (codes "DECK")) c.value_parser.ensures in
     let hand = c.number-2.ensures.rule ∙ ap (number_rule (codes "HAND")) c.value_parser-2.ensures in
     let hash = c.number-3.ensures.rule ∙ ap (number_rule (codes "HASH")) c.value_parser-3.ensures in

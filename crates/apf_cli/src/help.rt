@@ -1,0 +1,96 @@
+//! What `--help` says below each command's arguments.
+
+/// Of the program: its statuses, and how to begin.
+pub(crate) const PROGRAM: &str = "\
+Status:
+  0  done
+  1  a file's fault, or output that can't be written
+  2  a command line's fault
+  3  no memory
+Each fault is one line on standard error.
+
+Examples:
+  apf hash workload-low alice
+  apf replay config.json requests.json script.txt
+
+apf COMMAND --help says what the command's files hold.";
+
+/// Of `hash`.
+pub(crate) const HASH: &str = "\
+Prints 16 hexadecimal digits: the first 8 bytes, read little-endian, of the SHA-256 digest of
+the schema's name, a zero byte and the distinguisher.
+
+Example:
+  $ apf hash workload-low alice
+  a67f3f6bc7204775
+
+A text that begins with - needs -- before it: apf hash -- -a b
+Status: 0 done, 1 output that can't be written, 2 a command line's fault, 3 no memory.";
+
+/// Of `deal`.
+pub(crate) const DEAL: &str = "\
+DECK and HAND are 0 to 4294967295, HASH is 0 to 18446744073709551615. Prints the numbers of HAND
+queues, from 0, in the order dealt. Refused, by the first of these:
+  dealer fault 1: not positive       DECK or HAND is 0
+  dealer fault 2: hand too large     HAND is above DECK
+  dealer fault 3: deck too large     DECK is above 67108864
+  dealer fault 4: too much entropy   DECK to the power of HAND is above 2 to the power of 60
+
+Example, and how to deal what apf hash prints:
+  $ apf deal 64 8 11997377664473122677
+  53 10 14 48 28 31 60 7
+  $ apf deal 64 8 $(printf %u 0x$(apf hash workload-low alice))
+  53 10 14 48 28 31 60 7
+
+Status: 0 done, 1 output that can't be written, 2 a command line's fault or a dealer fault,
+3 no memory.";
+
+/// Of `replay` and `services`.
+pub(crate) const SCRIPT: &str = "\
+CONFIG is one JSON object:
+  limit             seats of the level, 1 to 10000; must be there
+  queues            number of queues, 1 to 1024; 64 if absent
+  handSize          queues dealt to a flow, 1 to 15; 8 if absent
+  queueLengthLimit  requests that may wait in a queue, 1 to 10000; 50 if absent
+  limitResponse     \"Queue\" or \"Reject\"; \"Queue\" if absent
+REQUESTS is one JSON array of at most 10000 objects, numbered from 0:
+  hash              the flow, 0 to 18446744073709551615; or else both of
+  schema, distinguisher  two texts, of which the hash is made
+  width             seats that the request takes, 1 to 20000; 1 if absent
+  work, cancels, closes  are read, and used by run alone
+SCRIPT has one command a line, each line ended by LF, and at most 100000 lines:
+  arrive N, finish N, cancel N   of request N
+  close                          the level
+  limit N                        the level's seats become N, 1 to 10000
+
+Example:
+  $ cat config.json requests.json script.txt
+  {\"limit\":1}
+  [{\"hash\":0}]
+  arrive 0
+  finish 0
+
+Status: 0 done, 1 a file's fault or output that can't be written, 2 a command line's fault,
+3 no memory.";
+
+/// Of `run`.
+pub(crate) const RUN: &str = "\
+CONFIG is one JSON object:
+  limit             seats of the level, 1 to 10000; must be there
+  queues            number of queues, 1 to 1024; 64 if absent
+  handSize          queues dealt to a flow, 1 to 15; 8 if absent
+  queueLengthLimit  requests that may wait in a queue, 1 to 10000; 50 if absent
+  limitResponse     \"Queue\" or \"Reject\"; \"Queue\" if absent
+REQUESTS is one JSON array of at most 10000 objects, numbered from 0:
+  hash              the flow, 0 to 18446744073709551615; or else both of
+  schema, distinguisher  two texts, of which the hash is made
+  width             seats that the request takes, 1 to 20000; 1 if absent
+  work              turns of an empty loop, 0 to 1000000; 0 if absent
+  cancels           the number of a request to be cancelled; nothing if absent
+  closes            whether the request closes the level; false if absent
+
+Example:
+  apf run config.json requests.json 8
+
+Status: 0 done, 1 a file's fault or output that can't be written, 2 a command line's fault,
+3 no memory or a worker that could not start.";

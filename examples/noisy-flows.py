@@ -1,0 +1,53 @@
+#!/usr/bin/env python3
+"""How often is one quiet flow covered by noisy ones?
+
+Each flow is dealt a hand of queues. If each queue of a quiet flow's hand is in the hand of some noisy
+flow too, the quiet flow is squeezed out with them. The Kubernetes documentation of API Priority and
+Fairness has a table of that chance ("Example Shuffle Sharding Configurations"); this script deals hands
+with the program and prints its own column beside the published one, for the rows that sampling can see.
+
+usage: noisy-flows.py [PROGRAM]    (./apf of this repository, unless another is named)
+"""
+
+import os
+import random
+import subprocess
+import sys
+
+# hand, deck, noisy flows, published chance
+ROWS = [
+    (12, 32, 4, 0.11431),
+    (10, 32, 4, 0.06265),
+    (10, 32, 16, 0.97531),
+    (10, 64, 16, 0.50000),
+    (9, 64, 16, 0.42823),
+    (8, 64, 16, 0.35935),
+    (8, 128, 16, 0.02746),
+    (7, 128, 16, 0.02406),
+]
+FLOWS = 500
+SAMPLES = 20_000
+
+
+def asked(program, *words):
+    return subprocess.run([program, *words], stdout=subprocess.PIPE, check=True).stdout.decode().strip()
+
+
+def main(program):
+    hashes = [str(int(asked(program, "hash", "service-accounts", f"user-{flow}"), 16)) for flow in range(FLOWS)]
+    draw = random.Random(1040)
+    hands = {}
+    print("hand  deck  noisy flows  published  dealt here")
+    for hand, deck, noisy, published in ROWS:
+        if (hand, deck) not in hands:
+            hands[hand, deck] = [set(asked(program, "deal", str(deck), str(hand), it).split()) for it in hashes]
+        covered = 0
+        for _ in range(SAMPLES):
+            quiet, *others = draw.sample(hands[hand, deck], noisy + 1)
+            covered += quiet <= set().union(*others)
+        print(f"{hand:4}  {deck:4}  {noisy:11}  {published:9.5f}  {covered / SAMPLES:10.5f}")
+
+
+if __name__ == "__main__":
+    top = os.path.dirname(os.path.dirname(os.path.abspath(__file__)))
+    main(sys.argv[1] if len(sys.argv) > 1 else os.path.join(top, "apf"))

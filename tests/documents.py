@@ -1,0 +1,90 @@
+"""README.md and docs/FORMATS.md: each file that they show is written, each command is run, and its output compared.
+
+A block whose first line is ```LANGUAGE NAME is a file of that name. A block ```console has commands after `$ `, each
+followed by what it prints. A page is run in a folder of its own that has the examples and the program as ./apf.
+"""
+
+import os
+import re
+import shutil
+import subprocess
+import sys
+import tempfile
+
+sys.path.insert(0, os.path.join(os.path.dirname(os.path.abspath(__file__)), "lib"))
+from harness import TOP, Tally, build
+
+tally = Tally()
+program = build()
+# what is shown and not run: the whole test, which runs this one
+SHOWN = {"./test"}
+
+
+def blocks(page):
+    """Each block, as its first line without the backquotes, and its lines."""
+    return [(head, body) for head, body in re.findall(r"^```([^\n]*)\n(.*?)^```$", page, re.M | re.S)]
+
+
+def commands(body):
+    """Each command of a console block, with the text that follows it."""
+    parts = re.split(r"^\$ (.*)\n", body, flags=re.M)
+    return [*zip(parts[1::2], parts[2::2])], parts[0]
+
+
+def checked(name, folder):
+    page = open(os.path.join(TOP, name), encoding="utf-8").read()
+    ran = wrote = 0
+    for head, body in blocks(page):
+        language, *names = head.split() or [""]
+        if names:
+            with open(os.path.join(folder, names[0]), "w", encoding="utf-8") as file:
+                file.write(body)
+            wrote += 1
+        elif language == "console":
+            found, before = commands(body)
+            tally.check(f"{name}: a console block begins with a command", (before, len(found) > 0), ("", True))
+            for command, want in found:
+                if command in SHOWN:
+                    continue
+                done = subprocess.run(
+                    ["bash", "-c", command], cwd=folder, stdin=subprocess.DEVNULL, stdout=subprocess.PIPE, stderr=subprocess.STDOUT, timeout=120
+                )
+                tally.check(f"{name}: {command}", done.stdout.decode(), want)
+                ran += 1
+        else:
+            tally.check(f"{name}: a block of a known kind: {head}", language in ("rust", "toml"), True)
+    return ran, wrote, page
+
+
+for name, least in (("README.md", 2), (os.path.join("docs", "FORMATS.md"), 10)):
+    with tempfile.TemporaryDirectory(prefix="apf-test-") as folder:
+        os.symlink(program, os.path.join(folder, "apf"))
+        shutil.copytree(os.path.join(TOP, "examples"), os.path.join(folder, "examples"))
+        ran, wrote, page = checked(name, folder)
+    tally.check(f"{name}: at least {least} commands", ran >= least, True)
+    # no command of the program stands outside of what was run
+    outside = re.sub(r"^```.*?^```$", "", page, flags=re.M | re.S)
+    tally.check(f"{name}: each command line is in a block that is run", re.findall(r"^\s*\$ .*|\./apf (?:hash|deal|replay) \S.*", outside, re.M), [])
+
+# each fault that the pages list is one that the program's sources have, and the other way round
+page = open(os.path.join(TOP, "docs", "FORMATS.md"), encoding="utf-8").read()
+listed = set(re.findall(r"^\| `(\d+)(?: at [IL]| at line L)?: ([^`]*)`", page, re.M))
+wanted = set()
+for path in (("apf_run", "src", "config.rt"), ("apf_run", "src", "requests.rt"), ("apf_run", "src", "script.rt")):
+    text = open(os.path.join(TOP, "crates", *path), encoding="utf-8").read()
+    for number, line in re.findall(r"/// (\d+): .*\n\s*#\[error\(\"(.*)\"\)\]", text):
+        wanted.add((number, line.replace("{0}", "KEY")))
+wanted = {it for it in wanted if it[1] != "out of memory"}
+text = open(os.path.join(TOP, "crates", "apf_flow", "src", "fault.rt"), encoding="utf-8").read()
+numbers = dict(re.findall(r"^    (\w+) = (\d+),", text, re.M))
+wanted |= {(numbers[name], line) for name, line in re.findall(r"DealerFault::(\w+) => \"(.*)\"", text)}
+tally.check("the faults that are listed", sorted(listed ^ wanted), [])
+
+# each example is shown, and has its three files
+for example in sorted(os.listdir(os.path.join(TOP, "examples"))):
+    if os.path.isdir(os.path.join(TOP, "examples", example)):
+        names = sorted(os.listdir(os.path.join(TOP, "examples", example)))
+        tally.check(f"examples/{example}", names, ["config.json", "requests.json", "script.txt"])
+        shown = [it for it in ("README.md", os.path.join("docs", "FORMATS.md")) if f"examples/{example}/config.json" in open(os.path.join(TOP, it)).read()]
+        tally.check(f"examples/{example} is shown", len(shown) > 0, True)
+tally.end()

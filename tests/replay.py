@@ -118,7 +118,7 @@ os.chmod(closed, 0)
 os.chmod(files.folder.name, 0o755)
 copy = os.path.join(files.folder.name, "program")
 shutil.copy(program, copy)
-rights, note = drop_rights()
+rights, note = drop_rights(copy)
 if rights is None:
     print(note)
 else:

@@ -25,15 +25,15 @@ def run(program, words, **how):
     return done.returncode, done.stdout, done.stderr
 
 
-def drop_rights():
-    """How to run a program with no right to write a file of ours, and what to say where that can't be had."""
+def drop_rights(program="/bin/true"):
+    """How to run this program with no right to root's files, and what to say where that can't be had."""
     if os.geteuid() != 0:
         return {}, ""
     other = {"user": 65534, "group": 65534, "extra_groups": []}
     try:
-        subprocess.run(["/bin/sh", "-c", ":"], check=True, **other)
+        subprocess.run([program], stdin=subprocess.DEVNULL, stdout=subprocess.DEVNULL, stderr=subprocess.DEVNULL, **other)
     except (OSError, subprocess.SubprocessError):
-        return None, "not tried: rights of files, as root cannot become another user here"
+        return None, "not tried: rights of files, as root cannot run the program as another user here"
     return other, ""
 
 

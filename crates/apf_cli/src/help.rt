@@ -57,7 +57,10 @@ REQUESTS is one JSON array of at most 10000 objects, numbered from 0:
   hash              the flow, 0 to 18446744073709551615; or else both of
   schema, distinguisher  two texts, of which the hash is made
   width             seats that the request takes, 1 to 20000; 1 if absent
-  work, cancels, closes  are read, and used by run alone
+  work              turns of an empty loop, 0 to 1000000; 0 if absent
+  cancels           the number of a request to be cancelled; nothing if absent
+  closes            true or false, whether the request closes the level; false if absent
+  (work, cancels and closes are used by apf run alone)
 SCRIPT has one command a line, each line ended by LF, and at most 100000 lines:
   arrive N, finish N, cancel N   of request N
   close                          the level
@@ -87,7 +90,7 @@ REQUESTS is one JSON array of at most 10000 objects, numbered from 0:
   width             seats that the request takes, 1 to 20000; 1 if absent
   work              turns of an empty loop, 0 to 1000000; 0 if absent
   cancels           the number of a request to be cancelled; nothing if absent
-  closes            whether the request closes the level; false if absent
+  closes            true or false, whether the request closes the level; false if absent
 
 Example:
   apf run config.json requests.json 8

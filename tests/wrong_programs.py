@@ -1,0 +1,157 @@
+"""The tests themselves: programs that are wrong in one thing, each of which a script here must fail, at the row that is named.
+
+Each wrong program stands in front of the built one. APF_PROGRAM names it to the script.
+"""
+
+import os
+import subprocess
+import sys
+from concurrent.futures import ThreadPoolExecutor
+
+HERE = os.path.dirname(os.path.abspath(__file__))
+sys.path.insert(0, os.path.join(HERE, "lib"))
+from harness import Files, Tally, build
+
+tally = Tally()
+program = build()
+files = Files()
+
+# in front of the built program; `replay` has the words, and `instead` ends with another answer
+BEGIN = f"""#!{sys.executable} -ISs
+import os, subprocess, sys
+words = sys.argv[1:]
+replay = words[1:] if words[:1] == ["replay"] and len(words) == 4 else None
+def answer(words):
+    done = subprocess.run([{program!r}, *words], capture_output=True)
+    return done.returncode, done.stdout, done.stderr
+def instead(status, out, err):
+    sys.stdout.buffer.write(out)
+    sys.stderr.buffer.write(err)
+    sys.stdout.flush()
+    sys.exit(status)
+def content(name):
+    try:
+        return open(name, "rb").read()
+    except OSError:
+        return None
+def changed(place, *how):
+    import re, tempfile
+    if replay and content(replay[place]) is not None:
+        room = tempfile.TemporaryDirectory()
+        path = os.path.join(room.name, "file")
+        open(path, "wb").write(re.sub(how[0], how[1], content(replay[place])))
+        instead(*answer(["replay", *[path if at == place else name for at, name in enumerate(replay)]]))
+"""
+END = """
+os.execv({program!r}, [{program!r}, *words])
+""".format(program=program)
+
+
+def python(body):
+    return BEGIN + body + END
+
+
+def shell(body):
+    return f'#!/bin/sh\n{body}\nexec {program} "$@"\n'
+
+
+# answers a run that is refused memory by a usage error; it takes no memory of its own
+USAGE = r"""
+#include <stdlib.h>
+#include <sys/wait.h>
+#include <unistd.h>
+#include <fcntl.h>
+int main(int count, char **words) {
+    if (!getenv("APF_REFUSE"))
+        execv(PROGRAM, words);
+    int out[2], err[2];
+    if (pipe(out) || pipe(err))
+        return 9;
+    if (!fork()) {
+        dup2(out[1], 1);
+        dup2(err[1], 2);
+        close(out[0]), close(err[0]), close(out[1]), close(err[1]);
+        execv(PROGRAM, words);
+        _exit(9);
+    }
+    close(out[1]), close(err[1]);
+    static char first[65536], second[65536];
+    long one = 0, two = 0, more;
+    while ((more = read(out[0], first + one, sizeof first - one)) > 0)
+        one += more;
+    while ((more = read(err[0], second + two, sizeof second - two)) > 0)
+        two += more;
+    int status;
+    wait(&status);
+    if (WEXITSTATUS(status) == 3)
+        return write(2, "error: usage\n", 13) < 0 ? 9 : 2;
+    if (write(1, first, one) < 0 || write(2, second, two) < 0)
+        return 9;
+    return WEXITSTATUS(status);
+}
+"""
+
+
+def compiled(path, text):
+    source = files(os.path.basename(path) + ".c", text)
+    subprocess.run(["cc", "-O1", f'-DPROGRAM="{program}"', "-o", path, source], check=True)
+
+
+# name, the wrong program, the script that must fail, and the row at which it does
+WRONG = [
+    ("nonsense", shell('echo "apf: nonsense" >&2; exit 1'), "files.py", "FAILED b'{\"limit\":0}'"),
+    ("another number of a fault", shell('[ "$1" = replay ] && grep -q 20001 "$3" && { echo "apf: requests fault 8 at 0: bad width" >&2; exit 1; }'), "files.py", 'FAILED b\'[{"hash":0,"width":20001}]\''),
+    ("no memory for a config of over 64 KiB", shell('[ "$1" = replay ] && [ "$(wc -c <"$2")" -gt 65536 ] && { echo "apf: out of memory" >&2; exit 3; }'), "files.py", "FAILED a config of over 64 KiB"),
+    ("no memory for 9,999 requests", shell('[ "$1" = replay ] && [ "$(wc -c <"$3")" -eq 109990 ] && { echo "apf: out of memory" >&2; exit 3; }'), "files.py", "FAILED 9999 requests"),
+    ("no memory told as a usage error", USAGE, "memory.py", "FAILED hash a b without allocation 1"),
+    ("each width is 1", python('changed(1, rb\'"width" *: *[1-9][0-9]*\', b\'"width":1\')'), "replay.py", "FAILED widths 2 and 1 of 2 seats"),
+    ("the limit is 1", python('changed(0, rb\'"limit" *: *[1-9][0-9]*\', b\'"limit":1\')'), "replay.py", "FAILED limit 2, widths (1, 1)"),
+    ("Reject is replayed as Queue", python('changed(0, rb"Reject", b"Queue")'), "replay.py", "FAILED Reject"),
+    ("the script is read before the requests", python('''
+got = answer(words)
+if replay and b" requests" in got[2] and content(replay[2]) is None:
+    instead(1, b"", b"apf: cannot read script\\n")
+'''), "replay.py", "FAILED the requests before the script"),
+    ("the requests are read before the config is judged", python('''
+got = answer(words)
+if replay and b" config" in got[2] and content(replay[1]) is None:
+    instead(1, b"", b"apf: cannot read requests\\n")
+'''), "replay.py", "FAILED the config before the requests"),
+    ("the dealer is judged before the requests are read", python('''
+got = answer(["replay", replay[0], os.devnull, os.devnull]) if replay else None
+if replay and b" config" not in got[2]:
+    import tempfile
+    with tempfile.NamedTemporaryFile() as none:
+        none.write(b"[]")
+        none.flush()
+        early = answer(["replay", replay[0], none.name, os.devnull])
+    if b"dealer" in early[2]:
+        instead(*early)
+'''), "replay.py", "FAILED the requests before the dealer"),
+    ("help that has no line for run", shell('[ "$*" = --help ] && { %s --help | grep -v "^  run "; exit 0; }' % program), "command_line.py", "FAILED --help"),
+    ("words that are not UTF-8 told as no memory", python('''
+if any("\\udc80" <= it <= "\\udcff" for word in words for it in word):
+    instead(3, b"", b"apf: out of memory\\n")
+'''), "command_line.py", "FAILED [b'hash', b'\\xff', b'a']"),
+    ("hands that are not spread", shell('[ "$1" = deal ] && [ "$3" -gt 5 ] && { seq -s " " 0 $(($3 - 1)); exit 0; }'), "dealing_table.py", "FAILED (12, 32, 4)"),
+]
+
+
+def tried(wrong):
+    name, text, script, row = wrong
+    path = os.path.join(files.folder.name, name.replace(" ", "-").replace(",", ""))
+    if text is USAGE:
+        compiled(path, text)
+    else:
+        with open(path, "w") as file:
+            file.write(text)
+        os.chmod(path, 0o755)
+    done = subprocess.run([sys.executable, os.path.join(HERE, script)], env=dict(os.environ, APF_PROGRAM=path), capture_output=True, timeout=600)
+    lines = done.stdout.decode(errors="replace").split("\n")
+    return name, (done.returncode, any(line.startswith(row) for line in lines), done.stderr), lines
+
+
+with ThreadPoolExecutor(4) as pool:
+    for name, got, lines in pool.map(tried, WRONG):
+        tally.check(f"a program is caught: {name}: {[it for it in lines if it.startswith('FAILED')][:3]}", got, (1, True, b""))
+tally.end()

@@ -1,6 +1,6 @@
 """The tests themselves: programs that are wrong in one thing, each of which a script here must fail, at the row that is named.
 
-Each wrong program stands in front of the built one. APF_PROGRAM names it to the script.
+Each wrong program stands in front of the built one. APF_PROGRAM names it to the script; APF_SPOILED leaves out random files.
 """
 
 import os
@@ -146,7 +146,7 @@ def tried(wrong):
         with open(path, "w") as file:
             file.write(text)
         os.chmod(path, 0o755)
-    done = subprocess.run([sys.executable, os.path.join(HERE, script)], env=dict(os.environ, APF_PROGRAM=path), capture_output=True, timeout=600)
+    done = subprocess.run([sys.executable, os.path.join(HERE, script)], env=dict(os.environ, APF_PROGRAM=path, APF_SPOILED="0"), capture_output=True, timeout=600)
     lines = done.stdout.decode(errors="replace").split("\n")
     return name, (done.returncode, any(line.startswith(row) for line in lines), done.stderr), lines
 

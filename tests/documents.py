@@ -87,4 +87,30 @@ for example in sorted(os.listdir(os.path.join(TOP, "examples"))):
         tally.check(f"examples/{example}", names, ["config.json", "requests.json", "script.txt"])
         shown = [it for it in ("README.md", os.path.join("docs", "FORMATS.md")) if f"examples/{example}/config.json" in open(os.path.join(TOP, it)).read()]
         tally.check(f"examples/{example} is shown", len(shown) > 0, True)
+
+# each line of docs/PROVED.md that names a contract and a file: the file is there, and it or the crate's definitions have that name
+page = open(os.path.join(TOP, "docs", "PROVED.md"), encoding="utf-8").read()
+last = []
+for line in re.findall(r"^- .*$", page, re.M):
+    names = re.findall(r"`([A-Za-z_:]+)`", line)
+    paths = [os.path.join(TOP, "crates", it) for it in re.findall(r"`(apf\w*/[\w/.]+)`", line)]
+    paths = paths if paths else (last if "the same file" in line else [])
+    last = paths
+    there = [it for it in paths if os.path.exists(it)]
+    tally.check(f"docs/PROVED.md: the files of: {line[:60]}", there, paths)
+    specs = {re.sub(r"(crates/\w+)/.*", r"\1/specs", it) for it in there}
+    files = [*there, *(os.path.join(it, name) for it in specs if os.path.isdir(it) for name in os.listdir(it))]
+    text = "".join(open(it, encoding="utf-8").read() for it in files if os.path.isfile(it))
+    missing = [it for it in names if it.split("::")[-1] not in text and not os.path.isdir(os.path.join(TOP, "crates", it))]
+    tally.check(f"docs/PROVED.md: the names of: {line[:60]}", missing if there and all(map(os.path.isfile, there)) else [], [])
+
+# the crates of docs/ARCHITECTURE.md are those of crates.txt, and stand on the same ones
+page = open(os.path.join(TOP, "docs", "ARCHITECTURE.md"), encoding="utf-8").read().split("# The finished product")[0]
+shown = {name: sorted(re.findall(r"`(\w+)`", below)) for name, below in re.findall(r"^\| `(\w+)` \|[^|]*\|([^|]*)\|[^|]*\|$", page, re.M)}
+listed = {}
+for line in open(os.path.join(TOP, "crates.txt"), encoding="utf-8"):
+    head, _, below = line.split("#")[0].partition(":")
+    if head.strip():
+        listed[head.split()[0]] = sorted(below.split())
+tally.check("docs/ARCHITECTURE.md: the crates", shown, listed)
 tally.end()

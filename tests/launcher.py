@@ -162,6 +162,16 @@ else:
     os.chmod(closed.path("apf"), 0o755)
     os.chmod(closed.path("apf", "out"), 0o755)
 
+# a test script where the program can't be built says so in the launcher's line, and counts
+unbuilt = Checkout("unbuilt")
+shutil.copytree(os.path.join(TOP, "tests", "lib"), os.path.join(unbuilt.top, "tests", "lib"))
+shutil.copy(os.path.join(TOP, "tests", "deals.py"), os.path.join(unbuilt.top, "tests"))
+environment = {key: value for key, value in os.environ.items() if key != "APF_PROGRAM"}
+done = subprocess.run(
+    [sys.executable, os.path.join(unbuilt.top, "tests", "deals.py")], capture_output=True, env=dict(environment, PATH=TOOLS), timeout=60
+)
+tally.check("a test of an unbuilt program", (done.returncode, done.stdout, done.stderr.count(b"\n")), (1, b"0 passed, 1 failed\n", 1))
+
 
 def tested(name, ci, *scripts):
     """Runs a copy of `test` on a stand-in for rt and scripts, each a text and a status; answers its status and lines."""

@@ -13,7 +13,10 @@ def build():
     """The built program's path; the launcher builds it where that is needed. APF_PROGRAM names another one to test."""
     if os.environ.get("APF_PROGRAM"):
         return os.environ["APF_PROGRAM"]
-    subprocess.run([LAUNCHER, "hash", "", ""], stdout=subprocess.DEVNULL, check=True)
+    if subprocess.run([LAUNCHER, "hash", "", ""], stdout=subprocess.DEVNULL).returncode != 0:
+        # the launcher has said why
+        print("0 passed, 1 failed")
+        sys.exit(1)
     return os.path.join(TOP, "crates", "apf", "out", "apf")
 
 

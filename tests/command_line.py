@@ -1,6 +1,7 @@
 """Command lines, as their users would expect."""
 
 import os
+import re
 import sys
 
 sys.path.insert(0, os.path.join(os.path.dirname(os.path.abspath(__file__)), "lib"))
@@ -57,6 +58,16 @@ for words, says in [
     status, out, err = run(program, words)
     tally.check(" ".join(words), (status, [it for it in says if it not in out.decode()], err), (0, [], b""))
     tally.check(" ".join(words) + " is narrow", max(map(len, out.decode().split("\n"))) <= 100, True)
+
+# the examples that help shows print what it says
+for words, least in ((["hash", "--help"], 1), (["deal", "--help"], 2)):
+    help_text = run(program, words)[1].decode()
+    shown = re.findall(r"^  \$ (apf .*)\n((?:  [^$].*\n)*)", help_text, re.M)
+    tally.check(f"examples of {words[0]}", len(shown), least)
+    for command, printed in shown:
+        command = command.replace("apf ", '"$0" ')
+        wanted = "".join(line[2:] + "\n" for line in printed.split("\n")[:-1])
+        tally.check(f"example of {words[0]}: {command}", run("bash", ["-c", command, program]), (0, wanted.encode(), b""))
 
 # the version, which is the crate's own
 for words in (["--version"], ["-V"]):

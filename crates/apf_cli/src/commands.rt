@@ -104,7 +104,7 @@ fn run_command<'a>(alloc: Global) -> Result<Command<'a>, AllocError>
     files_command(
         alloc,
         "run",
-        "Run the requests on worker threads and print the book",
+        "Run the requests on worker threads and print the book (not built yet)",
         help::RUN,
     )?
     .arg(number(
@@ -122,7 +122,7 @@ fn services_command<'a>(alloc: Global) -> Result<Command<'a>, AllocError>
     files_command(
         alloc,
         "services",
-        "Run a script of requests and print each queue's service",
+        "Run a script of requests and print each queue's service (not built yet)",
         help::SCRIPT,
     )?
     .arg(text(alloc, "SCRIPT", "Script file"))

@@ -4,9 +4,9 @@
 pub(crate) const PROGRAM: &str = "\
 Status:
   0  done
-  1  a file's fault, or output that can't be written
+  1  a file's fault, output that can't be written, or a part that is not built yet
   2  a command line's fault
-  3  no memory
+  3  no memory, or a worker that could not start
 Each fault is one line on standard error.
 
 Examples:
@@ -65,6 +65,7 @@ SCRIPT has one command a line, each line ended by LF, and at most 100000 lines:
   arrive N, finish N, cancel N   of request N
   close                          the level
   limit N                        the level's seats become N, 1 to 10000
+  (cancel, close and limit, and a level that rejects, are not built yet)
 
 Example:
   $ cat config.json requests.json script.txt

@@ -1,5 +1,5 @@
 -- What the chain of builders makes.
-use Rattle.std.proofs.Common.{ap, codes}
+use Rattle.std.proofs.Common.{ap}
 use Rattle.std.proofs.lemmas.Result.{IfOk-weaker}
 use Rattle.clap.specs.Simple.{App}
 use Rattle.apf_cli.specs.Commands.{hash_shape}

@@ -1,9 +1,7 @@
 -- Where it takes, it decides.
-use Rattle.std.proofs.Common.{◌≡◌, ℕ, Bool, true, false, sym, ◌∙◌, subst, None, refl}
+use Rattle.std.proofs.Common.{◌≡◌, Bool, sym, ◌∙◌, subst, None, refl}
 use Rattle.std.specs.Prelude.{IsTrue}
 use Rattle.std.specs.Bool.{OnFalse}
-use Rattle.apf_words.specs.declared.decision.Decision.TheVariants.{Execute}
-use Rattle.apf_model.specs.World.{MayTake, MayDecide}
 use Rattle.apf_model.specs.Plain.{world_of, widths_of}
 use Rattle.apf_cli.proofs.Arrivals.{decides_now, none_of}
 use Rattle.apf_cli.proofs.level.arrive.Goals as goal

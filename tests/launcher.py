@@ -113,6 +113,12 @@ for name, change in [
     tally.check(f"{name}: built again", (status, out, calls), (7, f"{wanted}\n", ALL))
     tally.check(f"{name}: and then no more", checkout.run()[3], [])
 
+# an edit that must fail is no source
+planted = Checkout("planted")
+planted.run()
+write(planted.path("low", "must-fail", "wrong.edit"), "file: src/lib.rt")
+tally.check("an edit that must fail", planted.run()[3], [])
+
 # a source that is edited while it builds
 for crate in ("low", "apf"):
     busy = Checkout(f"busy-{crate}")

@@ -6,3 +6,8 @@ pub mod Seats
 pub mod VirtualTime
 pub mod PlainWorlds
 pub mod Small
+pub mod Lists
+pub mod Waiting
+pub mod Statuses
+pub mod Numbers
+pub mod QueueOrder

@@ -3,6 +3,30 @@ use Rattle.std.specs.Prelude.{◌≡◌, ℕ, ◌<◌, ◌≤◌, ◌==◌, ◌|
 use Rattle.apf_model.specs.declared.events.Event.{Event}
 use Rattle.apf_model.specs.declared.events.Event.TheVariants.{Enter, Full, Dispatch, Strike}
 
+-- the request that an event names
+abbrev pub request_of : Event → ℕ
+request_of (Enter r q) = r
+request_of (Full r q) = r
+request_of (Dispatch r q) = r
+request_of (Strike r q) = r
+
+-- the queue that an event names
+abbrev pub queue_of : Event → ℕ
+queue_of (Enter r q) = q
+queue_of (Full r q) = q
+queue_of (Dispatch r q) = q
+queue_of (Strike r q) = q
+
+-- each event names one of the first n requests
+abbrev pub NamesRequests : ℕ → List Event → Type 0
+NamesRequests n [] = Unit {0}
+NamesRequests n (e ∷ h) = (request_of e < n) × NamesRequests n h
+
+-- each event names one of the first n queues
+abbrev pub NamesQueues : ℕ → List Event → Type 0
+NamesQueues n [] = Unit {0}
+NamesQueues n (e ∷ h) = (queue_of e < n) × NamesQueues n h
+
 -- the requests that entered q, in the order of entry
 abbrev pub entered : List Event → ℕ → List ℕ
 entered [] q = []

@@ -4,6 +4,7 @@ pub mod Schedule
 pub mod History
 pub mod Fair
 pub mod Outcome
+pub mod Order
 pub mod Plain
 pub mod PlainWorld
 pub mod Safety

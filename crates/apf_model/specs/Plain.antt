@@ -1,7 +1,5 @@
 -- What the plain program's values mean.
-use Rattle.std.specs.Prelude.{◌≡◌, ◌≢◌, ℕ, ◌<◌, ◌≤◌, List, [], ◌∷◌, length, slice_index, slice_index_or, false, Option, Some, None}
-use Rattle.apf_model.specs.declared.events.Event.{Event}
-use Rattle.apf_model.specs.declared.events.Event.TheVariants.{Enter, Full, Dispatch, Strike}
+use Rattle.std.specs.Prelude.{◌≡◌, ◌≢◌, ℕ, ◌<◌, ◌≤◌, List, [], length, slice_index, slice_index_or, false, Option, Some, None}
 use Rattle.apf_model.specs.declared.moves.Move.{Move}
 use Rattle.apf_model.specs.declared.moves.Move.TheVariants.{SetLimit}
 use Rattle.apf_model.specs.declared.plain.world.World.{World as PlainWorld}
@@ -32,18 +30,6 @@ world_of p =
 abbrev pub IsLowLimit : Move → Type 0
 IsLowLimit (SetLimit n) = n ≤ 10000
 IsLowLimit _ = Unit {0}
-
--- the queue that an event names
-abbrev pub queue_of : Event → ℕ
-queue_of (Enter r q) = q
-queue_of (Full r q) = q
-queue_of (Dispatch r q) = q
-queue_of (Strike r q) = q
-
--- each event names one of this many queues
-abbrev pub NamesQueues : ℕ → List Event → Type 0
-NamesQueues queues [] = Unit {0}
-NamesQueues queues (e ∷ h) = (queue_of e < queues) × NamesQueues queues h
 
 -- the plain numbers of this many queues are these
 pub record AreNumbers (queues : ℕ) (v : Numbers) (p : PlainNumbers) : Type 0 where

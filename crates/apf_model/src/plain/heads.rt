@@ -2,9 +2,9 @@
 
 ghost use Rattle.std.specs.Prelude.{◌≡◌, ◌≢◌, ℕ, ◌+◌, ◌<◌, ◌≤◌, ◌^◌, List, [], length, slice_index, IfOk, MatchOption, IsTrue, ◌↔◌, ◌⊎◌};
 ghost use Rattle.apf_model.specs.World.{width};
-ghost use Rattle.apf_model.specs.History.{waiting};
+ghost use Rattle.apf_model.specs.History.{NamesQueues, waiting};
 ghost use Rattle.apf_model.specs.Fair.{Numbers as VirtualNumbers, numbers, finish, steps_round, IsChoice};
-ghost use Rattle.apf_model.specs.Plain.{NamesQueues, IsBestBelow};
+ghost use Rattle.apf_model.specs.Plain.{IsBestBelow};
 
 use crate::Event;
 use crate::plain::{Numbers, numbers_of, waiting};

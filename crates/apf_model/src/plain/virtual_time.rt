@@ -2,7 +2,8 @@
 
 ghost use Rattle.std.specs.Prelude.{◌≡◌, ℕ, ◌+◌, ◌<◌, ◌≤◌, ◌^◌, ◌↔◌, length, slice_index, IfOk, OnOk, IsTrue};
 ghost use Rattle.apf_model.specs.Fair.{Numbers as VirtualNumbers, numbers, after_enter, after_dispatch, after_event};
-ghost use Rattle.apf_model.specs.Plain.{AreNumbers, NamesQueues, queue_of};
+ghost use Rattle.apf_model.specs.History.{NamesQueues, queue_of};
+ghost use Rattle.apf_model.specs.Plain.{AreNumbers};
 
 use crate::Event;
 use crate::plain::waiting;

@@ -1,0 +1,31 @@
+//! What every legal history keeps.
+
+ghost use Rattle.std.specs.Prelude.{ℕ, List, ◌++◌};
+ghost use Rattle.apf_model.specs.declared.events.Event.{Event};
+ghost use Rattle.apf_model.specs.History.{MayFollow, IsLegal};
+ghost use Rattle.apf_model.specs.Order.{AreInOrder, AreStatuses, AreCounted, Follows};
+
+/// Every legal history is in order: for any hands of the requests, any length limit, and events that
+/// each may follow those before it.
+///
+/// For each queue, the requests that entered it, in order, with the struck ones left out, are those
+/// that were dispatched from it, in order, followed by those that wait in it. Nobody enters or is
+/// dispatched twice; who waits stands once and in one queue; no queue is above its limit
+/// (`AreInOrder`). What became of a request is what the history has of it (`AreStatuses`), and who
+/// entered was dispatched, was struck or waits (`AreCounted`). An event that may follow finds its
+/// request away, or waiting, and changes its own queue alone (`Follows`).
+///
+/// Each beginning of a legal history is legal, so all of this holds at every place of it. It runs no
+/// code: the contract is the law.
+pub fn every_legal_history_is_in_order()
+    ensures beginnings { (hands : ℕ → List ℕ) (limit : ℕ) (later earlier : List Event)
+        → IsLegal hands limit (later ++ earlier) → IsLegal hands limit earlier }
+    ensures order { (hands : ℕ → List ℕ) (limit : ℕ) (h : List Event)
+        → IsLegal hands limit h → AreInOrder limit h }
+    ensures statuses { (hands : ℕ → List ℕ) (limit : ℕ) (h : List Event)
+        → IsLegal hands limit h → AreStatuses h }
+    ensures numbers { (hands : ℕ → List ℕ) (limit : ℕ) (h : List Event)
+        → IsLegal hands limit h → AreCounted h }
+    ensures follows { (hands : ℕ → List ℕ) (limit : ℕ) (h : List Event) (e : Event)
+        → IsLegal hands limit h → MayFollow hands limit h e → Follows h e }
+{}

@@ -11,3 +11,4 @@ pub mod Waiting
 pub mod Statuses
 pub mod Numbers
 pub mod QueueOrder
+pub mod Balance

@@ -74,3 +74,12 @@ service widths (_ ∷ h) q = service widths h q
 -- q is never empty in the newest n events of a history: at each place of that stretch, both ends included, someone waits in it
 abbrev pub IsNeverEmpty : List Event → ℕ → ℕ → Type 0
 IsNeverEmpty h n q = (k : ℕ) → k ≤ n → waiting (drop k h) q ≢ []
+
+-- the largest width of the requests
+abbrev pub widest : List ℕ → ℕ
+widest [] = 0
+widest (k ∷ ks) = max k (widest ks)
+
+-- two numbers differ by at most this much
+abbrev pub DifferAtMost : ℕ → ℕ → ℕ → Type 0
+DifferAtMost most a b = (a ≤ b + most) × (b ≤ a + most)

@@ -10,7 +10,7 @@
 //! - `moves`: the kinds of step, and where a request is on its way.
 //! - `events`: the events of a history, and what they make of a request.
 //! - `laws`: every schedule is safe.
-//! - `histories`: every legal history is in order.
+//! - `histories`: every legal history is in order, and every fair one balanced.
 //! - `plain`: the definitions computed, plainly and slowly, on small inputs.
 #![tactic(auto)]
 
@@ -24,7 +24,7 @@ mod response;
 mod tests;
 
 pub use events::{Event, Status};
-pub use histories::every_legal_history_is_in_order;
+pub use histories::{every_fair_history_is_balanced, every_legal_history_is_in_order};
 pub use laws::{every_schedule_is_safe, every_world_adds_up};
 pub use moves::{Move, Stage};
 pub use response::Response;

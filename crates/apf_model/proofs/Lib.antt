@@ -12,3 +12,4 @@ pub mod Statuses
 pub mod Numbers
 pub mod QueueOrder
 pub mod Balance
+pub mod Choices

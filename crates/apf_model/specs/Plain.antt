@@ -1,5 +1,5 @@
 -- What the plain program's values mean.
-use Rattle.std.specs.Prelude.{◌≡◌, ◌≢◌, ℕ, ◌<◌, ◌≤◌, List, [], length, slice_index, slice_index_or, false, Option, Some, None}
+use Rattle.std.specs.Prelude.{◌≡◌, ◌≢◌, ℕ, ◌*◌, ◌<◌, ◌≤◌, List, [], length, take, drop, slice_index, slice_index_or, false, Option, Some, None}
 use Rattle.apf_model.specs.declared.moves.Move.{Move}
 use Rattle.apf_model.specs.declared.moves.Move.TheVariants.{SetLimit}
 use Rattle.apf_model.specs.declared.plain.world.World.{World as PlainWorld}
@@ -30,6 +30,10 @@ world_of p =
 abbrev pub IsLowLimit : Move → Type 0
 IsLowLimit (SetLimit n) = n ≤ 10000
 IsLowLimit _ = Unit {0}
+
+-- the hand of a request, where hands of this size stand one after another
+abbrev pub hand_in : List ℕ → ℕ → ℕ → List ℕ
+hand_in hands size r = take size (drop (size * r) hands)
 
 -- the plain numbers of this many queues are these
 pub record AreNumbers (queues : ℕ) (v : Numbers) (p : PlainNumbers) : Type 0 where

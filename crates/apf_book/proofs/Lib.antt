@@ -1,0 +1,5 @@
+pub mod Lists
+pub mod Ledgers
+pub mod Nexts
+pub mod Running
+pub mod Stretches

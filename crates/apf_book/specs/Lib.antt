@@ -1,0 +1,5 @@
+pub mod LedgerView
+pub mod LedgerKept
+pub mod Opening
+pub mod Stretch
+pub mod Counted

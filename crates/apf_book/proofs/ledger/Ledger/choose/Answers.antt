@@ -1,0 +1,22 @@
+-- The choice by the queues is that by the log.
+use Rattle.std.proofs.Common.{◌<◌, ◌≤◌, length, subst}
+use Rattle.std.specs.Prelude.{MatchOption, IfSome}
+use Rattle.apf_book.specs.LedgerView.{LedgerView, NothingWaits, IsNext}
+use Rattle.apf_book.proofs.Ledgers.{Laws, few_events}
+use Rattle.apf_book.proofs.Nexts.{choose_of_log, chosen_request}
+use Rattle.apf_book.proofs.ledger.Ledger.choose.Goals as goal
+
+pub returns-clause-next : goal.returns-clause-next
+returns-clause-next g c = subst (λ (w : LedgerView). MatchOption c.choose.result (NothingWaits w) (IsNext w)) c.self.view_is (choose_of_log _ _ _ _ c.self.invariant.0 c.choose.result c.choose.ensures.chosen)
+
+pub returns-clause-is_request : goal.returns-clause-is_request
+returns-clause-is_request g c =
+    let law = c.every_legal_history_is_in_order.ensures in
+    let laws : Laws = record { order = law.order; numbers = law.numbers; follows = law.follows } in
+    subst (λ (w : LedgerView). IfSome c.choose.result (λ x. x.request < length w.widths)) c.self.view_is (chosen_request _ _ _ _ c.self.invariant.0 laws c.choose.result c.choose.ensures.chosen)
+
+pub returns-clause-few : goal.returns-clause-few
+returns-clause-few g c =
+    let law = c.every_legal_history_is_in_order.ensures in
+    let laws : Laws = record { order = law.order; numbers = law.numbers; follows = law.follows } in
+    subst (λ (w : LedgerView). length w.history ≤ 20000) c.self.view_is (few_events laws _ _ _ _ c.self.invariant.0)

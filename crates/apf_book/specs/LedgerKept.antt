@@ -1,0 +1,49 @@
+-- What the fields of a ledger keep true of one another.
+use Rattle.std.specs.Prelude.{◌≡◌, ℕ, ◌*◌, ◌≤◌, Bool, false, List, length, slice_index_or, count_by, Contains}
+use Rattle.apf_model.specs.declared.events.Event.{Event}
+use Rattle.apf_model.specs.World.{width}
+use Rattle.apf_model.specs.Schedule.{AreWidths}
+use Rattle.apf_model.specs.History.{NamesRequests, NamesQueues, has_arrived, waiting}
+use Rattle.apf_model.specs.Outcome as outcome
+use Rattle.apf_model.specs.Fair.{numbers}
+use Rattle.apf_queue.specs.View.{QueuesView, queue_count, queue_in, numbers_in}
+use Rattle.apf_book.specs.declared.stats.Stats.{Stats}
+use Rattle.apf_book.specs.LedgerView.{LedgerView, HasFairLog}
+
+-- the queues are those of the log, and the log has room for all that can come
+pub record AreOfLog (v : LedgerView) (queues : QueuesView) (arrived : List Bool) (capacity : ℕ) : Type 0 where
+  -- each queue is the waiting of the log
+  pub queue_is : (q : ℕ) → queue_in queues q ≡ waiting v.history q
+  pub fair : HasFairLog v
+  -- the queues' numbers of virtual time are the log's
+  pub numbers_are : numbers_in queues ≡ numbers v.sizes.deck v.widths v.history
+  pub deck : queue_count queues ≡ v.sizes.deck
+  pub limit : queues.length_limit ≡ v.limit
+  -- the queues store a request's width once it is pushed
+  pub not_pushed : (r : ℕ) → has_arrived v.history r ≡ false → width queues.widths r ≡ 0
+  pub pushed : (q r : ℕ) → Contains (queue_in queues q) r → width queues.widths r ≡ width v.widths r
+  pub marked : (r : ℕ) → slice_index_or arrived r false ≡ has_arrived v.history r
+  pub names_queues : NamesQueues v.sizes.deck v.history
+  pub names_requests : NamesRequests (length v.widths) v.history
+  pub widths : AreWidths v.widths
+  pub few : length v.widths ≤ 10000
+  pub one_hash_each : length v.hashes ≡ length v.widths
+  pub one_place_each : length queues.widths ≡ length v.widths
+  pub one_mark_each : length arrived ≡ length v.widths
+  -- two events for each request
+  pub room : 2 * length v.widths ≤ capacity
+
+-- these are the stats of the model
+pub record AreStats (s : Stats) (of : outcome.Stats) : Type 0 where
+  pub entered : s.entered ≡ of.entered
+  pub dispatched : s.dispatched ≡ of.dispatched
+  pub struck : s.struck ≡ of.struck
+  pub full : s.full ≡ of.full
+  pub waiting : s.waiting ≡ of.waiting
+
+-- the running numbers are those of the log
+pub record AreRunning (h : List Event) (entered dispatched struck full : ℕ) : Type 0 where
+  pub entered_is : entered ≡ count_by outcome.is_enter h
+  pub dispatched_is : dispatched ≡ count_by outcome.is_dispatch h
+  pub struck_is : struck ≡ count_by outcome.is_strike h
+  pub full_is : full ≡ count_by outcome.is_full h

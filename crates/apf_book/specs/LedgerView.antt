@@ -1,0 +1,58 @@
+-- The queues and the log, as contracts see them.
+use Rattle.std.specs.Prelude.{◌≡◌, ℕ, ◌<◌, ◌≤◌, false, List, [], ◌∷◌, length, slice_get, slice_index, Some}
+use Rattle.apf_flow.specs.Sizes.{Sizes}
+use Rattle.apf_flow.specs.Deal.{hand_of}
+use Rattle.apf_model.specs.declared.events.Event.{Event}
+use Rattle.apf_model.specs.World.{width}
+use Rattle.apf_model.specs.Schedule.{AreWidths}
+use Rattle.apf_model.specs.History.{NamesRequests, NamesQueues, has_arrived, waiting, IsShortest}
+use Rattle.apf_model.specs.Fair.{numbers, IsChoice, IsFair}
+use Rattle.apf_queue.specs.declared.choice.Chosen.{Chosen}
+
+-- the log of a level, and what its queues were made of
+pub record LedgerView : Type 0 where
+  -- the log as a history: the newest event stands first
+  pub history : List Event
+  pub widths : List ℕ
+  pub hashes : List ℕ
+  -- how many queues there are, and how many a hand has
+  pub sizes : Sizes
+  -- how many requests a queue may hold
+  pub limit : ℕ
+
+-- a request's hand of queues: the deal of its hash
+abbrev pub hand_in : LedgerView → ℕ → List ℕ
+hand_in v r = hand_of v.sizes (slice_index v.hashes r)
+
+-- the log is legal, and each dispatch names the choice
+abbrev pub HasFairLog : LedgerView → Type 0
+HasFairLog v = IsFair v.sizes.deck v.widths (hand_in v) v.limit v.history
+
+-- the log is fair, names requests and queues of the level, and requests have the widths and the number that a level may have
+pub record IsLogOf (v : LedgerView) : Type 0 where
+  pub fair : HasFairLog v
+  pub names_requests : NamesRequests (length v.widths) v.history
+  pub names_queues : NamesQueues v.sizes.deck v.history
+  pub widths : AreWidths v.widths
+  pub few : length v.widths ≤ 10000
+
+-- with one event more, after what the log has
+abbrev pub after : LedgerView → Event → LedgerView
+after v e = record v { history = e ∷ v.history }
+
+-- r neither entered nor was refused as full, and q is the shortest queue of its hand
+pub record Arrives (v : LedgerView) (r q : ℕ) : Type 0 where
+  pub is_request : r < length v.widths
+  pub is_queue : q < v.sizes.deck
+  pub is_new : has_arrived v.history r ≡ false
+  pub is_shortest : IsShortest (waiting v.history) (hand_in v r) q
+
+-- nothing waits
+abbrev pub NothingWaits : LedgerView → Type 0
+NothingWaits v = (q : ℕ) → waiting v.history q ≡ []
+
+-- what is dispatched next, by the log: the choice, its first request, and that one's width
+pub record IsNext (v : LedgerView) (c : Chosen) : Type 0 where
+  pub is_choice : IsChoice v.sizes.deck v.widths (waiting v.history) (numbers v.sizes.deck v.widths v.history) c.queue
+  pub is_first : slice_get (waiting v.history c.queue) 0 ≡ Some c.request
+  pub width_is : c.width ≡ width v.widths c.request

@@ -1,29 +1,14 @@
 //! The services of two queues in a stretch.
 
-ghost use Rattle.std.specs.Prelude.{◌<◌, ◌↔◌, length, All, IsTrue};
-ghost use Rattle.apf_model.specs.History.{request_of};
+ghost use Rattle.std.specs.Prelude.{◌≡◌, ◌<◌, ◌↔◌, length, reverse, All, IfOk, OnOk, IsTrue};
+ghost use Rattle.apf_model.specs.History.{request_of, IsLegal};
+ghost use Rattle.apf_model.specs.Plain.{hand_in};
 
 use apf_model::Event::{self, Dispatch, Enter};
 use apf_model::plain::is_legal;
 use std::alloc::{AllocError, Global};
 use std::process::Abort;
 use std::test::Fail;
-
-// Two queues that four requests entered, the wide ones the first.
-const LOG: [Event; 8] = [
-    Enter(1, 0),
-    Enter(2, 0),
-    Enter(3, 1),
-    Enter(4, 1),
-    Dispatch(3, 1),
-    Dispatch(4, 1),
-    Dispatch(1, 0),
-    Dispatch(2, 0),
-];
-
-const WIDTHS: [u32; 5] = [3, 3, 3, 1, 1];
-
-const HANDS: [u32; 5] = [0, 0, 0, 1, 1];
 
 // Whether each request of the log has a width.
 fn have_widths(log: &[Event], widths: &[u32]) -> bool
@@ -38,23 +23,70 @@ fn have_widths(log: &[Event], widths: &[u32]) -> bool
     })
 }
 
+// The log as a history.
+fn newest_first(alloc: Global, log: &[Event]) -> Result<Vec<Event>, AllocError>
+    ensures { IfOk result (λ v. v.items ≡ reverse log.now) }
+{
+    let mut history = log.to_vec(alloc)?;
+    history.reverse();
+    Ok(history)
+}
+
+// A log in the order of time, with the queue that each request was dealt and how wide it is.
+#[derive(Clone, Copy)]
+struct Row<'a> {
+    log: &'a [Event],
+    queues: &'a [u32],
+    widths: &'a [u32],
+}
+
+// Asserts that the log is legal, each hand being one queue.
+fn assert_legal(
+    rt: &impl Abort,
+    alloc: Global,
+    log: &[Event],
+    queues: &[u32],
+) -> Result<(), AllocError>
+    ensures { OnOk result (IsLegal (hand_in queues.now 1) 10 (reverse log.now)) }
+{
+    let history = newest_first(alloc, log)?;
+    let legal = is_legal(alloc, queues, 1, 10, history.as_slice())?;
+    assert!(rt; legal);
+    Ok(())
+}
+
 // The services of queues 0 and 1 between two places of the log.
 fn services(
     rt: &impl Abort,
     alloc: Global,
+    row: Row<'_>,
     from: u32,
     to: u32,
 ) -> Result<Option<(u64, u64)>, AllocError> {
-    let history: Vec<Event> = LOG.iter().rev().copied().collect(alloc)?;
-    let legal = is_legal(alloc, &HANDS, 1, 10, history.as_slice())?;
-    assert!(rt; legal);
-    assert!(rt; have_widths(&LOG, &WIDTHS));
-    assert!(rt; from <= to && to <= 8);
-    Ok(crate::balance(&LOG, &WIDTHS, from, to, 0, 1))
+    assert_legal(rt, alloc, row.log, row.queues)?;
+    let wide = have_widths(row.log, row.widths);
+    assert!(rt; wide);
+    assert!(rt; from <= to && to as usize <= row.log.len());
+    Ok(crate::balance(row.log, row.widths, from, to, 0, 1))
 }
 
 #[test]
 fn balance(rt: HostRuntime) -> Result<(), Fail> {
+    // The wide ones of four requests enter first.
+    let row = Row {
+        log: &[
+            Enter(1, 0),
+            Enter(2, 0),
+            Enter(3, 1),
+            Enter(4, 1),
+            Dispatch(3, 1),
+            Dispatch(4, 1),
+            Dispatch(1, 0),
+            Dispatch(2, 0),
+        ],
+        queues: &[0, 0, 0, 1, 1],
+        widths: &[3, 3, 3, 1, 1],
+    };
     for (from, to, want) in [
         (4, 5, Some((0, 1))),
         (3, 5, Some((0, 1))),
@@ -62,7 +94,7 @@ fn balance(rt: HostRuntime) -> Result<(), Fail> {
         (4, 6, None),
     ] {
         assert_eq!(rt;
-            services(&rt, rt.alloc(), from, to)?,
+            services(&rt, rt.alloc(), row, from, to)?,
             want,
             "from {from} to {to}"
         );

@@ -13,3 +13,4 @@ pub mod Numbers
 pub mod QueueOrder
 pub mod Balance
 pub mod Choices
+pub mod Agreement

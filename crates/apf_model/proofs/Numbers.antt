@@ -18,7 +18,7 @@ use Rattle.apf_model.proofs.Statuses.{made_here, made_else, found, waits_named}
 abbrev pub one_if : Bool → ℕ
 one_if b = cond b 1 0
 
-count : (p : Event → Bool) (e : Event) (h : List Event) → count_by p (e ∷ h) ≡ one_if (p e) + count_by p h
+pub count : (p : Event → Bool) (e : Event) (h : List Event) → count_by p (e ∷ h) ≡ one_if (p e) + count_by p h
 count p e h = sum_by-cons (λ x. cond (p x) 1 0) e h
 
 -- how many events in all, Enters and Dispatches a request of this status has had

@@ -1,5 +1,9 @@
 -- What the plain program's values mean.
-use Rattle.std.specs.Prelude.{◌≡◌, ◌≢◌, ℕ, ◌*◌, ◌<◌, ◌≤◌, List, [], length, take, drop, slice_index, slice_index_or, false, Option, Some, None}
+use Rattle.std.specs.Prelude.{◌≡◌, ◌≢◌, ℕ, ◌*◌, ◌<◌, ◌≤◌, ◌==◌, ◌||◌, Bool, List, [], ◌∷◌, length, take, drop, slice_index, slice_index_or, false, Option, Some, None}
+use Rattle.apf_words.specs.declared.decision.Decision.{Decision}
+use Rattle.apf_words.specs.declared.decision.Decision.TheVariants.{Execute, QueueFull, Cancelled}
+use Rattle.apf_model.specs.declared.events.Event.{Event}
+use Rattle.apf_model.specs.declared.events.Event.TheVariants.{Enter, Full, Dispatch, Strike}
 use Rattle.apf_model.specs.declared.moves.Move.{Move}
 use Rattle.apf_model.specs.declared.moves.Move.TheVariants.{SetLimit}
 use Rattle.apf_model.specs.declared.plain.world.World.{World as PlainWorld}
@@ -7,6 +11,8 @@ use Rattle.apf_model.specs.World.{World}
 use Rattle.apf_model.specs.PlainWorld.{stage_in}
 use Rattle.apf_model.specs.declared.plain.virtual_time.Numbers.{Numbers as PlainNumbers}
 use Rattle.apf_model.specs.declared.plain.heads.Head.{Head}
+use Rattle.apf_model.specs.declared.plain.stats.Stats.{Stats as PlainStats}
+use Rattle.apf_model.specs.Outcome.{Stats}
 use Rattle.apf_model.specs.Fair.{Numbers, finish, steps_round}
 
 -- the widths of a plain world's requests
@@ -34,6 +40,45 @@ IsLowLimit _ = Unit {0}
 -- the hand of a request, where hands of this size stand one after another
 abbrev pub hand_in : List ℕ → ℕ → ℕ → List ℕ
 hand_in hands size r = take size (drop (size * r) hands)
+
+-- the decisions that a list says, in the order of the requests
+abbrev pub decision_in : List (Option Decision) → ℕ → Option Decision
+decision_in decisions r = slice_index_or decisions r None
+
+-- the requests that took their seats on arrival
+abbrev pub took_in : List Bool → ℕ → Bool
+took_in took r = slice_index_or took r false
+
+-- the request of an event is decided as the event asks
+abbrev pub IsDecidedSo : (ℕ → Option Decision) → Event → Type 0
+IsDecidedSo decision (Enter r q) = Unit {0}
+IsDecidedSo decision (Full r q) = decision r ≡ Some QueueFull
+IsDecidedSo decision (Dispatch r q) = decision r ≡ Some Execute
+IsDecidedSo decision (Strike r q) = decision r ≡ Some Cancelled
+
+abbrev pub AreDecided : (ℕ → Option Decision) → List Event → Type 0
+AreDecided decision [] = Unit {0}
+AreDecided decision (e ∷ h) = IsDecidedSo decision e × AreDecided decision h
+
+-- r was refused, as its queue was full
+abbrev pub has_full : List Event → ℕ → Bool
+has_full [] r = false
+has_full (Full j q ∷ h) r = (j == r) || has_full h r
+has_full (_ ∷ h) r = has_full h r
+
+-- r was dispatched
+abbrev pub has_dispatch : List Event → ℕ → Bool
+has_dispatch [] r = false
+has_dispatch (Dispatch j q ∷ h) r = (j == r) || has_dispatch h r
+has_dispatch (_ ∷ h) r = has_dispatch h r
+
+-- these are the stats of a history
+pub record AreStats (of : Stats) (s : PlainStats) : Type 0 where
+  pub entered : s.entered ≡ of.entered
+  pub dispatched : s.dispatched ≡ of.dispatched
+  pub struck : s.struck ≡ of.struck
+  pub full : s.full ≡ of.full
+  pub waiting : s.waiting ≡ of.waiting
 
 -- the plain numbers of this many queues are these
 pub record AreNumbers (queues : ℕ) (v : Numbers) (p : PlainNumbers) : Type 0 where

@@ -1,4 +1,5 @@
 //! Worked examples, run against the definitions by the plain program.
 
 mod histories;
+mod judges;
 mod worlds;

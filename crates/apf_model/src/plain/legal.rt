@@ -84,9 +84,7 @@ fn may_follow(
         Event::Dispatch(request, queue) => {
             Ok(waiting(alloc, history, queue)?.first().copied() == Some(request))
         }
-        Event::Strike(request, queue) => {
-            Ok(waiting(alloc, history, queue)?.contains(&request))
-        }
+        Event::Strike(request, queue) => Ok(waiting(alloc, history, queue)?.contains(&request)),
     }
 }
 

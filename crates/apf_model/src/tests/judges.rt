@@ -29,7 +29,7 @@ fn judge(rt: &impl Abort, alloc: Global, events: &[Event]) -> Result<(bool, bool
 
 #[test]
 fn legal_and_fair(rt: HostRuntime) -> Result<(), Fail> {
-    let cases: [(&[Event], (bool, bool)); 12] = [
+    let cases: [(&[Event], (bool, bool)); 14] = [
         (&[], (true, true)),
         (
             &[
@@ -58,6 +58,12 @@ fn legal_and_fair(rt: HostRuntime) -> Result<(), Fail> {
             (false, false),
         ),
         (&[Strike(1, 0)], (false, false)),
+        // an older event
+        (&[Full(1, 0), Enter(3, 1)], (false, false)),
+        (
+            &[Enter(1, 0), Enter(3, 1), Dispatch(1, 0), Dispatch(3, 1)],
+            (true, false),
+        ),
     ];
     for (events, want) in cases {
         assert_eq!(rt; judge(&rt, rt.alloc(), events)?, want, "{events:?}");

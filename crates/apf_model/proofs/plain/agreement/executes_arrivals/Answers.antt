@@ -1,5 +1,4 @@
 -- A request that is not accounted for was dispatched nowhere.
-use Rattle.std.proofs.Common.{◌≡◌, ℕ, true, false}
 use Rattle.std.proofs.lemmas.Bool.{false≢true}
 use Rattle.apf_model.proofs.Agreement.{in_dispatch}
 use Rattle.apf_model.proofs.plain.agreement.executes_arrivals.Goals as goal

@@ -1,6 +1,5 @@
 -- The choice that was found is the one choice.
-use Rattle.std.proofs.Common.{◌≡◌, ◌∙◌, ℕ, Some, sym, subst, eq-eqb}
-use Rattle.std.specs.Prelude.{MatchOption, ◌<◌, ◌≡◌, []}
+use Rattle.std.proofs.Common.{subst, eq-eqb}
 use Rattle.std.proofs.lemmas.Bool.{eqb-true}
 use Rattle.apf_model.specs.History.{waiting}
 use Rattle.apf_model.specs.Fair.{numbers, IsChoice}

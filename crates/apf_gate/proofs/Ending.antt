@@ -1,5 +1,5 @@
 -- What the end of a gate tells of its tokens.
-use Rattle.std.proofs.Common.{◌≡◌, ◌≢◌, ◌⊎◌, ℕ, ◌+◌, ◌*◌, ◌<◌, Bool, true, false, List, [], ◌∷◌, ◌++◌, length, Some, None, sym, refl, ap, ◌∙◌, subst, inl, inr, ⊎_elim}
+use Rattle.std.proofs.Common.{◌≡◌, ◌≢◌, ◌⊎◌, ℕ, ◌<◌, Bool, true, false, List, [], ◌∷◌, ◌++◌, length, Some, None, sym, refl, ap, ◌∙◌, subst, inl, inr, ⊎_elim}
 use Rattle.std.specs.Prelude.{All, Any}
 use Rattle.std.proofs.lemmas.Bool.{not-true, not_from_false}
 use Rattle.apf_words.specs.Level.{Level}
@@ -11,49 +11,23 @@ use Rattle.apf_model.specs.declared.response.Response.TheVariants.{Reject}
 use Rattle.apf_gate.specs.declared.record.Actor.{Actor}
 use Rattle.apf_gate.specs.declared.record.Actor.TheVariants.{OfPass, OfDesk, OfStation}
 use Rattle.apf_gate.specs.declared.record.Entry.{Entry}
-use Rattle.apf_gate.specs.declared.record.Knowledge.{Knowledge}
 use Rattle.apf_gate.specs.declared.record.State.{State}
 use Rattle.apf_gate.specs.declared.record.State.TheVariants.{Fresh, Took, InLine, Over}
 use Rattle.apf_gate.specs.declared.record.Service.{Service}
 use Rattle.apf_gate.specs.declared.record.Service.TheVariants.{NotHanded, Handed, RefusedFull, RefusedClosed, Waiting, Held, Settled, Left}
 use Rattle.apf_gate.specs.declared.record.PassRecord.{PassRecord}
 use Rattle.apf_gate.specs.declared.record.DeskRecord.{DeskRecord}
-use Rattle.apf_gate.specs.declared.record.StationRecord.{StationRecord}
-use Rattle.apf_gate.specs.declared.record.Record.{Record}
-use Rattle.apf_gate.specs.declared.record.Record.TheVariants.{Pass, Desk, Station}
 use Rattle.apf_gate.specs.Records.{told_of, told_own, service}
 use Rattle.apf_gate.specs.Traces.{NoneOf, GoesOn, world_of, Made, MadeFirstClose, IsToken, AreMade}
 use Rattle.apf_gate.specs.Requests.{IsRequest, MayHold, MayHaveWritten, stage_of, stage_of_pass, stage_of_settled, written}
-use Rattle.apf_gate.specs.Account.{IsKnown}
-use Rattle.apf_gate.specs.Rule.{Every, IsRecord, AreApart, token_of}
+use Rattle.apf_gate.specs.Rule.{Every}
 use Rattle.apf_gate.specs.Tokens.{GateId, PassToken, StationToken}
-use Rattle.apf_gate.specs.Ends.{WordsView, IsDecided, EndsWith, SawAtLast, IsLongest, AreOf, WasTold, Wrote, ExecutedIt, LimitedIt, IsBack, WroteCancelled, ClosedFirst, AtMostOne, EndAgrees, passes_before, stations_before}
+use Rattle.apf_gate.specs.Ends.{WordsView, IsDecided, EndsWith, SawAtLast, IsLongest, AreOf, WasTold, Wrote, ExecutedIt, LimitedIt, IsBack, WroteCancelled, ClosedFirst, AtMostOne, EndAgrees}
 use Rattle.apf_gate.proofs.WordNumbers.{some_same}
 use Rattle.apf_gate.proofs.Lists.{every_map, every_all, all_every, AnyOf, any_place, any_with, any_elim, every_both}
-use Rattle.apf_gate.proofs.Numbers.{AreNumbered, all_there}
 use Rattle.apf_gate.proofs.Requests.{found_is_written, executes, executes_took, is_handed, handed_or_not}
 use Rattle.apf_gate.proofs.Traces.{made_later, made_own, close_later, close_own, decided_stands, one_decider, cancelled_by, closed_stands, one_closer, closed_by}
-
--- the parts of what was handed in
-every_stations : (P : Record → Type 0) (ts : List StationToken) (rest : List Record) → Every P (stations_before ts rest) → Every (λ t. P (Station t.station)) ts × Every P rest
-every_stations P [] rest k = (tt, k)
-every_stations P (t ∷ ts) rest k = let h = every_stations P ts rest k.1 in ((k.0, h.0), h.1)
-
-every_passes : (P : Record → Type 0) (ps : List PassToken) (rest : List Record) → Every P (passes_before ps rest) → Every (λ t. P (Pass t.pass)) ps × Every P rest
-every_passes P [] rest k = (tt, k)
-every_passes P (t ∷ ts) rest k = let h = every_passes P ts rest k.1 in ((k.0, h.0), h.1)
-
-numbered_stations : (ts : List StationToken) (rest : List Record) → AreApart (stations_before ts rest) → AreNumbered (λ (t : StationToken). t.station.number) ts × AreApart rest
-numbered_stations [] rest k = (tt, k)
-numbered_stations (t ∷ ts) rest k =
-    let h = numbered_stations ts rest k.1 in
-    ((every_map (λ (u : StationToken). 2 * u.station.number + 2 ≢ 2 * t.station.number + 2) (λ (u : StationToken). u.station.number ≢ t.station.number) ts (λ u ne e. ne (ap (λ n. 2 * n + 2) e)) (every_stations (λ y. token_of y ≢ 2 * t.station.number + 2) ts rest k.0).0, h.0), h.1)
-
-numbered_passes : (ps : List PassToken) (rest : List Record) → AreApart (passes_before ps rest) → AreNumbered (λ (t : PassToken). t.pass.number) ps × AreApart rest
-numbered_passes [] rest k = (tt, k)
-numbered_passes (t ∷ ts) rest k =
-    let h = numbered_passes ts rest k.1 in
-    ((every_map (λ (u : PassToken). 2 * u.pass.number + 1 ≢ 2 * t.pass.number + 1) (λ (u : PassToken). u.pass.number ≢ t.pass.number) ts (λ u ne e. ne (ap (λ n. 2 * n + 1) e)) (every_passes (λ y. token_of y ≢ 2 * t.pass.number + 1) ts rest k.0).0, h.0), h.1)
+use Rattle.apf_gate.proofs.HandedIn.{stations_here, passes_here, desk_here, station_there, pass_there, known_told, pass_known, station_known, desk_known, IsPassHere, IsStationHere}
 
 -- a Pass that holds no seats that it took stands not, nor waits, where the Desk did not enter its request
 not_taken : (f : State) (took : Bool) → f ≢ Took → (stage_of_pass f took ≢ Stands) × (stage_of_pass f took ≢ Waits)
@@ -64,40 +38,6 @@ not_taken Over true other = ((λ x. cc), (λ x. cc))
 not_taken Over false other = ((λ x. cc), (λ x. cc))
 
 module _ (g : GateId) (d : DeskRecord) (ps : List PassToken) (ts : List StationToken) (w : WordsView) (e : EndsWith g d ps ts w) where
-  abbrev IsPassHere : PassToken → Type 0
-  IsPassHere t = (t.pass.number < length g.shape.widths) × (e.account.pass t.pass.number ≡ t.pass)
-
-  abbrev IsStationHere : StationToken → Type 0
-  IsStationHere t = (t.station.number < g.shape.stations) × (e.account.station t.station.number ≡ t.station)
-
-  stations_here : Every IsStationHere ts
-  stations_here = (every_stations (IsRecord g.shape e.account) ts (passes_before ps (Desk d ∷ [])) e.stand).0
-
-  passes_here : Every IsPassHere ps
-  passes_here = (every_passes (IsRecord g.shape e.account) ps (Desk d ∷ []) (every_stations (IsRecord g.shape e.account) ts (passes_before ps (Desk d ∷ [])) e.stand).1).0
-
-  desk_here : e.account.desk ≡ d
-  desk_here = (every_passes (IsRecord g.shape e.account) ps (Desk d ∷ []) (every_stations (IsRecord g.shape e.account) ts (passes_before ps (Desk d ∷ [])) e.stand).1).1.0
-
-  -- each Station, and each request's Pass, was handed in
-  station_there : (k : ℕ) → k < g.shape.stations → AnyOf (λ t. t.station.number ≡ k) ts
-  station_there = all_there (λ (t : StationToken). t.station.number) g.shape.stations ts e.all_stations (every_map IsStationHere (λ (t : StationToken). t.station.number < g.shape.stations) ts (λ t k. k.0) stations_here) (numbered_stations ts (passes_before ps (Desk d ∷ [])) e.apart).0
-
-  pass_there : (r : ℕ) → r < length g.shape.widths → AnyOf (λ t. t.pass.number ≡ r) ps
-  pass_there = all_there (λ (t : PassToken). t.pass.number) (length g.shape.widths) ps e.all_passes (every_map IsPassHere (λ (t : PassToken). t.pass.number < length g.shape.widths) ps (λ t k. k.0) passes_here) (numbered_passes ps (Desk d ∷ []) (numbered_stations ts (passes_before ps (Desk d ∷ [])) e.apart).1).0
-
-  known_told : (who : Actor) (k : Knowledge) (r : ℕ) (x : Decision) → IsKnown g.shape who k e.account.trace → told_of k.told r ≡ Some x → (world_of g.shape e.account.trace).decision r ≡ Some x
-  known_told who k r x known is = known.told r (λ none. let z = sym is ∙ none in cc) ∙ is
-
-  pass_known : (t : PassToken) → IsPassHere t → IsKnown g.shape (OfPass t.pass.number) t.pass.knows e.account.trace
-  pass_known t h = subst (λ (o : PassRecord). IsKnown g.shape (OfPass t.pass.number) o.knows e.account.trace) h.1 (e.sound.pass_knows t.pass.number h.0)
-
-  station_known : (t : StationToken) → IsStationHere t → IsKnown g.shape (OfStation t.station.number) t.station.knows e.account.trace
-  station_known t h = subst (λ (o : StationRecord). IsKnown g.shape (OfStation t.station.number) o.knows e.account.trace) h.1 (e.sound.station_knows t.station.number)
-
-  desk_known : IsKnown g.shape OfDesk d.knows e.account.trace
-  desk_known = subst (λ (o : DeskRecord). IsKnown g.shape OfDesk o.knows e.account.trace) desk_here e.sound.desk_knows
-
   -- a token whose own step is the newest of the trace, or of a trace without steps, saw the whole of it
   newest : (who : Actor) (later saw : List Entry) (m : Entry) (es : List Entry) → later ++ saw ≡ m ∷ es → NoneOf who later → m.by ≡ who → saw ≡ m ∷ es
   newest who [] saw m es is none own = is
@@ -113,14 +53,14 @@ module _ (g : GateId) (d : DeskRecord) (ps : List PassToken) (ts : List StationT
 
   -- the token that stepped last saw the whole trace
   saw_newest : (m : Entry) (es : List Entry) → e.account.trace ≡ m ∷ es → (who : Actor) → m.by ≡ who → IsToken g.shape who → SawAtLast d ps ts (m ∷ es)
-  saw_newest m es is (OfPass r) own made = inr (inl (any_place (λ (t : PassToken). t.pass.knows.trace ≡ m ∷ es) ps (any_with (λ (t : PassToken). t.pass.number ≡ r) IsPassHere (λ (t : PassToken). t.pass.knows.trace ≡ m ∷ es) ps
-      (λ t n h. let k = (pass_known t h).newer in newest (OfPass t.pass.number) k.0 t.pass.knows.trace m es (k.1 ∙ is) k.2 (own ∙ ap OfPass (sym n))) (pass_there r made) passes_here)))
-  saw_newest m es is OfDesk own made = inl (let k = desk_known.newer in newest OfDesk k.0 d.knows.trace m es (k.1 ∙ is) k.2 own)
-  saw_newest m es is (OfStation j) own made = inr (inr (any_place (λ (t : StationToken). t.station.knows.trace ≡ m ∷ es) ts (any_with (λ (t : StationToken). t.station.number ≡ j) IsStationHere (λ (t : StationToken). t.station.knows.trace ≡ m ∷ es) ts
-      (λ t n h. let k = (station_known t h).newer in newest (OfStation t.station.number) k.0 t.station.knows.trace m es (k.1 ∙ is) k.2 (own ∙ ap OfStation (sym n))) (station_there j made) stations_here)))
+  saw_newest m es is (OfPass r) own made = inr (inl (any_place (λ (t : PassToken). t.pass.knows.trace ≡ m ∷ es) ps (any_with (λ (t : PassToken). t.pass.number ≡ r) (IsPassHere g d ps ts w e) (λ (t : PassToken). t.pass.knows.trace ≡ m ∷ es) ps
+      (λ t n h. let k = ((pass_known g d ps ts w e) t h).newer in newest (OfPass t.pass.number) k.0 t.pass.knows.trace m es (k.1 ∙ is) k.2 (own ∙ ap OfPass (sym n))) ((pass_there g d ps ts w e) r made) (passes_here g d ps ts w e))))
+  saw_newest m es is OfDesk own made = inl (let k = (desk_known g d ps ts w e).newer in newest OfDesk k.0 d.knows.trace m es (k.1 ∙ is) k.2 own)
+  saw_newest m es is (OfStation j) own made = inr (inr (any_place (λ (t : StationToken). t.station.knows.trace ≡ m ∷ es) ts (any_with (λ (t : StationToken). t.station.number ≡ j) (IsStationHere g d ps ts w e) (λ (t : StationToken). t.station.knows.trace ≡ m ∷ es) ts
+      (λ t n h. let k = ((station_known g d ps ts w e) t h).newer in newest (OfStation t.station.number) k.0 t.station.knows.trace m es (k.1 ∙ is) k.2 (own ∙ ap OfStation (sym n))) ((station_there g d ps ts w e) j made) (stations_here g d ps ts w e))))
 
   saw_at_last : (es : List Entry) → e.account.trace ≡ es → AreMade g.shape es → SawAtLast d ps ts es
-  saw_at_last [] is made = inl (let k = desk_known.newer in nothing k.0 d.knows.trace (k.1 ∙ is))
+  saw_at_last [] is made = inl (let k = (desk_known g d ps ts w e).newer in nothing k.0 d.knows.trace (k.1 ∙ is))
   saw_at_last (m ∷ es) is made = saw_newest m es is m.by refl made.0
 
   last : (es : List Entry) × IsLongest g d ps ts es × AreOf g es w
@@ -129,19 +69,19 @@ module _ (g : GateId) (d : DeskRecord) (ps : List PassToken) (ts : List StationT
     record {
       seen = saw_at_last e.account.trace refl e.sound.made;
       made = e.sound.made;
-      from_desk = desk_known.newer;
-      from_passes = all_every (λ (t : PassToken). GoesOn e.account.trace (OfPass t.pass.number) t.pass.knows.trace) ps (every_map IsPassHere (λ (t : PassToken). GoesOn e.account.trace (OfPass t.pass.number) t.pass.knows.trace) ps (λ t h. (pass_known t h).newer) passes_here);
-      from_stations = all_every (λ (t : StationToken). GoesOn e.account.trace (OfStation t.station.number) t.station.knows.trace) ts (every_map IsStationHere (λ (t : StationToken). GoesOn e.account.trace (OfStation t.station.number) t.station.knows.trace) ts (λ t h. (station_known t h).newer) stations_here);
+      from_desk = (desk_known g d ps ts w e).newer;
+      from_passes = all_every (λ (t : PassToken). GoesOn e.account.trace (OfPass t.pass.number) t.pass.knows.trace) ps (every_map (IsPassHere g d ps ts w e) (λ (t : PassToken). GoesOn e.account.trace (OfPass t.pass.number) t.pass.knows.trace) ps (λ t h. ((pass_known g d ps ts w e) t h).newer) (passes_here g d ps ts w e));
+      from_stations = all_every (λ (t : StationToken). GoesOn e.account.trace (OfStation t.station.number) t.station.knows.trace) ts (every_map (IsStationHere g d ps ts w e) (λ (t : StationToken). GoesOn e.account.trace (OfStation t.station.number) t.station.knows.trace) ts (λ t h. ((station_known g d ps ts w e) t h).newer) (stations_here g d ps ts w e));
     },
     (e.level, e.decided),
   )
 
   told : (r : ℕ) (x : Decision) → r < length g.shape.widths → WasTold d ps ts r x → IsDecided w r x
   told r x l was = e.decided r l ∙ ap Some (⊎_elim
-      (λ (t : told_of d.knows.told r ≡ Some x). known_told OfDesk d.knows r x desk_known t)
+      (λ (t : told_of d.knows.told r ≡ Some x). (known_told g d ps ts w e) OfDesk d.knows r x (desk_known g d ps ts w e) t)
       (λ (o : Any (λ (t : PassToken). told_of t.pass.knows.told r ≡ Some x) ps ⊎ Any (λ (t : StationToken). told_of t.station.knows.told r ≡ Some x) ts). ⊎_elim
-      (λ (a : Any (λ (t : PassToken). told_of t.pass.knows.told r ≡ Some x) ps). any_elim (λ (t : PassToken). told_of t.pass.knows.told r ≡ Some x) IsPassHere ps (λ t is h. known_told (OfPass t.pass.number) t.pass.knows r x (pass_known t h) is) a passes_here)
-      (λ (a : Any (λ (t : StationToken). told_of t.station.knows.told r ≡ Some x) ts). any_elim (λ (t : StationToken). told_of t.station.knows.told r ≡ Some x) IsStationHere ts (λ t is h. known_told (OfStation t.station.number) t.station.knows r x (station_known t h) is) a stations_here)
+      (λ (a : Any (λ (t : PassToken). told_of t.pass.knows.told r ≡ Some x) ps). any_elim (λ (t : PassToken). told_of t.pass.knows.told r ≡ Some x) (IsPassHere g d ps ts w e) ps (λ t is h. (known_told g d ps ts w e) (OfPass t.pass.number) t.pass.knows r x ((pass_known g d ps ts w e) t h) is) a (passes_here g d ps ts w e))
+      (λ (a : Any (λ (t : StationToken). told_of t.station.knows.told r ≡ Some x) ts). any_elim (λ (t : StationToken). told_of t.station.knows.told r ≡ Some x) (IsStationHere g d ps ts w e) ts (λ t is h. (known_told g d ps ts w e) (OfStation t.station.number) t.station.knows r x ((station_known g d ps ts w e) t h) is) a (stations_here g d ps ts w e))
       o) was)
 
   -- what a request's word holds, the trace makes of it
@@ -155,13 +95,13 @@ module _ (g : GateId) (d : DeskRecord) (ps : List PassToken) (ts : List StationT
   own_name t = OfStation t.station.number
 
   -- a move that a Station's record has, the whole trace has
-  wrote : (t : StationToken) (r : ℕ) → IsStationHere t → WroteCancelled r t → Made e.account.trace (own_name t) (Decide r Cancelled)
-  wrote t r h c = let k = (station_known t h).newer in subst (λ es. Made es (own_name t) (Decide r Cancelled)) k.1 (made_later k.0 t.station.knows.trace (own_name t) (Decide r Cancelled) c)
+  wrote : (t : StationToken) (r : ℕ) → (IsStationHere g d ps ts w e) t → WroteCancelled r t → Made e.account.trace (own_name t) (Decide r Cancelled)
+  wrote t r h c = let k = ((station_known g d ps ts w e) t h).newer in subst (λ es. Made es (own_name t) (Decide r Cancelled)) k.1 (made_later k.0 t.station.knows.trace (own_name t) (Decide r Cancelled) c)
 
-  first : (t : StationToken) → IsStationHere t → ClosedFirst t → MadeFirstClose g.shape e.account.trace (own_name t)
+  first : (t : StationToken) → (IsStationHere g d ps ts w e) t → ClosedFirst t → MadeFirstClose g.shape e.account.trace (own_name t)
   first t h c =
-      let k = (station_known t h).newer in
-      subst (λ es. MadeFirstClose g.shape es (own_name t)) k.1 (close_later g.shape k.0 t.station.knows.trace (own_name t) (subst (λ x. MadeFirstClose x t.station.knows.trace (own_name t)) (station_known t h).shape_is c))
+      let k = ((station_known g d ps ts w e) t h).newer in
+      subst (λ es. MadeFirstClose g.shape es (own_name t)) k.1 (close_later g.shape k.0 t.station.knows.trace (own_name t) (subst (λ x. MadeFirstClose x t.station.knows.trace (own_name t)) ((station_known g d ps ts w e) t h).shape_is c))
 
   -- no two Stations have one name
   same_number : (j k : ℕ) → OfStation j ≡ OfStation k → j ≡ k
@@ -175,47 +115,47 @@ module _ (g : GateId) (d : DeskRecord) (ps : List PassToken) (ts : List StationT
   cancelled_by_one : (r : ℕ) → r < length g.shape.widths → IsDecided w r Cancelled → AnyOf (WroteCancelled r) ts
   cancelled_by_one r l is =
       let c = cancelled_by g.shape r e.account.trace e.sound.made (decision_is r Cancelled l is) in
-      any_with (λ (t : StationToken). t.station.number ≡ c.0) IsStationHere (WroteCancelled r) ts
+      any_with (λ (t : StationToken). t.station.number ≡ c.0) (IsStationHere g d ps ts w e) (WroteCancelled r) ts
       (λ t n h.
-      let k = (station_known t h).newer in
-      made_own k.0 t.station.knows.trace (own_name t) (Decide r Cancelled) k.2 (subst (λ (x : List Entry × ℕ). Made x.0 (OfStation x.1) (Decide r Cancelled)) (λ i. (sym k.1 i, sym n i)) c.2)) (station_there c.0 c.1) stations_here
+      let k = ((station_known g d ps ts w e) t h).newer in
+      made_own k.0 t.station.knows.trace (own_name t) (Decide r Cancelled) k.2 (subst (λ (x : List Entry × ℕ). Made x.0 (OfStation x.1) (Decide r Cancelled)) (λ i. (sym k.1 i, sym n i)) c.2)) ((station_there g d ps ts w e) c.0 c.1) (stations_here g d ps ts w e)
 
   cancelled_is_written : (r : ℕ) → r < length g.shape.widths → Every (λ t. WroteCancelled r t → IsDecided w r Cancelled) ts
-  cancelled_is_written r l = every_map IsStationHere (λ (t : StationToken). WroteCancelled r t → IsDecided w r Cancelled) ts
-      (λ t h c. e.decided r l ∙ ap Some (decided_stands g.shape r Cancelled e.account.trace (own_name t) e.sound.schedule (wrote t r h c))) stations_here
+  cancelled_is_written r l = every_map (IsStationHere g d ps ts w e) (λ (t : StationToken). WroteCancelled r t → IsDecided w r Cancelled) ts
+      (λ t h c. e.decided r l ∙ ap Some (decided_stands g.shape r Cancelled e.account.trace (own_name t) e.sound.schedule (wrote t r h c))) (stations_here g d ps ts w e)
 
   cancelled_by_no_other : (r : ℕ) → Every (λ t. Every (λ u. WroteCancelled r t → WroteCancelled r u → t.station.number ≡ u.station.number) ts) ts
-  cancelled_by_no_other r = every_map IsStationHere (λ (t : StationToken). Every (λ u. WroteCancelled r t → WroteCancelled r u → t.station.number ≡ u.station.number) ts) ts
-      (λ t h. every_map IsStationHere (λ (u : StationToken). WroteCancelled r t → WroteCancelled r u → t.station.number ≡ u.station.number) ts
-      (λ u k a b. same_number _ _ (one_decider g.shape r Cancelled Cancelled e.account.trace (own_name t) (own_name u) e.sound.schedule (wrote t r h a) (wrote u r k b))) stations_here) stations_here
+  cancelled_by_no_other r = every_map (IsStationHere g d ps ts w e) (λ (t : StationToken). Every (λ u. WroteCancelled r t → WroteCancelled r u → t.station.number ≡ u.station.number) ts) ts
+      (λ t h. every_map (IsStationHere g d ps ts w e) (λ (u : StationToken). WroteCancelled r t → WroteCancelled r u → t.station.number ≡ u.station.number) ts
+      (λ u k a b. same_number _ _ (one_decider g.shape r Cancelled Cancelled e.account.trace (own_name t) (own_name u) e.sound.schedule (wrote t r h a) (wrote u r k b))) (stations_here g d ps ts w e)) (stations_here g d ps ts w e)
 
   closed_by_one : w.level.closed ≡ true → AnyOf ClosedFirst ts
   closed_by_one is =
       let c = closed_by g.shape e.account.trace e.sound.made (not-true _ (ap (λ (l : Level). l.closed) (sym e.level) ∙ is)) in
-      any_with (λ (t : StationToken). t.station.number ≡ c.0) IsStationHere ClosedFirst ts
+      any_with (λ (t : StationToken). t.station.number ≡ c.0) (IsStationHere g d ps ts w e) ClosedFirst ts
       (λ t n h.
-      let k = (station_known t h).newer in
-      subst (λ x. MadeFirstClose x t.station.knows.trace (own_name t)) (sym (station_known t h).shape_is)
-      (close_own g.shape k.0 t.station.knows.trace (own_name t) k.2 (subst (λ (x : List Entry × ℕ). MadeFirstClose g.shape x.0 (OfStation x.1)) (λ i. (sym k.1 i, sym n i)) c.2))) (station_there c.0 c.1) stations_here
+      let k = ((station_known g d ps ts w e) t h).newer in
+      subst (λ x. MadeFirstClose x t.station.knows.trace (own_name t)) (sym ((station_known g d ps ts w e) t h).shape_is)
+      (close_own g.shape k.0 t.station.knows.trace (own_name t) k.2 (subst (λ (x : List Entry × ℕ). MadeFirstClose g.shape x.0 (OfStation x.1)) (λ i. (sym k.1 i, sym n i)) c.2))) ((station_there g d ps ts w e) c.0 c.1) (stations_here g d ps ts w e)
 
   closed_is_seen : Every (λ t. t.station.knows.saw_closed ≡ true → w.level.closed ≡ true) ts
-  closed_is_seen = every_map IsStationHere (λ (t : StationToken). t.station.knows.saw_closed ≡ true → w.level.closed ≡ true) ts (λ t h c. shut ((station_known t h).closed c)) stations_here
+  closed_is_seen = every_map (IsStationHere g d ps ts w e) (λ (t : StationToken). t.station.knows.saw_closed ≡ true → w.level.closed ≡ true) ts (λ t h c. shut (((station_known g d ps ts w e) t h).closed c)) (stations_here g d ps ts w e)
 
   closed_is_first : Every (λ t. ClosedFirst t → w.level.closed ≡ true) ts
-  closed_is_first = every_map IsStationHere (λ (t : StationToken). ClosedFirst t → w.level.closed ≡ true) ts (λ t h c. shut (closed_stands g.shape e.account.trace (own_name t) e.sound.schedule (first t h c))) stations_here
+  closed_is_first = every_map (IsStationHere g d ps ts w e) (λ (t : StationToken). ClosedFirst t → w.level.closed ≡ true) ts (λ t h c. shut (closed_stands g.shape e.account.trace (own_name t) e.sound.schedule (first t h c))) (stations_here g d ps ts w e)
 
   closed_by_no_other : Every (λ t. Every (λ u. ClosedFirst t → ClosedFirst u → t.station.number ≡ u.station.number) ts) ts
-  closed_by_no_other = every_map IsStationHere (λ (t : StationToken). Every (λ u. ClosedFirst t → ClosedFirst u → t.station.number ≡ u.station.number) ts) ts
-      (λ t h. every_map IsStationHere (λ (u : StationToken). ClosedFirst t → ClosedFirst u → t.station.number ≡ u.station.number) ts
-      (λ u k a b. same_number _ _ (one_closer g.shape e.account.trace (own_name t) (own_name u) e.sound.schedule (first t h a) (first u k b))) stations_here) stations_here
+  closed_by_no_other = every_map (IsStationHere g d ps ts w e) (λ (t : StationToken). Every (λ u. ClosedFirst t → ClosedFirst u → t.station.number ≡ u.station.number) ts) ts
+      (λ t h. every_map (IsStationHere g d ps ts w e) (λ (u : StationToken). ClosedFirst t → ClosedFirst u → t.station.number ≡ u.station.number) ts
+      (λ u k a b. same_number _ _ (one_closer g.shape e.account.trace (own_name t) (own_name u) e.sound.schedule (first t h a) (first u k b))) (stations_here g d ps ts w e)) (stations_here g d ps ts w e)
 
   -- the lines on a request, with the Desk that was handed in
   line : (r : ℕ) → r < length g.shape.widths → IsRequest g.shape r (e.account.pass r) (service d r) (world_of g.shape e.account.trace)
-  line r l = subst (λ (o : DeskRecord). IsRequest g.shape r (e.account.pass r) (service o r) (world_of g.shape e.account.trace)) desk_here (e.sound.request r l)
+  line r l = subst (λ (o : DeskRecord). IsRequest g.shape r (e.account.pass r) (service o r) (world_of g.shape e.account.trace)) (desk_here g d ps ts w e) (e.sound.request r l)
 
   -- of the request's own Pass, which was handed in
   of_pass : (P : PassToken → Type 0) (r : ℕ) → r < length g.shape.widths → ((t : PassToken) → t.pass.number ≡ r → e.account.pass r ≡ t.pass → P t) → AnyOf P ps
-  of_pass P r l f = any_with (λ (t : PassToken). t.pass.number ≡ r) IsPassHere P ps (λ t n h. f t n (ap e.account.pass (sym n) ∙ h.1)) (pass_there r l) passes_here
+  of_pass P r l f = any_with (λ (t : PassToken). t.pass.number ≡ r) (IsPassHere g d ps ts w e) P ps (λ t n h. f t n (ap e.account.pass (sym n) ∙ h.1)) ((pass_there g d ps ts w e) r l) (passes_here g d ps ts w e)
 
   -- what the Desk wrote of a request is its decision
   desk_decided : (r : ℕ) (a : Service) (x : Decision) → r < length g.shape.widths → service d r ≡ a → written (e.account.pass r) a ≡ Some x → IsDecided w r x
@@ -274,7 +214,7 @@ module _ (g : GateId) (d : DeskRecord) (ps : List PassToken) (ts : List StationT
       (executes g.shape r (e.account.pass r) (service d r) (world_of g.shape e.account.trace) (line r l) (decision_is r Execute l is))
 
   -- what a Pass wrote is its request's decision
-  pass_decided : (t : PassToken) → IsPassHere t → (x : Decision) → t.pass.wrote ≡ Some x → IsDecided w t.pass.number x
+  pass_decided : (t : PassToken) → (IsPassHere g d ps ts w e) t → (x : Decision) → t.pass.wrote ≡ Some x → IsDecided w t.pass.number x
   pass_decided t h x is =
       let r = t.pass.number in
       let p = e.account.pass r in
@@ -298,10 +238,10 @@ module _ (g : GateId) (d : DeskRecord) (ps : List PassToken) (ts : List StationT
   not_took : (t : PassToken) → IsBack t → t.pass.state ≢ Took
   not_took t back x = ⊎_elim (λ (o : t.pass.state ≡ Over). let z = sym o ∙ x in absurd (cc)) (λ (o : (t.pass.state ≢ Took) × (told_own t.pass ≢ None) × (told_own t.pass ≢ Some Execute)). o.0 x) back.back
 
-  over_if_settled : (t : PassToken) (r : ℕ) → t.pass.number ≡ r → r < length g.shape.widths → IsPassHere t → IsBack t → service d r ≡ Settled → t.pass.state ≡ Over
+  over_if_settled : (t : PassToken) (r : ℕ) → t.pass.number ≡ r → r < length g.shape.widths → (IsPassHere g d ps ts w e) t → IsBack t → service d r ≡ Settled → t.pass.state ≡ Over
   over_if_settled t r n l h back is = ⊎_elim (λ (o : t.pass.state ≡ Over). o)
       (λ (o : (t.pass.state ≢ Took) × (told_own t.pass ≢ None) × (told_own t.pass ≢ Some Execute)).
-      let known : (world_of g.shape e.account.trace).decision t.pass.number ≡ told_own t.pass = (pass_known t h).told t.pass.number o.1 in
+      let known : (world_of g.shape e.account.trace).decision t.pass.number ≡ told_own t.pass = ((pass_known g d ps ts w e) t h).told t.pass.number o.1 in
       absurd (o.2 (sym known ∙ (ap (world_of g.shape e.account.trace).decision n ∙ decision_is r Execute l (desk_decided r Settled Execute l is refl)))))
       back.back
 
@@ -313,14 +253,14 @@ module _ (g : GateId) (d : DeskRecord) (ps : List PassToken) (ts : List StationT
     where
       -- what is so of a request by the token of its Pass
       by_token : (r : ℕ) → r < length g.shape.widths → ((e.account.pass r).state ≢ Took) × (service d r ≡ Settled → (e.account.pass r).state ≡ Over)
-      by_token r l = any_elim (λ (t : PassToken). t.pass.number ≡ r) (λ (t : PassToken). IsPassHere t × IsBack t) ps
+      by_token r l = any_elim (λ (t : PassToken). t.pass.number ≡ r) (λ (t : PassToken). (IsPassHere g d ps ts w e) t × IsBack t) ps
           (λ t n h.
           let same : (e.account.pass r).state ≡ t.pass.state = ap (λ k. (e.account.pass k).state) (sym n) ∙ ap (λ (o : PassRecord). o.state) h.0.1 in
           ((λ x. not_took t h.1 (sym same ∙ x)), (λ x. same ∙ over_if_settled t r n l h.0 h.1 x)))
-          (any_place (λ (t : PassToken). t.pass.number ≡ r) ps (pass_there r l)) (every_both IsPassHere IsBack (λ (t : PassToken). IsPassHere t × IsBack t) ps (λ t a b. (a, b)) passes_here back)
+          (any_place (λ (t : PassToken). t.pass.number ≡ r) ps ((pass_there g d ps ts w e) r l)) (every_both (IsPassHere g d ps ts w e) IsBack (λ (t : PassToken). (IsPassHere g d ps ts w e) t × IsBack t) ps (λ t a b. (a, b)) (passes_here g d ps ts w e) back)
 
       not_held : (r : ℕ) → service d r ≢ Held
-      not_held r x = let z = sym (ap (λ (o : DeskRecord). o.held) desk_here ∙ held) ∙ e.sound.is_held r (ap (λ (o : DeskRecord). service o r) desk_here ∙ x) in cc
+      not_held r x = let z = sym (ap (λ (o : DeskRecord). o.held) (desk_here g d ps ts w e) ∙ held) ∙ e.sound.is_held r (ap (λ (o : DeskRecord). service o r) (desk_here g d ps ts w e) ∙ x) in cc
 
       gone : (r : ℕ) → r < length g.shape.widths → (stage_of (e.account.pass r) (service d r) ≢ Stands) × (stage_of (e.account.pass r) (service d r) ≢ Waits)
       gone r l = let t = by_token r l in stage_back r (e.account.pass r) (service d r) (line r l) t.0 t.1 (not_held r) (waits r l)
@@ -333,8 +273,8 @@ module _ (g : GateId) (d : DeskRecord) (ps : List PassToken) (ts : List StationT
 
   pub agrees : EndAgrees g d ps ts w
   agrees = record {
-    each_pass = λ r l. any_place (λ (t : PassToken). t.pass.number ≡ r) ps (pass_there r l);
-    each_station = λ k l. any_place (λ (t : StationToken). t.station.number ≡ k) ts (station_there k l);
+    each_pass = λ r l. any_place (λ (t : PassToken). t.pass.number ≡ r) ps ((pass_there g d ps ts w e) r l);
+    each_station = λ k l. any_place (λ (t : StationToken). t.station.number ≡ k) ts ((station_there g d ps ts w e) k l);
     last = last;
     told = told;
     cancelled_by_one = λ r l is. any_place (WroteCancelled r) ts (cancelled_by_one r l is);
@@ -351,6 +291,6 @@ module _ (g : GateId) (d : DeskRecord) (ps : List PassToken) (ts : List StationT
     closed_was_written = λ r l is. let x = closed_was_written r l is in (⊎_elim (λ (o : service d r ≡ RefusedClosed). inl o) (λ (o : AnyOf (Wrote r Closed) ps). inr (any_place (Wrote r Closed) ps o)) x.0, x.1);
     refused_as_closed = λ r l is. desk_decided r RefusedClosed Closed l is refl;
     limit_was_written = λ r l is. let x = limit_was_written r l is in (any_place (LimitedIt r) ps x.0, x.1);
-    written = all_every (λ (t : PassToken). (x : Decision) → t.pass.wrote ≡ Some x → IsDecided w t.pass.number x) ps (every_map IsPassHere (λ (t : PassToken). (x : Decision) → t.pass.wrote ≡ Some x → IsDecided w t.pass.number x) ps pass_decided passes_here);
+    written = all_every (λ (t : PassToken). (x : Decision) → t.pass.wrote ≡ Some x → IsDecided w t.pass.number x) ps (every_map (IsPassHere g d ps ts w e) (λ (t : PassToken). (x : Decision) → t.pass.wrote ≡ Some x → IsDecided w t.pass.number x) ps pass_decided (passes_here g d ps ts w e));
     drained = λ back. drained (every_all IsBack ps back);
   }

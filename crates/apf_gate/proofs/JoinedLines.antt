@@ -1,5 +1,5 @@
 -- A Pass and the Desk at one seat, and the lines on a request that is handed over.
-use Rattle.std.proofs.Common.{◌≡◌, ◌≢◌, ◌⊎◌, ℕ, ◌<◌, true, false, [], ◌∷◌, length, Some, None, sym, refl, ap, ◌∙◌, subst, inl, inr, ⊎_elim}
+use Rattle.std.proofs.Common.{◌≡◌, ◌≢◌, ◌⊎◌, ℕ, ◌<◌, true, false, [], ◌∷◌, length, Option, Some, None, sym, refl, ap, ◌∙◌, subst, inl, inr, ⊎_elim}
 use mathlib.Core.Option.{some}
 use lib.ListN.{get_elem?}
 use Rattle.apf_words.specs.declared.decision.Decision.TheVariants.{QueueFull, Closed}
@@ -7,23 +7,27 @@ use Rattle.apf_model.specs.declared.moves.Stage.TheVariants.{Away}
 use Rattle.apf_model.specs.World.{World}
 use Rattle.apf_gate.specs.declared.record.Shape.{Shape}
 use Rattle.apf_gate.specs.declared.record.State.TheVariants.{InLine}
-use Rattle.apf_gate.specs.declared.record.Actor.TheVariants.{OfPass}
+use Rattle.apf_gate.specs.declared.record.Actor.TheVariants.{OfPass, OfDesk}
 use Rattle.apf_gate.specs.declared.record.Knowledge.{Knowledge}
 use Rattle.apf_gate.specs.declared.record.Service.{Service}
 use Rattle.apf_gate.specs.declared.record.Service.TheVariants.{NotHanded, Handed, RefusedFull, RefusedClosed, Waiting, Held, Settled, Left}
 use Rattle.apf_gate.specs.declared.record.PassRecord.{PassRecord}
 use Rattle.apf_gate.specs.declared.record.DeskRecord.{DeskRecord}
 use Rattle.apf_gate.specs.declared.record.Record.TheVariants.{Pass, Desk}
-use Rattle.apf_gate.specs.Records.{service}
-use Rattle.apf_gate.specs.Traces.{world_of}
+use Rattle.apf_gate.specs.Records.{service, service_of}
+use Rattle.apf_gate.specs.Traces.{world_of, entry, GoesOn}
 use Rattle.apf_gate.specs.Requests.{IsRequest, IsPassRecord, IsHanded, IsState, MayHold, stage_of, stage_of_pass, was_handed, has_entered, written}
 use Rattle.apf_gate.specs.Account.{IsKnown}
 use Rattle.apf_gate.specs.Rule.{IsRuled}
-use Rattle.apf_gate.specs.JoinedSteps.{handed_over, handed_by}
+use Rattle.apf_gate.specs.JoinedSteps.{handed_over, handed_by, Agree}
 use Rattle.apf_gate.specs.DeskCalls.{MayHand}
-use Rattle.apf_gate.proofs.Requests.{state_same, in_state, full_refused}
+use Rattle.apf_gate.proofs.Requests.{state_same, in_state, full_refused, handed_or_not}
 use Rattle.apf_gate.proofs.Views.{Table}
 use Rattle.apf_gate.proofs.DeskLines.{IsAt, is_at_desk}
+use Rattle.apf_gate.proofs.Later.{IsNext}
+use Rattle.apf_gate.proofs.Knowing.{ahead}
+use Rattle.apf_model.specs.declared.moves.Move.{Move}
+use Rattle.apf_gate.proofs.Puts.{put_else}
 
 -- a request that never entered and was not refused as full
 early : (a : Service) → has_entered a ≡ false → a ≢ RefusedFull → (a ≡ NotHanded) ⊎ ((a ≡ Handed) ⊎ (a ≡ RefusedClosed))
@@ -138,3 +142,15 @@ module _ (s : Shape) where
     word = subst (λ x. MayHold x (w.decision p.number)) (sym i.same_written) k.word;
     closed = λ e. k.closed (sym i.same_written ∙ e);
   }
+
+  -- what the two tell each other
+  pub agree : (t : Table) (h : IsRuled s t) (p : PassRecord) (d : DeskRecord) (k : AreAt t h p d) (m : Option Move) (u : Knowledge) → IsNext s OfDesk m h.account.trace → u.trace ≡ entry OfDesk m ∷ h.account.trace → Agree (record { pass = p; desk = d }) u
+  agree t h p d k m u next is = record {
+    trace = subst (λ es. GoesOn es (OfPass p.number) p.knows.trace) (sym is) (ahead s (OfPass p.number) OfDesk p.knows h.account.trace m k.known next (λ z. cc));
+    tied = k.request.tied;
+    not_handed = λ e. ⊎_elim (λ (x : service d p.number ≡ NotHanded). x) (λ (x : was_handed (service d p.number) ≡ true). absurd (let z = sym e ∙ (k.request.tied.handed ∙ x) in cc)) (handed_or_not (service d p.number));
+  }
+
+  -- a service that changes is the Desk's alone, and of this request
+  pub elsewhere : (t : Table) (h : IsRuled s t) (p : PassRecord) (d : DeskRecord) → AreAt t h p d → (a : Service) (j : ℕ) → j ≢ p.number → service_of ((p.number, a) ∷ d.services) j ≡ service h.account.desk j
+  elsewhere t h p d k a j ne = put_else (service_of d.services) p.number a j ne ∙ ap (λ (o : DeskRecord). service o j) (sym k.desk.record_is)

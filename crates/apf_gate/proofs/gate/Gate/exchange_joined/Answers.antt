@@ -2,7 +2,7 @@ use Rattle.std.proofs.Common.{arith, sym, ap, ◌∙◌}
 use Rattle.apf_words.specs.Level.{packed}
 use Rattle.apf_gate.specs.declared.record.Shape.{Shape}
 use Rattle.apf_gate.specs.Tokens.{GateId}
-use Rattle.apf_gate.proofs.JoinedSteps.{joined_exchanges_level}
+use Rattle.apf_gate.proofs.JoinedLevel.{joined_exchanges_level}
 use Rattle.apf_gate.proofs.gate.Gate.exchange_joined.Goals as goal
 
 pub compare_exchange-found-requires : goal.compare_exchange-found-requires

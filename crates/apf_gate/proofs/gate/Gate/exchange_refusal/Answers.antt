@@ -1,7 +1,7 @@
 use Rattle.std.proofs.Common.{◌<◌, length, arith, sym, ap, ◌∙◌, subst}
 use Rattle.apf_gate.specs.declared.record.Shape.{Shape}
 use Rattle.apf_gate.specs.Tokens.{GateId, both_at}
-use Rattle.apf_gate.proofs.JoinedSteps.{joined_exchanges_decision}
+use Rattle.apf_gate.proofs.JoinedDecision.{joined_exchanges_decision}
 use Rattle.apf_gate.proofs.gate.Gate.exchange_refusal.Goals as goal
 
 pub compare_exchange-requires : goal.compare_exchange-requires

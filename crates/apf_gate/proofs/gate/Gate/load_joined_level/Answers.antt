@@ -1,6 +1,6 @@
 use Rattle.std.proofs.Common.{arith, sym, ap, ◌∙◌}
 use Rattle.apf_gate.specs.Tokens.{GateId}
-use Rattle.apf_gate.proofs.JoinedSteps.{joined_loads_level}
+use Rattle.apf_gate.proofs.JoinedLevel.{joined_loads_level}
 use Rattle.apf_gate.proofs.gate.Gate.load_joined_level.Goals as goal
 
 pub load-requires : goal.load-requires

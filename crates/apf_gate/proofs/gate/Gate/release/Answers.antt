@@ -2,7 +2,7 @@ use Rattle.std.proofs.Common.{rules, ◌≡◌, ◌+◌, ◌-◌, ◌%◌, ◌^�
 use Rattle.apf_words.specs.Level.{Level, packed, AllBelow20Bits}
 use Rattle.apf_gate.specs.Tokens.{PassToken}
 use Rattle.apf_gate.specs.PassCalls.{MayRelease}
-use Rattle.apf_gate.proofs.PassLevel.{pass_subtracts_level}
+use Rattle.apf_gate.proofs.PassRelease.{pass_subtracts_level}
 use Rattle.apf_gate.proofs.gate.Gate.release.Goals as goal
 
 pub fetch_sub-found-requires : goal.fetch_sub-found-requires

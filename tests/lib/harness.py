@@ -12,7 +12,7 @@ LAUNCHER = os.path.join(TOP, "apf")
 def build():
     """The built program's path; the launcher builds it where that is needed. APF_PROGRAM names another one to test."""
     if os.environ.get("APF_PROGRAM"):
-        return os.environ["APF_PROGRAM"]
+        return os.path.abspath(os.environ["APF_PROGRAM"])
     if subprocess.run([LAUNCHER, "hash", "", ""], stdout=subprocess.DEVNULL).returncode != 0:
         # the launcher has said why
         print("0 passed, 1 failed")

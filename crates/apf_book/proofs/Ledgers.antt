@@ -1,12 +1,12 @@
 -- What each event leaves of the queues and the log.
-use Rattle.std.proofs.Common.{◌≡◌, ◌≢◌, ℕ, zero, suc, ◌+◌, ◌*◌, ◌<◌, ◌≤◌, ◌⊎◌, inl, inr, Bool, true, false, cond, not, eqb, List, [], ◌∷◌, ◌++◌, length, drop, get_or, set, reverse, Option, Some, None, length-set, get_or-set_same, get_or-set_other, refl, sym, ap, ◌∙◌, subst, arith}
-use Rattle.std.specs.Prelude.{◌||◌, if◌then◌else◌, Contains, slice_get, slice_set, filter}
+use Rattle.std.proofs.Common.{◌≡◌, ◌≢◌, ℕ, ◌<◌, ◌≤◌, inl, inr, Bool, true, false, not, eqb, List, [], ◌∷◌, ◌++◌, length, get_or, set, reverse, length-set, get_or-set_same, get_or-set_other, refl, sym, ap, ◌∙◌, subst, arith}
+use Rattle.std.specs.Prelude.{◌||◌, if◌then◌else◌, Contains, slice_set}
 use Rattle.std.proofs.lemmas.Bool.{cases_eq, eq-eqb, ne_eqb, false≢true}
 use Rattle.std.proofs.lemmas.List.{reverse-append}
 use Rattle.std.proofs.lemmas.List.Elements.{Contains-push_cases}
 use Rattle.apf_model.specs.declared.events.Event.{Event}
 use Rattle.apf_model.specs.declared.events.Event.TheVariants.{Enter, Full, Dispatch, Strike}
-use Rattle.apf_model.specs.World.{put, width}
+use Rattle.apf_model.specs.World.{width}
 use Rattle.apf_model.specs.History.{request_of, queue_of, has_arrived, waiting, MayFollow, IsLegal}
 use Rattle.apf_model.specs.Fair.{numbers, after_enter, after_dispatch}
 use Rattle.apf_model.specs.Order.{changed, AreInOrder, AreCounted, Follows}

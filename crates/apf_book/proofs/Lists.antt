@@ -1,5 +1,5 @@
 -- Members of a list, and lists of nothing.
-use Rattle.std.proofs.Common.{◌≡◌, ◌≢◌, ℕ, zero, suc, ◌<◌, ◌⊎◌, inl, inr, Bool, false, not, eqb, List, [], ◌∷◌, ◌++◌, length, drop, replicate, Option, Some, None, refl, sym, ap, ◌∙◌, subst, arith}
+use Rattle.std.proofs.Common.{◌≡◌, ◌≢◌, ℕ, zero, suc, ◌<◌, Bool, false, List, [], ◌∷◌, drop, replicate, Option, Some, None, refl, subst, arith}
 use Rattle.std.specs.Prelude.{Contains, slice_get, slice_index, slice_index_or, filter}
 use Rattle.std.proofs.lemmas.List.Elements.{All-contains, All-contains_itself, All-filter}
 

@@ -1,13 +1,12 @@
 -- The histories of a log at its places, and what is counted of a queue along them.
-use Rattle.std.proofs.Common.{◌≡◌, ◌≢◌, ℕ, zero, suc, ◌+◌, ◌-◌, ◌*◌, ◌^◌, ◌<◌, ◌≤◌, ◌⊎◌, inl, inr, Bool, true, false, cond, List, [], ◌∷◌, ◌++◌, length, take, drop, get_or, reverse, length-drop, refl, sym, ap, ◌∙◌, subst, arith}
+use Rattle.std.proofs.Common.{◌≡◌, ℕ, zero, suc, ◌+◌, ◌-◌, ◌*◌, ◌<◌, ◌≤◌, Bool, true, false, cond, List, [], ◌∷◌, ◌++◌, length, take, drop, get_or, reverse, length-drop, refl, sym, ap, ◌∙◌, subst, arith}
 use Rattle.std.specs.Prelude.{count_by, MatchOption, IfSome, Option, Some, None}
 use Rattle.std.proofs.Math.Seq.{take-add, take-length, drop-append_seam}
 use Rattle.std.proofs.lemmas.List.{take_more, drop-take, length-take-le, length-reverse, reverse-append, drop-append-le}
 use Rattle.std.proofs.lemmas.List.Sums.{sum_by-cons}
-use Rattle.std.proofs.lemmas.Bool.{cases_eq}
 use Rattle.apf_model.specs.declared.events.Event.{Event}
 use Rattle.apf_model.specs.declared.events.Event.TheVariants.{Enter, Full, Dispatch, Strike}
-use Rattle.apf_model.specs.History.{waiting, IsLegal}
+use Rattle.apf_model.specs.History.{waiting}
 use Rattle.apf_model.specs.Fair.{IsFair, service, IsNeverEmpty, widest, DifferAtMost}
 use Rattle.apf_model.specs.Order.{is_enter_into, is_dispatch_from, is_strike_from, AreCounted}
 use Rattle.apf_book.specs.Stretch.{history_at, IsBacklogged, service_in}

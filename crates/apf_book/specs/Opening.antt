@@ -1,5 +1,5 @@
 -- How a ledger begins.
-use Rattle.std.specs.Prelude.{◌≡◌, ℕ, List, [], map, length, Some}
+use Rattle.std.specs.Prelude.{◌≡◌, List, [], map, length, Some}
 use Rattle.apf_flow.specs.Fault.{fault_of}
 use Rattle.apf_flow.specs.Sizes.{IsDealable}
 use Rattle.apf_queue.specs.View.{IsShape}

@@ -1,5 +1,5 @@
 -- The queues and the log after a Dispatch.
-use Rattle.std.proofs.Common.{◌<◌, length, reverse, sym, subst, arith}
+use Rattle.std.proofs.Common.{reverse, sym, subst, arith}
 use Rattle.std.proofs.lemmas.List.{length-reverse}
 use Rattle.apf_model.specs.declared.events.Event.TheVariants as events
 use Rattle.apf_model.specs.Outcome.{is_dispatch}

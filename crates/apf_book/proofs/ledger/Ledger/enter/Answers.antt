@@ -8,7 +8,7 @@ use Rattle.apf_model.specs.History.{waiting}
 use Rattle.apf_model.specs.Outcome.{is_enter}
 use Rattle.apf_queue.specs.View.{Enters}
 use Rattle.apf_book.specs.LedgerView.{LedgerView, Arrives}
-use Rattle.apf_book.proofs.Ledgers.{Laws, reversed, sound_of, has_room, few_events, may_enter, enters}
+use Rattle.apf_book.proofs.Ledgers.{Laws, reversed, has_room, few_events, may_enter, enters}
 use Rattle.apf_book.proofs.Running.{running_after, count_within}
 use Rattle.apf_book.proofs.ledger.Ledger.enter.Goals as goal
 

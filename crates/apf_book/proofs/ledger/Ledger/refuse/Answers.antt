@@ -1,5 +1,5 @@
 -- The queues and the log after a Full.
-use Rattle.std.proofs.Common.{◌≡◌, ◌≢◌, ℕ, length, reverse, refl, sym, subst, arith}
+use Rattle.std.proofs.Common.{◌≡◌, length, reverse, sym, subst, arith}
 use Rattle.std.proofs.lemmas.List.{length-reverse}
 use Rattle.apf_model.specs.declared.events.Event.TheVariants as events
 use Rattle.apf_model.specs.History.{waiting}

@@ -1,5 +1,5 @@
 -- Who entered was dispatched, was struck or waits.
-use Rattle.std.proofs.Common.{◌≡◌, ◌+◌, ◌≤◌, arith}
+use Rattle.std.proofs.Common.{arith}
 use Rattle.apf_book.proofs.ledger.Ledger.stats.Goals as goal
 
 pub overflow_sub-result : goal.overflow_sub-result

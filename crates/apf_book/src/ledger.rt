@@ -246,3 +246,6 @@ impl<A: Allocator> Ledger<A> {
         self.log
     }
 }
+
+#[cfg(test)]
+mod tests;

@@ -1,5 +1,6 @@
 -- What the fields of a ledger keep true of one another.
 use Rattle.std.specs.Prelude.{◌≡◌, ℕ, ◌*◌, ◌≤◌, Bool, false, List, length, slice_index_or, count_by, Contains}
+use Rattle.apf_words.specs.Limits.{max_requests}
 use Rattle.apf_model.specs.declared.events.Event.{Event}
 use Rattle.apf_model.specs.World.{width}
 use Rattle.apf_model.specs.Schedule.{AreWidths}
@@ -26,7 +27,7 @@ pub record AreOfLog (v : LedgerView) (queues : QueuesView) (arrived : List Bool)
   pub names_queues : NamesQueues v.sizes.deck v.history
   pub names_requests : NamesRequests (length v.widths) v.history
   pub widths : AreWidths v.widths
-  pub few : length v.widths ≤ 10000
+  pub few : length v.widths ≤ max_requests
   pub one_hash_each : length v.hashes ≡ length v.widths
   pub one_place_each : length queues.widths ≡ length v.widths
   pub one_mark_each : length arrived ≡ length v.widths

@@ -1,5 +1,6 @@
 -- The queues and the log, as contracts see them.
 use Rattle.std.specs.Prelude.{◌≡◌, ℕ, ◌<◌, ◌≤◌, false, List, [], ◌∷◌, length, slice_get, slice_index, Some}
+use Rattle.apf_words.specs.Limits.{max_requests}
 use Rattle.apf_flow.specs.Sizes.{Sizes}
 use Rattle.apf_flow.specs.Deal.{hand_of}
 use Rattle.apf_model.specs.declared.events.Event.{Event}
@@ -34,7 +35,7 @@ pub record IsLogOf (v : LedgerView) : Type 0 where
   pub names_requests : NamesRequests (length v.widths) v.history
   pub names_queues : NamesQueues v.sizes.deck v.history
   pub widths : AreWidths v.widths
-  pub few : length v.widths ≤ 10000
+  pub few : length v.widths ≤ max_requests
 
 -- with one event more, after what the log has
 abbrev pub after : LedgerView → Event → LedgerView

@@ -1,6 +1,7 @@
 //! The queues of a level, and the log that they are of.
 
 ghost use Rattle.std.specs.Prelude.{◌≡◌, ◌≢◌, ◌↔◌, ℕ, ◌+◌, ◌<◌, ◌≤◌, length, map, reverse, IsTrue, Contains, IfOk, OnOk, IfErr, IfNone, IfSome, MatchOption};
+ghost use Rattle.apf_words.specs.Limits.{max_requests};
 ghost use Rattle.apf_model.specs.declared.events.Event.TheVariants as events;
 ghost use Rattle.apf_model.specs.History.{has_arrived, waiting, IsShortest};
 ghost use Rattle.apf_model.specs.Schedule.{AreWidths};
@@ -63,7 +64,7 @@ impl<A: Allocator + Copy> Ledger<A> {
     // here. There are at most 10,000 requests, of widths 1 to 20,000.
     pub fn new(alloc: A, config: &Config, asks: &[Ask]) -> Result<Ledger<A>, BookFault>
         requires widths { AreWidths (map (λ a. a.width) asks.now) }
-        requires few { length asks.now ≤ 10000 }
+        requires few { length asks.now ≤ max_requests }
         ensures opening { IfOk result (λ v. v ≡ opening_ledger config.now asks.now) }
         ensures settings { OnOk result (AreSettings config.now asks.now) }
         ensures sound { IfOk result IsLogOf }

@@ -1,5 +1,6 @@
 -- What the plain program's values mean.
 use Rattle.std.specs.Prelude.{◌≡◌, ◌≢◌, ℕ, ◌*◌, ◌<◌, ◌≤◌, ◌==◌, ◌||◌, Bool, List, [], ◌∷◌, length, take, drop, slice_index, slice_index_or, false, Option, Some, None}
+use Rattle.apf_words.specs.Limits.{max_limit}
 use Rattle.apf_words.specs.declared.decision.Decision.{Decision}
 use Rattle.apf_words.specs.declared.decision.Decision.TheVariants.{Execute, QueueFull, Cancelled}
 use Rattle.apf_model.specs.declared.events.Event.{Event}
@@ -34,7 +35,7 @@ world_of p =
 
 -- a limit that a plain world takes
 abbrev pub IsLowLimit : Move → Type 0
-IsLowLimit (SetLimit n) = n ≤ 10000
+IsLowLimit (SetLimit n) = n ≤ max_limit
 IsLowLimit _ = Unit {0}
 
 -- the hand of a request, where hands of this size stand one after another

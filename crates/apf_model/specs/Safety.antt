@@ -1,5 +1,6 @@
 -- What every schedule keeps.
 use Rattle.std.specs.Prelude.{◌≡◌, ◌⊎◌, ℕ, ◌+◌, ◌<◌, ◌≤◌, List, ◌∷◌, ◌++◌, length, Some, None, count_by}
+use Rattle.apf_words.specs.Limits.{max_width}
 use Rattle.apf_words.specs.declared.decision.Decision.TheVariants.{Execute, Cancelled}
 use Rattle.apf_model.specs.declared.moves.Stage.{Stage}
 use Rattle.apf_model.specs.declared.moves.Move.{Move}
@@ -30,7 +31,7 @@ pub record IsSafe (o : Opening) (schedule : List Move) : Type 0 where
   pub grant_fits_its_limit : (later earlier : List Move) (r : ℕ) → later ++ Grant r ∷ earlier ≡ schedule → FitsIn o.widths (world o earlier) r
   -- the seats pass the largest limit so far only for one over-wide grant standing alone, so they are at most the greater of that limit and the widest width
   pub alone : AreWidths o.widths → Alone o.widths (world o schedule)
-  pub bounded : (most : ℕ) → AreWidths o.widths → (world o schedule).largest ≤ most → 20000 ≤ most → seats o.widths (world o schedule) ≤ most
+  pub bounded : (most : ℕ) → AreWidths o.widths → (world o schedule).largest ≤ most → max_width ≤ most → seats o.widths (world o schedule) ≤ most
 
 -- the sums of a world: its seats and its waiters
 pub record AreSums (widths : List ℕ) (w : World) : Type 0 where

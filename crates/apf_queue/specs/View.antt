@@ -1,5 +1,6 @@
 -- The queues of a level, as contracts see them.
 use Rattle.std.specs.Prelude.{◌≡◌, ◌≢◌, ℕ, ◌-◌, ◌<◌, ◌≤◌, List, [], ◌∷◌, ◌++◌, length, drop, slice_index, slice_index_or, slice_get, slice_set, replicate, Some}
+use Rattle.apf_words.specs.Limits.{max_queues, max_queue_length, max_requests}
 use Rattle.apf_model.specs.World.{width}
 use Rattle.apf_model.specs.Fair.{Numbers, after_enter, after_dispatch, finish, IsChoice}
 use Rattle.apf_queue.specs.declared.choice.Chosen.{Chosen}
@@ -23,10 +24,10 @@ pub record QueuesView : Type 0 where
 -- the shapes that queues may have: 1 to 1,024 queues, a length limit of 1 to 10,000, at most 10,000 requests
 pub record IsQueueShape (queues length_limit requests : ℕ) : Type 0 where
   pub has_queues : 1 ≤ queues
-  pub few_queues : queues ≤ 1024
+  pub few_queues : queues ≤ max_queues
   pub has_room : 1 ≤ length_limit
-  pub little_room : length_limit ≤ 10000
-  pub few_requests : requests ≤ 10000
+  pub little_room : length_limit ≤ max_queue_length
+  pub few_requests : requests ≤ max_requests
 
 -- queues in which nothing ever was
 abbrev pub opening_view : ℕ → ℕ → ℕ → QueuesView

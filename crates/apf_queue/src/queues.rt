@@ -1,6 +1,7 @@
 //! The queues of a level.
 
 ghost use Rattle.std.specs.Prelude.{◌≡◌, ◌≢◌, ◌≤◌, ◌<◌, ◌↔◌, ℕ, List, [], ◌∷◌, ◌++◌, length, All, Contains, IsTrue, IsErr, IsErrOf, OnOk, OnErr, IfOk, IfSome, IfNone, MatchOption};
+ghost use Rattle.apf_words.specs.Limits.{max_width};
 ghost use Rattle.apf_model.specs.History.{IsShortest};
 ghost use Rattle.apf_model.specs.Fair.{opening_numbers};
 ghost use Rattle.apf_queue.specs.RingsView.{without};
@@ -11,6 +12,7 @@ use crate::choice::{Chosen, Head, better, queue_round};
 use crate::fault::{Full, QueueFault};
 use crate::rings::Rings;
 use crate::virtual_time::VirtualTime;
+use apf_words::{MAX_QUEUE_LENGTH, MAX_QUEUES, MAX_REQUESTS};
 use std::alloc::Allocator;
 use std::marker::Model;
 
@@ -49,7 +51,9 @@ impl<A: Allocator> Model for Queues<A> {
 fn is_shape(queues: u32, length_limit: u32, requests: u32) -> bool
     ensures { IsTrue result ↔ IsQueueShape queues length_limit requests }
 {
-    (1..=1_024).contains(&queues) && (1..=10_000).contains(&length_limit) && requests <= 10_000
+    (1..=MAX_QUEUES).contains(&queues)
+        && (1..=MAX_QUEUE_LENGTH).contains(&length_limit)
+        && requests <= MAX_REQUESTS
 }
 
 impl<A: Allocator + Copy> Queues<A> {
@@ -126,7 +130,7 @@ impl<A: Allocator> Queues<A> {
         requires is_queue { queue < queue_count self.old }
         requires is_request { request < request_count self.old }
         requires has_width { 1 ≤ width }
-        requires narrow { width ≤ 20000 }
+        requires narrow { width ≤ max_width }
         requires is_new { WasNeverPushed self.old request }
         ensures full { IsErr result ↔ (length (queue_in self.old queue) ≡ self.old.length_limit) }
         ensures unchanged { OnErr result (self.new ≡ self.old) }

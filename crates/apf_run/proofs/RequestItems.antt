@@ -6,7 +6,8 @@ use Rattle.serde_json.specs.Data.{Data}
 use Rattle.serde_json.specs.Find.{as_array}
 use Rattle.serde_json.specs.View.{items_view}
 use Rattle.serde_json.specs.declared.value.Value.{Value}
-use Rattle.apf_run.specs.RequestsFile.{items_count, max_requests, requests_from, requests_of}
+use Rattle.apf_words.specs.Limits.{max_requests}
+use Rattle.apf_run.specs.RequestsFile.{items_count, requests_from, requests_of}
 use Rattle.apf_run.specs.declared.requests.RequestFault.TheVariants.{TooMany}
 
 pub items_count-items_view : (vs : List Value) → items_count (items_view vs) ≡ length vs

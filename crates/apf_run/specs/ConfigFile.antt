@@ -2,6 +2,7 @@
 use Rattle.std.specs.Prelude.{ℕ, ◌≤◌, List, Bool, ◌||◌, if◌then◌else◌, Option, Some, None, option_and_then, Result, Ok, codes, bytes_eq}
 use Rattle.serde_json.specs.Data.{Data}
 use Rattle.serde_json.specs.Find.{get, as_str, as_object}
+use Rattle.apf_words.specs.Limits.{max_limit, max_queues, max_queue_length}
 use Rattle.apf_book.specs.declared.config.Config.{Config}
 use Rattle.apf_model.specs.declared.response.Response.{Response}
 use Rattle.apf_model.specs.declared.response.Response.TheVariants.{Queue, Reject}
@@ -62,10 +63,10 @@ response_at default d = response_or default (get (name_of LimitResponse) d)
 unfoldable pub config_of : Data → Result Config ConfigFault
 config_of d = do
   known ← known_object is_key NotObject UnknownKey (as_object d)
-  limit ← number_at Limit 10000 None d
-  queues ← number_at Queues 1024 (Some 64) d
+  limit ← number_at Limit max_limit None d
+  queues ← number_at Queues max_queues (Some 64) d
   hand_size ← number_at HandSize 15 (Some 8) d
-  queue_length_limit ← number_at QueueLengthLimit 10000 (Some 50) d
+  queue_length_limit ← number_at QueueLengthLimit max_queue_length (Some 50) d
   limit_response ← response_at Queue d
   Ok (record {
     limit = limit;
@@ -82,6 +83,6 @@ IsConfigOf bytes answer = IsJudgementOf NotJson config_of bytes answer
 -- each number is in its range
 abbrev pub IsConfigInRange : Config → Type 0
 IsConfigInRange config =
-    (1 ≤ config.limit) × (config.limit ≤ 10000) × (1 ≤ config.queues) × (config.queues ≤ 1024)
+    (1 ≤ config.limit) × (config.limit ≤ max_limit) × (1 ≤ config.queues) × (config.queues ≤ max_queues)
     × (1 ≤ config.hand_size) × (config.hand_size ≤ 15)
-    × (1 ≤ config.queue_length_limit) × (config.queue_length_limit ≤ 10000)
+    × (1 ≤ config.queue_length_limit) × (config.queue_length_limit ≤ max_queue_length)

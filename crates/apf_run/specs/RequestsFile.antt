@@ -2,6 +2,7 @@
 use Rattle.std.specs.Prelude.{ℕ, ◌+◌, ◌<◌, ◌≤◌, List, [], Bool, false, ◌||◌, nat_le, if◌then◌else◌, Option, Some, None, option_map, IfSome, Result, Ok, Err, codes, bytes_eq}
 use Rattle.serde_json.specs.Data.{Data, Items, no_items, item}
 use Rattle.serde_json.specs.Find.{get, as_array, as_bool, as_object, as_str}
+use Rattle.apf_words.specs.Limits.{max_requests, max_width}
 use Rattle.apf_flow.specs.Flow.{flow_hash_of}
 use Rattle.apf_run.specs.FirstFault.{◌>>=◌, or_fault, before}
 use Rattle.apf_run.specs.JsonFile.{known_object, whole_in, whole_below, IsJudgementOf}
@@ -36,10 +37,6 @@ place_of (BadWork i) = Some i
 place_of (BadCancels i) = Some i
 place_of (BadCloses i) = Some i
 place_of NoMemory = None
-
--- a file has at most this many requests
-abbrev pub max_requests : ℕ
-max_requests = 10000
 
 -- the name is that of a key
 unfoldable pub is_key : List ℕ → Bool
@@ -83,7 +80,7 @@ unfoldable pub request_of : ℕ → ℕ → Data → Result Request RequestFault
 request_of count i d = do
   known ← known_object is_key (NotObject i) (UnknownKey i) (as_object d)
   hash ← or_fault (BadFlow i) (flow_of (get (codes "hash") d) (get (codes "schema") d) (get (codes "distinguisher") d))
-  width ← or_fault (BadWidth i) (number_or 1 20000 1 (get (codes "width") d))
+  width ← or_fault (BadWidth i) (number_or 1 max_width 1 (get (codes "width") d))
   work ← or_fault (BadWork i) (number_or 0 1000000 0 (get (codes "work") d))
   cancels ← or_fault (BadCancels i) (cancels_of count (get (codes "cancels") d))
   closes ← or_fault (BadCloses i) (closes_of (get (codes "closes") d))
@@ -115,4 +112,4 @@ AreRequestsOf bytes answer = IsJudgementOf NotJson requests_of bytes answer
 -- each number is in its range, where there are so many requests
 abbrev pub IsRequestInRange : ℕ → Request → Type 0
 IsRequestInRange count request =
-    (1 ≤ request.width) × (request.width ≤ 20000) × (request.work ≤ 1000000) × IfSome request.cancels (λ n. n < count)
+    (1 ≤ request.width) × (request.width ≤ max_width) × (request.work ≤ 1000000) × IfSome request.cancels (λ n. n < count)

@@ -1,6 +1,7 @@
 -- What a script file says.
 use Rattle.std.specs.Prelude.{ℕ, ◌<◌, ◌≤◌, ⊤, ◌+◌, ◌*◌, ◌-◌, List, [], ◌∷◌, ◌++◌, length, Bool, ◌&&◌, ◌||◌, not, Option, Some, None, Result, Ok, Err, codes, bytes_eq, nat_eq, nat_le, nat_lt, if◌then◌else◌, fold, drop, slice_index, option_map}
 use Rattle.std.specs.List.{list_all, starts_with}
+use Rattle.apf_words.specs.Limits.{max_limit}
 use Rattle.apf_run.specs.FirstFault.{◌>>=◌, or_fault, before}
 use Rattle.apf_run.specs.declared.script.Command.{Command}
 use Rattle.apf_run.specs.declared.script.Command.TheVariants.{Arrive, Finish, Cancel, Close, Limit}
@@ -66,7 +67,7 @@ in_range requests line (Arrive n) = of_request requests line n (Arrive n)
 in_range requests line (Finish n) = of_request requests line n (Finish n)
 in_range requests line (Cancel n) = of_request requests line n (Cancel n)
 in_range requests line Close = Ok Close
-in_range requests line (Limit n) = if nat_le 1 n && nat_le n 10000 then Ok (Limit n) else Err (BadLimit line)
+in_range requests line (Limit n) = if nat_le 1 n && nat_le n max_limit then Ok (Limit n) else Err (BadLimit line)
 
 -- the command of the line of this number, or its fault
 unfoldable pub judged_line : ℕ → ℕ → List ℕ → Result Command ScriptFault
@@ -95,4 +96,4 @@ IsCommandInRange requests (Arrive n) = n < requests
 IsCommandInRange requests (Finish n) = n < requests
 IsCommandInRange requests (Cancel n) = n < requests
 IsCommandInRange requests Close = ⊤
-IsCommandInRange requests (Limit n) = (1 ≤ n) × (n ≤ 10000)
+IsCommandInRange requests (Limit n) = (1 ≤ n) × (n ≤ max_limit)

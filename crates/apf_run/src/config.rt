@@ -8,6 +8,7 @@ ghost use Rattle.apf_run.specs.ConfigFile.{config_of, number_at as number_at_key
 
 use crate::json::whole_number;
 use apf_book::{Config, Response};
+use apf_words::{MAX_LIMIT, MAX_QUEUE_LENGTH, MAX_QUEUES};
 use serde_json::{Map, Value};
 use std::alloc::Global;
 use std::fmt;
@@ -51,17 +52,11 @@ pub enum ConfigFault {
     NoMemory,
 }
 
-const MAX_LIMIT: u32 = 10_000;
-
-const MAX_QUEUES: u32 = 1_024;
-
 const DEFAULT_QUEUES: u32 = 64;
 
 const MAX_HAND_SIZE: u32 = 15;
 
 const DEFAULT_HAND_SIZE: u32 = 8;
-
-const MAX_QUEUE_LENGTH_LIMIT: u32 = 10_000;
 
 const DEFAULT_QUEUE_LENGTH_LIMIT: u32 = 50;
 
@@ -180,7 +175,7 @@ fn config_of_value(value: &Value) -> Result<Config, ConfigFault>
     let queue_length_limit = number_at(
         value,
         ConfigKey::QueueLengthLimit,
-        MAX_QUEUE_LENGTH_LIMIT,
+        MAX_QUEUE_LENGTH,
         Some(DEFAULT_QUEUE_LENGTH_LIMIT),
     )?;
     let limit_response = response_at(value, Response::Queue)?;

@@ -64,7 +64,7 @@ pub enum RequestFault {
     NoMemory,
 }
 
-const MAX_REQUESTS: usize = 10_000;
+const MAX_REQUESTS: usize = apf_words::MAX_REQUESTS as usize;
 
 impl RequestFault {
     /// The fault's number, 1 to 11.

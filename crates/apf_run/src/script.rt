@@ -6,6 +6,7 @@ ghost use Rattle.apf_run.specs.ScriptFile.{script_of, judged_line, in_range as i
 mod line;
 
 use crate::script::line::command_of_line;
+use apf_words::MAX_LIMIT;
 use std::alloc::Global;
 use thiserror::Error;
 
@@ -48,8 +49,6 @@ pub enum ScriptFault {
 }
 
 const MAX_LINES: u32 = 100_000;
-
-const MAX_LIMIT: u32 = 10_000;
 
 impl ScriptFault {
     /// The fault's number, 1 to 6.

@@ -16,3 +16,11 @@ max_width = 20000
 -- the most Stations
 abbrev pub max_stations : ℕ
 max_stations = 64
+
+-- the most queues
+abbrev pub max_queues : ℕ
+max_queues = 1024
+
+-- the largest length limit of a queue
+abbrev pub max_queue_length : ℕ
+max_queue_length = 10000

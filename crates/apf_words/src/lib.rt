@@ -20,5 +20,5 @@ mod tests;
 
 pub use decision::{Decision, UNDECIDED};
 pub use level_word::LevelWord;
-pub use limits::{MAX_LIMIT, MAX_REQUESTS, MAX_STATIONS, MAX_WIDTH};
+pub use limits::{MAX_LIMIT, MAX_QUEUE_LENGTH, MAX_QUEUES, MAX_REQUESTS, MAX_STATIONS, MAX_WIDTH};
 pub use seats::fits;

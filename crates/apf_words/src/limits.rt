@@ -12,3 +12,9 @@ pub const MAX_WIDTH: u32 = 20_000;
 
 /// The most Stations of a level.
 pub const MAX_STATIONS: u32 = 64;
+
+/// The most queues of a level.
+pub const MAX_QUEUES: u32 = 1_024;
+
+/// The largest length limit of a queue, in requests.
+pub const MAX_QUEUE_LENGTH: u32 = 10_000;

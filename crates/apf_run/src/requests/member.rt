@@ -9,11 +9,10 @@ ghost use Rattle.apf_run.specs.RequestsFile.{request_of, is_key, flow_of as flow
 use crate::json::{whole_number, whole_number_below};
 use crate::requests::{Request, RequestFault};
 use apf_flow::flow_hash;
+use apf_words::MAX_WIDTH;
 use serde_json::{Map, Value};
 
 const DEFAULT_WIDTH: u32 = 1;
-
-const MAX_WIDTH: u32 = 20_000;
 
 const DEFAULT_WORK: u32 = 0;
 

@@ -104,6 +104,13 @@ for line in re.findall(r"^- .*$", page, re.M):
     missing = [it for it in names if it.split("::")[-1] not in text and not os.path.isdir(os.path.join(TOP, "crates", it))]
     tally.check(f"docs/PROVED.md: the names of: {line[:60]}", missing if there and all(map(os.path.isfile, there)) else [], [])
 
+# the library's example stands in a program, which is proved and run
+page = open(os.path.join(TOP, "README.md"), encoding="utf-8").read()
+source = open(os.path.join(TOP, "crates", "apf_example", "src", "main.rt"), encoding="utf-8").read()
+shown = [body for head, body in blocks(page) if head == "rust"]
+inside = "".join(line.removeprefix("    ") + "\n" for line in source.split("\n"))
+tally.check("README.md: the example of the library", [len(shown), *(body in inside for body in shown)], [1, True])
+
 # the crates of docs/ARCHITECTURE.md are those of crates.txt, and stand on the same ones
 page = open(os.path.join(TOP, "docs", "ARCHITECTURE.md"), encoding="utf-8").read().split("# The finished product")[0]
 shown = {name: sorted(re.findall(r"`(\w+)`", below)) for name, below in re.findall(r"^\| `(\w+)` \|[^|]*\|([^|]*)\|[^|]*\|$", page, re.M)}

@@ -128,7 +128,7 @@ Balanced = (queues : ℕ) (widths : List ℕ) (hands : ℕ → List ℕ) (limit 
     → DifferAtMost (2 * widest widths) (service widths stretch a) (service widths stretch b)
 
 module _ (law : Balanced) (log : List Event) (widths : List ℕ) (from to a b : ℕ) (in_order : from ≤ to) (in_log : to ≤ length log) where
-  services_differ : IsBacklogged log from to a → IsBacklogged log from to b → (queues : ℕ) (hands : ℕ → List ℕ) (limit : ℕ) → IsFair queues widths hands limit (reverse log) → a < queues → b < queues
+  pub services_differ : IsBacklogged log from to a → IsBacklogged log from to b → (queues : ℕ) (hands : ℕ → List ℕ) (limit : ℕ) → IsFair queues widths hands limit (reverse log) → a < queues → b < queues
       → DifferAtMost (2 * widest widths) (service_in widths log from to a) (service_in widths log from to b)
   services_differ some_a some_b queues hands limit fair la lb =
       let near = law queues widths hands limit (reverse (take (length log - to) (drop to log))) (stretch log from to in_order in_log) (history_at log from) a b

@@ -1,6 +1,6 @@
 //! The queues of a level, and the log that they are of.
 
-ghost use Rattle.std.specs.Prelude.{◌≡◌, ◌≢◌, ◌↔◌, ℕ, ◌+◌, ◌<◌, ◌≤◌, length, map, reverse, IsTrue, Contains, IfOk, OnOk, IfErr, IfNone, IfSome, MatchOption};
+ghost use Rattle.std.specs.Prelude.{◌≡◌, ◌≢◌, ◌↔◌, ℕ, ◌+◌, ◌*◌, ◌<◌, ◌≤◌, length, map, reverse, IsTrue, Contains, IfOk, OnOk, IfErr, IfNone, IfSome, MatchOption};
 ghost use Rattle.apf_words.specs.Limits.{max_requests};
 ghost use Rattle.apf_model.specs.declared.events.Event.TheVariants as events;
 ghost use Rattle.apf_model.specs.History.{has_arrived, waiting, IsShortest};
@@ -9,12 +9,14 @@ ghost use Rattle.apf_model.specs.Outcome.{stats_of};
 ghost use Rattle.apf_book.specs.Opening.{opening_ledger, IsFaultOf, AreSettings};
 ghost use Rattle.apf_book.specs.LedgerView.{hand_in, after, IsLogOf, Arrives, NothingWaits, IsNext};
 ghost use Rattle.apf_book.specs.LedgerKept.{AreStats};
+ghost use Rattle.apf_book.specs.Stretch.{IsBacklogged, service_in};
+ghost use Rattle.apf_model.specs.Fair.{widest, DifferAtMost};
 
 use crate::config::{Ask, Config};
 use crate::fault::BookFault;
 use crate::stats::Stats;
 use apf_flow::Dealer;
-use apf_model::{Event, every_legal_history_is_in_order};
+use apf_model::{Event, every_fair_history_is_balanced, every_legal_history_is_in_order};
 use apf_queue::{Chosen, QueueFault, Queues};
 use std::alloc::{AllocError, Allocator};
 use std::marker::Model;
@@ -231,11 +233,18 @@ impl<A: Allocator> Ledger<A> {
         }
     }
 
-    // The log, the oldest event first.
+    // The log, the oldest event first. In every stretch of it in which two queues are never empty,
+    // their services differ by at most twice the largest width.
     pub fn log(&self) -> &[Event]
         ensures log { reverse result.now ≡ self.now.history }
         ensures sound { IsLogOf self.now }
+        ensures balanced { (from to a b : ℕ) → from ≤ to → to ≤ length result.now
+            → a < self.now.sizes.deck → b < self.now.sizes.deck
+            → IsBacklogged result.now from to a → IsBacklogged result.now from to b
+            → DifferAtMost (2 * widest self.now.widths) (service_in self.now.widths result.now from to a)
+            (service_in self.now.widths result.now from to b) }
     {
+        every_fair_history_is_balanced();
         self.log.as_slice()
     }
 

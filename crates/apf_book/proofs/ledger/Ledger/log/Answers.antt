@@ -1,0 +1,21 @@
+-- The law of every fair history, at the stretches of the log.
+use Rattle.std.proofs.Common.{◌≡◌, ◌<◌, ◌≤◌, ◌*◌, ◌∙◌, ℕ, List, length, reverse, ap, sym, subst}
+use Rattle.apf_model.specs.declared.events.Event.{Event}
+use Rattle.apf_model.specs.Fair.{DifferAtMost, widest, IsFair}
+use Rattle.apf_book.specs.LedgerView.{LedgerView, HasFairLog, hand_in}
+use Rattle.apf_book.specs.Stretch.{IsBacklogged, service_in}
+use Rattle.apf_book.proofs.Stretches.{Balanced, services_differ}
+use Rattle.apf_book.proofs.ledger.Ledger.log.Goals as goal
+
+balanced : Balanced → (v : LedgerView) (log : List Event) → reverse log ≡ v.history → HasFairLog v
+    → (from to a b : ℕ) → from ≤ to → to ≤ length log → a < v.sizes.deck → b < v.sizes.deck → IsBacklogged log from to a → IsBacklogged log from to b
+    → DifferAtMost (2 * widest v.widths) (service_in v.widths log from to a) (service_in v.widths log from to b)
+balanced law v log is fair from to a b in_order in_log la lb some_a some_b =
+    services_differ law log v.widths from to a b in_order in_log some_a some_b v.sizes.deck (hand_in v) v.limit
+    (subst (IsFair v.sizes.deck v.widths (hand_in v) v.limit) (sym is) fair) la lb
+
+pub returns-clause-balanced : goal.returns-clause-balanced
+returns-clause-balanced g c =
+    let is : reverse c.as_slice.result.now ≡ c.args.self.now.history =
+    ap (λ (xs : List Event). reverse xs) c.as_slice.ensures.value ∙ ap (λ (w : LedgerView). w.history) c.self.view_is in
+    balanced c.every_fair_history_is_balanced.ensures.balanced c.args.self.now c.as_slice.result.now is (subst HasFairLog c.self.view_is c.self.invariant.0.fair)

@@ -2,7 +2,7 @@
 use Rattle.std.specs.Prelude.{◌≡◌, List, [], map, length, Some}
 use Rattle.apf_flow.specs.Fault.{fault_of}
 use Rattle.apf_flow.specs.Sizes.{IsDealable}
-use Rattle.apf_queue.specs.View.{IsShape}
+use Rattle.apf_queue.specs.View.{IsQueueShape}
 use Rattle.apf_queue.specs.declared.fault.QueueFault.TheVariants as queue
 use Rattle.apf_book.specs.declared.config.Config.{Config}
 use Rattle.apf_book.specs.declared.config.Ask.{Ask}
@@ -23,10 +23,10 @@ opening_ledger c asks =
 
 -- the settings make a dealer and queues
 abbrev pub AreSettings : Config → List Ask → Type 0
-AreSettings c asks = IsDealable c.queues c.hand_size × IsShape c.queues c.queue_length_limit (length asks)
+AreSettings c asks = IsDealable c.queues c.hand_size × IsQueueShape c.queues c.queue_length_limit (length asks)
 
 -- the first fault: the dealer's, the queues', want of memory
 abbrev pub IsFaultOf : Config → List Ask → BookFault → Type 0
 IsFaultOf c asks (Dealer f) = fault_of c.queues c.hand_size ≡ Some f
-IsFaultOf c asks (Queues f) = IsDealable c.queues c.hand_size × (f ≡ queue.BadShape) × (¬ IsShape c.queues c.queue_length_limit (length asks))
+IsFaultOf c asks (Queues f) = IsDealable c.queues c.hand_size × (f ≡ queue.BadShape) × (¬ IsQueueShape c.queues c.queue_length_limit (length asks))
 IsFaultOf c asks NoMemory = AreSettings c asks

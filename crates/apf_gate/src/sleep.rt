@@ -7,11 +7,12 @@ use std::alloc::Allocator;
 use std::sync::Wait;
 
 impl<A: Allocator> Gate<A> {
-    /// Sleeps if the request is undecided, until it is decided. It may also return for no reason, so read
-    /// the decision again.
+    /// Sleeps while the request is undecided. It is for a request that waits, or whose seats the Desk holds:
+    /// `settle` and `cancel`, which alone decide such a one, wake those who sleep once they wrote. Who is
+    /// decided by its own Pass or refused is woken by nobody. It may also return for no reason, so read the
+    /// decision again.
     ///
-    /// It is no step: the kernel compares the decision word and sleeps in one, and `settle` and `cancel`,
-    /// which alone decide a request that waits, wake those who sleep once they wrote.
+    /// It is no step: the kernel compares the decision word and sleeps in one.
     pub fn park<R: Wait>(&self, rt: &R, request: u32)
         requires is_request { request < length self.now.shape.widths }
     {

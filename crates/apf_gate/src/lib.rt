@@ -39,6 +39,3 @@ pub use laws::{every_end_agrees, no_step_is_hidden};
 pub use open::Opened;
 pub use pass::Pass;
 pub use station::Station;
-
-#[cfg(test)]
-mod tests;

@@ -1,6 +1,6 @@
 //! Each allocation refused in turn.
 
-use crate::{Gate, GateFault};
+use apf_gate::{Gate, GateFault};
 use apf_model::Response;
 use apf_short::Refusing;
 

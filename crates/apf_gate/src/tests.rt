@@ -1,6 +1,0 @@
-//! Tests of the gate.
-
-mod levels;
-mod memory;
-mod rows;
-mod threads;

@@ -1,0 +1,48 @@
+//! The tests of `apf_gate`, by its public calls alone.
+//!
+//! They stand in a crate of their own, as a crate with tests is proved twice. In one thread:
+//!
+//! - `rows`: worked examples, from a gate's opening to its end, `cancels` those of cancelled requests.
+//! - `levels`: over-wide requests, levels without queues, limits. `refusals`: closing and refusing.
+//! - `faults`: why a gate is not opened. `sizes`: the smallest gate and the largest.
+//! - `memory`: each allocation refused in turn.
+//! - `parking`: nobody sleeps on a request that is decided.
+//!
+//! In threads beside one another, whose steps come in any order. Such a test says which orders it is for,
+//! makes rounds until each of them came (`rounds` has the delays between them, `gates` what they begin with),
+//! and fails if one never does:
+//!
+//! - `serving`: requests that take seats while limits change.
+//! - `cancelling`: eight that cancel a request which waits, or which the Desk grants.
+//! - `closing`: eight that close a level.
+//! - `sleeping`: those who sleep until a request is decided.
+#![tactic(auto)]
+
+#[cfg(test)]
+mod cancelling;
+#[cfg(test)]
+mod cancels;
+#[cfg(test)]
+mod closing;
+#[cfg(test)]
+mod faults;
+#[cfg(test)]
+mod gates;
+#[cfg(test)]
+mod levels;
+#[cfg(test)]
+mod memory;
+#[cfg(test)]
+mod parking;
+#[cfg(test)]
+mod refusals;
+#[cfg(test)]
+mod rounds;
+#[cfg(test)]
+mod rows;
+#[cfg(test)]
+mod serving;
+#[cfg(test)]
+mod sizes;
+#[cfg(test)]
+mod sleeping;

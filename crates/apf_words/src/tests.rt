@@ -1,4 +1,6 @@
-use crate::{Decision, LevelWord, fits};
+use crate::{
+    Decision, LevelWord, MAX_LIMIT, MAX_REQUESTS, MAX_STATIONS, MAX_WIDTH, UNDECIDED, fits,
+};
 use std::test::Fail;
 
 #[test]
@@ -26,6 +28,7 @@ fn codes(rt: HostRuntime) {
     assert_eq!(rt; Decision::of_code(5), Some(Decision::ConcurrencyLimit));
     assert_eq!(rt; Decision::of_code(6), None);
     assert_eq!(rt; Decision::of_code(0), None);
+    assert_eq!(rt; UNDECIDED, 0);
     assert_eq!(rt; Decision::Execute.code(), 1);
     assert_eq!(rt; Decision::Cancelled.code(), 4);
 }
@@ -46,4 +49,35 @@ fn fitting(rt: HostRuntime) {
             "{width} beside {seats} of {limit}"
         );
     }
+}
+
+// An open level of limit 7 with 4 that wait and 3 seats in use is 7 * 2^40 + 4 * 2^20 + 3, and the bit of a
+// closed one is 2^63.
+#[test]
+fn changes(rt: HostRuntime) -> Result<(), Fail> {
+    assert_eq!(rt; LevelWord::opening(1).pack(), 1099511627776);
+    assert_eq!(rt; LevelWord::opening(10_000).pack(), 10995116277760000);
+    for (is_closed, bit) in [(false, 0), (true, 9223372036854775808)] {
+        let level = LevelWord::new(is_closed, 4, 3, 7).ok_or("in range")?;
+        assert_eq!(rt; level.with_seats(2).pack(), bit | 7696585588741);
+        assert_eq!(rt; level.with_waiter().pack(), bit | 7696586637315);
+        assert_eq!(rt; level.with_grant(2).pack(), bit | 7696584540165);
+        assert_eq!(rt; level.with_limit(9).pack(), bit | 9895608844291);
+        let word = level.pack();
+        assert_eq!(rt; word, bit | 7696585588739);
+        let released = word.wrapping_sub(LevelWord::to_release(2));
+        assert_eq!(rt; released, bit | 7696585588737);
+        let left = word.wrapping_sub(LevelWord::to_leave());
+        assert_eq!(rt; left, bit | 7696584540163);
+        assert_eq!(rt; word | LevelWord::to_close(), 9223379733440364547);
+    }
+    Ok(())
+}
+
+#[test]
+fn limits(rt: HostRuntime) {
+    assert_eq!(rt; MAX_LIMIT, 10_000);
+    assert_eq!(rt; MAX_REQUESTS, 10_000);
+    assert_eq!(rt; MAX_WIDTH, 20_000);
+    assert_eq!(rt; MAX_STATIONS, 64);
 }

@@ -3,14 +3,5 @@ pub mod Places
 pub mod Counts
 pub mod Decided
 pub mod Seats
-pub mod VirtualTime
 pub mod PlainWorlds
 pub mod Small
-pub mod Lists
-pub mod Waiting
-pub mod Statuses
-pub mod Numbers
-pub mod QueueOrder
-pub mod Balance
-pub mod Choices
-pub mod Agreement

@@ -8,7 +8,7 @@ use Rattle.apf_model.specs.declared.moves.Stage.{Stage}
 use Rattle.apf_model.specs.declared.moves.Stage.TheVariants.{Away, Waits, Stands, Gone}
 use Rattle.apf_model.specs.declared.moves.Move.{Move}
 use Rattle.apf_model.specs.declared.moves.Move.TheVariants.{Take, Enter, Grant, Leave, Decide, Release, Close, SetLimit, See}
-use Rattle.apf_model.specs.Tally.{tally}
+use Rattle.apf_history.specs.Tally.{tally}
 use Rattle.apf_model.specs.World.{Opening, World, put, seats_at, width, seats, after, FitsIn}
 use Rattle.apf_model.specs.Schedule.{world, IsSchedule, AreWidths, StandsAlone, Alone}
 use Rattle.apf_model.proofs.Sums.{put_here, put_else, tally_member, tally_nothing, tally_one, moved}

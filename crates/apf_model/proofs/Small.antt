@@ -2,7 +2,7 @@
 use Rattle.std.proofs.Common.{◌≡◌, ℕ, ◌+◌, ◌<◌, ◌≤◌, List, length, ⊎_elim, arith}
 use Rattle.apf_model.specs.declared.moves.Stage.{Stage}
 use Rattle.apf_model.specs.declared.moves.Stage.TheVariants.{Stands}
-use Rattle.apf_model.specs.Tally.{tally}
+use Rattle.apf_history.specs.Tally.{tally}
 use Rattle.apf_model.specs.World.{World, put, seats_at, width, seats, FitsIn}
 use Rattle.apf_model.specs.Schedule.{AreWidths}
 use Rattle.apf_model.proofs.Sums.{moved}

@@ -5,7 +5,7 @@ use mathlib.Core.Logic.{dite}
 use native.Mathlib.Decide.{ℕ_discrete}
 use Rattle.apf_model.specs.declared.moves.Stage.{Stage}
 use Rattle.apf_model.specs.declared.moves.Stage.TheVariants.{Away, Waits, Stands, Gone}
-use Rattle.apf_model.specs.Tally.{tally}
+use Rattle.apf_history.specs.Tally.{tally}
 use Rattle.apf_model.specs.World.{World, put, seats_at, waits_at, width, seats, waiters}
 
 pub put_here : {A : Type 0} (f : ℕ → A) (r : ℕ) (a : A) → put f r a r ≡ a

@@ -1,10 +1,10 @@
-pub mod Tally
 pub mod World
 pub mod Schedule
-pub mod History
-pub mod Fair
-pub mod Outcome
-pub mod Order
 pub mod Plain
 pub mod PlainWorld
 pub mod Safety
+pub use Rattle.apf_history.specs.Tally
+pub use Rattle.apf_history.specs.History
+pub use Rattle.apf_history.specs.Fair
+pub use Rattle.apf_history.specs.Outcome
+pub use Rattle.apf_history.specs.Order

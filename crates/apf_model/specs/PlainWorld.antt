@@ -2,7 +2,7 @@
 use Rattle.std.specs.Prelude.{ℕ, List, length, slice_index_or}
 use Rattle.apf_model.specs.declared.moves.Stage.{Stage}
 use Rattle.apf_model.specs.declared.moves.Stage.TheVariants.{Away}
-use Rattle.apf_model.specs.Tally.{tally}
+use Rattle.apf_history.specs.Tally.{tally}
 use Rattle.apf_model.specs.World.{seats_at, width}
 
 -- the stage of a request

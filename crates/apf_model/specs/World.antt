@@ -1,5 +1,5 @@
 -- The world of a level, and the steps that change it. Requests are named by their numbers.
-use Rattle.std.specs.Prelude.{◌≡◌, ◌≢◌, ℕ, ◌<◌, ◌==◌, if◌then◌else◌, max, Bool, true, false, List, length, slice_index, Option, Some, None}
+use Rattle.std.specs.Prelude.{◌≡◌, ◌≢◌, ℕ, ◌<◌, max, Bool, true, false, List, length, Option, Some, None}
 use Rattle.apf_words.specs.Fits.{Fits}
 use Rattle.apf_words.specs.declared.decision.Decision.{Decision}
 use Rattle.apf_words.specs.declared.decision.Decision.TheVariants.{Execute, QueueFull, Closed, Cancelled, ConcurrencyLimit}
@@ -9,7 +9,8 @@ use Rattle.apf_model.specs.declared.moves.Stage.{Stage}
 use Rattle.apf_model.specs.declared.moves.Stage.TheVariants.{Away, Waits, Stands, Gone}
 use Rattle.apf_model.specs.declared.moves.Move.{Move}
 use Rattle.apf_model.specs.declared.moves.Move.TheVariants.{Take, Enter, Grant, Leave, Decide, Release, Close, SetLimit, See}
-use Rattle.apf_model.specs.Tally.{tally}
+use Rattle.apf_history.specs.Tally.{tally}
+pub use Rattle.apf_history.specs.Numbered.{put, width}
 
 -- what a level is opened with: its limit, its response, and the widths of its requests in order
 pub record Opening : Type 0 where
@@ -40,10 +41,6 @@ opening_world o =
       saw_no_room = λ _. false;
       decision = λ _. None;
     }
-
--- the request's width
-abbrev pub width : List ℕ → ℕ → ℕ
-width widths r = slice_index widths r
 
 -- the requests that have not come
 abbrev pub HasNotCome : World → ℕ → Type 0
@@ -145,10 +142,6 @@ Allowed widths (Release r) w = MayRelease widths w r
 Allowed widths Close w = Unit {0}
 Allowed widths (SetLimit n) w = Unit {0}
 Allowed widths (See r) w = MaySee widths w r
-
--- f, but a at r
-abbrev pub put : {A : Type 0} → (ℕ → A) → ℕ → A → ℕ → A
-put f r a j = if j == r then a else f j
 
 -- the world after a step. What isn't named stays
 abbrev pub after : Move → World → World

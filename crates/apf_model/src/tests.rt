@@ -1,5 +1,3 @@
 //! Worked examples, run against the definitions by the plain program.
 
-mod histories;
-mod judges;
 mod worlds;

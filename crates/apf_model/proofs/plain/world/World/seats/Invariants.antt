@@ -1,6 +1,6 @@
 -- The seats so far.
 use Rattle.std.proofs.Common.{◌≡◌}
-use Rattle.apf_model.specs.Tally.{tally}
+use Rattle.apf_history.specs.Tally.{tally}
 use Rattle.apf_model.specs.World.{seats_at, width}
 use Rattle.apf_model.specs.PlainWorld.{stage_in}
 use Rattle.apf_model.proofs.plain.world.World.seats.Given as goal

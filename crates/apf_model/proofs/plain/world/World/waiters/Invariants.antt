@@ -1,6 +1,6 @@
 -- The waiters so far.
 use Rattle.std.proofs.Common.{◌≡◌}
-use Rattle.apf_model.specs.Tally.{tally}
+use Rattle.apf_history.specs.Tally.{tally}
 use Rattle.apf_model.specs.World.{waits_at}
 use Rattle.apf_model.specs.PlainWorld.{stage_in}
 use Rattle.apf_model.proofs.plain.world.World.waiters.Given as goal

@@ -1,0 +1,10 @@
+pub mod Sums
+pub mod Lists
+pub mod Waiting
+pub mod Statuses
+pub mod Numbers
+pub mod QueueOrder
+pub mod VirtualTime
+pub mod Balance
+pub mod Choices
+pub mod Agreement

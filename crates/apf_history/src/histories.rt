@@ -1,0 +1,49 @@
+//! What every legal history keeps, and every fair one.
+
+ghost use Rattle.std.specs.Prelude.{ℕ, ◌*◌, ◌<◌, List, ◌++◌, length};
+ghost use Rattle.apf_history.specs.declared.events.Event.{Event};
+ghost use Rattle.apf_history.specs.History.{MayFollow, IsLegal};
+ghost use Rattle.apf_history.specs.Fair.{IsFair, service, IsNeverEmpty, widest, DifferAtMost};
+ghost use Rattle.apf_history.specs.Order.{AreInOrder, AreStatuses, AreCounted, Follows};
+
+/// Every legal history is in order: for any hands of the requests, any length limit, and events that
+/// each may follow those before it.
+///
+/// For each queue, the requests that entered it, in order, with the struck ones left out, are those
+/// that were dispatched from it, in order, followed by those that wait in it. Nobody enters or is
+/// dispatched twice; who waits stands once and in one queue; no queue is above its limit
+/// (`AreInOrder`). What became of a request is what the history has of it (`AreStatuses`), and who
+/// entered was dispatched, was struck or waits (`AreCounted`). An event that may follow finds its
+/// request away, or waiting, and changes its own queue alone (`Follows`).
+///
+/// Each beginning of a legal history is legal, so all of this holds at every place of it. It runs no
+/// code: the contract is the law.
+pub fn every_legal_history_is_in_order()
+    ensures beginnings { (hands : ℕ → List ℕ) (limit : ℕ) (later earlier : List Event)
+        → IsLegal hands limit (later ++ earlier) → IsLegal hands limit earlier }
+    ensures order { (hands : ℕ → List ℕ) (limit : ℕ) (h : List Event)
+        → IsLegal hands limit h → AreInOrder limit h }
+    ensures statuses { (hands : ℕ → List ℕ) (limit : ℕ) (h : List Event)
+        → IsLegal hands limit h → AreStatuses h }
+    ensures numbers { (hands : ℕ → List ℕ) (limit : ℕ) (h : List Event)
+        → IsLegal hands limit h → AreCounted h }
+    ensures follows { (hands : ℕ → List ℕ) (limit : ℕ) (h : List Event) (e : Event)
+        → IsLegal hands limit h → MayFollow hands limit h e → Follows h e }
+{}
+
+/// Every fair history is balanced: in every stretch of it in which two queues are never empty, both
+/// ends included, their services differ by at most twice the largest width of the requests.
+///
+/// The stretch stands between what came later and what came earlier. The two queues are among those
+/// that the choice goes over. Each beginning of a fair history is fair. It runs no code: the contract
+/// is the law.
+pub fn every_fair_history_is_balanced()
+    ensures beginnings { (queues : ℕ) (widths : List ℕ) (hands : ℕ → List ℕ) (limit : ℕ) (later earlier : List Event)
+        → IsFair queues widths hands limit (later ++ earlier) → IsFair queues widths hands limit earlier }
+    ensures balanced { (queues : ℕ) (widths : List ℕ) (hands : ℕ → List ℕ) (limit : ℕ)
+        (later stretch earlier : List Event) (a b : ℕ)
+        → IsFair queues widths hands limit (later ++ (stretch ++ earlier)) → a < queues → b < queues
+        → IsNeverEmpty (stretch ++ earlier) (length stretch) a
+        → IsNeverEmpty (stretch ++ earlier) (length stretch) b
+        → DifferAtMost (2 * widest widths) (service widths stretch a) (service widths stretch b) }
+{}

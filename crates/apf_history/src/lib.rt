@@ -1,0 +1,20 @@
+//! Histories of the queues: what may follow, what every legal history keeps, and every fair one.
+//!
+//! The definitions stand in `specs/` and are the product's public meaning: histories (`History`) and
+//! their order (`Order`), the choice of a queue and virtual time (`Fair`), and what is reported
+//! (`Outcome`).
+//! In the order of the data's way:
+//!
+//! - `events`: the events of a history, and what they make of a request.
+//! - `histories`: every legal history is in order, and every fair one balanced.
+//! - `plain`: the definitions computed, plainly and slowly, on small inputs.
+#![tactic(auto)]
+
+mod events;
+mod histories;
+pub mod plain;
+#[cfg(test)]
+mod tests;
+
+pub use events::{Event, Status};
+pub use histories::{every_fair_history_is_balanced, every_legal_history_is_in_order};

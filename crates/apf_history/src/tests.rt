@@ -1,0 +1,4 @@
+//! Worked examples, run against the definitions by the plain program.
+
+mod histories;
+mod judges;

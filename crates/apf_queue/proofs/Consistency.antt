@@ -17,7 +17,7 @@ use Rattle.apf_queue.proofs.Places.{split_at, length-out, Contains-without}
 put_same : {A : Type 0} (f : ℕ → A) (p : ℕ) (x : A) → put f p x p ≡ x
 put_same f p x = ap (λ (b : Bool). cond b x (f p)) (eq-eqb p p refl)
 
-put_other : {A : Type 0} (f : ℕ → A) (p : ℕ) (x : A) (q : ℕ) → q ≢ p → put f p x q ≡ f q
+pub put_other : {A : Type 0} (f : ℕ → A) (p : ℕ) (x : A) (q : ℕ) → q ≢ p → put f p x q ≡ f q
 put_other f p x q ne = ap (λ (b : Bool). cond b x (f q)) (ne_eqb q p ne)
 
 -- a queue's number after a put is bounded as the others are
@@ -51,13 +51,13 @@ pushed_more widths r k l none has =
     omega arith
 
 -- the rings with other requests in a queue
-abbrev with_queue : RingsView → ℕ → List ℕ → RingsView
+abbrev pub with_queue : RingsView → ℕ → List ℕ → RingsView
 with_queue rings q xs = record { queues = set rings.queues q xs; requests = rings.requests }
 
-with_queue_here : (rings : RingsView) (q : ℕ) (xs : List ℕ) → q < length rings.queues → ring (with_queue rings q xs) q ≡ xs
+pub with_queue_here : (rings : RingsView) (q : ℕ) (xs : List ℕ) → q < length rings.queues → ring (with_queue rings q xs) q ≡ xs
 with_queue_here rings q xs l = get_or-set_same rings.queues q xs [] l
 
-with_queue_else : (rings : RingsView) (q : ℕ) (xs : List ℕ) (p : ℕ) → p ≢ q → ring (with_queue rings q xs) p ≡ ring rings p
+pub with_queue_else : (rings : RingsView) (q : ℕ) (xs : List ℕ) (p : ℕ) → p ≢ q → ring (with_queue rings q xs) p ≡ ring rings p
 with_queue_else rings q xs p ne = get_or-set_other rings.queues q p xs [] ne
 
 count_with : (rings : RingsView) (q : ℕ) (xs : List ℕ) → q < length rings.queues → sum_by length (set rings.queues q xs) + length (ring rings q) ≡ sum_by length rings.queues + length xs
@@ -221,7 +221,7 @@ zeros zero i = refl
 zeros (suc n) zero = refl
 zeros (suc n) (suc i) = zeros n i
 
-empties : (n i : ℕ) → get_or (replicate {A = List ℕ} n []) i [] ≡ []
+pub empties : (n i : ℕ) → get_or (replicate {A = List ℕ} n []) i [] ≡ []
 empties zero i = refl
 empties (suc n) zero = refl
 empties (suc n) (suc i) = empties n i

@@ -4,4 +4,6 @@ pub mod RingLists
 pub mod RingSteps
 pub mod RingsOpening
 pub mod Round
+pub mod Tree
 pub mod Consistency
+pub mod Kept

@@ -1,9 +1,8 @@
-//! The head that is dispatched from next.
+//! What is dispatched next.
 
-ghost use Rattle.std.specs.Prelude.{◌≡◌, ◌≢◌, ◌≤◌, ℕ, ◌+◌, ◌<◌, []};
+ghost use Rattle.std.specs.Prelude.{ℕ, ◌<◌, ◌≤◌};
 ghost use Rattle.apf_model.specs.Fair.{steps_round};
-ghost use Rattle.apf_queue.specs.View.{QueuesView, queue_count, queue_in};
-ghost use Rattle.apf_queue.specs.Scan.{IsBestRound, finish_in, steps_to};
+ghost use Rattle.apf_queue.specs.Finishes.{IsReachedBy};
 
 /// What is dispatched next.
 #[derive(Clone, Copy, Debug, PartialEq, Eq)]
@@ -16,33 +15,13 @@ pub struct Chosen {
     pub width: u32,
 }
 
-// A queue that is not empty, with its virtual finish.
-#[derive(Clone, Copy)]
-pub struct Head {
-    pub queue: u32,
-    pub finish: u64,
-}
-
-// The queue that is reached in this many steps, counting round from the queue after the robin.
-pub fn queue_round(queues: u32, robin: u32, steps: u32) -> u32
+// The queue after the robin, from which the count goes round.
+pub fn queue_after(queues: u32, robin: u32) -> u32
     requires is_queue { robin < queues }
-    requires once_round { steps < queues }
     requires few { queues ≤ 1024 }
     ensures is_queue { result < queues }
-    ensures steps { steps_round queues robin result ≡ steps }
-    ensures only { (q : ℕ) → q < queues → steps_round queues robin q ≡ steps → q ≡ result }
+    ensures round { (q p : ℕ) → q < queues → p < queues → IsReachedBy result q p → steps_round queues robin q ≤ steps_round queues robin p }
 {
-    (robin + 1 + steps) % queues
-}
-
-// The better of the best head so far and one that is reached next: the first of least finish.
-pub fn better(best: Option<Head>, head: Head) -> Head
-    ensures { (s : QueuesView) (n : ℕ) → IsBestRound s n best → head.queue < queue_count s → steps_to s head.queue ≡ n
-        → ((q : ℕ) → q < queue_count s → steps_to s q ≡ n → q ≡ head.queue)
-        → queue_in s head.queue ≢ [] → head.finish ≡ finish_in s head.queue → IsBestRound s (n + 1) (Some result) }
-{
-    match best {
-        Some(first) if first.finish <= head.finish => first,
-        _ => head,
-    }
+    let after = robin + 1;
+    if after < queues { after } else { 0 }
 }

@@ -7,12 +7,14 @@
 //! - `links`: rings of nodes that are linked both ways, over two slices.
 //! - `rings`: one ring for each queue, in which a request can be taken out of any place.
 //! - `virtual_time`: what a request that enters or is dispatched does to the numbers.
+//! - `finishes`: the least of the virtual finishes, and where it stands first.
 //! - `choice`: the head that is dispatched from next.
 //! - `queues`: the queues themselves.
 #![tactic(auto)]
 
 mod choice;
 mod fault;
+mod finishes;
 mod links;
 mod queues;
 mod rings;

@@ -1,15 +1,16 @@
 //! The queues of a level.
 
-ghost use Rattle.std.specs.Prelude.{◌≡◌, ◌≢◌, ◌≤◌, ◌<◌, ◌↔◌, ℕ, List, [], ◌∷◌, ◌++◌, length, All, Contains, IsTrue, IsErr, IsErrOf, OnOk, OnErr, IfOk, IfSome, IfNone, MatchOption};
+ghost use Rattle.std.specs.Prelude.{◌≡◌, ◌≢◌, ◌≤◌, ◌<◌, ◌↔◌, ◌+◌, ◌^◌, ℕ, List, [], ◌∷◌, ◌++◌, length, slice_index, All, Contains, IsTrue, IsErr, IsErrOf, OnOk, OnErr, IfOk, IfSome, IfNone, MatchOption};
 ghost use Rattle.apf_words.specs.Limits.{max_width};
 ghost use Rattle.apf_model.specs.History.{IsShortest};
-ghost use Rattle.apf_model.specs.Fair.{opening_numbers};
+ghost use Rattle.apf_model.specs.Fair.{opening_numbers, IsChoice};
 ghost use Rattle.apf_queue.specs.RingsView.{without};
 ghost use Rattle.apf_queue.specs.View.{IsQueueShape, opening_view, queue_count, request_count, queue_in, numbers_in, WasNeverPushed, NothingWaits, Enters, struck, Dispatches, IsHead, IsChosen, AreSmall};
-ghost use Rattle.apf_queue.specs.Scan.{IsBestRound, finish_in, steps_to};
+ghost use Rattle.apf_queue.specs.Consistent.{finish_at};
 
-use crate::choice::{Chosen, Head, better, queue_round};
+use crate::choice::{Chosen, queue_after};
 use crate::fault::{Full, QueueFault};
+use crate::finishes::{Finishes, NO_FINISH};
 use crate::rings::Rings;
 use crate::virtual_time::VirtualTime;
 use apf_words::{MAX_QUEUE_LENGTH, MAX_QUEUES, MAX_REQUESTS};
@@ -25,13 +26,15 @@ pub struct Queues<A: Allocator> {
     rings: Rings<A>,
     widths: Vec<u32, A>,
     time: VirtualTime<A>,
+    // The virtual finish of each queue, so that the least is found at once.
+    finishes: Finishes<A>,
     waiting: u32,
 }
 
 // Clauses see the queues as lists of requests, with the numbers of virtual time.
 impl<A: Allocator> Model for Queues<A> {
     ghost use Rattle.apf_queue.specs.View.{QueuesView};
-    ghost use Rattle.apf_queue.specs.Consistent.{AreConsistent};
+    ghost use Rattle.apf_queue.specs.Consistent.{AreKept};
 
     ghost Value = { QueuesView };
 
@@ -44,7 +47,7 @@ impl<A: Allocator> Model for Queues<A> {
       length_limit = s.length_limit;
     } };
 
-    ghost invariant = { λ s. AreConsistent s.rings s.widths.items s.time s.waiting s.length_limit };
+    ghost invariant = { λ s. AreKept s.rings s.widths.items s.time s.finishes s.waiting s.length_limit };
 }
 
 // Whether the numbers are in range.
@@ -54,6 +57,25 @@ fn is_shape(queues: u32, length_limit: u32, requests: u32) -> bool
     (1..=MAX_QUEUES).contains(&queues)
         && (1..=MAX_QUEUE_LENGTH).contains(&length_limit)
         && requests <= MAX_REQUESTS
+}
+
+// The virtual finish of the queue, or `NO_FINISH` if it is empty.
+fn finish_in<A: Allocator>(
+    rings: &Rings<A>,
+    widths: &[u32],
+    time: &VirtualTime<A>,
+    queue: u32,
+) -> u64
+    requires is_queue { queue < length rings.now.queues }
+    requires one_next_each { length time.now.next ≡ length rings.now.queues }
+    requires one_width_each { length widths.now ≡ rings.now.requests }
+    requires fits { (r : ℕ) → slice_index time.now.next queue + slice_index widths.now r < 2 ^ 64 }
+    ensures { result ≡ finish_at rings.now widths.now time.now queue }
+{
+    match rings.first(queue) {
+        None => NO_FINISH,
+        Some(request) => time.finish(queue, widths[request as usize]),
+    }
 }
 
 impl<A: Allocator + Copy> Queues<A> {
@@ -86,6 +108,7 @@ impl<A: Allocator + Copy> Queues<A> {
             rings: Rings::new(alloc, queues, requests)?,
             widths: vec![in alloc; 0; requests as usize]?,
             time: VirtualTime::new(alloc, queues)?,
+            finishes: Finishes::new(alloc, queues)?,
             waiting: 0,
         })
     }
@@ -144,6 +167,8 @@ impl<A: Allocator> Queues<A> {
         self.widths[request as usize] = width;
         self.time.enter(queue, len);
         self.waiting += 1;
+        let finish = finish_in(&self.rings, &self.widths, &self.time, queue);
+        self.finishes.set(queue, finish);
         Ok(())
     }
 
@@ -159,6 +184,8 @@ impl<A: Allocator> Queues<A> {
     {
         let queue = self.rings.remove(request)?;
         self.waiting -= 1;
+        let finish_left = finish_in(&self.rings, &self.widths, &self.time, queue);
+        self.finishes.set(queue, finish_left);
         Some(queue)
     }
 
@@ -169,11 +196,8 @@ impl<A: Allocator> Queues<A> {
         ensures chosen { MatchOption result (NothingWaits self.now) (IsChosen self.now) }
         ensures small { AreSmall self.now }
     {
-        if self.waiting == 0 {
-            return None;
-        }
-        let head = self.best_head()?;
-        self.chosen_of(head.queue)
+        let queue = self.choice()?;
+        self.chosen_of(queue)
     }
 
     /// Dispatches what `choose` gives now: takes it out of its queue, and moves the numbers of
@@ -185,6 +209,8 @@ impl<A: Allocator> Queues<A> {
         let _ = self.rings.remove(chosen.request);
         self.time.dispatch(chosen.queue, chosen.width);
         self.waiting -= 1;
+        let finish_left = finish_in(&self.rings, &self.widths, &self.time, chosen.queue);
+        self.finishes.set(chosen.queue, finish_left);
     }
 
     // How many queues there are.
@@ -207,37 +233,14 @@ impl<A: Allocator> Queues<A> {
         })
     }
 
-    // The virtual finish of the queue, or `None` if it is empty.
-    fn finish_of(&self, queue: u32) -> Option<u64>
-        requires { queue < queue_count self.now }
-        ensures { MatchOption result (queue_in self.now queue ≡ []) (λ f. (queue_in self.now queue ≢ []) × (f ≡ finish_in self.now queue)) }
+    // The queue of least virtual finish that is reached first when counting round from the queue after
+    // the robin, or `None` if nothing waits.
+    fn choice(&self) -> Option<u32>
+        ensures chosen { MatchOption result (NothingWaits self.now) (IsChoice (queue_count self.now) self.now.widths (queue_in self.now) (numbers_in self.now)) }
+        ensures small { AreSmall self.now }
     {
-        let request = self.rings.first(queue)?;
-        Some(self.time.finish(queue, self.widths[request as usize]))
-    }
-
-    // The queue of least virtual finish that is reached first when counting round.
-    fn best_head(&self) -> Option<Head>
-        ensures { IsBestRound self.now (queue_count self.now) result }
-    {
-        let mut best: Option<Head> = None;
-        for steps in 0..self.queue_count() {
-            let queue = self.queue_round(steps);
-            if let Some(finish) = self.finish_of(queue) {
-                best = Some(better(best, Head { queue, finish }));
-            }
-        }
-        best
-    }
-
-    // The queue that is reached in this many steps, counting round from the queue after the robin.
-    fn queue_round(&self, steps: u32) -> u32
-        requires { steps < queue_count self.now }
-        ensures is_queue { result < queue_count self.now }
-        ensures steps { steps_to self.now result ≡ steps }
-        ensures only { (q : ℕ) → q < queue_count self.now → steps_to self.now q ≡ steps → q ≡ result }
-    {
-        queue_round(self.queue_count(), self.time.robin(), steps)
+        let after = queue_after(self.queue_count(), self.time.robin());
+        self.finishes.first_least(after)
     }
 }
 

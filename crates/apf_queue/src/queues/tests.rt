@@ -1,8 +1,6 @@
 ghost use Rattle.std.specs.Prelude.{◌≡◌, ◌<◌, ◌≤◌, ℕ, Bool, false, true, length, slice_index, slice_index_or, IfOk, All};
 
 mod checked;
-mod random;
-mod slow;
 
 use super::*;
 use apf_short::Refusing;
@@ -167,13 +165,13 @@ fn shapes(rt: HostRuntime) {
 
 #[test]
 fn each_refusal_of_memory_is_told(rt: HostRuntime) {
-    for refused in 1..7 {
+    for refused in 1..8 {
         let alloc = Refusing::new(rt.alloc(), refused);
         let made = Queues::new(&alloc, 3, 10, 10);
         assert!(rt; alloc.has_refused());
         assert!(rt; matches!(made, Err(QueueFault::NoMemory)), "at {refused}");
     }
-    let alloc = Refusing::new(rt.alloc(), 7);
+    let alloc = Refusing::new(rt.alloc(), 8);
     let made = Queues::new(&alloc, 3, 10, 10);
     assert!(rt; made.is_ok());
     assert!(rt; !alloc.has_refused());

@@ -84,9 +84,6 @@ impl Checked {
     }
 
     fn finish(&self, queue: u32) -> Option<u64> {
-        if queue >= self.queue_count {
-            return None;
-        }
-        self.queues.finish_of(queue)
+        self.queues.finishes.at(queue)
     }
 }

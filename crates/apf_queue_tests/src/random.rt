@@ -1,7 +1,8 @@
 //! Many random calls, whose answers are compared with those of plain lists.
 
-use super::checked::Checked;
-use super::slow::Slow;
+use crate::checked::Checked;
+use crate::draws::Xorshift;
+use crate::slow::Slow;
 use std::process::Abort;
 use std::test::Fail;
 
@@ -10,24 +11,6 @@ const QUEUES: u32 = 8;
 const LENGTH_LIMIT: u32 = 5;
 
 const REQUESTS: u32 = 10_000;
-
-// Marsaglia's xorshift of 64 bits.
-#[derive(Drop)]
-struct Xorshift(u64);
-
-impl Xorshift {
-    fn next(&mut self) -> u64 {
-        self.0 ^= self.0 << 13;
-        self.0 ^= self.0 >> 7;
-        self.0 ^= self.0 << 17;
-        self.0
-    }
-
-    // A number below this one, which is not 0.
-    fn below(&mut self, count: u32) -> u32 {
-        (self.next() % u64::from(count.max(1))) as u32
-    }
-}
 
 // How often each kind of answer came.
 #[derive(Default, Drop)]
@@ -108,7 +91,7 @@ fn call(
 
 #[test]
 fn answers_are_those_of_plain_lists(rt: HostRuntime) -> Result<(), Fail> {
-    let mut random = Xorshift(88_172_645_463_325_252);
+    let mut random = Xorshift::new(88_172_645_463_325_252);
     let mut queues = Checked::new(rt.alloc(), QUEUES, LENGTH_LIMIT, REQUESTS)?;
     let mut slow = Slow::new(rt.alloc(), QUEUES, LENGTH_LIMIT)?;
     let mut seen = Seen::default();

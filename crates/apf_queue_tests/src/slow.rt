@@ -1,6 +1,6 @@
 //! Queues as plain lists: slowly, and by the rules alone.
 
-use crate::Chosen;
+use apf_queue::Chosen;
 use std::alloc::{AllocError, Global};
 
 // A list of requests and a number for each queue.

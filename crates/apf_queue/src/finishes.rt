@@ -1,0 +1,155 @@
+//! The least of the queues' virtual finishes, and where it stands first.
+//!
+//! The finishes are the leaves of a binary tree in one list: node 1 is its root, the nodes 2i and 2i + 1
+//! stand under node i, and each node that has two under it holds the least of them. There are as many
+//! leaves as the next power of two, so that the leaves stand in the order of the queues.
+
+ghost use Rattle.std.specs.Prelude.{◌≡◌, ◌≢◌, ℕ, ◌+◌, ◌*◌, ◌^◌, ◌<◌, ◌≤◌, length, drop, slice_index, slice_set, IfOk, IfSome, IfNone};
+ghost use Rattle.std.specs.Int.{IsPowerOfTwo};
+ghost use Rattle.apf_queue.specs.Finishes.{no_finish, AreLeast, IsOver, IsFirstUnder, IsFirstRound, IsFirstLeastFrom};
+
+use std::alloc::{AllocError, Allocator};
+use std::marker::Model;
+
+/// What stands in place of the virtual finish of a queue in which nothing waits: above each finish.
+pub const NO_FINISH: u64 = u64::MAX;
+
+// The finishes of the queues, and the least of them.
+#[derive(Drop)]
+pub struct Finishes<A: Allocator> {
+    leaves: usize,
+    least: Vec<u64, A>,
+}
+
+// Clauses see the finishes alone, and not what the tree holds of them.
+impl<A: Allocator> Model for Finishes<A> {
+    ghost use Rattle.std.specs.Prelude.{ℕ, List, drop};
+    ghost use Rattle.apf_queue.specs.Finishes.{AreLeast};
+
+    ghost Value = { List ℕ };
+
+    ghost view = { λ s. drop s.leaves s.least.items };
+
+    ghost invariant = { λ s. AreLeast s.leaves s.least.items };
+}
+
+// How many leaves serve this many queues: a power of two.
+fn leaf_count(queues: u32) -> usize
+    requires few { queues ≤ 2 ^ 31 }
+    ensures power { IsPowerOfTwo result }
+    ensures room { queues ≤ result }
+    ensures few { result < 2 ^ 32 }
+{
+    (queues as usize).next_power_of_two()
+}
+
+// Puts the finish at the leaf, and sets the nodes above it as far as their least changes.
+fn put(least: &mut [u64], leaves: usize, leaf: usize, finish: u64)
+    requires least { AreLeast leaves least.old }
+    requires is_leaf { leaves ≤ leaf }
+    requires is_node { leaf < 2 * leaves }
+    ensures least { AreLeast leaves least.new }
+    ensures leaves { drop leaves least.new ≡ drop leaves (slice_set least.old leaf finish) }
+{
+    least[leaf] = finish;
+    let mut node = leaf;
+    while node > 1 {
+        node /= 2;
+        let lower = least[2 * node].min(least[2 * node + 1]);
+        if least[node] == lower {
+            return;
+        }
+        least[node] = lower;
+    }
+}
+
+// The first leaf under the node that holds what the node holds.
+fn first_under(least: &[u64], leaves: usize, node: usize) -> usize
+    requires least { AreLeast leaves least.now }
+    requires above { 1 ≤ node }
+    requires is_node { node < 2 * leaves }
+    ensures { (h : ℕ) → IsOver leaves h node → IsFirstUnder least.now h node result }
+{
+    if node >= leaves {
+        return node;
+    }
+    if least[2 * node] == least[node] {
+        first_under(least, leaves, 2 * node)
+    } else {
+        first_under(least, leaves, 2 * node + 1)
+    }
+}
+
+// The first leaf that holds what the root holds, counting round from the first leaf under the node.
+//
+// Where none does under the node, the count goes on at the leaf after these: the first one under the
+// next node, or under the one above it if that begins there too. After the last leaf of all the
+// number of the next node is that of one which begins at the first leaf.
+fn first_round(least: &[u64], leaves: usize, node: usize) -> usize
+    requires least { AreLeast leaves least.now }
+    requires above { 1 ≤ node }
+    requires is_node { node < 2 * leaves }
+    ensures { (h : ℕ) → IsOver leaves h node → IsFirstRound least.now leaves (node * 2 ^ h) result }
+{
+    if least[node] == least[1] {
+        first_under(least, leaves, node)
+    } else {
+        first_round(least, leaves, (node + 1) / 2)
+    }
+}
+
+impl<A: Allocator> Finishes<A> {
+    // This many queues, in none of which anything waits.
+    pub fn new(alloc: A, queues: u32) -> Result<Finishes<A>, AllocError>
+        requires few { queues ≤ 2 ^ 31 }
+        ensures room { IfOk result (λ s. queues ≤ length s) }
+        ensures empty { IfOk result (λ s. (q : ℕ) → q < length s → slice_index s q ≡ no_finish) }
+    {
+        let leaves = leaf_count(queues);
+        Ok(Finishes {
+            leaves,
+            least: vec![in alloc; NO_FINISH; 2 * leaves]?,
+        })
+    }
+}
+
+impl<A: Allocator> Finishes<A> {
+    // The finish of the queue is this one from now on.
+    pub fn set(&mut self, queue: u32, finish: u64)
+        requires { queue < length self.old }
+        ensures { self.new ≡ slice_set self.old queue finish }
+    {
+        let leaf = self.leaves + queue as usize;
+        put(&mut self.least, self.leaves, leaf, finish);
+    }
+
+    // The queue of least finish, and among equals the first one when counting round from this queue,
+    // or `None` if nothing waits in any.
+    pub fn first_least(&self, from: u32) -> Option<u32>
+        requires { from < length self.now }
+        ensures none { IfNone result ((q : ℕ) → q < length self.now → no_finish ≤ slice_index self.now q) }
+        ensures some { IfSome result (IsFirstLeastFrom self.now from) }
+    {
+        let least: &[u64] = &self.least;
+        if least[1] >= NO_FINISH {
+            return None;
+        }
+        let leaf = first_round(least, self.leaves, self.leaves + from as usize);
+        Some((leaf - self.leaves) as u32)
+    }
+}
+
+#[cfg(test)]
+impl<A: Allocator> Finishes<A> {
+    // The finish of a queue, if there is such a queue and something waits there.
+    pub fn at(&self, queue: u32) -> Option<u64> {
+        let finish = self
+            .least
+            .get(self.leaves.checked_add(queue as usize)?)
+            .copied()?;
+        if finish == NO_FINISH {
+            return None;
+        }
+        Some(finish)
+    }
+}

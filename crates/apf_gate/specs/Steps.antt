@@ -99,7 +99,7 @@ OnDecision {Token} Does token number token' = OfDecision (λ found. Does token f
 
 -- an exchange of a decision word, which is made if it finds that of an undecided request
 abbrev pub OnDecisionIf : {Token : Type 0} → (Token → Token → Type 0) → (Token → Option Decision → Token → Type 0) → Tells Token
-OnDecisionIf {Token} Exchanges Misses token number token' = OfDecision (λ found. MatchBool (number == 0) (Exchanges token token') (Misses token found token')) number
+OnDecisionIf {Token} Exchanges Misses token number token' = OfDecision (λ found. MatchBool (number == code_in None) (Exchanges token token') (Misses token found token')) number
 
 -- an exchange that writes the code of some decision
 abbrev pub Writing : {Token : Type 0} → ℕ → (Decision → Tells Token) → Tells Token

@@ -1,6 +1,7 @@
 //! The token of whoever holds the level's lock, and its steps.
 
 ghost use Rattle.std.specs.Prelude.{◌≡◌, ◌≢◌, ◌⊎◌, ◌∷◌, ℕ, ◌<◌, ◌≤◌, ◌==◌, length, not, true, false, MatchBool, Option, Some, None};
+ghost use Rattle.apf_words.specs.Codes.{code_in};
 ghost use Rattle.apf_words.specs.Fits.{Fits};
 ghost use Rattle.apf_words.specs.Level.{Level};
 ghost use Rattle.apf_words.specs.declared.decision.Decision.TheVariants.{Execute, Cancelled};
@@ -209,7 +210,7 @@ impl<A: Allocator> Gate<A> {
         requires own { desk_gate desk.old ≡ self.now }
         requires holds { desk.old.desk.held ≡ Some request }
         ensures gate { desk_gate desk.new ≡ desk_gate desk.old }
-        ensures found { OfDecision (λ found. MatchBool (result == 0) (DeskExchangesDecision request desk.old.desk desk.new.desk) (DeskMissesDecision request desk.old.desk found desk.new.desk)) result }
+        ensures found { OfDecision (λ found. MatchBool (result == code_in None) (DeskExchangesDecision request desk.old.desk desk.new.desk) (DeskMissesDecision request desk.old.desk found desk.new.desk)) result }
         ensures more { KnowsMore desk.old.desk.knows desk.new.desk.knows }
     {
         let word = request as usize + 1;

@@ -1,6 +1,7 @@
 //! The steps of the Desk with a Pass joined to it.
 
 ghost use Rattle.std.specs.Prelude.{◌≡◌, ◌≢◌, ◌⊎◌, [], ◌∷◌, ◌+◌, ◌==◌, true, false, MatchBool, Option, Some, None};
+ghost use Rattle.apf_words.specs.Codes.{code_in};
 ghost use Rattle.apf_words.specs.Level.{Level};
 ghost use Rattle.apf_words.specs.declared.decision.Decision.{Decision};
 ghost use Rattle.apf_words.specs.declared.decision.Decision.TheVariants.{QueueFull, Closed, Cancelled};
@@ -210,7 +211,7 @@ impl<A: Allocator> Gate<A> {
         requires may { MayHand (both_at seat.old.me) }
         requires refusal { MayRefuse (both_at seat.old.me).desk decision }
         ensures own { AreBoth self.now seat.new.table_id seat.new.me }
-        ensures found { OfDecision (λ found. MatchBool (result == 0)
+        ensures found { OfDecision (λ found. MatchBool (result == code_in None)
             (JoinedExchangesDecision decision (both_at seat.old.me) (both_at seat.new.me))
             (JoinedMissesDecision (both_at seat.old.me) found (both_at seat.new.me))) result }
         ensures more { KnowsMore (both_at seat.old.me).desk.knows (both_at seat.new.me).desk.knows }

@@ -1,6 +1,7 @@
 //! The token that cancels, closes, changes the limit and looks.
 
 ghost use Rattle.std.specs.Prelude.{◌≡◌, ◌≢◌, ◌⊎◌, ◌↔◌, ◌<◌, ◌≤◌, ◌==◌, length, not, true, false, MatchBool, Option, Some, None};
+ghost use Rattle.apf_words.specs.Codes.{code_in};
 ghost use Rattle.apf_words.specs.Level.{Level};
 ghost use Rattle.apf_words.specs.declared.decision.Decision.TheVariants.{Cancelled};
 ghost use Rattle.apf_gate.specs.Records.{told_of, KnowsMore};
@@ -148,7 +149,7 @@ impl<A: Allocator> Gate<A> {
         requires own { station_gate station.old ≡ self.now }
         requires is_request { request < length self.now.shape.widths }
         ensures gate { station_gate station.new ≡ station_gate station.old }
-        ensures found { OfDecision (λ found. MatchBool (result == 0) (StationExchangesDecision request station.old.station station.new.station) (StationLoadsDecision request station.old.station found station.new.station)) result }
+        ensures found { OfDecision (λ found. MatchBool (result == code_in None) (StationExchangesDecision request station.old.station station.new.station) (StationLoadsDecision request station.old.station found station.new.station)) result }
         ensures more { KnowsMore station.old.station.knows station.new.station.knows }
     {
         let word = request as usize + 1;

@@ -4,8 +4,8 @@ use Rattle.std.specs.Prelude.{◌||◌, if◌then◌else◌, Contains, slice_set
 use Rattle.std.proofs.lemmas.Bool.{cases_eq, eq-eqb, ne_eqb, false≢true}
 use Rattle.std.proofs.lemmas.List.{reverse-append}
 use Rattle.std.proofs.lemmas.List.Elements.{Contains-push_cases}
-use Rattle.apf_model.specs.declared.events.Event.{Event}
-use Rattle.apf_model.specs.declared.events.Event.TheVariants.{Enter, Full, Dispatch, Strike}
+use Rattle.apf_history.specs.declared.events.Event.{Event}
+use Rattle.apf_history.specs.declared.events.Event.TheVariants.{Enter, Full, Dispatch, Strike}
 use Rattle.apf_model.specs.World.{width}
 use Rattle.apf_model.specs.History.{request_of, queue_of, has_arrived, waiting, MayFollow, IsLegal}
 use Rattle.apf_model.specs.Fair.{numbers, after_enter, after_dispatch}

@@ -1,3 +1,9 @@
+pub mod Puts
+pub mod Knowing
+pub mod Moving
+pub mod Keeping
+pub mod Arriving
+pub mod Turning
 pub mod Lists
 pub mod Ledgers
 pub mod Nexts

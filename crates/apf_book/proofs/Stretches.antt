@@ -4,8 +4,8 @@ use Rattle.std.specs.Prelude.{count_by, MatchOption, IfSome, Option, Some, None}
 use Rattle.std.proofs.Math.Seq.{take-add, take-length, drop-append_seam}
 use Rattle.std.proofs.lemmas.List.{take_more, drop-take, length-take-le, length-reverse, reverse-append, drop-append-le}
 use Rattle.std.proofs.lemmas.List.Sums.{sum_by-cons}
-use Rattle.apf_model.specs.declared.events.Event.{Event}
-use Rattle.apf_model.specs.declared.events.Event.TheVariants.{Enter, Full, Dispatch, Strike}
+use Rattle.apf_history.specs.declared.events.Event.{Event}
+use Rattle.apf_history.specs.declared.events.Event.TheVariants.{Enter, Full, Dispatch, Strike}
 use Rattle.apf_model.specs.History.{waiting}
 use Rattle.apf_model.specs.Fair.{IsFair, service, IsNeverEmpty, widest, DifferAtMost}
 use Rattle.apf_model.specs.Order.{is_enter_into, is_dispatch_from, is_strike_from, AreCounted}

@@ -1,6 +1,6 @@
 -- What is counted of a queue along a log.
 use Rattle.std.specs.Prelude.{◌≡◌, ◌+◌, ◌*◌, ◌^◌, ◌≤◌, ℕ, if◌then◌else◌, List, length}
-use Rattle.apf_model.specs.declared.events.Event.{Event}
+use Rattle.apf_history.specs.declared.events.Event.{Event}
 use Rattle.apf_model.specs.History.{waiting}
 use Rattle.apf_model.specs.Order.{is_enter_into, is_dispatch_from, is_strike_from}
 use Rattle.apf_book.specs.declared.stretch.Count.{Count}

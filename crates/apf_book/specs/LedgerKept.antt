@@ -1,7 +1,7 @@
 -- What the fields of a ledger keep true of one another.
 use Rattle.std.specs.Prelude.{◌≡◌, ℕ, ◌*◌, ◌≤◌, Bool, false, List, length, slice_index_or, count_by, Contains}
 use Rattle.apf_words.specs.Limits.{max_requests}
-use Rattle.apf_model.specs.declared.events.Event.{Event}
+use Rattle.apf_history.specs.declared.events.Event.{Event}
 use Rattle.apf_model.specs.World.{width}
 use Rattle.apf_model.specs.Schedule.{AreWidths}
 use Rattle.apf_model.specs.History.{NamesRequests, NamesQueues, has_arrived, waiting}

@@ -3,7 +3,7 @@ use Rattle.std.specs.Prelude.{◌≡◌, ℕ, ◌<◌, ◌≤◌, false, List, [
 use Rattle.apf_words.specs.Limits.{max_requests}
 use Rattle.apf_flow.specs.Sizes.{Sizes}
 use Rattle.apf_flow.specs.Deal.{hand_of}
-use Rattle.apf_model.specs.declared.events.Event.{Event}
+use Rattle.apf_history.specs.declared.events.Event.{Event}
 use Rattle.apf_model.specs.World.{width}
 use Rattle.apf_model.specs.Schedule.{AreWidths}
 use Rattle.apf_model.specs.History.{NamesRequests, NamesQueues, has_arrived, waiting, IsShortest}

@@ -3,3 +3,8 @@ pub mod LedgerKept
 pub mod Opening
 pub mod Stretch
 pub mod Counted
+pub mod BookView
+pub mod Moves
+pub mod Arrivals
+pub mod Servings
+pub mod Laws

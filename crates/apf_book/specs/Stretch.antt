@@ -1,6 +1,6 @@
 -- Stretches of a log, which has its oldest event first. Place k of a log is after its first k events.
 use Rattle.std.specs.Prelude.{◌≡◌, ◌≢◌, ℕ, ◌≤◌, List, [], take, drop, reverse}
-use Rattle.apf_model.specs.declared.events.Event.{Event}
+use Rattle.apf_history.specs.declared.events.Event.{Event}
 use Rattle.apf_model.specs.History.{waiting}
 use Rattle.apf_model.specs.Fair.{service}
 

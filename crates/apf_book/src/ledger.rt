@@ -2,7 +2,7 @@
 
 ghost use Rattle.std.specs.Prelude.{◌≡◌, ◌≢◌, ◌↔◌, ℕ, ◌+◌, ◌*◌, ◌<◌, ◌≤◌, length, map, reverse, IsTrue, Contains, IfOk, OnOk, IfErr, IfNone, IfSome, MatchOption};
 ghost use Rattle.apf_words.specs.Limits.{max_requests};
-ghost use Rattle.apf_model.specs.declared.events.Event.TheVariants as events;
+ghost use Rattle.apf_history.specs.declared.events.Event.TheVariants as events;
 ghost use Rattle.apf_model.specs.History.{has_arrived, waiting, IsShortest};
 ghost use Rattle.apf_model.specs.Schedule.{AreWidths};
 ghost use Rattle.apf_model.specs.Outcome.{stats_of};

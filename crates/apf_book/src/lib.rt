@@ -1,4 +1,5 @@
-//! The book of a priority level: what a level is opened with, its queues and its log.
+//! The book of a priority level: what a level is opened with, its queues and its log, and the Desk that
+//! steps for them.
 //!
 //! In the order of the data's way:
 //!
@@ -7,18 +8,31 @@
 //! - `ledger`: the queues, and the log that they are of.
 //! - `stats`: the numbers of a log.
 //! - `stretch`: the services of two queues in a stretch of a log.
+//! - `arrived`: what becomes of an arrival.
+//! - `handing`: an arrival is handed to the Desk.
+//! - `serving`: the Desk serves the head of a queue.
+//! - `book`: the ledger with the Desk.
+//! - `laws`: what is true of every book.
 #![tactic(auto)]
 
+mod arrived;
+mod book;
 mod config;
 mod fault;
+mod handing;
+mod laws;
 mod ledger;
+mod serving;
 mod stats;
 mod stretch;
 #[cfg(test)]
 mod tests;
 
 pub use apf_model::Response;
+pub use arrived::Arrived;
+pub use book::Book;
 pub use config::{Ask, Config};
 pub use fault::BookFault;
+pub use laws::{every_book_is_kept, every_ended_book_agrees};
 pub use stats::Stats;
 pub use stretch::balance;

@@ -1,7 +1,7 @@
 //! The services of two queues in a stretch of a log.
 
 ghost use Rattle.std.specs.Prelude.{◌≡◌, ◌⊎◌, ◌*◌, ◌+◌, ◌^◌, ◌<◌, ◌≤◌, ◌∷◌, ℕ, List, length, reverse, All, MatchOption, IfSome};
-ghost use Rattle.apf_model.specs.declared.events.Event.{Event};
+ghost use Rattle.apf_history.specs.declared.events.Event.{Event};
 ghost use Rattle.apf_model.specs.History.{request_of, IsLegal};
 ghost use Rattle.apf_model.specs.Fair.{IsFair, service, widest, DifferAtMost};
 ghost use Rattle.apf_book.specs.Stretch.{IsEmptyIn, IsBacklogged, service_in};

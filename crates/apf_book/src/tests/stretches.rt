@@ -2,7 +2,7 @@
 
 ghost use Rattle.std.specs.Prelude.{◌≡◌, ◌<◌, ◌↔◌, length, reverse, All, IfOk, OnOk, IsTrue};
 ghost use Rattle.apf_model.specs.History.{request_of, IsLegal};
-ghost use Rattle.apf_model.specs.Plain.{hand_in};
+ghost use Rattle.apf_history.specs.Plain.{hand_in};
 
 use apf_model::Event::{self, Dispatch, Enter};
 use apf_model::plain::is_legal;

@@ -1,7 +1,7 @@
 -- One event more, by the laws of the histories before and after it.
 use Rattle.std.proofs.Common.{◌+◌, ◌≤◌, ℕ, List, length, get_or, reverse, ap, ◌∙◌, sym, arith}
-use Rattle.apf_model.specs.declared.events.Event.{Event}
-use Rattle.apf_model.specs.declared.events.Event.TheVariants.{Enter}
+use Rattle.apf_history.specs.declared.events.Event.{Event}
+use Rattle.apf_history.specs.declared.events.Event.TheVariants.{Enter}
 use Rattle.apf_model.specs.History.{IsLegal}
 use Rattle.apf_model.specs.Fair.{service}
 use Rattle.apf_book.proofs.Stretches.{leaving_at, waiting_at, coming_one, stretch_more, stretch_none}

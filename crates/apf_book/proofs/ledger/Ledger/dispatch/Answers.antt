@@ -1,7 +1,7 @@
 -- The queues and the log after a Dispatch.
 use Rattle.std.proofs.Common.{reverse, sym, subst, arith}
 use Rattle.std.proofs.lemmas.List.{length-reverse}
-use Rattle.apf_model.specs.declared.events.Event.TheVariants as events
+use Rattle.apf_history.specs.declared.events.Event.TheVariants as events
 use Rattle.apf_model.specs.Outcome.{is_dispatch}
 use Rattle.apf_book.specs.LedgerView.{LedgerView, IsNext}
 use Rattle.apf_book.proofs.Lists.{first_contains}

@@ -2,7 +2,7 @@
 use Rattle.std.proofs.Common.{◌≡◌, ◌≢◌, ℕ, length, reverse, refl, sym, subst, arith}
 use Rattle.std.proofs.lemmas.List.{length-reverse}
 use Rattle.std.proofs.lemmas.Option.{get_or_from_slice_get, slice_get_read}
-use Rattle.apf_model.specs.declared.events.Event.TheVariants as events
+use Rattle.apf_history.specs.declared.events.Event.TheVariants as events
 use Rattle.apf_model.specs.World.{width}
 use Rattle.apf_model.specs.History.{waiting}
 use Rattle.apf_model.specs.Outcome.{is_enter}

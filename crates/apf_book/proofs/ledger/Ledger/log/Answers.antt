@@ -1,6 +1,6 @@
 -- The law of every fair history, at the stretches of the log.
 use Rattle.std.proofs.Common.{◌≡◌, ◌<◌, ◌≤◌, ◌*◌, ◌∙◌, ℕ, List, length, reverse, ap, sym, subst}
-use Rattle.apf_model.specs.declared.events.Event.{Event}
+use Rattle.apf_history.specs.declared.events.Event.{Event}
 use Rattle.apf_model.specs.Fair.{DifferAtMost, widest, IsFair}
 use Rattle.apf_book.specs.LedgerView.{LedgerView, HasFairLog, hand_in}
 use Rattle.apf_book.specs.Stretch.{IsBacklogged, service_in}

@@ -1,7 +1,7 @@
 -- The queues and the log after a Full.
 use Rattle.std.proofs.Common.{◌≡◌, length, reverse, sym, subst, arith}
 use Rattle.std.proofs.lemmas.List.{length-reverse}
-use Rattle.apf_model.specs.declared.events.Event.TheVariants as events
+use Rattle.apf_history.specs.declared.events.Event.TheVariants as events
 use Rattle.apf_model.specs.History.{waiting}
 use Rattle.apf_model.specs.Outcome.{is_full}
 use Rattle.apf_book.specs.LedgerView.{LedgerView, Arrives}

@@ -2,7 +2,7 @@
 use Rattle.std.proofs.Common.{◌<◌, ℕ, List, Some, length, reverse, refl, sym, subst, arith}
 use Rattle.std.specs.Prelude.{Contains}
 use Rattle.std.proofs.lemmas.List.{length-reverse}
-use Rattle.apf_model.specs.declared.events.Event.TheVariants as events
+use Rattle.apf_history.specs.declared.events.Event.TheVariants as events
 use Rattle.apf_model.specs.History.{waiting}
 use Rattle.apf_model.specs.Outcome.{is_strike}
 use Rattle.apf_book.specs.LedgerView.{LedgerView}

@@ -1,5 +1,5 @@
 -- The log is legal for the hands that were judged.
-use Rattle.apf_model.specs.Plain.{hand_in}
+use Rattle.apf_history.specs.Plain.{hand_in}
 use Rattle.apf_book.proofs.tests.stretches.services.Goals as goal
 
 pub balance-requires-clause-legal : goal.balance-requires-clause-legal

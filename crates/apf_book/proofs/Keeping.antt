@@ -1,0 +1,159 @@
+-- What keeps the Desk and the log in agreement.
+use Rattle.std.proofs.Common.{◌≡◌, ◌≢◌, ◌↔◌, ℕ, ◌⊎◌, inl, inr, Bool, true, false, not, eqb, List, ◌∷◌, Option, Some, None, refl, sym, ap, ◌∙◌, subst}
+use Rattle.std.specs.Prelude.{Contains}
+use Rattle.std.proofs.lemmas.Bool.{cases_eq}
+use Rattle.apf_words.specs.declared.decision.Decision.{Decision}
+use Rattle.apf_words.specs.declared.decision.Decision.TheVariants.{Cancelled}
+use Rattle.apf_history.specs.declared.events.Event.{Event}
+use Rattle.apf_history.specs.declared.events.Event.TheVariants.{Enter, Full, Strike}
+use Rattle.apf_history.specs.declared.events.Status.{Status}
+use Rattle.apf_history.specs.declared.events.Status.TheVariants as status_is
+use Rattle.apf_model.specs.World.{put}
+use Rattle.apf_model.specs.History.{request_of, has_arrived, waiting, MayFollow, IsLegal}
+use Rattle.apf_model.specs.Order.{status, makes, has_entered, changed, AreStatuses, Follows}
+use Rattle.apf_gate.specs.declared.record.Shape.{Shape}
+use Rattle.apf_gate.specs.declared.record.Service.{Service}
+use Rattle.apf_gate.specs.declared.record.Service.TheVariants.{NotHanded, Handed, RefusedFull, RefusedClosed, Waiting, Held, Settled, Left}
+use Rattle.apf_gate.specs.declared.record.DeskRecord.{DeskRecord}
+use Rattle.apf_gate.specs.Records.{told_of, service}
+use Rattle.apf_gate.specs.Requests as requests
+use Rattle.apf_book.specs.LedgerView.{LedgerView, hand_in, IsLogOf, after}
+use Rattle.apf_book.specs.BookView.{logged, IsKept}
+use Rattle.apf_book.specs.Moves.{Moves}
+use Rattle.apf_book.proofs.Puts.{put_here, put_else}
+use Rattle.apf_book.proofs.Knowing.{told_still}
+use Rattle.apf_book.proofs.Lists.{Contains-filter}
+
+-- steps after which the log says what it said
+pub kept_moves : (desk desk' : DeskRecord) (v : LedgerView) (r : ℕ) → IsKept desk v → Moves desk r (logged (service desk r)) desk' → desk'.held ≡ None → IsKept desk' v
+kept_moves desk desk' v r kept moves held = record {
+  of_log = kept.of_log;
+  did = λ j. elim (cases_eq j r) [
+    | inl same ↦ ap (λ (i : ℕ). logged (service desk' i)) same ∙ (moves.here ∙ (kept.did r ∙ ap (λ (i : ℕ). Some (status v.history i)) (sym same)))
+    | inr other ↦ ap logged (moves.others j other) ∙ kept.did j
+  ];
+  holds_none = held;
+  struck = λ j is. told_still desk.knows desk'.knows j Cancelled moves.more (kept.struck j is);
+  widths = kept.widths ∙ ap (λ (s : Shape). s.widths) (sym moves.more.shape);
+  has_queues = ap (λ (s : Shape). s.response) moves.more.shape ∙ kept.has_queues;
+}
+
+-- steps after which the log has an event more, which they made
+pub kept_after : (desk desk' : DeskRecord) (v : LedgerView) (e : Event) → IsKept desk v → IsLogOf (after v e) → Moves desk (request_of e) (Some (makes e)) desk' → desk'.held ≡ None
+    → (makes e ≡ status_is.Struck → told_of desk'.knows.told (request_of e) ≡ Some Cancelled) → IsKept desk' (after v e)
+kept_after desk desk' v e kept of_log moves held told = record {
+  of_log = of_log;
+  did = λ j. elim (cases_eq j (request_of e)) [
+    | inl same ↦ ap (λ (i : ℕ). logged (service desk' i)) same ∙ (moves.here ∙ (ap (λ (s : Status). Some s) (sym (put_here (status v.history) (request_of e) (makes e))) ∙ ap (λ (i : ℕ). Some (status (e ∷ v.history) i)) (sym same)))
+    | inr other ↦ ap logged (moves.others j other) ∙ (kept.did j ∙ ap (λ (s : Status). Some s) (sym (put_else (status v.history) (request_of e) (makes e) j other)))
+  ];
+  holds_none = held;
+  struck = λ j is. elim (cases_eq j (request_of e)) [
+    | inl same ↦ ap (told_of desk'.knows.told) same ∙ told (sym (put_here (status v.history) (request_of e) (makes e)) ∙ (ap (status (e ∷ v.history)) (sym same) ∙ is))
+    | inr other ↦ told_still desk.knows desk'.knows j Cancelled moves.more (kept.struck j (sym (put_else (status v.history) (request_of e) (makes e) j other) ∙ is))
+  ];
+  widths = kept.widths ∙ ap (λ (s : Shape). s.widths) (sym moves.more.shape);
+  has_queues = ap (λ (s : Shape). s.response) moves.more.shape ∙ kept.has_queues;
+}
+
+-- what the Desk did, where the log says this
+pub is_waiting : (x : Service) → logged x ≡ Some status_is.Waits → x ≡ Waiting
+is_waiting NotHanded e = absurd (cc)
+is_waiting Handed e = absurd (cc)
+is_waiting RefusedFull e = absurd (cc)
+is_waiting RefusedClosed e = absurd (cc)
+is_waiting Waiting e = refl
+is_waiting Held e = absurd (cc)
+is_waiting Settled e = absurd (cc)
+is_waiting Left e = absurd (cc)
+
+pub is_settled : (x : Service) → logged x ≡ Some status_is.Dispatched → x ≡ Settled
+is_settled NotHanded e = absurd (cc)
+is_settled Handed e = absurd (cc)
+is_settled RefusedFull e = absurd (cc)
+is_settled RefusedClosed e = absurd (cc)
+is_settled Waiting e = absurd (cc)
+is_settled Held e = absurd (cc)
+is_settled Settled e = refl
+is_settled Left e = absurd (cc)
+
+pub is_full : (x : Service) → logged x ≡ Some status_is.Full → x ≡ RefusedFull
+is_full NotHanded e = absurd (cc)
+is_full Handed e = absurd (cc)
+is_full RefusedFull e = refl
+is_full RefusedClosed e = absurd (cc)
+is_full Waiting e = absurd (cc)
+is_full Held e = absurd (cc)
+is_full Settled e = absurd (cc)
+is_full Left e = absurd (cc)
+
+-- the laws of legal histories on what became of each request
+abbrev pub Statuses : Type 0
+Statuses = (hands : ℕ → List ℕ) (limit : ℕ) (h : List Event) → IsLegal hands limit h → AreStatuses h
+
+module _ (laws : Statuses) (desk : DeskRecord) (v : LedgerView) (kept : IsKept desk v) where
+  pub statuses : AreStatuses v.history
+  statuses = laws (hand_in v) v.limit v.history kept.of_log.fair.0
+
+  -- of a request that did not arrive the log says nothing
+  pub new_away : (r : ℕ) → has_arrived v.history r ≡ false → logged (service desk r) ≡ Some status_is.Away
+  new_away r new = kept.did r ∙ ap (λ (s : Status). Some s) ((statuses.away r).1 new)
+
+  -- a member of a queue waits
+  pub member_waits : (q r : ℕ) → Contains (waiting v.history q) r → service desk r ≡ Waiting
+  member_waits q r member = is_waiting (service desk r) (kept.did r ∙ ap (λ (s : Status). Some s) ((statuses.waits r).1 (q, member)))
+
+  -- a member of a queue of which a decision was told was told cancelled
+  pub told_cancelled : (q r : ℕ) (found : Option Decision) → Contains (waiting v.history q) r → (service desk r ≡ Waiting → (found ≡ None) ⊎ (found ≡ Some Cancelled)) → found ≢ None → found ≡ Some Cancelled
+  told_cancelled q r found member says some = elim (says (member_waits q r member)) [
+    | inl none ↦ absurd (some none)
+    | inr is ↦ is
+  ]
+
+entered_logged : (x : Service) (s : Status) → logged x ≡ Some s → has_entered s ≡ requests.has_entered x
+entered_logged NotHanded s e = let is : status_is.Away ≡ s = cc in ap has_entered (sym is)
+entered_logged Handed s e = let is : status_is.Away ≡ s = cc in ap has_entered (sym is)
+entered_logged RefusedFull s e = let is : status_is.Full ≡ s = cc in ap has_entered (sym is)
+entered_logged RefusedClosed s e = let is : status_is.Away ≡ s = cc in ap has_entered (sym is)
+entered_logged Waiting s e = let is : status_is.Waits ≡ s = cc in ap has_entered (sym is)
+entered_logged Held s e = absurd (cc)
+entered_logged Settled s e = let is : status_is.Dispatched ≡ s = cc in ap has_entered (sym is)
+entered_logged Left s e = let is : status_is.Struck ≡ s = cc in ap has_entered (sym is)
+
+-- a Pass entered exactly if its request has an Enter
+pub entered_logs : (laws : Statuses) (desk : DeskRecord) (v : LedgerView) (kept : IsKept desk v) (r : ℕ) (entered : Bool) → entered ≡ requests.has_entered (service desk r)
+    → (entered ≡ true) ↔ ((q : ℕ) × Contains v.history (Enter r q))
+entered_logs laws desk v kept r entered is =
+    let same : has_entered (status v.history r) ≡ entered = entered_logged (service desk r) (status v.history r) (kept.did r) ∙ sym is in
+    let law = (statuses laws desk v kept).entered r in
+    ((λ yes. law.0 (same ∙ yes)), (λ logs. sym same ∙ law.1 logs))
+
+-- a request that was struck waits in no queue
+pub struck_is_out : (laws : Statuses) (v : LedgerView) (r q : ℕ) → IsLogOf (after v (Strike r q)) → (p : ℕ) → ¬ Contains (waiting (Strike r q ∷ v.history) p) r
+struck_is_out laws v r q of_log p member =
+    let waits = ((laws (hand_in v) v.limit (Strike r q ∷ v.history) of_log.fair.0).waits r).1 (p, member) in
+    let bad : status_is.Struck ≡ status_is.Waits = sym (put_here (status v.history) r status_is.Struck) ∙ waits in cc
+
+-- a head that waits still
+pub kept_head : (laws : Statuses) (desk desk' : DeskRecord) (v : LedgerView) (q r : ℕ) → IsKept desk v → Contains (waiting v.history q) r → Moves desk r (Some status_is.Waits) desk' → desk'.held ≡ None → IsKept desk' v
+kept_head laws desk desk' v q r kept member moves held =
+    kept_moves desk desk' v r kept (subst (λ (x : Option Status). Moves desk r x desk') (sym (ap logged (member_waits laws desk v kept q r member))) moves) held
+
+-- a request that was refused as full has no Enter
+pub full_not_entered : (laws : Statuses) (v v' : LedgerView) (r i q : ℕ) → i ≡ r → v' ≡ after v (Full i q) → IsLogOf v' → ¬ ((p : ℕ) × Contains v'.history (Enter r p))
+full_not_entered laws v v' r i q same is of_log logs =
+    let yes = ((laws (hand_in v') v'.limit v'.history of_log.fair.0).entered r).1 logs in
+    let full : status v'.history r ≡ status_is.Full = ap (status v'.history) (sym same) ∙ (ap (λ (w : LedgerView). status w.history i) is ∙ put_here (status v.history) i status_is.Full) in
+    let bad : false ≡ true = sym (ap has_entered full) ∙ yes in cc
+
+-- nobody comes to wait by a strike
+pub strike_fewer : (follows : (hands : ℕ → List ℕ) (limit : ℕ) (h : List Event) (e : Event) → IsLegal hands limit h → MayFollow hands limit h e → Follows h e) (v : LedgerView) (r q : ℕ) → IsLogOf (after v (Strike r q))
+    → (p j : ℕ) → Contains (waiting (Strike r q ∷ v.history) p) j → Contains (waiting v.history p) j
+strike_fewer follows v r q of_log p j member =
+    let is = (follows (hand_in v) v.limit v.history (Strike r q) of_log.fair.0.1 of_log.fair.0.0).queues p in
+    let there = subst (λ (xs : List ℕ). Contains xs j) is member in
+    elim (cases_eq p q) [
+      | inl same ↦ (let at = subst (λ (xs : List ℕ). Contains xs j) (ap (put (waiting v.history) q (changed (Strike r q) (waiting v.history q))) same ∙ put_here (waiting v.history) q (changed (Strike r q) (waiting v.history q))) there in
+          subst (λ (x : ℕ). Contains (waiting v.history x) j) (sym same) (Contains-filter (λ i. not (eqb r i)) (waiting v.history q) j at))
+      | inr other ↦ subst (λ (xs : List ℕ). Contains xs j) (put_else (waiting v.history) q (changed (Strike r q) (waiting v.history q)) p other) there
+    ]

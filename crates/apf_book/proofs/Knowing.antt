@@ -1,0 +1,44 @@
+-- What the Desk knows after several steps.
+use Rattle.std.proofs.Common.{◌≡◌, ℕ, List, [], ◌++◌, Option, Some, None, refl, sym, ap, ◌∙◌, subst}
+use Rattle.std.proofs.lemmas.List.{append_assoc}
+use Rattle.apf_words.specs.Fits.{Fits}
+use Rattle.apf_words.specs.Level.{Level}
+use Rattle.apf_words.specs.declared.decision.Decision.{Decision}
+use Rattle.apf_gate.specs.declared.record.Entry.{Entry}
+use Rattle.apf_gate.specs.declared.record.Knowledge.{Knowledge}
+use Rattle.apf_gate.specs.declared.record.DeskRecord.{DeskRecord}
+use Rattle.apf_gate.specs.Records.{told_of, KnowsMore}
+use Rattle.apf_gate.specs.DeskSteps.{DeskLoadsLevel, DeskLoadsDecision}
+use Rattle.apf_book.specs.Moves.{LastTold, LastFound}
+
+pub more_same : (known : Knowledge) → KnowsMore known known
+more_same known = record { shape = refl; closed = λ e. e; told = λ r e. refl; trace = ([], refl) }
+
+pub more_then : (a b c : Knowledge) → KnowsMore a b → KnowsMore b c → KnowsMore a c
+more_then a b c first then = record {
+  shape = then.shape ∙ first.shape;
+  closed = λ e. then.closed (first.closed e);
+  told = λ r e. let kept = first.told r e in then.told r (λ none. e (sym kept ∙ none)) ∙ kept;
+  trace = (then.trace.0 ++ first.trace.0, then.trace.1 ∙ (ap (λ (xs : List Entry). then.trace.0 ++ xs) first.trace.1 ∙ sym (append_assoc then.trace.0 first.trace.0 a.trace)));
+}
+
+-- who was told a decision is told it still
+pub told_still : (a b : Knowledge) (r : ℕ) (decision : Decision) → KnowsMore a b → told_of a.told r ≡ Some decision → told_of b.told r ≡ Some decision
+told_still a b r decision more told = more.told r (λ none. let bad : ◌≡◌ {A = Option Decision} (Some decision) None = sym told ∙ none in cc) ∙ told
+
+-- a last step after earlier ones
+pub told_then : (a b c : Knowledge) (r : ℕ) (decision : Decision) → KnowsMore a b → LastTold b r decision c → LastTold a r decision c
+told_then a b c r decision more last = record { before = last.before; more = more_then a b last.before more last.more; found = last.found; own = last.own; step = last.step }
+
+pub found_then : (a b c : Knowledge) (width : ℕ) → KnowsMore a b → LastFound b width c → LastFound a width c
+found_then a b c width more last = record { before = last.before; more = more_then a b last.before more last.more; level = last.level; step = last.step; no_room = last.no_room }
+
+-- a load of the level word that the width does not fit
+pub load_misses : (desk desk' : DeskRecord) (level : Level) (width : ℕ) → DeskLoadsLevel desk level desk' → ¬ Fits level.seats level.limit width → LastFound desk.knows width desk'.knows
+load_misses desk desk' level width loads no_room =
+    subst (λ (d : DeskRecord). LastFound desk.knows width d.knows) (sym loads.3) (record { before = desk.knows; more = more_same desk.knows; level = level; step = loads.1; no_room = no_room })
+
+-- a load of a decision word that is decided
+pub load_tells : (desk desk' : DeskRecord) (r : ℕ) (decision : Decision) → DeskLoadsDecision r desk (Some decision) desk' → LastTold desk.knows r decision desk'.knows
+load_tells desk desk' r decision loads =
+    subst (λ (d : DeskRecord). LastTold desk.knows r decision d.knows) (sym loads.3) (record { before = desk.knows; more = more_same desk.knows; found = Some decision; own = None; step = loads.1 })

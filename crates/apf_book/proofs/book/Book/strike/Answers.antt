@@ -1,0 +1,40 @@
+-- A strike: one load, and where that found cancelled a second step.
+use Rattle.std.proofs.Common.{ℕ, false, refl, subst}
+use Rattle.std.specs.Prelude.{Contains}
+use Rattle.apf_model.specs.History.{waiting}
+use Rattle.apf_gate.specs.Records.{KnowsMore}
+use Rattle.apf_book.specs.LedgerView.{LedgerView, IsLogOf}
+use Rattle.apf_book.specs.BookView.{BookView}
+use Rattle.apf_book.specs.Servings.{Strikes}
+use Rattle.apf_book.proofs.Keeping.{struck_is_out, strike_fewer}
+use Rattle.apf_book.proofs.Knowing.{more_then}
+use Rattle.apf_book.proofs.book.Book.strike.Goals as goal
+
+pub returns-in_default-clause-reads : goal.returns-in_default-clause-reads
+returns-in_default-clause-reads g c =
+    subst (λ (v : BookView). Strikes v.desk.desk c.args.request false ((q : ℕ) × Contains (waiting v.ledger.history q) c.args.request) c.seen.new.desk.desk) c.self.view_is
+    (c.seen.result, c.seen.new.desk.desk, c.seen.ensures.answer, (refl, λ waits found. c.in_default.ensures.nowhere waits.0 waits.1))
+
+pub returns-in_default-clause-told : goal.returns-in_default-clause-told
+returns-in_default-clause-told g c = λ told q member.
+    c.in_default.ensures.nowhere q (subst (λ (v : LedgerView). Contains (waiting v.history q) c.args.request) c.in_default.ensures.none member)
+
+pub returns-clause-told : goal.returns-clause-told
+returns-clause-told g c = λ told q member.
+    struck_is_out c.every_legal_history_is_in_order.ensures.statuses c.self.inside.ledger c.args.request c.in-Some._queue (subst IsLogOf c.in-Some.ensures.some c.in-Some.ensures.sound) q
+    (subst (λ (v : LedgerView). Contains (waiting v.history q) c.args.request) c.in-Some.ensures.some member)
+
+pub returns-clause-more : goal.returns-clause-more
+returns-clause-more g c =
+    subst (λ (v : BookView). KnowsMore v.desk.desk.knows c.leave.new.desk.desk.knows) c.self.view_is
+    (more_then c.self.inside.desk.desk.knows c.seen.new.desk.desk.knows c.leave.new.desk.desk.knows c.seen.ensures.more c.leave.ensures.more)
+
+pub returns-in_default-clause-nobody_new : goal.returns-in_default-clause-nobody_new
+returns-in_default-clause-nobody_new g c = λ q r member.
+    subst (λ (v : BookView). Contains (waiting v.ledger.history q) r) c.self.view_is (subst (λ (v : LedgerView). Contains (waiting v.history q) r) c.in_default.ensures.none member)
+
+pub returns-clause-nobody_new : goal.returns-clause-nobody_new
+returns-clause-nobody_new g c = λ q r member.
+    subst (λ (v : BookView). Contains (waiting v.ledger.history q) r) c.self.view_is
+    (strike_fewer c.every_legal_history_is_in_order.ensures.follows c.self.inside.ledger c.args.request c.in-Some._queue (subst IsLogOf c.in-Some.ensures.some c.in-Some.ensures.sound) q r
+    (subst (λ (v : LedgerView). Contains (waiting v.history q) r) c.in-Some.ensures.some member))

@@ -1,0 +1,35 @@
+-- What the steps of the Desk did in a call.
+use Rattle.std.specs.Prelude.{◌≡◌, ◌≢◌, ℕ, Option, Some, None}
+use Rattle.apf_words.specs.Fits.{Fits}
+use Rattle.apf_words.specs.Level.{Level}
+use Rattle.apf_words.specs.declared.decision.Decision.{Decision}
+use Rattle.apf_history.specs.declared.events.Status.{Status}
+use Rattle.apf_model.specs.declared.moves.Move.{Move}
+use Rattle.apf_gate.specs.declared.record.Actor.TheVariants.{OfDesk}
+use Rattle.apf_gate.specs.declared.record.Knowledge.{Knowledge}
+use Rattle.apf_gate.specs.declared.record.DeskRecord.{DeskRecord}
+use Rattle.apf_gate.specs.Records.{service, KnowsMore}
+use Rattle.apf_gate.specs.Steps.{SawLevel, SawDecision}
+use Rattle.apf_book.specs.BookView.{logged}
+
+-- they did nothing with other requests, and of r the log is to say this afterwards
+pub record Moves (desk : DeskRecord) (r : ℕ) (says : Option Status) (desk' : DeskRecord) : Type 0 where
+  pub more : KnowsMore desk.knows desk'.knows
+  pub here : logged (service desk' r) ≡ says
+  pub others : (j : ℕ) → j ≢ r → service desk' j ≡ service desk j
+
+-- the last step, made since this was known, was the Desk's on the word of r, and left it at this decision
+pub record LastTold (known : Knowledge) (r : ℕ) (decision : Decision) (known' : Knowledge) : Type 0 where
+  pub before : Knowledge
+  pub more : KnowsMore known before
+  pub found : Option Decision
+  pub own : Option Move
+  pub step : SawDecision OfDesk before r found (Some decision) own known'
+
+-- the last step, made since this was known, was the Desk's load of the level word, which a request of this width did not fit
+pub record LastFound (known : Knowledge) (width : ℕ) (known' : Knowledge) : Type 0 where
+  pub before : Knowledge
+  pub more : KnowsMore known before
+  pub level : Level
+  pub step : SawLevel OfDesk before level None known'
+  pub no_room : ¬ Fits level.seats level.limit width

@@ -1,0 +1,263 @@
+//! The book of a level: its queues and its log, with the Desk.
+
+ghost use Rattle.std.specs.Prelude.{◌≡◌, ◌≢◌, ◌↔◌, ℕ, ◌+◌, ◌*◌, ◌<◌, ◌≤◌, [], ◌∷◌, length, map, reverse, true, false, Option, None, Contains, IfOk, IfErr, OnOk};
+ghost use Rattle.apf_words.specs.declared.decision.Decision.{Decision};
+ghost use Rattle.apf_history.specs.declared.events.Event.TheVariants as events;
+ghost use Rattle.apf_model.specs.declared.response.Response.TheVariants.{Queue};
+ghost use Rattle.apf_model.specs.History.{has_arrived, waiting};
+ghost use Rattle.apf_model.specs.Outcome.{stats_of};
+ghost use Rattle.apf_model.specs.Fair.{widest, DifferAtMost};
+ghost use Rattle.apf_gate.specs.declared.record.State.TheVariants.{InLine};
+ghost use Rattle.apf_gate.specs.Gauges.{IsShape};
+ghost use Rattle.apf_gate.specs.Records.{new_desk, told_of, told_own, KnowsMore};
+ghost use Rattle.apf_gate.specs.Tokens.{pass_gate, desk_gate};
+ghost use Rattle.apf_gate.specs.JoinedSteps.{JoinedLoadsDecision};
+ghost use Rattle.apf_book.specs.Opening.{opening_ledger, IsFaultOf, AreSettings};
+ghost use Rattle.apf_book.specs.LedgerKept.{AreStats};
+ghost use Rattle.apf_book.specs.Stretch.{IsBacklogged, service_in};
+ghost use Rattle.apf_book.specs.BookView.{IsKept};
+ghost use Rattle.apf_book.specs.Arrivals.{arrival, IsTold, SaysOpen};
+ghost use Rattle.apf_book.specs.Servings.{with, Turns, Serves, Stops, Strikes};
+
+use crate::arrived::Arrived;
+use crate::config::{Ask, Config};
+use crate::fault::BookFault;
+use crate::handing::{Handed, hand};
+use crate::ledger::Ledger;
+use crate::serving::{Served, serve};
+use crate::stats::Stats;
+use apf_gate::{Desk, Gate, Pass};
+use apf_model::{Event, every_legal_history_is_in_order};
+use apf_words::Decision;
+use std::alloc::Allocator;
+use std::marker::Model;
+use std::sync::Wait;
+
+/// The queues and the log of a level whose response is Queue, with the Desk.
+///
+/// Whenever no call of it runs, the log is legal and fair, each queue is the waiting of the log, the
+/// log says of each request what the Desk did with it, and the Desk holds nothing.
+#[derive(Drop)]
+pub struct Book<A: Allocator> {
+    desk: Desk,
+    ledger: Ledger<A>,
+}
+
+impl<A: Allocator> Model for Book<A> {
+    ghost use Rattle.apf_book.specs.BookView.{BookView, IsKept};
+
+    ghost Value = { BookView };
+
+    ghost view = { λ s. record { desk = s.desk; ledger = s.ledger } };
+
+    ghost invariant = { λ s. IsKept s.desk.desk s.ledger };
+}
+
+impl<A: Allocator + Copy> Book<A> {
+    /// A book in which nothing happened yet. All memory is taken here, the log's too: two events for
+    /// each request.
+    ///
+    /// The Desk is as `Gate::open` gave it, for the widths of the asks and the response Queue.
+    ///
+    /// # Errors
+    ///
+    /// The first of these: the dealer's fault, the queues', and `NoMemory` if memory was refused.
+    pub fn new(alloc: A, config: &Config, asks: &[Ask], desk: Desk) -> Result<Book<A>, BookFault>
+        requires fresh { desk.desk ≡ new_desk desk.desk.knows.shape }
+        requires shape { IsShape desk.desk.knows.shape }
+        requires widths { map (λ a. a.width) asks.now ≡ desk.desk.knows.shape.widths }
+        requires has_queues { desk.desk.knows.shape.response ≡ Queue }
+        ensures desk { IfOk result (λ b. b.desk ≡ desk) }
+        ensures ledger { IfOk result (λ b. b.ledger ≡ opening_ledger config.now asks.now) }
+        ensures settings { OnOk result (AreSettings config.now asks.now) }
+        ensures fault { IfErr result (IsFaultOf config.now asks.now) }
+    {
+        let ledger = Ledger::new(alloc, config, asks)?;
+        Ok(Book { desk, ledger })
+    }
+}
+
+impl<A: Allocator> Book<A> {
+    /// The request arrives. In this order: it arrived before, and nothing changes; it is cancelled; the
+    /// level is closed, and it is rejected; the shortest queue of its hand is full, and it is rejected;
+    /// it enters that queue. A lost exchange is tried again.
+    ///
+    /// A rejection, and that it is cancelled, is what the Desk's last step in this call was told, and
+    /// its Pass.
+    pub fn arrive<R: Wait, G: Allocator>(
+        &mut self,
+        rt: &R,
+        gate: &Gate<G>,
+        pass: &mut Pass,
+    ) -> Arrived
+        requires own { desk_gate self.old.desk ≡ gate.now }
+        requires own_pass { pass_gate pass.old ≡ gate.now }
+        requires in_line { pass.old.pass.state ≡ InLine }
+        ensures gate { desk_gate self.new.desk ≡ desk_gate self.old.desk }
+        ensures pass { pass_gate pass.new ≡ pass_gate pass.old }
+        ensures number { pass.new.pass.number ≡ pass.old.pass.number }
+        ensures in_line { pass.new.pass.state ≡ InLine }
+        ensures log { self.new.ledger ≡ with (arrival result pass.old.pass.number) self.old.ledger }
+        ensures told { IsTold result pass.new.pass self.old.desk.desk.knows self.new.desk.desk.knows }
+        ensures again { (result ≡ Arrived.Again) ↔ (has_arrived self.old.ledger.history pass.old.pass.number ≡ true) }
+        ensures entered { (pass.new.pass.entered ≡ true) ↔ ((q : ℕ) × Contains self.new.ledger.history (events.Enter pass.old.pass.number q)) }
+        ensures stays_closed { self.old.desk.desk.knows.saw_closed ≡ true → ¬ SaysOpen result }
+        ensures more { KnowsMore self.old.desk.desk.knows self.new.desk.desk.knows }
+        ensures kept { IsKept self.new.desk.desk self.new.ledger }
+    {
+        every_legal_history_is_in_order();
+        let request = pass.number();
+        let found = gate.hear(&mut self.desk, pass);
+        if self.ledger.has_arrived(request) {
+            return Arrived::Again;
+        }
+        if let Some(Decision::Cancelled) = found {
+            return Arrived::Cancelled;
+        }
+        let queue = self.ledger.shortest(request);
+        let full = self.ledger.is_full(queue);
+        match hand(rt, gate, &mut self.desk, pass, full) {
+            Handed::Entered => {
+                self.ledger.enter(request, queue);
+                Arrived::Queued(queue)
+            }
+            Handed::Full => {
+                self.ledger.refuse(request, queue);
+                Arrived::Full(queue)
+            }
+            Handed::Closed => Arrived::Closed,
+            Handed::Cancelled => Arrived::Cancelled,
+        }
+    }
+
+    /// Dispatches the chosen heads of the queues while they fit, and strikes those that are cancelled.
+    /// Tells how many were dispatched. A lost exchange is tried again.
+    ///
+    /// On return nothing waits, or the chosen head did not fit the level word that the Desk's last
+    /// step, made in this call, found.
+    pub fn dispatch<R: Wait, G: Allocator>(&mut self, rt: &R, gate: &Gate<G>) -> u32
+        requires own { desk_gate self.old.desk ≡ gate.now }
+        ensures gate { desk_gate self.new.desk ≡ desk_gate self.old.desk }
+        ensures log { Serves self.old.ledger self.new.ledger result }
+        ensures stops { Stops self.new.ledger self.old.desk.desk.knows self.new.desk.desk.knows }
+        ensures more { KnowsMore self.old.desk.desk.knows self.new.desk.desk.knows }
+        ensures kept { IsKept self.new.desk.desk self.new.ledger }
+    {
+        let mut count = 0;
+        for _ in rt.forever() {
+            match self.turn(gate) {
+                None => return count,
+                Some(Served::NoRoom) => return count,
+                Some(Served::Dispatched) => count += 1,
+                Some(Served::Struck) => {}
+                Some(Served::Raced) => {}
+            }
+        }
+        unreachable!()
+    }
+
+    /// Strikes the request out of its queue, where it waits and is seen cancelled. Says whether it did;
+    /// else nothing changes but what the Desk knows.
+    pub fn strike<G: Allocator>(&mut self, gate: &Gate<G>, request: u32) -> bool
+        requires own { desk_gate self.old.desk ≡ gate.now }
+        requires is_request { request < length gate.now.shape.widths }
+        ensures gate { desk_gate self.new.desk ≡ desk_gate self.old.desk }
+        ensures struck { result ≡ true → (q : ℕ) × Contains (waiting self.old.ledger.history q) request × (self.new.ledger ≡ with (events.Strike request q ∷ []) self.old.ledger) }
+        ensures stays { result ≡ false → self.new.ledger ≡ self.old.ledger }
+        ensures reads { Strikes self.old.desk.desk request result ((q : ℕ) × Contains (waiting self.old.ledger.history q) request) self.new.desk.desk }
+        ensures told { told_of self.old.desk.desk.knows.told request ≢ None → (q : ℕ) → ¬ Contains (waiting self.new.ledger.history q) request }
+        ensures nobody_new { (q r : ℕ) → Contains (waiting self.new.ledger.history q) r → Contains (waiting self.old.ledger.history q) r }
+        ensures more { KnowsMore self.old.desk.desk.knows self.new.desk.desk.knows }
+        ensures kept { IsKept self.new.desk.desk self.new.ledger }
+    {
+        every_legal_history_is_in_order();
+        if gate.seen(&mut self.desk, request) != Some(Decision::Cancelled) {
+            return false;
+        }
+        let Some(_queue) = self.ledger.strike(request) else {
+            return false;
+        };
+        gate.leave(&mut self.desk, request);
+        true
+    }
+
+    /// The Desk hears the decision of the Pass's request, which is the one that the Pass was told, if it
+    /// was, and answers nothing. Queues and log stay. It makes one load, with the tokens joined.
+    pub fn hear<G: Allocator>(&mut self, gate: &Gate<G>, pass: &mut Pass)
+        requires own { desk_gate self.old.desk ≡ gate.now }
+        requires own_pass { pass_gate pass.old ≡ gate.now }
+        ensures gate { desk_gate self.new.desk ≡ desk_gate self.old.desk }
+        ensures pass { pass_gate pass.new ≡ pass_gate pass.old }
+        ensures number { pass.new.pass.number ≡ pass.old.pass.number }
+        ensures state { pass.new.pass.state ≡ pass.old.pass.state }
+        ensures ledger { self.new.ledger ≡ self.old.ledger }
+        ensures answer { (found : Option Decision) × JoinedLoadsDecision (record { pass = pass.old.pass; desk = self.old.desk.desk }) found (record { pass = pass.new.pass; desk = self.new.desk.desk }) }
+        ensures told { told_own pass.old.pass ≢ None → told_of self.new.desk.desk.knows.told pass.old.pass.number ≡ told_own pass.old.pass }
+        ensures told_pass { told_own pass.old.pass ≢ None → told_own pass.new.pass ≡ told_own pass.old.pass }
+        ensures more { KnowsMore self.old.desk.desk.knows self.new.desk.desk.knows }
+        ensures kept { IsKept self.new.desk.desk self.new.ledger }
+    {
+        gate.hear(&mut self.desk, pass);
+    }
+
+    /// The numbers of the log, kept beside it.
+    pub fn stats(&self) -> Stats
+        ensures stats { AreStats result (stats_of self.now.ledger.sizes.deck self.now.ledger.history) }
+        ensures sum { result.entered ≡ result.dispatched + result.struck + result.waiting }
+    {
+        self.ledger.stats()
+    }
+
+    /// The log, the oldest event first. In every stretch of it in which two queues are never empty,
+    /// both ends included, their services differ by at most twice the largest width.
+    pub fn log(&self) -> &[Event]
+        ensures log { reverse result.now ≡ self.now.ledger.history }
+        ensures balanced { (from to a b : ℕ) → from ≤ to → to ≤ length result.now
+            → a < self.now.ledger.sizes.deck → b < self.now.ledger.sizes.deck
+            → IsBacklogged result.now from to a → IsBacklogged result.now from to b
+            → DifferAtMost (2 * widest self.now.ledger.widths) (service_in self.now.ledger.widths result.now from to a)
+            (service_in self.now.ledger.widths result.now from to b) }
+        ensures kept { IsKept self.now.desk.desk self.now.ledger }
+    {
+        self.ledger.log()
+    }
+
+    /// The Desk, and the log, the oldest event first. The rest is given up.
+    pub fn end(self) -> (Desk, Vec<Event, A>)
+        ensures desk { result.0 ≡ self.desk }
+        ensures log { reverse result.1.items ≡ self.ledger.history }
+        ensures kept { IsKept self.desk.desk self.ledger }
+    {
+        let Book { desk, ledger } = self;
+        (desk, ledger.into_log())
+    }
+
+    // Tries once to serve the chosen head, if any waits.
+    fn turn<G: Allocator>(&mut self, gate: &Gate<G>) -> Option<Served>
+        requires own { desk_gate self.old.desk ≡ gate.now }
+        ensures gate { desk_gate self.new.desk ≡ desk_gate self.old.desk }
+        ensures turns { Turns result self.old.ledger self.new.ledger self.old.desk.desk.knows self.new.desk.desk.knows }
+        ensures more { KnowsMore self.old.desk.desk.knows self.new.desk.desk.knows }
+        ensures few { length self.old.ledger.history ≤ 20000 }
+        ensures kept { IsKept self.new.desk.desk self.new.ledger }
+    {
+        every_legal_history_is_in_order();
+        let Some(chosen) = self.ledger.choose() else {
+            return None;
+        };
+        match serve(gate, &mut self.desk, chosen.request) {
+            Served::Dispatched => {
+                self.ledger.dispatch(chosen);
+                Some(Served::Dispatched)
+            }
+            Served::Struck => {
+                let Some(_queue) = self.ledger.strike(chosen.request) else {
+                    unreachable!()
+                };
+                Some(Served::Struck)
+            }
+            Served::NoRoom => Some(Served::NoRoom),
+            Served::Raced => Some(Served::Raced),
+        }
+    }
+}

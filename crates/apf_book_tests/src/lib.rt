@@ -1,0 +1,47 @@
+//! The tests of the Book over a gate, by the public calls of both alone.
+//!
+//! They stand in a crate of their own, as a crate with tests is proved twice. What they share:
+//!
+//! - `marks`: the gate that the parts of a level are of, in their types.
+//! - `requests`: a Pass with how far its request is.
+//! - `opening`: opens the gate and the book of a level.
+//! - `level`: a level that is driven by commands, in one thread.
+//! - `scripts`: a script with the answers and events that it is to have.
+//! - `judging`: the plain program judges a level that ended.
+//! - `shared`: a book under a lock, and what threads do with it. `rounds`: the delays between their steps.
+//!
+//! In one thread:
+//!
+//! - `rows`: worked scripts.
+//! - `memory`: each allocation refused in turn.
+//!
+//! In threads beside one another, in rounds until each order came:
+//!
+//! - `serving`: requests are run through a book under a lock, while some are cancelled.
+//! - `grants`: requests that wait are dispatched while they are cancelled, and some grants are lost.
+#![tactic(auto)]
+
+#[cfg(test)]
+mod grants;
+#[cfg(test)]
+mod judging;
+#[cfg(test)]
+mod level;
+#[cfg(test)]
+mod marks;
+#[cfg(test)]
+mod memory;
+#[cfg(test)]
+mod opening;
+#[cfg(test)]
+mod requests;
+#[cfg(test)]
+mod rounds;
+#[cfg(test)]
+mod rows;
+#[cfg(test)]
+mod scripts;
+#[cfg(test)]
+mod serving;
+#[cfg(test)]
+mod shared;

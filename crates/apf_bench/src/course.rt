@@ -1,0 +1,70 @@
+//! The time of a run in several threads, from the moment at which all of them are ready.
+
+use std::hint;
+use std::sync::atomic::{AtomicU64, Ordering};
+use std::time::{Clock, Instant};
+
+// How many requests a run serves: so many that each number of threads has equal shares.
+pub const REQUESTS: u32 = 9_600;
+
+/// A run, whose threads begin together.
+#[derive(Drop)]
+pub struct Course {
+    base: Instant,
+    share: usize,
+    threads: u64,
+    ready: AtomicU64,
+    // When the first thread began, and the last one ended, in nanoseconds since the base.
+    begin: AtomicU64,
+    end: AtomicU64,
+}
+
+impl Course {
+    /// A run of so many threads, or `None` if the machine tells no time.
+    pub fn new<R: Clock>(rt: &R, threads: u32) -> Option<Course> {
+        Some(Course {
+            base: Instant::now(rt).ok()?,
+            share: (REQUESTS / threads.max(1)) as usize,
+            threads: u64::from(threads),
+            ready: AtomicU64::new(0),
+            begin: AtomicU64::new(u64::MAX),
+            end: AtomicU64::new(0),
+        })
+    }
+
+    fn nanos<R: Clock>(&self, rt: &R) -> u64 {
+        match self.base.elapsed(rt) {
+            Ok(passed) => u64::try_from(passed.as_nanos()).unwrap_or(0),
+            Err(_) => 0,
+        }
+    }
+
+    /// The thread that serves this request first waits for the others.
+    pub fn begin<R: Clock>(&self, rt: &R, request: usize) {
+        if request % self.share.max(1) != 0 {
+            return;
+        }
+        self.ready.fetch_add(1, Ordering::SeqCst);
+        for _turn in 0..1_000_000u32 {
+            if self.ready.load(Ordering::SeqCst) >= self.threads {
+                break;
+            }
+            hint::spin_loop();
+        }
+        self.begin.fetch_min(self.nanos(rt), Ordering::SeqCst);
+    }
+
+    /// The thread that serves this request last is done.
+    pub fn end<R: Clock>(&self, rt: &R, request: usize) {
+        if request.wrapping_add(1) % self.share.max(1) == 0 {
+            self.end.fetch_max(self.nanos(rt), Ordering::SeqCst);
+        }
+    }
+
+    /// How long the run took, in picoseconds a request.
+    pub fn picos(&self) -> u64 {
+        let begin = self.begin.load(Ordering::SeqCst);
+        let end = self.end.load(Ordering::SeqCst);
+        end.saturating_sub(begin).saturating_mul(1_000) / u64::from(REQUESTS)
+    }
+}

@@ -1,0 +1,78 @@
+//! Requests that take seats, execute and give them back, by the gate's steps.
+
+ghost use Rattle.std.specs.Prelude.{◌≡◌, All};
+ghost use Rattle.apf_gate.specs.declared.record.State.TheVariants.{Fresh};
+ghost use Rattle.apf_gate.specs.Tokens.{pass_gate};
+
+use crate::course::{Course, REQUESTS};
+use apf_gate::{Gate, Pass, TryTake};
+use apf_model::Response;
+use apf_words::Decision;
+use std::alloc::Global;
+use std::thread;
+use std::thread::Threads;
+use std::time::Clock;
+
+// Serves a request for which there is room, in at most so many turns.
+fn serve(gate: &Gate<Global>, pass: &mut Pass)
+    requires own { pass_gate pass.old ≡ gate.now }
+    requires fresh { pass.old.pass.state ≡ Fresh }
+{
+    for _turn in 0..1_000_000u32 {
+        match gate.try_take(pass) {
+            TryTake::Taken => {
+                gate.decide(pass, Decision::Execute);
+                gate.release(pass);
+                return;
+            }
+            TryTake::Raced => {}
+            TryTake::Waiters | TryTake::NoRoom | TryTake::Closed => return,
+        }
+    }
+}
+
+fn serve_timed<R: Clock>(
+    rt: &R,
+    course: &Course,
+    gate: &Gate<Global>,
+    request: usize,
+    pass: &mut Pass,
+)
+    requires own { pass_gate pass.old ≡ gate.now }
+    requires fresh { pass.old.pass.state ≡ Fresh }
+{
+    course.begin(rt, request);
+    serve(gate, pass);
+    course.end(rt, request);
+}
+
+fn serve_all<R: Threads + Clock + Sync>(
+    rt: &R,
+    course: &Course,
+    gate: &Gate<Global>,
+    passes: &mut [Pass],
+    threads: u32,
+)
+    requires { All (λ t. (pass_gate t ≡ gate.now) × (t.pass.state ≡ Fresh)) passes.old }
+{
+    thread::for_each_mut(
+        rt,
+        passes,
+        threads.max(1) as usize,
+        &|request, pass| { serve_timed(rt, course, gate, request, pass) },
+    );
+}
+
+/// How long a request takes by the gate's steps, in picoseconds: `None` if there was no memory or clock,
+/// or seats are taken at the end.
+pub fn gated<R: Threads + Clock + Sync>(rt: &R, alloc: Global, threads: u32) -> Option<u64> {
+    let widths = vec![in alloc; 1u32; REQUESTS as usize].ok()?;
+    let opened = Gate::open(alloc, 10_000, widths.as_slice(), 0, Response::Queue);
+    let (gate, mut desk, mut passes, _stations) = opened.ok()?;
+    let course = Course::new(rt, threads)?;
+    serve_all(rt, &course, &gate, passes.as_mut_slice(), threads);
+    if gate.view(&mut desk).seats() != 0 {
+        return None;
+    }
+    Some(course.picos())
+}

@@ -1,4 +1,4 @@
-"""The launcher `apf` and the script `test`, with a stand-in for the toolchain's `rt`; and what git ignores."""
+"""The launcher `apf`, with a stand-in for the toolchain's `rt`; and what git ignores."""
 
 import os
 import shutil
@@ -7,7 +7,7 @@ import sys
 import tempfile
 
 sys.path.insert(0, os.path.join(os.path.dirname(os.path.abspath(__file__)), "lib"))
-from harness import LAUNCHER, TOP, Tally, drop_rights
+from harness import LAUNCHER, TOP, Tally, drop_rights, write
 
 tally = Tally()
 room = tempfile.TemporaryDirectory(prefix="apf-test-")
@@ -32,13 +32,6 @@ apart: low
 apf_cli: middle low
 apf: apf_cli
 """
-
-
-def write(path, text, mode=0o644):
-    os.makedirs(os.path.dirname(path), exist_ok=True)
-    with open(path, "w") as file:
-        file.write(text)
-    os.chmod(path, mode)
 
 
 class Checkout:
@@ -170,7 +163,7 @@ else:
 
 # a test script where the program can't be built says so in the launcher's line, and counts
 unbuilt = Checkout("unbuilt")
-shutil.copytree(os.path.join(TOP, "tests", "lib"), os.path.join(unbuilt.top, "tests", "lib"))
+shutil.copytree(os.path.join(TOP, "tests", "lib"), os.path.join(unbuilt.top, "tests", "lib"), ignore=shutil.ignore_patterns("__pycache__"))
 shutil.copy(os.path.join(TOP, "tests", "deals.py"), os.path.join(unbuilt.top, "tests"))
 environment = {key: value for key, value in os.environ.items() if key != "APF_PROGRAM"}
 done = subprocess.run(
@@ -178,32 +171,6 @@ done = subprocess.run(
 )
 tally.check("a test of an unbuilt program", (done.returncode, done.stdout, done.stderr.count(b"\n")), (1, b"0 passed, 1 failed\n", 1))
 
-
-def tested(name, ci, *scripts):
-    """Runs a copy of `test` on a stand-in for rt and scripts, each a text and a status; answers its status and lines."""
-    top = os.path.join(room.name, "test-" + name)
-    shutil.copy(os.path.join(TOP, "test"), write(os.path.join(top, "bin", "rt"), '#!/bin/sh\necho "%s"\nexit %d\n' % ci, 0o755) or os.path.join(top, "test"))
-    for place, (text, status) in enumerate(scripts):
-        write(os.path.join(top, "tests", f"{place}.py"), f"import sys\nprint({text!r})\nsys.exit({status})\n")
-    path = os.path.join(top, "bin") + os.pathsep + os.environ["PATH"]
-    done = subprocess.run([os.path.join(top, "test")], stdin=subprocess.DEVNULL, capture_output=True, env=dict(os.environ, PATH=path), timeout=60)
-    return done.returncode, done.stdout.decode().split("\n")[:-1]
-
-
-WELL = ("3 passed, 0 failed", 0)
-for name, parts, want in [
-    ("well", [WELL, ("2 passed, 0 failed", 0), ("4 passed, 0 failed", 0)], (0, "9 passed, 0 failed")),
-    ("a failed count with status 0", [WELL, ("2 passed, 1 failed", 0), WELL], (1, "5 passed, 1 failed")),
-    ("a failed count with status 0 of rt", [("3 passed, 2 failed", 0), WELL], (1, "3 passed, 2 failed")),
-    ("a failed count", [WELL, ("2 passed, 4 failed", 1), WELL], (1, "5 passed, 4 failed")),
-    ("a status without a failed count", [WELL, ("2 passed, 0 failed", 1), WELL], (1, "5 passed, 1 failed")),
-    ("a status without a count", [WELL, ("Traceback", 1), WELL], (1, "3 passed, 1 failed")),
-    ("nothing counted", [WELL, ("well", 0), WELL], (1, "3 passed, 1 failed")),
-    ("the last count", [WELL, ("9 passed, 9 failed\n1 passed, 0 failed", 0)], (0, "4 passed, 0 failed")),
-]:
-    status, lines = tested(name.replace(" ", "-"), *parts)
-    tally.check(f"test: {name}", (status, lines[-1]), want)
-    tally.check(f"test: {name}: says how long it takes", "minutes" in lines[0], True)
 
 # git sees nothing that a build or a test makes
 seen = os.path.join(room.name, "seen")

@@ -40,6 +40,14 @@ def drop_rights(program="/bin/true"):
     return other, ""
 
 
+def write(path, text, mode=0o644):
+    """Writes a file, and makes the folders that it stands in."""
+    os.makedirs(os.path.dirname(path), exist_ok=True)
+    with open(path, "w") as file:
+        file.write(text)
+    os.chmod(path, mode)
+
+
 class Files:
     """Files of a run in a folder that goes away."""
 

@@ -1,0 +1,126 @@
+"""The script `test`, with a stand-in for the toolchain's `rt` and for the scripts that it runs."""
+
+import os
+import shutil
+import signal as signals
+import subprocess
+import sys
+import tempfile
+import time
+
+sys.path.insert(0, os.path.join(os.path.dirname(os.path.abspath(__file__)), "lib"))
+from harness import TOP, Tally, write
+
+tally = Tally()
+room = tempfile.TemporaryDirectory(prefix="apf-test-")
+
+# what `rt` does in a run of `test`: it notes the call, and `ci` may build the program, change a source, or fail
+RT_OF_TEST = r"""#!/usr/bin/env bash
+echo "$1" >>"$NOTES"
+make() { mkdir -p "$1" && printf '#!/bin/sh\n' >"$1/apf" && chmod +x "$1/apf"; }
+case $1 in
+  ci)
+    echo "$SAYS"
+    rm -rf crates/apf/out
+    [[ $DOES != *builds* ]] || make crates/apf/out
+    [[ $DOES != *changes* ]] || echo changed >crates/apf/src/main.rt
+    exit "$STATUS" ;;
+  run) [[ $DOES != *refuses* ]] && make out ;;
+esac
+"""
+
+
+def is_running(process):
+    """Whether the process of this number runs: one that ended may still be listed until its parent asks for it."""
+    try:
+        return open(f"/proc/{process}/stat").read().rpartition(")")[2].split()[0] != "Z"
+    except OSError:
+        return False
+
+
+def test_of(name, *scripts, processors=2):
+    """A copy of `test` and the launcher, with a stand-in for rt and scripts, each a text, a status, and lines that it runs first."""
+    top = os.path.join(room.name, "test-" + name.replace(" ", "-"))
+    write(os.path.join(top, "bin", "rt"), RT_OF_TEST, 0o755)
+    write(os.path.join(top, "bin", "nproc"), f"#!/bin/sh\necho {processors}\n", 0o755)
+    write(os.path.join(top, "crates.txt"), "apf:\n")
+    write(os.path.join(top, "crates", "apf", "src", "main.rt"), "first")
+    for file in ("test", "apf"):
+        shutil.copy(os.path.join(TOP, file), os.path.join(top, file))
+    for place, (text, status, *first) in enumerate(scripts):
+        lines = ["import os, subprocess, sys, time", *first, f"print({text!r})", f"sys.exit({status})"]
+        write(os.path.join(top, "tests", f"{place}.py"), "\n".join(lines) + "\n")
+    return top
+
+
+def begun(top, ci, does="builds"):
+    path = os.path.join(top, "bin") + os.pathsep + os.environ["PATH"]
+    environment = dict(os.environ, PATH=path, NOTES=os.path.join(top, "notes"), SAYS=ci[0], STATUS=str(ci[1]), DOES=does)
+    return subprocess.Popen(
+        [os.path.join(top, "test")], stdin=subprocess.DEVNULL, stdout=subprocess.PIPE, stderr=subprocess.PIPE, env=environment, text=True
+    )
+
+
+def tested(name, ci, *scripts, does="builds", processors=2):
+    """Runs `test` so; answers its status, its lines, and the calls of rt."""
+    top = test_of(name, *scripts, processors=processors)
+    running = begun(top, ci, does)
+    lines = running.communicate(timeout=60)[0].split("\n")[:-1]
+    return running.returncode, lines, open(os.path.join(top, "notes")).read().split()
+
+
+WELL = ("3 passed, 0 failed", 0)
+for name, parts, want in [
+    ("well", [WELL, ("2 passed, 0 failed", 0), ("4 passed, 0 failed", 0)], (0, "9 passed, 0 failed")),
+    ("a failed count with status 0", [WELL, ("2 passed, 1 failed", 0), WELL], (1, "8 passed, 1 failed")),
+    ("a failed count with status 0 of rt", [("3 passed, 2 failed", 0), WELL], (1, "3 passed, 2 failed")),
+    ("a failed status of rt", [("3 passed, 0 failed", 2), WELL], (1, "3 passed, 1 failed")),
+    ("nothing counted by rt", [("well", 0), WELL], (1, "0 passed, 1 failed")),
+    ("a failed count", [WELL, ("2 passed, 4 failed", 1), WELL], (1, "8 passed, 4 failed")),
+    ("two failed counts", [WELL, ("2 passed, 4 failed", 1), WELL, ("1 passed, 2 failed", 1)], (1, "9 passed, 6 failed")),
+    ("a status without a failed count", [WELL, ("2 passed, 0 failed", 1), WELL], (1, "8 passed, 1 failed")),
+    ("a status without a count", [WELL, ("Traceback", 1), WELL], (1, "6 passed, 1 failed")),
+    ("nothing counted", [WELL, ("well", 0), WELL], (1, "6 passed, 1 failed")),
+    ("the last count", [WELL, ("9 passed, 9 failed\n1 passed, 0 failed", 0)], (0, "4 passed, 0 failed")),
+]:
+    status, lines, calls = tested(name, *parts)
+    tally.check(f"test: {name}", (status, lines[-1], calls), (*want, ["ci"]))
+    tally.check(f"test: {name}: says how long it takes", "minutes" in lines[0], True)
+
+# the program is built once: by rt ci, or by the launcher where that made none or where a source has changed since
+for name, does, want in [
+    ("built by rt ci", "builds", (0, "6 passed, 0 failed", ["ci"])),
+    ("not built by rt ci", "", (0, "6 passed, 0 failed", ["ci", "run"])),
+    ("a source that is edited meanwhile", "builds and changes", (0, "6 passed, 0 failed", ["ci", "run"])),
+    ("a program that can't be built", "refuses", (1, "3 passed, 1 failed", ["ci", "run"])),
+]:
+    status, lines, calls = tested(name, WELL, WELL, does=does)
+    tally.check(f"test: {name}", (status, lines[-1], calls), want)
+
+# side by side: each of two scripts waits for the other one, and what each says stands whole, in the order of their names
+MEETS = "open('met-%d', 'w').close()\nfor _ in range(400): os.path.exists('met-%d') or time.sleep(0.05)\nmet = os.path.exists('met-%d')"
+both = [("1 passed, 0 failed", "0 if met else 1", MEETS % (one, other, other)) for one, other in ((0, 1), (1, 0))]
+status, lines, calls = tested("side by side", WELL, *both)
+tally.check("test: scripts run side by side", (status, lines[-1]), (0, "5 passed, 0 failed"))
+late = ("late\n1 passed, 0 failed", 0, "print('begins', flush=True)\ntime.sleep(1)")
+status, lines, calls = tested("in order", WELL, late, ("soon\n1 passed, 0 failed", 0))
+want = ["== python3 tests/0.py", "begins", "late", "1 passed, 0 failed", "== python3 tests/1.py", "soon", "1 passed, 0 failed", "5 passed, 0 failed"]
+tally.check("test: what each script says stands whole, in order", (status, lines[3:]), (0, want))
+
+# no more at once than there are processors
+alone = ("1 passed, 0 failed", 0, "os.mkdir('busy')\ntime.sleep(0.3)\nos.rmdir('busy')")
+status, lines, calls = tested("one processor", WELL, alone, alone, alone, processors=1)
+tally.check("test: one processor, one script at once", (status, lines[-1]), (0, "6 passed, 0 failed"))
+
+# an interrupt of the one process ends the scripts and what they run, and counts as a failure
+for signal in ("INT", "TERM"):
+    waits = "child = subprocess.Popen(['sleep', '300'])\nopen('pid.new', 'w').write(f'{os.getpid()} {child.pid}')\nos.rename('pid.new', 'pid')\ntime.sleep(300)"
+    top = test_of("interrupt " + signal, ("1 passed, 0 failed", 0, waits))
+    running = begun(top, WELL)
+    for _ in range(400):
+        os.path.exists(os.path.join(top, "pid")) or time.sleep(0.05)
+    running.send_signal(getattr(signals, "SIG" + signal))
+    lines = running.communicate(timeout=60)[0].split("\n")[:-1]
+    left = [it for it in open(os.path.join(top, "pid")).read().split() if is_running(it)]
+    tally.check(f"test: interrupted by {signal}", (running.returncode, lines[-1], left), (1, "3 passed, 1 failed", []))
+tally.end()

@@ -1,8 +1,18 @@
 //! The choice as it was made before there was a tree of finishes: by a scan over all queues, with a
-//! division for each. It is plain code that tests each index; nothing is proved of its answers,
-//! which are compared with those of `apf_queue`.
+//! division for each. It is plain code that tests each index, so what the scan reads of a queue stands
+//! side by side, and a queue costs it one test. Nothing is proved of its answers, which are compared with
+//! those of `apf_queue`.
 
 use std::alloc::{AllocError, Global};
+
+// What the scan reads of a queue, side by side.
+#[derive(Clone, Copy)]
+struct Row {
+    len: u32,
+    // The width of the queue's first request.
+    width: u32,
+    start: u64,
+}
 
 // Queues as rings of numbers, as `apf_queue` has them.
 #[derive(Drop)]
@@ -12,9 +22,8 @@ pub struct Scan {
     // The node after each node, and the node before it: the requests, then a head for each queue.
     after: Vec<u32>,
     before: Vec<u32>,
-    lengths: Vec<u32>,
     widths: Vec<u32>,
-    starts: Vec<u64>,
+    rows: Vec<Row>,
     level: u64,
     robin: u32,
 }
@@ -41,14 +50,18 @@ impl Scan {
     // So many queues, all empty, for so many requests.
     pub fn new(alloc: Global, queues: u32, requests: u32) -> Result<Scan, AllocError> {
         let nodes = requests.saturating_add(queues);
+        let row = Row {
+            len: 0,
+            width: 0,
+            start: 0,
+        };
         Ok(Scan {
             queues,
             requests,
             after: count_up(alloc, nodes)?,
             before: count_up(alloc, nodes)?,
-            lengths: vec![in alloc; 0; queues as usize]?,
             widths: vec![in alloc; 0; requests as usize]?,
-            starts: vec![in alloc; 0; queues as usize]?,
+            rows: vec![in alloc; row; queues as usize]?,
             level: 0,
             robin: queues.saturating_sub(1),
         })
@@ -63,14 +76,15 @@ impl Scan {
         put(&mut self.after, request, head);
         put(&mut self.before, head, request);
         put(&mut self.widths, request, width);
-        let len = at(&self.lengths, queue);
-        if len == 0 {
-            let level = self.level;
-            if let Some(start) = self.starts.get_mut(queue as usize) {
-                *start = level.max(*start);
-            }
+        let level = self.level;
+        let Some(row) = self.rows.get_mut(queue as usize) else {
+            return;
+        };
+        if row.len == 0 {
+            row.start = level.max(row.start);
+            row.width = width;
         }
-        put(&mut self.lengths, queue, len.wrapping_add(1));
+        row.len = row.len.wrapping_add(1);
     }
 
     // The queue of least finish, counting round from the one after the robin.
@@ -78,10 +92,9 @@ impl Scan {
         let mut best: Option<(u32, u64)> = None;
         for steps in 0..self.queues {
             let queue = self.robin.wrapping_add(1).wrapping_add(steps) % self.queues.max(1);
-            if at(&self.lengths, queue) != 0 {
-                let request = at(&self.after, self.requests.wrapping_add(queue));
-                let start = self.starts.get(queue as usize).copied().unwrap_or(0);
-                let finish = start.wrapping_add(u64::from(at(&self.widths, request)));
+            let row = self.rows.get(queue as usize)?;
+            if row.len != 0 {
+                let finish = row.start.wrapping_add(u64::from(row.width));
                 best = match best {
                     Some((first, least)) if least <= finish => Some((first, least)),
                     _ => Some((queue, finish)),
@@ -101,13 +114,12 @@ impl Scan {
         put(&mut self.before, second, head);
         put(&mut self.after, request, request);
         put(&mut self.before, request, request);
-        let len = at(&self.lengths, queue);
-        put(&mut self.lengths, queue, len.wrapping_sub(1));
-        let width = at(&self.widths, request);
-        if let Some(start) = self.starts.get_mut(queue as usize) {
-            self.level = self.level.max(*start);
-            *start = start.wrapping_add(u64::from(width));
-        }
+        let next = at(&self.widths, second);
+        let row = self.rows.get_mut(queue as usize)?;
+        self.level = self.level.max(row.start);
+        row.start = row.start.wrapping_add(u64::from(row.width));
+        row.len = row.len.wrapping_sub(1);
+        row.width = next;
         self.robin = queue;
         Some((queue, request))
     }

@@ -8,7 +8,6 @@ ghost use Rattle.apf_model.specs.History.{has_arrived, waiting};
 ghost use Rattle.apf_model.specs.Outcome.{stats_of};
 ghost use Rattle.apf_model.specs.Fair.{widest, DifferAtMost};
 ghost use Rattle.apf_gate.specs.declared.record.State.TheVariants.{InLine};
-ghost use Rattle.apf_gate.specs.Gauges.{IsShape};
 ghost use Rattle.apf_gate.specs.Records.{new_desk, told_of, told_own, KnowsMore};
 ghost use Rattle.apf_gate.specs.Tokens.{pass_gate, desk_gate};
 ghost use Rattle.apf_gate.specs.JoinedSteps.{JoinedLoadsDecision};
@@ -64,7 +63,6 @@ impl<A: Allocator + Copy> Book<A> {
     /// The first of these: the dealer's fault, the queues', and `NoMemory` if memory was refused.
     pub fn new(alloc: A, config: &Config, asks: &[Ask], desk: Desk) -> Result<Book<A>, BookFault>
         requires fresh { desk.desk ≡ new_desk desk.desk.knows.shape }
-        requires shape { IsShape desk.desk.knows.shape }
         requires widths { map (λ a. a.width) asks.now ≡ desk.desk.knows.shape.widths }
         requires has_queues { desk.desk.knows.shape.response ≡ Queue }
         ensures desk { IfOk result (λ b. b.desk ≡ desk) }
@@ -72,6 +70,7 @@ impl<A: Allocator + Copy> Book<A> {
         ensures settings { OnOk result (AreSettings config.now asks.now) }
         ensures fault { IfErr result (IsFaultOf config.now asks.now) }
     {
+        desk.is_of_a_gate();
         let ledger = Ledger::new(alloc, config, asks)?;
         Ok(Book { desk, ledger })
     }

@@ -8,6 +8,7 @@ use Rattle.apf_gate.specs.declared.record.StationRecord.{StationRecord}
 use Rattle.apf_gate.specs.declared.record.Record.{Record}
 use Rattle.apf_gate.specs.declared.record.Record.TheVariants.{Pass, Desk}
 use Rattle.apf_gate.specs.Records.{own_width}
+use Rattle.apf_gate.specs.Gauges.{IsShape}
 use Rattle.apf_gate.specs.Rule.{pass_of, desk_of}
 use Rattle.apf_gate.specs.Steps.{Both, both_of}
 use Rattle.atomic_table.specs.Seated.{TableId}
@@ -49,11 +50,12 @@ pub record IsPass (me : Me (Unit {0}) (List Record)) (number width : ℕ) : Type
   pub inside : (pass_of me.0).number < length (pass_of me.0).knows.shape.widths
   pub narrow : width ≤ max_width
 
--- the Desk's seat has its record alone, which has the request that it holds
+-- the Desk's seat has its record alone, which has the request that it holds, and the shape of a gate
 pub record IsDesk (me : Me (Unit {0}) (List Record)) (held : Option ℕ) : Type 0 where
   pub alone : me ≡ (Desk (desk_of me.0) ∷ [], [])
   pub same_held : held ≡ (desk_of me.0).held
   pub inside : (r : ℕ) → held ≡ Some r → r < length (desk_of me.0).knows.shape.widths
+  pub shape : IsShape (desk_of me.0).knows.shape
 
 -- a seat has one record alone
 pub record IsAlone (gate : GateId) (table : TableId) (me : Me (Unit {0}) (List Record)) (x : Record) : Type 0 where

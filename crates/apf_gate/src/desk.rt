@@ -8,6 +8,7 @@ ghost use Rattle.apf_words.specs.declared.decision.Decision.TheVariants.{Execute
 ghost use Rattle.apf_model.specs.World.{width};
 ghost use Rattle.apf_gate.specs.declared.record.Service.TheVariants.{Waiting, Held, Settled, Left};
 ghost use Rattle.apf_gate.specs.Records.{told_of, service, KnowsMore};
+ghost use Rattle.apf_gate.specs.Gauges.{IsShape};
 ghost use Rattle.apf_gate.specs.Steps.{IsInRange, OfDecision};
 ghost use Rattle.apf_gate.specs.DeskSteps.{CountsWaiting, DeskLoadsLevel, DeskLoadsDecision, DeskExchangesLevel, DeskExchangesDecision, DeskMissesDecision, DeskSubtractsSeats, DeskSubtractsWaiter};
 ghost use Rattle.apf_gate.specs.Tokens.{desk_gate};
@@ -43,6 +44,17 @@ impl Model for Desk {
     } };
 
     ghost invariant = { λ d. IsDesk d.seat.me d.held };
+}
+
+impl Desk {
+    /// The limit, the widths and the Stations of the Desk's gate are in range.
+    ///
+    /// It makes no step: the contract is the law.
+    pub fn is_of_a_gate(&self)
+        ensures shape { IsShape self.now.desk.knows.shape }
+    {
+        let _ = &self.seat;
+    }
 }
 
 impl<A: Allocator> Gate<A> {

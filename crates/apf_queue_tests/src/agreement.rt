@@ -11,7 +11,7 @@ use std::process::Abort;
 use std::test::Fail;
 
 // How many calls are made for one number of queues, and how many on one level.
-const CALLS: u32 = 20_000;
+const CALLS: u32 = 100_000;
 
 const CALLS_OF_LEVEL: u32 = 40;
 
@@ -61,8 +61,8 @@ fn agree(rt: &impl Abort, alloc: Global, queues: u32) -> Result<Seen, Fail> {
 // The calls agree, and each kind of answer came often.
 fn agree_often(rt: &impl Abort, alloc: Global, queues: u32) -> Result<(), Fail> {
     let seen = agree(rt, alloc, queues)?;
-    assert!(rt; seen.pushed > 3_000 && seen.dispatched > 1_000 && seen.plainly > 10);
-    assert!(rt; seen.heads > 300 && seen.middles > 10 && seen.ends > 50);
+    assert!(rt; seen.pushed > 15_000 && seen.dispatched > 5_000 && seen.plainly > 50);
+    assert!(rt; seen.heads > 1_500 && seen.middles > 50 && seen.ends > 250);
     Ok(())
 }
 

@@ -99,6 +99,7 @@ impl<A: Allocator> Book<A> {
         ensures log { self.new.ledger ≡ with (arrival result pass.old.pass.number) self.old.ledger }
         ensures told { IsTold result pass.new.pass self.old.desk.desk.knows self.new.desk.desk.knows }
         ensures again { (result ≡ Arrived.Again) ↔ (has_arrived self.old.ledger.history pass.old.pass.number ≡ true) }
+        ensures first { pass.old.pass.handed ≡ false → has_arrived self.old.ledger.history pass.old.pass.number ≡ false }
         ensures entered { (pass.new.pass.entered ≡ true) ↔ ((q : ℕ) × Contains self.new.ledger.history (events.Enter pass.old.pass.number q)) }
         ensures stays_closed { self.old.desk.desk.knows.saw_closed ≡ true → ¬ SaysOpen result }
         ensures more { KnowsMore self.old.desk.desk.knows self.new.desk.desk.knows }

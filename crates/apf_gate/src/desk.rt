@@ -114,7 +114,8 @@ impl<A: Allocator> Gate<A> {
 
     /// Writes execute of the request whose seats the Desk holds, unless it is cancelled. Answers the decision
     /// that is written then: with `Execute` the Desk holds nothing any more, with `Cancelled` it holds the
-    /// seats still. It makes one exchange.
+    /// seats still. It makes one exchange, and wakes nobody: where somebody may sleep, `wake` is for the
+    /// caller to call afterwards.
     pub fn settle(&self, desk: &mut Desk) -> Decision
         requires own { desk_gate desk.old ≡ self.now }
         requires holds { desk.old.desk.held ≢ None }
@@ -131,10 +132,7 @@ impl<A: Allocator> Gate<A> {
             unreachable!()
         };
         match decision_in(self.exchange_settled(desk, request)) {
-            None => {
-                self.wake(request);
-                Decision::Execute
-            }
+            None => Decision::Execute,
             Some(decision) => decision,
         }
     }

@@ -126,8 +126,8 @@ fn cancel_later(gate: &Gate<Global>, sleeps: &Sleeps, station: &mut Station)
     gate.cancel(station, 0);
 }
 
-// Lets so many others sleep, grants the first request, which waits, and settles it. Gives its seats back
-// if it was decided otherwise.
+// Lets so many others sleep, grants the first request, which waits, settles it and wakes who sleeps. Gives
+// its seats back if it was decided otherwise.
 fn grant_later(gate: &Gate<Global>, sleeps: &Sleeps, others: u64, desk: &mut Desk)
     requires some { 0 < length gate.now.shape.widths }
     requires own { desk_gate desk.old ≡ gate.now }
@@ -137,7 +137,9 @@ fn grant_later(gate: &Gate<Global>, sleeps: &Sleeps, others: u64, desk: &mut Des
 {
     sleeps.let_sleep(others);
     if let TryGrant::Granted = gate.try_grant(desk, 0) {
-        if gate.settle(desk) != Decision::Execute {
+        if gate.settle(desk) == Decision::Execute {
+            gate.wake(0);
+        } else {
             gate.give_back(desk);
         }
     }

@@ -4,7 +4,7 @@ use Rattle.apf_words.specs.declared.decision.Decision.TheVariants.{QueueFull, Cl
 use Rattle.apf_gate.specs.Records.{KnowsMore}
 use Rattle.apf_book.specs.Arrivals.{BothTold}
 use Rattle.apf_book.specs.BookView.{BookView}
-use Rattle.apf_book.proofs.Keeping.{entered_logs, full_not_entered}
+use Rattle.apf_book.proofs.Keeping.{entered_logs, full_not_entered, never_arrived}
 use Rattle.apf_book.proofs.Knowing.{more_then, told_then}
 use Rattle.apf_book.proofs.book.Book.arrive.Goals as goal
 
@@ -58,3 +58,21 @@ returns-in-Full-clause-entered g c = (
   (λ yes. absurd (let bad : true ≡ false = sym yes ∙ c.in-Full.ensures.entered in cc)),
   (λ logs. absurd (full_not_entered c.every_legal_history_is_in_order.ensures.statuses c.self.inside.ledger c.refuse.new.self c.args.pass.now.pass.number c.number-request.result c.shortest-queue.result c.number-request.ensures.number c.refuse.ensures.log c.refuse.ensures.sound logs)),
 )
+
+pub returns-then-has_arrived-clause-first : goal.returns-then-has_arrived-clause-first
+returns-then-has_arrived-clause-first g c = λ away. never_arrived c.every_legal_history_is_in_order.ensures.statuses c.self.inside.desk.desk c.self.inside.ledger c.self.invariant c.args.pass.now.pass.number (c.hear-found.ensures.not_handed away)
+
+pub returns-in-Some-Cancelled-clause-first : goal.returns-in-Some-Cancelled-clause-first
+returns-in-Some-Cancelled-clause-first g c = λ away. never_arrived c.every_legal_history_is_in_order.ensures.statuses c.self.inside.desk.desk c.self.inside.ledger c.self.invariant c.args.pass.now.pass.number (c.hear-found.ensures.not_handed away)
+
+pub returns-in-Entered-clause-first : goal.returns-in-Entered-clause-first
+returns-in-Entered-clause-first g c = λ away. never_arrived c.every_legal_history_is_in_order.ensures.statuses c.self.inside.desk.desk c.self.inside.ledger c.self.invariant c.args.pass.now.pass.number (c.hear-found.ensures.not_handed away)
+
+pub returns-in-Full-clause-first : goal.returns-in-Full-clause-first
+returns-in-Full-clause-first g c = λ away. never_arrived c.every_legal_history_is_in_order.ensures.statuses c.self.inside.desk.desk c.self.inside.ledger c.self.invariant c.args.pass.now.pass.number (c.hear-found.ensures.not_handed away)
+
+pub returns-in-Closed-clause-first : goal.returns-in-Closed-clause-first
+returns-in-Closed-clause-first g c = λ away. never_arrived c.every_legal_history_is_in_order.ensures.statuses c.self.inside.desk.desk c.self.inside.ledger c.self.invariant c.args.pass.now.pass.number (c.hear-found.ensures.not_handed away)
+
+pub returns-in-Cancelled-clause-first : goal.returns-in-Cancelled-clause-first
+returns-in-Cancelled-clause-first g c = λ away. never_arrived c.every_legal_history_is_in_order.ensures.statuses c.self.inside.desk.desk c.self.inside.ledger c.self.invariant c.args.pass.now.pass.number (c.hear-found.ensures.not_handed away)

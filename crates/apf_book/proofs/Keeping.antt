@@ -128,11 +128,14 @@ entered_logs laws desk v kept r entered is =
     let law = (statuses laws desk v kept).entered r in
     ((λ yes. law.0 (same ∙ yes)), (λ logs. sym same ∙ law.1 logs))
 
+abbrev said : Option Status → Status
+said None = status_is.Away
+said (Some s) = s
+
 -- a request whose Pass was never handed over never arrived
 pub never_arrived : (laws : Statuses) (desk : DeskRecord) (v : LedgerView) (kept : IsKept desk v) (r : ℕ) → service desk r ≡ NotHanded → has_arrived v.history r ≡ false
 never_arrived laws desk v kept r is =
-    let said : Some status_is.Away ≡ Some (status v.history r) = sym (ap logged is) ∙ kept.did r in
-    ((statuses laws desk v kept).away r).0 (let same : status_is.Away ≡ status v.history r = search rules in sym same)
+    ((statuses laws desk v kept).away r).0 (ap said (sym (sym (ap logged is) ∙ kept.did r)))
 
 -- a request that was struck waits in no queue
 pub struck_is_out : (laws : Statuses) (v : LedgerView) (r q : ℕ) → IsLogOf (after v (Strike r q)) → (p : ℕ) → ¬ Contains (waiting (Strike r q ∷ v.history) p) r

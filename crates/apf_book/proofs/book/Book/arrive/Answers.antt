@@ -1,6 +1,7 @@
 -- What an arrival was told, and whether it entered.
 use Rattle.std.proofs.Common.{◌≡◌, sym, ◌∙◌, subst, false, true}
 use Rattle.apf_words.specs.declared.decision.Decision.TheVariants.{QueueFull, Closed, Cancelled}
+use Rattle.apf_model.specs.History.{has_arrived}
 use Rattle.apf_gate.specs.Records.{KnowsMore}
 use Rattle.apf_book.specs.Arrivals.{BothTold}
 use Rattle.apf_book.specs.BookView.{BookView}
@@ -60,19 +61,19 @@ returns-in-Full-clause-entered g c = (
 )
 
 pub returns-then-has_arrived-clause-first : goal.returns-then-has_arrived-clause-first
-returns-then-has_arrived-clause-first g c = λ away. never_arrived c.every_legal_history_is_in_order.ensures.statuses c.self.inside.desk.desk c.self.inside.ledger c.self.invariant c.args.pass.now.pass.number (c.hear-found.ensures.not_handed away)
+returns-then-has_arrived-clause-first g c = λ away. subst (λ (v : BookView). has_arrived v.ledger.history c.args.pass.now.pass.number ≡ false) c.self.view_is (never_arrived c.every_legal_history_is_in_order.ensures.statuses c.self.inside.desk.desk c.self.inside.ledger c.self.invariant c.args.pass.now.pass.number (c.hear-found.ensures.not_handed away))
 
 pub returns-in-Some-Cancelled-clause-first : goal.returns-in-Some-Cancelled-clause-first
-returns-in-Some-Cancelled-clause-first g c = λ away. never_arrived c.every_legal_history_is_in_order.ensures.statuses c.self.inside.desk.desk c.self.inside.ledger c.self.invariant c.args.pass.now.pass.number (c.hear-found.ensures.not_handed away)
+returns-in-Some-Cancelled-clause-first g c = λ away. subst (λ (v : BookView). has_arrived v.ledger.history c.args.pass.now.pass.number ≡ false) c.self.view_is (never_arrived c.every_legal_history_is_in_order.ensures.statuses c.self.inside.desk.desk c.self.inside.ledger c.self.invariant c.args.pass.now.pass.number (c.hear-found.ensures.not_handed away))
 
 pub returns-in-Entered-clause-first : goal.returns-in-Entered-clause-first
-returns-in-Entered-clause-first g c = λ away. never_arrived c.every_legal_history_is_in_order.ensures.statuses c.self.inside.desk.desk c.self.inside.ledger c.self.invariant c.args.pass.now.pass.number (c.hear-found.ensures.not_handed away)
+returns-in-Entered-clause-first g c = λ away. subst (λ (v : BookView). has_arrived v.ledger.history c.args.pass.now.pass.number ≡ false) c.self.view_is (never_arrived c.every_legal_history_is_in_order.ensures.statuses c.self.inside.desk.desk c.self.inside.ledger c.self.invariant c.args.pass.now.pass.number (c.hear-found.ensures.not_handed away))
 
 pub returns-in-Full-clause-first : goal.returns-in-Full-clause-first
-returns-in-Full-clause-first g c = λ away. never_arrived c.every_legal_history_is_in_order.ensures.statuses c.self.inside.desk.desk c.self.inside.ledger c.self.invariant c.args.pass.now.pass.number (c.hear-found.ensures.not_handed away)
+returns-in-Full-clause-first g c = λ away. subst (λ (v : BookView). has_arrived v.ledger.history c.args.pass.now.pass.number ≡ false) c.self.view_is (never_arrived c.every_legal_history_is_in_order.ensures.statuses c.self.inside.desk.desk c.self.inside.ledger c.self.invariant c.args.pass.now.pass.number (c.hear-found.ensures.not_handed away))
 
 pub returns-in-Closed-clause-first : goal.returns-in-Closed-clause-first
-returns-in-Closed-clause-first g c = λ away. never_arrived c.every_legal_history_is_in_order.ensures.statuses c.self.inside.desk.desk c.self.inside.ledger c.self.invariant c.args.pass.now.pass.number (c.hear-found.ensures.not_handed away)
+returns-in-Closed-clause-first g c = λ away. subst (λ (v : BookView). has_arrived v.ledger.history c.args.pass.now.pass.number ≡ false) c.self.view_is (never_arrived c.every_legal_history_is_in_order.ensures.statuses c.self.inside.desk.desk c.self.inside.ledger c.self.invariant c.args.pass.now.pass.number (c.hear-found.ensures.not_handed away))
 
 pub returns-in-Cancelled-clause-first : goal.returns-in-Cancelled-clause-first
-returns-in-Cancelled-clause-first g c = λ away. never_arrived c.every_legal_history_is_in_order.ensures.statuses c.self.inside.desk.desk c.self.inside.ledger c.self.invariant c.args.pass.now.pass.number (c.hear-found.ensures.not_handed away)
+returns-in-Cancelled-clause-first g c = λ away. subst (λ (v : BookView). has_arrived v.ledger.history c.args.pass.now.pass.number ≡ false) c.self.view_is (never_arrived c.every_legal_history_is_in_order.ensures.statuses c.self.inside.desk.desk c.self.inside.ledger c.self.invariant c.args.pass.now.pass.number (c.hear-found.ensures.not_handed away))

@@ -1,0 +1,63 @@
+-- The end of a level whose Desk served nobody.
+use Rattle.std.proofs.Common.{◌≡◌, ℕ, zero, suc, ◌<◌, inl, inr, Bool, true, false, ◌&&◌, ◌||◌, List, [], ◌∷◌, length, Option, Some, None, refl, sym, ap, ◌∙◌, subst, arith}
+use Rattle.std.specs.Prelude.{Contains, slice_get, slice_index_or}
+use Rattle.std.proofs.lemmas.Bool.{eq-eqb, cases_lt}
+use Rattle.std.proofs.lemmas.List.{get_or_past}
+use Rattle.std.proofs.lemmas.Option.{slice_get-get_or}
+use Rattle.apf_words.specs.declared.decision.Decision.{Decision}
+use Rattle.apf_words.specs.declared.decision.Decision.TheVariants.{Execute, QueueFull}
+use Rattle.apf_history.specs.declared.events.Event.{Event}
+use Rattle.apf_model.specs.Outcome.{Agrees, ExecutesArrivals}
+use Rattle.apf_gate.specs.declared.record.Service.{Service}
+use Rattle.apf_gate.specs.declared.record.Service.TheVariants as service_is
+use Rattle.apf_gate.specs.declared.record.DeskRecord.{DeskRecord}
+use Rattle.apf_gate.specs.Records.{service, service_of}
+use Rattle.apf_gate.specs.Tokens.{PassToken, StationToken}
+use Rattle.apf_gate.specs.Ends.{WordsView, EndAgrees, ExecutedIt}
+use Rattle.apf_book.specs.Laws.{decision_in, took_in}
+use Rattle.apf_level.specs.Levels.{LevelId}
+
+or_true : (a b : Bool) → b ≡ true → (a || b) ≡ true
+or_true true b e = refl
+or_true false b e = e
+
+took_at : (passes : List PassToken) (r i : ℕ) (taker : PassToken) → i < length passes → slice_index_or passes i taker ≡ taker → ExecutedIt r taker → took_in passes r ≡ true
+took_at [] r i taker l is took = absurd (omega arith)
+took_at (token ∷ tokens) r zero taker l is took =
+    let here : ExecutedIt r token = subst (ExecutedIt r) (sym is) took in
+    ap (λ (b : Bool). (b && token.pass.took) || took_in tokens r) (eq-eqb token.pass.number r here.0) ∙ ap (λ (b : Bool). b || took_in tokens r) here.1
+took_at (token ∷ tokens) r (suc i) taker l is took = or_true _ _ (took_at tokens r i taker (omega arith) is took)
+
+module _ (k : LevelId) (d : DeskRecord) (w : WordsView) (ps : List PassToken) (ss : List StationToken) (e : EndAgrees k.gate d ps ss w) (count : length w.decisions ≡ length k.gate.shape.widths)
+    (served_none : d.services ≡ []) where
+  idle : (r : ℕ) (x : Service) → service d r ≡ x → service_is.NotHanded ≡ x
+  idle r x is = sym (ap (λ (l : List (ℕ × Service)). service_of l r) served_none) ∙ is
+
+  inside : (r : ℕ) (x : Decision) → decision_in w r ≡ Some x → (r < length k.gate.shape.widths) × (slice_get w.decisions r ≡ Some (Some x))
+  inside r x is = elim (cases_lt r (length w.decisions)) [
+    | inl l ↦ (subst (λ n. r < n) count l, slice_get-get_or w.decisions r None l ∙ ap (λ (y : Option Decision). Some y) is)
+    | inr past ↦ absurd (let n : ◌≡◌ {A = Option Decision} None (Some x) = sym (get_or_past w.decisions r None past) ∙ is in cc)
+  ]
+
+  none_here : (x : Event) → ¬ Contains [] x
+  none_here x c = let l = c.1 in omega arith
+
+  pub agrees : Agrees [] (decision_in w)
+  agrees = record {
+    dispatched = λ r q here. absurd (none_here _ here);
+    struck = λ r q here. absurd (none_here _ here);
+    full = λ r. (
+      (λ f. absurd (none_here _ f.1)),
+      (λ is.
+          let x = inside r QueueFull is in
+          absurd (let z = idle r service_is.RefusedFull (e.full_was_refused r x.0 x.1) in cc)),
+    );
+  }
+
+  pub arrivals : ExecutesArrivals [] (decision_in w) (took_in ps)
+  arrivals r is took =
+      let x = inside r Execute is in
+      elim (e.executed r x.0 x.1) [
+        | inl settled ↦ absurd (let z = idle r service_is.Settled settled in cc)
+        | inr any ↦ absurd (let b = sym (took_at ps r any.0 any.1 any.2 any.3 any.4) ∙ took in cc)
+      ]

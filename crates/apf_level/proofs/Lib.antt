@@ -1,0 +1,7 @@
+pub mod Knowing
+pub mod Sums
+pub mod Growing
+pub mod Outcomes
+pub mod Ends
+pub mod Idle
+pub mod Nobody

@@ -1,0 +1,31 @@
+use Rattle.std.proofs.Common.{List, ap, sym, subst}
+use Rattle.apf_history.specs.declared.events.Event.{Event}
+use Rattle.apf_gate.specs.Tokens.{GateId}
+use Rattle.apf_gate.specs.Ends.{EndsWith, EndAgrees}
+use Rattle.apf_book.specs.LedgerView.{LedgerView, IsLogOf}
+use Rattle.apf_book.specs.Laws.{IsOfOneMind, LogAgrees, decision_in}
+use Rattle.apf_level.specs.Reports.{Ended}
+use Rattle.apf_level.proofs.Ends.{ended, gone}
+use Rattle.apf_level.proofs.Nobody.{nobody}
+use Rattle.apf_level.proofs.finish.finish_book.Goals as goal
+
+pub returns-clause-ended : goal.returns-clause-ended
+returns-clause-ended g c =
+    let k = g.K.Naming.level in
+    let book = c.args.book in
+    let v : LedgerView = book.ledger in
+    let d = book.desk.desk in
+    let w = c.in_ok-words.words in
+    let ps = c.args.passes.items in
+    let ss = c.args.stations.items in
+    let same = c.end-desk.ensures.desk in
+    let ends : EndsWith k.gate d ps ss w = subst (λ x. EndsWith k.gate x ps ss w) (ap (λ x. x.desk) same) (subst (λ (x : GateId). EndsWith x c.end-desk.result.0.desk ps ss w) c.requires.own c.in_ok-words.ensures) in
+    let e : EndAgrees k.gate d ps ss w = c.every_end_agrees.ensures k.gate d ps ss w ends in
+    let kept = c.end-desk.ensures.kept in
+    let mind : IsOfOneMind d v = c.every_book_is_kept.ensures d v kept in
+    let agree : LogAgrees v ps w = c.every_ended_book_agrees.ensures k.gate book.desk v ps ss w c.requires.own_book.gate kept ends in
+    let of_log : IsLogOf v = kept.of_log in
+    let law = ended k d w ps ss e ends.count c.requires.own_passes c.requires.done c.requires.heard v.history mind.holds_none in
+    let none = nobody k book.desk v c.requires.own_book.gate kept mind (gone k d w ps ss e ends.count c.requires.own_passes c.requires.done c.requires.heard) in
+    subst (λ (h : List Event). Ended k w.level (decision_in w) h ps ss) (sym c.end-desk.ensures.log)
+    (law (subst IsLogOf c.requires.own_book.ledger of_log) none agree.agrees agree.arrivals)

@@ -1,0 +1,17 @@
+use Rattle.std.proofs.Common.{◌≡◌, ◌++◌, All, map}
+use Rattle.std.specs.Vec.Iter.{into_iter_items}
+use Rattle.apf_gate.specs.Tokens.{PassToken, pass_gate}
+use Rattle.apf_level.specs.Keepers.{desk_in, IsKeeperOf}
+use Rattle.apf_level.specs.Tokens.{IsDone}
+use Rattle.apf_level.specs.Heard.{IsHeard, outcome_of}
+use Rattle.apf_level.proofs.hearing.gather.Given as goal
+
+abbrev pub invariant-loop-done : goal.invariant-loop-done
+invariant-loop-done g l =
+    record {
+      all : map outcome_of l.passes.items ++ map outcome_of (into_iter_items l.done-iterator) ≡ map outcome_of l.fn.dones.items;
+      keeper : IsKeeperOf g.K.Naming.level l.keeper;
+      rest : All (λ (t : PassToken). pass_gate t ≡ g.K.Naming.level.gate) (into_iter_items l.done-iterator);
+      done : All IsDone l.passes.items;
+      heard : All (IsHeard (desk_in l.keeper).desk) l.passes.items;
+    }

@@ -1,0 +1,14 @@
+use Rattle.std.proofs.Common.{◌≡◌}
+use Rattle.apf_gate.specs.declared.record.State.TheVariants.{Fresh}
+use Rattle.apf_level.specs.Tokens.{IsOf}
+use Rattle.apf_level.proofs.level.Level.take.Given as goal
+
+abbrev pub invariant-loop : goal.invariant-loop
+invariant-loop g l =
+    record {
+      next : (goal.iterator-loop g).can_next l.iterator';
+      ends : (goal.iterator-loop g).is_finite l.iterator';
+      same : IsOf l.fn.pass l.pass;
+      fresh : l.pass.pass.state ≡ Fresh;
+      entered : l.pass.pass.entered ≡ l.fn.pass.pass.entered;
+    }

@@ -1,0 +1,27 @@
+-- What a Desk heard of the Passes that came back.
+use Rattle.std.specs.Prelude.{◌≡◌, ◌≢◌, ℕ, ◌<◌, Bool, length, Option, None}
+use Rattle.apf_words.specs.declared.decision.Decision.{Decision}
+use Rattle.apf_gate.specs.declared.record.DeskRecord.{DeskRecord}
+use Rattle.apf_gate.specs.declared.record.Service.TheVariants.{Waiting}
+use Rattle.apf_gate.specs.Records.{told_of, told_own, service}
+use Rattle.apf_gate.specs.Tokens.{GateId, PassToken, pass_gate}
+
+-- the Desk was told of the Pass's request what the Pass was told, and does not have it waiting
+pub record IsHeard (desk : DeskRecord) (token : PassToken) : Type 0 where
+  pub told : told_of desk.knows.told token.pass.number ≡ told_own token.pass
+  pub gone : service desk token.pass.number ≢ Waiting
+  pub inside : token.pass.number < length token.pass.knows.shape.widths
+
+-- what was heard stays heard
+abbrev pub StaysHeard : DeskRecord → DeskRecord → Type 0
+StaysHeard desk desk' = (token : PassToken) → told_own token.pass ≢ None → IsHeard desk token → IsHeard desk' token
+
+-- what a Pass says of its request's end: which request it is, what it was told, and whether it took its seats on arrival
+pub record Outcome : Type 0 where
+  pub gate : GateId
+  pub number : ℕ
+  pub told : Option Decision
+  pub took : Bool
+
+abbrev pub outcome_of : PassToken → Outcome
+outcome_of token = record { gate = pass_gate token; number = token.pass.number; told = told_own token.pass; took = token.pass.took }

@@ -1,0 +1,42 @@
+-- Which level it is.
+use Rattle.std.specs.Prelude.{◌≡◌, List, [], None}
+use Rattle.atomic_table.specs.Seated.{TableId}
+use Rattle.apf_history.specs.declared.events.Event.{Event}
+use Rattle.apf_model.specs.declared.response.Response.TheVariants.{Reject}
+use Rattle.apf_gate.specs.Tokens.{GateId, DeskToken, desk_gate}
+use Rattle.apf_gate.specs.Gauges.{IsShape}
+use Rattle.apf_book.specs.LedgerView.{LedgerView, IsLogOf}
+use Rattle.apf_book.specs.BookView.{BookView}
+
+-- its gate, and the ledger that it was opened with
+pub record LevelId : Type 0 where
+  pub gate : GateId
+  pub opening : LedgerView
+
+-- a level, as contracts see it: its gate, and the cell of its statistics
+pub record LevelView : Type 0 where
+  pub gate : GateId
+  pub cell : TableId
+
+-- the level's ledger once its log is this, the newest event first
+abbrev pub logged_as : LevelId → List Event → LedgerView
+logged_as k h = record k.opening { history = h }
+
+-- the gate is this level's
+pub record IsGateOf (k : LevelId) (gate : GateId) : Type 0 where
+  pub same : gate ≡ k.gate
+  pub shape : IsShape gate.shape
+
+-- the book is this level's: its Desk is of the level's gate, and its ledger began as the level's
+pub record IsBookOf (k : LevelId) (b : BookView) : Type 0 where
+  pub gate : desk_gate b.desk ≡ k.gate
+  pub ledger : b.ledger ≡ logged_as k b.ledger.history
+
+-- the Desk is that of this level, which has no queues: it served nobody
+pub record IsIdleOf (k : LevelId) (d : DeskToken) : Type 0 where
+  pub no_queues : k.gate.shape.response ≡ Reject
+  pub gate : desk_gate d ≡ k.gate
+  pub served_none : d.desk.services ≡ []
+  pub holds_none : d.desk.held ≡ None
+  -- the log stays empty
+  pub of_log : IsLogOf (logged_as k [])

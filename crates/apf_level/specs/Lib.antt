@@ -1,0 +1,11 @@
+pub mod Levels
+pub mod Nobody
+pub mod Opening
+pub mod Tokens
+pub mod Admission
+pub mod Shown
+pub mod Copies
+pub mod Limits
+pub mod Heard
+pub mod Keepers
+pub mod Reports

@@ -1,0 +1,45 @@
+//! What the calls of a request answer.
+
+use crate::tokens::{Done, Running, Waiting};
+use apf_gate::Pass;
+use apf_words::Decision;
+
+/// What became of an attempt to be admitted.
+pub enum TryAdmit {
+    /// It executes.
+    Run(Running),
+    /// It is decided so. Where the bool is true requests waited when its seats were given back, and the
+    /// caller owes a dispatch.
+    Over(Done, Decision, bool),
+    /// Requests wait, it does not fit, or the level word changed in between. On a level without queues,
+    /// the last alone.
+    Busy(Pass),
+}
+
+/// What became of an arrival.
+pub enum Begin {
+    /// It executes.
+    Run(Running),
+    /// It is decided so.
+    Over(Done, Decision),
+    /// It waits in a queue.
+    Waiting(Waiting),
+}
+
+/// What was read of a request that waits.
+pub enum Poll {
+    /// It executes.
+    Run(Running),
+    /// It is decided so.
+    Over(Done, Decision),
+    /// It is not decided.
+    Still(Waiting),
+}
+
+/// What became of a request in the end.
+pub enum Admit {
+    /// It executes.
+    Run(Running),
+    /// It is decided so.
+    Over(Done, Decision),
+}

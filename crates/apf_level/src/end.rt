@@ -1,0 +1,105 @@
+//! How a level ends.
+
+ghost use Rattle.std.specs.Prelude.{◌≡◌, length, reverse, slice_get, IfOk, All};
+ghost use Rattle.apf_model.specs.Outcome.{stats_of};
+ghost use Rattle.apf_gate.specs.Tokens.{pass_gate, station_gate};
+ghost use Rattle.apf_book.specs.LedgerKept.{AreStats};
+ghost use Rattle.apf_level.specs.Keepers.{log_in, IsKeeperOf};
+ghost use Rattle.apf_level.specs.Reports.{AreSums, Ended};
+
+use crate::alone::Alone;
+use crate::finish::finish;
+use crate::hearing::{Keeper, gather};
+use crate::level::Level;
+use crate::naming::Naming;
+use crate::queued::Queued;
+use crate::report::{Report, read};
+use crate::shared::Shared;
+use crate::tokens::Done;
+use apf_book::Stats;
+use apf_gate::Station;
+use apf_stats::StatsPass;
+use std::alloc::{AllocError, Global};
+
+// Whoever decided under the lock.
+fn keeper_of<K: Naming>(shared: Shared<K>) -> Keeper
+    ensures { IsKeeperOf K.level result }
+{
+    match shared {
+        Shared::Queued(queued) => {
+            let Queued {
+                book,
+                board: _,
+                sleeps: _,
+                of: _,
+            } = queued;
+            Keeper::Book(book)
+        }
+        Shared::Alone(alone) => {
+            let Alone { desk, of: _ } = alone;
+            Keeper::Desk(desk)
+        }
+    }
+}
+
+// The numbers of the log.
+fn numbers<K: Naming>(keeper: &Keeper) -> Stats
+    requires { IsKeeperOf K.level keeper.now }
+    ensures { AreStats result (stats_of K.level.opening.sizes.deck (log_in keeper.now)) }
+{
+    match keeper {
+        Keeper::Book(book) => book.stats(),
+        Keeper::Desk(_desk) => Stats {
+            entered: 0,
+            dispatched: 0,
+            struck: 0,
+            full: 0,
+            waiting: 0,
+        },
+    }
+}
+
+impl<K: Naming> Level<K> {
+    /// Ends a level whose requests are all done, and tells what its words and its log say. The Dones and the
+    /// Stations may come in any order. Requests that still stand in a queue were cancelled, and are struck.
+    ///
+    /// # Errors
+    ///
+    /// `AllocError` if memory was refused. Then everything is given up.
+    pub fn end(
+        self,
+        alloc: Global,
+        dones: Vec<Done>,
+        stations: Vec<Station>,
+        _stats: StatsPass,
+    ) -> Result<Report, AllocError>
+        requires own { All (λ t. pass_gate t ≡ K.level.gate) dones.items }
+        requires own_stations { All (λ t. station_gate t ≡ K.level.gate) stations.items }
+        requires all_dones { length dones.items ≡ length K.level.gate.shape.widths }
+        requires all_stations { length stations.items ≡ K.level.gate.shape.stations }
+        ensures ended { IfOk result (λ r. Ended K.level r.word (slice_get r.decisions.items) (reverse r.log.items) dones.items stations.items) }
+        ensures count { IfOk result (λ r. length r.decisions.items ≡ length K.level.gate.shape.widths) }
+        ensures sums { IfOk result (λ r. AreSums r.counts (slice_get r.decisions.items) (length r.decisions.items)) }
+        ensures stats { IfOk result (λ r. AreStats r.stats (stats_of K.level.opening.sizes.deck (reverse r.log.items))) }
+    {
+        let Level {
+            gate,
+            response: _,
+            shared,
+            window: _,
+        } = self;
+        let mut keeper = keeper_of(shared.into_inner());
+        let passes = gather::<K>(alloc, &gate, &mut keeper, dones)?;
+        let count = passes.len() as u32;
+        let stats = numbers::<K>(&keeper);
+        let (words, log) = finish::<K>(alloc, gate, keeper, passes, stations)?;
+        let (decisions, counts) = read(alloc, &words, count)?;
+        Ok(Report {
+            word: words.level(),
+            decisions,
+            log,
+            stats,
+            counts,
+        })
+    }
+}

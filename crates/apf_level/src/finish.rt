@@ -1,0 +1,96 @@
+//! The words and the log of a level whose Passes all came back.
+
+ghost use Rattle.std.specs.Prelude.{◌≡◌, [], reverse, length, IfOk, All};
+ghost use Rattle.apf_gate.specs.Tokens.{pass_gate, station_gate};
+ghost use Rattle.apf_book.specs.Laws.{decision_in};
+ghost use Rattle.apf_level.specs.Levels.{IsBookOf, IsIdleOf};
+ghost use Rattle.apf_level.specs.Keepers.{desk_in, log_in, IsKeeperOf};
+ghost use Rattle.apf_level.specs.Tokens.{IsDone};
+ghost use Rattle.apf_level.specs.Heard.{IsHeard};
+ghost use Rattle.apf_level.specs.Reports.{Ended};
+
+use crate::hearing::Keeper;
+use crate::naming::Naming;
+use apf_book::{Book, every_book_is_kept, every_ended_book_agrees};
+use apf_gate::{Desk, Gate, Pass, Station, Words, every_end_agrees};
+use apf_model::Event;
+use std::alloc::{AllocError, Global};
+
+// Of a level with queues.
+fn finish_book<K: Naming>(
+    alloc: Global,
+    gate: Gate<Global>,
+    book: Book<Global>,
+    passes: Vec<Pass>,
+    stations: Vec<Station>,
+) -> Result<(Words<Global>, Vec<Event>), AllocError>
+    requires own { gate ≡ K.level.gate }
+    requires own_book { IsBookOf K.level book }
+    requires own_passes { All (λ t. pass_gate t ≡ K.level.gate) passes.items }
+    requires own_stations { All (λ t. station_gate t ≡ K.level.gate) stations.items }
+    requires all_passes { length passes.items ≡ length K.level.gate.shape.widths }
+    requires all_stations { length stations.items ≡ K.level.gate.shape.stations }
+    requires done { All IsDone passes.items }
+    requires heard { All (IsHeard book.desk.desk) passes.items }
+    ensures log { IfOk result (λ o. reverse o.1.items ≡ book.ledger.history) }
+    ensures ended { IfOk result (λ o. Ended K.level o.0.level (decision_in o.0) (reverse o.1.items) passes.items stations.items) }
+    ensures count { IfOk result (λ o. length o.0.decisions ≡ length K.level.gate.shape.widths) }
+{
+    every_end_agrees();
+    every_ended_book_agrees();
+    every_book_is_kept();
+    let (desk, log) = book.end();
+    let words = gate.end(alloc, desk, passes, stations)?;
+    Ok((words, log))
+}
+
+// Of a level without queues, whose log is empty.
+fn finish_alone<K: Naming>(
+    alloc: Global,
+    gate: Gate<Global>,
+    desk: Desk,
+    passes: Vec<Pass>,
+    stations: Vec<Station>,
+) -> Result<(Words<Global>, Vec<Event>), AllocError>
+    requires own { gate ≡ K.level.gate }
+    requires own_desk { IsIdleOf K.level desk }
+    requires own_passes { All (λ t. pass_gate t ≡ K.level.gate) passes.items }
+    requires own_stations { All (λ t. station_gate t ≡ K.level.gate) stations.items }
+    requires all_passes { length passes.items ≡ length K.level.gate.shape.widths }
+    requires all_stations { length stations.items ≡ K.level.gate.shape.stations }
+    requires done { All IsDone passes.items }
+    requires heard { All (IsHeard desk.desk) passes.items }
+    ensures log { IfOk result (λ o. o.1.items ≡ []) }
+    ensures ended { IfOk result (λ o. Ended K.level o.0.level (decision_in o.0) (reverse o.1.items) passes.items stations.items) }
+    ensures count { IfOk result (λ o. length o.0.decisions ≡ length K.level.gate.shape.widths) }
+{
+    every_end_agrees();
+    let words = gate.end(alloc, desk, passes, stations)?;
+    Ok((words, Vec::new(alloc)))
+}
+
+/// The words and the log, where each Pass came back and was heard.
+pub fn finish<K: Naming>(
+    alloc: Global,
+    gate: Gate<Global>,
+    keeper: Keeper,
+    passes: Vec<Pass>,
+    stations: Vec<Station>,
+) -> Result<(Words<Global>, Vec<Event>), AllocError>
+    requires own { gate ≡ K.level.gate }
+    requires own_keeper { IsKeeperOf K.level keeper }
+    requires own_passes { All (λ t. pass_gate t ≡ K.level.gate) passes.items }
+    requires own_stations { All (λ t. station_gate t ≡ K.level.gate) stations.items }
+    requires all_passes { length passes.items ≡ length K.level.gate.shape.widths }
+    requires all_stations { length stations.items ≡ K.level.gate.shape.stations }
+    requires done { All IsDone passes.items }
+    requires heard { All (IsHeard (desk_in keeper).desk) passes.items }
+    ensures log { IfOk result (λ o. reverse o.1.items ≡ log_in keeper) }
+    ensures ended { IfOk result (λ o. Ended K.level o.0.level (decision_in o.0) (reverse o.1.items) passes.items stations.items) }
+    ensures count { IfOk result (λ o. length o.0.decisions ≡ length K.level.gate.shape.widths) }
+{
+    match keeper {
+        Keeper::Book(book) => finish_book::<K>(alloc, gate, book, passes, stations),
+        Keeper::Desk(desk) => finish_alone::<K>(alloc, gate, desk, passes, stations),
+    }
+}

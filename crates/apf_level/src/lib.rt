@@ -1,0 +1,35 @@
+//! A priority level: its gate, and what stands under its lock.
+//!
+//! In the order of the data's way:
+//!
+//! - `naming`: which level a type is of.
+//! - `tokens`: a request at a level, by what became of it so far. `answers`: what calls answer.
+//! - `queued`: what stands under the lock of a level with queues. `alone`: of one without. `shared`: either.
+//! - `level`: the level, and how it begins.
+//! - `admission`: the steps of a request outside the lock. `arriving`: those that may take it.
+//! - `stations`: the calls of a Station. `locked`: those that take the lock.
+//! - `hearing`, `finish`, `report`, `end`: how a level ends, and what it tells then.
+#![tactic(auto)]
+
+mod admission;
+mod alone;
+mod answers;
+mod arriving;
+mod end;
+mod finish;
+mod hearing;
+mod level;
+mod locked;
+mod naming;
+mod queued;
+mod report;
+mod shared;
+mod stations;
+mod tokens;
+
+pub use answers::{Admit, Begin, Poll, TryAdmit};
+pub use apf_stats::StatsPass;
+pub use level::{Level, LevelFault, Opened};
+pub use naming::Naming;
+pub use report::{Counts, Report};
+pub use tokens::{Done, Running, Waiting};

@@ -1,0 +1,128 @@
+//! What stands under the lock of a level with queues.
+
+ghost use Rattle.std.specs.Prelude.{◌≡◌, ◌≢◌, ◌<◌, length, false, true, Some, None};
+ghost use Rattle.apf_words.specs.declared.decision.Decision.TheVariants as decisions;
+ghost use Rattle.apf_gate.specs.declared.record.State.TheVariants.{InLine};
+ghost use Rattle.apf_gate.specs.Records.{told_own};
+ghost use Rattle.apf_gate.specs.Tokens.{pass_gate};
+ghost use Rattle.apf_level.specs.Levels.{IsBookOf};
+ghost use Rattle.apf_level.specs.Tokens.{IsOf};
+ghost use Rattle.apf_level.specs.Shown.{shown_of, WentOn};
+
+use crate::naming::Naming;
+use apf_book::{Arrived, Book};
+use apf_gate::{Gate, Pass};
+use apf_model::Event;
+use apf_stats::Board;
+use apf_words::Decision;
+use std::alloc::Global;
+use std::marker::PhantomData;
+use std::sync::Wait;
+
+/// The book of K's level, beside the numbers that are published of it.
+#[derive(Drop)]
+pub struct Queued<K: Naming> {
+    pub book: Book<Global>,
+    pub board: Board,
+    // Whether somebody may sleep until the request is decided.
+    pub sleeps: Vec<bool>,
+    pub of: PhantomData<K>,
+    ghost tied: { IsBookOf K.level book },
+    ghost published: { board.shown ≡ shown_of book.ledger.history },
+    ghost one_flag_each: { length sleeps.items ≡ length K.level.gate.shape.widths },
+}
+
+// Wakes those who may sleep until a request is decided that was dispatched since the log had this length.
+fn wake(gate: &Gate<Global>, book: &Book<Global>, sleeps: &[bool], before: usize)
+    requires one_flag_each { length sleeps.now ≡ length gate.now.shape.widths }
+{
+    let Some(newer) = book.log().get(before..) else {
+        return;
+    };
+    for event in newer {
+        if let Event::Dispatch(request, _queue) = *event {
+            if let Some(true) = sleeps.get(request as usize) {
+                gate.wake(request);
+            }
+        }
+    }
+}
+
+// Publishes the numbers of the log, if it grew since it had this length.
+fn publish<R: Wait>(rt: &R, book: &Book<Global>, board: &mut Board, before: usize)
+    requires went_on { WentOn board.old.shown before book.now.ledger.history }
+    ensures cell { board.new.cell ≡ board.old.cell }
+    ensures shown { board.new.shown ≡ shown_of book.now.ledger.history }
+{
+    if book.log().len() != before {
+        board.publish(rt, book.stats());
+    }
+}
+
+impl<K: Naming> Queued<K> {
+    /// The request arrives, and whoever waits is dispatched while the chosen head fits. Tells the request's
+    /// decision, unless it waits: then somebody may sleep until it is decided, if this says so.
+    pub fn arrive<R: Wait>(
+        &mut self,
+        rt: &R,
+        gate: &Gate<Global>,
+        pass: &mut Pass,
+        sleeps: bool,
+    ) -> Option<Decision>
+        requires own { gate.now ≡ K.level.gate }
+        requires own_pass { pass_gate pass.old ≡ K.level.gate }
+        requires in_line { pass.old.pass.state ≡ InLine }
+        requires not_handed { pass.old.pass.handed ≡ false }
+        ensures same { IsOf pass.old pass.new }
+        ensures in_line { pass.new.pass.state ≡ InLine }
+        ensures entered { result ≡ None → pass.new.pass.entered ≡ true }
+        ensures told { result ≢ None → told_own pass.new.pass ≡ result }
+        ensures refused { result ≢ Some decisions.Execute }
+    {
+        let before = self.book.log().len();
+        match self.book.arrive(rt, gate, pass) {
+            Arrived::Queued(_queue) => {
+                self.book.dispatch(rt, gate);
+                wake(gate, &self.book, self.sleeps.as_slice(), before);
+                publish(rt, &self.book, &mut self.board, before);
+                if let Some(flag) = self.sleeps.get_mut(pass.number() as usize) {
+                    *flag = sleeps;
+                }
+                None
+            }
+            Arrived::Full(_queue) => {
+                publish(rt, &self.book, &mut self.board, before);
+                Some(Decision::QueueFull)
+            }
+            Arrived::Closed => Some(Decision::Closed),
+            Arrived::Cancelled => Some(Decision::Cancelled),
+            Arrived::Again => unreachable!(),
+        }
+    }
+
+    /// Dispatches while the chosen head fits. Tells how many.
+    pub fn dispatch<R: Wait>(&mut self, rt: &R, gate: &Gate<Global>) -> u32
+        requires own { gate.now ≡ K.level.gate }
+    {
+        let before = self.book.log().len();
+        let count = self.book.dispatch(rt, gate);
+        wake(gate, &self.book, self.sleeps.as_slice(), before);
+        publish(rt, &self.book, &mut self.board, before);
+        count
+    }
+
+    /// Strikes the request, if it waits and is cancelled, and dispatches then. Says whether it struck.
+    pub fn strike<R: Wait>(&mut self, rt: &R, gate: &Gate<Global>, request: u32) -> bool
+        requires own { gate.now ≡ K.level.gate }
+        requires is_request { request < length K.level.gate.shape.widths }
+    {
+        let before = self.book.log().len();
+        let struck = self.book.strike(gate, request);
+        if struck {
+            self.book.dispatch(rt, gate);
+            wake(gate, &self.book, self.sleeps.as_slice(), before);
+            publish(rt, &self.book, &mut self.board, before);
+        }
+        struck
+    }
+}

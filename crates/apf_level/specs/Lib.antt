@@ -5,6 +5,7 @@ pub mod Tokens
 pub mod Admission
 pub mod Shown
 pub mod Copies
+pub mod Served
 pub mod Limits
 pub mod Heard
 pub mod Keepers

@@ -13,7 +13,7 @@ use crate::hearing::Keeper;
 use crate::naming::Naming;
 use apf_book::{Book, every_book_is_kept, every_ended_book_agrees};
 use apf_gate::{Desk, Gate, Pass, Station, Words, every_end_agrees};
-use apf_model::Event;
+use apf_model::{Event, every_legal_history_is_in_order};
 use std::alloc::{AllocError, Global};
 
 // Of a level with queues.
@@ -39,6 +39,7 @@ fn finish_book<K: Naming>(
     every_end_agrees();
     every_ended_book_agrees();
     every_book_is_kept();
+    every_legal_history_is_in_order();
     let (desk, log) = book.end();
     let words = gate.end(alloc, desk, passes, stations)?;
     Ok((words, log))

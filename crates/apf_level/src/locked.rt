@@ -1,11 +1,12 @@
 //! The calls that take the lock and own no Pass.
 
-ghost use Rattle.std.specs.Prelude.{◌≡◌, ◌+◌, ◌<◌, ◌≤◌, length};
+ghost use Rattle.std.specs.Prelude.{◌≡◌, ◌+◌, ◌<◌, ◌≤◌, length, true};
 ghost use Rattle.apf_words.specs.Limits.{max_limit};
 ghost use Rattle.apf_gate.specs.Tokens.{station_gate};
 ghost use Rattle.apf_stats.specs.Numbers.{numbers_of, IsBelow};
 ghost use Rattle.apf_level.specs.Copies.{IsCopied};
 ghost use Rattle.apf_level.specs.Limits.{LastSet};
+ghost use Rattle.apf_level.specs.Served.{Dispatched, Struck};
 
 use crate::level::Level;
 use crate::naming::Naming;
@@ -18,7 +19,9 @@ use std::sync::Wait;
 impl<K: Naming> Level<K> {
     /// Dispatches from the queues while the chosen head fits, and strikes cancelled heads. Tells how many
     /// were dispatched: 0 on a level without queues.
-    pub fn dispatch<R: Wait>(&self, rt: &R) -> u32 {
+    pub fn dispatch<R: Wait>(&self, rt: &R) -> u32
+        ensures dispatched { Dispatched K.level result }
+    {
         self.shared.lock(rt).dispatch(rt, &self.gate)
     }
 
@@ -26,6 +29,7 @@ impl<K: Naming> Level<K> {
     /// same lock. Says whether it struck: never on a level without queues.
     pub fn strike<R: Wait>(&self, rt: &R, request: u32) -> bool
         requires is_request { request < length self.now.gate.shape.widths }
+        ensures struck { result ≡ true → Struck K.level request }
     {
         self.shared.lock(rt).strike(rt, &self.gate, request)
     }

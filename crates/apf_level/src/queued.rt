@@ -7,6 +7,7 @@ ghost use Rattle.apf_gate.specs.Records.{told_own};
 ghost use Rattle.apf_gate.specs.Tokens.{pass_gate};
 ghost use Rattle.apf_level.specs.Levels.{IsBookOf};
 ghost use Rattle.apf_level.specs.Tokens.{IsOf};
+ghost use Rattle.apf_level.specs.Served.{Dispatched, Struck};
 ghost use Rattle.apf_level.specs.Shown.{shown_of, WentOn};
 
 use crate::naming::Naming;
@@ -103,6 +104,7 @@ impl<K: Naming> Queued<K> {
     /// Dispatches while the chosen head fits. Tells how many.
     pub fn dispatch<R: Wait>(&mut self, rt: &R, gate: &Gate<Global>) -> u32
         requires own { gate.now ≡ K.level.gate }
+        ensures dispatched { Dispatched K.level result }
     {
         let before = self.book.log().len();
         let count = self.book.dispatch(rt, gate);
@@ -115,6 +117,7 @@ impl<K: Naming> Queued<K> {
     pub fn strike<R: Wait>(&mut self, rt: &R, gate: &Gate<Global>, request: u32) -> bool
         requires own { gate.now ≡ K.level.gate }
         requires is_request { request < length K.level.gate.shape.widths }
+        ensures struck { result ≡ true → Struck K.level request }
     {
         let before = self.book.log().len();
         let struck = self.book.strike(gate, request);

@@ -8,6 +8,7 @@ ghost use Rattle.apf_gate.specs.Records.{told_own};
 ghost use Rattle.apf_gate.specs.Tokens.{pass_gate};
 ghost use Rattle.apf_level.specs.Tokens.{IsOf};
 ghost use Rattle.apf_level.specs.Copies.{Copies, IsCopied};
+ghost use Rattle.apf_level.specs.Served.{Dispatched, Struck};
 
 use crate::alone::Alone;
 use crate::naming::Naming;
@@ -56,6 +57,7 @@ impl<K: Naming> Shared<K> {
     /// Dispatches while the chosen head fits. Tells how many.
     pub fn dispatch<R: Wait>(&mut self, rt: &R, gate: &Gate<Global>) -> u32
         requires own { gate.now ≡ K.level.gate }
+        ensures dispatched { Dispatched K.level result }
     {
         match self {
             Shared::Queued(queued) => queued.dispatch(rt, gate),
@@ -67,6 +69,7 @@ impl<K: Naming> Shared<K> {
     pub fn strike<R: Wait>(&mut self, rt: &R, gate: &Gate<Global>, request: u32) -> bool
         requires own { gate.now ≡ K.level.gate }
         requires is_request { request < length K.level.gate.shape.widths }
+        ensures struck { result ≡ true → Struck K.level request }
     {
         match self {
             Shared::Queued(queued) => queued.strike(rt, gate, request),

@@ -26,6 +26,6 @@ returns-clause-ended g c =
     let agree : LogAgrees v ps w = c.every_ended_book_agrees.ensures k.gate book.desk v ps ss w c.requires.own_book.gate kept ends in
     let of_log : IsLogOf v = kept.of_log in
     let law = ended k d w ps ss e ends.count c.requires.own_passes c.requires.done c.requires.heard v.history mind.holds_none in
-    let none = nobody k book.desk v c.requires.own_book.gate kept mind (gone k d w ps ss e ends.count c.requires.own_passes c.requires.done c.requires.heard) in
+    let none = nobody c.every_legal_history_is_in_order.ensures.numbers k book.desk v c.requires.own_book.gate kept mind (gone k d w ps ss e ends.count c.requires.own_passes c.requires.done c.requires.heard) in
     subst (λ (h : List Event). Ended k w.level (decision_in w) h ps ss) (sym c.end-desk.ensures.log)
     (law (subst IsLogOf c.requires.own_book.ledger of_log) none agree.agrees agree.arrivals)

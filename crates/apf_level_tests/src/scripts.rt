@@ -1,0 +1,222 @@
+//! A script with the answers that it is to have, and what the level is to tell at its end.
+
+use crate::opening::Fault;
+use crate::requests::Answer;
+use crate::scenes::{Scene, run};
+use crate::stand::Stand;
+use apf_book::{Ask, Config, Stats};
+use apf_gate::{Close, TrySetLimit};
+use apf_level::{Counts, Naming};
+use apf_model::Event;
+use apf_words::Decision;
+use std::alloc::Global;
+use std::process::Abort;
+use std::sync::Wait;
+use std::thread::Threads;
+
+/// A call with what it is to answer.
+#[derive(Clone, Copy, Debug)]
+pub enum Step {
+    /// The request tries to be admitted.
+    TryAdmit(u32, Answer),
+    /// The request arrives.
+    Begin(u32, Answer),
+    /// The request reads its decision.
+    Poll(u32, Answer),
+    /// The request arrives, and waits until it is decided.
+    Admit(u32, Answer),
+    /// The request gives its seats back.
+    Release(u32, Answer),
+    /// The heads that fit are dispatched, so many.
+    Dispatch(u32),
+    /// The request is struck, or not.
+    Strike(u32, bool),
+    /// The request is cancelled. Tells its decision.
+    Cancel(u32, Decision),
+    /// The level is closed.
+    Close(Close),
+    /// The limit is tried to be set.
+    TryLimit(u32, TrySetLimit),
+    /// The limit is set. Tells the old one.
+    Limit(u32, u32),
+    /// The level word: whether it is closed, seats, waiters and the limit.
+    Look(bool, [u32; 3]),
+    /// Reads the statistics.
+    Read(Stats),
+    /// Copies the log from this place on into room for so many events, at most four. Tells how many were copied.
+    Copy(u32, usize, usize),
+}
+
+/// A level with what is done with it, and what it tells at its end.
+#[derive(Clone, Copy)]
+pub struct Row<'a> {
+    pub config: Config,
+    pub asks: &'a [Ask],
+    pub steps: &'a [Step],
+    pub closed: bool,
+    pub decisions: &'a [Decision],
+    pub log: &'a [Event],
+    pub stats: Stats,
+    pub counts: Counts,
+}
+
+/// The answer of a request that was decided so.
+pub fn over(decision: Decision) -> Answer {
+    Answer::Over(decision)
+}
+
+/// The numbers of a log: entered, dispatched, struck, full and waiting.
+pub fn numbers(entered: u32, dispatched: u32, struck: u32, full: u32, waiting: u32) -> Stats {
+    Stats {
+        entered,
+        dispatched,
+        struck,
+        full,
+        waiting,
+    }
+}
+
+/// Plays the script, and asserts that the answers and the report are the row's.
+pub fn run_row<R: Threads + Wait + Abort + Sync>(
+    rt: &R,
+    alloc: Global,
+    row: &Row<'_>,
+) -> Result<(), Fault> {
+    let script = Script {
+        steps: row.steps,
+        log: row.log,
+    };
+    let (last, report) = run(rt, alloc, row.config, row.asks, 1, &Scene::Script(script))?;
+    assert_eq!(rt; last, row.stats);
+    assert_eq!(rt; report.word.closed(), row.closed);
+    assert_eq!(rt; report.word.seats(), 0);
+    assert_eq!(rt; report.word.waiters(), 0);
+    assert_eq!(rt; report.decisions.as_slice(), row.decisions);
+    assert_eq!(rt; report.log.as_slice(), row.log);
+    assert_eq!(rt; report.stats, row.stats);
+    assert_eq!(rt; report.counts, row.counts);
+    Ok(())
+}
+
+/// The steps of a script, and the log at its end, of which each copy has a part.
+#[derive(Clone, Copy)]
+pub struct Script<'a> {
+    steps: &'a [Step],
+    log: &'a [Event],
+}
+
+impl Script<'_> {
+    /// Makes the steps.
+    pub fn play<K: Naming, R: Wait + Abort>(&self, rt: &R, stand: &mut Stand<K>) {
+        for (place, step) in self.steps.iter().enumerate() {
+            stand.follow(rt, place, *step, self.log);
+        }
+    }
+}
+
+impl<K: Naming> Stand<K> {
+    // Makes the call, and asserts that it answers so.
+    fn follow<R: Wait + Abort>(&mut self, rt: &R, place: usize, step: Step, log: &[Event]) {
+        match step {
+            Step::TryAdmit(request, answer)
+            | Step::Begin(request, answer)
+            | Step::Poll(request, answer)
+            | Step::Admit(request, answer)
+            | Step::Release(request, answer) => {
+                assert_eq!(rt; self.call(rt, request, step), answer, "step {place}");
+            }
+            Step::Dispatch(count) => assert_eq!(rt; self.level.dispatch(rt), count, "step {place}"),
+            Step::Strike(request, struck) => {
+                assert!(rt; (request as usize) < self.requests.len());
+                assert_eq!(rt; self.level.strike(rt, request), struck, "step {place}");
+            }
+            Step::Read(stats) => {
+                assert_eq!(rt; self.read(rt), stats, "step {place}");
+            }
+            Step::Copy(from, room, count) => {
+                assert!(rt; from as usize <= log.len() || count == 0);
+                let rest = log.get(from as usize..).unwrap_or(&[]);
+                assert!(rt; count <= rest.len());
+                self.copy(rt, place, from, room, &rest[..count]);
+            }
+            _ => self.follow_station(rt, place, step),
+        }
+    }
+
+    // Makes the call of the request.
+    fn call<R: Wait + Abort>(&mut self, rt: &R, request: u32, step: Step) -> Answer {
+        assert!(rt; (request as usize) < self.requests.len());
+        let request = &mut self.requests[request as usize];
+        match step {
+            Step::TryAdmit(..) => request.try_admit(&self.level),
+            Step::Begin(..) => request.begin(rt, &self.level),
+            Step::Poll(..) => request.poll(rt, &self.level),
+            Step::Admit(..) => request.admit(rt, &self.level),
+            Step::Release(..) => request.release(&self.level),
+            _ => Answer::Wrong,
+        }
+    }
+
+    // Makes the call of the Station, and asserts that it answers so.
+    fn follow_station<R: Wait + Abort>(&mut self, rt: &R, place: usize, step: Step) {
+        assert!(rt; !self.callers.is_empty());
+        let caller = &mut self.callers[0];
+        match step {
+            Step::Cancel(request, decision) => {
+                assert!(rt; (request as usize) < self.requests.len());
+                assert_eq!(rt;
+                    caller.cancel(&self.level, request),
+                    decision,
+                    "step {place}"
+                );
+            }
+            Step::Close(close) => assert_eq!(rt; caller.close(&self.level), close, "step {place}"),
+            Step::TryLimit(limit, answer) => {
+                assert!(rt; (1..=10_000).contains(&limit));
+                assert_eq!(rt;
+                    caller.try_set_limit(&self.level, limit),
+                    answer,
+                    "step {place}"
+                );
+            }
+            Step::Limit(limit, old) => {
+                assert!(rt; (1..=10_000).contains(&limit));
+                assert_eq!(rt;
+                    caller.set_limit(rt, &self.level, limit),
+                    old,
+                    "step {place}"
+                );
+            }
+            Step::Look(closed, numbers) => {
+                let word = caller.look(&self.level);
+                assert_eq!(rt; word.closed(), closed, "step {place}");
+                assert_eq!(rt;
+                    [word.seats(), word.waiters(), word.limit()],
+                    numbers,
+                    "step {place}"
+                );
+            }
+            _ => panic!(rt; "step {place} is of a request"),
+        }
+    }
+
+    // Copies the log, and asserts that these events were copied, and that the rest of the room is as it was.
+    fn copy<R: Wait + Abort>(
+        &mut self,
+        rt: &R,
+        place: usize,
+        from: u32,
+        room: usize,
+        events: &[Event],
+    ) {
+        let unused = Event::Full(99, 99);
+        let mut into = [unused; 4];
+        assert!(rt; room <= 4 && events.len() <= room);
+        let count = self.level.copy_events(rt, from, &mut into[..room]);
+        assert_eq!(rt; count as usize, events.len(), "step {place}");
+        assert_eq!(rt; &into[..events.len()], events, "step {place}");
+        for event in &into[events.len()..] {
+            assert_eq!(rt; *event, unused, "step {place}");
+        }
+    }
+}

@@ -11,6 +11,8 @@ import time
 sys.path.insert(0, os.path.join(os.path.dirname(os.path.abspath(__file__)), "lib"))
 from harness import TOP, Tally, write
 
+# a shell can't trap what was ignored before it, and what runs in the background of another shell ignores an interrupt
+signals.signal(signals.SIGINT, signals.default_int_handler)
 tally = Tally()
 room = tempfile.TemporaryDirectory(prefix="apf-test-")
 

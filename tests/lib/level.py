@@ -1,47 +1,176 @@
-"""What a replay prints, for the commands that are built: an independent computation."""
+"""What a replay prints: an independent computation, written from the rules and slow on purpose."""
+
+import hashlib
 
 from judge import Refused, config_of, dealer_fault, requests_of, script_of
 
+DECISIONS = ("execute", "queue-full", "closed", "concurrency-limit", "cancelled")
 
-def replayed(config, requests, commands):
-    """The transcript and the book. Nobody waits yet: who finds no room stays undecided."""
-    if config["limitResponse"] == "Reject":
-        raise Refused("apf: not built yet: limitResponse Reject")
-    fault = dealer_fault(config["queues"], config["handSize"])
+
+def hand_of(deck, hand, number):
+    """Takes cards out of a list."""
+    cards, dealt = list(range(deck)), []
+    for _ in range(hand):
+        number, place = divmod(number, len(cards))
+        dealt.append(cards.pop(place))
+    return dealt
+
+
+def hash_of(schema, distinguisher):
+    digest = hashlib.sha256(schema.encode() + b"\0" + distinguisher.encode()).digest()
+    return int.from_bytes(digest[:8], "little")
+
+
+class Level:
+    """A level of one thread. Lists and scans alone: nothing is kept that could be counted."""
+
+    def __init__(self, config, requests):
+        self.config, self.requests = config, requests
+        self.limit, self.closed = config["limit"], False
+        queues = config["queues"] if config["limitResponse"] == "Queue" else 0
+        self.queues = [[] for _ in range(queues)]
+        # virtual time: where each queue's next service starts, how far the level is, and who was served last
+        self.starts, self.time, self.last = [0] * queues, 0, queues - 1
+        self.arrived, self.running, self.decided = set(), set(), {}
+        self.lines, self.log = [], []
+
+    def width(self, request):
+        return self.requests[request]["width"]
+
+    def seats(self):
+        return sum(self.width(request) for request in self.running)
+
+    def waiting(self):
+        return sum(len(queue) for queue in self.queues)
+
+    def fits(self, request):
+        seats = self.seats()
+        return seats == 0 or seats + self.width(request) <= self.limit
+
+    def note(self, kind, request, queue):
+        self.log.append((kind, request, queue))
+        if kind in ("dispatch", "strike"):
+            self.lines.append(f"{kind} {request} queue {queue}")
+
+    def dispatch(self):
+        while self.waiting():
+            busy = [queue for queue in range(len(self.queues)) if self.queues[queue]]
+            finish = {queue: self.starts[queue] + self.width(self.queues[queue][0]) for queue in busy}
+            round_from = [(self.last + 1 + step) % len(self.queues) for step in range(len(self.queues))]
+            chosen = next(queue for queue in round_from if queue in finish and finish[queue] == min(finish.values()))
+            request = self.queues[chosen][0]
+            if not self.fits(request):
+                return
+            self.queues[chosen].pop(0)
+            self.time = max(self.time, self.starts[chosen])
+            self.starts[chosen] += self.width(request)
+            self.last = chosen
+            self.decided[request] = "execute"
+            self.running.add(request)
+            self.note("dispatch", request, chosen)
+
+    def arrive(self, request):
+        if request in self.arrived:
+            self.lines.append(f"arrive {request} again")
+            return
+        self.arrived.add(request)
+        if request not in self.decided and self.closed:
+            self.decided[request] = "closed"
+        elif request not in self.decided and not self.waiting() and self.fits(request):
+            self.decided[request] = "execute"
+            self.running.add(request)
+        elif request not in self.decided and not self.queues:
+            self.decided[request] = "concurrency-limit"
+        if request in self.decided:
+            self.lines.append(f"arrive {request} {self.decided[request]}")
+        else:
+            self.enter(request)
+
+    def enter(self, request):
+        hand = hand_of(len(self.queues), self.config["handSize"], self.requests[request]["hash"])
+        lengths = [len(self.queues[queue]) for queue in hand]
+        queue = hand[lengths.index(min(lengths))]
+        if len(self.queues[queue]) == self.config["queueLengthLimit"]:
+            self.decided[request] = "queue-full"
+            self.lines.append(f"arrive {request} queue-full {queue}")
+            self.note("full", request, queue)
+            return
+        if not self.queues[queue]:
+            self.starts[queue] = max(self.starts[queue], self.time)
+        self.queues[queue].append(request)
+        self.lines.append(f"arrive {request} queued {queue}")
+        self.note("enter", request, queue)
+        self.dispatch()
+
+    def finish(self, request):
+        self.lines.append(f"finish {request}" + ("" if request in self.running else " not running"))
+        if request in self.running:
+            self.running.remove(request)
+            self.dispatch()
+
+    def cancel(self, request):
+        self.decided.setdefault(request, "cancelled")
+        self.lines.append(f"cancel {request} {self.decided[request]}")
+        for queue, waiting in enumerate(self.queues):
+            if self.decided[request] == "cancelled" and request in waiting:
+                waiting.remove(request)
+                self.note("strike", request, queue)
+                self.dispatch()
+
+    def close(self, _):
+        self.lines.append("close already" if self.closed else "close first")
+        self.closed = True
+
+    def set_limit(self, limit):
+        self.lines.append(f"limit {limit} was {self.limit}")
+        self.limit = limit
+        self.dispatch()
+
+    def follow(self, commands):
+        calls = {"arrive": self.arrive, "finish": self.finish, "cancel": self.cancel, "close": self.close, "limit": self.set_limit}
+        for name, number in commands:
+            calls[name](number)
+
+    def count(self, kind):
+        return sum(1 for event in self.log if event[0] == kind)
+
+    def transcript(self):
+        each = {decision: list(self.decided.values()).count(decision) for decision in DECISIONS}
+        rejected = each["queue-full"] + each["closed"] + each["concurrency-limit"]
+        book = [
+            f"level {'closed' if self.closed else 'open'} seats {self.seats()} waiting {self.waiting()}",
+            f"executed {each['execute']} rejected {rejected} cancelled {each['cancelled']} undecided {len(self.requests) - len(self.decided)}",
+            f"queue-full {each['queue-full']} closed {each['closed']} concurrency-limit {each['concurrency-limit']}",
+            f"entered {self.count('enter')} dispatched {self.count('dispatch')} struck {self.count('strike')}",
+        ]
+        return "".join(f"{line}\n" for line in [*self.lines, *book])
+
+    def services(self):
+        lines = []
+        for queue in range(len(self.queues)):
+            entered = sum(1 for kind, _, other in self.log if (kind, other) == ("enter", queue))
+            service = sum(self.width(request) for kind, request, other in self.log if (kind, other) == ("dispatch", queue))
+            if entered:
+                lines.append(f"queue {queue} entered {entered} service {service}\n")
+        return "".join(lines)
+
+
+def followed(config, requests, script):
+    """The level after the script in files of these bytes, read and judged in this order."""
+    level = config_of(config)
+    asked = requests_of(requests)
+    commands = script_of(script, len(asked))
+    fault = level["limitResponse"] == "Queue" and dealer_fault(level["queues"], level["handSize"])
     if fault:
         raise Refused(fault)
-    if any(name not in ("arrive", "finish") for name, _ in commands):
-        raise Refused("apf: not built yet: script lines other than arrive and finish")
-    limit, seats, came, running, executed, lines = config["limit"], 0, set(), set(), 0, []
-    for name, number in commands:
-        width = requests[number]["width"]
-        if name == "finish":
-            lines.append(f"finish {number}" + ("" if number in running else " not running"))
-            seats -= width if number in running else 0
-            running.discard(number)
-        elif number in came:
-            lines.append(f"arrive {number} again")
-        else:
-            came.add(number)
-            is_fit = seats + width <= limit or (width > limit and seats == 0)
-            lines.append(f"arrive {number} " + ("execute" if is_fit else "no room"))
-            if is_fit:
-                seats, executed = seats + width, executed + 1
-                running.add(number)
-    book = [
-        f"level open seats {seats} waiting 0",
-        f"executed {executed} rejected 0 cancelled 0 undecided {len(requests) - executed}",
-        "queue-full 0 closed 0 concurrency-limit 0",
-        "entered 0 dispatched 0 struck 0",
-    ]
-    return "".join(f"{line}\n" for line in [*lines, *book])
+    done = Level(level, asked)
+    done.follow(commands)
+    return done
 
 
-def answer(config, requests, script):
-    """The status, output and errors of `replay` on files of these bytes, read and judged in this order."""
+def answer(config, requests, script, tells=Level.transcript):
+    """The status, output and errors of `replay`, or of `services`, on files of these bytes."""
     try:
-        level = config_of(config)
-        asked = requests_of(requests)
-        return 0, replayed(level, asked, script_of(script, len(asked))).encode(), b""
+        return 0, tells(followed(config, requests, script)).encode(), b""
     except Refused as line:
         return 1, b"", f"{line}\n".encode()

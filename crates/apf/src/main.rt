@@ -54,6 +54,7 @@ fn run(rt: &HostRuntime) -> Result<u8, Unread> {
     let words: Vec<&str> = owned.iter().map(|word| word.as_str()).collect(alloc)?;
     let mut files = Disk { rt };
     Ok(act(
+        rt,
         alloc,
         words.as_slice(),
         &mut files,

@@ -4,4 +4,3 @@ pub mod Accepted
 pub mod Matches
 pub mod Chain
 mod Rows
-pub mod Arrivals

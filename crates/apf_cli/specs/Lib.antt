@@ -1,4 +1,3 @@
 pub mod Commands
 pub mod Meaning
 pub mod Arguments
-pub mod Requests

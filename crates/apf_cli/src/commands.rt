@@ -122,7 +122,7 @@ fn services_command<'a>(alloc: Global) -> Result<Command<'a>, AllocError>
     files_command(
         alloc,
         "services",
-        "Run a script of requests and print each queue's service (not built yet)",
+        "Run a script of requests and print each queue's service",
         help::SCRIPT,
     )?
     .arg(text(alloc, "SCRIPT", "Script file"))

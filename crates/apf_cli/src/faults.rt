@@ -1,8 +1,7 @@
 //! Why the program ends with another status than 0, and the line that says so.
 
 use apf_flow::DealerFault;
-use apf_run::{ConfigFault, RequestFault, ScriptFault};
-use std::alloc::AllocError;
+use apf_run::{ConfigFault, LevelFault, ReplayFault, RequestFault, ScriptFault, WriteFault};
 use std::fmt;
 
 /// The files of a command line.
@@ -27,18 +26,12 @@ impl fmt::Display for Input {
 #[derive(Clone, Copy, Debug, PartialEq, Eq)]
 pub enum Part {
     Run,
-    Services,
-    Script,
-    Reject,
 }
 
 impl fmt::Display for Part {
     fn fmt<W: fmt::Write>(&self, f: &mut fmt::Formatter<W>) -> fmt::Result {
         f.write_str(match self {
             Part::Run => "run",
-            Part::Services => "services",
-            Part::Script => "script lines other than arrive and finish",
-            Part::Reject => "limitResponse Reject",
         })
     }
 }
@@ -58,6 +51,8 @@ pub enum Fault {
     Config(ConfigFault),
     Requests(RequestFault),
     Script(ScriptFault),
+    /// The level was not opened, for another cause than the dealer's. What the readers accept has none.
+    Level(ReplayFault),
     CannotRead(Input),
     CannotWrite,
     /// What was asked for is a part of the program that isn't built yet.
@@ -76,16 +71,11 @@ impl Fault {
             | Fault::Config(_)
             | Fault::Requests(_)
             | Fault::Script(_)
+            | Fault::Level(_)
             | Fault::CannotRead(_)
             | Fault::CannotWrite
             | Fault::NotBuilt(_) => 1,
         }
-    }
-}
-
-impl From<AllocError> for Fault {
-    fn from(_refused: AllocError) -> Fault {
-        Fault::NoMemory
     }
 }
 
@@ -113,6 +103,22 @@ impl From<ScriptFault> for Fault {
             ScriptFault::NoMemory => Fault::NoMemory,
             _ => Fault::Script(fault),
         }
+    }
+}
+
+impl From<ReplayFault> for Fault {
+    fn from(fault: ReplayFault) -> Fault {
+        match fault {
+            ReplayFault::Level(LevelFault::Dealer(fault)) => Fault::Dealer(fault, Sizes::OfConfig),
+            ReplayFault::NoMemory => Fault::NoMemory,
+            _ => Fault::Level(fault),
+        }
+    }
+}
+
+impl From<WriteFault> for Fault {
+    fn from(_fault: WriteFault) -> Fault {
+        Fault::CannotWrite
     }
 }
 
@@ -144,6 +150,7 @@ impl fmt::Display for Fault {
                     None => write!(f, "apf: script fault {number}: {fault}"),
                 }
             }
+            Fault::Level(fault) => write!(f, "apf: the level can't be opened: {fault}"),
             Fault::CannotRead(input) => write!(f, "apf: cannot read {input}"),
             Fault::CannotWrite => f.write_str("apf: cannot write"),
             Fault::NotBuilt(part) => write!(f, "apf: not built yet: {part}"),

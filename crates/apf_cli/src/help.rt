@@ -65,7 +65,6 @@ SCRIPT has one command a line, each line ended by LF, and at most 100000 lines:
   arrive N, finish N, cancel N   of request N
   close                          the level
   limit N                        the level's seats become N, 1 to 10000
-  (cancel, close and limit, and a level that rejects, are not built yet)
 
 Example:
   $ cat config.json requests.json script.txt

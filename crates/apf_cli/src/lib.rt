@@ -4,16 +4,13 @@
 //!
 //! - `help`, `commands`, `words`: what a command line asks for, read by `clap`.
 //! - `program`: does it, and answers the status.
-//! - `level`, `replay`: a script of arrivals and finishes on a level of one thread.
 //! - `faults`: the lines on standard error.
 #![tactic(auto)]
 
 mod commands;
 mod faults;
 mod help;
-mod level;
 mod program;
-mod replay;
 #[cfg(test)]
 mod tests;
 mod words;

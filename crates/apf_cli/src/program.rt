@@ -1,13 +1,13 @@
 //! The whole program over files and writers that the caller passes.
 
 use crate::faults::{Fault, Input, Part, Sizes};
-use crate::replay::replay;
 use crate::words::{Action, read_words};
 use apf_flow::{Dealer, flow_hash};
-use apf_run::{read_config, read_requests, read_script};
+use apf_run::{Transcript, read_config, read_requests, read_script, replay};
 use clap::error::ErrorKind;
 use std::alloc::Global;
 use std::io::Write;
+use std::sync::Wait;
 
 /// Why a file was not read.
 #[derive(Clone, Copy, Debug, PartialEq, Eq)]
@@ -53,22 +53,22 @@ fn print_deal<O: Write>(deck: u32, hand: u32, hash: u64, out: &mut O) -> Result<
     writeln!(out).map_err(|_| Fault::CannotWrite)
 }
 
-// Reads the three files, each judged before the next is read, runs the script and prints what happened.
-fn print_replay<F: Files, O: Write>(
+// Reads the three files, each judged before the next is read, and runs the script.
+fn replayed<F: Files, R: Wait>(
+    rt: &R,
     alloc: Global,
     files: &mut F,
     names: (&str, &str, &str),
-    out: &mut O,
-) -> Result<(), Fault> {
+) -> Result<Transcript, Fault> {
     let config = read_config(alloc, read(files, Input::Config, names.0)?.as_slice())?;
     let requests = read_requests(alloc, read(files, Input::Requests, names.1)?.as_slice())?;
     let script = read(files, Input::Script, names.2)?;
     let commands = read_script(alloc, script.as_slice(), requests.len() as u32)?;
-    let transcript = replay(alloc, &config, requests.as_slice(), commands.as_slice())?;
-    transcript.write(out).map_err(|_| Fault::CannotWrite)
+    Ok(replay(rt, alloc, &config, requests.as_slice(), commands.as_slice())?)
 }
 
-fn perform<F: Files, O: Write>(
+fn perform<F: Files, O: Write, R: Wait>(
+    rt: &R,
     alloc: Global,
     action: Action<'_>,
     files: &mut F,
@@ -84,9 +84,13 @@ fn perform<F: Files, O: Write>(
             config,
             requests,
             script,
-        } => print_replay(alloc, files, (config, requests, script), out)?,
+        } => replayed(rt, alloc, files, (config, requests, script))?.write(out)?,
         Action::Run { .. } => return Err(Fault::NotBuilt(Part::Run)),
-        Action::Services { .. } => return Err(Fault::NotBuilt(Part::Services)),
+        Action::Services {
+            config,
+            requests,
+            script,
+        } => replayed(rt, alloc, files, (config, requests, script))?.write_services(out)?,
     }
     out.flush().map_err(|_| Fault::CannotWrite)
 }
@@ -116,7 +120,8 @@ fn print_refusal<O: Write, E: Write>(
 /// faults of `deal` among them; 3 want of memory. Before the status is 1, 2 or 3, one fault is
 /// printed on `err`, and a write to it that fails changes no status. A fault prints nothing on
 /// `out`, except that a failed write may have written a beginning.
-pub fn act<F: Files, O: Write, E: Write>(
+pub fn act<F: Files, O: Write, E: Write, R: Wait>(
+    rt: &R,
     alloc: Global,
     words: &[&str],
     files: &mut F,
@@ -124,7 +129,7 @@ pub fn act<F: Files, O: Write, E: Write>(
     err: &mut E,
 ) -> u8 {
     let ended = match read_words(alloc, words) {
-        Ok(action) => perform(alloc, action, files, out).map(|()| 0),
+        Ok(action) => perform(rt, alloc, action, files, out).map(|()| 0),
         Err(error) => print_refusal(&error, out, err),
     };
     match ended {

@@ -1,21 +1,24 @@
 //! Worked examples of the whole program, with files in memory.
 
+mod rows;
+
 use crate::{FileFault, Files, act};
 use std::alloc::Global;
 use std::process::Abort;
+use std::sync::Wait;
 
 const BOOK_OF_NOTHING: &str = "level open seats 0 waiting 0\n\
     executed 0 rejected 0 cancelled 0 undecided 0\n\
     queue-full 0 closed 0 concurrency-limit 0\n\
     entered 0 dispatched 0 struck 0\n";
 
-// The three files of a replay, by their names.
+/// The three files of a replay, by their names.
 #[derive(Clone, Copy)]
-struct Memory<'a> {
-    alloc: Global,
-    config: &'a str,
-    requests: &'a str,
-    script: &'a str,
+pub struct Memory<'a> {
+    pub alloc: Global,
+    pub config: &'a str,
+    pub requests: &'a str,
+    pub script: &'a str,
 }
 
 impl Files for Memory<'_> {
@@ -32,13 +35,20 @@ impl Files for Memory<'_> {
     }
 }
 
-// The program answers this status, and writes this and no more.
-fn check(rt: &impl Abort, files: Memory<'_>, words: &[&str], status: u8, out: &str, err: &str) {
+/// The program answers this status, and writes this and no more.
+pub fn check<R: Abort + Wait>(
+    rt: &R,
+    files: Memory<'_>,
+    words: &[&str],
+    status: u8,
+    out: &str,
+    err: &str,
+) {
     let mut files = files;
     let mut stdout = Vec::new(files.alloc);
     let mut stderr = Vec::new(files.alloc);
     let alloc = files.alloc;
-    let answer = act(alloc, words, &mut files, &mut stdout, &mut stderr);
+    let answer = act(rt, alloc, words, &mut files, &mut stdout, &mut stderr);
     assert_eq!(rt; answer, status, "{words:?}");
     assert_eq!(rt; stdout.as_slice(), out.as_bytes(), "{words:?}");
     assert_eq!(rt; stderr.as_slice(), err.as_bytes(), "{words:?}");
@@ -122,19 +132,15 @@ fn replays(rt: HostRuntime) {
         executed 1 rejected 0 cancelled 0 undecided 0\n\
         queue-full 0 closed 0 concurrency-limit 0\n\
         entered 0 dispatched 0 struck 0\n";
-    let no_room = "arrive 0 execute\narrive 1 no room\n\
-        level open seats 1 waiting 0\n\
+    let waits = "arrive 0 execute\narrive 1 queued 0\n\
+        level open seats 1 waiting 1\n\
         executed 1 rejected 0 cancelled 0 undecided 1\n\
         queue-full 0 closed 0 concurrency-limit 0\n\
-        entered 0 dispatched 0 struck 0\n";
+        entered 1 dispatched 0 struck 0\n";
     for (requests, script, out) in [
         ("[]", "", BOOK_OF_NOTHING),
         ("[{\"hash\":0}]", "arrive 0\nfinish 0\n", one),
-        (
-            "[{\"hash\":0},{\"hash\":0}]",
-            "arrive 0\narrive 1\n",
-            no_room,
-        ),
+        ("[{\"hash\":0},{\"hash\":0}]", "arrive 0\narrive 1\n", waits),
     ] {
         let files = Memory {
             alloc: rt.alloc(),
@@ -181,12 +187,6 @@ fn faults(rt: HostRuntime) {
             "[]",
             "limit 0\n",
             "apf: script fault 6 at line 1: bad limit\n",
-        ),
-        (
-            "{\"limit\":1}",
-            "[]",
-            "close\n",
-            "apf: not built yet: script lines other than arrive and finish\n",
         ),
     ] {
         let files = Memory {

@@ -28,7 +28,7 @@ impl<K: Naming> Level<K> {
     /// Strikes the request out of its queue, if it waits and is cancelled, and dispatches then under the
     /// same lock. Says whether it struck: never on a level without queues.
     pub fn strike<R: Wait>(&self, rt: &R, request: u32) -> bool
-        requires is_request { request < length self.now.gate.shape.widths }
+        requires is_request { request < length K.level.gate.shape.widths }
         ensures struck { result ≡ true → Struck K.level request }
     {
         self.shared.lock(rt).strike(rt, &self.gate, request)

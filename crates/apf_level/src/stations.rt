@@ -18,7 +18,7 @@ impl<K: Naming> Level<K> {
     /// decision. It makes one exchange of the request's decision word.
     pub fn cancel(&self, station: &mut Station, request: u32) -> Decision
         requires own { station_gate station.old ≡ K.level.gate }
-        requires is_request { request < length self.now.gate.shape.widths }
+        requires is_request { request < length K.level.gate.shape.widths }
         ensures gate { station_gate station.new ≡ station_gate station.old }
         ensures answer { CancelsTo station.old.station request result station.new.station }
         ensures told { told_of station.new.station.knows.told request ≡ Some result }

@@ -1,5 +1,3 @@
-pub mod FirstFault
-pub mod JsonFile
-pub mod ConfigFile
-pub mod ScriptFile
-pub mod RequestsFile
+pub mod Sessions
+pub mod Texts
+pub mod Services

@@ -1,17 +1,38 @@
-//! Runs a priority level from files: reads a config, requests and a script.
+//! Runs a priority level from what its files say: by a script in one thread, or by workers in threads of their own.
 //!
-//! - `json`: what the files that are JSON share.
-//! - `config`: the config file.
-//! - `requests`: the requests file.
-//! - `script`: the script file.
+//! - `fault`: why a replay or a run came to nothing.
+//! - `line`, `totals`, `services`, `transcript`: what is told, and how it is written.
+//! - `opening`: opens the gate of a level. `token`: what a request holds.
+//! - `client`: a request with its token, and `caller` a Station, of the level that a type names. `clients`: all of
+//!   a level.
+//! - `record`: what a replay notes. `session`: a level with all its tokens in one thread.
+//! - `replaying`: replays a script.
 #![tactic(auto)]
 
-mod config;
-mod json;
-mod requests;
-mod script;
+mod caller;
+mod client;
+mod clients;
+mod fault;
+mod line;
+mod opening;
+mod record;
+mod replaying;
+mod services;
+mod session;
+mod token;
+mod totals;
+mod transcript;
 
-pub use apf_book::{Config, Response};
-pub use config::{ConfigFault, ConfigKey, read_config};
-pub use requests::{Request, RequestFault, read_requests};
-pub use script::{Command, ScriptFault, read_script};
+pub use apf_files::{
+    Command, Config, ConfigFault, ConfigKey, Request, RequestFault, Response, ScriptFault,
+    read_config, read_requests, read_script,
+};
+pub use apf_gate::GateFault;
+pub use apf_level::{LevelFault, Report, Running};
+pub use fault::ReplayFault;
+pub use line::Line;
+pub use replaying::replay;
+pub use services::Service;
+pub use token::Token;
+pub use totals::Totals;
+pub use transcript::{Transcript, WriteFault};

@@ -1,0 +1,5 @@
+pub mod FirstFault
+pub mod JsonFile
+pub mod ConfigFile
+pub mod ScriptFile
+pub mod RequestsFile

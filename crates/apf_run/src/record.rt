@@ -1,0 +1,135 @@
+//! What a replay notes while it goes on: its lines, the decisions that it was told, and the log so far.
+
+ghost use Rattle.std.specs.Prelude.{◌≡◌, ◌≤◌, length};
+
+use crate::line::Line;
+use crate::services::{Service, count_all, no_services};
+use apf_files::Request;
+use apf_level::Counts;
+use apf_model::Event;
+use apf_words::Decision;
+use std::alloc::{AllocError, Global};
+
+/// The lines so far, the decision of each request as far as it was told, and the log as far as it was read, which
+/// stands at the beginning of `log`.
+#[derive(Drop)]
+pub struct Record {
+    lines: Vec<Line>,
+    decisions: Vec<Option<Decision>>,
+    log: Vec<Event>,
+    read: usize,
+    services: Vec<Service>,
+    ghost is_read: { read ≤ length log.items },
+    ghost few_events: { length log.items ≤ 20000 },
+    ghost few_requests: { length decisions.items ≤ 10000 },
+}
+
+impl Record {
+    /// A record of so many requests, commands and queues, all of whose memory is taken here. A log has at most two
+    /// events a request, and a request has at most one line beside those of the commands.
+    ///
+    /// # Errors
+    ///
+    /// `AllocError` if memory was refused.
+    pub fn new(
+        alloc: Global,
+        requests: usize,
+        commands: usize,
+        queues: u32,
+    ) -> Result<Record, AllocError>
+        requires few { requests ≤ 10000 }
+    {
+        Ok(Record {
+            lines: Vec::with_capacity(alloc, commands.saturating_add(requests))?,
+            decisions: vec![in alloc; None; requests]?,
+            log: vec![in alloc; Event::Enter(0, 0); 2 * requests]?,
+            read: 0,
+            services: no_services(alloc, queues)?,
+        })
+    }
+
+    /// Adds a line, for which there is room.
+    ///
+    /// # Errors
+    ///
+    /// `AllocError` if there was no room and memory was refused.
+    pub fn add(&mut self, line: Line) -> Result<(), AllocError> {
+        self.lines.push(line).map_err(AllocError::from)
+    }
+
+    /// The request was told this decision.
+    pub fn decide(&mut self, request: u32, decision: Decision) {
+        if let Some(place) = self.decisions.get_mut(request as usize) {
+            *place = Some(decision);
+        }
+    }
+
+    /// Whether the request was told no decision.
+    pub fn is_undecided(&self, request: u32) -> bool {
+        self.decisions.get(request as usize) == Some(&None)
+    }
+
+    /// How many events were read.
+    pub fn read(&self) -> u32 {
+        self.read as u32
+    }
+
+    /// The room for other events.
+    pub fn room(&mut self) -> &mut [Event] {
+        let from = self.read;
+        &mut self.log[from..]
+    }
+
+    /// So many events more were read. Tells where they end.
+    pub fn advance(&mut self, count: u32) -> u32 {
+        self.read = self.read.saturating_add(count as usize).min(self.log.len());
+        self.read as u32
+    }
+
+    /// The event at this place of the log, if it was read.
+    pub fn event(&self, place: u32) -> Option<Event> {
+        if (place as usize) < self.read {
+            self.log.get(place as usize).copied()
+        } else {
+            None
+        }
+    }
+
+    // How many requests were told this decision.
+    fn decided(&self, decision: Decision) -> u32 {
+        let told = Some(decision);
+        self.decisions
+            .iter()
+            .filter(|other| **other == told)
+            .count() as u32
+    }
+
+    /// The numbers of the decisions that were told.
+    pub fn counts(&self) -> Counts {
+        Counts {
+            executed: self.decided(Decision::Execute),
+            queue_full: self.decided(Decision::QueueFull),
+            closed: self.decided(Decision::Closed),
+            concurrency_limit: self.decided(Decision::ConcurrencyLimit),
+            cancelled: self.decided(Decision::Cancelled),
+        }
+    }
+
+    /// How many requests were told no decision.
+    pub fn undecided(&self) -> u32 {
+        self.decisions.iter().filter(|told| told.is_none()).count() as u32
+    }
+
+    /// The lines, and what each queue was given by the events that were read.
+    pub fn into_lines(self, requests: &[Request]) -> (Vec<Line>, Vec<Service>) {
+        let Record {
+            lines,
+            decisions: _,
+            log,
+            read,
+            mut services,
+        } = self;
+        count_all(services.as_mut_slice(), requests, &log[..read]);
+        (lines, services)
+    }
+}

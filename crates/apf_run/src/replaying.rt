@@ -1,0 +1,79 @@
+//! Replays a script.
+
+ghost use Rattle.std.specs.Prelude.{◌≡◌, length, All};
+ghost use Rattle.apf_files.specs.ScriptFile.{IsCommandInRange};
+ghost use Rattle.apf_run.specs.Sessions.{level_of};
+
+use crate::fault::ReplayFault;
+use crate::opening::{Opening, open_gate};
+use crate::session::Session;
+use crate::transcript::Transcript;
+use apf_files::{Command, Config, Request};
+use apf_level::Naming;
+use std::alloc::{AllocError, Global};
+use std::marker::Brand;
+use std::sync::Wait;
+
+/// Opens a level, carries out the commands in their order, in one thread, and tells what happened. Then it brings
+/// each request to its end and ends the level, of which nothing is told.
+///
+/// A request that arrives begins; one that finishes gives its seats back, and dispatches where requests wait; one
+/// that is cancelled is struck. After each command each request that was dispatched or struck reads its decision.
+///
+/// # Errors
+///
+/// The gate's fault, the level's, or want of memory.
+pub fn replay<R: Wait>(
+    rt: &R,
+    alloc: Global,
+    config: &Config,
+    requests: &[Request],
+    commands: &[Command],
+) -> Result<Transcript, ReplayFault>
+    requires { All (IsCommandInRange (length requests.now)) commands.now }
+{
+    let opening = open_gate(alloc, config, requests, 1)?;
+    replay_named::<Brand, R>(rt, alloc, opening, requests, commands)
+}
+
+fn replay_named<K: Naming, R: Wait>(
+    rt: &R,
+    alloc: Global,
+    opening: Opening,
+    requests: &[Request],
+    commands: &[Command],
+) -> Result<Transcript, ReplayFault>
+    requires level { K.level ≡ level_of opening.gate opening.config opening.asks.items }
+    requires one { opening.gate.shape.stations ≡ 1 }
+    requires commands { All (IsCommandInRange (length K.level.gate.shape.widths)) commands.now }
+{
+    let mut session = Session::<K>::open(rt, alloc, opening, commands.len())?;
+    let carried_out = carry_out_all(rt, &mut session, commands);
+    let totals = session.totals(rt);
+    let (record, ended) = session.end(rt, alloc);
+    carried_out?;
+    ended?;
+    let (lines, services) = record.into_lines(requests);
+    Ok(Transcript {
+        lines,
+        totals,
+        services,
+    })
+}
+
+// Carries out each command.
+fn carry_out_all<K: Naming, R: Wait>(
+    rt: &R,
+    session: &mut Session<K>,
+    commands: &[Command],
+) -> Result<(), AllocError>
+    requires { All (IsCommandInRange (length K.level.gate.shape.widths)) commands.now }
+{
+    for command in commands {
+        session.carry_out(rt, *command)?;
+    }
+    Ok(())
+}
+
+#[cfg(test)]
+mod tests;

@@ -87,7 +87,9 @@ class Level:
             self.enter(request)
 
     def enter(self, request):
-        hand = hand_of(len(self.queues), self.config["handSize"], self.requests[request]["hash"])
+        flow = self.requests[request]["flow"]
+        number = flow if isinstance(flow, int) else hash_of(*flow)
+        hand = hand_of(len(self.queues), self.config["handSize"], number)
         lengths = [len(self.queues[queue]) for queue in hand]
         queue = hand[lengths.index(min(lengths))]
         if len(self.queues[queue]) == self.config["queueLengthLimit"]:

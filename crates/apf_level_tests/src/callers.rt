@@ -4,11 +4,13 @@ ghost use Rattle.std.specs.Prelude.{◌≡◌, ◌<◌, ◌≤◌, length};
 ghost use Rattle.apf_words.specs.Limits.{max_limit};
 ghost use Rattle.apf_gate.specs.Tokens.{station_gate};
 
+use crate::rounds::MOST_TURNS;
 use apf_gate::{Close, Station, TrySetLimit};
 use apf_level::{Level, Naming};
 use apf_words::{Decision, LevelWord};
 use std::marker::PhantomData;
 use std::sync::Wait;
+use std::thread;
 
 /// A Station of the level that K names.
 #[derive(Drop)]
@@ -44,6 +46,19 @@ impl<K: Naming> Caller<K> {
     /// Reads the level word.
     pub fn look(&mut self, level: &Level<K>) -> LevelWord {
         level.look(&mut self.station)
+    }
+
+    /// Lets one request sleep: waits until it stands in a queue, in at most so many turns, and gives it time.
+    pub fn let_sleep(&mut self, level: &Level<K>) {
+        for _turn in 0..MOST_TURNS {
+            if self.look(level).waiters() == 1 {
+                break;
+            }
+            thread::yield_now();
+        }
+        for _turn in 0..3000u32 {
+            thread::yield_now();
+        }
     }
 
     /// Tries to set the limit.

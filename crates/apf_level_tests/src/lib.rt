@@ -5,23 +5,44 @@
 //! - `opening`: opens the gate of a level.
 //! - `token`: what a request holds. It is no test itself, as `specs/` name it.
 //! - `requests`: a request with its token, and `callers` a Station, of the level that a type names.
-//! - `stand`: a level with all its tokens. `scenes`: what is played on it.
+//! - `stand`: a level with all its tokens. `scenes`: what is played on it. `endings`: what it tells at its end.
 //! - `scripts`: a script with the answers that it is to have.
+//! - `rounds`: delays, and where threads begin together. `crowds`: the requests that run at once.
 //!
 //! In one thread:
 //!
 //! - `rows`: worked scripts, `strikes` those of cancelled requests, `limits` those of limits, over-wide requests
 //!   and levels without queues.
+//!
+//! In many threads:
+//!
+//! - `taking`: requests take seats outside the lock. `reading`: the statistics are read while requests run.
+//! - `closing`, `cancelling`: eight Stations close a level, and cancel a request.
+//! - `sleeping`: who sleeps is woken. `admitting`: many sleep and wake each other.
 #![tactic(auto)]
 
 #[cfg(test)]
+mod admitting;
+#[cfg(test)]
 mod callers;
+#[cfg(test)]
+mod cancelling;
+#[cfg(test)]
+mod closing;
+#[cfg(test)]
+mod crowds;
+#[cfg(test)]
+mod endings;
 #[cfg(test)]
 mod limits;
 #[cfg(test)]
 mod opening;
 #[cfg(test)]
+mod reading;
+#[cfg(test)]
 mod requests;
+#[cfg(test)]
+mod rounds;
 #[cfg(test)]
 mod rows;
 #[cfg(test)]
@@ -29,9 +50,13 @@ mod scenes;
 #[cfg(test)]
 mod scripts;
 #[cfg(test)]
+mod sleeping;
+#[cfg(test)]
 mod stand;
 #[cfg(test)]
 mod strikes;
+#[cfg(test)]
+mod taking;
 mod token;
 
 pub use token::Token;

@@ -144,6 +144,15 @@ impl<K: Naming> Request<K> {
         }
     }
 
+    /// Gives its seats back, if it executes, and dispatches if others waited then.
+    pub fn finish<R: Wait>(&mut self, rt: &R, level: &Level<K>) -> Answer {
+        let answer = self.release(level);
+        if answer == Answer::Released(true) {
+            level.dispatch(rt);
+        }
+        answer
+    }
+
     /// What it holds.
     pub fn into_token(self) -> Token
         ensures { IsTokenOf K.level result }

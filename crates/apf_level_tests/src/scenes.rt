@@ -3,11 +3,18 @@
 ghost use Rattle.std.specs.Prelude.{◌≡◌};
 ghost use Rattle.apf_level_tests.specs.Stands.{level_of};
 
+use crate::admitting::Admissions;
+use crate::cancelling::Cancellers;
+use crate::closing::Closers;
+use crate::endings::Ended;
 use crate::opening::{Fault, Opening, open_gate};
+use crate::reading::Readings;
 use crate::scripts::Script;
+use crate::sleeping::Sleepers;
 use crate::stand::Stand;
-use apf_book::{Ask, Config, Stats};
-use apf_level::{Naming, Report};
+use crate::taking::Takers;
+use apf_book::{Ask, Config};
+use apf_level::Naming;
 use std::alloc::Global;
 use std::marker::Brand;
 use std::process::Abort;
@@ -19,34 +26,62 @@ use std::thread::Threads;
 pub enum Scene<'a> {
     /// By one thread.
     Script(Script<'a>),
+    /// Four threads take seats outside the lock.
+    Take(&'a Takers),
+    /// One thread reads the statistics while four run requests.
+    Read(&'a Readings),
+    /// Each Station closes the level, in a thread of its own.
+    Close(&'a Closers),
+    /// Each Station cancels the second request and strikes it, in a thread of its own.
+    Cancel(&'a Cancellers),
+    /// The second request sleeps until the thread of the first one wakes it.
+    Sleep(&'a Sleepers),
+    /// Each request is admitted in a thread of its own.
+    Admit(&'a Admissions),
 }
 
-/// Opens a level, plays the scene on it, and ends it. Tells its numbers by the last reading before its end, and
-/// what its end tells.
+/// Opens a level, plays the scenes on it, one after another, and ends it.
 pub fn run<R: Threads + Wait + Abort + Sync>(
     rt: &R,
     alloc: Global,
     config: Config,
     asks: &[Ask],
     stations: u32,
-    scene: &Scene<'_>,
-) -> Result<(Stats, Report), Fault> {
+    scenes: &[Scene<'_>],
+) -> Result<Ended, Fault> {
     let opening = open_gate(alloc, config, asks, stations)?;
-    play_named::<Brand, R>(rt, alloc, opening, scene)
+    play_named::<Brand, R>(rt, alloc, opening, scenes)
 }
 
 fn play_named<K: Naming, R: Threads + Wait + Abort + Sync>(
     rt: &R,
     alloc: Global,
     opening: Opening<'_>,
-    scene: &Scene<'_>,
-) -> Result<(Stats, Report), Fault>
+    scenes: &[Scene<'_>],
+) -> Result<Ended, Fault>
     requires { K.level ≡ level_of opening.gate opening.config opening.asks.now }
 {
     let mut stand = Stand::<K>::new(rt, alloc, opening)?;
-    match scene {
-        Scene::Script(script) => script.play(rt, &mut stand),
+    for scene in scenes {
+        play(rt, *scene, &mut stand);
     }
     let last = stand.read(rt);
-    Ok((last, stand.end(rt, alloc)?))
+    let report = stand.end(rt, alloc)?;
+    Ok(Ended { last, report })
+}
+
+fn play<K: Naming, R: Threads + Wait + Abort + Sync>(
+    rt: &R,
+    scene: Scene<'_>,
+    stand: &mut Stand<K>,
+) {
+    match scene {
+        Scene::Script(script) => script.play(rt, stand),
+        Scene::Take(takers) => takers.play(rt, stand),
+        Scene::Read(readings) => readings.play(rt, stand),
+        Scene::Close(closers) => closers.play(rt, stand),
+        Scene::Cancel(cancellers) => cancellers.play(rt, stand),
+        Scene::Sleep(sleepers) => sleepers.play(rt, stand),
+        Scene::Admit(admissions) => admissions.play(rt, stand),
+    }
 }

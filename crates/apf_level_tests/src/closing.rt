@@ -1,0 +1,124 @@
+//! Eight Stations close one level, in threads of their own: one of them is the first.
+
+ghost use Rattle.std.specs.Prelude.{◌≡◌, length};
+
+use crate::callers::Caller;
+use crate::endings::Ending;
+use crate::opening::{Fault, ask, settings};
+use crate::requests::Answer::{Over, Tried};
+use crate::rounds::{ENOUGH, MOST_ROUNDS, Start, pass_time, turns};
+use crate::scenes::{Scene, run};
+use crate::scripts::Step::{Begin, Close as Closes, Look, TryAdmit};
+use crate::scripts::{Script, numbers};
+use crate::stand::Stand;
+use apf_gate::Close;
+use apf_level::{Counts, Level, Naming};
+use apf_words::Decision;
+use std::sync::atomic::{AtomicU64, Ordering};
+use std::thread;
+use std::thread::Threads;
+
+/// What the threads of one round share.
+#[derive(Drop)]
+pub struct Closers {
+    round: u32,
+    start: Start,
+    // The Stations whose close was the first.
+    first: AtomicU64,
+    // Those that were told that the level is closed already.
+    already: AtomicU64,
+    // Those of them that saw it open just before.
+    overtaken: AtomicU64,
+}
+
+impl Closers {
+    fn new(round: u32) -> Closers {
+        Closers {
+            round,
+            start: Start::new(),
+            first: AtomicU64::new(0),
+            already: AtomicU64::new(0),
+            overtaken: AtomicU64::new(0),
+        }
+    }
+
+    /// Each Station closes the level, in a thread of its own.
+    pub fn play<K: Naming, R: Threads + Sync>(&self, rt: &R, stand: &mut Stand<K>) {
+        close_all(rt, &stand.level, self, stand.callers.as_mut_slice());
+    }
+}
+
+// A Station looks at the level and closes it, each at its own time.
+fn close<K: Naming>(level: &Level<K>, closers: &Closers, thread: usize, caller: &mut Caller<K>) {
+    closers.start.wait_for(8);
+    pass_time(turns(closers.round, thread));
+    let before = caller.look(level);
+    pass_time(turns(closers.round.wrapping_add(1), thread));
+    if caller.close(level) == Close::First {
+        closers.first.fetch_add(1, Ordering::SeqCst);
+        return;
+    }
+    closers.already.fetch_add(1, Ordering::SeqCst);
+    if !before.closed() {
+        closers.overtaken.fetch_add(1, Ordering::SeqCst);
+    }
+}
+
+// Each Station closes the level, in a thread of its own.
+fn close_all<K: Naming, R: Threads + Sync>(
+    rt: &R,
+    level: &Level<K>,
+    closers: &Closers,
+    callers: &mut [Caller<K>],
+)
+    ensures { length callers.new ≡ length callers.old }
+{
+    thread::for_each_mut(
+        rt,
+        callers,
+        8,
+        &|thread, caller| close(level, closers, thread, caller),
+    );
+}
+
+// One is the first of eight, and some find the level closed that they saw open. Who comes later is turned away.
+#[test]
+fn eight_close(rt: HostRuntime) -> Result<(), Fault> {
+    let mut overtaken = 0u64;
+    for round in 0..MOST_ROUNDS {
+        let closers = Closers::new(round);
+        let later = Script::of(&[
+            Look(true, [0, 0, 1]),
+            Closes(Close::Already),
+            Begin(0, Over(Decision::Closed)),
+            TryAdmit(1, Tried(Decision::Closed, false)),
+        ]);
+        let ended = run(
+            &rt,
+            rt.alloc(),
+            settings(1),
+            &[ask(1); 2],
+            8,
+            &[Scene::Close(&closers), Scene::Script(later)],
+        )?;
+        assert_eq!(rt; closers.first.load(Ordering::SeqCst), 1);
+        assert_eq!(rt; closers.already.load(Ordering::SeqCst), 7);
+        let ending = Ending {
+            closed: true,
+            decisions: &[Decision::Closed; 2],
+            log: &[],
+            stats: numbers(0, 0, 0, 0, 0),
+            counts: Counts {
+                closed: 2,
+                ..Counts::default()
+            },
+        };
+        ended.is_as(&rt, &ending);
+        overtaken = overtaken.saturating_add(closers.overtaken.load(Ordering::SeqCst));
+        if overtaken >= ENOUGH {
+            break;
+        }
+    }
+    assert!(rt; overtaken >= ENOUGH, "{overtaken} overtaken");
+    Ok(())
+}

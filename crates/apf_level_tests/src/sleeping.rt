@@ -1,0 +1,226 @@
+//! A caller that sleeps until its request is decided is woken by a dispatch and by a cancel of another thread.
+
+ghost use Rattle.std.specs.Prelude.{◌≡◌, ◌<◌, length};
+
+use crate::callers::Caller;
+use crate::endings::Ending;
+use crate::opening::{Fault, ask, settings};
+use crate::requests::Answer::{Over, Released, Run};
+use crate::requests::{Answer, Request};
+use crate::rounds::MOST_TURNS;
+use crate::scenes::{Scene, run};
+use crate::scripts::Step::{Begin, Look, Release};
+use crate::scripts::{Script, numbers};
+use crate::stand::Stand;
+use apf_level::{Counts, Level, Naming};
+use apf_model::Event;
+use apf_words::Decision;
+use std::process::Abort;
+use std::sync::atomic::{AtomicU64, Ordering};
+use std::sync::{Mutex, Wait};
+use std::thread;
+use std::thread::Threads;
+
+// How the sleeper is woken.
+#[derive(Clone, Copy, Debug, PartialEq, Eq)]
+enum Call {
+    // The first request gives its seats back, and its thread dispatches.
+    Dispatch,
+    // The thread of the first request cancels the second one.
+    Cancel,
+}
+
+/// What the two threads of one round share.
+#[derive(Drop)]
+pub struct Sleepers {
+    call: Call,
+    // What the sleeper is told.
+    told: Answer,
+    // How many woke.
+    woken: AtomicU64,
+}
+
+impl Sleepers {
+    fn new(call: Call, told: Answer) -> Sleepers {
+        Sleepers {
+            call,
+            told,
+            woken: AtomicU64::new(0),
+        }
+    }
+
+    /// The second request sleeps until the thread of the first one wakes it.
+    pub fn play<K: Naming, R: Threads + Wait + Abort + Sync>(&self, rt: &R, stand: &mut Stand<K>) {
+        assert!(rt; stand.requests.len() > 1);
+        let Some(caller) = stand.callers.pop() else {
+            panic!(rt; "a Station")
+        };
+        let caller = Mutex::new(caller);
+        serve_both(
+            rt,
+            &stand.level,
+            self,
+            &caller,
+            stand.requests.as_mut_slice(),
+        );
+        let Ok(()) = stand.callers.push(caller.into_inner()) else {
+            panic!(rt; "memory")
+        };
+    }
+
+    // Waits until the sleeper woke, in at most so many turns. Says whether it did.
+    fn wait_for_waking(&self) -> bool {
+        for _turn in 0..MOST_TURNS / 10 {
+            if self.woken.load(Ordering::SeqCst) > 0 {
+                return true;
+            }
+            thread::yield_now();
+        }
+        false
+    }
+}
+
+// The first request runs. Its thread lets the other one sleep, and then wakes it.
+fn wake<K: Naming, R: Wait + Abort>(
+    rt: &R,
+    level: &Level<K>,
+    sleepers: &Sleepers,
+    caller: &Mutex<Caller<K>>,
+    request: &mut Request<K>,
+)
+    requires { 1 < length level.now.gate.shape.widths }
+{
+    caller.lock(rt).let_sleep(level);
+    assert_eq!(rt; sleepers.woken.load(Ordering::SeqCst), 0);
+    match sleepers.call {
+        Call::Dispatch => {
+            assert_eq!(rt; request.release(level), Answer::Released(true));
+            assert_eq!(rt; level.dispatch(rt), 1);
+        }
+        Call::Cancel => {
+            let decision = caller.lock(rt).cancel(level, 1);
+            assert_eq!(rt; decision, Decision::Cancelled);
+        }
+    }
+    assert!(rt; sleepers.wait_for_waking(), "it sleeps on");
+}
+
+// The second request sleeps until it is decided.
+fn sleep<K: Naming, R: Wait + Abort>(
+    rt: &R,
+    level: &Level<K>,
+    sleepers: &Sleepers,
+    request: &mut Request<K>,
+) {
+    assert_eq!(rt; request.admit(rt, level), sleepers.told);
+    sleepers.woken.fetch_add(1, Ordering::SeqCst);
+}
+
+// The first request wakes the second one, each in a thread of its own.
+fn serve_both<K: Naming, R: Threads + Wait + Abort + Sync>(
+    rt: &R,
+    level: &Level<K>,
+    sleepers: &Sleepers,
+    caller: &Mutex<Caller<K>>,
+    requests: &mut [Request<K>],
+)
+    requires { 1 < length level.now.gate.shape.widths }
+    ensures { length requests.new ≡ length requests.old }
+{
+    thread::for_each_mut(
+        rt,
+        requests,
+        2,
+        &|place: usize, request: &mut Request<K>|
+            requires { 1 < length level.now.gate.shape.widths }
+        { serve(rt, level, sleepers, caller, place, request) },
+    );
+}
+
+fn serve<K: Naming, R: Wait + Abort>(
+    rt: &R,
+    level: &Level<K>,
+    sleepers: &Sleepers,
+    caller: &Mutex<Caller<K>>,
+    place: usize,
+    request: &mut Request<K>,
+)
+    requires { 1 < length level.now.gate.shape.widths }
+{
+    if place == 0 {
+        wake(rt, level, sleepers, caller, request);
+    } else {
+        sleep(rt, level, sleepers, request);
+    }
+}
+
+// The first request gave its seat back, and the sleeper runs.
+#[test]
+fn a_dispatch_wakes(rt: HostRuntime) -> Result<(), Fault> {
+    for _round in 0..20u32 {
+        let sleepers = Sleepers::new(Call::Dispatch, Run);
+        let before = Script::of(&[Begin(0, Run)]);
+        let after = Script::of(&[Look(false, [1, 0, 1]), Release(1, Released(false))]);
+        let ended = run(
+            &rt,
+            rt.alloc(),
+            settings(1),
+            &[ask(1); 2],
+            2,
+            &[
+                Scene::Script(before),
+                Scene::Sleep(&sleepers),
+                Scene::Script(after),
+            ],
+        )?;
+        assert_eq!(rt; sleepers.woken.load(Ordering::SeqCst), 1);
+        let ending = Ending {
+            closed: false,
+            decisions: &[Decision::Execute; 2],
+            log: &[Event::Enter(1, 0), Event::Dispatch(1, 0)],
+            stats: numbers(1, 1, 0, 0, 0),
+            counts: Counts {
+                executed: 2,
+                ..Counts::default()
+            },
+        };
+        ended.is_as(&rt, &ending);
+    }
+    Ok(())
+}
+
+// The first request still runs, and the sleeper is cancelled.
+#[test]
+fn a_cancel_wakes(rt: HostRuntime) -> Result<(), Fault> {
+    for _round in 0..20u32 {
+        let sleepers = Sleepers::new(Call::Cancel, Over(Decision::Cancelled));
+        let before = Script::of(&[Begin(0, Run)]);
+        let after = Script::of(&[Look(false, [1, 0, 1]), Release(0, Released(false))]);
+        let ended = run(
+            &rt,
+            rt.alloc(),
+            settings(1),
+            &[ask(1); 2],
+            2,
+            &[
+                Scene::Script(before),
+                Scene::Sleep(&sleepers),
+                Scene::Script(after),
+            ],
+        )?;
+        assert_eq!(rt; sleepers.woken.load(Ordering::SeqCst), 1);
+        let ending = Ending {
+            closed: false,
+            decisions: &[Decision::Execute, Decision::Cancelled],
+            log: &[Event::Enter(1, 0), Event::Strike(1, 0)],
+            stats: numbers(1, 0, 1, 0, 0),
+            counts: Counts {
+                executed: 1,
+                cancelled: 1,
+                ..Counts::default()
+            },
+        };
+        ended.is_as(&rt, &ending);
+    }
+    Ok(())
+}

@@ -6,7 +6,7 @@ use crate::callers::Caller;
 use crate::endings::Ending;
 use crate::opening::{Fault, ask, settings};
 use crate::requests::Answer::{Over, Tried};
-use crate::rounds::{ENOUGH, MOST_ROUNDS, Start, pass_time, turns};
+use crate::rounds::{ENOUGH, Start, pass_time, turns};
 use crate::scenes::{Scene, run};
 use crate::scripts::Step::{Begin, Close as Closes, Look, TryAdmit};
 use crate::scripts::{Script, numbers};
@@ -23,6 +23,8 @@ use std::thread::Threads;
 pub struct Closers {
     round: u32,
     start: Start,
+    // Where they wait for each other once they looked at the level.
+    looked: Start,
     // The Stations whose close was the first.
     first: AtomicU64,
     // Those that were told that the level is closed already.
@@ -36,6 +38,7 @@ impl Closers {
         Closers {
             round,
             start: Start::new(),
+            looked: Start::new(),
             first: AtomicU64::new(0),
             already: AtomicU64::new(0),
             overtaken: AtomicU64::new(0),
@@ -48,12 +51,12 @@ impl Closers {
     }
 }
 
-// A Station looks at the level and closes it, each at its own time.
+// A Station looks at the level, waits until the others looked too, and closes it at its own time.
 fn close<K: Naming>(level: &Level<K>, closers: &Closers, thread: usize, caller: &mut Caller<K>) {
     closers.start.wait_for(8);
-    pass_time(turns(closers.round, thread));
     let before = caller.look(level);
-    pass_time(turns(closers.round.wrapping_add(1), thread));
+    closers.looked.wait_for(8);
+    pass_time(turns(closers.round, thread));
     if caller.close(level) == Close::First {
         closers.first.fetch_add(1, Ordering::SeqCst);
         return;
@@ -85,7 +88,7 @@ fn close_all<K: Naming, R: Threads + Sync>(
 #[test]
 fn eight_close(rt: HostRuntime) -> Result<(), Fault> {
     let mut overtaken = 0u64;
-    for round in 0..MOST_ROUNDS {
+    for round in 0..20u32 {
         let closers = Closers::new(round);
         let later = Script::of(&[
             Look(true, [0, 0, 1]),
@@ -115,9 +118,6 @@ fn eight_close(rt: HostRuntime) -> Result<(), Fault> {
         };
         ended.is_as(&rt, &ending);
         overtaken = overtaken.saturating_add(closers.overtaken.load(Ordering::SeqCst));
-        if overtaken >= ENOUGH {
-            break;
-        }
     }
     assert!(rt; overtaken >= ENOUGH, "{overtaken} overtaken");
     Ok(())

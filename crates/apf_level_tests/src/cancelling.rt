@@ -48,7 +48,7 @@ impl Cancellers {
     }
 }
 
-// A Station cancels the second request and strikes it, each at its own time.
+// A Station cancels the second request and strikes it soon after, each at its own time.
 fn cancel<K: Naming, R: Wait>(
     rt: &R,
     level: &Level<K>,
@@ -59,11 +59,11 @@ fn cancel<K: Naming, R: Wait>(
     requires { 1 < length level.now.gate.shape.widths }
 {
     cancellers.start.wait_for(8);
-    pass_time(turns(cancellers.round, thread));
+    pass_time(turns(cancellers.round, thread) / 64);
     if caller.cancel(level, 1) == Decision::Cancelled {
         cancellers.cancelled.fetch_add(1, Ordering::SeqCst);
     }
-    pass_time(turns(cancellers.round.wrapping_add(1), thread));
+    pass_time(turns(cancellers.round.wrapping_add(1), thread) / 64);
     if level.strike(rt, 1) {
         cancellers.struck.fetch_add(1, Ordering::SeqCst);
     }

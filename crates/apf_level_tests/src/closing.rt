@@ -6,7 +6,7 @@ use crate::callers::Caller;
 use crate::endings::Ending;
 use crate::opening::{Fault, ask, settings};
 use crate::requests::Answer::{Over, Tried};
-use crate::rounds::{ENOUGH, Start, pass_time, turns};
+use crate::rounds::{ENOUGH, MOST_ROUNDS, Start, pass_time, turns};
 use crate::scenes::{Scene, run};
 use crate::scripts::Step::{Begin, Close as Closes, Look, TryAdmit};
 use crate::scripts::{Script, numbers};
@@ -51,12 +51,12 @@ impl Closers {
     }
 }
 
-// A Station looks at the level, waits until the others looked too, and closes it at its own time.
+// A Station looks at the level, waits until the others looked too, and closes it soon after, at its own time.
 fn close<K: Naming>(level: &Level<K>, closers: &Closers, thread: usize, caller: &mut Caller<K>) {
     closers.start.wait_for(8);
     let before = caller.look(level);
     closers.looked.wait_for(8);
-    pass_time(turns(closers.round, thread));
+    pass_time(turns(closers.round, thread) / 64);
     if caller.close(level) == Close::First {
         closers.first.fetch_add(1, Ordering::SeqCst);
         return;
@@ -88,7 +88,7 @@ fn close_all<K: Naming, R: Threads + Sync>(
 #[test]
 fn eight_close(rt: HostRuntime) -> Result<(), Fault> {
     let mut overtaken = 0u64;
-    for round in 0..20u32 {
+    for round in 0..MOST_ROUNDS {
         let closers = Closers::new(round);
         let later = Script::of(&[
             Look(true, [0, 0, 1]),

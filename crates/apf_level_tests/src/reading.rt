@@ -81,7 +81,7 @@ fn read<K: Naming, R: Wait + Abort>(
     now
 }
 
-// Reads the statistics ten thousand times.
+// Reads the statistics ten thousand times, and now and then lets the others go on.
 fn read_often<K: Naming, R: Wait + Abort>(
     rt: &R,
     level: &Level<K>,
@@ -93,8 +93,11 @@ fn read_often<K: Naming, R: Wait + Abort>(
 {
     readings.start.wait_for(5);
     let mut before = numbers(0, 0, 0, 0, 0);
-    for _reading in 0..10_000u32 {
+    for reading in 0..10_000u32 {
         before = read(rt, level, readings, before, stats);
+        if reading % 50 == 0 {
+            thread::yield_now();
+        }
     }
 }
 
@@ -124,6 +127,7 @@ fn serve<K: Naming, R: Wait>(
     }
     if arrive(rt, level, request) == Answer::Run {
         pass_time(turns(readings.round, place) / 4);
+        thread::yield_now();
         request.finish(rt, level);
     }
 }

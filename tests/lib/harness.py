@@ -20,6 +20,30 @@ def build():
     return os.path.join(TOP, "crates", "apf", "out", "apf")
 
 
+def is_stale(program):
+    """Whether a program is missing, or a source of a crate changed since it was built."""
+    if not os.path.exists(program):
+        return True
+    files = [os.path.join(TOP, "crates.txt")]
+    for folder, inside, names in os.walk(os.path.join(TOP, "crates")):
+        inside[:] = [it for it in inside if it not in ("out", "must-fail")]
+        files += [os.path.join(folder, it) for it in names]
+    return any(os.path.getmtime(it) > os.path.getmtime(program) for it in files)
+
+
+def build_crate(name):
+    """The path of the program that a crate is, which `rt run` builds where a source is newer than it."""
+    folder = os.path.join(TOP, "crates", name)
+    program = os.path.join(folder, "out", name)
+    if is_stale(program):
+        built = subprocess.run(["rt", "run"], cwd=folder, stdin=subprocess.DEVNULL, stdout=subprocess.PIPE, stderr=subprocess.STDOUT)
+        if built.returncode != 0:
+            print(built.stdout.decode(errors="replace"))
+            print("0 passed, 1 failed")
+            sys.exit(1)
+    return program
+
+
 def run(program, words, **how):
     """Runs the program, and answers its status, its output and its errors, as bytes."""
     done = subprocess.run(

@@ -2,7 +2,7 @@
 
 use crate::checked::Checked;
 use crate::scan::Scan;
-use std::time::Instant;
+use std::time::{Clock, Instant};
 
 // How many requests wait at first, over all queues.
 const REQUESTS: u32 = 9_216;
@@ -43,7 +43,7 @@ pub struct Run {
 }
 
 // How long one of so many took since the start.
-fn picos_each(rt: &HostRuntime, start: Instant, count: u32) -> Option<u64> {
+pub fn picos_each<R: Clock>(rt: &R, start: Instant, count: u32) -> Option<u64> {
     let taken = u64::try_from(start.elapsed(rt).ok()?.as_nanos()).ok()?;
     Some(taken.saturating_mul(1_000) / u64::from(count.max(1)))
 }

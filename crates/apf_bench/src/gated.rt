@@ -13,12 +13,16 @@ use std::thread;
 use std::thread::Threads;
 use std::time::Clock;
 
-// Serves a request for which there is room, in at most so many turns.
-fn serve(gate: &Gate<Global>, pass: &mut Pass)
+// Serves a request for which there is room, in at most so many turns. It reads its decision before each, if this
+// says so.
+fn serve(gate: &Gate<Global>, pass: &mut Pass, reads: bool)
     requires own { pass_gate pass.old ≡ gate.now }
     requires fresh { pass.old.pass.state ≡ Fresh }
 {
     for _turn in 0..1_000_000u32 {
+        if reads && gate.told(pass).is_some() {
+            return;
+        }
         match gate.try_take(pass) {
             TryTake::Taken => {
                 gate.decide(pass, Decision::Execute);
@@ -37,12 +41,13 @@ fn serve_timed<R: Clock>(
     gate: &Gate<Global>,
     request: usize,
     pass: &mut Pass,
+    reads: bool,
 )
     requires own { pass_gate pass.old ≡ gate.now }
     requires fresh { pass.old.pass.state ≡ Fresh }
 {
     course.begin(rt, request);
-    serve(gate, pass);
+    serve(gate, pass, reads);
     course.end(rt, request);
 }
 
@@ -52,6 +57,7 @@ fn serve_all<R: Threads + Clock + Sync>(
     gate: &Gate<Global>,
     passes: &mut [Pass],
     threads: u32,
+    reads: bool,
 )
     requires { All (λ t. (pass_gate t ≡ gate.now) × (t.pass.state ≡ Fresh)) passes.old }
 {
@@ -59,18 +65,23 @@ fn serve_all<R: Threads + Clock + Sync>(
         rt,
         passes,
         threads.max(1) as usize,
-        &|request, pass| { serve_timed(rt, course, gate, request, pass) },
+        &|request, pass| { serve_timed(rt, course, gate, request, pass, reads) },
     );
 }
 
 /// How long a request takes by the gate's steps, in picoseconds: `None` if there was no memory or clock,
-/// or seats are taken at the end.
-pub fn gated<R: Threads + Clock + Sync>(rt: &R, alloc: Global, threads: u32) -> Option<u64> {
+/// or seats are taken at the end. It reads its decision first, as a level does, if this says so.
+pub fn gated<R: Threads + Clock + Sync>(
+    rt: &R,
+    alloc: Global,
+    threads: u32,
+    reads: bool,
+) -> Option<u64> {
     let widths = vec![in alloc; 1u32; REQUESTS as usize].ok()?;
     let opened = Gate::open(alloc, 10_000, widths.as_slice(), 0, Response::Queue);
     let (gate, mut desk, mut passes, _stations) = opened.ok()?;
     let course = Course::new(rt, threads)?;
-    serve_all(rt, &course, &gate, passes.as_mut_slice(), threads);
+    serve_all(rt, &course, &gate, passes.as_mut_slice(), threads, reads);
     if gate.view(&mut desk).seats() != 0 {
         return None;
     }

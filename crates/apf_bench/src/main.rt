@@ -1,5 +1,5 @@
-//! Measures choose and dispatch before and after the tree of finishes, and the gate's steps beside one lock,
-//! as ratios of medians.
+//! Measures choose and dispatch before and after the tree of finishes, the gate's steps and a level's calls beside
+//! one lock, and a level's calls beside the gate's same steps, as ratios of medians.
 //!
 //! `bench/run` starts it with a number of rounds. With no word it makes one round, and writes only
 //! whether the answers agree.
@@ -9,13 +9,18 @@ mod checked;
 mod choices;
 mod course;
 mod gated;
+mod level;
+mod levelled;
+mod lined;
 mod locked;
+mod measures;
+mod plain;
+mod ratio;
 mod scan;
+mod slot;
 
 use choices::{Shape, after, before, median};
-use gated::gated;
-use locked::locked;
-use std::alloc::Global;
+use measures::{measured_admission, measured_line, tell_admission, tell_line};
 use std::process::ExitCode;
 use std::sync::Wait;
 use std::thread::Threads;
@@ -40,6 +45,13 @@ const SHAPES: [Shape; 4] = [
         stride: 8,
     },
 ];
+
+// How many rounds are made, and whether their medians are told.
+#[derive(Clone, Copy)]
+struct Rounds {
+    count: u32,
+    are_told: bool,
+}
 
 // What one shape took, in picoseconds a dispatch.
 #[derive(Drop)]
@@ -67,25 +79,6 @@ fn measured(rt: &HostRuntime, shape: Shape, rounds: u32) -> Option<Medians> {
     })
 }
 
-// The medians of so many rounds in so many threads, each of one run under a lock and one by the gate.
-fn admitted<R: Threads + Clock + Wait + Sync>(
-    rt: &R,
-    alloc: Global,
-    threads: u32,
-    rounds: u32,
-) -> Option<Medians> {
-    let mut locks = Vec::new(alloc);
-    let mut gates = Vec::new(alloc);
-    for _ in 0..rounds {
-        locks.push(locked(rt, alloc, threads)?).ok()?;
-        gates.push(gated(rt, alloc, threads)?).ok()?;
-    }
-    Some(Medians {
-        before: median(locks)?,
-        after: median(gates)?,
-    })
-}
-
 // The first word as a number of rounds, if there is one.
 fn asked(rt: &HostRuntime) -> io::Result<Option<u32>> {
     let mut words = env::args(rt)?;
@@ -103,40 +96,65 @@ fn tell(rt: &HostRuntime, shape: Shape, medians: &Medians) -> io::Result<()> {
     )
 }
 
-fn tell_threads(rt: &HostRuntime, threads: u32, medians: &Medians) -> io::Result<()> {
-    let (lock, gate) = (medians.before / 1_000, medians.after / 1_000);
-    let hundredths = medians.after.saturating_mul(100) / medians.before.max(1);
-    let (whole, rest) = (hundredths / 100, hundredths % 100);
-    let (tenth, hundredth) = (rest / 10, rest % 10);
-    println!(rt;
-        "threads {threads}: under a lock {lock} ns, by the gate {gate} ns, ratio {whole}.{tenth}{hundredth}"
-    )
-}
-
-fn bench<R: Threads + Clock + Wait + Sync>(rt: &HostRuntime, runner: &R) -> io::Result<bool> {
-    let rounds = asked(rt)?;
+// Measures the choices. Says whether the answers agree.
+fn choose(rt: &HostRuntime, rounds: Rounds) -> io::Result<bool> {
     for shape in SHAPES {
-        let Some(medians) = measured(rt, shape, rounds.unwrap_or(1).max(1)) else {
+        let Some(medians) = measured(rt, shape, rounds.count) else {
             println!(rt; "the answers differ, or there was no memory or clock")?;
             return Ok(false);
         };
-        if rounds.is_some() {
+        if rounds.are_told {
             tell(rt, shape, &medians)?;
         }
     }
+    Ok(true)
+}
+
+// Measures requests that have room. Says whether each executed.
+fn admit<R: Threads + Clock + Wait + Sync>(
+    rt: &HostRuntime,
+    runner: &R,
+    rounds: Rounds,
+) -> io::Result<bool> {
     for threads in [1, 2, 4] {
-        let Some(medians) = admitted(runner, rt.alloc(), threads, rounds.unwrap_or(1).max(1)) else {
+        let Some(medians) = measured_admission(runner, rt.alloc(), threads, rounds.count) else {
             println!(rt; "seats are left, or there was no memory or clock")?;
             return Ok(false);
         };
-        if rounds.is_some() {
-            tell_threads(rt, threads, &medians)?;
+        if rounds.are_told {
+            tell_admission(rt, threads, medians)?;
         }
     }
-    if rounds.is_none() {
-        println!(rt; "the answers agree")?;
+    Ok(true)
+}
+
+// Measures requests in line. Says whether each waited, and executed.
+fn line_up<R: Threads + Clock + Wait + Sync>(
+    rt: &HostRuntime,
+    runner: &R,
+    rounds: Rounds,
+) -> io::Result<bool> {
+    let Some(medians) = measured_line(runner, rt.alloc(), rounds.count) else {
+        println!(rt; "a request did not wait, or there was no memory or clock")?;
+        return Ok(false);
+    };
+    if rounds.are_told {
+        tell_line(rt, medians)?;
     }
     Ok(true)
+}
+
+fn bench<R: Threads + Clock + Wait + Sync>(rt: &HostRuntime, runner: &R) -> io::Result<bool> {
+    let asked = asked(rt)?;
+    let rounds = Rounds {
+        count: asked.unwrap_or(1).max(1),
+        are_told: asked.is_some(),
+    };
+    let agree = choose(rt, rounds)? && admit(rt, runner, rounds)? && line_up(rt, runner, rounds)?;
+    if agree && !rounds.are_told {
+        println!(rt; "the answers agree")?;
+    }
+    Ok(agree)
 }
 
 fn main(rt: HostRuntime) -> ExitCode {

@@ -1,0 +1,104 @@
+//! The medians of rounds in which each way is run once, in turn.
+
+use crate::choices::median;
+use crate::gated::gated;
+use crate::level::{Scene, by_level};
+use crate::locked::locked;
+use crate::plain::plain;
+use crate::ratio::Ratio;
+use std::alloc::Global;
+use std::io;
+use std::sync::Wait;
+use std::thread::Threads;
+use std::time::Clock;
+
+/// How long a request with room took, in picoseconds.
+#[derive(Clone, Copy)]
+pub struct Admission {
+    // Under one lock.
+    lock: u64,
+    // By the gate's steps.
+    gate: u64,
+    // By the gate's steps, after a load of its decision: the steps that a level makes.
+    steps: u64,
+    // By a level's calls.
+    level: u64,
+}
+
+/// How long a request in line took, in picoseconds.
+#[derive(Clone, Copy)]
+pub struct InLine {
+    // Under one lock.
+    plain: u64,
+    // By a level's calls.
+    level: u64,
+}
+
+/// The medians of so many rounds in so many threads, or `None` where a run fails.
+pub fn measured_admission<R: Threads + Clock + Wait + Sync>(
+    rt: &R,
+    alloc: Global,
+    threads: u32,
+    rounds: u32,
+) -> Option<Admission> {
+    let mut locks = Vec::new(alloc);
+    let mut gates = Vec::new(alloc);
+    let mut steps = Vec::new(alloc);
+    let mut levels = Vec::new(alloc);
+    for _ in 0..rounds {
+        locks.push(locked(rt, alloc, threads)?).ok()?;
+        gates.push(gated(rt, alloc, threads, false)?).ok()?;
+        steps.push(gated(rt, alloc, threads, true)?).ok()?;
+        levels
+            .push(by_level(rt, alloc, Scene::Room(threads))?)
+            .ok()?;
+    }
+    Some(Admission {
+        lock: median(locks)?,
+        gate: median(gates)?,
+        steps: median(steps)?,
+        level: median(levels)?,
+    })
+}
+
+/// The medians of so many rounds, or `None` where a run fails.
+pub fn measured_line<R: Threads + Clock + Wait + Sync>(
+    rt: &R,
+    alloc: Global,
+    rounds: u32,
+) -> Option<InLine> {
+    let mut plains = Vec::new(alloc);
+    let mut levels = Vec::new(alloc);
+    for _ in 0..rounds {
+        plains.push(plain(rt, alloc)?).ok()?;
+        levels.push(by_level(rt, alloc, Scene::Line)?).ok()?;
+    }
+    Some(InLine {
+        plain: median(plains)?,
+        level: median(levels)?,
+    })
+}
+
+/// Tells what a request with room took in so many threads.
+pub fn tell_admission(rt: &HostRuntime, threads: u32, medians: Admission) -> io::Result<()> {
+    let (lock, gate) = (medians.lock / 1_000, medians.gate / 1_000);
+    let ratio = Ratio::of(medians.gate, medians.lock);
+    println!(rt;
+        "threads {threads}: under a lock {lock} ns, by the gate {gate} ns, ratio {ratio}"
+    )?;
+    let (steps, level) = (medians.steps / 1_000, medians.level / 1_000);
+    let (to_steps, to_lock) = (
+        Ratio::of(medians.level, medians.steps),
+        Ratio::of(medians.level, medians.lock),
+    );
+    println!(rt;
+        "threads {threads}: by the gate's same steps {steps} ns, by a level {level} ns, ratio {to_steps}, to the lock {to_lock}"
+    )
+}
+
+/// Tells what a request in line took.
+pub fn tell_line(rt: &HostRuntime, medians: InLine) -> io::Result<()> {
+    let (plain, level) = (medians.plain / 1_000, medians.level / 1_000);
+    let ratio = Ratio::of(medians.level, medians.plain);
+    println!(rt; "in line: under a lock {plain} ns, by a level {level} ns, ratio {ratio}")
+}

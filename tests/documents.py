@@ -64,13 +64,13 @@ for name, least in (("README.md", 2), (os.path.join("docs", "FORMATS.md"), 10)):
     tally.check(f"{name}: at least {least} commands", ran >= least, True)
     # no command of the program stands outside of what was run
     outside = re.sub(r"^```.*?^```$", "", page, flags=re.M | re.S)
-    tally.check(f"{name}: each command line is in a block that is run", re.findall(r"^\s*\$ .*|\./apf (?:hash|deal|replay) \S.*", outside, re.M), [])
+    tally.check(f"{name}: each command line is in a block that is run", re.findall(r"^\s*\$ .*|\./apf (?:hash|deal|replay|services) \S.*", outside, re.M), [])
 
 # each fault that the pages list is one that the program's sources have, and the other way round
 page = open(os.path.join(TOP, "docs", "FORMATS.md"), encoding="utf-8").read()
 listed = set(re.findall(r"^\| `(\d+)(?: at [IL]| at line L)?: ([^`]*)`", page, re.M))
 wanted = set()
-for path in (("apf_run", "src", "config.rt"), ("apf_run", "src", "requests.rt"), ("apf_run", "src", "script.rt")):
+for path in (("apf_files", "src", "config.rt"), ("apf_files", "src", "requests.rt"), ("apf_files", "src", "script.rt")):
     text = open(os.path.join(TOP, "crates", *path), encoding="utf-8").read()
     for number, line in re.findall(r"/// (\d+): .*\n\s*#\[error\(\"(.*)\"\)\]", text):
         wanted.add((number, line.replace("{0}", "KEY")))

@@ -168,7 +168,7 @@ for number in range(SPOILED):
     want = answer(*contents)
     kinds[want[2].split(b" at ")[0].split(b":")[1] if want[0] else b""] = True
     judged(f"{contents[number % 3]!r}", contents)
-tally.check(f"the files are of many kinds: {sorted(kinds)}", len(kinds) >= min(15, SPOILED // 100), True)
+tally.check(f"the files are of many kinds: {sorted(kinds)}", len(kinds) >= min(14, SPOILED // 100), True)
 
 # sizes: a want of memory that is none would show here
 blanks = b" " * 70_000

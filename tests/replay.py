@@ -36,12 +36,12 @@ with tempfile.TemporaryDirectory() as elsewhere:
     relative = [os.path.relpath(path, elsewhere) for path in paths]
     tally.check("first run by relative names", run(LAUNCHER, ["replay", *relative], cwd=elsewhere), (0, FIRST, b""))
 
-NO_ROOM = (
-    b"arrive 0 execute\narrive 1 no room\n"
-    b"level open seats 1 waiting 0\nexecuted 1 rejected 0 cancelled 0 undecided 1\n"
-    b"queue-full 0 closed 0 concurrency-limit 0\nentered 0 dispatched 0 struck 0\n"
+QUEUED = (
+    b"arrive 0 execute\narrive 1 queued 0\n"
+    b"level open seats 1 waiting 1\nexecuted 1 rejected 0 cancelled 0 undecided 1\n"
+    b"queue-full 0 closed 0 concurrency-limit 0\nentered 1 dispatched 0 struck 0\n"
 )
-tally.check("no room", replay(config, two, files("s", "arrive 0\narrive 1\n")), (0, NO_ROOM, b""))
+tally.check("queued", replay(config, two, files("s", "arrive 0\narrive 1\n")), (0, QUEUED, b""))
 EMPTY = (
     b"level open seats 0 waiting 0\nexecuted 0 rejected 0 cancelled 0 undecided 0\n"
     b"queue-full 0 closed 0 concurrency-limit 0\nentered 0 dispatched 0 struck 0\n"
@@ -53,9 +53,9 @@ tally.check("again", (status, out.split(b"level")[0], err), (
 
 # each request has its own width, and the level its limit
 WIDTHS = (
-    b"arrive 0 execute\narrive 1 no room\nfinish 0\n"
-    b"level open seats 0 waiting 0\nexecuted 1 rejected 0 cancelled 0 undecided 1\n"
-    b"queue-full 0 closed 0 concurrency-limit 0\nentered 0 dispatched 0 struck 0\n"
+    b"arrive 0 execute\narrive 1 queued 0\nfinish 0\ndispatch 1 queue 0\n"
+    b"level open seats 1 waiting 0\nexecuted 2 rejected 0 cancelled 0 undecided 0\n"
+    b"queue-full 0 closed 0 concurrency-limit 0\nentered 1 dispatched 1 struck 0\n"
 )
 wide = files("wide", '[{"hash":0,"width":2},{"hash":0,"width":1}]')
 tally.check("widths 2 and 1 of 2 seats", replay(files("seats", '{"limit":2}'), wide, files("s", "arrive 0\narrive 1\nfinish 0\n")), (0, WIDTHS, b""))
@@ -63,7 +63,8 @@ for limit, widths, seats in [(2, (1, 1), 2), (2, (2, 1), 2), (3, (1, 2), 3), (3,
     level = files("level", '{"limit":%d}' % limit)
     both = files("both", '[{"hash":0,"width":%d},{"hash":0,"width":%d}]' % widths)
     status, out, err = replay(level, both, files("s", "arrive 0\narrive 1\n"))
-    book = b"level open seats %d waiting 0\nexecuted %d " % (seats, 2 if seats == sum(widths) else 1)
+    is_fit = seats == sum(widths)
+    book = b"level open seats %d waiting %d\nexecuted %d " % (seats, 0 if is_fit else 1, 2 if is_fit else 1)
     tally.check(f"limit {limit}, widths {widths}", (status, book in out, err), (0, True, b""))
 
 # each file is judged before the next one is read, and the dealer after all of them
@@ -78,19 +79,31 @@ for name, paths, line in [
 ]:
     tally.check(name, replay(*paths), (1, b"", line))
 
-# a level that rejects has no queues, and is not built
-rejects = files("rejects", '{"limit":1,"limitResponse":"Reject"}')
-tally.check("Reject", replay(rejects, one, files("s", "arrive 0\n")), (1, b"", b"apf: not built yet: limitResponse Reject\n"))
-rejects = files("rejects", '{"limit":1,"queues":3,"limitResponse":"Reject"}')
-tally.check("Reject with a hand that can't be dealt", replay(rejects, one, files("s", "arrive 0\n")), (1, b"", b"apf: not built yet: limitResponse Reject\n"))
+# a level that rejects has no queues, so a hand that can't be dealt from them does not matter
+REJECTED = (
+    b"arrive 0 execute\narrive 1 concurrency-limit\n"
+    b"level open seats 1 waiting 0\nexecuted 1 rejected 1 cancelled 0 undecided 0\n"
+    b"queue-full 0 closed 0 concurrency-limit 1\nentered 0 dispatched 0 struck 0\n"
+)
+for name, text in [("Reject", '{"limit":1,"limitResponse":"Reject"}'), ("Reject, no hand", '{"limit":1,"queues":3,"limitResponse":"Reject"}')]:
+    tally.check(name, replay(files("rejects", text), two, files("s", "arrive 0\narrive 1\n")), (0, REJECTED, b""))
+
+# what each queue was given, as it stands after the last command
+served = files("served", "arrive 0\narrive 1\n")
+tally.check("services", run(program, ["services", config, two, served]), (0, b"queue 0 entered 1 service 0\n", b""))
+served = files("served", "arrive 0\narrive 1\nfinish 0\n")
+tally.check("services after a dispatch", run(program, ["services", config, two, served]), (0, b"queue 0 entered 1 service 1\n", b""))
+tally.check("services of an empty log", run(program, ["services", config, two, files("s", "arrive 0\n")]), (0, b"", b""))
+tally.check("a fault in services", run(program, ["services", files("zero", '{"limit":0}'), two, served]), (1, b"", b"apf: config fault 5: bad value of limit\n"))
+
+# a level of the largest sizes is opened
+largest = files("largest", '{"limit":1,"queues":1024,"handSize":1,"queueLengthLimit":10000}')
+many = files("many", "[" + ",".join(['{"hash":0}'] * 10_000) + "]")
+status, out, err = replay(largest, many, files("s", "arrive 0\narrive 9999\n"))
+tally.check("wide level", (status, out.split(b"level")[0], err), (0, b"arrive 0 execute\narrive 9999 queued 0\n", b""))
 
 # a part that isn't built ends with status 1 and one line, and prints nothing
-for line in ("cancel 0", "close", "limit 2"):
-    status, out, err = replay(config, one, files("s", f"arrive 0\n{line}\n"))
-    tally.check(line, (status, out, err.count(b"\n"), err.startswith(b"apf: ")), (1, b"", 1, True))
-for words in (["run", config, one, "1"], ["services", config, one, files("s", "")]):
-    status, out, err = run(program, words)
-    tally.check(words[0], (status, out, err.count(b"\n"), err.startswith(b"apf: ")), (1, b"", 1, True))
+tally.check("run", run(program, ["run", config, one, "1"]), (1, b"", b"apf: not built yet: run\n"))
 
 # a fault of a file, each with its line and status
 for name, texts, want in [
@@ -125,7 +138,7 @@ else:
     tally.check("no right to read", run(copy, ["replay", config, closed, config], **rights), (1, b"", b"apf: cannot read requests\n"))
 
 # output that can't be written
-for words in (["hash", "", ""], ["deal", "8", "3", "0"], ["replay", *good], ["--help"]):
+for words in (["hash", "", ""], ["deal", "8", "3", "0"], ["replay", *good], ["services", config, two, served], ["--help"]):
     with open("/dev/full", "wb") as full:
         done = subprocess.run([program, *words], stdout=full, stderr=subprocess.PIPE)
     tally.check(f"full disk {words[0]}", (done.returncode, done.stderr), (1, b"apf: cannot write\n"))

@@ -6,6 +6,7 @@ use apf_cli::{FileFault, Files, act};
 use std::alloc::AllocError;
 use std::io::BufWriter;
 use std::process::ExitCode;
+use std::sync::Wait;
 use std::{fs, io};
 
 // The machine's files.
@@ -47,14 +48,14 @@ impl From<io::Error> for Unread {
 }
 
 // The status, or why there is none: what the output needs of memory is taken before anything else.
-fn run(rt: &HostRuntime) -> Result<u8, Unread> {
+fn run<R: Wait>(rt: &HostRuntime, waiter: &R) -> Result<u8, Unread> {
     let alloc = rt.alloc();
     let mut out = BufWriter::new(alloc, io::writer(rt)).map_err(|_| Unread::NoMemory)?;
     let owned: Vec<String> = std::env::args(rt)?.collect(alloc)?;
     let words: Vec<&str> = owned.iter().map(|word| word.as_str()).collect(alloc)?;
     let mut files = Disk { rt };
     Ok(act(
-        rt,
+        waiter,
         alloc,
         words.as_slice(),
         &mut files,
@@ -64,7 +65,7 @@ fn run(rt: &HostRuntime) -> Result<u8, Unread> {
 }
 
 fn main(rt: HostRuntime) -> ExitCode {
-    match run(&rt) {
+    match run(&rt, &rt) {
         Ok(status) => ExitCode::from(status),
         Err(Unread::NotUtf8) => {
             let _ = eprintln!(rt; "apf: the command line is not UTF-8");

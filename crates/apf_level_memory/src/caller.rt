@@ -29,7 +29,7 @@ impl<K: Naming> Caller<K> {
 
     /// Cancels the request.
     pub fn cancel(&mut self, level: &Level<K>, request: u32) -> Answer
-        requires { request < length level.now.gate.shape.widths }
+        requires { request < length K.level.gate.shape.widths }
     {
         Answer::Over(level.cancel(&mut self.station, request))
     }

@@ -56,7 +56,7 @@ fn cancel<K: Naming, R: Wait>(
     thread: usize,
     caller: &mut Caller<K>,
 )
-    requires { 1 < length level.now.gate.shape.widths }
+    requires { 1 < length K.level.gate.shape.widths }
 {
     cancellers.start.wait_for(8);
     pass_time(turns(cancellers.round, thread) / 64);
@@ -76,7 +76,7 @@ fn cancel_all<K: Naming, R: Threads + Wait + Sync>(
     cancellers: &Cancellers,
     callers: &mut [Caller<K>],
 )
-    requires { 1 < length level.now.gate.shape.widths }
+    requires { 1 < length K.level.gate.shape.widths }
     ensures { length callers.new ≡ length callers.old }
 {
     thread::for_each_mut(
@@ -84,7 +84,7 @@ fn cancel_all<K: Naming, R: Threads + Wait + Sync>(
         callers,
         8,
         &|thread: usize, caller: &mut Caller<K>|
-            requires { 1 < length level.now.gate.shape.widths }
+            requires { 1 < length K.level.gate.shape.widths }
         { cancel(rt, level, cancellers, thread, caller) },
     );
 }

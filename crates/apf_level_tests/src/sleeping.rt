@@ -88,7 +88,7 @@ fn wake<K: Naming, R: Wait + Abort>(
     caller: &Mutex<Caller<K>>,
     request: &mut Request<K>,
 )
-    requires { 1 < length level.now.gate.shape.widths }
+    requires { 1 < length K.level.gate.shape.widths }
 {
     caller.lock(rt).let_sleep(level);
     assert_eq!(rt; sleepers.woken.load(Ordering::SeqCst), 0);
@@ -124,7 +124,7 @@ fn serve_both<K: Naming, R: Threads + Wait + Abort + Sync>(
     caller: &Mutex<Caller<K>>,
     requests: &mut [Request<K>],
 )
-    requires { 1 < length level.now.gate.shape.widths }
+    requires { 1 < length K.level.gate.shape.widths }
     ensures { length requests.new ≡ length requests.old }
 {
     thread::for_each_mut(
@@ -132,7 +132,7 @@ fn serve_both<K: Naming, R: Threads + Wait + Abort + Sync>(
         requests,
         2,
         &|place: usize, request: &mut Request<K>|
-            requires { 1 < length level.now.gate.shape.widths }
+            requires { 1 < length K.level.gate.shape.widths }
         { serve(rt, level, sleepers, caller, place, request) },
     );
 }
@@ -145,7 +145,7 @@ fn serve<K: Naming, R: Wait + Abort>(
     place: usize,
     request: &mut Request<K>,
 )
-    requires { 1 < length level.now.gate.shape.widths }
+    requires { 1 < length K.level.gate.shape.widths }
 {
     if place == 0 {
         wake(rt, level, sleepers, caller, request);

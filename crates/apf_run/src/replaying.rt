@@ -74,6 +74,3 @@ fn carry_out_all<K: Naming, R: Wait>(
     }
     Ok(())
 }
-
-#[cfg(test)]
-mod tests;

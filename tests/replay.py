@@ -102,9 +102,6 @@ many = files("many", "[" + ",".join(['{"hash":0}'] * 10_000) + "]")
 status, out, err = replay(largest, many, files("s", "arrive 0\narrive 9999\n"))
 tally.check("wide level", (status, out.split(b"level")[0], err), (0, b"arrive 0 execute\narrive 9999 queued 0\n", b""))
 
-# a part that isn't built ends with status 1 and one line, and prints nothing
-tally.check("run", run(program, ["run", config, one, "1"]), (1, b"", b"apf: not built yet: run\n"))
-
 # a fault of a file, each with its line and status
 for name, texts, want in [
     ("config fault", ('{"limit":0}', "[]", ""), b"apf: config fault 5: bad value of limit\n"),

@@ -7,6 +7,7 @@ use std::alloc::AllocError;
 use std::io::BufWriter;
 use std::process::ExitCode;
 use std::sync::Wait;
+use std::thread::Threads;
 use std::{fs, io};
 
 // The machine's files.
@@ -48,7 +49,7 @@ impl From<io::Error> for Unread {
 }
 
 // The status, or why there is none: what the output needs of memory is taken before anything else.
-fn run<R: Wait>(rt: &HostRuntime, waiter: &R) -> Result<u8, Unread> {
+fn run<R: Wait + Threads + Sync>(rt: &HostRuntime, waiter: &R) -> Result<u8, Unread> {
     let alloc = rt.alloc();
     let mut out = BufWriter::new(alloc, io::writer(rt)).map_err(|_| Unread::NoMemory)?;
     let owned: Vec<String> = std::env::args(rt)?.collect(alloc)?;

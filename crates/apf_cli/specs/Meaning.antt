@@ -1,5 +1,5 @@
 -- What a command line asks for, by what `clap` reads of its words.
-use Rattle.std.specs.Prelude.{◌≡◌, ◌≤◌, ℕ, List, Some, Ok, codes}
+use Rattle.std.specs.Prelude.{◌≡◌, ◌<◌, ◌≤◌, ℕ, List, Some, Ok, codes}
 use Rattle.std.specs.Str.Parse.{ParsesUnsigned}
 use Rattle.clap.specs.Words.{Row, Text, first_of, one_of, subcommand_of}
 use Rattle.apf_cli.specs.Commands.{apf_app}
@@ -40,3 +40,11 @@ AsksFor name rows (Services config requests script) = (name ≡ codes "services"
 abbrev pub IsActionOf : List Text → Action → Type 0
 IsActionOf words action = (name : Text) × ((rows : List Row)
     × (subcommand_of apf_app words ≡ Some (name, rows)) × AsksFor name rows action)
+
+-- who runs requests by workers has some
+abbrev pub HasWorkers : Action → Type 0
+HasWorkers (Run config requests workers) = 0 < workers
+HasWorkers (Hash schema distinguisher) = Unit {0}
+HasWorkers (Deal deck hand hash) = Unit {0}
+HasWorkers (Replay config requests script) = Unit {0}
+HasWorkers (Services config requests script) = Unit {0}

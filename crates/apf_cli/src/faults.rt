@@ -1,7 +1,9 @@
 //! Why the program ends with another status than 0, and the line that says so.
 
 use apf_flow::DealerFault;
-use apf_run::{ConfigFault, LevelFault, ReplayFault, RequestFault, ScriptFault, WriteFault};
+use apf_run::{
+    ConfigFault, LevelFault, ReplayFault, RequestFault, RunFault, ScriptFault, WriteFault,
+};
 use std::fmt;
 
 /// The files of a command line.
@@ -18,20 +20,6 @@ impl fmt::Display for Input {
             Input::Config => "config",
             Input::Requests => "requests",
             Input::Script => "script",
-        })
-    }
-}
-
-/// The parts of the program that aren't built yet.
-#[derive(Clone, Copy, Debug, PartialEq, Eq)]
-pub enum Part {
-    Run,
-}
-
-impl fmt::Display for Part {
-    fn fmt<W: fmt::Write>(&self, f: &mut fmt::Formatter<W>) -> fmt::Result {
-        f.write_str(match self {
-            Part::Run => "run",
         })
     }
 }
@@ -55,26 +43,25 @@ pub enum Fault {
     Level(ReplayFault),
     CannotRead(Input),
     CannotWrite,
-    /// What was asked for is a part of the program that isn't built yet.
-    NotBuilt(Part),
+    /// The worker of this number could not be started.
+    Worker(u32),
     NoMemory,
 }
 
 impl Fault {
     /// The program's status: 1 a file's fault, or output that can't be written; 2 a command line's
-    /// fault; 3 want of memory.
+    /// fault; 3 want of memory, or a worker that could not be started.
     pub fn status(&self) -> u8 {
         match self {
             Fault::Dealer(_, Sizes::OfCommandLine) => 2,
-            Fault::NoMemory => 3,
+            Fault::Worker(_) | Fault::NoMemory => 3,
             Fault::Dealer(_, Sizes::OfConfig)
             | Fault::Config(_)
             | Fault::Requests(_)
             | Fault::Script(_)
             | Fault::Level(_)
             | Fault::CannotRead(_)
-            | Fault::CannotWrite
-            | Fault::NotBuilt(_) => 1,
+            | Fault::CannotWrite => 1,
         }
     }
 }
@@ -116,6 +103,17 @@ impl From<ReplayFault> for Fault {
     }
 }
 
+impl From<RunFault> for Fault {
+    fn from(fault: RunFault) -> Fault {
+        match fault {
+            RunFault::NoMemory => Fault::NoMemory,
+            RunFault::Worker(number) => Fault::Worker(number),
+            RunFault::Gate(fault) => ReplayFault::Gate(fault).into(),
+            RunFault::Level(fault) => ReplayFault::Level(fault).into(),
+        }
+    }
+}
+
 impl From<WriteFault> for Fault {
     fn from(_fault: WriteFault) -> Fault {
         Fault::CannotWrite
@@ -153,7 +151,7 @@ impl fmt::Display for Fault {
             Fault::Level(fault) => write!(f, "apf: the level can't be opened: {fault}"),
             Fault::CannotRead(input) => write!(f, "apf: cannot read {input}"),
             Fault::CannotWrite => f.write_str("apf: cannot write"),
-            Fault::NotBuilt(part) => write!(f, "apf: not built yet: {part}"),
+            Fault::Worker(number) => write!(f, "apf: worker {number} could not start"),
             Fault::NoMemory => f.write_str("apf: out of memory"),
         }
     }

@@ -1,13 +1,23 @@
 //! The whole program over files and writers that the caller passes.
 
-use crate::faults::{Fault, Input, Part, Sizes};
+ghost use Rattle.std.specs.Prelude.{◌<◌, ◌≤◌, length, All, IfOk};
+ghost use Rattle.apf_run.specs.Limits.{max_requests};
+ghost use Rattle.apf_run.specs.RequestsFile.{IsRequestInRange};
+ghost use Rattle.apf_cli.specs.Meaning.{HasWorkers};
+
+use crate::faults::{Fault, Input, Sizes};
 use crate::words::{Action, read_words};
 use apf_flow::{Dealer, flow_hash};
-use apf_run::{Transcript, read_config, read_requests, read_script, replay};
+use apf_run::{
+    Config, Report, Request, Running, Transcript, Work, read_config, read_requests, read_script,
+    replay, run, write_book,
+};
 use clap::error::ErrorKind;
 use std::alloc::Global;
+use std::hint;
 use std::io::Write;
 use std::sync::Wait;
+use std::thread::Threads;
 
 /// Why a file was not read.
 #[derive(Clone, Copy, Debug, PartialEq, Eq)]
@@ -53,6 +63,47 @@ fn print_deal<O: Write>(deck: u32, hand: u32, hash: u64, out: &mut O) -> Result<
     writeln!(out).map_err(|_| Fault::CannotWrite)
 }
 
+// Reads the config and the requests, the config judged before the requests are read.
+fn read_level<F: Files>(
+    alloc: Global,
+    files: &mut F,
+    config: &str,
+    requests: &str,
+) -> Result<(Config, Vec<Request>), Fault>
+    ensures in_range { IfOk result (λ o. All (IsRequestInRange (length o.1.items)) o.1.items) }
+    ensures few { IfOk result (λ o. length o.1.items ≤ max_requests) }
+{
+    let config = read_config(alloc, read(files, Input::Config, config)?.as_slice())?;
+    let requests = read_requests(alloc, read(files, Input::Requests, requests)?.as_slice())?;
+    Ok((config, requests))
+}
+
+// Work that turns an empty loop.
+struct Turns;
+
+impl Work for Turns {
+    fn work(&self, _running: &Running, units: u32) {
+        for _ in 0..units {
+            hint::spin_loop();
+        }
+    }
+}
+
+// Reads the two files, and brings the requests to their ends by so many workers.
+fn ran<F: Files, R: Wait + Threads + Sync>(
+    rt: &R,
+    alloc: Global,
+    files: &mut F,
+    config: &str,
+    requests: &str,
+    workers: u32,
+) -> Result<Report, Fault>
+    requires { 0 < workers }
+{
+    let (config, requests) = read_level(alloc, files, config, requests)?;
+    Ok(run(rt, alloc, &config, requests.as_slice(), workers, &Turns)?)
+}
+
 // Reads the three files, each judged before the next is read, and runs the script.
 fn replayed<F: Files, R: Wait>(
     rt: &R,
@@ -60,20 +111,21 @@ fn replayed<F: Files, R: Wait>(
     files: &mut F,
     names: (&str, &str, &str),
 ) -> Result<Transcript, Fault> {
-    let config = read_config(alloc, read(files, Input::Config, names.0)?.as_slice())?;
-    let requests = read_requests(alloc, read(files, Input::Requests, names.1)?.as_slice())?;
+    let (config, requests) = read_level(alloc, files, names.0, names.1)?;
     let script = read(files, Input::Script, names.2)?;
     let commands = read_script(alloc, script.as_slice(), requests.len() as u32)?;
     Ok(replay(rt, alloc, &config, requests.as_slice(), commands.as_slice())?)
 }
 
-fn perform<F: Files, O: Write, R: Wait>(
+fn perform<F: Files, O: Write, R: Wait + Threads + Sync>(
     rt: &R,
     alloc: Global,
     action: Action<'_>,
     files: &mut F,
     out: &mut O,
-) -> Result<(), Fault> {
+) -> Result<(), Fault>
+    requires { HasWorkers action }
+{
     match action {
         Action::Hash {
             schema,
@@ -85,7 +137,11 @@ fn perform<F: Files, O: Write, R: Wait>(
             requests,
             script,
         } => replayed(rt, alloc, files, (config, requests, script))?.write(out)?,
-        Action::Run { .. } => return Err(Fault::NotBuilt(Part::Run)),
+        Action::Run {
+            config,
+            requests,
+            workers,
+        } => write_book(&ran(rt, alloc, files, config, requests, workers)?, out)?,
         Action::Services {
             config,
             requests,
@@ -117,10 +173,11 @@ fn print_refusal<O: Write, E: Write>(
 /// The whole program: the first word is its name, and the answer is its status.
 ///
 /// 0 is done; 1 a file's fault, or output that can't be written; 2 a command line's fault, dealer
-/// faults of `deal` among them; 3 want of memory. Before the status is 1, 2 or 3, one fault is
+/// faults of `deal` among them; 3 want of memory or a worker that could not start. Before the status is 1, 2 or 3, one fault is
 /// printed on `err`, and a write to it that fails changes no status. A fault prints nothing on
 /// `out`, except that a failed write may have written a beginning.
-pub fn act<F: Files, O: Write, E: Write, R: Wait>(
+#[tactic(auto, using(crate::proofs::Workers::has_workers))]
+pub fn act<F: Files, O: Write, E: Write, R: Wait + Threads + Sync>(
     rt: &R,
     alloc: Global,
     words: &[&str],

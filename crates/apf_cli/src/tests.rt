@@ -1,11 +1,13 @@
 //! Worked examples of the whole program, with files in memory.
 
 mod rows;
+mod workers;
 
 use crate::{FileFault, Files, act};
 use std::alloc::Global;
 use std::process::Abort;
 use std::sync::Wait;
+use std::thread::Threads;
 
 const BOOK_OF_NOTHING: &str = "level open seats 0 waiting 0\n\
     executed 0 rejected 0 cancelled 0 undecided 0\n\
@@ -36,7 +38,7 @@ impl Files for Memory<'_> {
 }
 
 /// The program answers this status, and writes this and no more.
-pub fn check<R: Abort + Wait>(
+pub fn check<R: Abort + Wait + Threads + Sync>(
     rt: &R,
     files: Memory<'_>,
     words: &[&str],

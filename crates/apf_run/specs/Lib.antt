@@ -1,3 +1,10 @@
+pub use Rattle.apf_words.specs.Limits
+pub use Rattle.apf_files.specs.RequestsFile
 pub mod Sessions
 pub mod Texts
 pub mod Services
+pub mod Plans
+pub mod Books
+pub mod Workers
+pub mod Crews
+pub mod Runs

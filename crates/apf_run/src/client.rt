@@ -58,10 +58,11 @@ fn put(place: &mut Token, token: Token, answer: Answer) -> Answer
     }
 }
 
-// Gives the seats back, and dispatches where requests wait.
-fn release<K: Naming, R: Wait>(rt: &R, level: &Level<K>, running: Running) -> Done
+/// Gives the seats back, and dispatches where requests wait.
+pub fn release<K: Naming, R: Wait>(rt: &R, level: &Level<K>, running: Running) -> Done
     requires { pass_gate running ≡ K.level.gate }
-    ensures { pass_gate result ≡ K.level.gate }
+    ensures own { pass_gate result ≡ K.level.gate }
+    ensures same { result.pass.number ≡ running.pass.number }
 {
     let (done, waiting) = level.release(running);
     if waiting {

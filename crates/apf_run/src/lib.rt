@@ -9,19 +9,26 @@
 //! - `replaying`: replays a script.
 #![tactic(auto)]
 
+mod book;
 mod caller;
 mod client;
 mod clients;
+mod crew;
 mod fault;
+mod finished;
 mod line;
 mod opening;
+mod operator;
+mod plan;
 mod record;
 mod replaying;
+mod running;
 mod services;
 mod session;
 mod token;
 mod totals;
 mod transcript;
+mod worker;
 
 pub use apf_files::{
     Command, Config, ConfigFault, ConfigKey, Request, RequestFault, Response, ScriptFault,
@@ -29,10 +36,13 @@ pub use apf_files::{
 };
 pub use apf_gate::GateFault;
 pub use apf_level::{LevelFault, Report, Running};
-pub use fault::ReplayFault;
+pub use book::write_book;
+pub use fault::{ReplayFault, RunFault};
 pub use line::Line;
 pub use replaying::replay;
+pub use running::run;
 pub use services::Service;
 pub use token::Token;
 pub use totals::Totals;
 pub use transcript::{Transcript, WriteFault};
+pub use worker::Work;

@@ -1,11 +1,12 @@
 //! Opens the gate of a level for requests.
 
 ghost use Rattle.std.specs.Prelude.{◌≡◌, ◌≤◌, length, map, All, IfOk};
-ghost use Rattle.apf_words.specs.Limits.{max_requests};
+ghost use Rattle.apf_words.specs.Limits.{max_requests, max_stations};
 ghost use Rattle.apf_gate.specs.declared.record.State.TheVariants.{Fresh};
 ghost use Rattle.apf_gate.specs.Records.{new_desk};
 ghost use Rattle.apf_gate.specs.Tokens.{pass_gate, station_gate};
 ghost use Rattle.apf_run.specs.Sessions.{asks_of};
+ghost use Rattle.apf_run.specs.Crews.{IsNew};
 
 use crate::fault::ReplayFault;
 use apf_book::{Ask, Config};
@@ -28,8 +29,10 @@ pub struct Opening {
     pub ghost response_is: { gate.shape.response ≡ config.limit_response },
     pub ghost passes_are: { All (λ t. (pass_gate t ≡ gate) × (t.pass.state ≡ Fresh)) passes.items },
     pub ghost stations_are: { All (λ t. station_gate t ≡ gate) stations.items },
+    pub ghost stations_new: { All (IsNew gate) stations.items },
     pub ghost passes_count: { length passes.items ≡ length gate.shape.widths },
     pub ghost stations_count: { length stations.items ≡ gate.shape.stations },
+    pub ghost few_stations: { gate.shape.stations ≤ max_stations },
     pub ghost few: { length asks.items ≤ max_requests },
 }
 
@@ -51,6 +54,7 @@ fn asks_of_requests(alloc: Global, requests: &[Request]) -> Result<Vec<Ask>, All
 /// # Errors
 ///
 /// The gate's fault, or want of memory.
+#[tactic(auto, using(crate::proofs::Opened::are_new))]
 pub fn open_gate(
     alloc: Global,
     config: &Config,

@@ -3,6 +3,7 @@
 ghost use Rattle.std.specs.Prelude.{◌≡◌, ◌+◌, OnOk};
 ghost use Rattle.std.specs.Io.KnownBytes.{Appends};
 ghost use Rattle.apf_run.specs.Texts.{closed_name as name_of, level_text, decided_text, rejected_text, log_text, totals_text};
+ghost use Rattle.apf_run.specs.Books.{totals_of};
 
 use apf_book::Stats;
 use apf_level::{Counts, Report};
@@ -40,7 +41,9 @@ fn closed_name(closed: bool) -> &'static str
 
 impl Totals {
     /// What the word and the log of a level say, and the decisions so far.
-    pub fn new(word: LevelWord, counts: Counts, undecided: u32, stats: Stats) -> Totals {
+    pub fn new(word: LevelWord, counts: Counts, undecided: u32, stats: Stats) -> Totals
+        ensures { result ≡ totals_of word counts undecided stats }
+    {
         Totals {
             closed: word.closed(),
             seats: word.seats(),

@@ -3,9 +3,10 @@
 use crate::tests::{Memory, check};
 use std::process::Abort;
 use std::sync::Wait;
+use std::thread::Threads;
 
 // A replay of these files prints this, and ends with status 0.
-fn replays<R: Abort + Wait>(rt: &R, files: Memory<'_>, out: &str) {
+fn replays<R: Abort + Wait + Threads + Sync>(rt: &R, files: Memory<'_>, out: &str) {
     let words = ["apf", "replay", "config", "requests", "script"];
     check(rt, files, &words, 0, out, "");
 }

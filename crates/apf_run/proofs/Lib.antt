@@ -1,0 +1,5 @@
+pub mod Faithful
+pub mod Opened
+pub mod Crews
+pub mod Returned
+pub mod Told

@@ -1,0 +1,25 @@
+-- What the book of a level says.
+use Rattle.std.specs.Prelude.{ℕ}
+use Rattle.apf_words.specs.Level.{Level}
+use Rattle.apf_book.specs.declared.stats.Stats.{Stats}
+use Rattle.apf_level.specs.declared.report.Counts.{Counts}
+use Rattle.apf_level.specs.declared.report.Report.{Report}
+use Rattle.apf_run.specs.declared.totals.Totals.{Totals}
+
+-- by its word, the numbers of the decisions, how many are undecided, and the numbers of the log
+abbrev pub totals_of : Level → Counts → ℕ → Stats → Totals
+totals_of level counts undecided stats =
+    record {
+      closed = level.closed;
+      seats = level.seats;
+      waiters = level.waiters;
+      counts = counts;
+      undecided = undecided;
+      entered = stats.entered;
+      dispatched = stats.dispatched;
+      struck = stats.struck;
+    }
+
+-- of a run: nobody is undecided
+abbrev pub book_of : Report → Totals
+book_of r = totals_of r.word r.counts 0 r.stats

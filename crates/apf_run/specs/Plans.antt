@@ -1,0 +1,35 @@
+-- What the requests of a run ask of the workers' Stations.
+use Rattle.std.specs.Prelude.{◌≡◌, ℕ, true, false, Bool, List, length, All, Any, Option, Some, None, slice_get}
+use Rattle.apf_files.specs.RequestsFile.{IsRequestInRange}
+use Rattle.apf_files.specs.declared.requests.Request.{Request}
+use Rattle.apf_gate.specs.Tokens.{GateId, StationToken, station_gate}
+use Rattle.apf_gate.specs.Ends.{WroteCancelled, ClosedFirst}
+
+-- some request names r to be cancelled
+abbrev pub IsNamed : List Request → ℕ → Type 0
+IsNamed requests r = Any (λ (q : Request). q.cancels ≡ Some r) requests
+
+-- some request closes the level
+abbrev pub SomeCloses : List Request → Type 0
+SomeCloses requests = Any (λ (q : Request). q.closes ≡ true) requests
+
+-- whether this is a request that closes the level
+abbrev pub closes_it : Option Request → Bool
+closes_it (Some request) = request.closes
+closes_it None = false
+
+-- whether the request of this number closes the level
+abbrev pub closes_at : List Request → ℕ → Bool
+closes_at requests r = closes_it (slice_get requests r)
+
+-- the Station is of this gate, cancelled only whom some request names, and closed first only if some request closes
+pub record IsFaithful (gate : GateId) (requests : List Request) (s : StationToken) : Type 0 where
+  pub own : station_gate s ≡ gate
+  pub cancels : (r : ℕ) → WroteCancelled r s → IsNamed requests r
+  pub closes : ClosedFirst s → SomeCloses requests
+
+-- the requests are those of the plan, one for each width of the gate, and each number is in its range
+pub record AreOrders (gate : GateId) (plan requests : List Request) : Type 0 where
+  pub is : requests ≡ plan
+  pub each : length requests ≡ length gate.shape.widths
+  pub in_range : All (IsRequestInRange (length gate.shape.widths)) requests

@@ -1,0 +1,92 @@
+//! Runs requests by workers.
+
+ghost use Rattle.std.specs.Prelude.{◌≡◌, ◌<◌, length, All, IfOk};
+ghost use Rattle.apf_files.specs.RequestsFile.{IsRequestInRange};
+ghost use Rattle.apf_run.specs.Runs.{HasRun};
+ghost use Rattle.apf_run.specs.Sessions.{level_of, asks_of};
+
+use crate::crew::{deal_out, work_all};
+use crate::fault::RunFault;
+use crate::finished::Finished;
+use crate::opening::{Opening, open_gate};
+use crate::plan::Plan;
+use crate::worker::{Job, Work};
+use apf_files::{Config, Request};
+use apf_level::{Level, Opened, Report};
+use std::alloc::Global;
+use std::marker::Brand;
+use std::sync::Wait;
+use std::thread::Threads;
+
+/// Opens a level, brings all requests to their ends by so many workers, 1 to 64, each in a thread of its own,
+/// and ends the level.
+///
+/// Worker k of m handles, in their order, the requests whose numbers leave k when divided by m. Of each it
+/// closes the level if the request says so, and waits until it is decided. If the request executes, the worker
+/// does its work, cancels and strikes the request that it names, gives the seats back, and dispatches where
+/// requests wait.
+///
+/// # Errors
+///
+/// Want of memory, a worker that could not be started (those that were go on to their ends), the gate's fault
+/// (more than 64 workers are one), or the level's.
+pub fn run<W: Work, R: Wait + Threads + Sync>(
+    rt: &R,
+    alloc: Global,
+    config: &Config,
+    requests: &[Request],
+    workers: u32,
+    work: &W,
+) -> Result<Report, RunFault>
+    requires some { 0 < workers }
+    requires in_range { All (IsRequestInRange (length requests.now)) requests.now }
+    ensures { IfOk result (HasRun config.now requests.now) }
+{
+    let opening = open_gate(alloc, config, requests, workers)?;
+    run_named::<Brand, W, R>(rt, alloc, opening, requests, work)
+}
+
+#[tactic(auto, using(crate::proofs::Told::told))]
+fn run_named<K: Plan, W: Work, R: Wait + Threads + Sync>(
+    rt: &R,
+    alloc: Global,
+    opening: Opening,
+    requests: &[Request],
+    work: &W,
+) -> Result<Report, RunFault>
+    requires level { K.level ≡ level_of opening.gate opening.config opening.asks.items }
+    requires plan { K.requests ≡ requests.now }
+    requires asks { opening.asks.items ≡ asks_of requests.now }
+    requires some { 0 < opening.gate.shape.stations }
+    requires in_range { All (IsRequestInRange (length requests.now)) requests.now }
+    ensures { IfOk result (HasRun opening.config requests.now) }
+{
+    let Opening {
+        config,
+        asks,
+        gate,
+        desk,
+        passes,
+        stations,
+    } = opening;
+    let Opened {
+        level,
+        passes,
+        stations,
+        stats,
+    } = Level::<K>::open(
+        alloc,
+        &config,
+        asks.as_slice(),
+        gate,
+        desk,
+        passes,
+        stations,
+    )?;
+    let finished = Finished::new(alloc, passes.len(), stations.len())?;
+    let workers = deal_out(alloc, passes, stations)?;
+    let job = Job::new(&level, requests, work);
+    let finished = work_all(rt, alloc, &job, workers, finished)?;
+    let (dones, stations) = finished.into_parts();
+    Ok(level.end(alloc, dones, stations, stats)?)
+}

@@ -19,11 +19,24 @@ script = files("script", "arrive 0\narrive 1\nfinish 0\nfinish 0\narrive 1\n")
 bad = files("bad", "[{]")
 marker = os.path.join(files.folder.name, "refused")
 WANT = (3, b"", b"apf: out of memory\n")
+# each request fits, so that the book comes out so in every schedule
+fit = files("fit", '[{"hash":0},{"hash":0,"work":9},{"hash":0}]')
+roomy = files("roomy", '{"limit":3,"queues":1,"handSize":1,"queueLengthLimit":10}')
+
+
+def refusals(words):
+    """What a run may answer that is refused memory: a worker needs some to start."""
+    workers = int(words[3]) if words[0] == "run" else 0
+    return [WANT] + [(3, b"", b"apf: worker %d could not start\n" % number) for number in range(workers)]
+
 
 for words, status in (
     (["hash", "a", "b"], 0),
     (["deal", "8", "3", "100"], 0),
     (["replay", config, requests, script], 0),
+    (["services", config, requests, script], 0),
+    (["run", config, requests, "1"], 0),
+    (["run", roomy, fit, "3"], 0),
     (["--version"], 0),
     (["--help"], 0),
     (["deal", "--help"], 0),
@@ -37,7 +50,7 @@ for words, status in (
     name = " ".join(os.path.basename(word) for word in words)
     ample = run(program, words)
     tally.check(f"{name} with ample memory", (ample[0], ample != WANT), (status, True))
-    number, ends, refused = 0, 0, 0
+    number, ends, refused = 0, 0, []
     while ends == 0 and number < 10_000:
         number += 1
         if os.path.exists(marker):
@@ -45,7 +58,9 @@ for words, status in (
         with_shim = dict(os.environ, LD_PRELOAD=shim, APF_REFUSE=str(number), APF_REFUSED=marker)
         got = run(program, words, env=with_shim)
         ends = not os.path.exists(marker)
-        refused += got == WANT
-        tally.check(f"{name} without allocation {number}", got, got if got == ample else WANT)
-    tally.check(f"{name} was refused memory, and ends with a run that meets no refusal", (refused > 0, ends, got), (True, True, ample))
+        refused += [got] if got in refusals(words) else []
+        tally.check(f"{name} without allocation {number}", got, got if got == ample or got in refusals(words) else WANT)
+    tally.check(f"{name} was refused memory, and ends with a run that meets no refusal", (WANT in refused, ends, got), (True, True, ample))
+    if words[0] == "run":
+        tally.check(f"{name} had a worker that could not start", any(it != WANT for it in refused), True)
 tally.end()

@@ -55,15 +55,15 @@ def request(count):
     more = {"width": draw.choice([1, 1, 2, 3, 9])} if draw.random() < 0.5 else {}
     if draw.random() < 0.2:
         more["cancels"] = draw.randrange(count)
-    if draw.random() < 0.3:
-        more["work"] = draw.choice([0, 10, 1000])
+    if draw.random() < 0.6:
+        more["work"] = draw.choice([0, 100, 2000, 20_000])
     return {"hash": draw.choice([0, 1, 7, draw.getrandbits(64)]), **more}
 
 
 def drawn():
     queues = draw.choice([1, 2, 5, 64])
     config = {
-        "limit": draw.choice([1, 2, 3, 8, 50, 10_000]),
+        "limit": draw.choice([1, 1, 2, 3, 8, 10_000]),
         "queues": queues,
         "handSize": draw.randint(1, min(queues, 8)),
         "queueLengthLimit": draw.choice([1, 2, 10, 100]),
@@ -73,7 +73,7 @@ def drawn():
     requests = [request(count) for _ in range(count)]
     if draw.random() < 0.3:
         requests[draw.randrange(count)]["closes"] = True
-    return config, requests, draw.choice([1, 2, 3, 8, 64, draw.randint(1, 64)])
+    return config, requests, draw.choice([1, 3, 8, 64, draw.randint(1, 64)])
 
 
 began = time.monotonic()
@@ -87,7 +87,7 @@ for number in range(200):
     for place, name in [(8, "queue-full"), (9, "closed"), (10, "concurrency-limit"), (12, "dispatched"), (13, "struck"), (6, "cancelled")]:
         seen[name] = seen.get(name, 0) + (int(found[place]) > 0 if found else 0)
 print(f"200 runs took {time.monotonic() - began:.1f} s; runs that had some: {seen}")
-tally.check("the draws reach each kind but a strike, which is a race", all(seen.get(it, 0) > 0 for it in ("closed", "concurrency-limit", "dispatched", "cancelled")), True)
+tally.check("the draws reach each kind but a strike, which is a race", [it for it in ("queue-full", "closed", "concurrency-limit", "dispatched", "cancelled") if seen[it] == 0], [])
 
 # 64 workers on 10,000 requests: all end
 rounds = int(os.environ.get("APF_ROUNDS", "100"))

@@ -1,6 +1,6 @@
 """The tests themselves: programs that are wrong in one thing, each of which a script here must fail, at the row that is named.
 
-Each wrong program stands in front of the built one. APF_PROGRAM names it to the script; APF_SPOILED leaves out random files.
+Each wrong program stands in front of the built one. APF_PROGRAM names it to the script; APF_SPOILED leaves out random files, and APF_ROUNDS runs of many requests.
 """
 
 import os
@@ -53,6 +53,11 @@ def python(body):
 
 def shell(body):
     return f'#!/bin/sh\n{body}\nexec {program} "$@"\n'
+
+
+# runs other requests than those of the file
+def other_requests(change):
+    return shell(f"""[ "$1" = run ] && {{ other=$(mktemp); sed -E '{change}' "$3" >"$other"; {program} run "$2" "$other" "$4"; status=$?; rm "$other"; exit $status; }}""")
 
 
 # answers a run that is refused memory by a usage error; it takes no memory of its own
@@ -133,6 +138,9 @@ if replay and b" config" not in got[2]:
 if any("\\udc80" <= it <= "\\udcff" for word in words for it in word):
     instead(3, b"", b"apf: out of memory\\n")
 '''), "command_line.py", "FAILED [b'hash', b'\\xff', b'a']"),
+    ("a run that finds no memory", shell('[ "$1" = run ] && { echo "apf: out of memory" >&2; exit 3; }'), "workers.py", "FAILED thousand workers"),
+    ("a run that closes nothing", other_requests('s/, "closes": true//g'), "workers.py", "FAILED cancels and closes"),
+    ("a run that cancels nobody", other_requests('s/, "cancels": [0-9]+//g'), "workers.py", "FAILED all cancel one"),
     ("hands that are not spread", shell('[ "$1" = deal ] && [ "$3" -gt 5 ] && { seq -s " " 0 $(($3 - 1)); exit 0; }'), "dealing_table.py", "FAILED (12, 32, 4)"),
 ]
 
@@ -146,7 +154,7 @@ def tried(wrong):
         with open(path, "w") as file:
             file.write(text)
         os.chmod(path, 0o755)
-    done = subprocess.run([sys.executable, os.path.join(HERE, script)], env=dict(os.environ, APF_PROGRAM=path, APF_SPOILED="0"), capture_output=True, timeout=600)
+    done = subprocess.run([sys.executable, os.path.join(HERE, script)], env=dict(os.environ, APF_PROGRAM=path, APF_SPOILED="0", APF_ROUNDS="1"), capture_output=True, timeout=600)
     lines = done.stdout.decode(errors="replace").split("\n")
     return name, (done.returncode, any(line.startswith(row) for line in lines), done.stderr), lines
 

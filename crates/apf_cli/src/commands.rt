@@ -104,7 +104,7 @@ fn run_command<'a>(alloc: Global) -> Result<Command<'a>, AllocError>
     files_command(
         alloc,
         "run",
-        "Run the requests on worker threads and print the book (not built yet)",
+        "Run the requests on worker threads and print the book",
         help::RUN,
     )?
     .arg(number(

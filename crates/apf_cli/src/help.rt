@@ -4,7 +4,7 @@
 pub(crate) const PROGRAM: &str = "\
 Status:
   0  done
-  1  a file's fault, output that can't be written, or a part that is not built yet
+  1  a file's fault, or output that can't be written
   2  a command line's fault
   3  no memory, or a worker that could not start
 Each fault is one line on standard error.
@@ -91,6 +91,10 @@ REQUESTS is one JSON array of at most 10000 objects, numbered from 0:
   work              turns of an empty loop, 0 to 1000000; 0 if absent
   cancels           the number of a request to be cancelled; nothing if absent
   closes            true or false, whether the request closes the level; false if absent
+
+Worker K of M brings the requests to their ends whose number leaves K when divided by M: it
+closes the level if the request says so, waits until it is decided, and if it executes does its
+work, cancels whom it names and gives the seats back. Then the book of the level is printed.
 
 Example:
   apf run config.json requests.json 8

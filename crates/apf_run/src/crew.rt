@@ -53,7 +53,7 @@ fn idle<K: Plan>(
 /// # Errors
 ///
 /// `AllocError` if memory was refused.
-#[tactic(auto, using(crate::proofs::Crews::none_held, crate::proofs::Crews::one_more_held))]
+#[tactic(auto, using(crate::proofs::Crews::none_held))]
 pub fn deal_out<K: Plan>(
     alloc: Global,
     mut passes: Vec<Pass>,
@@ -102,7 +102,6 @@ fn start<'s, E, K: Plan, W: Work, R: Wait + Threads + Sync>(
 }
 
 // Starts each worker. Where one can't be started, those that were go on to their ends.
-#[tactic(auto, using(crate::proofs::Crews::one_more_expected))]
 fn start_all<'s, E, K: Plan, W: Work, R: Wait + Threads + Sync>(
     scope: &Scope<'s, E>,
     rt: &'s R,

@@ -7,6 +7,9 @@
 //!   a level.
 //! - `record`: what a replay notes. `session`: a level with all its tokens in one thread.
 //! - `replaying`: replays a script.
+//! - `plan`: which level and which requests a run is of. `operator`: a worker's Station, and `worker` a worker with
+//!   its share of the requests. `crew`: all workers, dealt out, started and joined. `finished`: what they gave back.
+//! - `running`: runs requests by workers. `book`: writes what a run reports.
 #![tactic(auto)]
 
 mod book;
@@ -25,6 +28,8 @@ mod replaying;
 mod running;
 mod services;
 mod session;
+#[cfg(test)]
+mod tests;
 mod token;
 mod totals;
 mod transcript;

@@ -54,7 +54,6 @@ fn asks_of_requests(alloc: Global, requests: &[Request]) -> Result<Vec<Ask>, All
 /// # Errors
 ///
 /// The gate's fault, or want of memory.
-#[tactic(auto, using(crate::proofs::Opened::are_new))]
 pub fn open_gate(
     alloc: Global,
     config: &Config,

@@ -46,7 +46,6 @@ pub fn run<W: Work, R: Wait + Threads + Sync>(
     run_named::<Brand, W, R>(rt, alloc, opening, requests, work)
 }
 
-#[tactic(auto, using(crate::proofs::Told::told))]
 fn run_named<K: Plan, W: Work, R: Wait + Threads + Sync>(
     rt: &R,
     alloc: Global,

@@ -12,7 +12,7 @@ pub const THREADS: u32 = 8;
 pub const LEAST_LIMIT: u64 = 3;
 
 /// The greatest limit that is set, in seats.
-pub const MOST_LIMIT: u64 = 8;
+pub const MOST_LIMIT: u64 = 6;
 
 // How many flows there are. A quarter of the requests is of the first one.
 const FLOWS: u64 = 24;
@@ -22,13 +22,13 @@ const REQUESTS_PART: u64 = 100;
 
 const FLOWS_PART: u64 = 200;
 
-/// A level of six seats and eight queues.
+/// A level of the greatest limit, with eight queues.
 pub fn settings() -> Config {
     Config {
-        limit: 6,
+        limit: MOST_LIMIT as u32,
         queues: 8,
         hand_size: 3,
-        queue_length_limit: 9,
+        queue_length_limit: 7,
         limit_response: Response::Queue,
     }
 }
@@ -36,8 +36,8 @@ pub fn settings() -> Config {
 // Most requests are narrow; one in 32 is wider than each limit.
 fn width(random: &mut Random) -> u32 {
     let width = match random.below(32) {
-        0 => 9 + random.below(4),
-        1..=5 => 4 + random.below(4),
+        0 => 7 + random.below(4),
+        1..=5 => 4 + random.below(3),
         _ => 1 + random.below(3),
     };
     width as u32

@@ -39,11 +39,14 @@ pub struct Worker<K: Naming> {
     ghost dones_are: { All (λ t. pass_gate t ≡ K.level.gate) dones.items },
 }
 
-// A limit to set, in seats.
+// A limit to set, in seats: every other time the greatest.
 fn limit(random: &mut Random) -> u32
     ensures some { 1 ≤ result }
-    ensures small { result ≤ 8 }
+    ensures small { result ≤ 6 }
 {
+    if random.is_one_in(2) {
+        return MOST_LIMIT as u32;
+    }
     (LEAST_LIMIT + random.below(MOST_LIMIT - LEAST_LIMIT + 1)) as u32
 }
 
@@ -177,9 +180,10 @@ impl<K: Naming> Worker<K> {
         }
     }
 
-    // The request reads its decision if it waits, and ends if it executes.
+    // The request reads its decision if it waits, and may end if it executes.
     fn tend<R: Wait>(&mut self, rt: &R, stage: &Stage<'_, K>, request: &mut Request<K>) {
         let width = stage.width(request.number());
+        let ends = self.random.is_one_in(3);
         match request.place() {
             Place::Waits => {
                 request.poll(rt, stage.level);
@@ -187,11 +191,11 @@ impl<K: Naming> Worker<K> {
                     stage.crowd.enter(width);
                 }
             }
-            Place::Runs => {
+            Place::Runs if ends => {
                 stage.crowd.leave(width);
                 request.release(rt, stage.level);
             }
-            Place::Away | Place::Over => {}
+            Place::Away | Place::Runs | Place::Over => {}
         }
     }
 
@@ -219,12 +223,13 @@ impl<K: Naming> Worker<K> {
         }
     }
 
-    // How many of its requests may be on their way now.
-    fn most(&self) -> usize {
+    // Whether its next request arrives now, beside so many: by turns many are on their way at once, or one after a
+    // while.
+    fn is_ready(&mut self, beside: usize) -> bool {
         if self.passes.len() / TURN % 4 == 0 {
-            1
+            beside == 0 && self.random.is_one_in(8)
         } else {
-            MANY
+            beside < MANY
         }
     }
 
@@ -232,10 +237,10 @@ impl<K: Naming> Worker<K> {
     fn serve<R: Wait>(&mut self, rt: &R, stage: &Stage<'_, K>) {
         let mut window = Vec::new(stage.alloc);
         for _turn in rt.forever() {
-            if window.len() < self.most() {
+            if self.is_ready(window.len()) {
                 self.arrive(rt, stage, &mut window);
             }
-            if window.is_empty() {
+            if window.is_empty() && self.passes.is_empty() {
                 break;
             }
             self.go_on(rt, stage, &mut window);

@@ -1,5 +1,5 @@
 -- What a Station's step adds to what it made.
-use Rattle.std.proofs.Common.{◌≡◌, ◌⊎◌, ℕ, true, List, [], ◌∷◌, ◌++◌, Option, Some, None, refl, sym, ap, ◌∙◌, subst, inl, inr, ⊎_elim}
+use Rattle.std.proofs.Common.{◌≡◌, ◌⊎◌, ℕ, true, List, ◌∷◌, ◌++◌, Option, Some, None, ap, ◌∙◌, subst, inl, inr, ⊎_elim}
 use Rattle.apf_words.specs.Level.{Level}
 use Rattle.apf_words.specs.declared.decision.Decision.{Decision}
 use Rattle.apf_words.specs.declared.decision.Decision.TheVariants.{Cancelled}
@@ -57,7 +57,7 @@ made_before : (s s' : StationRecord) (own : Option Move) (m : Move) → StepsBy 
 made_before s s' own m step made =
     let who : Actor = OfStation s.number in
     let here : Made (entry who own ∷ (step.between ++ s.knows.trace)) who m = subst (λ (n : ℕ). Made (entry who own ∷ (step.between ++ s.knows.trace)) (OfStation n) m) step.number
-        (subst (λ (es : List Entry). Made es (OfStation s'.number) m) step.trace made) in
+    (subst (λ (es : List Entry). Made es (OfStation s'.number) m) step.trace made) in
     ⊎_elim (λ (o : (who ≡ who) × (own ≡ Some m)). inl o.1) (λ (o : Made (step.between ++ s.knows.trace) who m). inr (made_own step.between s.knows.trace who m step.of_others o)) here
 
 -- a first close it made in this step or before
@@ -67,8 +67,8 @@ closed_before s s' own step made =
     let who : Actor = OfStation s.number in
     let shape : Shape = s.knows.shape in
     let here : MadeFirstClose shape (entry who own ∷ (step.between ++ s.knows.trace)) who = subst (λ (n : ℕ). MadeFirstClose shape (entry who own ∷ (step.between ++ s.knows.trace)) (OfStation n)) step.number
-        (subst (λ (es : List Entry). MadeFirstClose shape es (OfStation s'.number)) step.trace
-        (subst (λ (x : Shape). MadeFirstClose x s'.knows.trace (OfStation s'.number)) step.shape made)) in
+    (subst (λ (es : List Entry). MadeFirstClose shape es (OfStation s'.number)) step.trace
+    (subst (λ (x : Shape). MadeFirstClose x s'.knows.trace (OfStation s'.number)) step.shape made)) in
     ⊎_elim (λ o. inl o.1) (λ (o : MadeFirstClose shape (step.between ++ s.knows.trace) who). inr (close_own shape step.between s.knows.trace who step.of_others o)) here
 
 module _ (gate : GateId) (requests : List Request) (s s' : StationToken) where
@@ -85,7 +85,7 @@ module _ (gate : GateId) (requests : List Request) (s s' : StationToken) where
   cancelled r d was same named to = ⊎_elim
       (λ (o : StationExchangesDecision r s.station s'.station × (d ≡ Cancelled)).
       stays (Some (Decide r Cancelled)) was same (by_decision s.station s'.station r None (Some Cancelled) (Some (Decide r Cancelled)) o.0.0 o.0.1 o.0.2)
-          (λ j is. subst (IsNamed requests) (same_request r j is) named) (λ is. absurd (no_close r is)))
+      (λ j is. subst (IsNamed requests) (same_request r j is) named) (λ is. absurd (no_close r is)))
       (λ (o : StationLoadsDecision r s.station (Some d) s'.station).
       stays None was same (by_decision s.station s'.station r (Some d) (Some d) None o.0 o.1 o.2) (λ j is. absurd (no_step (Decide j Cancelled) is)) (λ is. absurd (no_step Close is)))
       to

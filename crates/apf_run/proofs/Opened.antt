@@ -2,7 +2,7 @@
 use Rattle.std.proofs.Common.{◌≡◌, ℕ, zero, suc, List, length, map, refl, sym, ap, ◌∙◌, subst, arith, All}
 use Rattle.std.proofs.lemmas.List.{length-map}
 use Rattle.std.proofs.lemmas.List.Elements.{All-push}
-use Rattle.apf_gate.specs.Tokens.{GateId, StationToken}
+use Rattle.apf_gate.specs.Tokens.{GateId}
 use Rattle.apf_gate.specs.Records.{new_station}
 use Rattle.apf_gate.specs.Opens.{new_stations}
 use Rattle.apf_book.specs.declared.config.Config.{Config}
@@ -23,7 +23,7 @@ pub orders : (k : LevelId) (gate : GateId) (config : Config) (asks : List Ask) (
     → map (λ (a : Ask). a.width) asks ≡ gate.shape.widths → All (IsRequestInRange (length requests)) requests → AreOrders k.gate plan requests
 orders k gate config asks plan requests level is asked widths range =
     let each : length requests ≡ length k.gate.shape.widths = sym (length-map requests (λ (q : Request). record { width = q.width; hash = q.hash })) ∙ sym (ap length asked) ∙ sym (length-map asks (λ (a : Ask). a.width))
-        ∙ ap length widths ∙ sym (ap (λ (l : LevelId). length l.gate.shape.widths) level) in record {
+    ∙ ap length widths ∙ sym (ap (λ (l : LevelId). length l.gate.shape.widths) level) in record {
       is = sym is;
       each = each;
       in_range = subst (λ (n : ℕ). All (IsRequestInRange n) requests) each range;

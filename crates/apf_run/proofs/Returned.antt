@@ -1,6 +1,5 @@
 -- What the workers gave back, with what one more gave back.
 use Rattle.std.proofs.Common.{◌≡◌, ◌∙◌, true, List, [], ◌∷◌, ◌++◌, All, arith}
-use Rattle.std.specs.Prelude.{Any}
 use Rattle.std.proofs.lemmas.List.{length-append, get_or_append_left}
 use Rattle.std.proofs.lemmas.List.Elements.{All-append, All-push}
 use Rattle.std.proofs.lemmas.List.Quantifiers.{Any-push}
@@ -32,5 +31,5 @@ one_more gate requests r w had is =
       closed = All-append (Closed stations) r.dones w.dones
           (all_as (Closed r.stations) (Closed stations) r.dones (λ t seen closes. seen_more r.stations w.station (seen closes)) had.closed)
           (all_as (λ (t : PassToken). closes_at requests t.pass.number ≡ true → w.station.station.knows.saw_closed ≡ true) (Closed stations) w.dones
-              (λ t saw closes. Any-push (λ (s : StationToken). s.station.knows.saw_closed ≡ true) r.stations w.station (saw closes)) is.closed);
+          (λ t saw closes. Any-push (λ (s : StationToken). s.station.knows.saw_closed ≡ true) r.stations w.station (saw closes)) is.closed);
     }

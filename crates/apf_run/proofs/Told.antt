@@ -1,5 +1,5 @@
 -- What the end of a level says of the requests that its workers ran.
-use Rattle.std.proofs.Common.{◌≡◌, ℕ, ◌<◌, true, List, length, All, get_or, refl, sym, ap, ◌∙◌, subst, arith}
+use Rattle.std.proofs.Common.{◌≡◌, ℕ, ◌<◌, true, List, length, All, sym, ap, ◌∙◌, subst, arith}
 use Rattle.std.specs.Prelude.{Any, Some, slice_get, reverse}
 use Rattle.std.proofs.lemmas.Option.{slice_get_within, slice_get-get_or}
 use Rattle.apf_words.specs.declared.decision.Decision.TheVariants.{Cancelled}
@@ -45,9 +45,9 @@ module _ (k : LevelId) (config : Config) (requests : List Request) (report : Rep
       let low : j < length k.gate.shape.widths = (let l = some.2 in omega (arith, orders.each)) in
       let at : closes_at requests j ≡ true = ap closes_it (slice_get-get_or requests j some.1 some.2) ∙ ap (λ (q : Request). q.closes) some.3 ∙ some.4 in
       of_one (λ (t : PassToken). t.pass.number ≡ j) (λ (t : PassToken). closes_at requests t.pass.number ≡ true → SeenClosed r.stations) r.dones
-          (λ t here seen. of_one (λ (s : StationToken). s.station.knows.saw_closed ≡ true) (λ (s : StationToken). s.station.knows.saw_closed ≡ true → report.word.closed ≡ true) r.stations
-              (λ s saw then. then saw) (seen (ap (closes_at requests) here ∙ at)) ended.closed_is_seen)
-          (ended.each j low) finished.closed
+      (λ t here seen. of_one (λ (s : StationToken). s.station.knows.saw_closed ≡ true) (λ (s : StationToken). s.station.knows.saw_closed ≡ true → report.word.closed ≡ true) r.stations
+      (λ s saw then. then saw) (seen (ap (closes_at requests) here ∙ at)) ended.closed_is_seen)
+      (ended.each j low) finished.closed
 
   same_ledger : record k.opening { history = reverse report.log.items } ≡ ledger_of config requests report
   same_ledger = ap (λ (v : LedgerView). record v { history = reverse report.log.items }) opening

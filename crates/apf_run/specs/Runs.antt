@@ -1,5 +1,5 @@
 -- What the workers of a run give back, and what a run tells.
-use Rattle.std.specs.Prelude.{◌≡◌, ◌≢◌, ℕ, ◌<◌, true, List, length, reverse, slice_get, All, Any, Some, None}
+use Rattle.std.specs.Prelude.{◌≡◌, ℕ, true, List, length, reverse, slice_get, All, Any, Some}
 use Rattle.apf_words.specs.declared.decision.Decision.TheVariants.{Cancelled}
 use Rattle.apf_model.specs.Outcome.{Agrees, stats_of}
 use Rattle.apf_files.specs.declared.requests.Request.{Request}

@@ -4,7 +4,7 @@ ghost use Rattle.std.specs.Prelude.{◌≡◌, ◌<◌, ◌≤◌, length};
 ghost use Rattle.apf_words.specs.Limits.{max_limit};
 ghost use Rattle.apf_gate.specs.Tokens.{station_gate};
 
-use apf_gate::{Close, Station, TrySetLimit};
+use apf_gate::{Close, Station};
 use apf_level::{Level, Naming};
 use apf_words::{Decision, LevelWord};
 use std::marker::PhantomData;
@@ -44,14 +44,6 @@ impl<K: Naming> Caller<K> {
     /// Reads the level word.
     pub fn look(&mut self, level: &Level<K>) -> LevelWord {
         level.look(&mut self.station)
-    }
-
-    /// Tries to set the limit.
-    pub fn try_set_limit(&mut self, level: &Level<K>, limit: u32) -> TrySetLimit
-        requires some { 1 ≤ limit }
-        requires small { limit ≤ max_limit }
-    {
-        level.try_set_limit(&mut self.station, limit)
     }
 
     /// Sets the limit.

@@ -34,11 +34,7 @@ impl<K: Plan> Finished<K> {
     /// # Errors
     ///
     /// `AllocError` if memory was refused.
-    pub fn new(
-        alloc: Global,
-        requests: usize,
-        stations: usize,
-    ) -> Result<Finished<K>, AllocError>
+    pub fn new(alloc: Global, requests: usize, stations: usize) -> Result<Finished<K>, AllocError>
         ensures { IfOk result (λ f. (f.dones ≡ []) × (f.stations ≡ [])) }
     {
         Ok(Finished {

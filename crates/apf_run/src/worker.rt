@@ -31,8 +31,7 @@ pub struct Worker<K: Plan> {
 }
 
 impl<K: Plan> Model for Worker<K> {
-    ghost use Rattle.apf_run.specs.Plans.{AreOrders};
-ghost use Rattle.apf_run.specs.Workers.{Load, IsLoadOf};
+    ghost use Rattle.apf_run.specs.Workers.{Load, IsLoadOf};
 
     ghost Value = { Load };
 
@@ -110,11 +109,7 @@ impl<K: Plan> Worker<K> {
     /// # Errors
     ///
     /// `AllocError` if memory was refused.
-    pub fn new(
-        alloc: Global,
-        operator: Operator<K>,
-        share: usize,
-    ) -> Result<Worker<K>, AllocError>
+    pub fn new(alloc: Global, operator: Operator<K>, share: usize) -> Result<Worker<K>, AllocError>
         ensures { IfOk result (λ w. (w.passes ≡ []) × (w.dones ≡ [])) }
     {
         Ok(Worker {

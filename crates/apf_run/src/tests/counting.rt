@@ -25,7 +25,8 @@ impl Work for Counted {
 // The first two execute; the third is cancelled by the first, and the fourth closes the level before it arrives.
 #[test]
 fn work_is_of_the_executed(rt: HostRuntime) -> Result<(), Fault> {
-    let text = "[{\"hash\":0,\"work\":5,\"cancels\":2},{\"hash\":0,\"work\":70},{\"hash\":0,\"work\":900},\
+    let text =
+        "[{\"hash\":0,\"work\":5,\"cancels\":2},{\"hash\":0,\"work\":70},{\"hash\":0,\"work\":900},\
         {\"hash\":0,\"work\":1000,\"closes\":true},{\"hash\":0,\"work\":20000}]";
     let counted = Counted {
         calls: AtomicU64::new(0),

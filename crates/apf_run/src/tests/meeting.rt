@@ -112,7 +112,8 @@ fn two_must_meet(rt: HostRuntime) -> Result<(), Fault> {
 
 #[test]
 fn eight_must_meet(rt: HostRuntime) -> Result<(), Fault> {
-    let text = "[{\"hash\":0},{\"hash\":0},{\"hash\":0},{\"hash\":0},{\"hash\":0},{\"hash\":0},{\"hash\":0},{\"hash\":0}]";
+    let text =
+        "[{\"hash\":0},{\"hash\":0},{\"hash\":0},{\"hash\":0},{\"hash\":0},{\"hash\":0},{\"hash\":0},{\"hash\":0}]";
     meets(&rt, rt.alloc(), text, 8, 8)
 }
 

@@ -70,13 +70,7 @@ fn replayed<R: Wait>(rt: &R, alloc: Global) -> Result<Transcript, Fault> {
     let requests = read_requests(alloc, REQUESTS.as_bytes())?;
     let script = "arrive 0\narrive 1\narrive 2\ncancel 2\nfinish 0\nlimit 3\nclose\n";
     let commands = read_script(alloc, script.as_bytes(), requests.len() as u32)?;
-    Ok(replay(
-        rt,
-        alloc,
-        &config,
-        requests.as_slice(),
-        commands.as_slice(),
-    )?)
+    Ok(replay(rt, alloc, &config, requests.as_slice(), commands.as_slice())?)
 }
 
 #[test]

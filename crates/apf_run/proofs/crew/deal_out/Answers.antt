@@ -1,8 +1,7 @@
-use Rattle.std.proofs.Common.{rules, arith, ◌≡◌, ℕ, ◌+◌, ◌<◌, ◌%◌, ◌∷◌, ◌++◌, [], List, length, get_or, set, All, sym, ap, ◌∙◌, length-set}
+use Rattle.std.proofs.Common.{rules, arith, ◌≡◌, ℕ, ◌+◌, ◌<◌, ◌%◌, ◌∷◌, ◌++◌, [], List, length, get_or, set, ap, ◌∙◌, length-set}
 use Rattle.std.specs.Prelude.{Some}
 use Rattle.std.proofs.lemmas.List.{length_push}
 use Rattle.std.proofs.lemmas.List.Elements.{All-set, All-pop}
-use Rattle.apf_gate.specs.Tokens.{PassToken}
 use Rattle.apf_run.specs.Workers.{Load, IsFresh, held}
 use Rattle.apf_run.proofs.Crews.{one_more_held}
 use Rattle.apf_run.proofs.crew.deal_out.Goals as goal

@@ -23,8 +23,8 @@ returns g c =
     let report = c.in_ok-end.field-0 in
     let finished = c.in_ok-finished-2.finished in
     told k config requests report finished (ap (λ (l : LevelId). l.opening) c.requires.level ∙ ap (λ (asks : List Ask). opening_ledger config asks) c.requires.asks)
-        (orders k c.args.opening.gate config c.args.opening.asks.items requests requests c.requires.level refl c.requires.asks c.args.opening.widths_are c.requires.in_range)
-        (subst (λ (plan : List Request). AreFinished k.gate plan finished) c.requires.plan c.into_parts-dones.ensures.finished)
-        (subst (λ (dones : List PassToken). Ended k report.word (slice_get report.decisions.items) (reverse report.log.items) dones finished.stations) c.into_parts-dones.ensures.dones
-        (subst (λ (stations : List StationToken). Ended k report.word (slice_get report.decisions.items) (reverse report.log.items) c.into_parts-dones.result.0.items stations) c.into_parts-dones.ensures.stations
-        c.in_ok-end.ensures.ended)) c.in_ok-end.ensures.count c.in_ok-end.ensures.sums c.in_ok-end.ensures.stats
+    (orders k c.args.opening.gate config c.args.opening.asks.items requests requests c.requires.level refl c.requires.asks c.args.opening.widths_are c.requires.in_range)
+    (subst (λ (plan : List Request). AreFinished k.gate plan finished) c.requires.plan c.into_parts-dones.ensures.finished)
+    (subst (λ (dones : List PassToken). Ended k report.word (slice_get report.decisions.items) (reverse report.log.items) dones finished.stations) c.into_parts-dones.ensures.dones
+    (subst (λ (stations : List StationToken). Ended k report.word (slice_get report.decisions.items) (reverse report.log.items) c.into_parts-dones.result.0.items stations) c.into_parts-dones.ensures.stations
+    c.in_ok-end.ensures.ended)) c.in_ok-end.ensures.count c.in_ok-end.ensures.sums c.in_ok-end.ensures.stats

@@ -12,5 +12,5 @@ invariant_of-result g c =
     let dones : c.append.new.self.items ≡ c.self.inside.dones.items ++ c.args.worker.dones = search rules in
     let stations : c.push.new.self.items ≡ c.self.inside.stations.items ++ c.args.worker.station ∷ [] = search rules in
     subst (λ (ds : List PassToken). AreFinished gate requests (record { dones = ds; stations = c.push.new.self.items })) (sym dones)
-        (subst (λ (ss : List StationToken). AreFinished gate requests (record { dones = c.self.inside.dones.items ++ c.args.worker.dones; stations = ss })) (sym stations)
-        (one_more gate requests (record { dones = c.self.inside.dones.items; stations = c.self.inside.stations.items }) c.args.worker c.self.invariant c.into_parts-station.ensures.load))
+    (subst (λ (ss : List StationToken). AreFinished gate requests (record { dones = c.self.inside.dones.items ++ c.args.worker.dones; stations = ss })) (sym stations)
+    (one_more gate requests (record { dones = c.self.inside.dones.items; stations = c.self.inside.stations.items }) c.args.worker c.self.invariant c.into_parts-station.ensures.load))

@@ -99,7 +99,8 @@ fn four_workers(rt: HostRuntime) -> Result<(), AllocError> {
 // The first request cancels the third before that arrives, and the fourth closes the level before it arrives.
 #[test]
 fn cancels_and_closes(rt: HostRuntime) {
-    let requests = "[{\"hash\":0,\"cancels\":2},{\"hash\":0},{\"hash\":0},{\"hash\":0,\"closes\":true},{\"hash\":0}]";
+    let requests =
+        "[{\"hash\":0,\"cancels\":2},{\"hash\":0},{\"hash\":0},{\"hash\":0,\"closes\":true},{\"hash\":0}]";
     let out = "level closed seats 0 waiting 0\n\
         executed 2 rejected 2 cancelled 1 undecided 0\n\
         queue-full 0 closed 2 concurrency-limit 0\n\
@@ -111,7 +112,8 @@ fn cancels_and_closes(rt: HostRuntime) {
 // Eight requests cancel the last one, which worker 7 brings to its end after it cancelled it.
 #[test]
 fn all_cancel_one(rt: HostRuntime) {
-    let requests = "[{\"hash\":0,\"cancels\":15},{\"hash\":0,\"cancels\":15},{\"hash\":0,\"cancels\":15},\
+    let requests =
+        "[{\"hash\":0,\"cancels\":15},{\"hash\":0,\"cancels\":15},{\"hash\":0,\"cancels\":15},\
         {\"hash\":0,\"cancels\":15},{\"hash\":0,\"cancels\":15},{\"hash\":0,\"cancels\":15},\
         {\"hash\":0,\"cancels\":15},{\"hash\":0,\"cancels\":15},\
         {\"hash\":0},{\"hash\":0},{\"hash\":0},{\"hash\":0},{\"hash\":0},{\"hash\":0},{\"hash\":0},{\"hash\":0}]";

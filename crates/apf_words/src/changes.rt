@@ -6,7 +6,7 @@
 ghost use Rattle.std.specs.Prelude.{◌≡◌, ◌+◌, ◌-◌, ◌%◌, ◌^◌, ◌<◌, ◌≤◌, bit_or, true, false};
 ghost use Rattle.apf_words.specs.Level.{Level, packed, AllBelow20Bits};
 
-use crate::level_word::{CLOSED, LevelWord, WAITERS};
+use crate::level_word::{CLOSED, LIMIT, LevelWord, WAITERS};
 
 impl LevelWord {
     /// The word of a level as it begins: open, with nobody waiting and no seat in use.
@@ -15,10 +15,7 @@ impl LevelWord {
         ensures { result ≡ record { closed = false; waiters = 0; seats = 0; limit = limit } }
     {
         LevelWord {
-            closed: false,
-            waiters: 0,
-            seats: 0,
-            limit,
+            word: u64::from(limit) * LIMIT,
         }
     }
 
@@ -28,8 +25,7 @@ impl LevelWord {
         ensures { result ≡ record self { seats = self.seats + width } }
     {
         LevelWord {
-            seats: self.seats + width,
-            ..self
+            word: self.word + u64::from(width),
         }
     }
 
@@ -39,8 +35,7 @@ impl LevelWord {
         ensures { result ≡ record self { waiters = self.waiters + 1 } }
     {
         LevelWord {
-            waiters: self.waiters + 1,
-            ..self
+            word: self.word + WAITERS,
         }
     }
 
@@ -51,9 +46,7 @@ impl LevelWord {
         ensures { result ≡ record self { waiters = self.waiters - 1; seats = self.seats + width } }
     {
         LevelWord {
-            waiters: self.waiters - 1,
-            seats: self.seats + width,
-            ..self
+            word: self.word - WAITERS + u64::from(width),
         }
     }
 
@@ -62,7 +55,9 @@ impl LevelWord {
         requires small { limit < 2 ^ 20 }
         ensures { result ≡ record self { limit = limit } }
     {
-        LevelWord { limit, ..self }
+        LevelWord {
+            word: self.word - u64::from(self.limit()) * LIMIT + u64::from(limit) * LIMIT,
+        }
     }
 
     /// What to subtract from a packed word so that this many seats fewer are in use.

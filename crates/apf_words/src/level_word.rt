@@ -3,6 +3,7 @@
 ghost use Rattle.std.specs.Prelude.{◌≡◌, ◌≢◌, ◌↔◌, ℕ, ◌<◌, ◌^◌, ◌/◌, ◌%◌, IsSome, IsNone, IfSome, Some, None};
 ghost use Rattle.apf_words.specs.Level.{Level, packed, AllBelow20Bits};
 
+use std::fmt;
 use std::marker::Model;
 
 /// One more than the largest number that a field of the level word holds.
@@ -12,7 +13,7 @@ pub(crate) const FIELD: u64 = 1 << 20;
 pub(crate) const WAITERS: u64 = 1 << 20;
 
 /// The place of the limit.
-const LIMIT: u64 = 1 << 40;
+pub(crate) const LIMIT: u64 = 1 << 40;
 
 /// The lowest of the three bits that stay zero.
 const UNUSED: u64 = 1 << 60;
@@ -25,22 +26,37 @@ pub(crate) const CLOSED: u64 = 1 << 63;
 ///
 /// Packed, bits 0 to 19 are the seats in use, 20 to 39 the waiters, 40 to 59 the limit, 60 to 62
 /// zero, and bit 63 is set if the level is closed.
-#[derive(Clone, Copy, Debug, PartialEq, Eq)]
+///
+/// It is kept as it stands in memory, so that to pack it costs nothing.
+#[derive(Clone, Copy, PartialEq, Eq)]
 pub struct LevelWord {
-    pub(crate) closed: bool,
-    pub(crate) waiters: u32,
-    pub(crate) seats: u32,
-    pub(crate) limit: u32,
+    pub(crate) word: u64,
 }
 
 impl Model for LevelWord {
+    ghost use Rattle.apf_words.specs.Level.{Level, packed, unpacked, HasUnusedZero};
+    ghost use Rattle.apf_words.specs.Unpacking.{packed_unpacked};
+
     ghost Value = { Level };
 
-    ghost view = { λ w. record { closed = w.closed; waiters = w.waiters; seats = w.seats; limit = w.limit } };
+    ghost view = { λ w. unpacked w.word };
 
-    ghost invariant = { λ w. AllBelow20Bits w.waiters w.seats w.limit };
+    ghost invariant = { λ w. HasUnusedZero w.word };
 
-    ghost inverse = { λ l. record { closed = l.closed; waiters = l.waiters; seats = l.seats; limit = l.limit } };
+    ghost inverse = { λ l. record { word = packed l } };
+
+    ghost inverse_ok = { λ w h i. record { word = packed_unpacked w.word h i } };
+}
+
+impl fmt::Debug for LevelWord {
+    fn fmt<W: fmt::Write>(&self, f: &mut fmt::Formatter<W>) -> fmt::Result {
+        f.debug_struct("LevelWord")
+            .field("closed", &self.closed())
+            .field("waiters", &self.waiters())
+            .field("seats", &self.seats())
+            .field("limit", &self.limit())
+            .finish()
+    }
 }
 
 impl LevelWord {
@@ -52,14 +68,22 @@ impl LevelWord {
     {
         let largest = waiters.max(seats).max(limit);
         if u64::from(largest) < FIELD {
-            Some(LevelWord {
-                closed,
-                waiters,
-                seats,
-                limit,
-            })
+            Some(LevelWord::of(closed, waiters, seats, limit))
         } else {
             None
+        }
+    }
+
+    // The level word of these four.
+    fn of(closed: bool, waiters: u32, seats: u32, limit: u32) -> LevelWord
+        requires small { AllBelow20Bits waiters seats limit }
+        ensures { result ≡ record { closed = closed; waiters = waiters; seats = seats; limit = limit } }
+    {
+        let closed = if closed { CLOSED } else { 0 };
+        let limit = u64::from(limit) * LIMIT;
+        let waiters = u64::from(waiters) * WAITERS;
+        LevelWord {
+            word: closed + limit + waiters + u64::from(seats),
         }
     }
 
@@ -67,7 +91,7 @@ impl LevelWord {
     pub fn closed(&self) -> bool
         ensures { result ≡ self.now.closed }
     {
-        self.closed
+        self.word / CLOSED != 0
     }
 
     /// How many requests wait in the queues.
@@ -75,7 +99,7 @@ impl LevelWord {
         ensures value { result ≡ self.now.waiters }
         ensures small { result < 2 ^ 20 }
     {
-        self.waiters
+        (self.word / WAITERS % FIELD) as u32
     }
 
     /// How many seats are in use.
@@ -83,7 +107,7 @@ impl LevelWord {
         ensures value { result ≡ self.now.seats }
         ensures small { result < 2 ^ 20 }
     {
-        self.seats
+        (self.word % FIELD) as u32
     }
 
     /// The limit, in seats.
@@ -91,7 +115,7 @@ impl LevelWord {
         ensures value { result ≡ self.now.limit }
         ensures small { result < 2 ^ 20 }
     {
-        self.limit
+        (self.word / LIMIT % FIELD) as u32
     }
 
     /// The word that says this.
@@ -99,11 +123,7 @@ impl LevelWord {
         ensures value { result ≡ packed self.now }
         ensures small { AllBelow20Bits self.now.waiters self.now.seats self.now.limit }
     {
-        let closed = if self.closed { CLOSED } else { 0 };
-        closed
-            + u64::from(self.limit) * LIMIT
-            + u64::from(self.waiters) * WAITERS
-            + u64::from(self.seats)
+        self.word
     }
 
     /// What a word says, or `None` exactly if a bit of 60 to 62 is set.
@@ -118,11 +138,6 @@ impl LevelWord {
         if word / UNUSED % 8 != 0 {
             return None;
         }
-        Some(LevelWord {
-            closed: word >= CLOSED,
-            waiters: (word / WAITERS % FIELD) as u32,
-            seats: (word % FIELD) as u32,
-            limit: (word / LIMIT % FIELD) as u32,
-        })
+        Some(LevelWord { word })
     }
 }

@@ -23,6 +23,27 @@ fn packing(rt: HostRuntime) -> Result<(), Fail> {
     Ok(())
 }
 
+// Whoever prints a level word reads its four parts, not the number that it is kept as.
+#[test]
+fn printing(rt: HostRuntime) -> Result<(), Fail> {
+    for (word, parts) in [
+        (
+            9223373136368500739,
+            "closed: true, waiters: 2, seats: 3, limit: 1",
+        ),
+        (
+            10995126763540000,
+            "closed: false, waiters: 10000, seats: 20000, limit: 10000",
+        ),
+    ] {
+        let word = LevelWord::unpack(word).ok_or("no bit of 60 to 62")?;
+        let text = format!(in rt.alloc(); "{word:?}")?;
+        let expected = format!(in rt.alloc(); "LevelWord {{ {parts} }}")?;
+        assert_eq!(rt; text.as_str(), expected.as_str());
+    }
+    Ok(())
+}
+
 #[test]
 fn codes(rt: HostRuntime) {
     assert_eq!(rt; Decision::of_code(5), Some(Decision::ConcurrencyLimit));

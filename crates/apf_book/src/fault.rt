@@ -6,6 +6,8 @@ ghost use Rattle.apf_book.specs.declared.fault.BookFault.TheVariants.{NoMemory};
 use apf_flow::DealerFault;
 use apf_queue::QueueFault;
 use std::alloc::AllocError;
+use std::error::Error;
+use std::fmt;
 
 /// Why a book could not be made.
 #[derive(Clone, Copy, Debug, PartialEq, Eq)]
@@ -17,6 +19,18 @@ pub enum BookFault {
     /// There was no memory.
     NoMemory,
 }
+
+impl fmt::Display for BookFault {
+    fn fmt<W: fmt::Write>(&self, f: &mut fmt::Formatter<W>) -> fmt::Result {
+        match self {
+            BookFault::Dealer(fault) => write!(f, "{fault}"),
+            BookFault::Queues(fault) => write!(f, "{fault}"),
+            BookFault::NoMemory => f.write_str("out of memory"),
+        }
+    }
+}
+
+impl Error for BookFault {}
 
 impl From<AllocError> for BookFault {
     ghost from_gives = { λ _ fault. fault ≡ NoMemory };

@@ -1,5 +1,5 @@
 -- Words that are accepted give a run some workers.
-use Rattle.std.proofs.Common.{◌≡◌, List, arith}
+use Rattle.std.proofs.Common.{List, arith}
 use Rattle.clap.specs.Words.{Row, Text}
 use Rattle.apf_cli.specs.declared.words.Action.{Action}
 use Rattle.apf_cli.specs.declared.words.Action.TheVariants.{Hash, Deal, Replay, Run, Services}

@@ -1,8 +1,7 @@
 //! The whole program over files and writers that the caller passes.
 
-ghost use Rattle.std.specs.Prelude.{◌<◌, ◌≤◌, length, All, IfOk};
+ghost use Rattle.std.specs.Prelude.{◌<◌, ◌≤◌, length, IfOk};
 ghost use Rattle.apf_run.specs.Limits.{max_requests};
-ghost use Rattle.apf_run.specs.RequestsFile.{IsRequestInRange};
 ghost use Rattle.apf_cli.specs.Meaning.{HasWorkers};
 
 use crate::faults::{Fault, Input, Sizes};
@@ -70,7 +69,6 @@ fn read_level<F: Files>(
     config: &str,
     requests: &str,
 ) -> Result<(Config, Vec<Request>), Fault>
-    ensures in_range { IfOk result (λ o. All (IsRequestInRange (length o.1.items)) o.1.items) }
     ensures few { IfOk result (λ o. length o.1.items ≤ max_requests) }
 {
     let config = read_config(alloc, read(files, Input::Config, config)?.as_slice())?;
@@ -173,9 +171,9 @@ fn print_refusal<O: Write, E: Write>(
 /// The whole program: the first word is its name, and the answer is its status.
 ///
 /// 0 is done; 1 a file's fault, or output that can't be written; 2 a command line's fault, dealer
-/// faults of `deal` among them; 3 want of memory or a worker that could not start. Before the status is 1, 2 or 3, one fault is
-/// printed on `err`, and a write to it that fails changes no status. A fault prints nothing on
-/// `out`, except that a failed write may have written a beginning.
+/// faults of `deal` among them; 3 want of memory or a worker that could not start. Before the
+/// status is 1, 2 or 3, one fault is printed on `err`, and a write to it that fails changes no
+/// status. A fault prints nothing on `out`, except that a failed write may have written a beginning.
 #[tactic(auto, using(crate::proofs::Workers::has_workers))]
 pub fn act<F: Files, O: Write, E: Write, R: Wait + Threads + Sync>(
     rt: &R,

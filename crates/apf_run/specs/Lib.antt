@@ -1,5 +1,4 @@
 pub use Rattle.apf_words.specs.Limits
-pub use Rattle.apf_files.specs.RequestsFile
 pub mod Sessions
 pub mod Texts
 pub mod Services

@@ -1,6 +1,5 @@
 -- What the requests of a run ask of the workers' Stations.
-use Rattle.std.specs.Prelude.{◌≡◌, ℕ, true, false, Bool, List, length, All, Any, Option, Some, None, slice_get}
-use Rattle.apf_files.specs.RequestsFile.{IsRequestInRange}
+use Rattle.std.specs.Prelude.{◌≡◌, ℕ, true, false, Bool, List, length, Any, Option, Some, None, slice_get}
 use Rattle.apf_files.specs.declared.requests.Request.{Request}
 use Rattle.apf_gate.specs.Tokens.{GateId, StationToken, station_gate}
 use Rattle.apf_gate.specs.Ends.{WroteCancelled, ClosedFirst}
@@ -28,8 +27,7 @@ pub record IsFaithful (gate : GateId) (requests : List Request) (s : StationToke
   pub cancels : (r : ℕ) → WroteCancelled r s → IsNamed requests r
   pub closes : ClosedFirst s → SomeCloses requests
 
--- the requests are those of the plan, one for each width of the gate, and each number is in its range
+-- the requests are those of the plan, one for each width of the gate
 pub record AreOrders (gate : GateId) (plan requests : List Request) : Type 0 where
   pub is : requests ≡ plan
   pub each : length requests ≡ length gate.shape.widths
-  pub in_range : All (IsRequestInRange (length gate.shape.widths)) requests

@@ -12,7 +12,7 @@ pub enum ReplayFault {
     #[error("{0}")]
     Gate(GateFault),
     /// The level was not opened.
-    #[error("the level was not opened")]
+    #[error("{0}")]
     Level(BookFault),
     /// Memory was refused.
     #[error("out of memory")]
@@ -56,7 +56,7 @@ pub enum RunFault {
     #[error("{0}")]
     Gate(GateFault),
     /// The level was not opened.
-    #[error("the level was not opened")]
+    #[error("{0}")]
     Level(BookFault),
 }
 

@@ -1,7 +1,6 @@
 //! Replays a script.
 
-ghost use Rattle.std.specs.Prelude.{◌≡◌, length, All};
-ghost use Rattle.apf_files.specs.ScriptFile.{IsCommandInRange};
+ghost use Rattle.std.specs.Prelude.{◌≡◌};
 ghost use Rattle.apf_run.specs.Sessions.{level_of};
 
 use crate::fault::ReplayFault;
@@ -19,6 +18,8 @@ use std::sync::Wait;
 ///
 /// A request that arrives begins; one that finishes gives its seats back, and dispatches where requests wait; one
 /// that is cancelled is struck. After each command each request that was dispatched or struck reads its decision.
+/// A command that names a request which is not there, or a limit that is not 1 to 10,000 seats, does nothing and
+/// has no line; `read_script` refuses such.
 ///
 /// # Errors
 ///
@@ -29,9 +30,7 @@ pub fn replay<R: Wait>(
     config: &Config,
     requests: &[Request],
     commands: &[Command],
-) -> Result<Transcript, ReplayFault>
-    requires { All (IsCommandInRange (length requests.now)) commands.now }
-{
+) -> Result<Transcript, ReplayFault> {
     let opening = open_gate(alloc, config, requests, 1)?;
     replay_named::<Brand, R>(rt, alloc, opening, requests, commands)
 }
@@ -45,7 +44,6 @@ fn replay_named<K: Naming, R: Wait>(
 ) -> Result<Transcript, ReplayFault>
     requires level { K.level ≡ level_of opening.gate opening.config opening.asks.items }
     requires one { opening.gate.shape.stations ≡ 1 }
-    requires commands { All (IsCommandInRange (length K.level.gate.shape.widths)) commands.now }
 {
     let mut session = Session::<K>::open(rt, alloc, opening, commands.len())?;
     let carried_out = carry_out_all(rt, &mut session, commands);
@@ -66,9 +64,7 @@ fn carry_out_all<K: Naming, R: Wait>(
     rt: &R,
     session: &mut Session<K>,
     commands: &[Command],
-) -> Result<(), AllocError>
-    requires { All (IsCommandInRange (length K.level.gate.shape.widths)) commands.now }
-{
+) -> Result<(), AllocError> {
     for command in commands {
         session.carry_out(rt, *command)?;
     }

@@ -1,7 +1,6 @@
 //! Runs requests by workers.
 
-ghost use Rattle.std.specs.Prelude.{◌≡◌, ◌<◌, length, All, IfOk};
-ghost use Rattle.apf_files.specs.RequestsFile.{IsRequestInRange};
+ghost use Rattle.std.specs.Prelude.{◌≡◌, ◌<◌, IfOk};
 ghost use Rattle.apf_run.specs.Runs.{HasRun};
 ghost use Rattle.apf_run.specs.Sessions.{level_of, asks_of};
 
@@ -23,8 +22,8 @@ use std::thread::Threads;
 ///
 /// Worker k of m handles, in their order, the requests whose numbers leave k when divided by m. Of each it
 /// closes the level if the request says so, and waits until it is decided. If the request executes, the worker
-/// does its work, cancels and strikes the request that it names, gives the seats back, and dispatches where
-/// requests wait.
+/// does its work, cancels and strikes the request that it names (one that is not there is nobody), gives the
+/// seats back, and dispatches where requests wait.
 ///
 /// # Errors
 ///
@@ -39,7 +38,6 @@ pub fn run<W: Work, R: Wait + Threads + Sync>(
     work: &W,
 ) -> Result<Report, RunFault>
     requires some { 0 < workers }
-    requires in_range { All (IsRequestInRange (length requests.now)) requests.now }
     ensures { IfOk result (HasRun config.now requests.now) }
 {
     let opening = open_gate(alloc, config, requests, workers)?;
@@ -57,7 +55,6 @@ fn run_named<K: Plan, W: Work, R: Wait + Threads + Sync>(
     requires plan { K.requests ≡ requests.now }
     requires asks { opening.asks.items ≡ asks_of requests.now }
     requires some { 0 < opening.gate.shape.stations }
-    requires in_range { All (IsRequestInRange (length requests.now)) requests.now }
     ensures { IfOk result (HasRun opening.config requests.now) }
 {
     let Opening {

@@ -1,6 +1,6 @@
 //! A level in the hands of one thread: its requests, its one Station, and the reader of its statistics.
 
-ghost use Rattle.std.specs.Prelude.{◌≡◌, ◌<◌, ◌≤◌, [], length, All, IfOk};
+ghost use Rattle.std.specs.Prelude.{◌≡◌, ◌↔◌, ◌<◌, ◌≤◌, [], length, All, IfOk, IsTrue};
 ghost use Rattle.apf_words.specs.Limits.{max_limit};
 ghost use Rattle.apf_gate.specs.Tokens.{pass_gate, station_gate};
 ghost use Rattle.apf_files.specs.ScriptFile.{IsCommandInRange};
@@ -18,7 +18,7 @@ use apf_files::Command;
 use apf_gate::{Close, Station};
 use apf_level::{Done, Level, Naming, Opened, StatsPass};
 use apf_model::{Event, Response};
-use apf_words::Decision;
+use apf_words::{Decision, MAX_LIMIT};
 use std::alloc::{AllocError, Global};
 use std::sync::Wait;
 
@@ -102,14 +102,28 @@ impl<K: Naming> Session<K> {
         })
     }
 
-    /// Carries out a command, and notes what it did.
+    // Whether the request that the command names is there, or its limit one of 1 to 10,000 seats.
+    fn can_carry_out(&self, command: Command) -> bool
+        ensures { IsTrue result ↔ IsCommandInRange (length K.level.gate.shape.widths) command }
+    {
+        match command {
+            Command::Arrive(request) | Command::Finish(request) | Command::Cancel(request) => {
+                (request as usize) < self.clients.len()
+            }
+            Command::Close => true,
+            Command::Limit(limit) => 1 <= limit && limit <= MAX_LIMIT,
+        }
+    }
+
+    /// Carries out a command, and notes what it did: nothing, if what it names is not there.
     ///
     /// # Errors
     ///
     /// `AllocError` if there was no room for a line and memory was refused.
-    pub fn carry_out<R: Wait>(&mut self, rt: &R, command: Command) -> Result<(), AllocError>
-        requires { IsCommandInRange (length K.level.gate.shape.widths) command }
-    {
+    pub fn carry_out<R: Wait>(&mut self, rt: &R, command: Command) -> Result<(), AllocError> {
+        if !self.can_carry_out(command) {
+            return Ok(());
+        }
         let line = match command {
             Command::Arrive(request) => self.arrive(rt, request),
             Command::Finish(request) => Some(self.finish(rt, request)),

@@ -1,5 +1,6 @@
-//! Runs by workers, with work that looks at the others; and writers without room.
+//! Runs by workers, with work that looks at the others; writers without room; and numbers of what is not there.
 
+mod absent;
 mod counting;
 mod meeting;
 mod writing;

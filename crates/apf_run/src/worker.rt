@@ -1,6 +1,6 @@
 //! A worker of a run: its Station, and its share of the requests.
 
-ghost use Rattle.std.specs.Prelude.{◌≡◌, ◌+◌, [], length, true, IfOk, OnOk};
+ghost use Rattle.std.specs.Prelude.{◌≡◌, ◌+◌, ◌<◌, [], length, true, Some, IfOk, IfSome, OnOk};
 ghost use Rattle.apf_gate.specs.Tokens.{pass_gate};
 ghost use Rattle.apf_run.specs.Plans.{AreOrders};
 ghost use Rattle.apf_run.specs.Workers.{IsFresh, SawClosed, IsLoadOf};
@@ -71,6 +71,18 @@ impl<'a, K: Plan, W: Work> Job<'a, K, W> {
             work,
         }
     }
+
+    // Whom the request names to be cancelled, if that one is there.
+    fn named_by(&self, request: Request) -> Option<u32>
+        ensures inside { IfSome result (λ r. r < length self.now) }
+        ensures named { IfSome result (λ r. request.cancels ≡ Some r) }
+    {
+        let other = request.cancels?;
+        if other as usize >= self.requests.len() {
+            return None;
+        }
+        Some(other)
+    }
 }
 
 // Brings a request to its end: closes the level if the request says so, and waits until it is decided. If it
@@ -93,7 +105,7 @@ fn handle<K: Plan, W: Work, R: Wait>(
     match job.level.admit(rt, pass) {
         Admit::Run(running) => {
             job.work.work(&running, request.work);
-            if let Some(other) = request.cancels {
+            if let Some(other) = job.named_by(request) {
                 operator.cancel(job.level, other);
                 job.level.strike(rt, other);
             }

@@ -1,4 +1,5 @@
-//! Requests that take seats, execute and give them back, under one lock.
+//! Requests that take seats, execute and give them back, under one lock: what the words and the Passes of a gate
+//! say as plain numbers, and a level's two calls on them.
 
 use crate::course::{Course, REQUESTS};
 use std::alloc::Global;
@@ -7,45 +8,91 @@ use std::thread;
 use std::thread::Threads;
 use std::time::Clock;
 
-// What the gate's words say, as plain numbers.
+/// The code of a decision, 0 while there is none.
+const UNDECIDED: u8 = 0;
+
+const EXECUTE: u8 = 1;
+
+const CLOSED: u8 = 3;
+
 #[derive(Drop)]
 struct State {
     is_closed: bool,
     waiters: u32,
     seats: u32,
     limit: u32,
-    // The code of each request's decision, 0 while it is undecided.
-    decisions: Vec<u8, Global>,
+    // Each request's width and decision.
+    requests: Vec<Request, Global>,
+}
+
+#[derive(Clone, Copy)]
+struct Request {
+    width: u32,
+    decision: u8,
+}
+
+// What became of an attempt to be admitted.
+#[derive(Clone, Copy)]
+enum Tried {
+    Run,
+    Over,
+    Busy,
 }
 
 impl State {
-    // Takes a seat for the request and decides that it executes, where there is room.
-    fn admit(&mut self, request: usize) -> bool {
-        if self.is_closed || self.waiters != 0 || self.seats >= self.limit {
-            return false;
-        }
-        let Some(decision) = self.decisions.get_mut(request) else {
-            return false;
+    // Takes the request's seats and decides that it executes, where the level is open, nobody waits and they fit.
+    fn try_admit(&mut self, request: usize) -> Tried {
+        let Some(request) = self.requests.get_mut(request) else {
+            return Tried::Over;
         };
-        if *decision != 0 {
-            return false;
+        if request.decision != UNDECIDED {
+            return Tried::Over;
         }
-        *decision = 1;
-        self.seats = self.seats.wrapping_add(1);
-        true
+        if self.is_closed {
+            request.decision = CLOSED;
+            return Tried::Over;
+        }
+        if self.waiters != 0 {
+            return Tried::Busy;
+        }
+        let seats = self.seats.saturating_add(request.width);
+        if seats > self.limit && (request.width <= self.limit || self.seats != 0) {
+            return Tried::Busy;
+        }
+        self.seats = seats;
+        request.decision = EXECUTE;
+        Tried::Run
     }
 
-    // Gives the seat back.
-    fn release(&mut self) {
-        self.seats = self.seats.wrapping_sub(1);
+    // Gives the request's seats back. Says whether requests waited.
+    fn release(&mut self, request: usize) -> bool {
+        let Some(request) = self.requests.get(request) else {
+            return false;
+        };
+        self.seats = self.seats.saturating_sub(request.width);
+        self.waiters != 0
     }
 }
 
-fn serve<R: Clock + Wait>(rt: &R, course: &Course, state: &Mutex<State>, request: usize) {
-    course.begin(rt, request);
-    if state.lock(rt).admit(request) {
-        state.lock(rt).release();
+// Serves a request for which there is room, in at most so many turns.
+fn serve<R: Wait>(rt: &R, state: &Mutex<State>, request: usize) {
+    for _turn in 0..1_000_000u32 {
+        // the guard is gone before the next lock
+        let tried = state.lock(rt).try_admit(request);
+        match tried {
+            Tried::Run => {
+                state.lock(rt).release(request);
+                return;
+            }
+            Tried::Over => return,
+            Tried::Busy => {}
+        }
     }
+}
+
+fn serve_timed<R: Clock + Wait>(rt: &R, course: &Course, state: &Mutex<State>, request: usize) {
+    course.begin(rt, request);
+    serve(rt, state, request);
     course.end(rt, request);
 }
 
@@ -60,28 +107,33 @@ fn serve_all<R: Threads + Clock + Wait + Sync>(
         rt,
         requests,
         threads.max(1) as usize,
-        &|request, _turn: &mut u8| serve(rt, course, state, request),
+        &|request, _turn: &mut u8| serve_timed(rt, course, state, request),
     );
 }
 
 /// How long a request takes under one lock, in picoseconds: `None` if there was no memory or clock, or
-/// seats are taken at the end.
+/// seats are taken or a request is undecided at the end.
 pub fn locked<R: Threads + Clock + Wait + Sync>(
     rt: &R,
     alloc: Global,
     threads: u32,
 ) -> Option<u64> {
+    let request = Request {
+        width: 1,
+        decision: UNDECIDED,
+    };
     let state = Mutex::new(State {
         is_closed: false,
         waiters: 0,
         seats: 0,
         limit: 10_000,
-        decisions: vec![in alloc; 0u8; REQUESTS as usize].ok()?,
+        requests: vec![in alloc; request; REQUESTS as usize].ok()?,
     });
     let mut requests = vec![in alloc; 0u8; REQUESTS as usize].ok()?;
     let course = Course::new(rt, threads)?;
     serve_all(rt, &course, &state, requests.as_mut_slice(), threads);
-    if state.lock(rt).seats != 0 {
+    let state = state.lock(rt);
+    if state.seats != 0 || state.requests.iter().any(|r| r.decision != EXECUTE) {
         return None;
     }
     Some(course.picos())

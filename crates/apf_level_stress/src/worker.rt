@@ -295,6 +295,7 @@ impl<K: Naming> Worker<K> {
             self.close(stage);
         }
     }
+
     /// Its Station, what is left of its requests, and what it was told.
     pub fn into_parts(self) -> (Station, Vec<Done>, Vec<(u32, Note)>, Vec<Act>)
         ensures station { station_gate result.0 ≡ K.level.gate }

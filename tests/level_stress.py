@@ -118,6 +118,21 @@ def changed(name, change):
     return lambda report: setattr(report, name, change(getattr(report, name)))
 
 
+def without_first(holds):
+    """The list without the first item of which this holds."""
+
+    def change(items):
+        place = next(place for place, it in enumerate(items) if holds(*it))
+        return items[:place] + items[place + 1 :]
+
+    return change
+
+
+def first_told_another(cancels):
+    (request, told), *rest = cancels
+    return [(request, "execute" if told == "closed" else "closed"), *rest]
+
+
 # what is false, how, and what the judge is to say of it
 FALSE = [
     ("two dispatches are exchanged", exchanged, "fair"),
@@ -137,11 +152,12 @@ FALSE = [
     ("a rejected request is closed", decided("full", "closed"), "agreement"),
     ("a caller is told another decision", first_told("cancelled"), "told"),
     ("a request that executes is late", first_told("execute", "late"), "late"),
-    ("a canceller is told another decision", changed("cancels", lambda it: [(it[0][0], "closed"), *it[1:]]), "told"),
+    ("a canceller is told another decision", changed("cancels", first_told_another), "told"),
     ("a cancel that nobody made", changed("cancels", lambda it: [(r, told) for r, told in it if told != "cancelled"]), "cancels"),
     ("a strike that is told twice", changed("strikes", lambda it: it + it[:1]), "strikes"),
     ("two first closes", changed("closes", lambda it: ["First", *it]), "closed"),
-    ("a limit that is lost", changed("limits", lambda it: it[1:]), "limits"),
+    # a change that sets the limit that was there already leaves no trace
+    ("a limit that is lost", changed("limits", without_first(lambda old, new: old != new)), "limits"),
     ("seats beyond the limit", changed("most", lambda it: it + 10), "seats"),
     ("a seat that is kept", one_more("word", 1), "word"),
     ("a sum of one more", one_more("counts"), "sums"),

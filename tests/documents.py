@@ -111,6 +111,10 @@ shown = [body for head, body in blocks(page) if head == "rust"]
 inside = "".join(line.removeprefix("    ") + "\n" for line in source.split("\n"))
 tally.check("README.md: the example of the library", [len(shown), *(body in inside for body in shown)], [1, True])
 
+# the planted bugs are as many as the README says
+edits = sum(name.endswith(".edit") for _, _, names in os.walk(os.path.join(TOP, "crates")) for name in names)
+tally.check("README.md: the number of planted bugs", re.findall(r"(\d+) planted bugs", page), [str(edits)])
+
 # the crates of docs/ARCHITECTURE.md are those of crates.txt, and stand on the same ones
 page = open(os.path.join(TOP, "docs", "ARCHITECTURE.md"), encoding="utf-8").read().split("# The finished product")[0]
 shown = {name: sorted(re.findall(r"`(\w+)`", below)) for name, below in re.findall(r"^\| `(\w+)` \|[^|]*\|([^|]*)\|[^|]*\|$", page, re.M)}

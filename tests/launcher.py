@@ -71,7 +71,7 @@ for tool in ("bash", "sh", "env", "awk", "basename", "cat", "chmod", "dirname", 
     os.symlink(shutil.which(tool), os.path.join(TOOLS, tool))
 
 ALL = ["lib low", "lib middle", "lib apf_cli", "run apf"]
-BEGIN = "apf: building the program, which proves its 4 crates first: about 5 minutes on four free cores"
+BEGIN = "apf: building the program, which proves its 4 crates first: 5 to 30 minutes on four free cores"
 PROGRESS = [
     "apf: proving low, 3 more to follow",
     "apf: proving middle, 2 more to follow",

@@ -1,17 +1,37 @@
 //! The time of a run in several threads, from the moment at which all of them are ready.
 
-use std::hint;
 use std::sync::atomic::{AtomicU64, Ordering};
 use std::time::{Clock, Instant};
+use std::{fmt, hint};
 
 // How many requests a run serves: a power of two, as the numbers of threads are, so that each thread has an equal
 // share, whose first and last request are told without a division. That would be measured with the rest.
 pub const REQUESTS: u32 = 8_192;
 
+/// Who serves the requests of a run.
+#[derive(Clone, Copy)]
+pub struct Callers {
+    /// How many threads there are, a power of two.
+    pub threads: u32,
+    /// How many spin hints a thread gives after a lost exchange before it tries again.
+    pub hints: u32,
+}
+
+impl fmt::Display for Callers {
+    fn fmt<W: fmt::Write>(&self, f: &mut fmt::Formatter<W>) -> fmt::Result {
+        write!(f, "threads {}", self.threads)?;
+        if self.hints != 0 {
+            write!(f, ", {} hints after a lost exchange", self.hints)?;
+        }
+        Ok(())
+    }
+}
+
 /// A run, whose threads begin together.
 #[derive(Drop)]
 pub struct Course {
     base: Instant,
+    hints: u32,
     // The size of a share, a power of two, less one.
     mask: usize,
     threads: u64,
@@ -22,19 +42,28 @@ pub struct Course {
 }
 
 impl Course {
-    /// A run of so many threads, or `None` if they are no power of two, or the machine tells no time.
-    pub fn new<R: Clock>(rt: &R, threads: u32) -> Option<Course> {
+    /// A run by these callers, or `None` if their threads are no power of two, or the machine tells no time.
+    pub fn new<R: Clock>(rt: &R, callers: Callers) -> Option<Course> {
+        let Callers { threads, hints } = callers;
         if !threads.is_power_of_two() {
             return None;
         }
         Some(Course {
             base: Instant::now(rt).ok()?,
+            hints,
             mask: (REQUESTS / threads.max(1)).saturating_sub(1) as usize,
             threads: u64::from(threads),
             ready: AtomicU64::new(0),
             begin: AtomicU64::new(u64::MAX),
             end: AtomicU64::new(0),
         })
+    }
+
+    /// Waits after a lost exchange.
+    pub fn wait(&self) {
+        for _ in 0..self.hints {
+            hint::spin_loop();
+        }
     }
 
     fn nanos<R: Clock>(&self, rt: &R) -> u64 {

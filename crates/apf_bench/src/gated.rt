@@ -4,7 +4,7 @@ ghost use Rattle.std.specs.Prelude.{◌≡◌, All};
 ghost use Rattle.apf_gate.specs.declared.record.State.TheVariants.{Fresh};
 ghost use Rattle.apf_gate.specs.Tokens.{pass_gate};
 
-use crate::course::{Course, REQUESTS};
+use crate::course::{Callers, Course, REQUESTS};
 use apf_gate::{Gate, Pass, TryTake};
 use apf_model::Response;
 use apf_words::Decision;
@@ -15,7 +15,7 @@ use std::time::Clock;
 
 // Serves a request for which there is room, in at most so many turns. It reads its decision before each, if this
 // says so.
-fn serve(gate: &Gate<Global>, pass: &mut Pass, reads: bool)
+fn serve(course: &Course, gate: &Gate<Global>, pass: &mut Pass, reads: bool)
     requires own { pass_gate pass.old ≡ gate.now }
     requires fresh { pass.old.pass.state ≡ Fresh }
 {
@@ -29,7 +29,7 @@ fn serve(gate: &Gate<Global>, pass: &mut Pass, reads: bool)
                 gate.release(pass);
                 return;
             }
-            TryTake::Raced => {}
+            TryTake::Raced => course.wait(),
             TryTake::Waiters | TryTake::NoRoom | TryTake::Closed => return,
         }
     }
@@ -47,7 +47,7 @@ fn serve_timed<R: Clock>(
     requires fresh { pass.old.pass.state ≡ Fresh }
 {
     course.begin(rt, request);
-    serve(gate, pass, reads);
+    serve(course, gate, pass, reads);
     course.end(rt, request);
 }
 
@@ -56,7 +56,7 @@ fn serve_all<R: Threads + Clock + Sync>(
     course: &Course,
     gate: &Gate<Global>,
     passes: &mut [Pass],
-    threads: u32,
+    callers: Callers,
     reads: bool,
 )
     requires { All (λ t. (pass_gate t ≡ gate.now) × (t.pass.state ≡ Fresh)) passes.old }
@@ -64,7 +64,7 @@ fn serve_all<R: Threads + Clock + Sync>(
     thread::for_each_mut(
         rt,
         passes,
-        threads.max(1) as usize,
+        callers.threads.max(1) as usize,
         &|request, pass| { serve_timed(rt, course, gate, request, pass, reads) },
     );
 }
@@ -74,14 +74,14 @@ fn serve_all<R: Threads + Clock + Sync>(
 pub fn gated<R: Threads + Clock + Sync>(
     rt: &R,
     alloc: Global,
-    threads: u32,
+    callers: Callers,
     reads: bool,
 ) -> Option<u64> {
     let widths = vec![in alloc; 1u32; REQUESTS as usize].ok()?;
     let opened = Gate::open(alloc, 10_000, widths.as_slice(), 0, Response::Queue);
     let (gate, mut desk, mut passes, _stations) = opened.ok()?;
-    let course = Course::new(rt, threads)?;
-    serve_all(rt, &course, &gate, passes.as_mut_slice(), threads, reads);
+    let course = Course::new(rt, callers)?;
+    serve_all(rt, &course, &gate, passes.as_mut_slice(), callers, reads);
     if gate.view(&mut desk).seats() != 0 {
         return None;
     }

@@ -7,7 +7,7 @@ ghost use Rattle.apf_gate.specs.Tokens.{pass_gate, station_gate};
 ghost use Rattle.apf_book.specs.Opening.{opening_ledger};
 
 use crate::choices::picos_each;
-use crate::course::{Course, REQUESTS};
+use crate::course::{Callers, Course, REQUESTS};
 use crate::levelled::serve_all;
 use crate::lined::serve_line;
 use crate::slot::Slot;
@@ -24,8 +24,8 @@ use std::time::{Clock, Instant};
 /// What the requests of a level do.
 #[derive(Clone, Copy)]
 pub enum Scene {
-    /// Each has room, in so many threads.
-    Room(u32),
+    /// Each has room, and these serve them.
+    Room(Callers),
     /// Each waits until the one before it has given its seat back.
     Line,
 }
@@ -33,7 +33,7 @@ pub enum Scene {
 impl Scene {
     fn limit(self) -> u32 {
         match self {
-            Scene::Room(_threads) => 10_000,
+            Scene::Room(_callers) => 10_000,
             Scene::Line => 1,
         }
     }
@@ -41,7 +41,7 @@ impl Scene {
     // How many requests wait.
     fn waiting(self) -> u32 {
         match self {
-            Scene::Room(_threads) => 0,
+            Scene::Room(_callers) => 0,
             Scene::Line => REQUESTS - 1,
         }
     }
@@ -56,6 +56,7 @@ impl Scene {
     }
 }
 
+// A slot for each Pass, in their order.
 fn slots_of<K: Naming>(alloc: Global, mut passes: Vec<Pass>) -> Option<Vec<Slot<K>>>
     requires { All (λ t. (pass_gate t ≡ K.level.gate) × (t.pass.state ≡ Fresh)) passes.items }
     ensures { IfSome result (λ v. length v.items ≡ length passes.items) }
@@ -64,6 +65,7 @@ fn slots_of<K: Naming>(alloc: Global, mut passes: Vec<Pass>) -> Option<Vec<Slot<
     while let Some(pass) = passes.pop() {
         slots.push(Slot::new(pass)).ok()?;
     }
+    slots.reverse();
     Some(slots)
 }
 
@@ -88,9 +90,9 @@ fn play<K: Naming, R: Threads + Clock + Wait + Sync>(
     ensures { length slots.new ≡ length slots.old }
 {
     match scene {
-        Scene::Room(threads) => {
-            let course = Course::new(rt, threads)?;
-            serve_all(rt, &course, level, slots, threads);
+        Scene::Room(callers) => {
+            let course = Course::new(rt, callers)?;
+            serve_all(rt, &course, level, slots, callers);
             Some(course.picos())
         }
         Scene::Line => {

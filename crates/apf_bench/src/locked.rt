@@ -1,7 +1,7 @@
 //! Requests that take seats, execute and give them back, under one lock: what the words and the Passes of a gate
 //! say as plain numbers, and a level's two calls on them.
 
-use crate::course::{Course, REQUESTS};
+use crate::course::{Callers, Course, REQUESTS};
 use std::alloc::Global;
 use std::sync::{Mutex, Wait};
 use std::thread;
@@ -29,6 +29,8 @@ struct State {
 struct Request {
     width: u32,
     decision: u8,
+    // Whether its seats stand.
+    holds: bool,
 }
 
 // What became of an attempt to be admitted.
@@ -61,14 +63,19 @@ impl State {
         }
         self.seats = seats;
         request.decision = EXECUTE;
+        request.holds = true;
         Tried::Run
     }
 
-    // Gives the request's seats back. Says whether requests waited.
+    // Gives the request's seats back, if they stand. Says whether requests waited.
     fn release(&mut self, request: usize) -> bool {
-        let Some(request) = self.requests.get(request) else {
+        let Some(request) = self.requests.get_mut(request) else {
             return false;
         };
+        if !request.holds {
+            return false;
+        }
+        request.holds = false;
         self.seats = self.seats.saturating_sub(request.width);
         self.waiters != 0
     }
@@ -101,12 +108,12 @@ fn serve_all<R: Threads + Clock + Wait + Sync>(
     course: &Course,
     state: &Mutex<State>,
     requests: &mut [u8],
-    threads: u32,
+    callers: Callers,
 ) {
     thread::for_each_mut(
         rt,
         requests,
-        threads.max(1) as usize,
+        callers.threads.max(1) as usize,
         &|request, _turn: &mut u8| serve_timed(rt, course, state, request),
     );
 }
@@ -116,11 +123,12 @@ fn serve_all<R: Threads + Clock + Wait + Sync>(
 pub fn locked<R: Threads + Clock + Wait + Sync>(
     rt: &R,
     alloc: Global,
-    threads: u32,
+    callers: Callers,
 ) -> Option<u64> {
     let request = Request {
         width: 1,
         decision: UNDECIDED,
+        holds: false,
     };
     let state = Mutex::new(State {
         is_closed: false,
@@ -130,8 +138,8 @@ pub fn locked<R: Threads + Clock + Wait + Sync>(
         requests: vec![in alloc; request; REQUESTS as usize].ok()?,
     });
     let mut requests = vec![in alloc; 0u8; REQUESTS as usize].ok()?;
-    let course = Course::new(rt, threads)?;
-    serve_all(rt, &course, &state, requests.as_mut_slice(), threads);
+    let course = Course::new(rt, callers)?;
+    serve_all(rt, &course, &state, requests.as_mut_slice(), callers);
     let state = state.lock(rt);
     if state.seats != 0 || state.requests.iter().any(|r| r.decision != EXECUTE) {
         return None;

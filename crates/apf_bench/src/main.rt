@@ -1,10 +1,11 @@
-//! Measures choose and dispatch before and after the tree of finishes, the gate's steps and a level's calls beside
-//! one lock, and a level's calls beside the gate's same steps, as ratios of medians.
+//! Measures choose and dispatch before and after the tree of finishes, the gate's steps, a level's calls and the same
+//! steps on bare words beside one lock, and a level's calls beside the gate's same steps, as ratios of medians.
 //!
 //! `bench/run` starts it with a number of rounds. With no word it makes one round, and writes only
 //! whether the answers agree.
 #![tactic(auto)]
 
+mod bare;
 mod checked;
 mod choices;
 mod course;
@@ -20,6 +21,7 @@ mod scan;
 mod slot;
 
 use choices::{Shape, after, before, median};
+use course::Callers;
 use measures::{measured_admission, measured_line, tell_admission, tell_line};
 use std::process::ExitCode;
 use std::sync::Wait;
@@ -43,6 +45,31 @@ const SHAPES: [Shape; 4] = [
     Shape {
         queues: 1_024,
         stride: 8,
+    },
+];
+
+// Who admits requests: those that try again at once after a lost exchange, and those that wait for some microseconds
+// (a hint takes 4 to 60 nanoseconds) and so leave the word to the others.
+const CALLERS: [Callers; 5] = [
+    Callers {
+        threads: 1,
+        hints: 0,
+    },
+    Callers {
+        threads: 2,
+        hints: 0,
+    },
+    Callers {
+        threads: 4,
+        hints: 0,
+    },
+    Callers {
+        threads: 2,
+        hints: 512,
+    },
+    Callers {
+        threads: 4,
+        hints: 512,
     },
 ];
 
@@ -116,13 +143,13 @@ fn admit<R: Threads + Clock + Wait + Sync>(
     runner: &R,
     rounds: Rounds,
 ) -> io::Result<bool> {
-    for threads in [1, 2, 4] {
-        let Some(medians) = measured_admission(runner, rt.alloc(), threads, rounds.count) else {
+    for callers in CALLERS {
+        let Some(medians) = measured_admission(runner, rt.alloc(), callers, rounds.count) else {
             println!(rt; "seats are left, or there was no memory or clock")?;
             return Ok(false);
         };
         if rounds.are_told {
-            tell_admission(rt, threads, medians)?;
+            tell_admission(rt, callers, medians)?;
         }
     }
     Ok(true)

@@ -1,6 +1,8 @@
 //! The medians of rounds in which each way is run once, in turn.
 
+use crate::bare::bare;
 use crate::choices::median;
+use crate::course::Callers;
 use crate::gated::gated;
 use crate::level::{Scene, by_level};
 use crate::locked::locked;
@@ -17,6 +19,8 @@ use std::time::Clock;
 pub struct Admission {
     // Under one lock.
     lock: u64,
+    // By bare atomic words.
+    bare: u64,
     // By the gate's steps.
     gate: u64,
     // By the gate's steps, after a load of its decision: the steps that a level makes.
@@ -34,27 +38,30 @@ pub struct InLine {
     level: u64,
 }
 
-/// The medians of so many rounds in so many threads, or `None` where a run fails.
+/// The medians of so many rounds by these callers, or `None` where a run fails.
 pub fn measured_admission<R: Threads + Clock + Wait + Sync>(
     rt: &R,
     alloc: Global,
-    threads: u32,
+    callers: Callers,
     rounds: u32,
 ) -> Option<Admission> {
     let mut locks = Vec::new(alloc);
+    let mut bares = Vec::new(alloc);
     let mut gates = Vec::new(alloc);
     let mut steps = Vec::new(alloc);
     let mut levels = Vec::new(alloc);
     for _ in 0..rounds {
-        locks.push(locked(rt, alloc, threads)?).ok()?;
-        gates.push(gated(rt, alloc, threads, false)?).ok()?;
-        steps.push(gated(rt, alloc, threads, true)?).ok()?;
+        locks.push(locked(rt, alloc, callers)?).ok()?;
+        bares.push(bare(rt, alloc, callers)?).ok()?;
+        gates.push(gated(rt, alloc, callers, false)?).ok()?;
+        steps.push(gated(rt, alloc, callers, true)?).ok()?;
         levels
-            .push(by_level(rt, alloc, Scene::Room(threads))?)
+            .push(by_level(rt, alloc, Scene::Room(callers))?)
             .ok()?;
     }
     Some(Admission {
         lock: median(locks)?,
+        bare: median(bares)?,
         gate: median(gates)?,
         steps: median(steps)?,
         level: median(levels)?,
@@ -79,20 +86,20 @@ pub fn measured_line<R: Threads + Clock + Wait + Sync>(
     })
 }
 
-/// Tells what a request with room took in so many threads.
-pub fn tell_admission(rt: &HostRuntime, threads: u32, medians: Admission) -> io::Result<()> {
+/// Tells what a request with room took by these callers.
+pub fn tell_admission(rt: &HostRuntime, callers: Callers, medians: Admission) -> io::Result<()> {
     let (lock, gate) = (medians.lock / 1_000, medians.gate / 1_000);
     let ratio = Ratio::of(medians.gate, medians.lock);
-    println!(rt;
-        "threads {threads}: under a lock {lock} ns, by the gate {gate} ns, ratio {ratio}"
-    )?;
+    println!(rt; "{callers}: under a lock {lock} ns, by the gate {gate} ns, ratio {ratio}")?;
+    let (bare, ratio) = (medians.bare / 1_000, Ratio::of(medians.bare, medians.lock));
+    println!(rt; "{callers}: by bare words {bare} ns, to the lock {ratio}")?;
     let (steps, level) = (medians.steps / 1_000, medians.level / 1_000);
     let (to_steps, to_lock) = (
         Ratio::of(medians.level, medians.steps),
         Ratio::of(medians.level, medians.lock),
     );
     println!(rt;
-        "threads {threads}: by the gate's same steps {steps} ns, by a level {level} ns, ratio {to_steps}, to the lock {to_lock}"
+        "{callers}: by the gate's same steps {steps} ns, by a level {level} ns, ratio {to_steps}, to the lock {to_lock}"
     )
 }
 

@@ -15,7 +15,7 @@ use Rattle.apf_gate.specs.declared.record.Shape.{Shape}
 use Rattle.apf_gate.specs.declared.record.Service.{Service}
 use Rattle.apf_gate.specs.declared.record.Service.TheVariants.{NotHanded, Handed, RefusedFull, RefusedClosed, Waiting, Held, Settled, Left}
 use Rattle.apf_gate.specs.declared.record.DeskRecord.{DeskRecord}
-use Rattle.apf_gate.specs.Records.{told_of, service}
+use Rattle.apf_gate.specs.Records.{told_of, service_of, service, KnowsMore}
 use Rattle.apf_gate.specs.Requests as requests
 use Rattle.apf_book.specs.LedgerView.{LedgerView, hand_in, IsLogOf, after}
 use Rattle.apf_book.specs.BookView.{logged, IsKept}
@@ -38,6 +38,13 @@ kept_moves desk desk' v r kept moves held = record {
   has_queues = ap (λ (s : Shape). s.response) moves.more.shape ∙ kept.has_queues;
 }
 
+-- the Desk learnt more, and did nothing
+pub kept_still : (desk desk' : DeskRecord) (v : LedgerView) → IsKept desk v → (desk'.services ≡ desk.services) × (desk'.held ≡ desk.held) → KnowsMore desk.knows desk'.knows → IsKept desk' v
+kept_still desk desk' v kept same more =
+    kept_moves desk desk' v 0 kept
+    (record { more = more; here = ap (λ (services : List (ℕ × Service)). logged (service_of services 0)) same.0; others = λ j other. ap (λ (services : List (ℕ × Service)). service_of services j) same.0 })
+    (same.1 ∙ kept.holds_none)
+
 -- steps after which the log has an event more, which they made
 pub kept_after : (desk desk' : DeskRecord) (v : LedgerView) (e : Event) → IsKept desk v → IsLogOf (after v e) → Moves desk (request_of e) (Some (makes e)) desk' → desk'.held ≡ None
     → (makes e ≡ status_is.Struck → told_of desk'.knows.told (request_of e) ≡ Some Cancelled) → IsKept desk' (after v e)
@@ -55,6 +62,11 @@ kept_after desk desk' v e kept of_log moves held told = record {
   widths = kept.widths ∙ ap (λ (s : Shape). s.widths) (sym moves.more.shape);
   has_queues = ap (λ (s : Shape). s.response) moves.more.shape ∙ kept.has_queues;
 }
+
+-- the same, of the log that the ledger has then
+pub kept_logged : (desk desk' : DeskRecord) (v v' : LedgerView) (e : Event) → IsKept desk v → v' ≡ after v e → IsLogOf v' → Moves desk (request_of e) (Some (makes e)) desk' → desk'.held ≡ None
+    → (makes e ≡ status_is.Struck → told_of desk'.knows.told (request_of e) ≡ Some Cancelled) → IsKept desk' v'
+kept_logged desk desk' v v' e kept log sound moves held told = subst (IsKept desk') (sym log) (kept_after desk desk' v e kept (subst IsLogOf log sound) moves held told)
 
 -- what the Desk did, where the log says this
 pub is_waiting : (x : Service) → logged x ≡ Some status_is.Waits → x ≡ Waiting
@@ -131,6 +143,38 @@ entered_logs laws desk v kept r entered is =
 abbrev said : Option Status → Status
 said None = status_is.Away
 said (Some s) = s
+
+-- the Desk did this with a request exactly if the log has this of it
+pub says : (desk : DeskRecord) (v : LedgerView) → IsKept desk v → (r : ℕ) (x : Service) (s : Status) → logged x ≡ Some s → ((y : Service) → logged y ≡ Some s → y ≡ x) → (service desk r ≡ x) ↔ (status v.history r ≡ s)
+says desk v kept r x s of only = (
+  (λ is. ap said (sym (kept.did r) ∙ (ap logged is ∙ of))),
+  (λ is. only (service desk r) (kept.did r ∙ ap (λ (t : Status). Some t) is)),
+)
+
+-- a request that did not arrive has no Enter
+pub not_entered : (laws : Statuses) (desk : DeskRecord) (v : LedgerView) (kept : IsKept desk v) (r : ℕ) → has_arrived v.history r ≡ false → requests.has_entered (service desk r) ≡ false
+not_entered laws desk v kept r new =
+    sym (entered_logged (service desk r) (status v.history r) (kept.did r)) ∙ ap has_entered (((statuses laws desk v kept).away r).1 new)
+
+pub stays_out : (laws : Statuses) (desk : DeskRecord) (v : LedgerView) (kept : IsKept desk v) (r : ℕ) (entered : Bool) → has_arrived v.history r ≡ false → entered ≡ false
+    → (entered ≡ true) ↔ ((q : ℕ) × Contains v.history (Enter r q))
+stays_out laws desk v kept r entered new out = entered_logs laws desk v kept r entered (out ∙ sym (not_entered laws desk v kept r new))
+
+-- the Desk heard, and then handed over a request that did not arrive
+module _ (laws : Statuses) (desk heard : DeskRecord) (v : LedgerView) (kept : IsKept desk v) (same : (heard.services ≡ desk.services) × (heard.held ≡ desk.held)) (more : KnowsMore desk.knows heard.knows) (r r' : ℕ) (is : r' ≡ r) (new : has_arrived v.history r ≡ false) where
+  pub away_heard : logged (service heard r') ≡ Some status_is.Away
+  away_heard = new_away laws heard v (kept_still desk heard v kept same more) r' (subst (λ (i : ℕ). has_arrived v.history i ≡ false) (sym is) new)
+
+  -- it was refused, and not as full
+  pub kept_refused : (desk' : DeskRecord) → Moves heard r' (Some status_is.Away) desk' → desk'.held ≡ heard.held → IsKept desk' v
+  kept_refused desk' moves held =
+      kept_moves heard desk' v r' (kept_still desk heard v kept same more) (subst (λ (x : Option Status). Moves heard r' x desk') (sym away_heard) moves) (held ∙ (same.1 ∙ kept.holds_none))
+
+  -- it entered, or was refused as full
+  pub kept_arrived : (desk' : DeskRecord) (v' : LedgerView) (e : Event) → request_of e ≡ r → v' ≡ after v e → IsLogOf v' → Moves heard r' (Some (makes e)) desk' → desk'.held ≡ heard.held → makes e ≢ status_is.Struck → IsKept desk' v'
+  kept_arrived desk' v' e of log sound moves held other =
+      kept_logged heard desk' v v' e (kept_still desk heard v kept same more) log sound
+      (subst (λ (i : ℕ). Moves heard i (Some (makes e)) desk') (is ∙ sym of) moves) (held ∙ (same.1 ∙ kept.holds_none)) (λ struck. absurd (other struck))
 
 -- a request whose Pass was never handed over never arrived
 pub never_arrived : (laws : Statuses) (desk : DeskRecord) (v : LedgerView) (kept : IsKept desk v) (r : ℕ) → service desk r ≡ NotHanded → has_arrived v.history r ≡ false

@@ -7,20 +7,15 @@ use Rattle.std.proofs.lemmas.List.Elements.{Contains-push_cases}
 use Rattle.apf_history.specs.declared.events.Event.{Event}
 use Rattle.apf_history.specs.declared.events.Event.TheVariants.{Enter, Full, Dispatch, Strike}
 use Rattle.apf_model.specs.World.{width}
-use Rattle.apf_model.specs.History.{request_of, queue_of, has_arrived, waiting, MayFollow, IsLegal}
+use Rattle.apf_model.specs.History.{request_of, queue_of, has_arrived, waiting, MayFollow}
 use Rattle.apf_model.specs.Fair.{numbers, after_enter, after_dispatch}
-use Rattle.apf_model.specs.Order.{changed, AreInOrder, AreCounted, Follows}
+use Rattle.apf_model.specs.Order.{changed}
 use Rattle.apf_queue.specs.declared.choice.Chosen.{Chosen}
 use Rattle.apf_queue.specs.View.{QueuesView, queue_in, numbers_in, Enters, Dispatches, struck}
 use Rattle.apf_book.specs.LedgerView.{LedgerView, hand_in, HasFairLog, IsLogOf, Arrives, IsNext, after}
 use Rattle.apf_book.specs.LedgerKept.{AreOfLog}
+use Rattle.apf_book.specs.Histories.{Laws}
 use Rattle.apf_book.proofs.Lists.{Contains-rest, Contains-filter, first_contains}
-
--- the laws of every legal history
-pub record Laws : Type 0 where
-  pub order : (hands : ℕ → List ℕ) (limit : ℕ) (h : List Event) → IsLegal hands limit h → AreInOrder limit h
-  pub numbers : (hands : ℕ → List ℕ) (limit : ℕ) (h : List Event) → IsLegal hands limit h → AreCounted h
-  pub follows : (hands : ℕ → List ℕ) (limit : ℕ) (h : List Event) (e : Event) → IsLegal hands limit h → MayFollow hands limit h e → Follows h e
 
 pub reversed : (xs : List Event) (e : Event) → reverse (xs ++ e ∷ []) ≡ e ∷ reverse xs
 reversed xs e = reverse-append xs (e ∷ [])

@@ -1,3 +1,4 @@
+pub mod Opened
 pub mod Puts
 pub mod Knowing
 pub mod Moving

@@ -13,7 +13,8 @@ use Rattle.apf_queue.specs.View.{QueuesView, opening_view, queue_count, queue_in
 use Rattle.apf_book.specs.LedgerView.{LedgerView, hand_in, IsNext, NothingWaits}
 use Rattle.apf_book.specs.LedgerKept.{AreOfLog}
 use Rattle.apf_book.proofs.Lists.{first_contains, some_first, Contains-none, no_queue, no_width, no_mark}
-use Rattle.apf_book.proofs.Ledgers.{Laws, waiting_request}
+use Rattle.apf_book.specs.Histories.{Laws}
+use Rattle.apf_book.proofs.Ledgers.{waiting_request}
 
 module _ (v : LedgerView) (s : QueuesView) (marks : List Bool) (capacity : ℕ) (is : AreOfLog v s marks capacity) where
   finish_same : (q : ℕ) → queue_in s q ≢ [] → finish s.widths (queue_in s) (numbers_in s) q ≡ finish v.widths (waiting v.history) (numbers v.sizes.deck v.widths v.history) q

@@ -10,6 +10,7 @@ use Rattle.apf_model.specs.History.{waiting}
 use Rattle.apf_model.specs.Fair.{IsFair, service, IsNeverEmpty, widest, DifferAtMost}
 use Rattle.apf_model.specs.Order.{is_enter_into, is_dispatch_from, is_strike_from, AreCounted}
 use Rattle.apf_book.specs.Stretch.{history_at, IsBacklogged, service_in}
+use Rattle.apf_book.specs.Histories.{Balanced}
 use Rattle.apf_book.specs.Counted.{coming, leaving}
 
 -- the history some events later
@@ -119,13 +120,6 @@ module _ (log : List Event) (from to : ℕ) (in_order : from ≤ to) (in_log : t
   never_empty q some k l none =
       let long : length stretch ≡ to - from = stretch_length log from (to - from) (omega arith) in
       some (to - k) (omega arith) (omega arith) (ap (λ (h : List Event). waiting h q) (sym (earlier k (omega arith))) ∙ none)
-
--- the law of every fair history
-abbrev pub Balanced : Type 0
-Balanced = (queues : ℕ) (widths : List ℕ) (hands : ℕ → List ℕ) (limit : ℕ) (later stretch earlier : List Event) (a b : ℕ)
-    → IsFair queues widths hands limit (later ++ (stretch ++ earlier)) → a < queues → b < queues
-    → IsNeverEmpty (stretch ++ earlier) (length stretch) a → IsNeverEmpty (stretch ++ earlier) (length stretch) b
-    → DifferAtMost (2 * widest widths) (service widths stretch a) (service widths stretch b)
 
 module _ (law : Balanced) (log : List Event) (widths : List ℕ) (from to a b : ℕ) (in_order : from ≤ to) (in_log : to ≤ length log) where
   pub services_differ : IsBacklogged log from to a → IsBacklogged log from to b → (queues : ℕ) (hands : ℕ → List ℕ) (limit : ℕ) → IsFair queues widths hands limit (reverse log) → a < queues → b < queues

@@ -8,3 +8,4 @@ pub mod Moves
 pub mod Arrivals
 pub mod Servings
 pub mod Laws
+pub mod Histories

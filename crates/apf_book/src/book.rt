@@ -22,11 +22,12 @@ use crate::arrived::Arrived;
 use crate::config::{Ask, Config};
 use crate::fault::BookFault;
 use crate::handing::{Handed, hand};
+use crate::histories::legal_histories_are_in_order;
 use crate::ledger::Ledger;
 use crate::serving::{Served, serve};
 use crate::stats::Stats;
 use apf_gate::{Desk, Gate, Pass};
-use apf_model::{Event, every_legal_history_is_in_order};
+use apf_model::Event;
 use apf_words::Decision;
 use std::alloc::Allocator;
 use std::marker::Model;
@@ -105,7 +106,7 @@ impl<A: Allocator> Book<A> {
         ensures more { KnowsMore self.old.desk.desk.knows self.new.desk.desk.knows }
         ensures kept { IsKept self.new.desk.desk self.new.ledger }
     {
-        every_legal_history_is_in_order();
+        legal_histories_are_in_order();
         let request = pass.number();
         let found = gate.hear(&mut self.desk, pass);
         if self.ledger.has_arrived(request) {
@@ -170,7 +171,7 @@ impl<A: Allocator> Book<A> {
         ensures more { KnowsMore self.old.desk.desk.knows self.new.desk.desk.knows }
         ensures kept { IsKept self.new.desk.desk self.new.ledger }
     {
-        every_legal_history_is_in_order();
+        legal_histories_are_in_order();
         if gate.seen(&mut self.desk, request) != Some(Decision::Cancelled) {
             return false;
         }
@@ -241,7 +242,7 @@ impl<A: Allocator> Book<A> {
         ensures few { length self.old.ledger.history ≤ 20000 }
         ensures kept { IsKept self.new.desk.desk self.new.ledger }
     {
-        every_legal_history_is_in_order();
+        legal_histories_are_in_order();
         let Some(chosen) = self.ledger.choose() else {
             return None;
         };

@@ -8,8 +8,8 @@ ghost use Rattle.apf_book.specs.LedgerView.{LedgerView};
 ghost use Rattle.apf_book.specs.BookView.{IsKept};
 ghost use Rattle.apf_book.specs.Laws.{IsOfOneMind, LogAgrees};
 
+use crate::histories::legal_histories_are_in_order;
 use apf_gate::every_end_agrees;
-use apf_model::every_legal_history_is_in_order;
 
 /// The Desk and the log of every book say the same, whenever no call of the book runs: which requests
 /// wait, were dispatched, and were refused as full; and the Desk holds nothing, and was told of each
@@ -19,7 +19,7 @@ use apf_model::every_legal_history_is_in_order;
 pub fn every_book_is_kept()
     ensures { (desk : DeskRecord) (v : LedgerView) → IsKept desk v → IsOfOneMind desk v }
 {
-    every_legal_history_is_in_order();
+    legal_histories_are_in_order();
 }
 
 /// The log of every book whose gate ended agrees with the decisions that the gate's words say.
@@ -30,6 +30,5 @@ pub fn every_ended_book_agrees()
         → desk_gate desk ≡ gate → IsKept desk.desk v → EndsWith gate desk.desk passes stations words → LogAgrees v passes words }
 {
     every_book_is_kept();
-    every_legal_history_is_in_order();
     every_end_agrees();
 }

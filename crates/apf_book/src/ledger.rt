@@ -14,9 +14,10 @@ ghost use Rattle.apf_model.specs.Fair.{widest, DifferAtMost};
 
 use crate::config::{Ask, Config};
 use crate::fault::BookFault;
+use crate::histories::{fair_histories_are_balanced, legal_histories_are_in_order};
 use crate::stats::Stats;
 use apf_flow::Dealer;
-use apf_model::{Event, every_fair_history_is_balanced, every_legal_history_is_in_order};
+use apf_model::Event;
 use apf_queue::{Chosen, QueueFault, Queues};
 use std::alloc::{AllocError, Allocator};
 use std::marker::Model;
@@ -152,7 +153,7 @@ impl<A: Allocator> Ledger<A> {
         ensures log { self.new ≡ after self.old (events.Enter request queue) }
         ensures sound { IsLogOf self.new }
     {
-        every_legal_history_is_in_order();
+        legal_histories_are_in_order();
         let width = self.widths[request as usize];
         let Ok(()) = self.queues.push(queue, request, width) else {
             unreachable!()
@@ -169,7 +170,7 @@ impl<A: Allocator> Ledger<A> {
         ensures log { self.new ≡ after self.old (events.Full request queue) }
         ensures sound { IsLogOf self.new }
     {
-        every_legal_history_is_in_order();
+        legal_histories_are_in_order();
         self.arrived[request as usize] = true;
         self.log.push_reserved(Event::Full(request, queue));
         self.full += 1;
@@ -182,7 +183,7 @@ impl<A: Allocator> Ledger<A> {
         ensures few { length self.now.history ≤ 20000 }
         ensures sound { IsLogOf self.now }
     {
-        every_legal_history_is_in_order();
+        legal_histories_are_in_order();
         self.queues.choose()
     }
 
@@ -192,7 +193,7 @@ impl<A: Allocator> Ledger<A> {
         ensures log { self.new ≡ after self.old (events.Dispatch chosen.request chosen.queue) }
         ensures sound { IsLogOf self.new }
     {
-        every_legal_history_is_in_order();
+        legal_histories_are_in_order();
         self.queues.dispatch(chosen);
         self.log
             .push_reserved(Event::Dispatch(chosen.request, chosen.queue));
@@ -209,7 +210,7 @@ impl<A: Allocator> Ledger<A> {
         ensures waited { IfSome result (λ q. Contains (waiting self.old.history q) request) }
         ensures sound { IsLogOf self.new }
     {
-        every_legal_history_is_in_order();
+        legal_histories_are_in_order();
         let Some(queue) = self.queues.remove(request) else {
             return None;
         };
@@ -223,7 +224,7 @@ impl<A: Allocator> Ledger<A> {
         ensures stats { AreStats result (stats_of self.now.sizes.deck self.now.history) }
         ensures sum { result.entered ≡ result.dispatched + result.struck + result.waiting }
     {
-        every_legal_history_is_in_order();
+        legal_histories_are_in_order();
         Stats {
             entered: self.entered,
             dispatched: self.dispatched,
@@ -244,7 +245,7 @@ impl<A: Allocator> Ledger<A> {
             → DifferAtMost (2 * widest self.now.widths) (service_in self.now.widths result.now from to a)
             (service_in self.now.widths result.now from to b) }
     {
-        every_fair_history_is_balanced();
+        fair_histories_are_balanced();
         self.log.as_slice()
     }
 
@@ -256,6 +257,3 @@ impl<A: Allocator> Ledger<A> {
         self.log
     }
 }
-
-#[cfg(test)]
-mod tests;

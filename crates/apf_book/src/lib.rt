@@ -5,6 +5,7 @@
 //!
 //! - `config`: the settings of a level, and what a request asks of it.
 //! - `fault`: why a book is refused.
+//! - `histories`: the laws of histories, for proofs.
 //! - `ledger`: the queues, and the log that they are of.
 //! - `stats`: the numbers of a log.
 //! - `stretch`: the services of two queues in a stretch of a log.
@@ -20,13 +21,12 @@ mod book;
 mod config;
 mod fault;
 mod handing;
+mod histories;
 mod laws;
 mod ledger;
 mod serving;
 mod stats;
 mod stretch;
-#[cfg(test)]
-mod tests;
 
 pub use apf_model::Response;
 pub use arrived::Arrived;

@@ -7,7 +7,8 @@ ghost use Rattle.apf_model.specs.Fair.{IsFair, service, widest, DifferAtMost};
 ghost use Rattle.apf_book.specs.Stretch.{IsEmptyIn, IsBacklogged, service_in};
 ghost use Rattle.apf_book.specs.Counted.{IsCountAt, coming, leaving};
 
-use apf_model::{Event, every_fair_history_is_balanced, every_legal_history_is_in_order};
+use crate::histories::{fair_histories_are_balanced, legal_histories_are_in_order};
+use apf_model::Event;
 
 // What is counted of a queue along a log.
 #[derive(Clone, Copy)]
@@ -44,7 +45,7 @@ pub fn balance(
         → IsFair queues widths.now hands limit (reverse log.now) → a < queues → b < queues
         → DifferAtMost (2 * widest widths.now) s.0 s.1) }
 {
-    every_fair_history_is_balanced();
+    fair_histories_are_balanced();
     services(log, widths, from, to, a, b)
 }
 
@@ -92,7 +93,7 @@ fn follow(log: &[Event], widths: &[u32], from: u32, place: u32, queue: u32, coun
     requires counted { IsCountAt widths.now log.now from place queue count }
     ensures { IsCountAt widths.now log.now from (place + 1) queue result }
 {
-    every_legal_history_is_in_order();
+    legal_histories_are_in_order();
     let event = log[place as usize];
     Count {
         waiting: waiting_after(count.waiting, event, queue),

@@ -6,7 +6,7 @@ use crate::opening::Fault;
 use apf_book::{Ask, Config, Stats};
 use apf_gate::Words;
 use apf_model::Event;
-use apf_model::plain::{
+use apf_plain::{
     agrees, decided, executes_arrivals, is_fair, is_legal, names_queues, names_requests, stats_of,
 };
 use apf_words::Decision;
@@ -27,8 +27,8 @@ pub struct Ended<'a> {
     pub took: &'a [bool],
 }
 
-// The log as a history.
-fn newest_first(alloc: Global, log: &[Event]) -> Result<Vec<Event, Global>, AllocError>
+/// The log as a history.
+pub fn newest_first(alloc: Global, log: &[Event]) -> Result<Vec<Event, Global>, AllocError>
     ensures { IfOk result (λ v. v.items ≡ reverse log.now) }
 {
     let mut history = log.to_vec(alloc)?;

@@ -13,6 +13,8 @@
 //! In one thread:
 //!
 //! - `rows`: worked scripts.
+//! - `deeds`: rows of single deeds on a level of one seat.
+//! - `stretches`: the services of two queues in a stretch of a log.
 //! - `memory`: each allocation refused in turn.
 //!
 //! In threads beside one another, in rounds until each order came:
@@ -21,6 +23,8 @@
 //! - `grants`: requests that wait are dispatched while they are cancelled, and some grants are lost.
 #![tactic(auto)]
 
+#[cfg(test)]
+mod deeds;
 #[cfg(test)]
 mod grants;
 #[cfg(test)]
@@ -45,3 +49,5 @@ mod scripts;
 mod serving;
 #[cfg(test)]
 mod shared;
+#[cfg(test)]
+mod stretches;

@@ -11,8 +11,6 @@ mod commands;
 mod faults;
 mod help;
 mod program;
-#[cfg(test)]
-mod tests;
 mod words;
 
 pub use program::{FileFault, Files, act};

@@ -176,6 +176,3 @@ pub fn read_words<'a>(alloc: Global, words: &'a [&'a str]) -> Result<Action<'a>,
     let (name, inner) = matches.subcommand().unwrap();
     Ok(action_of(name, inner))
 }
-
-#[cfg(test)]
-mod tests;

@@ -208,6 +208,3 @@ pub fn read_config(alloc: Global, bytes: &[u8]) -> Result<Config, ConfigFault>
         Err(_) => Err(ConfigFault::NotJson),
     }
 }
-
-#[cfg(test)]
-mod tests;

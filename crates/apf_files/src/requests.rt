@@ -167,6 +167,3 @@ pub fn read_requests(alloc: Global, bytes: &[u8]) -> Result<Vec<Request>, Reques
         Err(_) => Err(RequestFault::NotJson),
     }
 }
-
-#[cfg(test)]
-mod tests;

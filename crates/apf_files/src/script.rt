@@ -176,6 +176,3 @@ pub fn read_script(alloc: Global, bytes: &[u8], requests: u32) -> Result<Vec<Com
     }
     Ok(commands)
 }
-
-#[cfg(test)]
-mod tests;

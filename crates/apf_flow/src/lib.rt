@@ -12,8 +12,6 @@
 mod dealer;
 mod fault;
 mod hash;
-#[cfg(test)]
-mod tests;
 
 pub use dealer::Dealer;
 pub use fault::DealerFault;

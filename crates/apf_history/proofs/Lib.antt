@@ -4,7 +4,4 @@ pub mod Waiting
 pub mod Statuses
 pub mod Numbers
 pub mod QueueOrder
-pub mod VirtualTime
 pub mod Balance
-pub mod Choices
-pub mod Agreement

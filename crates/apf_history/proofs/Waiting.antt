@@ -77,27 +77,6 @@ waiting_here h j q e = ap (λ (b : Bool). filter (λ r. not (has_left h r)) (con
     ∙ (filter-append (λ r. not (has_left h r)) (entered h q) (j ∷ [])
     ∙ ap (λ (b : Bool). waiting h q ++ cond (not b) (j ∷ []) []) e)
 
--- no more wait than there are events
-entered_short : (h : List Event) (q : ℕ) → length (entered h q) ≤ length h
-entered_short [] q = omega arith
-entered_short (Enter j p ∷ h) q = let old = entered_short h q in let more = one_more (eqb p q) (entered h q) j in omega arith where
-  one_more : (b : Bool) (xs : List ℕ) (r : ℕ) → length (cond b (xs ++ r ∷ []) xs) ≤ suc (length xs)
-  one_more true xs r = let n = length_push xs r in omega arith
-  one_more false xs r = omega arith
-entered_short (Full j p ∷ h) q = let old = entered_short h q in omega arith
-entered_short (Dispatch j p ∷ h) q = let old = entered_short h q in omega arith
-entered_short (Strike j p ∷ h) q = let old = entered_short h q in omega arith
-
-filter_short : (p : ℕ → Bool) (xs : List ℕ) → length (filter p xs) ≤ length xs
-filter_short p [] = omega arith
-filter_short p (x ∷ xs) = let old = filter_short p xs in let more = one_more (p x) x (filter p xs) in omega arith where
-  one_more : (b : Bool) (y : ℕ) (ys : List ℕ) → length (cond b (y ∷ ys) ys) ≤ suc (length ys)
-  one_more true y ys = omega arith
-  one_more false y ys = omega arith
-
-pub waiting_short : (h : List Event) (q : ℕ) → length (waiting h q) ≤ length h
-waiting_short h q = let a = filter_short (λ r. not (has_left h r)) (entered h q) in let b = entered_short h q in omega arith
-
 module _ (hands : ℕ → List ℕ) (limit : ℕ) where
   -- who did not arrive did not leave
   pub not_left : (h : List Event) → IsLegal hands limit h → (r : ℕ) → has_arrived h r ≡ false → has_left h r ≡ false

@@ -4,4 +4,3 @@ pub mod History
 pub mod Fair
 pub mod Outcome
 pub mod Order
-pub mod Plain

@@ -7,14 +7,10 @@
 //!
 //! - `events`: the events of a history, and what they make of a request.
 //! - `histories`: every legal history is in order, and every fair one balanced.
-//! - `plain`: the definitions computed, plainly and slowly, on small inputs.
 #![tactic(auto)]
 
 mod events;
 mod histories;
-pub mod plain;
-#[cfg(test)]
-mod tests;
 
 pub use events::{Event, Status};
 pub use histories::{every_fair_history_is_balanced, every_legal_history_is_in_order};

@@ -8,7 +8,7 @@ use apf_book::Ask;
 use apf_flow::Dealer;
 use apf_level::Report;
 use apf_model::Event;
-use apf_model::plain::{
+use apf_plain::{
     agrees, decided, executes_arrivals, is_fair, is_never_empty, names_queues, names_requests,
     service,
 };

@@ -3,5 +3,3 @@ pub mod Places
 pub mod Counts
 pub mod Decided
 pub mod Seats
-pub mod PlainWorlds
-pub mod Small

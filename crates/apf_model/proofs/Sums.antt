@@ -30,11 +30,6 @@ pub tally_member : (f : ℕ → ℕ) (n j : ℕ) → j < n → f j ≤ tally f n
 tally_member f zero j l = absurd (omega arith)
 tally_member f (suc n) j l = dite (ℕ_discrete j n) (λ e. let h : f j ≡ f n = ap f e in omega arith) (λ ne. let h : f j ≤ tally f n = tally_member f n j (omega arith) in omega arith)
 
--- a sum of fewer parts is smaller
-pub tally_fewer : (f : ℕ → ℕ) (i n : ℕ) → i ≤ n → tally f i ≤ tally f n
-tally_fewer f i zero l = let e : i ≡ 0 = omega arith in let h : tally f i ≡ tally f 0 = ap (tally f) e in omega arith
-tally_fewer f i (suc n) l = dite (ℕ_discrete i (suc n)) (λ e. let h : tally f i ≡ tally f (suc n) = ap (tally f) e in omega arith) (λ ne. let h : tally f i ≤ tally f n = tally_fewer f i n (omega arith) in omega arith)
-
 -- a sum of parts of at most 1
 pub tally_bound : (f : ℕ → ℕ) (n : ℕ) → ((j : ℕ) → f j ≤ 1) → tally f n ≤ n
 tally_bound f zero small = omega arith

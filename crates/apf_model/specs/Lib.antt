@@ -1,7 +1,5 @@
 pub mod World
 pub mod Schedule
-pub mod Plain
-pub mod PlainWorld
 pub mod Safety
 pub use Rattle.apf_history.specs.Tally
 pub use Rattle.apf_history.specs.History

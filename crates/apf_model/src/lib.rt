@@ -8,15 +8,11 @@
 //! - `response`: what a level does with an arrival that does not fit.
 //! - `moves`: the kinds of step, and where a request is on its way.
 //! - `laws`: every schedule is safe.
-//! - `plain`: the definitions computed, plainly and slowly, on small inputs.
 #![tactic(auto)]
 
 mod laws;
 mod moves;
-pub mod plain;
 mod response;
-#[cfg(test)]
-mod tests;
 
 pub use apf_history::{
     Event, Status, every_fair_history_is_balanced, every_legal_history_is_in_order,

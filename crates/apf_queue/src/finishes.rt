@@ -138,18 +138,3 @@ impl<A: Allocator> Finishes<A> {
         Some((leaf - self.leaves) as u32)
     }
 }
-
-#[cfg(test)]
-impl<A: Allocator> Finishes<A> {
-    // The finish of a queue, if there is such a queue and something waits there.
-    pub fn at(&self, queue: u32) -> Option<u64> {
-        let finish = self
-            .least
-            .get(self.leaves.checked_add(queue as usize)?)
-            .copied()?;
-        if finish == NO_FINISH {
-            return None;
-        }
-        Some(finish)
-    }
-}

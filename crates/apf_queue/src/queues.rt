@@ -243,6 +243,3 @@ impl<A: Allocator> Queues<A> {
         self.finishes.first_least(after)
     }
 }
-
-#[cfg(test)]
-mod tests;

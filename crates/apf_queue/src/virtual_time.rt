@@ -81,16 +81,3 @@ impl<A: Allocator> VirtualTime<A> {
         self.robin = queue;
     }
 }
-
-#[cfg(test)]
-impl<A: Allocator> VirtualTime<A> {
-    // The number of a queue, if there is such a queue.
-    pub fn next(&self, queue: u32) -> Option<u64> {
-        self.next.get(queue as usize).copied()
-    }
-
-    // The number of the level.
-    pub fn level(&self) -> u64 {
-        self.level
-    }
-}

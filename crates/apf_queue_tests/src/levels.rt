@@ -4,7 +4,7 @@ use crate::checked::Checked;
 use crate::draws::Xorshift;
 use crate::slow::Slow;
 use apf_model::Event;
-use apf_model::plain::{choice, names_queues, waiting};
+use apf_plain::{choice, names_queues, waiting};
 use apf_queue::Chosen;
 use std::alloc::Global;
 use std::process::Abort;

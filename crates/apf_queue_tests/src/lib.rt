@@ -1,9 +1,12 @@
-//! The tests of `apf_queue` against plain lists and the plain program, by its public calls alone.
+//! The tests of `apf_queue`, by its public calls alone: worked rows, and random calls against plain lists
+//! and the plain program.
 //!
 //! They stand in a crate of their own, as a crate with tests is proved twice.
 //!
+//! - `rows`: worked rows of calls, and shapes. `numbers`: worked rows of virtual time.
+//! - `memory`: each allocation refused in turn.
 //! - `random`: many random calls on eight queues, whose answers are those of plain lists.
-//! - `agreement`: many more for several numbers of queues, also compared with what `apf_model::plain`
+//! - `agreement`: many more for several numbers of queues, also compared with what `apf_plain`
 //!   computes of the history so far.
 //! - `levels`: queues beside plain lists, with their history. `slow`: the plain lists.
 //! - `checked`: calls of queues, made where their conditions are kept. `draws`: random numbers.
@@ -18,6 +21,12 @@ mod draws;
 #[cfg(test)]
 mod levels;
 #[cfg(test)]
+mod memory;
+#[cfg(test)]
+mod numbers;
+#[cfg(test)]
 mod random;
+#[cfg(test)]
+mod rows;
 #[cfg(test)]
 mod slow;

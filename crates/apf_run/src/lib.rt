@@ -28,8 +28,6 @@ mod replaying;
 mod running;
 mod services;
 mod session;
-#[cfg(test)]
-mod tests;
 mod token;
 mod totals;
 mod transcript;

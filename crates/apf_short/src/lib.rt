@@ -11,9 +11,6 @@ ghost use Rattle.std.specs.Prelude.{◌<◌};
 use std::alloc::{AllocError, Allocator};
 use std::cell::Cell;
 
-#[cfg(test)]
-mod tests;
-
 /// An allocator that hands each request to an inner one, except for one request, which it refuses.
 ///
 /// It holds a `Cell`, so it stays in one thread.

@@ -2,8 +2,6 @@
 #![tactic(auto)]
 
 mod board;
-#[cfg(test)]
-mod tests;
 
 pub use apf_book::Stats;
 pub use board::{Board, StatsPass, Window, open};

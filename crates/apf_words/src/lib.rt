@@ -15,8 +15,6 @@ mod decision;
 mod level_word;
 mod limits;
 mod seats;
-#[cfg(test)]
-mod tests;
 
 pub use decision::{Decision, UNDECIDED};
 pub use level_word::LevelWord;

@@ -1,22 +1,29 @@
 -- What an arrival was told, and whether it entered.
-use Rattle.std.proofs.Common.{◌≡◌, sym, ◌∙◌, subst, false, true}
+use Rattle.std.proofs.Common.{◌≡◌, ℕ, Bool, sym, ◌∙◌, subst, false, true}
 use Rattle.apf_words.specs.declared.decision.Decision.TheVariants.{QueueFull, Closed, Cancelled}
+use Rattle.apf_history.specs.declared.events.Event.TheVariants as events
 use Rattle.apf_model.specs.History.{has_arrived}
 use Rattle.apf_gate.specs.Records.{KnowsMore}
 use Rattle.apf_book.specs.Arrivals.{BothTold}
 use Rattle.apf_book.specs.BookView.{BookView}
-use Rattle.apf_book.proofs.Keeping.{entered_logs, full_not_entered, never_arrived}
+use Rattle.apf_book.specs.LedgerView.{LedgerView}
+use Rattle.apf_book.proofs.Opened.{opened}
+use Rattle.apf_book.proofs.Keeping.{entered_logs, not_entered, stays_out, away_heard, kept_still, kept_arrived, kept_refused, full_not_entered, never_arrived}
 use Rattle.apf_book.proofs.Knowing.{more_then, told_then}
 use Rattle.apf_book.proofs.book.Book.arrive.Goals as goal
 
+-- the book was asked whether the request arrived, and said no
+is_new : (v : LedgerView) (i r : ℕ) (found : Bool) → i ≡ r → found ≡ has_arrived v.history i → found ≡ false → has_arrived v.history r ≡ false
+is_new v i r found same is not_found = subst (λ (j : ℕ). has_arrived v.history j ≡ false) same (sym is ∙ not_found)
+
 pub returns-then-has_arrived-clause-entered : goal.returns-then-has_arrived-clause-entered
 returns-then-has_arrived-clause-entered g c =
-    entered_logs c.every_legal_history_is_in_order.ensures.statuses c.self.inside.desk.desk c.self.inside.ledger c.self.invariant c.args.pass.now.pass.number c.hear-found.new.pass.pass.entered
+    entered_logs (opened c.legal_histories_are_in_order.ensures).statuses c.self.inside.desk.desk c.self.inside.ledger c.self.invariant c.args.pass.now.pass.number c.hear-found.new.pass.pass.entered
     (c.hear-found.ensures.entered ∙ c.hear-found.ensures.tied.entered)
 
 pub returns-in-Some-Cancelled-clause-entered : goal.returns-in-Some-Cancelled-clause-entered
 returns-in-Some-Cancelled-clause-entered g c =
-    entered_logs c.every_legal_history_is_in_order.ensures.statuses c.self.inside.desk.desk c.self.inside.ledger c.self.invariant c.args.pass.now.pass.number c.hear-found.new.pass.pass.entered
+    entered_logs (opened c.legal_histories_are_in_order.ensures).statuses c.self.inside.desk.desk c.self.inside.ledger c.self.invariant c.args.pass.now.pass.number c.hear-found.new.pass.pass.entered
     (c.hear-found.ensures.entered ∙ c.hear-found.ensures.tied.entered)
 
 pub returns-in-Entered-clause-more : goal.returns-in-Entered-clause-more
@@ -57,23 +64,97 @@ returns-in-Cancelled-clause-told g c =
 pub returns-in-Full-clause-entered : goal.returns-in-Full-clause-entered
 returns-in-Full-clause-entered g c = (
   (λ yes. absurd (let bad : true ≡ false = sym yes ∙ c.in-Full.ensures.entered in cc)),
-  (λ logs. absurd (full_not_entered c.every_legal_history_is_in_order.ensures.statuses c.self.inside.ledger c.refuse.new.self c.args.pass.now.pass.number c.number-request.result c.shortest-queue.result c.number-request.ensures.number c.refuse.ensures.log c.refuse.ensures.sound logs)),
+  (λ logs. absurd (full_not_entered (opened c.legal_histories_are_in_order.ensures).statuses c.self.inside.ledger c.refuse.new.self c.args.pass.now.pass.number c.number-request.result c.shortest-queue.result c.number-request.ensures.number c.refuse.ensures.log c.refuse.ensures.sound logs)),
 )
 
 pub returns-then-has_arrived-clause-first : goal.returns-then-has_arrived-clause-first
-returns-then-has_arrived-clause-first g c = λ away. subst (λ (v : BookView). has_arrived v.ledger.history c.args.pass.now.pass.number ≡ false) c.self.view_is (never_arrived c.every_legal_history_is_in_order.ensures.statuses c.self.inside.desk.desk c.self.inside.ledger c.self.invariant c.args.pass.now.pass.number (c.hear-found.ensures.not_handed away))
+returns-then-has_arrived-clause-first g c = λ away. subst (λ (v : BookView). has_arrived v.ledger.history c.args.pass.now.pass.number ≡ false) c.self.view_is (never_arrived (opened c.legal_histories_are_in_order.ensures).statuses c.self.inside.desk.desk c.self.inside.ledger c.self.invariant c.args.pass.now.pass.number (c.hear-found.ensures.not_handed away))
 
 pub returns-in-Some-Cancelled-clause-first : goal.returns-in-Some-Cancelled-clause-first
-returns-in-Some-Cancelled-clause-first g c = λ away. subst (λ (v : BookView). has_arrived v.ledger.history c.args.pass.now.pass.number ≡ false) c.self.view_is (never_arrived c.every_legal_history_is_in_order.ensures.statuses c.self.inside.desk.desk c.self.inside.ledger c.self.invariant c.args.pass.now.pass.number (c.hear-found.ensures.not_handed away))
+returns-in-Some-Cancelled-clause-first g c = λ away. subst (λ (v : BookView). has_arrived v.ledger.history c.args.pass.now.pass.number ≡ false) c.self.view_is (never_arrived (opened c.legal_histories_are_in_order.ensures).statuses c.self.inside.desk.desk c.self.inside.ledger c.self.invariant c.args.pass.now.pass.number (c.hear-found.ensures.not_handed away))
 
 pub returns-in-Entered-clause-first : goal.returns-in-Entered-clause-first
-returns-in-Entered-clause-first g c = λ away. subst (λ (v : BookView). has_arrived v.ledger.history c.args.pass.now.pass.number ≡ false) c.self.view_is (never_arrived c.every_legal_history_is_in_order.ensures.statuses c.self.inside.desk.desk c.self.inside.ledger c.self.invariant c.args.pass.now.pass.number (c.hear-found.ensures.not_handed away))
+returns-in-Entered-clause-first g c = λ away. subst (λ (v : BookView). has_arrived v.ledger.history c.args.pass.now.pass.number ≡ false) c.self.view_is (never_arrived (opened c.legal_histories_are_in_order.ensures).statuses c.self.inside.desk.desk c.self.inside.ledger c.self.invariant c.args.pass.now.pass.number (c.hear-found.ensures.not_handed away))
 
 pub returns-in-Full-clause-first : goal.returns-in-Full-clause-first
-returns-in-Full-clause-first g c = λ away. subst (λ (v : BookView). has_arrived v.ledger.history c.args.pass.now.pass.number ≡ false) c.self.view_is (never_arrived c.every_legal_history_is_in_order.ensures.statuses c.self.inside.desk.desk c.self.inside.ledger c.self.invariant c.args.pass.now.pass.number (c.hear-found.ensures.not_handed away))
+returns-in-Full-clause-first g c = λ away. subst (λ (v : BookView). has_arrived v.ledger.history c.args.pass.now.pass.number ≡ false) c.self.view_is (never_arrived (opened c.legal_histories_are_in_order.ensures).statuses c.self.inside.desk.desk c.self.inside.ledger c.self.invariant c.args.pass.now.pass.number (c.hear-found.ensures.not_handed away))
 
 pub returns-in-Closed-clause-first : goal.returns-in-Closed-clause-first
-returns-in-Closed-clause-first g c = λ away. subst (λ (v : BookView). has_arrived v.ledger.history c.args.pass.now.pass.number ≡ false) c.self.view_is (never_arrived c.every_legal_history_is_in_order.ensures.statuses c.self.inside.desk.desk c.self.inside.ledger c.self.invariant c.args.pass.now.pass.number (c.hear-found.ensures.not_handed away))
+returns-in-Closed-clause-first g c = λ away. subst (λ (v : BookView). has_arrived v.ledger.history c.args.pass.now.pass.number ≡ false) c.self.view_is (never_arrived (opened c.legal_histories_are_in_order.ensures).statuses c.self.inside.desk.desk c.self.inside.ledger c.self.invariant c.args.pass.now.pass.number (c.hear-found.ensures.not_handed away))
 
 pub returns-in-Cancelled-clause-first : goal.returns-in-Cancelled-clause-first
-returns-in-Cancelled-clause-first g c = λ away. subst (λ (v : BookView). has_arrived v.ledger.history c.args.pass.now.pass.number ≡ false) c.self.view_is (never_arrived c.every_legal_history_is_in_order.ensures.statuses c.self.inside.desk.desk c.self.inside.ledger c.self.invariant c.args.pass.now.pass.number (c.hear-found.ensures.not_handed away))
+returns-in-Cancelled-clause-first g c = λ away. subst (λ (v : BookView). has_arrived v.ledger.history c.args.pass.now.pass.number ≡ false) c.self.view_is (never_arrived (opened c.legal_histories_are_in_order.ensures).statuses c.self.inside.desk.desk c.self.inside.ledger c.self.invariant c.args.pass.now.pass.number (c.hear-found.ensures.not_handed away))
+
+pub hand-requires-clause-not_entered : goal.hand-requires-clause-not_entered
+hand-requires-clause-not_entered g c =
+    let new = is_new c.self.inside.ledger c.number-request.result c.args.pass.now.pass.number c.has_arrived.result c.number-request.ensures.number c.has_arrived.ensures.arrived c.if-has_arrived.false in
+    c.hear-found.ensures.entered ∙ (c.hear-found.ensures.tied.entered ∙ not_entered (opened c.legal_histories_are_in_order.ensures).statuses c.self.inside.desk.desk c.self.inside.ledger c.self.invariant c.args.pass.now.pass.number new)
+
+pub hand-requires-clause-is_new : goal.hand-requires-clause-is_new
+hand-requires-clause-is_new g c =
+    let new = is_new c.self.inside.ledger c.number-request.result c.args.pass.now.pass.number c.has_arrived.result c.number-request.ensures.number c.has_arrived.ensures.arrived c.if-has_arrived.false in
+    away_heard (opened c.legal_histories_are_in_order.ensures).statuses c.self.inside.desk.desk c.hear-found.new.desk.desk c.self.inside.ledger c.self.invariant c.hear-found.ensures.served c.hear-found.ensures.more c.args.pass.now.pass.number c.hear-found.new.pass.pass.number c.hear-found.ensures.number new
+
+pub invariant_of-self-in-Closed : goal.invariant_of-self-in-Closed
+invariant_of-self-in-Closed g c =
+    let new = is_new c.self.inside.ledger c.number-request.result c.args.pass.now.pass.number c.has_arrived.result c.number-request.ensures.number c.has_arrived.ensures.arrived c.if-has_arrived.false in
+    kept_refused (opened c.legal_histories_are_in_order.ensures).statuses c.self.inside.desk.desk c.hear-found.new.desk.desk c.self.inside.ledger c.self.invariant c.hear-found.ensures.served c.hear-found.ensures.more c.args.pass.now.pass.number c.hear-found.new.pass.pass.number c.hear-found.ensures.number new
+    c.hand.new.desk.desk c.in-Closed.ensures.moves c.in-Closed.ensures.held
+
+pub returns-in-Closed-clause-kept : goal.returns-in-Closed-clause-kept
+returns-in-Closed-clause-kept g c =
+    let new = is_new c.self.inside.ledger c.number-request.result c.args.pass.now.pass.number c.has_arrived.result c.number-request.ensures.number c.has_arrived.ensures.arrived c.if-has_arrived.false in
+    kept_refused (opened c.legal_histories_are_in_order.ensures).statuses c.self.inside.desk.desk c.hear-found.new.desk.desk c.self.inside.ledger c.self.invariant c.hear-found.ensures.served c.hear-found.ensures.more c.args.pass.now.pass.number c.hear-found.new.pass.pass.number c.hear-found.ensures.number new
+    c.hand.new.desk.desk c.in-Closed.ensures.moves c.in-Closed.ensures.held
+
+pub returns-in-Closed-clause-entered : goal.returns-in-Closed-clause-entered
+returns-in-Closed-clause-entered g c =
+    let new = is_new c.self.inside.ledger c.number-request.result c.args.pass.now.pass.number c.has_arrived.result c.number-request.ensures.number c.has_arrived.ensures.arrived c.if-has_arrived.false in
+    stays_out (opened c.legal_histories_are_in_order.ensures).statuses c.self.inside.desk.desk c.self.inside.ledger c.self.invariant c.args.pass.now.pass.number c.hand.new.pass.pass.entered new c.in-Closed.ensures.entered
+
+pub invariant_of-self-in-Cancelled : goal.invariant_of-self-in-Cancelled
+invariant_of-self-in-Cancelled g c =
+    let new = is_new c.self.inside.ledger c.number-request.result c.args.pass.now.pass.number c.has_arrived.result c.number-request.ensures.number c.has_arrived.ensures.arrived c.if-has_arrived.false in
+    kept_refused (opened c.legal_histories_are_in_order.ensures).statuses c.self.inside.desk.desk c.hear-found.new.desk.desk c.self.inside.ledger c.self.invariant c.hear-found.ensures.served c.hear-found.ensures.more c.args.pass.now.pass.number c.hear-found.new.pass.pass.number c.hear-found.ensures.number new
+    c.hand.new.desk.desk c.in-Cancelled.ensures.moves c.in-Cancelled.ensures.held
+
+pub returns-in-Cancelled-clause-kept : goal.returns-in-Cancelled-clause-kept
+returns-in-Cancelled-clause-kept g c =
+    let new = is_new c.self.inside.ledger c.number-request.result c.args.pass.now.pass.number c.has_arrived.result c.number-request.ensures.number c.has_arrived.ensures.arrived c.if-has_arrived.false in
+    kept_refused (opened c.legal_histories_are_in_order.ensures).statuses c.self.inside.desk.desk c.hear-found.new.desk.desk c.self.inside.ledger c.self.invariant c.hear-found.ensures.served c.hear-found.ensures.more c.args.pass.now.pass.number c.hear-found.new.pass.pass.number c.hear-found.ensures.number new
+    c.hand.new.desk.desk c.in-Cancelled.ensures.moves c.in-Cancelled.ensures.held
+
+pub returns-in-Cancelled-clause-entered : goal.returns-in-Cancelled-clause-entered
+returns-in-Cancelled-clause-entered g c =
+    let new = is_new c.self.inside.ledger c.number-request.result c.args.pass.now.pass.number c.has_arrived.result c.number-request.ensures.number c.has_arrived.ensures.arrived c.if-has_arrived.false in
+    stays_out (opened c.legal_histories_are_in_order.ensures).statuses c.self.inside.desk.desk c.self.inside.ledger c.self.invariant c.args.pass.now.pass.number c.hand.new.pass.pass.entered new c.in-Cancelled.ensures.entered
+
+pub invariant_of-self-in-Entered : goal.invariant_of-self-in-Entered
+invariant_of-self-in-Entered g c =
+    let new = is_new c.self.inside.ledger c.number-request.result c.args.pass.now.pass.number c.has_arrived.result c.number-request.ensures.number c.has_arrived.ensures.arrived c.if-has_arrived.false in
+    kept_arrived (opened c.legal_histories_are_in_order.ensures).statuses c.self.inside.desk.desk c.hear-found.new.desk.desk c.self.inside.ledger c.self.invariant c.hear-found.ensures.served c.hear-found.ensures.more c.args.pass.now.pass.number c.hear-found.new.pass.pass.number c.hear-found.ensures.number new
+    c.hand.new.desk.desk c.enter.new.self (events.Enter c.number-request.result c.shortest-queue.result) c.number-request.ensures.number c.enter.ensures.log c.enter.ensures.sound c.in-Entered.ensures.moves c.in-Entered.ensures.held (λ e. cc)
+
+pub returns-in-Entered-clause-kept : goal.returns-in-Entered-clause-kept
+returns-in-Entered-clause-kept g c =
+    let new = is_new c.self.inside.ledger c.number-request.result c.args.pass.now.pass.number c.has_arrived.result c.number-request.ensures.number c.has_arrived.ensures.arrived c.if-has_arrived.false in
+    kept_arrived (opened c.legal_histories_are_in_order.ensures).statuses c.self.inside.desk.desk c.hear-found.new.desk.desk c.self.inside.ledger c.self.invariant c.hear-found.ensures.served c.hear-found.ensures.more c.args.pass.now.pass.number c.hear-found.new.pass.pass.number c.hear-found.ensures.number new
+    c.hand.new.desk.desk c.enter.new.self (events.Enter c.number-request.result c.shortest-queue.result) c.number-request.ensures.number c.enter.ensures.log c.enter.ensures.sound c.in-Entered.ensures.moves c.in-Entered.ensures.held (λ e. cc)
+
+pub invariant_of-self-in-Full : goal.invariant_of-self-in-Full
+invariant_of-self-in-Full g c =
+    let new = is_new c.self.inside.ledger c.number-request.result c.args.pass.now.pass.number c.has_arrived.result c.number-request.ensures.number c.has_arrived.ensures.arrived c.if-has_arrived.false in
+    kept_arrived (opened c.legal_histories_are_in_order.ensures).statuses c.self.inside.desk.desk c.hear-found.new.desk.desk c.self.inside.ledger c.self.invariant c.hear-found.ensures.served c.hear-found.ensures.more c.args.pass.now.pass.number c.hear-found.new.pass.pass.number c.hear-found.ensures.number new
+    c.hand.new.desk.desk c.refuse.new.self (events.Full c.number-request.result c.shortest-queue.result) c.number-request.ensures.number c.refuse.ensures.log c.refuse.ensures.sound c.in-Full.ensures.moves c.in-Full.ensures.held (λ e. cc)
+
+pub returns-in-Full-clause-kept : goal.returns-in-Full-clause-kept
+returns-in-Full-clause-kept g c =
+    let new = is_new c.self.inside.ledger c.number-request.result c.args.pass.now.pass.number c.has_arrived.result c.number-request.ensures.number c.has_arrived.ensures.arrived c.if-has_arrived.false in
+    kept_arrived (opened c.legal_histories_are_in_order.ensures).statuses c.self.inside.desk.desk c.hear-found.new.desk.desk c.self.inside.ledger c.self.invariant c.hear-found.ensures.served c.hear-found.ensures.more c.args.pass.now.pass.number c.hear-found.new.pass.pass.number c.hear-found.ensures.number new
+    c.hand.new.desk.desk c.refuse.new.self (events.Full c.number-request.result c.shortest-queue.result) c.number-request.ensures.number c.refuse.ensures.log c.refuse.ensures.sound c.in-Full.ensures.moves c.in-Full.ensures.held (λ e. cc)
+
+pub returns-then-has_arrived-clause-kept : goal.returns-then-has_arrived-clause-kept
+returns-then-has_arrived-clause-kept g c = kept_still c.self.inside.desk.desk c.hear-found.new.desk.desk c.self.inside.ledger c.self.invariant c.hear-found.ensures.served c.hear-found.ensures.more
+
+pub returns-in-Some-Cancelled-clause-kept : goal.returns-in-Some-Cancelled-clause-kept
+returns-in-Some-Cancelled-clause-kept g c = kept_still c.self.inside.desk.desk c.hear-found.new.desk.desk c.self.inside.ledger c.self.invariant c.hear-found.ensures.served c.hear-found.ensures.more

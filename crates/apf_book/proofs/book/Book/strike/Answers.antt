@@ -1,12 +1,14 @@
 -- A strike: one load, and where that found cancelled a second step.
-use Rattle.std.proofs.Common.{ℕ, false, refl, subst}
+use Rattle.std.proofs.Common.{◌≢◌, ℕ, false, List, None, refl, sym, ap, ◌∙◌, subst}
 use Rattle.std.specs.Prelude.{Contains}
 use Rattle.apf_model.specs.History.{waiting}
-use Rattle.apf_gate.specs.Records.{KnowsMore}
+use Rattle.apf_gate.specs.declared.record.Service.{Service}
+use Rattle.apf_gate.specs.Records.{told_of, service_of, KnowsMore}
 use Rattle.apf_book.specs.LedgerView.{LedgerView, IsLogOf}
 use Rattle.apf_book.specs.BookView.{BookView}
 use Rattle.apf_book.specs.Servings.{Strikes}
-use Rattle.apf_book.proofs.Keeping.{struck_is_out, strike_fewer}
+use Rattle.apf_book.proofs.Opened.{opened}
+use Rattle.apf_book.proofs.Keeping.{member_waits, told_cancelled, struck_is_out, strike_fewer}
 use Rattle.apf_book.proofs.Knowing.{more_then}
 use Rattle.apf_book.proofs.book.Book.strike.Goals as goal
 
@@ -21,7 +23,7 @@ returns-in_default-clause-told g c = λ told q member.
 
 pub returns-clause-told : goal.returns-clause-told
 returns-clause-told g c = λ told q member.
-    struck_is_out c.every_legal_history_is_in_order.ensures.statuses c.self.inside.ledger c.args.request c.in-Some._queue (subst IsLogOf c.in-Some.ensures.some c.in-Some.ensures.sound) q
+    struck_is_out (opened c.legal_histories_are_in_order.ensures).statuses c.self.inside.ledger c.args.request c.in-Some._queue (subst IsLogOf c.in-Some.ensures.some c.in-Some.ensures.sound) q
     (subst (λ (v : LedgerView). Contains (waiting v.history q) c.args.request) c.in-Some.ensures.some member)
 
 pub returns-clause-more : goal.returns-clause-more
@@ -36,5 +38,16 @@ returns-in_default-clause-nobody_new g c = λ q r member.
 pub returns-clause-nobody_new : goal.returns-clause-nobody_new
 returns-clause-nobody_new g c = λ q r member.
     subst (λ (v : BookView). Contains (waiting v.ledger.history q) r) c.self.view_is
-    (strike_fewer c.every_legal_history_is_in_order.ensures.follows c.self.inside.ledger c.args.request c.in-Some._queue (subst IsLogOf c.in-Some.ensures.some c.in-Some.ensures.sound) q r
+    (strike_fewer (opened c.legal_histories_are_in_order.ensures).follows c.self.inside.ledger c.args.request c.in-Some._queue (subst IsLogOf c.in-Some.ensures.some c.in-Some.ensures.sound) q r
     (subst (λ (v : LedgerView). Contains (waiting v.history q) r) c.in-Some.ensures.some member))
+
+pub returns-then-ne-clause-told : goal.returns-then-ne-clause-told
+returns-then-ne-clause-told g c = λ told q member.
+    let before = subst (λ (v : BookView). told_of v.desk.desk.knows.told c.args.request ≢ None) (sym c.self.view_is) told in
+    let cancelled = told_cancelled (opened c.legal_histories_are_in_order.ensures).statuses c.self.inside.desk.desk c.self.inside.ledger c.self.invariant q c.args.request c.seen.result member c.seen.ensures.waits (λ none. before (sym (c.seen.ensures.stays before) ∙ none)) in
+    absurd (let bad = rw cancelled at c.if-ne.ensures in cc)
+
+pub leave-requires-clause-waits : goal.leave-requires-clause-waits
+leave-requires-clause-waits g c =
+    ap (λ (services : List (ℕ × Service)). service_of services c.args.request) c.seen.ensures.same.0
+    ∙ member_waits (opened c.legal_histories_are_in_order.ensures).statuses c.self.inside.desk.desk c.self.inside.ledger c.self.invariant c.in-Some._queue c.args.request c.in-Some.ensures.waited

@@ -2,7 +2,8 @@
 use Rattle.std.proofs.Common.{◌<◌, ◌≤◌, length, subst}
 use Rattle.std.specs.Prelude.{MatchOption, IfSome}
 use Rattle.apf_book.specs.LedgerView.{LedgerView, NothingWaits, IsNext}
-use Rattle.apf_book.proofs.Ledgers.{Laws, few_events}
+use Rattle.apf_book.proofs.Opened.{opened}
+use Rattle.apf_book.proofs.Ledgers.{few_events}
 use Rattle.apf_book.proofs.Nexts.{choose_of_log, chosen_request}
 use Rattle.apf_book.proofs.ledger.Ledger.choose.Goals as goal
 
@@ -11,12 +12,10 @@ returns-clause-next g c = subst (λ (w : LedgerView). MatchOption c.choose.resul
 
 pub returns-clause-is_request : goal.returns-clause-is_request
 returns-clause-is_request g c =
-    let law = c.every_legal_history_is_in_order.ensures in
-    let laws : Laws = record { order = law.order; numbers = law.numbers; follows = law.follows } in
+    let laws = opened c.legal_histories_are_in_order.ensures in
     subst (λ (w : LedgerView). IfSome c.choose.result (λ x. x.request < length w.widths)) c.self.view_is (chosen_request _ _ _ _ c.self.invariant.0 laws c.choose.result c.choose.ensures.chosen)
 
 pub returns-clause-few : goal.returns-clause-few
 returns-clause-few g c =
-    let law = c.every_legal_history_is_in_order.ensures in
-    let laws : Laws = record { order = law.order; numbers = law.numbers; follows = law.follows } in
+    let laws = opened c.legal_histories_are_in_order.ensures in
     subst (λ (w : LedgerView). length w.history ≤ 20000) c.self.view_is (few_events laws _ _ _ _ c.self.invariant.0)

@@ -4,8 +4,9 @@ use Rattle.std.proofs.lemmas.List.{length-reverse}
 use Rattle.apf_history.specs.declared.events.Event.TheVariants as events
 use Rattle.apf_model.specs.Outcome.{is_dispatch}
 use Rattle.apf_book.specs.LedgerView.{LedgerView, IsNext}
+use Rattle.apf_book.proofs.Opened.{opened}
 use Rattle.apf_book.proofs.Lists.{first_contains}
-use Rattle.apf_book.proofs.Ledgers.{Laws, reversed, sound_of, has_room, few_events, waiting_request, dispatches}
+use Rattle.apf_book.proofs.Ledgers.{reversed, sound_of, has_room, few_events, waiting_request, dispatches}
 use Rattle.apf_book.proofs.Nexts.{next_of_queues}
 use Rattle.apf_book.proofs.Running.{running_after, count_within}
 use Rattle.apf_book.proofs.ledger.Ledger.dispatch.Goals as goal
@@ -15,8 +16,7 @@ dispatch-requires g c = next_of_queues _ _ _ _ c.self.invariant.0 c.args.chosen 
 
 pub push_reserved-requires : goal.push_reserved-requires
 push_reserved-requires g c =
-    let law = c.every_legal_history_is_in_order.ensures in
-    let laws : Laws = record { order = law.order; numbers = law.numbers; follows = law.follows } in
+    let laws = opened c.legal_histories_are_in_order.ensures in
     let next = subst (λ (w : LedgerView). IsNext w c.args.chosen) (sym c.self.view_is) c.requires.next in
     let inside = waiting_request laws _ _ _ _ c.self.invariant.0 c.args.chosen.queue c.args.chosen.request (first_contains _ _ next.is_first) in
     let more = has_room laws _ _ _ _ c.self.invariant.0 (events.Dispatch c.args.chosen.request c.args.chosen.queue) next.is_first inside in
@@ -25,8 +25,7 @@ push_reserved-requires g c =
 
 pub overflow_add-self : goal.overflow_add-self
 overflow_add-self g c =
-    let law = c.every_legal_history_is_in_order.ensures in
-    let laws : Laws = record { order = law.order; numbers = law.numbers; follows = law.follows } in
+    let laws = opened c.legal_histories_are_in_order.ensures in
     let few = few_events laws _ _ _ _ c.self.invariant.0 in
     let within = count_within is_dispatch (reverse c.self.inside.log.items) in
     let same = c.self.invariant.1.dispatched_is in
@@ -34,8 +33,7 @@ overflow_add-self g c =
 
 pub invariant_of-self : goal.invariant_of-self
 invariant_of-self g c =
-    let law = c.every_legal_history_is_in_order.ensures in
-    let laws : Laws = record { order = law.order; numbers = law.numbers; follows = law.follows } in
+    let laws = opened c.legal_histories_are_in_order.ensures in
     let next = subst (λ (w : LedgerView). IsNext w c.args.chosen) (sym c.self.view_is) c.requires.next in (
       rw (c.push_reserved.ensures.items, reversed, c.push_reserved.ensures.capacity)
           (dispatches laws _ _ _ _ c.self.invariant.0 c.dispatch.new.self c.args.chosen next c.dispatch.ensures),
@@ -44,7 +42,6 @@ invariant_of-self g c =
 
 pub returns-clause-sound : goal.returns-clause-sound
 returns-clause-sound g c =
-    let law = c.every_legal_history_is_in_order.ensures in
-    let laws : Laws = record { order = law.order; numbers = law.numbers; follows = law.follows } in
+    let laws = opened c.legal_histories_are_in_order.ensures in
     let next = subst (λ (w : LedgerView). IsNext w c.args.chosen) (sym c.self.view_is) c.requires.next in
     rw (c.push_reserved.ensures.items, reversed) (sound_of _ _ _ _ (dispatches laws _ _ _ _ c.self.invariant.0 c.dispatch.new.self c.args.chosen next c.dispatch.ensures))

@@ -8,14 +8,14 @@ use Rattle.apf_model.specs.History.{waiting}
 use Rattle.apf_model.specs.Outcome.{is_enter}
 use Rattle.apf_queue.specs.View.{Enters}
 use Rattle.apf_book.specs.LedgerView.{LedgerView, Arrives}
-use Rattle.apf_book.proofs.Ledgers.{Laws, reversed, has_room, few_events, may_enter, enters}
+use Rattle.apf_book.proofs.Opened.{opened}
+use Rattle.apf_book.proofs.Ledgers.{reversed, sound_of, has_room, few_events, may_enter, enters}
 use Rattle.apf_book.proofs.Running.{running_after, count_within}
 use Rattle.apf_book.proofs.ledger.Ledger.enter.Goals as goal
 
 pub push_reserved-requires : goal.push_reserved-requires
 push_reserved-requires g c =
-    let law = c.every_legal_history_is_in_order.ensures in
-    let laws : Laws = record { order = law.order; numbers = law.numbers; follows = law.follows } in
+    let laws = opened c.legal_histories_are_in_order.ensures in
     let comes = subst (λ (w : LedgerView). Arrives w c.args.request c.args.queue) (sym c.self.view_is) c.requires.arrives in
     let room = subst (λ (w : LedgerView). length (waiting w.history c.args.queue) ≢ w.limit) (sym c.self.view_is) c.requires.room in
     let more = has_room laws _ _ _ _ c.self.invariant.0 (events.Enter c.args.request c.args.queue) (may_enter laws _ _ _ _ c.self.invariant.0 c.args.request c.args.queue comes room) comes.is_request in
@@ -24,8 +24,7 @@ push_reserved-requires g c =
 
 pub overflow_add-self : goal.overflow_add-self
 overflow_add-self g c =
-    let law = c.every_legal_history_is_in_order.ensures in
-    let laws : Laws = record { order = law.order; numbers = law.numbers; follows = law.follows } in
+    let laws = opened c.legal_histories_are_in_order.ensures in
     let few = few_events laws _ _ _ _ c.self.invariant.0 in
     let within = count_within is_enter (reverse c.self.inside.log.items) in
     let same = c.self.invariant.1.entered_is in
@@ -33,8 +32,7 @@ overflow_add-self g c =
 
 pub invariant_of-self : goal.invariant_of-self
 invariant_of-self g c =
-    let law = c.every_legal_history_is_in_order.ensures in
-    let laws : Laws = record { order = law.order; numbers = law.numbers; follows = law.follows } in
+    let laws = opened c.legal_histories_are_in_order.ensures in
     let comes = subst (λ (w : LedgerView). Arrives w c.args.request c.args.queue) (sym c.self.view_is) c.requires.arrives in
     let room = subst (λ (w : LedgerView). length (waiting w.history c.args.queue) ≢ w.limit) (sym c.self.view_is) c.requires.room in
     let w : c.index-width.result.now ≡ width c.self.inside.widths.items c.args.request =
@@ -45,3 +43,14 @@ invariant_of-self g c =
           (enters laws _ _ _ _ c.self.invariant.0 c.args.request c.args.queue comes c.push.new.self room entered),
       rw (c.push_reserved.ensures.items, reversed) (running_after _ (events.Enter c.args.request c.args.queue) _ _ _ _ _ _ _ _ c.self.invariant.1 (omega arith) (omega arith) (omega arith) (omega arith)),
     )
+
+pub returns-clause-sound : goal.returns-clause-sound
+returns-clause-sound g c =
+    let laws = opened c.legal_histories_are_in_order.ensures in
+    let comes = subst (λ (w : LedgerView). Arrives w c.args.request c.args.queue) (sym c.self.view_is) c.requires.arrives in
+    let room = subst (λ (w : LedgerView). length (waiting w.history c.args.queue) ≢ w.limit) (sym c.self.view_is) c.requires.room in
+    let w : c.index-width.result.now ≡ width c.self.inside.widths.items c.args.request =
+    sym (get_or_from_slice_get c.self.inside.widths.items c.args.request c.index-width.result.now 0
+    (slice_get_read c.self.inside.widths.items (length c.self.inside.widths.items) c.args.request c.index-width.result.now refl comes.is_request c.index-width.ensures)) in
+    let entered = subst (λ (k : ℕ). Enters c.self.inside.queues c.push.new.self c.args.queue c.args.request k) w c.in-Ok.ensures.enters in
+    rw (c.push_reserved.ensures.items, reversed) (sound_of _ _ _ _ (enters laws _ _ _ _ c.self.invariant.0 c.args.request c.args.queue comes c.push.new.self room entered))

@@ -4,7 +4,9 @@ use Rattle.apf_history.specs.declared.events.Event.{Event}
 use Rattle.apf_model.specs.Fair.{DifferAtMost, widest, IsFair}
 use Rattle.apf_book.specs.LedgerView.{LedgerView, HasFairLog, hand_in}
 use Rattle.apf_book.specs.Stretch.{IsBacklogged, service_in}
-use Rattle.apf_book.proofs.Stretches.{Balanced, services_differ}
+use Rattle.apf_book.specs.Histories.{Balanced}
+use Rattle.apf_book.proofs.Opened.{balanced as fair}
+use Rattle.apf_book.proofs.Stretches.{services_differ}
 use Rattle.apf_book.proofs.ledger.Ledger.log.Goals as goal
 
 balanced : Balanced → (v : LedgerView) (log : List Event) → reverse log ≡ v.history → HasFairLog v
@@ -18,4 +20,4 @@ pub returns-clause-balanced : goal.returns-clause-balanced
 returns-clause-balanced g c =
     let is : reverse c.as_slice.result.now ≡ c.args.self.now.history =
     ap (λ (xs : List Event). reverse xs) c.as_slice.ensures.value ∙ ap (λ (w : LedgerView). w.history) c.self.view_is in
-    balanced c.every_fair_history_is_balanced.ensures.balanced c.args.self.now c.as_slice.result.now is (subst HasFairLog c.self.view_is c.self.invariant.0.fair)
+    balanced (fair c.fair_histories_are_balanced.ensures) c.args.self.now c.as_slice.result.now is (subst HasFairLog c.self.view_is c.self.invariant.0.fair)

@@ -6,7 +6,8 @@ use Rattle.apf_history.specs.declared.events.Event.TheVariants as events
 use Rattle.apf_model.specs.History.{waiting}
 use Rattle.apf_model.specs.Outcome.{is_strike}
 use Rattle.apf_book.specs.LedgerView.{LedgerView}
-use Rattle.apf_book.proofs.Ledgers.{Laws, reversed, sound_of, has_room, few_events, strikes}
+use Rattle.apf_book.proofs.Opened.{opened}
+use Rattle.apf_book.proofs.Ledgers.{reversed, sound_of, has_room, few_events, strikes}
 use Rattle.apf_book.proofs.Nexts.{stands_in}
 use Rattle.apf_book.proofs.Running.{running_after, count_within}
 use Rattle.apf_book.proofs.ledger.Ledger.strike.Goals as goal
@@ -18,8 +19,7 @@ returns-in_default-clause-nowhere g c = λ q waits.
 
 pub push_reserved-requires : goal.push_reserved-requires
 push_reserved-requires g c =
-    let law = c.every_legal_history_is_in_order.ensures in
-    let laws : Laws = record { order = law.order; numbers = law.numbers; follows = law.follows } in
+    let laws = opened c.legal_histories_are_in_order.ensures in
     let inside = subst (λ (w : LedgerView). c.args.request < length w.widths) (sym c.self.view_is) c.requires.is_request in
     let stands = (c.in-Some.ensures.stood c.in-Some.queue).0 (refl {a = Some c.in-Some.queue}) in
     let waits = subst (λ (xs : List ℕ). Contains xs c.args.request) (c.self.invariant.0.queue_is c.in-Some.queue) stands in
@@ -29,8 +29,7 @@ push_reserved-requires g c =
 
 pub overflow_add-self : goal.overflow_add-self
 overflow_add-self g c =
-    let law = c.every_legal_history_is_in_order.ensures in
-    let laws : Laws = record { order = law.order; numbers = law.numbers; follows = law.follows } in
+    let laws = opened c.legal_histories_are_in_order.ensures in
     let few = few_events laws _ _ _ _ c.self.invariant.0 in
     let within = count_within is_strike (reverse c.self.inside.log.items) in
     let same = c.self.invariant.1.struck_is in
@@ -38,8 +37,7 @@ overflow_add-self g c =
 
 pub invariant_of-self-2 : goal.invariant_of-self-2
 invariant_of-self-2 g c =
-    let law = c.every_legal_history_is_in_order.ensures in
-    let laws : Laws = record { order = law.order; numbers = law.numbers; follows = law.follows } in
+    let laws = opened c.legal_histories_are_in_order.ensures in
     let stands = (c.in-Some.ensures.stood c.in-Some.queue).0 (refl {a = Some c.in-Some.queue}) in
     let waits = subst (λ (xs : List ℕ). Contains xs c.args.request) (c.self.invariant.0.queue_is c.in-Some.queue) stands in (
       rw (c.push_reserved.ensures.items, reversed, c.push_reserved.ensures.capacity, c.in-Some.ensures.some)
@@ -54,8 +52,7 @@ returns-clause-waited g c =
 
 pub returns-clause-sound : goal.returns-clause-sound
 returns-clause-sound g c =
-    let law = c.every_legal_history_is_in_order.ensures in
-    let laws : Laws = record { order = law.order; numbers = law.numbers; follows = law.follows } in
+    let laws = opened c.legal_histories_are_in_order.ensures in
     let stands = (c.in-Some.ensures.stood c.in-Some.queue).0 (refl {a = Some c.in-Some.queue}) in
     let waits = subst (λ (xs : List ℕ). Contains xs c.args.request) (c.self.invariant.0.queue_is c.in-Some.queue) stands in
     rw (c.push_reserved.ensures.items, reversed) (sound_of _ _ _ _ (strikes laws _ _ _ _ c.self.invariant.0 c.args.request c.in-Some.queue (stands_in _ _ _ _ c.self.invariant.0 c.in-Some.queue c.args.request stands) waits))

@@ -1,0 +1,23 @@
+//! The tests of the crates at the bottom, by their public calls alone: `apf_words`, `apf_flow`,
+//! `apf_short`, and the definitions of `apf_history` and `apf_model`, as `apf_plain` computes them.
+//!
+//! They stand in a crate of their own, as a crate with tests is proved twice.
+//!
+//! - `words`: level words, decisions and the limits. `flow`: flow hashes and hands.
+//! - `short`: which request of memory is refused.
+//! - `histories`: worked histories. `judges`: which histories are legal, fair and agree.
+//! - `worlds`: the worlds of a level after worked steps.
+#![tactic(auto)]
+
+#[cfg(test)]
+mod flow;
+#[cfg(test)]
+mod histories;
+#[cfg(test)]
+mod judges;
+#[cfg(test)]
+mod short;
+#[cfg(test)]
+mod words;
+#[cfg(test)]
+mod worlds;

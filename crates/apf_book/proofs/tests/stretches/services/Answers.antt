@@ -1,6 +1,0 @@
--- The log is legal for the hands that were judged.
-use Rattle.apf_history.specs.Plain.{hand_in}
-use Rattle.apf_book.proofs.tests.stretches.services.Goals as goal
-
-pub balance-requires-clause-legal : goal.balance-requires-clause-legal
-balance-requires-clause-legal g c = (hand_in c.args.row.queues.now 1, (10, c.in_ok-assert_legal.ensures))

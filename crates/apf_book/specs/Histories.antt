@@ -1,0 +1,29 @@
+-- The laws of histories, closed: no search looks into them, and a proof that needs one opens them.
+use Rattle.std.specs.Prelude.{ℕ, ◌*◌, ◌<◌, List, ◌++◌, length}
+use Rattle.apf_history.specs.declared.events.Event.{Event}
+use Rattle.apf_model.specs.History.{MayFollow, IsLegal}
+use Rattle.apf_model.specs.Fair.{IsFair, service, IsNeverEmpty, widest, DifferAtMost}
+use Rattle.apf_model.specs.Order.{AreInOrder, AreStatuses, AreCounted, Follows}
+
+-- the laws of every legal history
+pub record Laws : Type 0 where
+  pub beginnings : (hands : ℕ → List ℕ) (limit : ℕ) (later earlier : List Event) → IsLegal hands limit (later ++ earlier) → IsLegal hands limit earlier
+  pub order : (hands : ℕ → List ℕ) (limit : ℕ) (h : List Event) → IsLegal hands limit h → AreInOrder limit h
+  pub statuses : (hands : ℕ → List ℕ) (limit : ℕ) (h : List Event) → IsLegal hands limit h → AreStatuses h
+  pub numbers : (hands : ℕ → List ℕ) (limit : ℕ) (h : List Event) → IsLegal hands limit h → AreCounted h
+  pub follows : (hands : ℕ → List ℕ) (limit : ℕ) (h : List Event) (e : Event) → IsLegal hands limit h → MayFollow hands limit h e → Follows h e
+
+-- the same, closed
+unfoldable pub LegalLaws : Type 0
+LegalLaws = Laws
+
+-- the law of every fair history, of two services
+abbrev pub Balanced : Type 0
+Balanced = (queues : ℕ) (widths : List ℕ) (hands : ℕ → List ℕ) (limit : ℕ) (later stretch earlier : List Event) (a b : ℕ)
+    → IsFair queues widths hands limit (later ++ (stretch ++ earlier)) → a < queues → b < queues
+    → IsNeverEmpty (stretch ++ earlier) (length stretch) a → IsNeverEmpty (stretch ++ earlier) (length stretch) b
+    → DifferAtMost (2 * widest widths) (service widths stretch a) (service widths stretch b)
+
+-- the same, closed
+unfoldable pub FairLaw : Type 0
+FairLaw = Balanced

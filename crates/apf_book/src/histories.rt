@@ -1,0 +1,22 @@
+//! The laws of histories, closed to searches.
+//!
+//! A law with for-all statements is tried at each goal of the function that calls it. These say the laws
+//! in a word that no search looks into; a proof that needs one opens it by a lemma.
+
+ghost use Rattle.apf_book.specs.Histories.{LegalLaws, FairLaw};
+
+use apf_model::{every_fair_history_is_balanced, every_legal_history_is_in_order};
+
+// The laws of every legal history.
+pub fn legal_histories_are_in_order()
+    ensures { LegalLaws }
+{
+    every_legal_history_is_in_order();
+}
+
+// The law of every fair history.
+pub fn fair_histories_are_balanced()
+    ensures { FairLaw }
+{
+    every_fair_history_is_balanced();
+}

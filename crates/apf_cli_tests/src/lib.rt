@@ -1,0 +1,17 @@
+//! The tests of `apf_cli`, by its public calls alone.
+//!
+//! They stand in a crate of their own, as a crate with tests is proved twice.
+//!
+//! - `words`: what a command line asks for.
+//! - `examples`: worked examples of the whole program, with files in memory; `rows` those of `replay`, `workers`
+//!   those of `run`.
+#![tactic(auto)]
+
+#[cfg(test)]
+mod examples;
+#[cfg(test)]
+mod rows;
+#[cfg(test)]
+mod words;
+#[cfg(test)]
+mod workers;

@@ -1,0 +1,178 @@
+use apf_cli::{Action, read_words};
+use clap::Error;
+use clap::error::ErrorKind;
+use std::alloc::Global;
+use std::process::Abort;
+use std::test::Fail;
+
+static LEAST: [&str; 5] = ["apf", "deal", "0", "0", "0"];
+
+static MOST: [&str; 5] = [
+    "apf",
+    "deal",
+    "4294967295",
+    "4294967295",
+    "18446744073709551615",
+];
+
+// The words give no action but an error, whose text goes to the standard error unless it was asked for.
+fn refused<'a>(rt: &impl Abort, alloc: Global, words: &'a [&'a str], kind: ErrorKind) -> Error {
+    match read_words(alloc, words) {
+        Ok(action) => panic!(rt; "{words:?} gives {action:?}"),
+        Err(error) => {
+            assert_eq!(rt; error.kind(), kind, "{words:?}");
+            assert_eq!(rt;
+                error.use_stderr(),
+                kind != ErrorKind::DisplayHelp && kind != ErrorKind::DisplayVersion,
+                "{words:?}"
+            );
+            error
+        }
+    }
+}
+
+#[test]
+fn reads_texts(rt: HostRuntime) -> Result<(), Fail> {
+    let alloc = rt.alloc();
+    let hash = read_words(alloc, &["apf", "hash", "", "system:node"])?;
+    assert_eq!(rt;
+        hash,
+        Action::Hash {
+            schema: "",
+            distinguisher: "system:node"
+        }
+    );
+    let dashes = read_words(alloc, &["apf", "hash", "--", "-a", "--b"])?;
+    assert_eq!(rt;
+        dashes,
+        Action::Hash {
+            schema: "-a",
+            distinguisher: "--b"
+        }
+    );
+    let replay = read_words(alloc, &["apf", "replay", "c", "r", "s"])?;
+    assert_eq!(rt;
+        replay,
+        Action::Replay {
+            config: "c",
+            requests: "r",
+            script: "s"
+        }
+    );
+    let services = read_words(alloc, &["apf", "services", "c", "r", "s"])?;
+    assert_eq!(rt;
+        services,
+        Action::Services {
+            config: "c",
+            requests: "r",
+            script: "s"
+        }
+    );
+    Ok(())
+}
+
+#[test]
+fn reads_numbers_at_their_ends(rt: HostRuntime) -> Result<(), Fail> {
+    let alloc = rt.alloc();
+    assert_eq!(rt;
+        read_words(alloc, &LEAST)?,
+        Action::Deal {
+            deck: 0,
+            hand: 0,
+            hash: 0
+        }
+    );
+    let most = Action::Deal {
+        deck: u32::MAX,
+        hand: u32::MAX,
+        hash: u64::MAX,
+    };
+    assert_eq!(rt; read_words(alloc, &MOST)?, most);
+    let one = read_words(alloc, &["apf", "run", "c", "r", "1"])?;
+    assert_eq!(rt;
+        one,
+        Action::Run {
+            config: "c",
+            requests: "r",
+            workers: 1
+        }
+    );
+    let many = read_words(alloc, &["apf", "run", "c", "r", "64"])?;
+    assert_eq!(rt;
+        many,
+        Action::Run {
+            config: "c",
+            requests: "r",
+            workers: 64
+        }
+    );
+    Ok(())
+}
+
+#[test]
+fn refuses_other_words(rt: HostRuntime) {
+    let rows: [(&[&str], ErrorKind); 15] = [
+        (&[], ErrorKind::MissingSubcommand),
+        (&["apf"], ErrorKind::MissingSubcommand),
+        (&["apf", "nonsense"], ErrorKind::InvalidSubcommand),
+        (&["apf", "hash", "a"], ErrorKind::MissingRequiredArgument),
+        (&["apf", "hash", "a", "b", "c"], ErrorKind::UnknownArgument),
+        (&["apf", "hash", "-a", "b"], ErrorKind::UnknownArgument),
+        (
+            &["apf", "deal", "1", "2"],
+            ErrorKind::MissingRequiredArgument,
+        ),
+        (&["apf", "deal", "a", "1", "1"], ErrorKind::ValueValidation),
+        (
+            &["apf", "deal", "4294967296", "1", "0"],
+            ErrorKind::ValueValidation,
+        ),
+        (
+            &["apf", "deal", "1", "4294967296", "0"],
+            ErrorKind::ValueValidation,
+        ),
+        (
+            &["apf", "deal", "1", "1", "18446744073709551616"],
+            ErrorKind::ValueValidation,
+        ),
+        (
+            &["apf", "deal", "1", "1", "1.0"],
+            ErrorKind::ValueValidation,
+        ),
+        (&["apf", "run", "a", "b", "0"], ErrorKind::ValueValidation),
+        (&["apf", "run", "a", "b", "65"], ErrorKind::ValueValidation),
+        (
+            &["apf", "services", "a", "b"],
+            ErrorKind::MissingRequiredArgument,
+        ),
+    ];
+    for (words, kind) in rows {
+        let _ = refused(&rt, rt.alloc(), words, kind);
+    }
+}
+
+#[test]
+fn answers_with_help(rt: HostRuntime) -> Result<(), Fail> {
+    let rows: [(&[&str], &str); 4] = [
+        (&["apf", "--help"], "Print the hand of queues"),
+        (&["apf", "help"], "Print the hand of queues"),
+        (&["apf", "deal", "--help"], "Number of queues in a hand"),
+        (&["apf", "help", "deal"], "Number of queues in a hand"),
+    ];
+    for (words, line) in rows {
+        let help = refused(&rt, rt.alloc(), words, ErrorKind::DisplayHelp);
+        let text = format!(in rt.alloc(); "{help}")?;
+        assert!(rt; text.as_str().contains(line), "{words:?}: {text}");
+    }
+    Ok(())
+}
+
+#[test]
+fn answers_with_the_version(rt: HostRuntime) -> Result<(), Fail> {
+    for words in [&["apf", "--version"], &["apf", "-V"]] {
+        let version = refused(&rt, rt.alloc(), words, ErrorKind::DisplayVersion);
+        let text = format!(in rt.alloc(); "{version}")?;
+        assert_eq!(rt; text.as_str(), "apf 0.1.0\n", "{words:?}");
+    }
+    Ok(())
+}

@@ -1,6 +1,0 @@
--- The history gets shorter.
-use Rattle.std.proofs.Common.{length}
-use Rattle.apf_history.proofs.plain.legal.+has_arrived.Given as goal
-
-abbrev pub decreases-has_arrived : goal.decreases-has_arrived
-decreases-has_arrived l = length l.history.now

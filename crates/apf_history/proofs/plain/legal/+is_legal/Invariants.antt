@@ -1,6 +1,0 @@
--- The history gets shorter.
-use Rattle.std.proofs.Common.{length}
-use Rattle.apf_history.proofs.plain.legal.+is_legal.Given as goal
-
-abbrev pub decreases-is_legal : goal.decreases-is_legal
-decreases-is_legal l = length l.history.now

@@ -1,6 +1,0 @@
--- The list gets shorter.
-use Rattle.std.proofs.Common.{length}
-use Rattle.apf_history.proofs.plain.stretch.+service.Given as goal
-
-abbrev pub decreases-service : goal.decreases-service
-decreases-service l = length l.stretch.now

@@ -1,3 +1,0 @@
-//! Worked examples, run against the definitions by the plain program.
-
-mod worlds;

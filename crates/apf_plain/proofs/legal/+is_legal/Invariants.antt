@@ -1,0 +1,6 @@
+-- The history gets shorter.
+use Rattle.std.proofs.Common.{length}
+use Rattle.apf_plain.proofs.legal.+is_legal.Given as goal
+
+abbrev pub decreases-is_legal : goal.decreases-is_legal
+decreases-is_legal l = length l.history.now

@@ -1,0 +1,19 @@
+//! The tests of `apf_run`, by its public calls alone.
+//!
+//! They stand in a crate of their own, as a crate with tests is proved twice.
+//!
+//! - `runs`: runs of the requests of a text.
+//! - `meeting`, `counting`: runs by workers, with work that looks at the others.
+//! - `writing`: writers without room. `absent`: numbers of what is not there.
+#![tactic(auto)]
+
+#[cfg(test)]
+mod absent;
+#[cfg(test)]
+mod counting;
+#[cfg(test)]
+mod meeting;
+#[cfg(test)]
+mod runs;
+#[cfg(test)]
+mod writing;

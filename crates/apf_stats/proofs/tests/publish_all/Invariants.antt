@@ -1,7 +1,0 @@
--- What was published so far is below what comes next.
-use Rattle.std.proofs.Common.{[], ◌∷◌}
-use Rattle.apf_stats.specs.Numbers.{IsBelow}
-use Rattle.apf_stats.proofs.tests.publish_all.Given as goal
-
-abbrev pub invariant-loop-requests : goal.invariant-loop-requests
-invariant-loop-requests g l = IsBelow l.board.shown (l.requests ∷ 0 ∷ l.requests ∷ 0 ∷ [])

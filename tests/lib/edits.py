@@ -1,0 +1,119 @@
+"""Planted bugs: files NAME.edit, with lines 'file: PATH' and then pairs of lines 'old: TEXT' and 'new: TEXT'."""
+
+import os
+import re
+
+TOP = os.path.dirname(os.path.dirname(os.path.dirname(os.path.abspath(__file__))))
+CRATES = os.path.join(TOP, "crates")
+# those that ./plant tries, a folder for each crate, and those that ./test tries, in the crate's own folder
+PLANTED = os.path.join(TOP, "planted")
+MUST_FAIL = "must-fail"
+FUNCTION = re.compile(r"^\s*(?:pub(?:\([^)]*\))? )?(?:const |unsafe )*fn (\w+)")
+BLOCK = re.compile(r"^(?:impl\b(?:<.*?>)? ?(?:(\w+)(?:<.*?>)? for )?&?(\w+)|(?:pub )?trait (\w+))")
+CONSTANT = re.compile(r"^(?:pub(?:\([^)]*\))? )?(?:const|static) (\w+)")
+
+
+class BadEdit(Exception):
+    """Why an edit cannot be applied."""
+
+
+class Edit:
+    """A planted bug of one crate."""
+
+    def __init__(self, path, crate):
+        self.name = os.path.basename(path)[: -len(".edit")]
+        self.crate = crate
+        self.pairs = []
+        file = old = None
+        with open(path, encoding="utf-8") as it:
+            for line in it.read().split("\n"):
+                if line.startswith("file: "):
+                    file = line[len("file: ") :].strip()
+                elif line.startswith("old: "):
+                    old = line[len("old: ") :]
+                elif line.startswith("new:"):
+                    self.pairs.append((file, old, line[len("new:") :].removeprefix(" ")))
+
+    def applied(self, texts, read):
+        """The texts of the files that it changes, by their path in the crate; `texts` has those that were changed before."""
+        changed = {}
+        if not self.pairs:
+            raise BadEdit("it has no pair of lines 'old:' and 'new:'")
+        for file, old, new in self.pairs:
+            if not file or not old:
+                raise BadEdit("a line 'new:' stands before any 'file:' or 'old:'")
+            text = changed.get(file) or texts.get(file) or read(file)
+            if text.count(old) != 1:
+                raise BadEdit(f"the text {old!r} is in {file} {text.count(old)} times, and not once")
+            changed[file] = text.replace(old, new)
+        return changed
+
+    def places(self, read):
+        """Where it changes the code: for each pair the module's path, the type or the trait, and the function; a constant stands
+        for the functions that name it."""
+        found, texts = set(), {}
+        for file, old, new in self.pairs:
+            text = texts.get(file) or read(file)
+            found |= set(places_at(file, text, text.index(old) + len(old) - len(old.lstrip())))
+            texts[file] = text.replace(old, new)
+        return found
+
+
+def module_of(file):
+    """The path of the module whose text is in a file of src/."""
+    parts = file[len("src/") : -len(".rt")].split("/")
+    return () if parts in (["lib"], ["main"]) else tuple(parts)
+
+
+def places_at(file, text, at):
+    """The function that has this place of the text; of a constant, each function of the file that names it."""
+    lines, row = text.split("\n"), text.count("\n", 0, at)
+    if not file.startswith("src/"):
+        return [(file, "", "")]
+    constant = CONSTANT.match(lines[row])
+    if constant:
+        rows = [number for number, line in enumerate(lines) if re.search(rf"\b{constant[1]}\b", line) and number != row]
+        return sorted({it for number in rows for it in places_at(file, text, sum(len(line) + 1 for line in lines[:number]))})
+    name = kind = ""
+    for line in reversed(lines[: row + 1]):
+        function, block = FUNCTION.match(line), BLOCK.match(line)
+        if function and not name:
+            name = function[1]
+            if not line.startswith(" "):
+                break
+        elif block:
+            kind = block[2] or block[3]
+            break
+        elif line.startswith("}") and not name:
+            break
+    return [(file, kind, name)]
+
+
+def edits_of(folder, crate):
+    """The edits of one folder, by name."""
+    if not os.path.isdir(folder):
+        return []
+    return [Edit(os.path.join(folder, it), crate) for it in sorted(os.listdir(folder)) if it.endswith(".edit")]
+
+
+def planted_of(crate):
+    return edits_of(os.path.join(PLANTED, crate), crate)
+
+
+def must_fail_of(crate):
+    return edits_of(os.path.join(CRATES, crate, MUST_FAIL), crate)
+
+
+def reader_of(folder):
+    """Reads a file of the crate in this folder."""
+
+    def read(file):
+        if not re.fullmatch(r"(src|specs|proofs)/[\w+./-]+", file) or ".." in file:
+            raise BadEdit(f"{file} is no file below src/, specs/ or proofs/")
+        try:
+            with open(os.path.join(folder, file), encoding="utf-8") as it:
+                return it.read()
+        except OSError:
+            raise BadEdit(f"there is no file {file}") from None
+
+    return read

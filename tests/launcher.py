@@ -1,10 +1,12 @@
-"""The launcher `apf`, with a stand-in for the toolchain's `rt`; and what git ignores."""
+"""The launcher `apf`, with a stand-in for the toolchain's `rt`, and `program/store`; and what git ignores."""
 
 import os
 import shutil
+import signal
 import subprocess
 import sys
 import tempfile
+import time
 
 sys.path.insert(0, os.path.join(os.path.dirname(os.path.abspath(__file__)), "lib"))
 from harness import LAUNCHER, TOP, Tally, drop_rights, write
@@ -22,7 +24,7 @@ source=$(cat src/main.rt 2>/dev/null)
 [ ! -f "$NOTES.meanwhile" ] || . "$NOTES.meanwhile"
 [ "$1" = run ] || exit 0
 mkdir -p out
-printf '#!/bin/sh\necho "%s" "$@"\nexit 7\n' "$source" >out/apf
+printf '#!/bin/sh\n[ "$1" != --version ] || exit 0\necho "%s" "$@"\nexit 7\n' "$source" >out/apf
 chmod +x out/apf
 """
 CRATES = """# the crates
@@ -46,18 +48,37 @@ class Checkout:
         write(self.path("apf", "src", "main.rt"), "first")
         write(self.path("apf", "src", "other.rt"), "other")
         shutil.copy(LAUNCHER, os.path.join(self.top, "apf"))
+        os.mkdir(os.path.join(self.top, "program"))
+        shutil.copy(os.path.join(TOP, "program", "store"), os.path.join(self.top, "program"))
         write(os.path.join(self.top, "bin", "rt"), RT, 0o755)
 
     def path(self, *parts):
         return os.path.join(self.top, "crates", *parts)
 
-    def run(self, *words, refuses="", has_no_rt=False, **how):
-        """Runs the launcher; answers its status, its output, the lines on standard error, and the calls of rt."""
+    def how(self, refuses="", has_no_rt=False, builds=False, kept=None, **how):
+        """How to run the launcher: with these tools, and where `builds` is set with no use of the stored program."""
         path = os.pathsep.join([TOOLS] if has_no_rt else [os.path.join(self.top, "bin"), TOOLS])
-        environment = dict(os.environ, PATH=path, NOTES=self.notes, REFUSES=refuses)
-        done = subprocess.run(
-            [os.path.join(self.top, "apf"), *words], stdin=subprocess.DEVNULL, capture_output=True, env=environment, timeout=60, **how
-        )
+        environment = {key: value for key, value in os.environ.items() if key != "APF_BUILD"}
+        environment.update(PATH=path, NOTES=self.notes, REFUSES=refuses, TMPDIR=kept or "/tmp")
+        if builds:
+            environment["APF_BUILD"] = "1"
+        return dict(how, stdin=subprocess.DEVNULL, env=environment)
+
+    def store(self):
+        """Stores the program of these sources, and takes what was built away."""
+        done = subprocess.run([os.path.join(self.top, "program", "store")], capture_output=True, timeout=60, **self.how())
+        self.clean()
+        return done.returncode, done.stderr.decode()
+
+    def clean(self):
+        for at in os.listdir(self.path()):
+            shutil.rmtree(self.path(at, "out"), ignore_errors=True)
+        if os.path.exists(self.notes):
+            os.remove(self.notes)
+
+    def run(self, *words, **given):
+        """Runs the launcher; answers its status, its output, the lines on standard error, and the calls of rt."""
+        done = subprocess.run([os.path.join(self.top, "apf"), *words], capture_output=True, timeout=60, **self.how(**given))
         calls = open(self.notes).read().split("\n")[:-1] if os.path.exists(self.notes) else []
         if os.path.exists(self.notes):
             os.remove(self.notes)
@@ -67,7 +88,7 @@ class Checkout:
 # the tools that the launcher uses, and no other
 TOOLS = os.path.join(room.name, "tools")
 os.mkdir(TOOLS)
-for tool in ("bash", "sh", "env", "awk", "basename", "cat", "chmod", "dirname", "find", "mkdir", "mktemp", "readlink", "rm", "sort"):
+for tool in ("bash", "sh", "env", "awk", "basename", "cat", "chmod", "cp", "dirname", "find", "mkdir", "readlink", "rm", "sha256sum", "sleep", "sort", "tr", "uname", "xargs"):
     os.symlink(shutil.which(tool), os.path.join(TOOLS, tool))
 
 ALL = ["lib low", "lib middle", "lib apf_cli", "run apf"]
@@ -95,7 +116,7 @@ for name, change in [
     ("new", lambda it: write(it.path("apf", "src", "new.rt"), "new")),
     ("deleted", lambda it: os.remove(it.path("apf", "src", "other.rt"))),
     ("with an old time", lambda it: (write(it.path("apf", "src", "main.rt"), "older"), os.utime(it.path("apf", "src", "main.rt"), (1, 1)))),
-    ("the list of crates", lambda it: write(os.path.join(it.top, "crates.txt"), CRATES + "# more\n")),
+    ("the list of crates", lambda it: write(os.path.join(it.top, "crates.txt"), CRATES.replace("middle low", "middle low std_of_kit"))),
 ]:
     checkout = Checkout("change-" + name.replace(" ", "-"))
     checkout.run()
@@ -106,11 +127,25 @@ for name, change in [
     tally.check(f"{name}: built again", (status, out, calls), (7, f"{wanted}\n", ALL))
     tally.check(f"{name}: and then no more", checkout.run()[3], [])
 
-# an edit that must fail is no source
-planted = Checkout("planted")
-planted.run()
-write(planted.path("low", "must-fail", "wrong.edit"), "file: src/lib.rt")
-tally.check("an edit that must fail", planted.run()[3], [])
+# what the program is not made of, and what changes no content
+for name, change in [
+    ("an edit that must fail", lambda it: write(it.path("low", "must-fail", "wrong.edit"), "file: src/lib.rt")),
+    ("a crate that the program does not stand on", lambda it: write(it.path("apart", "src", "lib.rt"), "other")),
+    ("its line in crates.txt", lambda it: write(os.path.join(it.top, "crates.txt"), CRATES.replace("apart:", "# alone\napart:"))),
+    ("a source that is touched", lambda it: os.utime(it.path("low", "src", "lib.rt"), (1, 1))),
+    ("a source that is written anew as it was", lambda it: write(it.path("apf", "src", "main.rt"), "first")),
+    ("an editor's swap file", lambda it: write(it.path("low", "src", ".lib.rt.swp"), "swap")),
+    ("an editor's lock", lambda it: os.symlink("nobody@nowhere", it.path("low", "src", ".#lib.rt"))),
+    ("an editor's backup", lambda it: write(it.path("low", "src", "lib.rt~"), "older")),
+]:
+    for is_stored in (False, True):
+        checkout = Checkout(f"same-{'stored' if is_stored else 'built'}-" + name.replace(" ", "-"))
+        if is_stored:
+            tally.check(f"{name}: stored", checkout.store(), (0, "\n".join([BEGIN, *PROGRESS, ""])))
+        checkout.run()
+        change(checkout)
+        for when in ("at once", "and then"):
+            tally.check(f"{name}: builds nothing, {when}", checkout.run("x"), (7, "first x\n", [], []))
 
 # a source that is edited while it builds
 for crate in ("low", "apf"):
@@ -120,6 +155,13 @@ for crate in ("low", "apf"):
     os.remove(busy.notes + ".meanwhile")
     tally.check(f"edited while {crate} builds: built again", busy.run()[1:], ("later\n", [BEGIN, *PROGRESS], ALL))
     tally.check(f"edited while {crate} builds: and then no more", busy.run()[3], [])
+
+# an edit of another crate while it builds
+beside = Checkout("beside")
+write(beside.notes + ".meanwhile", f'[ $crate != low ] || printf later >"{beside.path("apart", "src", "lib.rt")}"\n')
+beside.run()
+os.remove(beside.notes + ".meanwhile")
+tally.check("another crate edited while it builds: builds nothing", beside.run(), (7, "first\n", [], []))
 
 # a build that fails says why, runs no older program, and is tried again
 failing = Checkout("failing")
@@ -160,6 +202,92 @@ else:
     tally.check("read-only and built", closed.run(**rights)[:3], (7, "first\n", []))
     os.chmod(closed.path("apf"), 0o755)
     os.chmod(closed.path("apf", "out"), 0o755)
+
+# the stored program: of a clone that was just made, with no toolchain, and where nothing can be written
+kept = Checkout("kept")
+write(kept.path("apf", "src", "main.rt"), "kept")
+kept.store()
+tally.check("stored: runs at once", kept.run("x", has_no_rt=True), (7, "kept x\n", [], []))
+clone = shutil.copytree(kept.top, os.path.join(room.name, "clone"))
+for at, _, names in os.walk(clone):
+    for it in names:
+        os.utime(os.path.join(at, it), (2, 2))
+shutil.rmtree(os.path.join(clone, "crates", "apf", "out"))
+kept.top, kept.notes = clone, os.path.join(clone, "notes")
+tally.check("stored, in a clone with other times", kept.run("x"), (7, "kept x\n", [], []))
+tally.check("stored, and built on request", kept.run("x", builds=True), (7, "kept x\n", [BEGIN, *PROGRESS], ALL))
+os.remove(os.path.join(kept.top, "program", "x86_64-linux", "apf"))
+tally.check("built, and runs with no stored one", kept.run("x"), (7, "kept x\n", [], []))
+tally.check("built on request, once", kept.run("x", builds=True), (7, "kept x\n", [], []))
+if rights is not None:
+    still = Checkout("still")
+    still.store()
+    for at, folders, names in os.walk(still.top):
+        os.chmod(at, 0o555)
+    for _ in range(2):
+        tally.check("stored, read-only", still.run("x", **rights), (7, "first x\n", [], []))
+    for at, folders, names in os.walk(still.top):
+        os.chmod(at, 0o755)
+
+# a stored program that is not of these sources, or does not run here, is not run
+for name, change in [
+    ("a source that changed", lambda it: write(it.path("low", "src", "lib.rt"), "changed")),
+    ("a proof that changed", lambda it: write(it.path("low", "proofs", "Lib.antt"), "changed")),
+    ("a definition that is new", lambda it: write(it.path("middle", "specs", "More.antt"), "more")),
+    ("a source by another name", lambda it: os.rename(it.path("apf", "src", "other.rt"), it.path("apf", "src", "another.rt"))),
+    ("a line in crates.txt", lambda it: write(os.path.join(it.top, "crates.txt"), CRATES.replace("low: std_of_kit", "low:"))),
+    ("another kit", lambda it: write(os.path.join(it.top, "apf"), open(LAUNCHER).read().replace('kit="', 'kit="other '), 0o755)),
+    ("a hash of others", lambda it: write(os.path.join(it.top, "program", "x86_64-linux", "made-of"), "0" * 64 + "\n")),
+    ("no hash", lambda it: os.remove(os.path.join(it.top, "program", "x86_64-linux", "made-of"))),
+    ("no program", lambda it: os.remove(os.path.join(it.top, "program", "x86_64-linux", "apf"))),
+    ("a program that does not run", lambda it: write(os.path.join(it.top, "program", "x86_64-linux", "apf"), "#!/nowhere\n", 0o755)),
+    ("another machine", lambda it: write(os.path.join(it.top, "bin", "uname"), "#!/bin/sh\necho Linux aarch64\n", 0o755)),
+]:
+    for was_run in (False, True):
+        checkout = Checkout(f"other-{was_run}-" + name.replace(" ", "-").replace(".", "-"))
+        checkout.store()
+        if was_run and name != "another machine":
+            tally.check(f"{name}: stored before", checkout.run("x"), (7, "first x\n", [], []))
+        change(checkout)
+        tally.check(f"{name}: built", checkout.run("x"), (7, "first x\n", [BEGIN, *PROGRESS], ALL))
+        tally.check(f"{name}: and then no more", checkout.run("x"), (7, "first x\n", [], []))
+
+# a program that was built of other sources meanwhile, as by rt, is not taken for the one of these
+meanwhile = Checkout("meanwhile")
+meanwhile.run()
+write(meanwhile.path("apf", "out", "apf"), "#!/bin/sh\necho others\n", 0o755)
+tally.check("a program that rt built of others", meanwhile.run("x"), (7, "first x\n", [BEGIN, *PROGRESS], ALL))
+
+# a stored program and a source that changes and changes back: the stored one again
+back = Checkout("back")
+back.store()
+write(back.path("apf", "src", "main.rt"), "second")
+tally.check("changed: built", back.run()[1], "second\n")
+write(back.path("apf", "src", "main.rt"), "first")
+tally.check("changed back: the stored one", back.run(), (7, "first\n", [], []))
+
+
+def files_of(top):
+    return sorted(os.path.join(at, it) for at, folders, names in os.walk(top) for it in names if "/out" not in at)
+
+
+# a build that is interrupted or killed leaves no file behind, and is no program of these sources
+for name, number in (("interrupted", signal.SIGINT), ("ended", signal.SIGTERM), ("killed", signal.SIGKILL)):
+    broken = Checkout(name)
+    temporary = os.path.join(broken.top, "temporary")
+    os.mkdir(temporary)
+    write(broken.notes + ".meanwhile", "[ $crate != middle ] || sleep 60\n")
+    before = files_of(broken.top)
+    process = subprocess.Popen([os.path.join(broken.top, "apf")], stdout=subprocess.PIPE, stderr=subprocess.PIPE, start_new_session=True, **broken.how(kept=temporary))
+    while not os.path.exists(broken.notes) or "middle" not in open(broken.notes).read():
+        time.sleep(0.02)
+    os.killpg(process.pid, number)
+    process.communicate(timeout=60)
+    os.remove(broken.notes)
+    tally.check(f"{name}: leaves no file", files_of(broken.top), before)
+    tally.check(f"{name}: has not run", process.returncode != 7, True)
+    os.remove(broken.notes + ".meanwhile")
+    tally.check(f"{name}: built at the next call", broken.run(), (7, "first\n", [BEGIN, *PROGRESS], ALL))
 
 # a test script where the program can't be built says so in the launcher's line, and counts
 unbuilt = Checkout("unbuilt")

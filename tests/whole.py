@@ -1,6 +1,7 @@
 """The script `test`, with a stand-in for the toolchain's `rt` and for the scripts that it runs."""
 
 import os
+import re
 import shutil
 import signal as signals
 import subprocess
@@ -9,7 +10,7 @@ import tempfile
 import time
 
 sys.path.insert(0, os.path.join(os.path.dirname(os.path.abspath(__file__)), "lib"))
-from harness import TOP, Tally, write
+from harness import LAUNCHER, TOP, Tally, write
 
 # a shell can't trap what was ignored before it, and what runs in the background of another shell ignores an interrupt
 signals.signal(signals.SIGINT, signals.default_int_handler)
@@ -18,6 +19,7 @@ room = tempfile.TemporaryDirectory(prefix="apf-test-")
 
 # what `rt` does in a run of `test`: it notes the call, and `ci` may build the program, change a source, or fail
 RT_OF_TEST = r"""#!/usr/bin/env bash
+[ "$1" != version ] || { echo "$KIT"; exit; }
 echo "$1" >>"$NOTES"
 make() { mkdir -p "$1" && printf '#!/bin/sh\n' >"$1/apf" && chmod +x "$1/apf"; }
 case $1 in
@@ -55,9 +57,13 @@ def test_of(name, *scripts, processors=2):
     return top
 
 
-def begun(top, ci, does="builds"):
+KIT = re.search(r'^kit="(.*)"$', open(LAUNCHER).read(), re.M)[1]
+
+
+def begun(top, ci, does="builds", kit=KIT):
     path = os.path.join(top, "bin") + os.pathsep + os.environ["PATH"]
-    environment = dict(os.environ, PATH=path, NOTES=os.path.join(top, "notes"), SAYS=ci[0], STATUS=str(ci[1]), DOES=does)
+    environment = {key: value for key, value in os.environ.items() if key != "APF_BUILD"}
+    environment.update(PATH=path, NOTES=os.path.join(top, "notes"), SAYS=ci[0], STATUS=str(ci[1]), DOES=does, KIT=kit)
     return subprocess.Popen(
         [os.path.join(top, "test")], stdin=subprocess.DEVNULL, stdout=subprocess.PIPE, stderr=subprocess.PIPE, env=environment, text=True
     )
@@ -99,6 +105,21 @@ for name, does, want in [
     status, lines, calls = tested(name, WELL, WELL, does=does)
     tally.check(f"test: {name}", (status, lines[-1], calls), want)
 
+# a stored program of these sources does not stand for the one that is built, and that there is none is said before anything takes long
+top = test_of("a stored program", WELL)
+write(os.path.join(top, "program", "x86_64-linux", "apf"), "#!/bin/sh\n", 0o755)
+of = subprocess.run(["bash", "-c", '. "$1"; made_of', "", os.path.join(top, "apf")], capture_output=True, text=True).stdout
+write(os.path.join(top, "program", "x86_64-linux", "made-of"), of)
+running = begun(top, WELL, does="")
+lines = running.communicate(timeout=60)[0].split("\n")[:-1]
+tally.check("test: a stored program is not taken", open(os.path.join(top, "notes")).read().split(), ["ci", "run"])
+tally.check("test: and its hash is that of the sources", [it for it in lines if "program/store" in it], [])
+status, lines, calls = tested("no stored program", WELL, WELL)
+tally.check("test: says how to store it", [it for it in lines[:3] if "program/store stores it anew" in it], lines[1:2])
+top = test_of("another kit", WELL)
+lines = begun(top, WELL, kit="rattle-kit-0").communicate(timeout=60)[0].split("\n")[:-1]
+tally.check("test: another kit", (lines[-1], os.path.exists(os.path.join(top, "notes"))), ("0 passed, 1 failed", False))
+
 # side by side: each of two scripts waits for the other one, and what each says stands whole, in the order of their names
 MEETS = "open('met-%d', 'w').close()\nfor _ in range(400): os.path.exists('met-%d') or time.sleep(0.05)\nmet = os.path.exists('met-%d')"
 both = [("1 passed, 0 failed", "0 if met else 1", MEETS % (one, other, other)) for one, other in ((0, 1), (1, 0))]
@@ -107,7 +128,7 @@ tally.check("test: scripts run side by side", (status, lines[-1]), (0, "5 passed
 late = ("late\n1 passed, 0 failed", 0, "print('begins', flush=True)\ntime.sleep(1)")
 status, lines, calls = tested("in order", WELL, late, ("soon\n1 passed, 0 failed", 0))
 want = ["== python3 tests/0.py", "begins", "late", "1 passed, 0 failed", "== python3 tests/1.py", "soon", "1 passed, 0 failed", "5 passed, 0 failed"]
-tally.check("test: what each script says stands whole, in order", (status, lines[3:]), (0, want))
+tally.check("test: what each script says stands whole, in order", (status, lines[lines.index(want[0]):]), (0, want))
 
 # no more at once than there are processors
 alone = ("1 passed, 0 failed", 0, "os.mkdir('busy')\ntime.sleep(0.3)\nos.rmdir('busy')")

@@ -10,14 +10,20 @@ LAUNCHER = os.path.join(TOP, "apf")
 
 
 def build():
-    """The built program's path; the launcher builds it where that is needed. APF_PROGRAM names another one to test."""
+    """The path of the program that the launcher runs, which is built where that is needed. APF_PROGRAM names another one to test."""
     if os.environ.get("APF_PROGRAM"):
         return os.path.abspath(os.environ["APF_PROGRAM"])
     if subprocess.run([LAUNCHER, "hash", "", ""], stdout=subprocess.DEVNULL).returncode != 0:
         # the launcher has said why
         print("0 passed, 1 failed")
         sys.exit(1)
-    return os.path.join(TOP, "crates", "apf", "out", "apf")
+    try:
+        # its note of what it chose
+        with open(os.path.join(TOP, "crates", "apf", "out", "apf.seen")) as note:
+            return note.readline().rstrip("\n")
+    except OSError:
+        # a checkout that can't be written
+        return LAUNCHER
 
 
 def is_stale(program):

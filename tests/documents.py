@@ -112,12 +112,12 @@ inside = "".join(line.removeprefix("    ") + "\n" for line in source.split("\n")
 tally.check("README.md: the example of the library", [len(shown), *(body in inside for body in shown)], [1, True])
 
 # the planted bugs are as many as the README says
-edits = sum(name.endswith(".edit") for _, _, names in os.walk(os.path.join(TOP, "crates")) for name in names)
+edits = sum(name.endswith(".edit") for folder in ("crates", "planted") for _, _, names in os.walk(os.path.join(TOP, folder)) for name in names)
 tally.check("README.md: the number of planted bugs", re.findall(r"(\d+) planted bugs", page), [str(edits)])
 
 # the crates of docs/ARCHITECTURE.md are those of crates.txt, and stand on the same ones
-page = open(os.path.join(TOP, "docs", "ARCHITECTURE.md"), encoding="utf-8").read().split("# The finished product")[0]
-shown = {name: sorted(re.findall(r"`(\w+)`", below)) for name, below in re.findall(r"^\| `(\w+)` \|[^|]*\|([^|]*)\|[^|]*\|$", page, re.M)}
+page = open(os.path.join(TOP, "docs", "ARCHITECTURE.md"), encoding="utf-8").read()
+shown = {name: sorted(re.findall(r"`(\w+)`", below)) for name, below in re.findall(r"^\| `(apf\w*)` \|[^|]*\|([^|]*)\|$", page, re.M)}
 listed = {}
 for line in open(os.path.join(TOP, "crates.txt"), encoding="utf-8"):
     head, _, below = line.split("#")[0].partition(":")

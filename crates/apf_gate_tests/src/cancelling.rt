@@ -1,23 +1,24 @@
 //! Eight Stations cancel one request, in threads of their own: all are told the same.
 
-ghost use denote.Param.Send.{IsSync};
-ghost use Rattle.std.specs.Prelude.{◌≡◌, ◌<◌, length, All, None};
-ghost use Rattle.apf_gate.specs.declared.record.Service.TheVariants.{Waiting};
-ghost use Rattle.apf_gate.specs.Records.{service};
+ghost use Rattle.std.specs.Prelude.{◌≡◌, ◌<◌, length};
 ghost use Rattle.apf_gate.specs.Tokens.{desk_gate, station_gate};
 
-use crate::gates::waiting;
+use crate::crews::{DeskWork, StationWork};
+use crate::desks::Keeper;
 use crate::rounds::{ENOUGH, MOST_ROUNDS, Start, pass_time, turns};
-use apf_gate::{Desk, Gate, Station, TryGrant};
+use crate::stand::Stand;
+use crate::stations;
+use apf_gate::{Gate, Station, TryGrant};
 use apf_words::Decision;
 use std::alloc::Global;
+use std::process::Abort;
+use std::sync::Wait;
 use std::sync::atomic::{AtomicU64, Ordering};
-use std::thread;
-use std::thread::{Threads, join_mut};
+use std::thread::Threads;
 
-// What the threads of one round share.
+/// What the threads of one round share.
 #[derive(Drop)]
-struct Round {
+pub struct Round {
     number: u32,
     start: Start,
     threads: u64,
@@ -39,170 +40,183 @@ impl Round {
     }
 }
 
-// What the Desk did with the request.
-#[derive(Clone, Copy, Debug, PartialEq, Eq)]
-enum Served {
-    // It wrote execute.
+/// What the Desk did with the request.
+#[derive(Clone, Copy)]
+pub enum Served {
+    /// It wrote execute.
     Executed,
-    // It found the request undecided and granted it, and it was cancelled before the decision was written.
+    /// It found the request undecided and granted it, and it was cancelled before the decision was written.
     Overtaken,
-    // It found the request cancelled in line.
+    /// It found the request cancelled in line.
     Left,
-    // It could not grant the request.
+    /// It could not grant the request.
     NotGranted,
 }
 
-// A Station reads the first request's decision and cancels it, each at its own time.
-fn cancel(gate: &Gate<Global>, round: &Round, thread: usize, station: &mut Station)
+/// A Station reads the first request's decision and cancels it, each at its own time.
+pub fn cancel(gate: &Gate<Global>, round: &Round, thread: usize, station: &mut Station)
     requires some { 0 < length gate.now.shape.widths }
     requires own { station_gate station.old ≡ gate.now }
     ensures { station_gate station.new ≡ gate.now }
 {
     round.start.wait_for(round.threads);
     pass_time(turns(round.number, thread));
-    if gate.read(station, 0).is_none() {
+    if stations::read(gate, station, 0).is_none() {
         round.undecided.fetch_add(1, Ordering::SeqCst);
     }
     pass_time(turns(round.number.wrapping_add(1), thread));
-    if gate.cancel(station, 0) == Decision::Cancelled {
+    if stations::cancel(gate, station, 0) == Decision::Cancelled {
         round.cancelled.fetch_add(1, Ordering::SeqCst);
     }
 }
 
-// Each Station cancels the first request, in a thread of its own.
-fn cancel_all<R: Threads + Sync>(
-    rt: &R,
-    gate: &Gate<Global>,
-    round: &Round,
-    stations: &mut [Station],
-)
+/// The Desk serves the first request, which waits: lets it leave if it is cancelled, and else grants it and
+/// writes execute. It is early to read, so that some rounds find the request undecided, and at its own time to
+/// write.
+pub fn serve(gate: &Gate<Global>, round: &Round, desk: &mut Keeper) -> Served
     requires some { 0 < length gate.now.shape.widths }
-    requires own { All (λ t. station_gate t ≡ gate.now) stations.old }
-    ensures count { length stations.new ≡ length stations.old }
-    ensures own { All (λ t. station_gate t ≡ gate.now) stations.new }
-{
-    thread::for_each_mut(
-        rt,
-        stations,
-        8,
-        &|k, station| cancel(gate, round, k, station),
-    );
-}
-
-// The Desk serves the first request, which waits: lets it leave if it is cancelled, and else grants it and
-// writes execute. It is early to read, so that some rounds find the request undecided, and at its own time to
-// write.
-fn serve(gate: &Gate<Global>, round: &Round, desk: &mut Desk) -> Served
-    requires some { 0 < length gate.now.shape.widths }
-    requires own { desk_gate desk.old ≡ gate.now }
-    requires waits { service desk.old.desk 0 ≡ Waiting }
-    requires holds_none { desk.old.desk.held ≡ None }
-    ensures { desk_gate desk.new ≡ gate.now }
+    requires own { desk_gate desk.old.desk ≡ gate.now }
+    ensures { desk_gate desk.new.desk ≡ gate.now }
 {
     round.start.wait_for(round.threads);
     pass_time(turns(round.number, 8) / 8);
-    if gate.seen(desk, 0) == Some(Decision::Cancelled) {
-        gate.leave(desk, 0);
-        return Served::Left;
+    if desk.seen(gate, 0) == Some(Decision::Cancelled) {
+        return leave(gate, desk);
     }
-    let TryGrant::Granted = gate.try_grant(desk, 0) else {
+    if desk.grant(gate, 0) != Some(TryGrant::Granted) {
         return Served::NotGranted;
-    };
-    pass_time(turns(round.number.wrapping_add(1), 8));
-    if gate.settle(desk) == Decision::Execute {
-        return Served::Executed;
     }
-    gate.give_back(desk);
-    Served::Overtaken
+    pass_time(turns(round.number.wrapping_add(1), 8));
+    settle(gate, desk)
 }
 
-// The first request is served in one thread, and cancelled in eight others.
-fn serve_beside_cancels<R: Threads + Sync>(
-    rt: &R,
-    gate: &Gate<Global>,
-    round: &Round,
-    desk: &mut Desk,
-    stations: &mut [Station],
-) -> Served
+// The Desk lets the first request leave, which it saw cancelled.
+fn leave(gate: &Gate<Global>, desk: &mut Keeper) -> Served
     requires some { 0 < length gate.now.shape.widths }
-    requires desk { desk_gate desk.old ≡ gate.now }
-    requires waits { service desk.old.desk 0 ≡ Waiting }
-    requires holds_none { desk.old.desk.held ≡ None }
-    requires stations { All (λ t. station_gate t ≡ gate.now) stations.old }
-    ensures desk { desk_gate desk.new ≡ gate.now }
-    ensures count { length stations.new ≡ length stations.old }
-    ensures stations { All (λ t. station_gate t ≡ gate.now) stations.new }
+    requires own { desk_gate desk.old.desk ≡ gate.now }
+    ensures { desk_gate desk.new.desk ≡ gate.now }
 {
-    let (served, _) = join_mut(
-        rt,
-        &mut || serve(gate, round, desk),
-        &mut ||
-            requires { IsSync R.row × (0 < length gate.now.shape.widths) × All (λ t. station_gate t ≡ gate.now) stations.now }
-            ensures { (length stations.exit.now ≡ length stations.entry.now) × All (λ t. station_gate t ≡ gate.entry.now) stations.exit.now }
-        { cancel_all(rt, gate, round, stations) },
-    );
-    served
+    match desk.leave(gate, 0) {
+        Some(()) => Served::Left,
+        None => Served::NotGranted,
+    }
+}
+
+// The Desk writes execute of the request that it holds, or gives its seats back.
+fn settle(gate: &Gate<Global>, desk: &mut Keeper) -> Served
+    requires { desk_gate desk.old.desk ≡ gate.now }
+    ensures { desk_gate desk.new.desk ≡ gate.now }
+{
+    if desk.settle(gate) == Some(Decision::Execute) {
+        return Served::Executed;
+    }
+    match desk.give_back(gate) {
+        Some(()) => Served::Overtaken,
+        None => Served::NotGranted,
+    }
+}
+
+// How often each order of the threads came.
+#[derive(Drop)]
+struct Orders {
+    executed: u64,
+    overtaken: u64,
+    left: u64,
+    // The Stations that read the request undecided and were told that it executes.
+    overtaken_stations: u64,
+}
+
+impl Orders {
+    // Counts a round in which the Desk did so, and asserts that all were told the same.
+    fn count<R: Abort>(&mut self, rt: &R, round: &Round, served: Served) -> Decision {
+        let cancelled = round.cancelled.load(Ordering::SeqCst);
+        match served {
+            Served::Executed => {
+                assert_eq!(rt; cancelled, 0);
+                self.executed = self.executed.saturating_add(1);
+                let undecided = round.undecided.load(Ordering::SeqCst);
+                self.overtaken_stations = self.overtaken_stations.saturating_add(undecided);
+                return Decision::Execute;
+            }
+            Served::Overtaken => self.overtaken = self.overtaken.saturating_add(1),
+            Served::Left => self.left = self.left.saturating_add(1),
+            Served::NotGranted => panic!(rt; "there is room"),
+        }
+        assert_eq!(rt; cancelled, 8);
+        Decision::Cancelled
+    }
+
+    // Whether each order came often enough.
+    fn are_enough(&self) -> bool {
+        self.executed
+            .min(self.overtaken)
+            .min(self.left)
+            .min(self.overtaken_stations)
+            >= ENOUGH
+    }
+}
+
+// Asserts that so many came, which is enough.
+fn is_enough<R: Abort>(rt: &R, count: u64, what: &str) {
+    assert!(rt; count >= ENOUGH, "{count} {what}");
+}
+
+// One round in which the Desk grants the request while eight cancel it.
+fn cancel_beside_grant<R: Threads + Wait + Abort + Sync>(
+    rt: &R,
+    alloc: Global,
+    number: u32,
+    orders: &mut Orders,
+) {
+    let mut stand = Stand::waiting(rt, alloc, 8);
+    let round = Round::new(number, 9);
+    let work = (DeskWork::Serve(&round), StationWork::Cancel(&round));
+    let served = stand.desk_beside_stations(rt, work);
+    let decision = orders.count(rt, &round, served);
+    stand.told(rt, 0, Some(decision));
+    if decision == Decision::Execute {
+        stand.release(rt, 0, false);
+    }
+    let words = stand.end(rt, alloc);
+    words.decision(rt, 0, Some(decision));
+    words.has(rt, 0, 0);
 }
 
 // All are told the same. The Desk executes the request, also where a Station read it undecided before; a
 // cancel comes between the Desk's reading and its writing; and a cancel comes before both.
 #[test]
 fn eight_cancel_while_the_desk_grants(rt: HostRuntime) {
-    let mut executed = 0u64;
-    let mut overtaken = 0u64;
-    let mut left = 0u64;
-    let mut overtaken_stations = 0u64;
+    let mut orders = Orders {
+        executed: 0,
+        overtaken: 0,
+        left: 0,
+        overtaken_stations: 0,
+    };
     for number in 0..MOST_ROUNDS {
-        let Some((gate, mut desk, mut passes, mut stations)) = waiting(rt.alloc(), 8) else {
-            panic!(rt; "opens")
-        };
-        let round = Round::new(number, 9);
-        let served = serve_beside_cancels(&rt, &gate, &round, &mut desk, stations.as_mut_slice());
-        let decision = gate.told(&mut passes[0]);
-        let cancelled = round.cancelled.load(Ordering::SeqCst);
-        match served {
-            Served::Executed => {
-                assert_eq!(rt; decision, Some(Decision::Execute));
-                assert_eq!(rt; cancelled, 0);
-                executed = executed.saturating_add(1);
-                let undecided = round.undecided.load(Ordering::SeqCst);
-                overtaken_stations = overtaken_stations.saturating_add(undecided);
-            }
-            Served::Overtaken => {
-                assert_eq!(rt; decision, Some(Decision::Cancelled));
-                assert_eq!(rt; cancelled, 8);
-                overtaken = overtaken.saturating_add(1);
-            }
-            Served::Left => {
-                assert_eq!(rt; decision, Some(Decision::Cancelled));
-                assert_eq!(rt; cancelled, 8);
-                left = left.saturating_add(1);
-            }
-            Served::NotGranted => panic!(rt; "there is room"),
-        }
-        if let Some(Decision::Execute) = decision {
-            assert_eq!(rt; gate.release(&mut passes[0]), false);
-        }
-        let Ok(words) = gate.end(rt.alloc(), desk, passes, stations) else {
-            panic!(rt; "memory")
-        };
-        assert_eq!(rt; words.decision(0), decision);
-        assert_eq!(rt; words.level().seats(), 0);
-        assert_eq!(rt; words.level().waiters(), 0);
-        if executed.min(overtaken).min(left).min(overtaken_stations) >= ENOUGH {
+        cancel_beside_grant(&rt, rt.alloc(), number, &mut orders);
+        if orders.are_enough() {
             break;
         }
     }
-    assert!(rt; executed >= ENOUGH, "{executed} executed");
-    assert!(rt;
-        overtaken >= ENOUGH,
-        "{overtaken} cancelled after the grant"
-    );
-    assert!(rt; left >= ENOUGH, "{left} cancelled in line");
-    assert!(rt;
-        overtaken_stations >= ENOUGH,
-        "{overtaken_stations} overtaken"
-    );
+    is_enough(&rt, orders.executed, "executed");
+    is_enough(&rt, orders.overtaken, "cancelled after the grant");
+    is_enough(&rt, orders.left, "cancelled in line");
+    is_enough(&rt, orders.overtaken_stations, "overtaken");
+}
+
+// One round in which eight cancel the request. Says whether two or more read it undecided.
+fn cancel_all<R: Threads + Wait + Abort + Sync>(rt: &R, alloc: Global, number: u32) -> bool {
+    let mut stand = Stand::waiting(rt, alloc, 8);
+    let round = Round::new(number, 8);
+    stand.stations_work(rt, StationWork::Cancel(&round));
+    assert_eq!(rt; round.cancelled.load(Ordering::SeqCst), 8);
+    stand.told(rt, 0, Some(Decision::Cancelled));
+    stand.seen(rt, 0, Some(Decision::Cancelled));
+    stand.leave(rt, 0);
+    let words = stand.end(rt, alloc);
+    words.has(rt, 0, 0);
+    words.decision(rt, 0, Some(Decision::Cancelled));
+    round.undecided.load(Ordering::SeqCst) >= 2
 }
 
 // All are told that it is cancelled. In a round in which two or more read it undecided, all but one of them
@@ -211,27 +225,12 @@ fn eight_cancel_while_the_desk_grants(rt: HostRuntime) {
 fn eight_cancel_a_request_that_waits(rt: HostRuntime) {
     let mut raced = 0u64;
     for number in 0..MOST_ROUNDS {
-        let Some((gate, mut desk, mut passes, mut stations)) = waiting(rt.alloc(), 8) else {
-            panic!(rt; "opens")
-        };
-        let round = Round::new(number, 8);
-        cancel_all(&rt, &gate, &round, stations.as_mut_slice());
-        assert_eq!(rt; round.cancelled.load(Ordering::SeqCst), 8);
-        assert_eq!(rt; gate.told(&mut passes[0]), Some(Decision::Cancelled));
-        let Some(Decision::Cancelled) = gate.seen(&mut desk, 0) else {
-            panic!(rt; "cancelled")
-        };
-        gate.leave(&mut desk, 0);
-        let Ok(words) = gate.end(rt.alloc(), desk, passes, stations) else {
-            panic!(rt; "memory")
-        };
-        assert_eq!(rt; words.level().seats(), 0);
-        assert_eq!(rt; words.level().waiters(), 0);
-        assert_eq!(rt; words.decision(0), Some(Decision::Cancelled));
-        raced = raced.saturating_add(u64::from(round.undecided.load(Ordering::SeqCst) >= 2));
+        if cancel_all(&rt, rt.alloc(), number) {
+            raced = raced.saturating_add(1);
+        }
         if raced >= ENOUGH {
             break;
         }
     }
-    assert!(rt; raced >= ENOUGH, "{raced} raced");
+    is_enough(&rt, raced, "raced");
 }

@@ -1,6 +1,13 @@
 //! The tests of `apf_gate`, by its public calls alone.
 //!
-//! They stand in a crate of their own, as a crate with tests is proved twice. In one thread:
+//! They stand in a crate of their own, as a crate with tests is proved twice. What they share:
+//!
+//! - `stage`: how far a token is. It is no test itself, as `specs/` name it.
+//! - `requests`, `desks`, `stations`: the calls of each kind of token, with no more in their contracts than tests need.
+//! - `stand`: a gate with all its tokens. `endings`: what its words say at its end.
+//! - `rounds`: delays, and where threads begin together. `crews`: the threads, each with tokens of its own.
+//!
+//! In one thread:
 //!
 //! - `rows`: worked examples, from a gate's opening to its end, `cancels` those of cancelled requests.
 //! - `levels`: over-wide requests, levels without queues, limits. `refusals`: closing and refusing.
@@ -9,8 +16,7 @@
 //! - `parking`: nobody sleeps on a request that is decided.
 //!
 //! In threads beside one another, whose steps come in any order. Such a test says which orders it is for,
-//! makes rounds until each of them came (`rounds` has the delays between them, `gates` what they begin with),
-//! and fails if one never does:
+//! makes rounds until each of them came, and fails if one never does:
 //!
 //! - `serving`: requests that take seats while limits change.
 //! - `cancelling`: eight that cancel a request which waits, or which the Desk grants.
@@ -25,9 +31,13 @@ mod cancels;
 #[cfg(test)]
 mod closing;
 #[cfg(test)]
-mod faults;
+mod crews;
 #[cfg(test)]
-mod gates;
+mod desks;
+#[cfg(test)]
+mod endings;
+#[cfg(test)]
+mod faults;
 #[cfg(test)]
 mod levels;
 #[cfg(test)]
@@ -36,6 +46,8 @@ mod memory;
 mod parking;
 #[cfg(test)]
 mod refusals;
+#[cfg(test)]
+mod requests;
 #[cfg(test)]
 mod rounds;
 #[cfg(test)]
@@ -46,3 +58,10 @@ mod serving;
 mod sizes;
 #[cfg(test)]
 mod sleeping;
+mod stage;
+#[cfg(test)]
+mod stand;
+#[cfg(test)]
+mod stations;
+
+pub use stage::{Serving, Stage};

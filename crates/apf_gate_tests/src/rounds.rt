@@ -10,6 +10,9 @@ pub const MOST_ROUNDS: u32 = 2_000;
 /// How often each order has to come before the rounds end.
 pub const ENOUGH: u64 = 10;
 
+/// How often at most a thread looks for what another is to do.
+pub const MOST_TURNS: u32 = 100_000_000;
+
 /// How long a thread waits in a round, in turns: 0 to 8,191, spread evenly over the rounds.
 pub fn turns(round: u32, thread: usize) -> u64 {
     u64::from(round)

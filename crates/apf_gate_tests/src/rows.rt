@@ -1,113 +1,56 @@
 //! Worked examples of a gate, from its opening to its end.
 
-use apf_gate::{Gate, TryEnter, TryGrant, TryTake};
+use crate::stand::Stand;
+use apf_gate::{TryEnter, TryGrant, TryTake};
 use apf_model::Response;
 use apf_words::Decision;
 
 #[test]
 fn plain(rt: HostRuntime) {
-    let Ok((gate, desk, mut passes, stations)) = Gate::open(
-        rt.alloc(),
-        1,
-        &[1, 1],
-        0,
-        Response::Queue,
-    ) else {
-        panic!(rt; "opens")
-    };
-    let TryTake::Taken = gate.try_take(&mut passes[0]) else {
-        panic!(rt; "room")
-    };
-    assert_eq!(rt; gate.try_take(&mut passes[1]), TryTake::NoRoom);
-    assert_eq!(rt;
-        gate.decide(&mut passes[0], Decision::Execute),
-        Decision::Execute
-    );
-    assert_eq!(rt; gate.told(&mut passes[0]), Some(Decision::Execute));
-    assert_eq!(rt; gate.release(&mut passes[0]), false);
-    assert_eq!(rt; gate.try_take(&mut passes[1]), TryTake::Taken);
-    let Ok(words) = gate.end(rt.alloc(), desk, passes, stations) else {
-        panic!(rt; "memory")
-    };
-    assert_eq!(rt; words.level().seats(), 1);
-    assert_eq!(rt; words.decision(0), Some(Decision::Execute));
-    assert_eq!(rt; words.decision(1), None);
+    let mut stand = Stand::open(&rt, rt.alloc(), 1, &[1, 1], 0, Response::Queue);
+    stand.take(&rt, 0, TryTake::Taken);
+    stand.take(&rt, 1, TryTake::NoRoom);
+    stand.decide(&rt, 0, Decision::Execute, Decision::Execute);
+    stand.told(&rt, 0, Some(Decision::Execute));
+    stand.release(&rt, 0, false);
+    stand.take(&rt, 1, TryTake::Taken);
+    let words = stand.end(&rt, rt.alloc());
+    words.seats(&rt, 1);
+    words.decision(&rt, 0, Some(Decision::Execute));
+    words.decision(&rt, 1, None);
 }
 
 #[test]
 fn a_lost_decision(rt: HostRuntime) {
-    let Ok((gate, desk, mut passes, mut stations)) = Gate::open(
-        rt.alloc(),
-        1,
-        &[1, 1],
-        1,
-        Response::Queue,
-    ) else {
-        panic!(rt; "opens")
-    };
-    let TryTake::Taken = gate.try_take(&mut passes[0]) else {
-        panic!(rt; "room")
-    };
-    assert_eq!(rt; gate.cancel(&mut stations[0], 0), Decision::Cancelled);
-    assert_eq!(rt;
-        gate.decide(&mut passes[0], Decision::Execute),
-        Decision::Cancelled
-    );
-    assert_eq!(rt; gate.try_take(&mut passes[1]), TryTake::NoRoom);
-    assert_eq!(rt; gate.release(&mut passes[0]), false);
-    assert_eq!(rt; gate.try_take(&mut passes[1]), TryTake::Taken);
-    let Ok(words) = gate.end(rt.alloc(), desk, passes, stations) else {
-        panic!(rt; "memory")
-    };
-    assert_eq!(rt; words.level().seats(), 1);
-    assert_eq!(rt; words.level().waiters(), 0);
-    assert_eq!(rt; words.decision(0), Some(Decision::Cancelled));
-    assert_eq!(rt; words.decision(1), None);
+    let mut stand = Stand::open(&rt, rt.alloc(), 1, &[1, 1], 1, Response::Queue);
+    stand.take(&rt, 0, TryTake::Taken);
+    stand.cancel(&rt, 0, 0, Decision::Cancelled);
+    stand.decide(&rt, 0, Decision::Execute, Decision::Cancelled);
+    stand.take(&rt, 1, TryTake::NoRoom);
+    stand.release(&rt, 0, false);
+    stand.take(&rt, 1, TryTake::Taken);
+    let words = stand.end(&rt, rt.alloc());
+    words.has(&rt, 1, 0);
+    words.decision(&rt, 0, Some(Decision::Cancelled));
+    words.decision(&rt, 1, None);
 }
 
 #[test]
 fn a_lost_grant(rt: HostRuntime) {
-    let Ok((gate, mut desk, mut passes, mut stations)) = Gate::open(
-        rt.alloc(),
-        1,
-        &[1, 1],
-        1,
-        Response::Queue,
-    ) else {
-        panic!(rt; "opens")
-    };
-    let TryTake::Taken = gate.try_take(&mut passes[0]) else {
-        panic!(rt; "room")
-    };
-    assert_eq!(rt;
-        gate.decide(&mut passes[0], Decision::Execute),
-        Decision::Execute
-    );
-    assert_eq!(rt; gate.ask(&mut passes[1]), None);
-    let TryEnter::Entered = gate.try_enter(&mut desk, &mut passes[1]) else {
-        panic!(rt; "open")
-    };
-    let TryGrant::NoRoom = gate.try_grant(&mut desk, 1) else {
-        panic!(rt; "no room")
-    };
-    assert_eq!(rt; gate.release(&mut passes[0]), true);
-    let TryGrant::Granted = gate.try_grant(&mut desk, 1) else {
-        panic!(rt; "room")
-    };
-    assert_eq!(rt; gate.cancel(&mut stations[0], 1), Decision::Cancelled);
-    let Decision::Cancelled = gate.settle(&mut desk) else {
-        panic!(rt; "cancelled")
-    };
-    gate.give_back(&mut desk);
-    let level = gate.look(&mut stations[0]);
-    assert_eq!(rt; level.closed(), false);
-    assert_eq!(rt; level.waiters(), 0);
-    assert_eq!(rt; level.seats(), 0);
-    let Ok(words) = gate.end(rt.alloc(), desk, passes, stations) else {
-        panic!(rt; "memory")
-    };
-    assert_eq!(rt; words.level().seats(), 0);
-    assert_eq!(rt; words.level().waiters(), 0);
-    assert_eq!(rt; words.decision(0), Some(Decision::Execute));
-    assert_eq!(rt; words.decision(1), Some(Decision::Cancelled));
+    let mut stand = Stand::open(&rt, rt.alloc(), 1, &[1, 1], 1, Response::Queue);
+    stand.take(&rt, 0, TryTake::Taken);
+    stand.decide(&rt, 0, Decision::Execute, Decision::Execute);
+    stand.ask(&rt, 1, None);
+    stand.enter(&rt, 1, TryEnter::Entered);
+    stand.grant(&rt, 1, TryGrant::NoRoom);
+    stand.release(&rt, 0, true);
+    stand.grant(&rt, 1, TryGrant::Granted);
+    stand.cancel(&rt, 0, 1, Decision::Cancelled);
+    stand.settle(&rt, Decision::Cancelled);
+    stand.give_back(&rt);
+    stand.is_idle(&rt, 0);
+    let words = stand.end(&rt, rt.alloc());
+    words.has(&rt, 0, 0);
+    words.decision(&rt, 0, Some(Decision::Execute));
+    words.decision(&rt, 1, Some(Decision::Cancelled));
 }

@@ -1,18 +1,23 @@
 //! Four threads serve requests that take their seats, also while eight others set limits.
 
-ghost use denote.Param.Send.{IsSync};
-ghost use Rattle.std.specs.Prelude.{◌≡◌, ◌≤◌, length, All};
-ghost use Rattle.apf_gate.specs.declared.record.State.TheVariants.{Fresh};
+ghost use Rattle.std.specs.Prelude.{◌≡◌, ◌≤◌};
 ghost use Rattle.apf_gate.specs.Tokens.{pass_gate, station_gate};
 
-use crate::gates::opened;
-use crate::rounds::ENOUGH;
-use apf_gate::{Gate, Pass, Station, TrySetLimit, TryTake, Words};
+use crate::crews::{RequestWork, StationWork};
+use crate::endings::Ended;
+use crate::requests::Request;
+use crate::rounds::{ENOUGH, MOST_TURNS};
+use crate::stand::Stand;
+use crate::stations;
+use apf_gate::{Gate, Station, TrySetLimit, TryTake};
+use apf_model::Response;
 use apf_words::Decision;
 use std::alloc::Global;
+use std::process::Abort;
+use std::sync::Wait;
 use std::sync::atomic::{AtomicU64, Ordering};
 use std::thread;
-use std::thread::{Threads, join_mut};
+use std::thread::Threads;
 
 /// What the threads count.
 #[derive(Drop)]
@@ -48,72 +53,80 @@ impl Counts {
     }
 
     /// The most requests that ran at once.
-    pub fn most(&self) -> u64 {
+    fn most(&self) -> u64 {
         self.most.load(Ordering::SeqCst)
+    }
+
+    // Runs while others may: it is counted from before the seats are given back to after they were taken.
+    fn run(&self) {
+        let others = self.running.fetch_add(1, Ordering::SeqCst);
+        self.most
+            .fetch_max(others.wrapping_add(1), Ordering::SeqCst);
+        thread::yield_now();
+        self.running.fetch_sub(1, Ordering::SeqCst);
+    }
+
+    // Counts what became of an attempt to take seats. Says whether it is to be made again.
+    fn goes_on(&self, answer: Option<TryTake>) -> bool {
+        match answer {
+            Some(TryTake::NoRoom) => {
+                self.no_room.fetch_add(1, Ordering::SeqCst);
+                true
+            }
+            Some(TryTake::Raced) => {
+                self.raced.fetch_add(1, Ordering::SeqCst);
+                true
+            }
+            _ => false,
+        }
+    }
+
+    // Counts what became of an attempt to set a limit. Says whether it was set.
+    fn is_set(&self, answer: TrySetLimit) -> bool {
+        match answer {
+            TrySetLimit::Set(old, false) => {
+                self.set.fetch_add(1, Ordering::SeqCst);
+                self.old.fetch_add(u64::from(old), Ordering::SeqCst);
+                true
+            }
+            TrySetLimit::Set(_, true) => true,
+            TrySetLimit::Raced => {
+                self.set_raced.fetch_add(1, Ordering::SeqCst);
+                false
+            }
+        }
     }
 }
 
-// Runs while others may: it is counted from before the seats are given back to after they were taken.
-fn run(counts: &Counts) {
-    let others = counts.running.fetch_add(1, Ordering::SeqCst);
-    counts
-        .most
-        .fetch_max(others.wrapping_add(1), Ordering::SeqCst);
-    thread::yield_now();
-    counts.running.fetch_sub(1, Ordering::SeqCst);
+// Executes the request, which took its seats, and gives them back.
+fn run(gate: &Gate<Global>, counts: &Counts, request: &mut Request)
+    requires { pass_gate request.old.pass ≡ gate.now }
+    ensures { pass_gate request.new.pass ≡ gate.now }
+{
+    counts.run();
+    request.execute(gate);
+    request.release(gate);
 }
 
-// Takes the request's seats, executes it and gives them back, in at most so many turns.
-fn serve(gate: &Gate<Global>, counts: &Counts, pass: &mut Pass)
-    requires own { pass_gate pass.old ≡ gate.now }
-    requires fresh { pass.old.pass.state ≡ Fresh }
-    ensures { pass_gate pass.new ≡ gate.now }
+/// Takes the request's seats, executes it and gives them back, in at most so many turns.
+pub fn serve(gate: &Gate<Global>, counts: &Counts, request: &mut Request)
+    requires { pass_gate request.old.pass ≡ gate.now }
+    ensures { pass_gate request.new.pass ≡ gate.now }
 {
-    for _turn in 0..100_000_000u32 {
-        match gate.try_take(pass) {
-            TryTake::Taken => {
-                run(counts);
-                gate.decide(pass, Decision::Execute);
-                gate.release(pass);
-                return;
-            }
-            TryTake::NoRoom => {
-                counts.no_room.fetch_add(1, Ordering::SeqCst);
-            }
-            TryTake::Raced => {
-                counts.raced.fetch_add(1, Ordering::SeqCst);
-            }
-            TryTake::Waiters | TryTake::Closed => return,
+    for _turn in 0..MOST_TURNS {
+        let answer = request.take(gate);
+        if answer == Some(TryTake::Taken) {
+            run(gate, counts, request);
+        }
+        if !counts.goes_on(answer) {
+            break;
         }
         thread::yield_now();
     }
 }
 
-// Serves each of these requests, in four threads.
-fn serve_all<R: Threads + Sync>(rt: &R, gate: &Gate<Global>, counts: &Counts, passes: &mut [Pass])
-    requires { All (λ t. (pass_gate t ≡ gate.now) × (t.pass.state ≡ Fresh)) passes.old }
-    ensures count { length passes.new ≡ length passes.old }
-    ensures own { All (λ t. pass_gate t ≡ gate.now) passes.new }
-{
-    thread::for_each_mut(rt, passes, 4, &|_, pass| serve(gate, counts, pass));
-}
-
-/// Serves each request, in four threads.
-pub fn serve_each<R: Threads + Sync>(
-    rt: &R,
-    gate: &Gate<Global>,
-    counts: &Counts,
-    passes: &mut Vec<Pass, Global>,
-)
-    requires { All (λ t. (pass_gate t ≡ gate.now) × (t.pass.state ≡ Fresh)) passes.old.items }
-    ensures count { length passes.new.items ≡ length passes.old.items }
-    ensures own { All (λ t. pass_gate t ≡ gate.now) passes.new.items }
-{
-    serve_all(rt, gate, counts, passes.as_mut_slice());
-}
-
-// Sets limits of 1 to 8 seats a hundred times over, each in at most so many turns.
-fn set_limits(gate: &Gate<Global>, counts: &Counts, station: &mut Station)
+/// Sets limits of 1 to 8 seats a hundred times over, each in at most so many turns.
+pub fn set_limits(gate: &Gate<Global>, counts: &Counts, station: &mut Station)
     requires { station_gate station.old ≡ gate.now }
     ensures { station_gate station.new ≡ gate.now }
 {
@@ -128,125 +141,44 @@ fn set_limit(gate: &Gate<Global>, counts: &Counts, station: &mut Station, limit:
     requires small_limit { limit ≤ 8 }
     ensures { station_gate station.new ≡ gate.now }
 {
-    for _turn in 0..100_000_000u32 {
-        match gate.try_set_limit(station, limit) {
-            TrySetLimit::Set(old, false) => {
-                counts.set.fetch_add(1, Ordering::SeqCst);
-                counts.old.fetch_add(u64::from(old), Ordering::SeqCst);
-                return;
-            }
-            TrySetLimit::Set(_, true) => return,
-            TrySetLimit::Raced => {
-                counts.set_raced.fetch_add(1, Ordering::SeqCst);
-            }
+    for _turn in 0..MOST_TURNS {
+        let answer = stations::set_limit(gate, station, limit);
+        if counts.is_set(answer) {
+            break;
         }
         thread::yield_now();
     }
 }
 
-// Each Station sets limits, in a thread of its own.
-fn set_all<R: Threads + Sync>(
+// Opens a level of two seats with 4,000 requests of one seat, lets them and so many Stations do this, and ends it.
+fn serve_beside<R: Threads + Wait + Abort + Sync>(
     rt: &R,
-    gate: &Gate<Global>,
+    alloc: Global,
     counts: &Counts,
-    stations: &mut [Station],
-)
-    requires { All (λ t. station_gate t ≡ gate.now) stations.old }
-    ensures count { length stations.new ≡ length stations.old }
-    ensures own { All (λ t. station_gate t ≡ gate.now) stations.new }
-{
-    thread::for_each_mut(
+    stations: u32,
+) -> Ended {
+    let Ok(widths) = vec![in alloc; 1u32; 4000] else {
+        panic!(rt; "memory")
+    };
+    let mut stand = Stand::open(rt, alloc, 2, widths.as_slice(), stations, Response::Queue);
+    stand.both_work(
         rt,
-        stations,
-        8,
-        &|_, station| set_limits(gate, counts, station),
+        (RequestWork::Serve(counts), StationWork::SetLimits(counts)),
     );
-}
-
-// The requests are served in four threads, while eight others set limits.
-fn serve_beside_limits<R: Threads + Sync>(
-    rt: &R,
-    gate: &Gate<Global>,
-    counts: &Counts,
-    passes: &mut [Pass],
-    stations: &mut [Station],
-)
-    requires passes { All (λ t. (pass_gate t ≡ gate.now) × (t.pass.state ≡ Fresh)) passes.old }
-    requires stations { All (λ t. station_gate t ≡ gate.now) stations.old }
-    ensures count { (length passes.new ≡ length passes.old) × (length stations.new ≡ length stations.old) }
-    ensures passes { All (λ t. pass_gate t ≡ gate.now) passes.new }
-    ensures stations { All (λ t. station_gate t ≡ gate.now) stations.new }
-{
-    join_mut(
-        rt,
-        &mut ||
-            requires { IsSync R.row × All (λ t. (pass_gate t ≡ gate.now) × (t.pass.state ≡ Fresh)) passes.now }
-            ensures { (length passes.exit.now ≡ length passes.entry.now) × All (λ t. pass_gate t ≡ gate.entry.now) passes.exit.now }
-        { serve_all(rt, gate, counts, passes) },
-        &mut ||
-            requires { IsSync R.row × All (λ t. station_gate t ≡ gate.now) stations.now }
-            ensures { (length stations.exit.now ≡ length stations.entry.now) × All (λ t. station_gate t ≡ gate.entry.now) stations.exit.now }
-        { set_all(rt, gate, counts, stations) },
-    );
-}
-
-// Each request is served in four threads, while each Station sets limits.
-fn serve_each_beside_limits<R: Threads + Sync>(
-    rt: &R,
-    gate: &Gate<Global>,
-    counts: &Counts,
-    passes: &mut Vec<Pass, Global>,
-    stations: &mut Vec<Station, Global>,
-)
-    requires passes { All (λ t. (pass_gate t ≡ gate.now) × (t.pass.state ≡ Fresh)) passes.old.items }
-    requires stations { All (λ t. station_gate t ≡ gate.now) stations.old.items }
-    ensures count { (length passes.new.items ≡ length passes.old.items) × (length stations.new.items ≡ length stations.old.items) }
-    ensures passes { All (λ t. pass_gate t ≡ gate.now) passes.new.items }
-    ensures stations { All (λ t. station_gate t ≡ gate.now) stations.new.items }
-{
-    serve_beside_limits(
-        rt,
-        gate,
-        counts,
-        passes.as_mut_slice(),
-        stations.as_mut_slice(),
-    );
-}
-
-/// How many of the first requests were executed.
-pub fn executed(words: &Words<Global>, count: u32) -> u32
-    requires { count ≤ length words.now.decisions }
-{
-    let mut executed = 0;
-    for r in 0..count {
-        if words.decision(r) == Some(Decision::Execute) {
-            executed += 1;
-        }
-    }
-    executed
+    let words = stand.end(rt, alloc);
+    words.has(rt, 0, 0);
+    assert_eq!(rt; words.executed(), 4000);
+    words
 }
 
 // At most two run at once, and two do. Some find no room, and some that the word changed.
 #[test]
 fn four_threads_on_two_seats(rt: HostRuntime) {
-    let Ok(widths) = vec![in rt.alloc(); 1u32; 4000] else {
-        panic!(rt; "memory")
-    };
     let counts = Counts::new();
     let mut is_seen = false;
     for _round in 0..100u32 {
-        let Some((gate, desk, mut passes, stations)) = opened(rt.alloc(), 2, widths.as_slice(), 0)
-        else {
-            panic!(rt; "opens")
-        };
-        serve_each(&rt, &gate, &counts, &mut passes);
-        let Ok(words) = gate.end(rt.alloc(), desk, passes, stations) else {
-            panic!(rt; "memory")
-        };
-        assert_eq!(rt; words.level().seats(), 0);
-        assert_eq!(rt; words.level().waiters(), 0);
-        assert_eq!(rt; words.level().limit(), 2);
-        assert_eq!(rt; executed(&words, 4000), 4000);
+        let words = serve_beside(&rt, rt.alloc(), &counts, 0);
+        words.limit(&rt, 2);
         assert!(rt; counts.most() <= 2);
         let no_room = counts.no_room.load(Ordering::SeqCst);
         let raced = counts.raced.load(Ordering::SeqCst);
@@ -263,31 +195,14 @@ fn four_threads_on_two_seats(rt: HostRuntime) {
 // 1 to 4: 12 * 36 + 10 = 442.
 #[test]
 fn eight_set_limits_while_four_take(rt: HostRuntime) {
-    let Ok(widths) = vec![in rt.alloc(); 1u32; 4000] else {
-        panic!(rt; "memory")
-    };
     let mut is_seen = false;
     for _round in 0..100u32 {
-        let Some((gate, desk, mut passes, mut stations)) = opened(
-            rt.alloc(),
-            2,
-            widths.as_slice(),
-            8,
-        ) else {
-            panic!(rt; "opens")
-        };
         let counts = Counts::new();
-        serve_each_beside_limits(&rt, &gate, &counts, &mut passes, &mut stations);
-        let Ok(words) = gate.end(rt.alloc(), desk, passes, stations) else {
-            panic!(rt; "memory")
-        };
+        let words = serve_beside(&rt, rt.alloc(), &counts, 8);
         let last = u64::from(words.level().limit());
         assert_eq!(rt; counts.set.load(Ordering::SeqCst), 800);
         assert_eq!(rt; counts.old.load(Ordering::SeqCst).wrapping_add(last), 3538);
-        assert_eq!(rt; words.level().seats(), 0);
-        assert_eq!(rt; words.level().waiters(), 0);
         assert!(rt; (1..=8).contains(&words.level().limit()));
-        assert_eq!(rt; executed(&words, 4000), 4000);
         assert!(rt; counts.most() <= 8);
         let raced = counts.raced.load(Ordering::SeqCst);
         let set_raced = counts.set_raced.load(Ordering::SeqCst);

@@ -1,26 +1,20 @@
 //! The smallest gate and the largest.
 
-use crate::gates::opened;
-use crate::serving::{Counts, executed, serve_each};
+use crate::crews::RequestWork;
+use crate::serving::Counts;
+use crate::stand::Stand;
 use apf_gate::TrySetLimit;
+use apf_model::Response;
 
 #[test]
 fn no_requests(rt: HostRuntime) {
-    let Some((gate, desk, passes, mut stations)) = opened(rt.alloc(), 1, &[], 1) else {
-        panic!(rt; "opens")
-    };
-    assert_eq!(rt; passes.len(), 0);
-    assert_eq!(rt;
-        gate.try_set_limit(&mut stations[0], 3),
-        TrySetLimit::Set(1, false)
-    );
-    let Ok(words) = gate.end(rt.alloc(), desk, passes, stations) else {
-        panic!(rt; "memory")
-    };
-    assert_eq!(rt; words.level().seats(), 0);
-    assert_eq!(rt; words.level().waiters(), 0);
-    assert_eq!(rt; words.level().limit(), 3);
-    assert_eq!(rt; words.level().closed(), false);
+    let mut stand = Stand::open(&rt, rt.alloc(), 1, &[], 1, Response::Queue);
+    assert_eq!(rt; stand.requests.len(), 0);
+    stand.set_limit(&rt, 0, 3, TrySetLimit::Set(1, false));
+    let words = stand.end(&rt, rt.alloc());
+    words.has(&rt, 0, 0);
+    words.limit(&rt, 3);
+    words.closed(&rt, false);
 }
 
 #[test]
@@ -28,19 +22,20 @@ fn ten_thousand_requests(rt: HostRuntime) {
     let Ok(widths) = vec![in rt.alloc(); 1u32; 10_000] else {
         panic!(rt; "memory")
     };
-    let Some((gate, desk, mut passes, stations)) = opened(rt.alloc(), 10_000, widths.as_slice(), 64)
-    else {
-        panic!(rt; "opens")
-    };
-    assert_eq!(rt; passes.len(), 10_000);
-    assert_eq!(rt; passes[9_999].number(), 9_999);
-    assert_eq!(rt; stations.len(), 64);
-    serve_each(&rt, &gate, &Counts::new(), &mut passes);
-    let Ok(words) = gate.end(rt.alloc(), desk, passes, stations) else {
-        panic!(rt; "memory")
-    };
-    assert_eq!(rt; words.level().seats(), 0);
-    assert_eq!(rt; words.level().waiters(), 0);
-    assert_eq!(rt; words.level().limit(), 10_000);
-    assert_eq!(rt; executed(&words, 10_000), 10_000);
+    let mut stand = Stand::open(
+        &rt,
+        rt.alloc(),
+        10_000,
+        widths.as_slice(),
+        64,
+        Response::Queue,
+    );
+    assert_eq!(rt; stand.requests.len(), 10_000);
+    assert_eq!(rt; stand.number(9_999), Some(9_999));
+    assert_eq!(rt; stand.stations.len(), 64);
+    stand.requests_work(&rt, RequestWork::Serve(&Counts::new()));
+    let words = stand.end(&rt, rt.alloc());
+    words.has(&rt, 0, 0);
+    words.limit(&rt, 10_000);
+    assert_eq!(rt; words.executed(), 10_000);
 }

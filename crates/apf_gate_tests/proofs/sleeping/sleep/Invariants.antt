@@ -3,4 +3,4 @@ use Rattle.apf_gate.specs.Tokens.{pass_gate}
 use Rattle.apf_gate_tests.proofs.sleeping.sleep.Given as goal
 
 abbrev pub invariant-loop-turn : goal.invariant-loop-turn
-invariant-loop-turn g l = (pass_gate l.pass ≡ l.gate) × (l.pass.pass.state ≡ l.fn.pass.pass.state) × (l.pass.pass.number ≡ l.request)
+invariant-loop-turn g l = pass_gate l.request.pass ≡ l.gate

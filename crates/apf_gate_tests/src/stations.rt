@@ -1,0 +1,53 @@
+//! The calls of a Station, of which tests need to know no more than that the token stays its gate's.
+
+ghost use Rattle.std.specs.Prelude.{◌≡◌, ◌<◌, ◌≤◌, length};
+ghost use Rattle.apf_words.specs.Limits.{max_limit};
+ghost use Rattle.apf_gate.specs.Tokens.{station_gate};
+
+use apf_gate::{Close, Gate, Station, TrySetLimit};
+use apf_words::{Decision, LevelWord};
+use std::alloc::Global;
+
+/// Reads the level word.
+pub fn look(gate: &Gate<Global>, station: &mut Station) -> LevelWord
+    requires { station_gate station.old ≡ gate.now }
+    ensures { station_gate station.new ≡ gate.now }
+{
+    gate.look(station)
+}
+
+/// Reads a request's decision.
+pub fn read(gate: &Gate<Global>, station: &mut Station, request: u32) -> Option<Decision>
+    requires own { station_gate station.old ≡ gate.now }
+    requires is_request { request < length gate.now.shape.widths }
+    ensures { station_gate station.new ≡ gate.now }
+{
+    gate.read(station, request)
+}
+
+/// Cancels a request.
+pub fn cancel(gate: &Gate<Global>, station: &mut Station, request: u32) -> Decision
+    requires own { station_gate station.old ≡ gate.now }
+    requires is_request { request < length gate.now.shape.widths }
+    ensures { station_gate station.new ≡ gate.now }
+{
+    gate.cancel(station, request)
+}
+
+/// Closes the level.
+pub fn close(gate: &Gate<Global>, station: &mut Station) -> Close
+    requires { station_gate station.old ≡ gate.now }
+    ensures { station_gate station.new ≡ gate.now }
+{
+    gate.close(station)
+}
+
+/// Tries to set the limit.
+pub fn set_limit(gate: &Gate<Global>, station: &mut Station, limit: u32) -> TrySetLimit
+    requires own { station_gate station.old ≡ gate.now }
+    requires some { 1 ≤ limit }
+    requires small { limit ≤ max_limit }
+    ensures { station_gate station.new ≡ gate.now }
+{
+    gate.try_set_limit(station, limit)
+}

@@ -1,4 +1,5 @@
 use apf_files::{Request, RequestFault, read_requests};
+use std::alloc::Global;
 use std::test::Fail;
 
 #[test]

@@ -11,6 +11,8 @@ import time
 sys.path.insert(0, os.path.join(os.path.dirname(os.path.abspath(__file__)), "lib"))
 from harness import LAUNCHER, TOP, Tally, drop_rights, write
 
+# what runs in the background of a shell ignores an interrupt, and so would the builds that are interrupted here
+signal.signal(signal.SIGINT, signal.default_int_handler)
 tally = Tally()
 room = tempfile.TemporaryDirectory(prefix="apf-test-")
 os.chmod(room.name, 0o755)
@@ -88,7 +90,7 @@ class Checkout:
 # the tools that the launcher uses, and no other
 TOOLS = os.path.join(room.name, "tools")
 os.mkdir(TOOLS)
-for tool in ("bash", "sh", "env", "awk", "basename", "cat", "chmod", "cp", "dirname", "find", "mkdir", "readlink", "rm", "sha256sum", "sleep", "sort", "tr", "uname", "xargs"):
+for tool in ("bash", "sh", "env", "awk", "basename", "cat", "chmod", "cp", "dirname", "find", "mkdir", "mv", "readlink", "rm", "sha256sum", "sleep", "sort", "tr", "uname", "xargs"):
     os.symlink(shutil.which(tool), os.path.join(TOOLS, tool))
 
 ALL = ["lib low", "lib middle", "lib apf_cli", "run apf"]

@@ -1,4 +1,4 @@
-"""The worked rows of `crates/apf_cli/src/tests/rows.rt`, which run there with files in memory, on the built program with files of the machine."""
+"""The worked rows of `crates/apf_cli_tests/src/rows.rt`, which run there with files in memory, on the built program with files of the machine."""
 
 import json
 import os
@@ -12,7 +12,7 @@ tally = Tally()
 program = build()
 files = Files()
 
-with open(os.path.join(TOP, "crates", "apf_cli", "src", "tests", "rows.rt")) as source:
+with open(os.path.join(TOP, "crates", "apf_cli_tests", "src", "rows.rt")) as source:
     SOURCE = source.read()
 TEXT = r'"((?:[^"\\]|\\.)*)"'
 

@@ -20,7 +20,7 @@ def build():
     try:
         # its note of what it chose
         with open(os.path.join(TOP, "crates", "apf", "out", "apf.seen")) as note:
-            return note.readline().rstrip("\n")
+            return note.readline().rstrip("\n") or LAUNCHER
     except OSError:
         # a checkout that can't be written
         return LAUNCHER

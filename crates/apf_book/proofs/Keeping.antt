@@ -1,5 +1,5 @@
 -- What keeps the Desk and the log in agreement.
-use Rattle.std.proofs.Common.{◌≡◌, ◌≢◌, ◌↔◌, ℕ, ◌⊎◌, inl, inr, Bool, true, false, not, eqb, List, ◌∷◌, Option, Some, None, refl, sym, ap, ◌∙◌, subst}
+use Rattle.std.proofs.Common.{◌≡◌, ◌≢◌, ◌↔◌, ℕ, ◌⊎◌, inl, inr, Bool, true, false, not, eqb, List, [], ◌∷◌, Option, Some, None, refl, sym, ap, ◌∙◌, subst}
 use Rattle.std.specs.Prelude.{Contains}
 use Rattle.std.proofs.lemmas.Bool.{cases_eq}
 use Rattle.apf_words.specs.declared.decision.Decision.{Decision}
@@ -15,18 +15,21 @@ use Rattle.apf_gate.specs.declared.record.Shape.{Shape}
 use Rattle.apf_gate.specs.declared.record.Service.{Service}
 use Rattle.apf_gate.specs.declared.record.Service.TheVariants.{NotHanded, Handed, RefusedFull, RefusedClosed, Waiting, Held, Settled, Left}
 use Rattle.apf_gate.specs.declared.record.DeskRecord.{DeskRecord}
-use Rattle.apf_gate.specs.Records.{told_of, service_of, service, KnowsMore}
+use Rattle.apf_gate.specs.Records.{told_of, service, KnowsMore}
 use Rattle.apf_gate.specs.Requests as requests
 use Rattle.apf_book.specs.LedgerView.{LedgerView, hand_in, IsLogOf, after}
 use Rattle.apf_book.specs.BookView.{logged, IsKept}
 use Rattle.apf_book.specs.Moves.{Moves}
+use Rattle.apf_book.specs.Said.{saying, Says}
 use Rattle.apf_book.proofs.Puts.{put_here, put_else}
 use Rattle.apf_book.proofs.Knowing.{told_still}
 use Rattle.apf_book.proofs.Lists.{Contains-filter}
+use Rattle.apf_book.proofs.Moving.{moves_same}
 
 -- steps after which the log says what it said
-pub kept_moves : (desk desk' : DeskRecord) (v : LedgerView) (r : ℕ) → IsKept desk v → Moves desk r (logged (service desk r)) desk' → desk'.held ≡ None → IsKept desk' v
-kept_moves desk desk' v r kept moves held = record {
+pub kept_moves : (desk desk' : DeskRecord) (v : LedgerView) (r : ℕ) → IsKept desk v → Moves desk r (logged (service desk r)) desk' → Says [] desk.knows desk'.knows → desk'.held ≡ None → IsKept desk' v
+kept_moves desk desk' v r kept moves says held = record {
+  said = kept.said ∙ sym says.is;
   of_log = kept.of_log;
   did = λ j. elim (cases_eq j r) [
     | inl same ↦ ap (λ (i : ℕ). logged (service desk' i)) same ∙ (moves.here ∙ (kept.did r ∙ ap (λ (i : ℕ). Some (status v.history i)) (sym same)))
@@ -38,17 +41,15 @@ kept_moves desk desk' v r kept moves held = record {
   has_queues = ap (λ (s : Shape). s.response) moves.more.shape ∙ kept.has_queues;
 }
 
--- the Desk learnt more, and did nothing
-pub kept_still : (desk desk' : DeskRecord) (v : LedgerView) → IsKept desk v → (desk'.services ≡ desk.services) × (desk'.held ≡ desk.held) → KnowsMore desk.knows desk'.knows → IsKept desk' v
-kept_still desk desk' v kept same more =
-    kept_moves desk desk' v 0 kept
-    (record { more = more; here = ap (λ (services : List (ℕ × Service)). logged (service_of services 0)) same.0; others = λ j other. ap (λ (services : List (ℕ × Service)). service_of services j) same.0 })
-    (same.1 ∙ kept.holds_none)
+-- steps that did nothing and said nothing
+pub kept_quiet : (desk desk' : DeskRecord) (v : LedgerView) → IsKept desk v → (desk'.services ≡ desk.services) × (desk'.held ≡ desk.held) → KnowsMore desk.knows desk'.knows → Says [] desk.knows desk'.knows → IsKept desk' v
+kept_quiet desk desk' v kept same more says = kept_moves desk desk' v 0 kept (moves_same desk desk' 0 same.0 more) says (same.1 ∙ kept.holds_none)
 
 -- steps after which the log has an event more, which they made
-pub kept_after : (desk desk' : DeskRecord) (v : LedgerView) (e : Event) → IsKept desk v → IsLogOf (after v e) → Moves desk (request_of e) (Some (makes e)) desk' → desk'.held ≡ None
+pub kept_after : (desk desk' : DeskRecord) (v : LedgerView) (e : Event) → IsKept desk v → IsLogOf (after v e) → Moves desk (request_of e) (Some (makes e)) desk' → Says (saying e ∷ []) desk.knows desk'.knows → desk'.held ≡ None
     → (makes e ≡ status_is.Struck → told_of desk'.knows.told (request_of e) ≡ Some Cancelled) → IsKept desk' (after v e)
-kept_after desk desk' v e kept of_log moves held told = record {
+kept_after desk desk' v e kept of_log moves says held told = record {
+  said = ap (λ (xs : List (ℕ × Status)). saying e ∷ xs) kept.said ∙ sym says.is;
   of_log = of_log;
   did = λ j. elim (cases_eq j (request_of e)) [
     | inl same ↦ ap (λ (i : ℕ). logged (service desk' i)) same ∙ (moves.here ∙ (ap (λ (s : Status). Some s) (sym (put_here (status v.history) (request_of e) (makes e))) ∙ ap (λ (i : ℕ). Some (status (e ∷ v.history) i)) (sym same)))
@@ -64,9 +65,9 @@ kept_after desk desk' v e kept of_log moves held told = record {
 }
 
 -- the same, of the log that the ledger has then
-pub kept_logged : (desk desk' : DeskRecord) (v v' : LedgerView) (e : Event) → IsKept desk v → v' ≡ after v e → IsLogOf v' → Moves desk (request_of e) (Some (makes e)) desk' → desk'.held ≡ None
+pub kept_logged : (desk desk' : DeskRecord) (v v' : LedgerView) (e : Event) → IsKept desk v → v' ≡ after v e → IsLogOf v' → Moves desk (request_of e) (Some (makes e)) desk' → Says (saying e ∷ []) desk.knows desk'.knows → desk'.held ≡ None
     → (makes e ≡ status_is.Struck → told_of desk'.knows.told (request_of e) ≡ Some Cancelled) → IsKept desk' v'
-kept_logged desk desk' v v' e kept log sound moves held told = subst (IsKept desk') (sym log) (kept_after desk desk' v e kept (subst IsLogOf log sound) moves held told)
+kept_logged desk desk' v v' e kept log sound moves says held told = subst (IsKept desk') (sym log) (kept_after desk desk' v e kept (subst IsLogOf log sound) moves says held told)
 
 -- what the Desk did, where the log says this
 pub is_waiting : (x : Service) → logged x ≡ Some status_is.Waits → x ≡ Waiting
@@ -161,20 +162,21 @@ pub stays_out : (laws : Statuses) (desk : DeskRecord) (v : LedgerView) (kept : I
 stays_out laws desk v kept r entered new out = entered_logs laws desk v kept r entered (out ∙ sym (not_entered laws desk v kept r new))
 
 -- the Desk heard, and then handed over a request that did not arrive
-module _ (laws : Statuses) (desk heard : DeskRecord) (v : LedgerView) (kept : IsKept desk v) (same : (heard.services ≡ desk.services) × (heard.held ≡ desk.held)) (more : KnowsMore desk.knows heard.knows) (r r' : ℕ) (is : r' ≡ r) (new : has_arrived v.history r ≡ false) where
+module _ (laws : Statuses) (desk heard : DeskRecord) (v : LedgerView) (kept : IsKept desk v) (same : (heard.services ≡ desk.services) × (heard.held ≡ desk.held)) (more : KnowsMore desk.knows heard.knows) (quiet : Says [] desk.knows heard.knows) (r r' : ℕ) (is : r' ≡ r) (new : has_arrived v.history r ≡ false) where
   pub away_heard : logged (service heard r') ≡ Some status_is.Away
-  away_heard = new_away laws heard v (kept_still desk heard v kept same more) r' (subst (λ (i : ℕ). has_arrived v.history i ≡ false) (sym is) new)
+  away_heard = new_away laws heard v (kept_quiet desk heard v kept same more quiet) r' (subst (λ (i : ℕ). has_arrived v.history i ≡ false) (sym is) new)
 
   -- it was refused, and not as full
-  pub kept_refused : (desk' : DeskRecord) → Moves heard r' (Some status_is.Away) desk' → desk'.held ≡ heard.held → IsKept desk' v
-  kept_refused desk' moves held =
-      kept_moves heard desk' v r' (kept_still desk heard v kept same more) (subst (λ (x : Option Status). Moves heard r' x desk') (sym away_heard) moves) (held ∙ (same.1 ∙ kept.holds_none))
+  pub kept_refused : (desk' : DeskRecord) → Moves heard r' (Some status_is.Away) desk' → Says [] heard.knows desk'.knows → desk'.held ≡ heard.held → IsKept desk' v
+  kept_refused desk' moves says held =
+      kept_moves heard desk' v r' (kept_quiet desk heard v kept same more quiet) (subst (λ (x : Option Status). Moves heard r' x desk') (sym away_heard) moves) says (held ∙ (same.1 ∙ kept.holds_none))
 
   -- it entered, or was refused as full
-  pub kept_arrived : (desk' : DeskRecord) (v' : LedgerView) (e : Event) → request_of e ≡ r → v' ≡ after v e → IsLogOf v' → Moves heard r' (Some (makes e)) desk' → desk'.held ≡ heard.held → makes e ≢ status_is.Struck → IsKept desk' v'
-  kept_arrived desk' v' e of log sound moves held other =
-      kept_logged heard desk' v v' e (kept_still desk heard v kept same more) log sound
-      (subst (λ (i : ℕ). Moves heard i (Some (makes e)) desk') (is ∙ sym of) moves) (held ∙ (same.1 ∙ kept.holds_none)) (λ struck. absurd (other struck))
+  pub kept_arrived : (desk' : DeskRecord) (v' : LedgerView) (e : Event) → request_of e ≡ r → v' ≡ after v e → IsLogOf v' → Moves heard r' (Some (makes e)) desk' → Says ((r', makes e) ∷ []) heard.knows desk'.knows → desk'.held ≡ heard.held → makes e ≢ status_is.Struck → IsKept desk' v'
+  kept_arrived desk' v' e of log sound moves says held other =
+      kept_logged heard desk' v v' e (kept_quiet desk heard v kept same more quiet) log sound
+      (subst (λ (i : ℕ). Moves heard i (Some (makes e)) desk') (is ∙ sym of) moves)
+      (subst (λ (i : ℕ). Says ((i, makes e) ∷ []) heard.knows desk'.knows) (is ∙ sym of) says) (held ∙ (same.1 ∙ kept.holds_none)) (λ struck. absurd (other struck))
 
 -- a request whose Pass was never handed over never arrived
 pub never_arrived : (laws : Statuses) (desk : DeskRecord) (v : LedgerView) (kept : IsKept desk v) (r : ℕ) → service desk r ≡ NotHanded → has_arrived v.history r ≡ false
@@ -188,9 +190,9 @@ struck_is_out laws v r q of_log p member =
     let bad : status_is.Struck ≡ status_is.Waits = sym (put_here (status v.history) r status_is.Struck) ∙ waits in cc
 
 -- a head that waits still
-pub kept_head : (laws : Statuses) (desk desk' : DeskRecord) (v : LedgerView) (q r : ℕ) → IsKept desk v → Contains (waiting v.history q) r → Moves desk r (Some status_is.Waits) desk' → desk'.held ≡ None → IsKept desk' v
-kept_head laws desk desk' v q r kept member moves held =
-    kept_moves desk desk' v r kept (subst (λ (x : Option Status). Moves desk r x desk') (sym (ap logged (member_waits laws desk v kept q r member))) moves) held
+pub kept_head : (laws : Statuses) (desk desk' : DeskRecord) (v : LedgerView) (q r : ℕ) → IsKept desk v → Contains (waiting v.history q) r → Moves desk r (Some status_is.Waits) desk' → Says [] desk.knows desk'.knows → desk'.held ≡ None → IsKept desk' v
+kept_head laws desk desk' v q r kept member moves says held =
+    kept_moves desk desk' v r kept (subst (λ (x : Option Status). Moves desk r x desk') (sym (ap logged (member_waits laws desk v kept q r member))) moves) says held
 
 -- a request that was refused as full has no Enter
 pub full_not_entered : (laws : Statuses) (v v' : LedgerView) (r i q : ℕ) → i ≡ r → v' ≡ after v (Full i q) → IsLogOf v' → ¬ ((p : ℕ) × Contains v'.history (Enter r p))

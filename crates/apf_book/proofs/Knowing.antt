@@ -1,15 +1,21 @@
 -- What the Desk knows after several steps.
-use Rattle.std.proofs.Common.{◌≡◌, ℕ, List, [], ◌++◌, Option, Some, None, refl, sym, ap, ◌∙◌, subst}
+use Rattle.std.proofs.Common.{◌≡◌, ◌≢◌, ℕ, List, [], ◌++◌, Option, Some, None, refl, sym, ap, ◌∙◌, subst}
 use Rattle.std.proofs.lemmas.List.{append_assoc}
 use Rattle.apf_words.specs.Fits.{Fits}
 use Rattle.apf_words.specs.Level.{Level}
 use Rattle.apf_words.specs.declared.decision.Decision.{Decision}
+use Rattle.apf_words.specs.declared.decision.Decision.TheVariants.{Cancelled}
+use Rattle.apf_model.specs.World.{width}
+use Rattle.apf_gate.specs.declared.record.Actor.TheVariants.{OfDesk}
 use Rattle.apf_gate.specs.declared.record.Entry.{Entry}
 use Rattle.apf_gate.specs.declared.record.Knowledge.{Knowledge}
 use Rattle.apf_gate.specs.declared.record.DeskRecord.{DeskRecord}
-use Rattle.apf_gate.specs.Records.{told_of, KnowsMore}
+use Rattle.apf_gate.specs.Records.{told_of, told_own, KnowsMore}
+use Rattle.apf_gate.specs.Steps.{Both, SawDecision}
+use Rattle.apf_gate.specs.JoinedSteps.{JoinedLoadsDecision}
 use Rattle.apf_gate.specs.DeskSteps.{DeskLoadsLevel, DeskLoadsDecision}
 use Rattle.apf_book.specs.Moves.{LastTold, LastFound}
+use Rattle.apf_book.proofs.Puts.{put_here}
 
 pub more_same : (known : Knowledge) → KnowsMore known known
 more_same known = record { shape = refl; closed = λ e. e; told = λ r e. refl; trace = ([], refl) }
@@ -30,13 +36,43 @@ told_still a b r decision more told = more.told r (λ none. let bad : ◌≡◌ 
 pub told_then : (a b c : Knowledge) (r : ℕ) (decision : Decision) → KnowsMore a b → LastTold b r decision c → LastTold a r decision c
 told_then a b c r decision more last = record { before = last.before; more = more_then a b last.before more last.more; found = last.found; own = last.own; step = last.step }
 
-pub found_then : (a b c : Knowledge) (width : ℕ) → KnowsMore a b → LastFound b width c → LastFound a width c
-found_then a b c width more last = record { before = last.before; more = more_then a b last.before more last.more; level = last.level; step = last.step; no_room = last.no_room }
+pub found_then : (a b c : Knowledge) (widths : List ℕ) (r : ℕ) → KnowsMore a b → LastFound b widths r c → LastFound a widths r c
+found_then a b c widths r more last = record {
+  before = last.before;
+  more = more_then a b last.before more last.more;
+  found = last.found;
+  between = last.between;
+  read = last.read;
+  not_cancelled = last.not_cancelled;
+  level = last.level;
+  step = last.step;
+  no_room = last.no_room;
+}
 
--- a load of the level word that the width does not fit
-pub load_misses : (desk desk' : DeskRecord) (level : Level) (width : ℕ) → DeskLoadsLevel desk level desk' → ¬ Fits level.seats level.limit width → LastFound desk.knows width desk'.knows
-load_misses desk desk' level width loads no_room =
-    subst (λ (d : DeskRecord). LastFound desk.knows width d.knows) (sym loads.3) (record { before = desk.knows; more = more_same desk.knows; level = level; step = loads.1; no_room = no_room })
+-- a load of the word of r, and then one of the level word, which r does not fit
+pub loads_miss : (desk between desk' : DeskRecord) (r : ℕ) (found : Option Decision) (level : Level) (widths : List ℕ) → DeskLoadsDecision r desk found between → found ≢ Some Cancelled
+    → DeskLoadsLevel between level desk' → ¬ Fits level.seats level.limit (width widths r) → LastFound desk.knows widths r desk'.knows
+loads_miss desk between desk' r found level widths reads not_cancelled loads no_room =
+    subst (λ (d : DeskRecord). LastFound desk.knows widths r d.knows) (sym loads.3) (record {
+      before = desk.knows;
+      more = more_same desk.knows;
+      found = found;
+      between = between.knows;
+      read = subst (λ (d : DeskRecord). SawDecision OfDesk desk.knows r found found None d.knows) (sym reads.3) reads.1;
+      not_cancelled = not_cancelled;
+      level = level;
+      step = loads.1;
+      no_room = no_room;
+    })
+
+none_or : (x : Option Decision) → (x ≢ None → None ≡ x) → x ≡ None
+none_or None e = refl
+none_or (Some d) e = sym (e (λ some. let bad : ◌≡◌ {A = Option Decision} (Some d) None = some in cc))
+
+-- a Pass that was joined to the Desk at a load of its own word was told what that found
+pub heard_own : (both both' : Both) (found : Option Decision) → JoinedLoadsDecision both found both' → told_own both'.pass ≡ found
+heard_own both both' None loads = ap (λ (b : Both). told_own b.pass) loads.5 ∙ none_or (told_own both.pass) loads.4
+heard_own both both' (Some decision) loads = ap (λ (b : Both). told_own b.pass) loads.5 ∙ put_here (told_of both.pass.knows.told) both.pass.number (Some decision)
 
 -- a load of a decision word that is decided
 pub load_tells : (desk desk' : DeskRecord) (r : ℕ) (decision : Decision) → DeskLoadsDecision r desk (Some decision) desk' → LastTold desk.knows r decision desk'.knows

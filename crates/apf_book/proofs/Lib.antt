@@ -2,6 +2,7 @@ pub mod Opened
 pub mod Puts
 pub mod Knowing
 pub mod Moving
+pub mod Saying
 pub mod Keeping
 pub mod Arriving
 pub mod Turning

@@ -91,8 +91,8 @@ pub moves_to_enter : (both both' : Both) (answer : TryEnter) → TriesToEnter bo
 moves_to_enter both both' entered.Entered tries away = hands_then both tries.2.0 both' tries.0 tries.2.1 (Some status_is.Waits) (enters tries.2.0 both' tries.0 tries.2.2)
 moves_to_enter both both' entered.Closed tries away = moves_says both.desk both'.desk both.pass.number _ _ away (hands both both' tries.0 tries.1)
 moves_to_enter both both' entered.Raced tries away =
-    hands_then both tries.3.0 both' tries.0 tries.3.1 (Some status_is.Away)
-    (moves_says tries.3.0.desk both'.desk tries.3.0.pass.number _ _ (still_away both tries.3.0 tries.0 tries.3.1 away) (hands tries.3.0 both' tries.1 tries.3.2))
+    hands_then both tries.4.0 both' tries.0 tries.4.1 (Some status_is.Away)
+    (moves_says tries.4.0.desk both'.desk tries.4.0.pass.number _ _ (still_away both tries.4.0 tries.0 tries.4.1 away) (hands tries.4.0 both' tries.1 tries.4.2))
 
 -- a refusal, whatever was answered
 pub moves_to_refuse : (both both' : Both) (decision answer : Decision) → RefusesTo both decision answer both' → Moves both.desk both.pass.number (logged (service both'.desk both.pass.number)) both'.desk

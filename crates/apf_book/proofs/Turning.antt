@@ -10,7 +10,6 @@ use Rattle.apf_book.specs.Servings.{with, Serves, HeadMisses}
 use Rattle.apf_book.proofs.Knowing.{found_then}
 use Rattle.apf_gate.specs.declared.record.Knowledge.{Knowledge}
 use Rattle.apf_gate.specs.Records.{KnowsMore}
-use Rattle.apf_model.specs.World.{width}
 
 count-cons : (e : Event) (events : List Event) → count_by is_dispatch (e ∷ events) ≡ cond (is_dispatch e) 1 0 + count_by is_dispatch events
 count-cons e events = sum_by-cons (λ x. cond (is_dispatch x) 1 0) e events
@@ -40,4 +39,4 @@ longer v v' e is = let a = ap (λ (w : LedgerView). length w.history) is in omeg
 
 -- the head misses after earlier turns
 pub misses_then : (v : LedgerView) (a b c : Knowledge) → KnowsMore a b → HeadMisses v b c → HeadMisses v a c
-misses_then v a b c more misses = record { head = misses.head; is_next = misses.is_next; misses = found_then a b c (width v.widths misses.head.request) more misses.misses }
+misses_then v a b c more misses = record { head = misses.head; is_next = misses.is_next; misses = found_then a b c v.widths misses.head.request more misses.misses }

@@ -1,5 +1,5 @@
 -- The Desk and the log agree.
-use Rattle.std.specs.Prelude.{◌≡◌, ℕ, Option, Some, None}
+use Rattle.std.specs.Prelude.{◌≡◌, ℕ, map, Option, Some, None}
 use Rattle.apf_words.specs.declared.decision.Decision.TheVariants.{Cancelled}
 use Rattle.apf_model.specs.declared.response.Response.TheVariants.{Queue}
 use Rattle.apf_history.specs.declared.events.Status.{Status}
@@ -11,6 +11,7 @@ use Rattle.apf_gate.specs.declared.record.DeskRecord.{DeskRecord}
 use Rattle.apf_gate.specs.Records.{told_of, service}
 use Rattle.apf_gate.specs.Tokens.{DeskToken}
 use Rattle.apf_book.specs.LedgerView.{LedgerView, IsLogOf}
+use Rattle.apf_book.specs.Said.{saying, sayings}
 
 -- a book, as contracts see it: the Desk, and the log with what its queues were made of
 pub record BookView : Type 0 where
@@ -34,6 +35,8 @@ pub record IsKept (desk : DeskRecord) (v : LedgerView) : Type 0 where
   -- the log says of each request what the Desk did with it
   pub did : (r : ℕ) → logged (service desk r) ≡ Some (status v.history r)
   pub holds_none : desk.held ≡ None
+  -- the log is what the Desk's steps say, in their order
+  pub said : map saying v.history ≡ sayings desk.knows.trace
   -- the Desk was told cancelled of each struck request
   pub struck : (r : ℕ) → status v.history r ≡ status_is.Struck → told_of desk.knows.told r ≡ Some Cancelled
   pub widths : v.widths ≡ desk.knows.shape.widths

@@ -5,6 +5,7 @@ pub mod Stretch
 pub mod Counted
 pub mod BookView
 pub mod Moves
+pub mod Said
 pub mod Arrivals
 pub mod Servings
 pub mod Laws

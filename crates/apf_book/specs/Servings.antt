@@ -7,7 +7,6 @@ use Rattle.apf_history.specs.declared.events.Event.{Event}
 use Rattle.apf_history.specs.declared.events.Event.TheVariants.{Enter, Full, Dispatch, Strike}
 use Rattle.apf_history.specs.declared.events.Status.{Status}
 use Rattle.apf_history.specs.declared.events.Status.TheVariants as status_is
-use Rattle.apf_model.specs.World.{width}
 use Rattle.apf_model.specs.Outcome.{is_dispatch}
 use Rattle.apf_queue.specs.declared.choice.Chosen.{Chosen}
 use Rattle.apf_gate.specs.declared.record.Knowledge.{Knowledge}
@@ -29,11 +28,11 @@ after_serving served.Raced = Some status_is.Waits
 abbrev pub with : List Event → LedgerView → LedgerView
 with events v = record v { history = events ++ v.history }
 
--- the chosen head does not fit the level word that the Desk's last step, in this call, found
+-- the Desk's last two steps, in this call, did not find the chosen head cancelled, and found a level word that it does not fit
 pub record HeadMisses (v : LedgerView) (known known' : Knowledge) : Type 0 where
   pub head : Chosen
   pub is_next : IsNext v head
-  pub misses : LastFound known (width v.widths head.request) known'
+  pub misses : LastFound known v.widths head.request known'
 
 -- where serving stops: nothing waits, or the chosen head does not fit
 abbrev pub Stops : LedgerView → Knowledge → Knowledge → Type 0

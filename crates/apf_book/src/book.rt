@@ -1,7 +1,8 @@
 //! The book of a level: its queues and its log, with the Desk.
 
-ghost use Rattle.std.specs.Prelude.{◌≡◌, ◌≢◌, ◌↔◌, ℕ, ◌+◌, ◌*◌, ◌<◌, ◌≤◌, [], ◌∷◌, length, map, reverse, true, false, Option, None, Contains, IfOk, IfErr, OnOk};
+ghost use Rattle.std.specs.Prelude.{◌≡◌, ◌≢◌, ◌↔◌, ℕ, ◌+◌, ◌*◌, ◌<◌, ◌≤◌, [], ◌∷◌, length, map, reverse, true, false, Option, Some, None, Contains, IfOk, IfErr, OnOk};
 ghost use Rattle.apf_words.specs.declared.decision.Decision.{Decision};
+ghost use Rattle.apf_words.specs.declared.decision.Decision.TheVariants as decisions;
 ghost use Rattle.apf_history.specs.declared.events.Event.TheVariants as events;
 ghost use Rattle.apf_model.specs.declared.response.Response.TheVariants.{Queue};
 ghost use Rattle.apf_model.specs.History.{has_arrived, waiting};
@@ -103,6 +104,8 @@ impl<A: Allocator> Book<A> {
         ensures first { pass.old.pass.handed ≡ false → has_arrived self.old.ledger.history pass.old.pass.number ≡ false }
         ensures entered { (pass.new.pass.entered ≡ true) ↔ ((q : ℕ) × Contains self.new.ledger.history (events.Enter pass.old.pass.number q)) }
         ensures stays_closed { self.old.desk.desk.knows.saw_closed ≡ true → ¬ SaysOpen result }
+        ensures cancelled_first { told_own pass.old.pass ≡ Some decisions.Cancelled → ¬ SaysOpen result }
+        ensures cancelled_seen { told_own pass.new.pass ≡ Some decisions.Cancelled → ¬ SaysOpen result }
         ensures more { KnowsMore self.old.desk.desk.knows self.new.desk.desk.knows }
         ensures kept { IsKept self.new.desk.desk self.new.ledger }
     {

@@ -1,15 +1,16 @@
 //! An arrival is handed to the Desk.
 
-ghost use Rattle.std.specs.Prelude.{◌≡◌, ◌≢◌, true, false, Some, if◌then◌else◌};
+ghost use Rattle.std.specs.Prelude.{◌≡◌, ◌≢◌, [], ◌∷◌, true, false, Some, if◌then◌else◌};
 ghost use Rattle.apf_words.specs.declared.decision.Decision.TheVariants as decisions;
 ghost use Rattle.apf_model.specs.declared.response.Response.TheVariants.{Queue};
 ghost use Rattle.apf_history.specs.declared.events.Status.TheVariants as status_is;
 ghost use Rattle.apf_gate.specs.declared.record.State.TheVariants.{InLine};
-ghost use Rattle.apf_gate.specs.Records.{service};
+ghost use Rattle.apf_gate.specs.Records.{told_own, service};
 ghost use Rattle.apf_gate.specs.Tokens.{pass_gate, desk_gate};
 ghost use Rattle.apf_gate.specs.DeskCalls.{MayRefuse};
 ghost use Rattle.apf_book.specs.BookView.{logged};
 ghost use Rattle.apf_book.specs.Moves.{Moves};
+ghost use Rattle.apf_book.specs.Said.{Says, said_handing};
 ghost use Rattle.apf_book.specs.Arrivals.{after_handing, is_in, IsRefused};
 
 use apf_gate::{Desk, Gate, Pass, TryEnter};
@@ -43,8 +44,10 @@ fn enter<R: Wait, A: Allocator>(rt: &R, gate: &Gate<A>, desk: &mut Desk, pass: &
     ensures number { pass.new.pass.number ≡ pass.old.pass.number }
     ensures in_line { pass.new.pass.state ≡ InLine }
     ensures moves { Moves desk.old.desk pass.old.pass.number (if result then Some status_is.Waits else Some status_is.Away) desk.new.desk }
+    ensures says { Says (if result then (pass.old.pass.number, status_is.Waits) ∷ [] else []) desk.old.desk.knows desk.new.desk.knows }
     ensures held { desk.new.desk.held ≡ desk.old.desk.held }
     ensures entered { pass.new.pass.entered ≡ result }
+    ensures told { told_own pass.new.pass ≡ told_own pass.old.pass }
     ensures closed { result ≡ false → desk.new.desk.knows.saw_closed ≡ true }
     ensures stays_closed { desk.old.desk.knows.saw_closed ≡ true → result ≡ false }
 {
@@ -76,6 +79,7 @@ fn refuse<A: Allocator>(
     ensures number { pass.new.pass.number ≡ pass.old.pass.number }
     ensures in_line { pass.new.pass.state ≡ InLine }
     ensures moves { Moves desk.old.desk pass.old.pass.number (after_handing result) desk.new.desk }
+    ensures says { Says (said_handing result pass.old.pass.number) desk.old.desk.knows desk.new.desk.knows }
     ensures held { desk.new.desk.held ≡ desk.old.desk.held }
     ensures told { IsRefused result pass.new.pass desk.old.desk.knows desk.new.desk.knows }
     ensures not_entered { (is_in result ≡ false) × (pass.new.pass.entered ≡ false) }
@@ -101,6 +105,7 @@ fn refuse_full<A: Allocator>(gate: &Gate<A>, desk: &mut Desk, pass: &mut Pass) -
     ensures number { pass.new.pass.number ≡ pass.old.pass.number }
     ensures in_line { pass.new.pass.state ≡ InLine }
     ensures moves { Moves desk.old.desk pass.old.pass.number (after_handing result) desk.new.desk }
+    ensures says { Says (said_handing result pass.old.pass.number) desk.old.desk.knows desk.new.desk.knows }
     ensures held { desk.new.desk.held ≡ desk.old.desk.held }
     ensures told { IsRefused result pass.new.pass desk.old.desk.knows desk.new.desk.knows }
     ensures not_entered { (is_in result ≡ false) × (pass.new.pass.entered ≡ false) }
@@ -131,9 +136,11 @@ pub fn hand<R: Wait, A: Allocator>(
     ensures number { pass.new.pass.number ≡ pass.old.pass.number }
     ensures in_line { pass.new.pass.state ≡ InLine }
     ensures moves { Moves desk.old.desk pass.old.pass.number (after_handing result) desk.new.desk }
+    ensures says { Says (said_handing result pass.old.pass.number) desk.old.desk.knows desk.new.desk.knows }
     ensures held { desk.new.desk.held ≡ desk.old.desk.held }
     ensures told { IsRefused result pass.new.pass desk.old.desk.knows desk.new.desk.knows }
     ensures entered { pass.new.pass.entered ≡ is_in result }
+    ensures told_entering { result ≡ Handed.Entered → told_own pass.new.pass ≡ told_own pass.old.pass }
     ensures is_full { result ≡ Handed.Full → full ≡ true }
     ensures has_room { result ≡ Handed.Entered → full ≡ false }
     ensures stays_closed { desk.old.desk.knows.saw_closed ≡ true → (result ≢ Handed.Entered) × (result ≢ Handed.Full) }

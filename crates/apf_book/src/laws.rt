@@ -27,8 +27,9 @@ pub fn every_book_is_kept()
 /// It runs no code: the contract is the law.
 pub fn every_ended_book_agrees()
     ensures { (gate : GateId) (desk : DeskToken) (v : LedgerView) (passes : List PassToken) (stations : List StationToken) (words : WordsView)
-        → desk_gate desk ≡ gate → IsKept desk.desk v → EndsWith gate desk.desk passes stations words → LogAgrees v passes words }
+        → desk_gate desk ≡ gate → IsKept desk.desk v → EndsWith gate desk.desk passes stations words → LogAgrees gate v passes stations words }
 {
+    legal_histories_are_in_order();
     every_book_is_kept();
     every_end_agrees();
 }

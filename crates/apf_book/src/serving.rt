@@ -8,6 +8,7 @@ ghost use Rattle.apf_gate.specs.Records.{told_of, service};
 ghost use Rattle.apf_gate.specs.Tokens.{desk_gate};
 ghost use Rattle.apf_book.specs.Moves.{Moves, LastFound};
 ghost use Rattle.apf_book.specs.Servings.{after_serving};
+ghost use Rattle.apf_book.specs.Said.{Says, said_serving};
 
 use apf_gate::{Desk, Gate, TryGrant};
 use apf_words::Decision;
@@ -34,9 +35,10 @@ pub fn serve<A: Allocator>(gate: &Gate<A>, desk: &mut Desk, request: u32) -> Ser
     requires holds_none { desk.old.desk.held ≡ None }
     ensures gate { desk_gate desk.new ≡ desk_gate desk.old }
     ensures moves { Moves desk.old.desk request (after_serving result) desk.new.desk }
+    ensures says { Says (said_serving result request) desk.old.desk.knows desk.new.desk.knows }
     ensures holds_none { desk.new.desk.held ≡ None }
     ensures struck { result ≡ Served.Struck → told_of desk.new.desk.knows.told request ≡ Some decisions.Cancelled }
-    ensures no_room { result ≡ Served.NoRoom → LastFound desk.old.desk.knows (width gate.now.shape.widths request) desk.new.desk.knows }
+    ensures no_room { result ≡ Served.NoRoom → LastFound desk.old.desk.knows gate.now.shape.widths request desk.new.desk.knows }
 {
     if let Some(Decision::Cancelled) = gate.seen(desk, request) {
         gate.leave(desk, request);
@@ -55,6 +57,7 @@ fn settle<A: Allocator>(gate: &Gate<A>, desk: &mut Desk, request: u32) -> Served
     requires holds { desk.old.desk.held ≡ Some request }
     ensures gate { desk_gate desk.new ≡ desk_gate desk.old }
     ensures moves { Moves desk.old.desk request (after_serving result) desk.new.desk }
+    ensures says { Says (said_serving result request) desk.old.desk.knows desk.new.desk.knows }
     ensures holds_none { desk.new.desk.held ≡ None }
     ensures settled { (result ≡ Served.Dispatched) ⊎ (result ≡ Served.Struck) }
     ensures struck { result ≡ Served.Struck → told_of desk.new.desk.knows.told request ≡ Some decisions.Cancelled }

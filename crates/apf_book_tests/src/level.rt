@@ -28,8 +28,10 @@ pub enum Command {
     Hand(u32),
     /// The request's work is done.
     Finish(u32),
-    /// The request is cancelled.
+    /// The request is cancelled, and struck where it waits.
     Cancel(u32),
+    /// The request is cancelled, and stays in its queue where it waits.
+    CancelAlone(u32),
     /// The level is closed.
     Close,
     /// The level gets this limit, 1 to 10,000 seats.
@@ -131,6 +133,7 @@ impl<A: Allocator, K: Mark> Level<A, K> {
             Command::Hand(request) => self.hand(rt, request),
             Command::Finish(request) => self.finish(rt, request),
             Command::Cancel(request) => self.cancel(rt, request),
+            Command::CancelAlone(request) => self.cancel_alone(request),
             Command::Close => Answer::Close(self.gate.close(&mut self.station)),
             Command::Limit(limit) => self.limit(rt, limit),
         };
@@ -212,6 +215,14 @@ impl<A: Allocator, K: Mark> Level<A, K> {
             self.book.dispatch(rt, &self.gate);
         }
         Answer::Cancel(decision)
+    }
+
+    // The request is cancelled, and nothing is done with its queue.
+    fn cancel_alone(&mut self, request: u32) -> Answer {
+        if request as usize >= self.requests.len() {
+            return Answer::Unknown;
+        }
+        Answer::Cancel(self.gate.cancel(&mut self.station, request))
     }
 
     // The level gets this limit, and where requests wait the heads that fit are dispatched.

@@ -265,3 +265,65 @@ fn closed_and_again(rt: HostRuntime) -> Result<(), Fault> {
     };
     run(&rt, rt.alloc(), &row)
 }
+
+// A request that was cancelled before it came to the book does not enter, though its queue has room.
+#[test]
+fn cancelled_before_it_arrived(rt: HostRuntime) -> Result<(), Fault> {
+    let row = Row {
+        config: settings(1, 1),
+        asks: &[ask(1, 0), ask(1, 0), ask(1, 0)],
+        steps: &[
+            expect(Arrive(0), EXECUTED, &[]),
+            expect(Command::Ask(1), Answer::InLine, &[]),
+            expect(
+                Command::CancelAlone(1),
+                Cancel(Decision::Cancelled),
+                &[],
+            ),
+            expect(Command::Hand(1), Decided(Decision::Cancelled), &[]),
+            expect(Arrive(2), Queued(0), &[Enter(2, 0)]),
+            expect(Finish(0), Finished, &[Dispatch(2, 0)]),
+        ],
+        totals: Totals {
+            open: true,
+            level: [1, 0],
+            decided: [2, 0, 1, 0],
+            rejected: [0, 0, 0],
+            logged: [1, 1, 0],
+        },
+    };
+    run(&rt, rt.alloc(), &row)
+}
+
+// A head that is cancelled and too wide for the level holds nobody up, though nobody strikes it.
+#[test]
+fn cancelled_wide_head(rt: HostRuntime) -> Result<(), Fault> {
+    let row = Row {
+        config: settings(2, 1),
+        asks: &[ask(1, 0), ask(5, 0), ask(1, 0), ask(1, 0)],
+        steps: &[
+            expect(Arrive(0), EXECUTED, &[]),
+            expect(Arrive(1), Queued(0), &[Enter(1, 0)]),
+            expect(Arrive(2), Queued(0), &[Enter(2, 0)]),
+            expect(
+                Command::CancelAlone(1),
+                Cancel(Decision::Cancelled),
+                &[],
+            ),
+            expect(
+                Arrive(3),
+                Queued(0),
+                &[Enter(3, 0), Strike(1, 0), Dispatch(2, 0)],
+            ),
+            expect(Finish(0), Finished, &[Dispatch(3, 0)]),
+        ],
+        totals: Totals {
+            open: true,
+            level: [2, 0],
+            decided: [3, 0, 1, 0],
+            rejected: [0, 0, 0],
+            logged: [3, 2, 1],
+        },
+    };
+    run(&rt, rt.alloc(), &row)
+}

@@ -20,7 +20,7 @@ use Rattle.apf_gate.specs.JoinedSteps.{joined_service, JoinedLoadsLevel, JoinedE
 abbrev pub TriesToGrant : DeskRecord → ℕ → TryGrant → DeskRecord → Type 0
 TriesToGrant desk r granted.NoRoom desk' = (level : Level) × DeskLoadsLevel desk level desk' × (¬ Fits level.seats level.limit (width desk.knows.shape.widths r))
 TriesToGrant desk r granted.Granted desk' = (level : Level) × Fits level.seats level.limit (width desk.knows.shape.widths r) × ((between : DeskRecord) × DeskLoadsLevel desk level between × DeskExchangesLevel r between level desk')
-TriesToGrant desk r granted.Raced desk' = (level other : Level) × (other ≢ level) × ((between : DeskRecord) × DeskLoadsLevel desk level between × DeskLoadsLevel between other desk')
+TriesToGrant desk r granted.Raced desk' = (level other : Level) × (other ≢ level) × Fits level.seats level.limit (width desk.knows.shape.widths r) × ((between : DeskRecord) × DeskLoadsLevel desk level between × DeskLoadsLevel between other desk')
 
 -- one exchange: execute was written of the request that the Desk held, or it was found cancelled
 abbrev pub SettlesTo : DeskRecord → Decision → DeskRecord → Type 0
@@ -44,7 +44,7 @@ MayRefuse desk ConcurrencyLimit = ⊥
 abbrev pub TriesToEnter : Both → TryEnter → Both → Type 0
 TriesToEnter both entered.Closed both' = (level : Level) × JoinedLoadsLevel both level both' × (level.closed ≡ true)
 TriesToEnter both entered.Entered both' = (level : Level) × (level.closed ≡ false) × ((between : Both) × JoinedLoadsLevel both level between × JoinedExchangesLevel between level both')
-TriesToEnter both entered.Raced both' = (level other : Level) × (other ≢ level) × ((between : Both) × JoinedLoadsLevel both level between × JoinedLoadsLevel between other both')
+TriesToEnter both entered.Raced both' = (level other : Level) × (other ≢ level) × (level.closed ≡ false) × ((between : Both) × JoinedLoadsLevel both level between × JoinedLoadsLevel between other both')
 
 -- by the joined token: one exchange wrote the refusal, or found another decision, and that is the answer
 abbrev pub RefusesTo : Both → Decision → Decision → Both → Type 0

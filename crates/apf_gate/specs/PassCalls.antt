@@ -19,7 +19,7 @@ TriesToTake pass tried.Waiters pass' = (level : Level) × PassLoadsLevel pass le
 TriesToTake pass tried.NoRoom pass' = (level : Level) × PassLoadsLevel pass level pass' × (level.closed ≡ false) × (level.waiters ≡ 0) × (¬ Fits level.seats level.limit (own_width pass))
 TriesToTake pass tried.Taken pass' = (level : Level) × (level.closed ≡ false) × (level.waiters ≡ 0) × Fits level.seats level.limit (own_width pass)
     × ((between : PassRecord) × PassLoadsLevel pass level between × PassExchangesLevel between level pass')
-TriesToTake pass tried.Raced pass' = (level other : Level) × (other ≢ level) × ((between : PassRecord) × PassLoadsLevel pass level between × PassMissesLevel between other pass')
+TriesToTake pass tried.Raced pass' = (level other : Level) × (other ≢ level) × (level.closed ≡ false) × (level.waiters ≡ 0) × Fits level.seats level.limit (own_width pass) × ((between : PassRecord) × PassLoadsLevel pass level between × PassMissesLevel between other pass')
 
 -- the Pass may write this decision
 abbrev pub MayWrite : PassRecord → Decision → Type 0

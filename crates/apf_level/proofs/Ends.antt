@@ -1,5 +1,5 @@
 -- What the end of a gate says of a level.
-use Rattle.std.proofs.Common.{◌≡◌, ◌≢◌, ℕ, ◌<◌, inl, List, length, Option, Some, None, refl, sym, ap, ◌∙◌, subst}
+use Rattle.std.proofs.Common.{◌≡◌, ◌≢◌, ℕ, ◌<◌, inl, List, [], length, Option, Some, None, refl, sym, ap, ◌∙◌, subst}
 use Rattle.std.specs.Prelude.{slice_get, slice_index_or, All}
 use Rattle.std.proofs.lemmas.Option.{slice_get-get_or}
 use Rattle.apf_words.specs.declared.decision.Decision.{Decision}
@@ -12,7 +12,8 @@ use Rattle.apf_gate.specs.Records.{told_own, service}
 use Rattle.apf_gate.specs.Tokens.{GateId, PassToken, StationToken, pass_gate}
 use Rattle.apf_gate.specs.Ends.{WordsView, EndAgrees}
 use Rattle.apf_book.specs.LedgerView.{IsLogOf, NothingWaits}
-use Rattle.apf_book.specs.Laws.{decision_in, took_in}
+use Rattle.apf_book.specs.Laws.{decision_in, took_in, EnteredBy, IsMade}
+use Rattle.apf_model.specs.declared.response.Response.TheVariants.{Reject}
 use Rattle.apf_level.specs.Levels.{LevelId, logged_as}
 use Rattle.apf_level.specs.Tokens.{IsDone}
 use Rattle.apf_level.specs.Heard.{IsHeard}
@@ -53,13 +54,16 @@ module _ (k : LevelId) (d : DeskRecord) (w : WordsView) (ps : List PassToken) (s
       let x : IsDone t = subst IsDone any.3 (done any.0 t any.2) in
       x.told (sym is ∙ (ap (decision_in w) any.4 ∙ none))
 
-  pub ended : (h : List Event) → d.held ≡ None → IsLogOf (logged_as k h) → NothingWaits (logged_as k h) → Agrees h (decision_in w) → ExecutesArrivals h (decision_in w) (took_in ps) → Ended k w.level (decision_in w) h ps ss
-  ended h held of_log nobody agrees arrivals = record {
+  pub ended : (h : List Event) → d.held ≡ None → IsLogOf (logged_as k h) → NothingWaits (logged_as k h) → Agrees h (decision_in w) → ExecutesArrivals h (decision_in w) (took_in ps) → All (EnteredBy h) ps → IsMade k.gate h w.level ss → (k.gate.shape.response ≡ Reject → h ≡ []) → Ended k w.level (decision_in w) h ps ss
+  ended h held of_log nobody agrees arrivals entered made logs_nothing = record {
     drained = e.drained (λ i t low. (done i t low).back) held gone;
     of_log = of_log;
     nobody_waits = nobody;
     agrees = agrees;
     arrivals = arrivals;
+    entered = entered;
+    made = made;
+    logs_nothing = logs_nothing;
     each = e.each_pass;
     told = told;
     all_decided = all_decided;

@@ -1,6 +1,6 @@
 -- The end of a level whose Desk served nobody.
 use Rattle.std.proofs.Common.{◌≡◌, ℕ, zero, suc, ◌<◌, inl, inr, Bool, true, false, ◌&&◌, ◌||◌, List, [], ◌∷◌, length, Option, Some, None, refl, sym, ap, ◌∙◌, subst, arith}
-use Rattle.std.specs.Prelude.{Contains, slice_get, slice_index_or}
+use Rattle.std.specs.Prelude.{All, Contains, slice_get, slice_index_or}
 use Rattle.std.proofs.lemmas.Bool.{eq-eqb, cases_lt}
 use Rattle.std.proofs.lemmas.List.{get_or_past}
 use Rattle.std.proofs.lemmas.Option.{slice_get-get_or}
@@ -13,8 +13,15 @@ use Rattle.apf_gate.specs.declared.record.Service.TheVariants as service_is
 use Rattle.apf_gate.specs.declared.record.DeskRecord.{DeskRecord}
 use Rattle.apf_gate.specs.Records.{service, service_of}
 use Rattle.apf_gate.specs.Tokens.{PassToken, StationToken}
-use Rattle.apf_gate.specs.Ends.{WordsView, EndAgrees, ExecutedIt}
-use Rattle.apf_book.specs.Laws.{decision_in, took_in}
+use Rattle.apf_gate.specs.Ends.{WordsView, EndsWith, EndAgrees, ExecutedIt, passes_before, stations_before}
+use Rattle.apf_model.specs.declared.response.Response.{Response}
+use Rattle.apf_model.specs.declared.response.Response.TheVariants.{Queue, Reject}
+use Rattle.apf_gate.specs.declared.record.Record.{Record}
+use Rattle.apf_gate.specs.declared.record.Record.TheVariants.{Pass, Desk}
+use Rattle.apf_gate.specs.declared.record.PassRecord.{PassRecord}
+use Rattle.apf_gate.specs.Requests.{IsPassRecord}
+use Rattle.apf_gate.specs.Rule.{Every, IsRecord}
+use Rattle.apf_book.specs.Laws.{decision_in, took_in, EnteredBy}
 use Rattle.apf_level.specs.Levels.{LevelId}
 
 or_true : (a b : Bool) → b ≡ true → (a || b) ≡ true
@@ -61,3 +68,28 @@ module _ (k : LevelId) (d : DeskRecord) (w : WordsView) (ps : List PassToken) (s
         | inl settled ↦ absurd (let z = idle r service_is.Settled settled in cc)
         | inr any ↦ absurd (let b = sym (took_at ps r any.0 any.1 any.2 any.3 any.4) ∙ took in cc)
       ]
+
+each_of : (P : Record → Type 0) (p : PassToken) (ps : List PassToken) → P (Pass p.pass) → ((i : ℕ) (t : PassToken) → i < length ps → P (Pass (slice_index_or ps i t).pass)) → (i : ℕ) (t : PassToken) → i < length (p ∷ ps) → P (Pass (slice_index_or (p ∷ ps) i t).pass)
+each_of P p ps here there zero t low = here
+each_of P p ps here there (suc i) t low = there i t (omega arith)
+
+every_stations : (P : Record → Type 0) (ts : List StationToken) (rest : List Record) → Every P (stations_before ts rest) → Every P rest
+every_stations P [] rest k = k
+every_stations P (t ∷ ts) rest k = every_stations P ts rest k.1
+
+every_passes : (P : Record → Type 0) (ps : List PassToken) (rest : List Record) → Every P (passes_before ps rest) → (i : ℕ) (t : PassToken) → i < length ps → P (Pass (slice_index_or ps i t).pass)
+every_passes P [] rest k = λ i t low. absurd (omega arith)
+every_passes P (p ∷ ps) rest k = each_of P p ps k.0 (every_passes P ps rest k.1)
+
+no_event : (x : Event) → ¬ Contains [] x
+no_event x c = let l = c.1 in omega arith
+
+-- on a level without queues no Pass entered
+pub nobody_entered : (k : LevelId) (d : DeskRecord) (w : WordsView) (ps : List PassToken) (ss : List StationToken) → EndsWith k.gate d ps ss w → k.gate.shape.response ≡ Reject → All (EnteredBy []) ps
+nobody_entered k d w ps ss ends rejects i t low =
+    let u : PassToken = slice_index_or ps i t in
+    let here = every_passes (IsRecord k.gate.shape ends.account) ps (Desk d ∷ []) (every_stations (IsRecord k.gate.shape ends.account) ss (passes_before ps (Desk d ∷ [])) ends.stand) i t low in
+    let own : IsPassRecord k.gate.shape u.pass = subst (λ (p : PassRecord). IsPassRecord k.gate.shape p) here.1 (ends.sound.request u.pass.number here.0).own in (
+      (λ is. absurd (let bad : ◌≡◌ {A = Response} Queue Reject = sym (own.queues is) ∙ rejects in cc)),
+      (λ logs. absurd (no_event _ logs.1)),
+    )

@@ -1,10 +1,11 @@
 -- Lists of Passes of which each says the same of its request's end.
-use Rattle.std.proofs.Common.{◌≡◌, ℕ, ◌==◌, ◌<◌, ◌&&◌, ◌||◌, Bool, false, Option, List, [], ◌∷◌, length, map, refl, sym, ap, ◌∙◌, subst}
-use Rattle.std.specs.Prelude.{slice_index_or, All, Any}
+use Rattle.std.proofs.Common.{◌≡◌, ◌↔◌, ℕ, ◌==◌, ◌<◌, ◌&&◌, ◌||◌, Bool, true, false, Option, List, [], ◌∷◌, length, map, refl, sym, ap, ◌∙◌, subst}
+use Rattle.std.specs.Prelude.{slice_index_or, All, Any, Contains}
 use Rattle.std.proofs.lemmas.List.{length-map, get_or-map, get_or_default}
 use Rattle.apf_words.specs.Level.{Level}
 use Rattle.apf_words.specs.declared.decision.Decision.{Decision}
 use Rattle.apf_history.specs.declared.events.Event.{Event}
+use Rattle.apf_history.specs.declared.events.Event.TheVariants.{Enter}
 use Rattle.apf_model.specs.Outcome.{ExecutesArrivals}
 use Rattle.apf_gate.specs.Tokens.{PassToken, StationToken}
 use Rattle.apf_book.specs.Laws.{took_in}
@@ -54,6 +55,9 @@ ended_same k level level' f f' h ps ds ss same a b e =
       nobody_waits = e.nobody_waits;
       agrees = e.agrees;
       arrivals = subst (ExecutesArrivals h f) (took_same ps ds same) e.arrivals;
+      made = e.made;
+      logs_nothing = e.logs_nothing;
+      entered = all_same ps ds same (λ (o : Outcome). (o.entered ≡ true) ↔ ((q : ℕ) × Contains h (Enter o.number q))) e.entered;
       each = λ r low. any_same ps ds same (λ (o : Outcome). o.number ≡ r) (e.each r low);
       told = all_same ps ds same (λ (o : Outcome). f o.number ≡ o.told) e.told;
       all_decided = e.all_decided;

@@ -1,5 +1,5 @@
 -- What the calls of a request answer, by the steps that they make in its Pass's record.
-use Rattle.std.specs.Prelude.{◌≡◌, ◌⊎◌, ◌==◌, not, true, false, Some, None}
+use Rattle.std.specs.Prelude.{◌≡◌, ◌≢◌, ◌⊎◌, ◌==◌, not, true, false, Some, None}
 use Rattle.apf_words.specs.Level.{Level}
 use Rattle.apf_words.specs.declared.decision.Decision.{Decision}
 use Rattle.apf_words.specs.declared.decision.Decision.TheVariants as decisions
@@ -40,20 +40,20 @@ abbrev pub admitted_pass : Admit → PassToken
 admitted_pass (admitted.Run token) = token
 admitted_pass (admitted.Over token decision) = token
 
--- the decision that is answered is the one that the Pass was told
+-- the decision that is answered is the one that the Pass was told, and whoever is over is not executed
 abbrev pub IsTriedTold : TryAdmit → Type 0
 IsTriedTold (tried.Run token) = told_own token.pass ≡ Some decisions.Execute
-IsTriedTold (tried.Over token decision waiters) = told_own token.pass ≡ Some decision
+IsTriedTold (tried.Over token decision waiters) = (told_own token.pass ≡ Some decision) × (decision ≢ decisions.Execute)
 IsTriedTold (tried.Busy token) = token.pass.state ≡ Fresh
 
 abbrev pub IsBegunTold : Begin → Type 0
 IsBegunTold (begun.Run token) = told_own token.pass ≡ Some decisions.Execute
-IsBegunTold (begun.Over token decision) = told_own token.pass ≡ Some decision
+IsBegunTold (begun.Over token decision) = (told_own token.pass ≡ Some decision) × (decision ≢ decisions.Execute)
 IsBegunTold (begun.Waiting token) = token.pass.entered ≡ true
 
 abbrev pub IsAdmittedTold : Admit → Type 0
 IsAdmittedTold (admitted.Run token) = told_own token.pass ≡ Some decisions.Execute
-IsAdmittedTold (admitted.Over token decision) = told_own token.pass ≡ Some decision
+IsAdmittedTold (admitted.Over token decision) = (told_own token.pass ≡ Some decision) × (decision ≢ decisions.Execute)
 
 -- whoever waits now entered since it had this record
 abbrev pub EnteredNow : PassRecord → Begin → Type 0
@@ -73,6 +73,12 @@ Polls pass (polled.Run token) = PassLoadsDecision pass (Some decisions.Execute) 
 Polls pass (polled.Over token decision) = PassLoadsDecision pass (Some decision) token.pass
 Polls pass (polled.Still token) = PassLoadsDecision pass None token.pass
 
+-- who is over is not executed
+abbrev pub IsNotExecuted : Poll → Type 0
+IsNotExecuted (polled.Run token) = Unit {0}
+IsNotExecuted (polled.Over token decision) = decision ≢ decisions.Execute
+IsNotExecuted (polled.Still token) = Unit {0}
+
 -- seats were taken and execute was written
 pub record TakesAndRuns (pass pass' : PassRecord) : Type 0 where
   pub read : PassRecord
@@ -89,6 +95,7 @@ pub record TakesAndLoses (pass : PassRecord) (decision : Decision) (level : Leve
   pub reads : PassLoadsDecision pass None read
   pub takes : TriesToTake read take.Taken took
   pub decides : Decides took decisions.Execute decision lost
+  pub is_lost : decision ≢ decisions.Execute
   pub gives_back : PassSubtractsLevel lost level pass'
 
 -- the level was closed, and that was written

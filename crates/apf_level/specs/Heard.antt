@@ -22,6 +22,7 @@ pub record Outcome : Type 0 where
   pub number : ℕ
   pub told : Option Decision
   pub took : Bool
+  pub entered : Bool
 
 abbrev pub outcome_of : PassToken → Outcome
-outcome_of token = record { gate = pass_gate token; number = token.pass.number; told = told_own token.pass; took = token.pass.took }
+outcome_of token = record { gate = pass_gate token; number = token.pass.number; told = told_own token.pass; took = token.pass.took; entered = token.pass.entered }

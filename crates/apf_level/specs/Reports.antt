@@ -1,5 +1,5 @@
 -- What the end of a level tells.
-use Rattle.std.specs.Prelude.{◌≡◌, ◌≢◌, ℕ, ◌+◌, ◌<◌, true, List, length, All, Any, Option, Some, None}
+use Rattle.std.specs.Prelude.{◌≡◌, ◌≢◌, ℕ, ◌+◌, ◌<◌, true, List, [], length, All, Any, Option, Some, None}
 use Rattle.apf_words.specs.Level.{Level}
 use Rattle.apf_words.specs.declared.decision.Decision.{Decision}
 use Rattle.apf_words.specs.declared.decision.Decision.TheVariants.{Execute, QueueFull, Closed, Cancelled, ConcurrencyLimit}
@@ -9,7 +9,8 @@ use Rattle.apf_gate.specs.Records.{told_own}
 use Rattle.apf_gate.specs.Tokens.{PassToken, StationToken}
 use Rattle.apf_gate.specs.Ends.{WroteCancelled, ClosedFirst}
 use Rattle.apf_book.specs.LedgerView.{IsLogOf, NothingWaits}
-use Rattle.apf_book.specs.Laws.{took_in}
+use Rattle.apf_book.specs.Laws.{took_in, EnteredBy, IsMade}
+use Rattle.apf_model.specs.declared.response.Response.TheVariants.{Reject}
 use Rattle.apf_level.specs.declared.report.Counts.{Counts}
 use Rattle.apf_level.specs.Levels.{LevelId, logged_as}
 
@@ -41,6 +42,11 @@ pub record Ended (k : LevelId) (level : Level) (decision : ℕ → Option Decisi
   pub agrees : Agrees h decision
   -- each executed request was dispatched, or its Pass took its seats on arrival
   pub arrivals : ExecutesArrivals h decision (took_in passes)
+  -- one trace of the level's steps explains the level word, and goes on from what each Station saw; with queues it says the log, and without them the log is empty
+  pub made : IsMade k.gate h level stations
+  pub logs_nothing : k.gate.shape.response ≡ Reject → h ≡ []
+  -- each Pass has that its request entered exactly if the log has its Enter
+  pub entered : All (EnteredBy h) passes
   -- each request's Pass was handed in, and was told its decision
   pub each : (r : ℕ) → r < length k.gate.shape.widths → Any (λ (t : PassToken). t.pass.number ≡ r) passes
   pub told : All (λ (t : PassToken). decision t.pass.number ≡ told_own t.pass) passes

@@ -5,7 +5,7 @@ ghost use Rattle.apf_model.specs.declared.response.Response.TheVariants.{Queue, 
 ghost use Rattle.apf_gate.specs.declared.record.State.TheVariants.{Fresh, Took};
 ghost use Rattle.apf_gate.specs.Tokens.{pass_gate};
 ghost use Rattle.apf_level.specs.Tokens.{IsOf};
-ghost use Rattle.apf_level.specs.Admission.{begun_pass, polled_pass, admitted_pass, IsBegunTold, IsAdmittedTold, EnteredNow, SaysWaiting, Polls};
+ghost use Rattle.apf_level.specs.Admission.{begun_pass, polled_pass, admitted_pass, IsBegunTold, IsAdmittedTold, EnteredNow, SaysWaiting, Polls, IsNotExecuted};
 
 use crate::answers::{Admit, Begin, Poll};
 use crate::level::Level;
@@ -43,6 +43,7 @@ impl<K: Naming> Level<K> {
         requires own { pass_gate waiting ≡ K.level.gate }
         ensures same { IsOf waiting (polled_pass result) }
         ensures answer { Polls waiting.pass result }
+        ensures not_executed { IsNotExecuted result }
     {
         let Waiting { mut pass } = waiting;
         match self.gate.told(&mut pass) {

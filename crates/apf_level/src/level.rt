@@ -1,6 +1,6 @@
 //! The gate beside the lock, and how a level begins.
 
-ghost use Rattle.std.specs.Prelude.{◌≡◌, map, IfOk, IfErr, OnOk};
+ghost use Rattle.std.specs.Prelude.{◌≡◌, [], map, IfOk, IfErr, OnOk};
 ghost use Rattle.apf_model.specs.declared.response.Response.TheVariants.{Queue, Reject};
 ghost use Rattle.apf_gate.specs.Records.{new_desk};
 ghost use Rattle.apf_book.specs.declared.fault.BookFault.TheVariants.{NoMemory};
@@ -80,7 +80,7 @@ impl<K: Naming> Level<K> {
         ensures gate { IfOk result (λ o. o.level.gate ≡ gate) }
         ensures passes { IfOk result (λ o. o.passes ≡ passes) }
         ensures stations { IfOk result (λ o. o.stations ≡ stations) }
-        ensures stats { IfOk result (λ o. (o.stats.cell ≡ o.level.cell) × (o.stats.readings ≡ 0)) }
+        ensures stats { IfOk result (λ o. (o.stats.cell ≡ o.level.cell) × (o.stats.trace ≡ [])) }
         ensures settings { OnOk result (SettledBy config.now.limit_response config.now asks.now) }
         ensures fault { IfErr result (FaultBy config.now.limit_response config.now asks.now) }
     {
@@ -117,7 +117,7 @@ fn queued<K: Naming>(
     requires widths { map (λ a. a.width) asks.now ≡ K.level.gate.shape.widths }
     requires has_queues { K.level.gate.shape.response ≡ Queue }
     ensures settings { OnOk result (AreSettings config.now asks.now) }
-    ensures stats { IfOk result (λ o. (o.2.cell ≡ o.1) × (o.2.readings ≡ 0)) }
+    ensures stats { IfOk result (λ o. (o.2.cell ≡ o.1) × (o.2.trace ≡ [])) }
     ensures fault { IfErr result (IsFaultOf config.now asks.now) }
 {
     let book = Book::new(alloc, config, asks, desk)?;
@@ -143,7 +143,7 @@ fn alone<K: Naming>(
     requires fresh { desk.desk ≡ new_desk desk.desk.knows.shape }
     requires widths { map (λ a. a.width) asks.now ≡ K.level.gate.shape.widths }
     requires no_queues { K.level.gate.shape.response ≡ Reject }
-    ensures stats { IfOk result (λ o. (o.2.cell ≡ o.1) × (o.2.readings ≡ 0)) }
+    ensures stats { IfOk result (λ o. (o.2.cell ≡ o.1) × (o.2.trace ≡ [])) }
     ensures fault { IfErr result (λ f. f ≡ NoMemory) }
 {
     desk.is_of_a_gate();

@@ -1,9 +1,10 @@
 //! The calls that take the lock and own no Pass.
 
-ghost use Rattle.std.specs.Prelude.{◌≡◌, ◌+◌, ◌<◌, ◌≤◌, length, true};
+ghost use Rattle.std.specs.Prelude.{◌≡◌, ◌+◌, ◌<◌, ◌≤◌, length, None, true};
 ghost use Rattle.apf_words.specs.Limits.{max_limit};
 ghost use Rattle.apf_gate.specs.Tokens.{station_gate};
 ghost use Rattle.apf_stats.specs.Numbers.{numbers_of, IsBelow};
+ghost use Rattle.apf_stats.specs.Traces.{shown, IsNext};
 ghost use Rattle.apf_level.specs.Copies.{IsCopied};
 ghost use Rattle.apf_level.specs.Limits.{LastSet};
 ghost use Rattle.apf_level.specs.Served.{Dispatched, Struck};
@@ -63,9 +64,10 @@ impl<K: Naming> Level<K> {
     pub fn stats<R: Wait>(&self, rt: &R, pass: &mut StatsPass) -> Stats
         requires own { pass.old.cell ≡ self.now.cell }
         ensures cell { pass.new.cell ≡ pass.old.cell }
-        ensures one_reading { pass.new.readings ≡ pass.old.readings + 1 }
-        ensures found { pass.new.seen ≡ numbers_of result }
-        ensures never_back { IsBelow pass.old.seen pass.new.seen }
+        ensures number { pass.new.number ≡ pass.old.number }
+        ensures one_reading { IsNext pass.old.number None pass.old.trace pass.new.trace }
+        ensures found { shown pass.new.trace ≡ numbers_of result }
+        ensures never_back { IsBelow (shown pass.old.trace) (numbers_of result) }
         ensures sum { result.entered ≡ result.dispatched + result.struck + result.waiting }
     {
         self.window.stats(rt, pass)

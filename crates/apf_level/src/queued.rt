@@ -5,6 +5,7 @@ ghost use Rattle.apf_words.specs.declared.decision.Decision.TheVariants as decis
 ghost use Rattle.apf_gate.specs.declared.record.State.TheVariants.{InLine};
 ghost use Rattle.apf_gate.specs.Records.{told_own};
 ghost use Rattle.apf_gate.specs.Tokens.{pass_gate};
+ghost use Rattle.apf_stats.specs.Traces.{shown};
 ghost use Rattle.apf_level.specs.Levels.{IsBookOf};
 ghost use Rattle.apf_level.specs.Tokens.{IsOf};
 ghost use Rattle.apf_level.specs.Served.{Dispatched, Struck};
@@ -29,7 +30,7 @@ pub struct Queued<K: Naming> {
     pub sleeps: Vec<bool>,
     pub of: PhantomData<K>,
     ghost tied: { IsBookOf K.level book },
-    ghost published: { board.shown ≡ shown_of book.ledger.history },
+    ghost published: { shown board.trace ≡ shown_of book.ledger.history },
     ghost one_flag_each: { length sleeps.items ≡ length K.level.gate.shape.widths },
 }
 
@@ -51,9 +52,9 @@ fn wake(gate: &Gate<Global>, book: &Book<Global>, sleeps: &[bool], before: usize
 
 // Publishes the numbers of the log, if it grew since it had this length.
 fn publish<R: Wait>(rt: &R, book: &Book<Global>, board: &mut Board, before: usize)
-    requires went_on { WentOn board.old.shown before book.now.ledger.history }
+    requires went_on { WentOn (shown board.old.trace) before book.now.ledger.history }
     ensures cell { board.new.cell ≡ board.old.cell }
-    ensures shown { board.new.shown ≡ shown_of book.now.ledger.history }
+    ensures shown { shown board.new.trace ≡ shown_of book.now.ledger.history }
 {
     if book.log().len() != before {
         board.publish(rt, book.stats());

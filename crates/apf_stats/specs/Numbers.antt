@@ -2,17 +2,18 @@
 use Rattle.std.specs.Prelude.{ℕ, ◌+◌, ◌≤◌, ◌<◌, ◌^◌, List, [], ◌∷◌, slice_index}
 use Rattle.atomic_table.specs.Seated.{TableId}
 use Rattle.apf_book.specs.declared.stats.Stats.{Stats}
+use Rattle.apf_stats.specs.declared.board.Entry.{Entry}
 
--- the writer's end, as contracts see it: its cell, and the numbers that were published last
+-- the writer's end, as contracts see it: its cell, and all steps on it up to its own last one
 pub record BoardView : Type 0 where
   pub cell : TableId
-  pub shown : List ℕ
+  pub trace : List Entry
 
--- a reader's pass: its cell, the numbers that it read last, and how many readings it made
+-- a reader's pass: its cell, its number, and all steps on the cell up to its own last one
 pub record PassView : Type 0 where
   pub cell : TableId
-  pub seen : List ℕ
-  pub readings : ℕ
+  pub number : ℕ
+  pub trace : List Entry
 
 -- the numbers before anything happened
 abbrev pub nothing : List ℕ

@@ -1,11 +1,13 @@
 //! Four numbers that one writer publishes: entered, dispatched, struck and full.
 //!
-//! They stand in one cell. Its rule: no more were dispatched and struck than entered; what the writer
-//! published last is what the cell says; and no reader saw more than that. So no reading ever goes
-//! back, and each adds up, whatever the writer does meanwhile.
+//! They stand in one cell. Its rule: there is one trace, of every publication and every reading in the
+//! order in which they were made, each with the pass that made it. The cell says what was published
+//! last. What a pass knows is the trace up to its own last step. So a reading finds what was published
+//! last before it, no reading goes back, and each adds up, whatever the writer does meanwhile.
 
-ghost use Rattle.std.specs.Prelude.{◌≡◌, ◌+◌, ◌≤◌, IfOk};
+ghost use Rattle.std.specs.Prelude.{◌≡◌, ◌+◌, ◌≤◌, IfOk, [], Some, None};
 ghost use Rattle.apf_stats.specs.Numbers.{nothing, numbers_of, IsBelow};
+ghost use Rattle.apf_stats.specs.Traces.{shown, IsNext};
 
 use apf_book::Stats;
 use atomic_table::Split;
@@ -16,26 +18,34 @@ use std::collections::LinkedList;
 use std::marker::Model;
 use std::sync::{Arc, Wait};
 
+// One step on the cell. No value of it is made.
+pub struct Entry {
+    // the number of the pass that made it
+    pub by: u64,
+    // the numbers that it published; a reading published none
+    pub published: Option<LinkedList<u64>>,
+}
+
 // What a pass of the cell knows. No value of it is made.
 pub struct View {
-    // whether it is the writer's
-    pub writes: bool,
-    // the numbers that it published last, or read last
-    pub seen: LinkedList<u64>,
-    // how many readings it made
-    pub readings: u64,
+    // its number: the writer's is 0
+    pub number: u64,
+    // how many passes were split off it
+    pub readers: u64,
+    // all steps up to its own last one, the newest first
+    pub trace: LinkedList<Entry>,
 }
 
 // The rule of the cell.
 pub struct Grows;
 
 impl Protocol<[u64; 4], View> for Grows {
+    ghost use Rattle.std.specs.Prelude.{[]};
     ghost use Rattle.apf_stats.specs.Rule.{IsRuled, writer};
-    ghost use Rattle.apf_stats.specs.Numbers.{nothing};
 
     ghost holds = { IsRuled };
 
-    ghost first = { writer nothing };
+    ghost first = { writer [] };
 }
 
 // The writer puts new numbers in the place of the old ones.
@@ -60,9 +70,9 @@ impl Outcome<[u64; 4], View> for Read {
 struct AsReader;
 
 impl Split<View> for AsReader {
-    ghost use Rattle.apf_stats.specs.Rule.{as_reader};
+    ghost use Rattle.apf_stats.specs.Rule.{with_reader, as_reader};
 
-    ghost left = { λ view. view };
+    ghost left = { with_reader };
 
     ghost right = { as_reader };
 }
@@ -80,14 +90,13 @@ impl Model for Board {
     ghost use Rattle.std.specs.Prelude.{◌≡◌};
     ghost use Rattle.std.specs.Arc.{arc_value};
     ghost use Rattle.crossbeam_utils.specs.Seq.{cell_view};
-    ghost use Rattle.apf_stats.specs.Numbers.{BoardView, AddUp};
-    ghost use Rattle.apf_stats.specs.Rule.{writer};
+    ghost use Rattle.apf_stats.specs.Numbers.{BoardView};
 
     ghost Value = { BoardView };
 
-    ghost view = { λ b. record { cell = (arc_value b.cell).table.shared.table_id; shown = (cell_view b.pass).seen } };
+    ghost view = { λ b. record { cell = (arc_value b.cell).table.shared.table_id; trace = (cell_view b.pass).trace } };
 
-    ghost invariant = { λ b. (b.pass.table_id ≡ (arc_value b.cell).table.shared.table_id) × (cell_view b.pass ≡ writer (cell_view b.pass).seen) };
+    ghost invariant = { λ b. (b.pass.table_id ≡ (arc_value b.cell).table.shared.table_id) × ((cell_view b.pass).number ≡ 0) };
 }
 
 /// The readers' end, beside the lock.
@@ -105,23 +114,19 @@ impl Model for Window {
     ghost view = { λ w. (arc_value w.cell).table.shared.table_id };
 }
 
-/// What one reader knows: the numbers that it read last, and how many readings it made.
+/// What one reader knows: its number, and all steps on the cell up to its own last reading.
 #[derive(Drop)]
 pub struct StatsPass {
     pass: Pass<[u64; 4], View>,
 }
 
 impl Model for StatsPass {
-    ghost use Rattle.std.specs.Prelude.{◌≡◌};
     ghost use Rattle.crossbeam_utils.specs.Seq.{cell_view};
     ghost use Rattle.apf_stats.specs.Numbers.{PassView};
-    ghost use Rattle.apf_stats.specs.Rule.{reader};
 
     ghost Value = { PassView };
 
-    ghost view = { λ p. record { cell = p.pass.table_id; seen = (cell_view p.pass).seen; readings = (cell_view p.pass).readings } };
-
-    ghost invariant = { λ p. cell_view p.pass ≡ reader (cell_view p.pass).seen (cell_view p.pass).readings };
+    ghost view = { λ p. record { cell = p.pass.table_id; number = (cell_view p.pass).number; trace = (cell_view p.pass).trace } };
 }
 
 /// A cell that says that nothing happened, with its two ends and one reader's pass. All memory is
@@ -132,8 +137,8 @@ impl Model for StatsPass {
 /// `AllocError` if memory was refused.
 pub fn open(alloc: Global) -> Result<(Board, Window, StatsPass), AllocError>
     ensures cell { IfOk result (λ o. (o.1 ≡ o.0.cell) × (o.2.cell ≡ o.0.cell)) }
-    ensures shown { IfOk result (λ o. o.0.shown ≡ nothing) }
-    ensures readings { IfOk result (λ o. o.2.readings ≡ 0) }
+    ensures trace { IfOk result (λ o. (o.0.trace ≡ []) × (o.2.trace ≡ [])) }
+    ensures reader { IfOk result (λ o. o.2.number ≡ 1) }
 {
     let (cell, mut pass) = Cell::ruled(alloc, [0, 0, 0, 0])?;
     let reader = cell.split_pass::<AsReader>(&mut pass);
@@ -148,10 +153,11 @@ impl Board {
     /// Publishes these numbers, which are no lower than those that were published last. It makes one
     /// write of the cell, and takes no memory.
     pub fn publish<R: Wait>(&mut self, rt: &R, stats: Stats)
-        requires up { IsBelow self.old.shown (numbers_of stats) }
+        requires up { IsBelow (shown self.old.trace) (numbers_of stats) }
         requires sum { stats.dispatched + stats.struck ≤ stats.entered }
         ensures cell { self.new.cell ≡ self.old.cell }
-        ensures shown { self.new.shown ≡ numbers_of stats }
+        ensures one_publication { IsNext 0 (Some (numbers_of stats)) self.old.trace self.new.trace }
+        ensures shown { shown self.new.trace ≡ numbers_of stats }
     {
         let numbers = [
             u64::from(stats.entered),
@@ -170,9 +176,10 @@ impl Window {
     pub fn stats<R: Wait>(&self, rt: &R, pass: &mut StatsPass) -> Stats
         requires own { pass.old.cell ≡ self.now }
         ensures cell { pass.new.cell ≡ pass.old.cell }
-        ensures one_reading { pass.new.readings ≡ pass.old.readings + 1 }
-        ensures found { pass.new.seen ≡ numbers_of result }
-        ensures never_back { IsBelow pass.old.seen pass.new.seen }
+        ensures number { pass.new.number ≡ pass.old.number }
+        ensures one_reading { IsNext pass.old.number None pass.old.trace pass.new.trace }
+        ensures found { shown pass.new.trace ≡ numbers_of result }
+        ensures never_back { IsBelow (shown pass.old.trace) (numbers_of result) }
         ensures sum { result.entered ≡ result.dispatched + result.struck + result.waiting }
     {
         let [entered, dispatched, struck, full] = self.cell.load_as::<Read, R>(rt, &mut pass.pass);

@@ -3,6 +3,7 @@
 ghost use denote.Param.Send.{IsSync};
 ghost use Rattle.std.specs.Prelude.{◌≡◌};
 ghost use Rattle.apf_stats.specs.Numbers.{nothing};
+ghost use Rattle.apf_stats.specs.Traces.{shown};
 
 use apf_stats::{Board, Stats, StatsPass, Window, open};
 use std::sync::Wait;
@@ -65,7 +66,7 @@ fn all_struck(requests: u32) -> Stats
 }
 
 fn publish_all<R: Wait>(rt: &R, board: &mut Board)
-    requires { board.old.shown ≡ nothing }
+    requires { shown board.old.trace ≡ nothing }
 {
     for requests in 0..TIMES {
         board.publish(rt, all_struck(requests));
@@ -94,7 +95,7 @@ fn read_beside_writer<R: Threads + Wait + Sync>(
     board: &mut Board,
 ) -> bool
     requires own { pass.old.cell ≡ window.now }
-    requires shown { board.old.shown ≡ nothing }
+    requires shown { shown board.old.trace ≡ nothing }
     ensures { pass.new.cell ≡ window.now }
 {
     let (is_well, _) = join_mut(

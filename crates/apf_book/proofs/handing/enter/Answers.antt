@@ -2,6 +2,7 @@
 use Rattle.std.proofs.Common.{◌∙◌}
 use Rattle.apf_gate.specs.declared.answers.TryEnter.TheVariants as tried
 use Rattle.apf_book.proofs.Moving.{tries_then}
+use Rattle.apf_book.proofs.Saying.{tries_say_then}
 use Rattle.apf_book.proofs.handing.enter.Goals as goal
 
 pub returns-in-Entered-clause-moves : goal.returns-in-Entered-clause-moves
@@ -22,7 +23,20 @@ loop-preserved g c = record {
   number = c.in-Raced.ensures.number ∙ c.loop.invariant.number;
   in_line = c.in-Raced.ensures.state ∙ c.loop.invariant.in_line;
   not_entered = c.in-Raced.ensures.not_entered (λ e. cc);
+  told = c.in-Raced.ensures.told ∙ c.loop.invariant.told;
   moves = tries_then c.args.desk.now.desk c.args.pass.now.pass.number (record { pass = c.loop.pass.pass; desk = c.loop.desk.desk }) (record { pass = c.try_enter.new.pass.pass; desk = c.try_enter.new.desk.desk })
       tried.Raced c.loop.invariant.moves c.loop.invariant.number c.in-Raced.ensures.answer;
+  says = tries_say_then c.args.desk.now.desk c.args.pass.now.pass.number (record { pass = c.loop.pass.pass; desk = c.loop.desk.desk }) (record { pass = c.try_enter.new.pass.pass; desk = c.try_enter.new.desk.desk })
+      tried.Raced c.loop.invariant.says c.loop.invariant.number c.in-Raced.ensures.answer;
   held = c.in-Raced.ensures.held ∙ c.loop.invariant.held;
 }
+
+pub returns-in-Entered-clause-says : goal.returns-in-Entered-clause-says
+returns-in-Entered-clause-says g c =
+    tries_say_then c.args.desk.now.desk c.args.pass.now.pass.number (record { pass = c.loop.pass.pass; desk = c.loop.desk.desk }) (record { pass = c.try_enter.new.pass.pass; desk = c.try_enter.new.desk.desk })
+    tried.Entered c.loop.invariant.says c.loop.invariant.number c.in-Entered.ensures.answer
+
+pub returns-in-Closed-clause-says : goal.returns-in-Closed-clause-says
+returns-in-Closed-clause-says g c =
+    tries_say_then c.args.desk.now.desk c.args.pass.now.pass.number (record { pass = c.loop.pass.pass; desk = c.loop.desk.desk }) (record { pass = c.try_enter.new.pass.pass; desk = c.try_enter.new.desk.desk })
+    tried.Closed c.loop.invariant.says c.loop.invariant.number c.in-Closed.ensures.answer

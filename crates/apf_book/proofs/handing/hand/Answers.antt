@@ -5,6 +5,8 @@ use Rattle.apf_book.specs.Arrivals.{after_handing}
 use Rattle.apf_book.specs.Moves.{Moves}
 use Rattle.apf_book.proofs.Arriving.{refused_then}
 use Rattle.apf_book.proofs.Moving.{moves_then}
+use Rattle.apf_book.specs.Said.{said_handing, Says}
+use Rattle.apf_book.proofs.Saying.{quiet_then}
 use Rattle.apf_book.proofs.handing.hand.Goals as goal
 
 pub returns-clause-moves : goal.returns-clause-moves
@@ -15,3 +17,8 @@ returns-clause-moves g c =
 pub returns-clause-told : goal.returns-clause-told
 returns-clause-told g c =
     refused_then c.refuse.result c.refuse.new.pass.pass c.args.desk.now.desk.knows c.enter.new.desk.desk.knows c.refuse.new.desk.desk.knows c.if-enter.ensures.moves.more c.refuse.ensures.told
+
+pub returns-clause-says : goal.returns-clause-says
+returns-clause-says g c =
+    quiet_then (said_handing c.refuse.result c.args.pass.now.pass.number) c.args.desk.now.desk.knows c.enter.new.desk.desk.knows c.refuse.new.desk.desk.knows c.if-enter.ensures.says
+    (subst (λ (r : ℕ). Says (said_handing c.refuse.result r) c.enter.new.desk.desk.knows c.refuse.new.desk.desk.knows) c.if-enter.ensures.number c.refuse.ensures.says)

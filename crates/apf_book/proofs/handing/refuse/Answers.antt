@@ -6,6 +6,7 @@ use Rattle.apf_gate.specs.Records.{service}
 use Rattle.apf_book.specs.BookView.{logged}
 use Rattle.apf_book.specs.Moves.{LastTold}
 use Rattle.apf_book.proofs.Moving.{moves_says, moves_to_refuse, refuse_tells, refuse_spares}
+use Rattle.apf_book.proofs.Saying.{refuses_say}
 use Rattle.apf_book.proofs.handing.refuse.Goals as goal
 
 pub returns-in-QueueFull-clause-moves : goal.returns-in-QueueFull-clause-moves
@@ -34,3 +35,15 @@ returns-in-Cancelled-clause-moves g c =
 pub returns-in-Cancelled-clause-told : goal.returns-in-Cancelled-clause-told
 returns-in-Cancelled-clause-told g c =
     (subst (λ (r : ℕ). LastTold c.args.desk.now.desk.knows r Cancelled c.refuse.new.desk.desk.knows) (sym c.in-Cancelled.ensures.number) (refuse_tells (record { pass = c.args.pass.now.pass; desk = c.args.desk.now.desk }) (record { pass = c.refuse.new.pass.pass; desk = c.refuse.new.desk.desk }) c.args.decision Cancelled c.in-Cancelled.ensures.answer), c.in-Cancelled.ensures.told_pass)
+
+pub returns-in-QueueFull-clause-says : goal.returns-in-QueueFull-clause-says
+returns-in-QueueFull-clause-says g c =
+    refuses_say (record { pass = c.args.pass.now.pass; desk = c.args.desk.now.desk }) (record { pass = c.refuse.new.pass.pass; desk = c.refuse.new.desk.desk }) c.args.decision QueueFull c.requires.refusal c.requires.is_new c.in-QueueFull.ensures.answer
+
+pub returns-in-Closed-clause-says : goal.returns-in-Closed-clause-says
+returns-in-Closed-clause-says g c =
+    refuses_say (record { pass = c.args.pass.now.pass; desk = c.args.desk.now.desk }) (record { pass = c.refuse.new.pass.pass; desk = c.refuse.new.desk.desk }) c.args.decision Closed c.requires.refusal c.requires.is_new c.in-Closed.ensures.answer
+
+pub returns-in-Cancelled-clause-says : goal.returns-in-Cancelled-clause-says
+returns-in-Cancelled-clause-says g c =
+    refuses_say (record { pass = c.args.pass.now.pass; desk = c.args.desk.now.desk }) (record { pass = c.refuse.new.pass.pass; desk = c.refuse.new.desk.desk }) c.args.decision Cancelled c.requires.refusal c.requires.is_new c.in-Cancelled.ensures.answer

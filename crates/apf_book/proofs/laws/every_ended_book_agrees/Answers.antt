@@ -10,7 +10,18 @@ use Rattle.apf_history.specs.declared.events.Event.{Event}
 use Rattle.apf_history.specs.declared.events.Event.TheVariants.{Full, Dispatch, Strike}
 use Rattle.apf_model.specs.History.{request_of, NamesRequests}
 use Rattle.apf_gate.specs.Tokens.{GateId, DeskToken, PassToken, StationToken, desk_gate}
-use Rattle.apf_gate.specs.Ends.{WordsView, EndAgrees, ExecutedIt}
+use Rattle.apf_gate.specs.Ends.{WordsView, EndAgrees, ExecutedIt, passes_before, stations_before}
+use Rattle.apf_gate.specs.declared.record.Record.{Record}
+use Rattle.apf_gate.specs.declared.record.Record.TheVariants.{Pass, Desk}
+use Rattle.apf_gate.specs.declared.record.PassRecord.{PassRecord}
+use Rattle.apf_gate.specs.declared.record.DeskRecord.{DeskRecord}
+use Rattle.apf_gate.specs.Records.{service}
+use Rattle.apf_gate.specs.Requests as requests
+use Rattle.apf_gate.specs.Rule.{Every, IsRecord}
+use Rattle.apf_book.specs.Said.{sayings}
+use Rattle.apf_book.proofs.Opened.{opened}
+use Rattle.apf_book.proofs.Saying.{none_say}
+use Rattle.apf_book.proofs.Keeping.{entered_logs}
 use Rattle.apf_book.specs.LedgerView.{LedgerView}
 use Rattle.apf_book.specs.BookView.{IsKept}
 use Rattle.apf_book.specs.Laws.{IsOfOneMind, decision_in, took_in}
@@ -48,6 +59,18 @@ module _ (gate : GateId) (desk : DeskToken) (v : LedgerView) (passes : List Pass
 decided : (words : WordsView) (r : ℕ) (decision : Decision) → slice_get words.decisions r ≡ Some (Some decision) → decision_in words r ≡ Some decision
 decided words r decision e = get_or_from_slice_get words.decisions r (Some decision) None e
 
+every_stations : (P : Record → Type 0) (ts : List StationToken) (rest : List Record) → Every P (stations_before ts rest) → Every P rest
+every_stations P [] rest k = k
+every_stations P (t ∷ ts) rest k = every_stations P ts rest k.1
+
+each_of : (P : Record → Type 0) (p : PassToken) (ps : List PassToken) → P (Pass p.pass) → ((i : ℕ) (t : PassToken) → i < length ps → P (Pass (slice_index_or ps i t).pass)) → (i : ℕ) (t : PassToken) → i < length (p ∷ ps) → P (Pass (slice_index_or (p ∷ ps) i t).pass)
+each_of P p ps here there zero t low = here
+each_of P p ps here there (suc i) t low = there i t (omega arith)
+
+every_passes : (P : Record → Type 0) (ps : List PassToken) (rest : List Record) → Every P (passes_before ps rest) → ((i : ℕ) (t : PassToken) → i < length ps → P (Pass (slice_index_or ps i t).pass)) × Every P rest
+every_passes P [] rest k = ((λ i t low. absurd (omega arith)), k)
+every_passes P (p ∷ ps) rest k = let h = every_passes P ps rest k.1 in (each_of P p ps k.0 h.0, h.1)
+
 pub returns : goal.returns
 returns c = λ gate desk v passes stations words own kept ends.
     let agrees : EndAgrees gate desk.desk passes stations words = c.every_end_agrees.ensures gate desk.desk passes stations words ends in
@@ -55,6 +78,16 @@ returns c = λ gate desk v passes stations words own kept ends.
     let within : (e : Event) → Contains v.history e → request_of e < length gate.shape.widths = inside gate desk v passes stations words own kept in
     let below : (r : ℕ) → r < length words.decisions → r < length gate.shape.widths = (λ r l. let k = ends.count in omega arith) in
     record {
+      made =
+          let last = agrees.last in
+          let on = last.1.from_desk in
+          record {
+            trace = last.0;
+            made = last.1.made;
+            says = λ _. kept.said ∙ (sym (none_say on.0 desk.desk.knows.trace on.2) ∙ ap sayings on.1);
+            word = last.2.0;
+            goes_on = last.1.from_stations;
+          };
       agrees = record {
         dispatched = λ r q here. decided words r Execute (agrees.settled r (within (Dispatch r q) here) ((mind.dispatched_is r).1 (q, here)));
         struck = λ r q here. decided words r Cancelled (agrees.told r Cancelled (within (Strike r q) here) (inl (mind.struck_is_told r q here)));
@@ -69,4 +102,12 @@ returns c = λ gate desk v passes stations words own kept ends.
             | inl settled ↦ (mind.dispatched_is r).0 settled
             | inr any ↦ absurd (let b = sym (took_at passes r any.0 any.1 any.2 any.3 any.4) ∙ took in cc)
           ];
+      entered = λ i t low.
+          let stand = every_passes (IsRecord gate.shape ends.account) passes (Desk desk.desk ∷ []) (every_stations (IsRecord gate.shape ends.account) stations (passes_before passes (Desk desk.desk ∷ [])) ends.stand) in
+          let u : PassToken = slice_index_or passes i t in
+          let here = stand.0 i t low in
+          let same : ends.account.desk ≡ desk.desk = stand.1.0 in
+          let tied = (ends.sound.request u.pass.number here.0).tied.entered in
+          let is : u.pass.entered ≡ requests.has_entered (service desk.desk u.pass.number) = subst (λ (d : DeskRecord). u.pass.entered ≡ requests.has_entered (service d u.pass.number)) same (subst (λ (p : PassRecord). p.entered ≡ requests.has_entered (service ends.account.desk u.pass.number)) here.1 tied) in
+          entered_logs (opened c.legal_histories_are_in_order.ensures).statuses desk.desk v kept u.pass.number u.pass.entered is;
     }

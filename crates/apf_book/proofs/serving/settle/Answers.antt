@@ -1,5 +1,5 @@
 -- A grant that was lost is given back.
-use Rattle.std.proofs.Common.{◌≡◌, inl, inr, Some, refl, ap, ◌∙◌}
+use Rattle.std.proofs.Common.{◌≡◌, ℕ, [], ◌∷◌, sym, subst, inl, inr, Some, refl, ap, ◌∙◌}
 use Rattle.apf_words.specs.declared.decision.Decision.{Decision}
 use Rattle.apf_words.specs.declared.decision.Decision.TheVariants.{Cancelled}
 use Rattle.apf_gate.specs.declared.record.Service.TheVariants.{Left}
@@ -7,6 +7,10 @@ use Rattle.apf_gate.specs.Records.{service}
 use Rattle.apf_book.specs.BookView.{logged}
 use Rattle.apf_book.proofs.Knowing.{told_still}
 use Rattle.apf_book.proofs.Moving.{moves_same, moves_to, moves_then}
+use Rattle.apf_history.specs.declared.events.Status.TheVariants as status_is
+use Rattle.apf_gate.specs.DeskCalls.{SettlesTo}
+use Rattle.apf_book.specs.Said.{Says}
+use Rattle.apf_book.proofs.Saying.{settles, settles_not, gives_back, quiet_then, same_held}
 use Rattle.apf_book.proofs.serving.settle.Goals as goal
 
 pub returns : goal.returns
@@ -22,8 +26,15 @@ returns g c =
       moves = moves_then before between after c.args.request (logged (service before c.args.request)) (logged Left)
           (moves_same before between c.args.request kept.1 c.settle.ensures.more)
           (moves_to between after c.args.request Left given c.give_back.ensures.more);
+      says = quiet_then ((c.args.request, status_is.Struck) ∷ []) before.knows between.knows after.knows
+          (settles_not before between (subst (λ (d : Decision). SettlesTo before d between) lost c.settle.ensures.answer))
+          (subst (λ (r : ℕ). Says ((r, status_is.Struck) ∷ []) between.knows after.knows) (same_held c.give_back.ensures.answer.0 c.args.request (sym c.give_back.ensures.answer.1 ∙ (kept.0 ∙ c.requires.holds)))
+          (gives_back between after c.give_back.ensures.answer.0 c.give_back.ensures.answer.2.0 c.give_back.ensures.answer.2.1));
       holds_none = c.give_back.ensures.holds_none;
       settled = inr refl;
       struck = λ e. told_still between.knows after.knows c.args.request Cancelled c.give_back.ensures.more
           (c.settle.ensures.told c.args.request c.requires.holds ∙ ap (λ (d : Decision). Some d) lost);
     }
+
+pub returns-in-Execute-clause-says : goal.returns-in-Execute-clause-says
+returns-in-Execute-clause-says g c = settles c.args.desk.now.desk c.settle.new.desk.desk c.args.request c.requires.holds c.in-Execute.ensures.answer

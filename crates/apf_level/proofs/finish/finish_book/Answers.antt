@@ -1,9 +1,11 @@
-use Rattle.std.proofs.Common.{List, ap, sym, subst}
+use Rattle.std.proofs.Common.{◌≡◌, ◌∙◌, List, ap, sym, subst}
+use Rattle.apf_model.specs.declared.response.Response.{Response}
+use Rattle.apf_model.specs.declared.response.Response.TheVariants.{Queue, Reject}
 use Rattle.apf_history.specs.declared.events.Event.{Event}
 use Rattle.apf_gate.specs.Tokens.{GateId}
 use Rattle.apf_gate.specs.Ends.{EndsWith, EndAgrees}
 use Rattle.apf_book.specs.LedgerView.{LedgerView, IsLogOf}
-use Rattle.apf_book.specs.Laws.{IsOfOneMind, LogAgrees, decision_in}
+use Rattle.apf_book.specs.Laws.{IsOfOneMind, LogAgrees, IsMade, decision_in}
 use Rattle.apf_level.specs.Reports.{Ended}
 use Rattle.apf_level.proofs.Ends.{ended, gone}
 use Rattle.apf_level.proofs.Nobody.{nobody}
@@ -23,9 +25,10 @@ returns-clause-ended g c =
     let e : EndAgrees k.gate d ps ss w = c.every_end_agrees.ensures k.gate d ps ss w ends in
     let kept = c.end-desk.ensures.kept in
     let mind : IsOfOneMind d v = c.every_book_is_kept.ensures d v kept in
-    let agree : LogAgrees v ps w = c.every_ended_book_agrees.ensures k.gate book.desk v ps ss w c.requires.own_book.gate kept ends in
+    let agree : LogAgrees k.gate v ps ss w = c.every_ended_book_agrees.ensures k.gate book.desk v ps ss w c.requires.own_book.gate kept ends in
     let of_log : IsLogOf v = kept.of_log in
     let law = ended k d w ps ss e ends.count c.requires.own_passes c.requires.done c.requires.heard v.history mind.holds_none in
     let none = nobody c.every_legal_history_is_in_order.ensures.numbers k book.desk v c.requires.own_book.gate kept mind (gone k d w ps ss e ends.count c.requires.own_passes c.requires.done c.requires.heard) in
     subst (λ (h : List Event). Ended k w.level (decision_in w) h ps ss) (sym c.end-desk.ensures.log)
-    (law (subst IsLogOf c.requires.own_book.ledger of_log) none agree.agrees agree.arrivals)
+    (law (subst IsLogOf c.requires.own_book.ledger of_log) none agree.agrees agree.arrivals agree.entered (subst (λ (x : List Event). IsMade k.gate x w.level ss) (ap (λ (y : LedgerView). y.history) c.requires.own_book.ledger) agree.made)
+    (λ alone. absurd (let bad : ◌≡◌ {A = Response} Queue Reject = sym kept.has_queues ∙ (ap (λ (x : GateId). x.shape.response) c.requires.own_book.gate ∙ alone) in cc)))

@@ -1,5 +1,5 @@
 -- What an arrival was told, and whether it entered.
-use Rattle.std.proofs.Common.{◌≡◌, ℕ, Bool, sym, ◌∙◌, subst, false, true}
+use Rattle.std.proofs.Common.{rules, ◌≡◌, ◌≢◌, ℕ, Bool, Some, refl, sym, ◌∙◌, subst, false, true}
 use Rattle.apf_words.specs.declared.decision.Decision.TheVariants.{QueueFull, Closed, Cancelled}
 use Rattle.apf_history.specs.declared.events.Event.TheVariants as events
 use Rattle.apf_model.specs.History.{has_arrived}
@@ -8,8 +8,9 @@ use Rattle.apf_book.specs.Arrivals.{BothTold}
 use Rattle.apf_book.specs.BookView.{BookView}
 use Rattle.apf_book.specs.LedgerView.{LedgerView}
 use Rattle.apf_book.proofs.Opened.{opened}
-use Rattle.apf_book.proofs.Keeping.{entered_logs, not_entered, stays_out, away_heard, kept_still, kept_arrived, kept_refused, full_not_entered, never_arrived}
-use Rattle.apf_book.proofs.Knowing.{more_then, told_then}
+use Rattle.apf_book.proofs.Saying.{hears_quiet}
+use Rattle.apf_book.proofs.Keeping.{entered_logs, not_entered, stays_out, away_heard, kept_quiet, kept_arrived, kept_refused, full_not_entered, never_arrived}
+use Rattle.apf_book.proofs.Knowing.{more_then, told_then, heard_own}
 use Rattle.apf_book.proofs.book.Book.arrive.Goals as goal
 
 -- the book was asked whether the request arrived, and said no
@@ -93,19 +94,19 @@ hand-requires-clause-not_entered g c =
 pub hand-requires-clause-is_new : goal.hand-requires-clause-is_new
 hand-requires-clause-is_new g c =
     let new = is_new c.self.inside.ledger c.number-request.result c.args.pass.now.pass.number c.has_arrived.result c.number-request.ensures.number c.has_arrived.ensures.arrived c.if-has_arrived.false in
-    away_heard (opened c.legal_histories_are_in_order.ensures).statuses c.self.inside.desk.desk c.hear-found.new.desk.desk c.self.inside.ledger c.self.invariant c.hear-found.ensures.served c.hear-found.ensures.more c.args.pass.now.pass.number c.hear-found.new.pass.pass.number c.hear-found.ensures.number new
+    away_heard (opened c.legal_histories_are_in_order.ensures).statuses c.self.inside.desk.desk c.hear-found.new.desk.desk c.self.inside.ledger c.self.invariant c.hear-found.ensures.served c.hear-found.ensures.more (hears_quiet c.args.pass.now.pass c.hear-found.new.pass.pass c.self.inside.desk.desk c.hear-found.new.desk.desk c.hear-found.result c.hear-found.ensures.answer) c.args.pass.now.pass.number c.hear-found.new.pass.pass.number c.hear-found.ensures.number new
 
 pub invariant_of-self-in-Closed : goal.invariant_of-self-in-Closed
 invariant_of-self-in-Closed g c =
     let new = is_new c.self.inside.ledger c.number-request.result c.args.pass.now.pass.number c.has_arrived.result c.number-request.ensures.number c.has_arrived.ensures.arrived c.if-has_arrived.false in
-    kept_refused (opened c.legal_histories_are_in_order.ensures).statuses c.self.inside.desk.desk c.hear-found.new.desk.desk c.self.inside.ledger c.self.invariant c.hear-found.ensures.served c.hear-found.ensures.more c.args.pass.now.pass.number c.hear-found.new.pass.pass.number c.hear-found.ensures.number new
-    c.hand.new.desk.desk c.in-Closed.ensures.moves c.in-Closed.ensures.held
+    kept_refused (opened c.legal_histories_are_in_order.ensures).statuses c.self.inside.desk.desk c.hear-found.new.desk.desk c.self.inside.ledger c.self.invariant c.hear-found.ensures.served c.hear-found.ensures.more (hears_quiet c.args.pass.now.pass c.hear-found.new.pass.pass c.self.inside.desk.desk c.hear-found.new.desk.desk c.hear-found.result c.hear-found.ensures.answer) c.args.pass.now.pass.number c.hear-found.new.pass.pass.number c.hear-found.ensures.number new
+    c.hand.new.desk.desk c.in-Closed.ensures.moves c.in-Closed.ensures.says c.in-Closed.ensures.held
 
 pub returns-in-Closed-clause-kept : goal.returns-in-Closed-clause-kept
 returns-in-Closed-clause-kept g c =
     let new = is_new c.self.inside.ledger c.number-request.result c.args.pass.now.pass.number c.has_arrived.result c.number-request.ensures.number c.has_arrived.ensures.arrived c.if-has_arrived.false in
-    kept_refused (opened c.legal_histories_are_in_order.ensures).statuses c.self.inside.desk.desk c.hear-found.new.desk.desk c.self.inside.ledger c.self.invariant c.hear-found.ensures.served c.hear-found.ensures.more c.args.pass.now.pass.number c.hear-found.new.pass.pass.number c.hear-found.ensures.number new
-    c.hand.new.desk.desk c.in-Closed.ensures.moves c.in-Closed.ensures.held
+    kept_refused (opened c.legal_histories_are_in_order.ensures).statuses c.self.inside.desk.desk c.hear-found.new.desk.desk c.self.inside.ledger c.self.invariant c.hear-found.ensures.served c.hear-found.ensures.more (hears_quiet c.args.pass.now.pass c.hear-found.new.pass.pass c.self.inside.desk.desk c.hear-found.new.desk.desk c.hear-found.result c.hear-found.ensures.answer) c.args.pass.now.pass.number c.hear-found.new.pass.pass.number c.hear-found.ensures.number new
+    c.hand.new.desk.desk c.in-Closed.ensures.moves c.in-Closed.ensures.says c.in-Closed.ensures.held
 
 pub returns-in-Closed-clause-entered : goal.returns-in-Closed-clause-entered
 returns-in-Closed-clause-entered g c =
@@ -115,14 +116,14 @@ returns-in-Closed-clause-entered g c =
 pub invariant_of-self-in-Cancelled : goal.invariant_of-self-in-Cancelled
 invariant_of-self-in-Cancelled g c =
     let new = is_new c.self.inside.ledger c.number-request.result c.args.pass.now.pass.number c.has_arrived.result c.number-request.ensures.number c.has_arrived.ensures.arrived c.if-has_arrived.false in
-    kept_refused (opened c.legal_histories_are_in_order.ensures).statuses c.self.inside.desk.desk c.hear-found.new.desk.desk c.self.inside.ledger c.self.invariant c.hear-found.ensures.served c.hear-found.ensures.more c.args.pass.now.pass.number c.hear-found.new.pass.pass.number c.hear-found.ensures.number new
-    c.hand.new.desk.desk c.in-Cancelled.ensures.moves c.in-Cancelled.ensures.held
+    kept_refused (opened c.legal_histories_are_in_order.ensures).statuses c.self.inside.desk.desk c.hear-found.new.desk.desk c.self.inside.ledger c.self.invariant c.hear-found.ensures.served c.hear-found.ensures.more (hears_quiet c.args.pass.now.pass c.hear-found.new.pass.pass c.self.inside.desk.desk c.hear-found.new.desk.desk c.hear-found.result c.hear-found.ensures.answer) c.args.pass.now.pass.number c.hear-found.new.pass.pass.number c.hear-found.ensures.number new
+    c.hand.new.desk.desk c.in-Cancelled.ensures.moves c.in-Cancelled.ensures.says c.in-Cancelled.ensures.held
 
 pub returns-in-Cancelled-clause-kept : goal.returns-in-Cancelled-clause-kept
 returns-in-Cancelled-clause-kept g c =
     let new = is_new c.self.inside.ledger c.number-request.result c.args.pass.now.pass.number c.has_arrived.result c.number-request.ensures.number c.has_arrived.ensures.arrived c.if-has_arrived.false in
-    kept_refused (opened c.legal_histories_are_in_order.ensures).statuses c.self.inside.desk.desk c.hear-found.new.desk.desk c.self.inside.ledger c.self.invariant c.hear-found.ensures.served c.hear-found.ensures.more c.args.pass.now.pass.number c.hear-found.new.pass.pass.number c.hear-found.ensures.number new
-    c.hand.new.desk.desk c.in-Cancelled.ensures.moves c.in-Cancelled.ensures.held
+    kept_refused (opened c.legal_histories_are_in_order.ensures).statuses c.self.inside.desk.desk c.hear-found.new.desk.desk c.self.inside.ledger c.self.invariant c.hear-found.ensures.served c.hear-found.ensures.more (hears_quiet c.args.pass.now.pass c.hear-found.new.pass.pass c.self.inside.desk.desk c.hear-found.new.desk.desk c.hear-found.result c.hear-found.ensures.answer) c.args.pass.now.pass.number c.hear-found.new.pass.pass.number c.hear-found.ensures.number new
+    c.hand.new.desk.desk c.in-Cancelled.ensures.moves c.in-Cancelled.ensures.says c.in-Cancelled.ensures.held
 
 pub returns-in-Cancelled-clause-entered : goal.returns-in-Cancelled-clause-entered
 returns-in-Cancelled-clause-entered g c =
@@ -132,29 +133,45 @@ returns-in-Cancelled-clause-entered g c =
 pub invariant_of-self-in-Entered : goal.invariant_of-self-in-Entered
 invariant_of-self-in-Entered g c =
     let new = is_new c.self.inside.ledger c.number-request.result c.args.pass.now.pass.number c.has_arrived.result c.number-request.ensures.number c.has_arrived.ensures.arrived c.if-has_arrived.false in
-    kept_arrived (opened c.legal_histories_are_in_order.ensures).statuses c.self.inside.desk.desk c.hear-found.new.desk.desk c.self.inside.ledger c.self.invariant c.hear-found.ensures.served c.hear-found.ensures.more c.args.pass.now.pass.number c.hear-found.new.pass.pass.number c.hear-found.ensures.number new
-    c.hand.new.desk.desk c.enter.new.self (events.Enter c.number-request.result c.shortest-queue.result) c.number-request.ensures.number c.enter.ensures.log c.enter.ensures.sound c.in-Entered.ensures.moves c.in-Entered.ensures.held (λ e. cc)
+    kept_arrived (opened c.legal_histories_are_in_order.ensures).statuses c.self.inside.desk.desk c.hear-found.new.desk.desk c.self.inside.ledger c.self.invariant c.hear-found.ensures.served c.hear-found.ensures.more (hears_quiet c.args.pass.now.pass c.hear-found.new.pass.pass c.self.inside.desk.desk c.hear-found.new.desk.desk c.hear-found.result c.hear-found.ensures.answer) c.args.pass.now.pass.number c.hear-found.new.pass.pass.number c.hear-found.ensures.number new
+    c.hand.new.desk.desk c.enter.new.self (events.Enter c.number-request.result c.shortest-queue.result) c.number-request.ensures.number c.enter.ensures.log c.enter.ensures.sound c.in-Entered.ensures.moves c.in-Entered.ensures.says c.in-Entered.ensures.held (λ e. cc)
 
 pub returns-in-Entered-clause-kept : goal.returns-in-Entered-clause-kept
 returns-in-Entered-clause-kept g c =
     let new = is_new c.self.inside.ledger c.number-request.result c.args.pass.now.pass.number c.has_arrived.result c.number-request.ensures.number c.has_arrived.ensures.arrived c.if-has_arrived.false in
-    kept_arrived (opened c.legal_histories_are_in_order.ensures).statuses c.self.inside.desk.desk c.hear-found.new.desk.desk c.self.inside.ledger c.self.invariant c.hear-found.ensures.served c.hear-found.ensures.more c.args.pass.now.pass.number c.hear-found.new.pass.pass.number c.hear-found.ensures.number new
-    c.hand.new.desk.desk c.enter.new.self (events.Enter c.number-request.result c.shortest-queue.result) c.number-request.ensures.number c.enter.ensures.log c.enter.ensures.sound c.in-Entered.ensures.moves c.in-Entered.ensures.held (λ e. cc)
+    kept_arrived (opened c.legal_histories_are_in_order.ensures).statuses c.self.inside.desk.desk c.hear-found.new.desk.desk c.self.inside.ledger c.self.invariant c.hear-found.ensures.served c.hear-found.ensures.more (hears_quiet c.args.pass.now.pass c.hear-found.new.pass.pass c.self.inside.desk.desk c.hear-found.new.desk.desk c.hear-found.result c.hear-found.ensures.answer) c.args.pass.now.pass.number c.hear-found.new.pass.pass.number c.hear-found.ensures.number new
+    c.hand.new.desk.desk c.enter.new.self (events.Enter c.number-request.result c.shortest-queue.result) c.number-request.ensures.number c.enter.ensures.log c.enter.ensures.sound c.in-Entered.ensures.moves c.in-Entered.ensures.says c.in-Entered.ensures.held (λ e. cc)
 
 pub invariant_of-self-in-Full : goal.invariant_of-self-in-Full
 invariant_of-self-in-Full g c =
     let new = is_new c.self.inside.ledger c.number-request.result c.args.pass.now.pass.number c.has_arrived.result c.number-request.ensures.number c.has_arrived.ensures.arrived c.if-has_arrived.false in
-    kept_arrived (opened c.legal_histories_are_in_order.ensures).statuses c.self.inside.desk.desk c.hear-found.new.desk.desk c.self.inside.ledger c.self.invariant c.hear-found.ensures.served c.hear-found.ensures.more c.args.pass.now.pass.number c.hear-found.new.pass.pass.number c.hear-found.ensures.number new
-    c.hand.new.desk.desk c.refuse.new.self (events.Full c.number-request.result c.shortest-queue.result) c.number-request.ensures.number c.refuse.ensures.log c.refuse.ensures.sound c.in-Full.ensures.moves c.in-Full.ensures.held (λ e. cc)
+    kept_arrived (opened c.legal_histories_are_in_order.ensures).statuses c.self.inside.desk.desk c.hear-found.new.desk.desk c.self.inside.ledger c.self.invariant c.hear-found.ensures.served c.hear-found.ensures.more (hears_quiet c.args.pass.now.pass c.hear-found.new.pass.pass c.self.inside.desk.desk c.hear-found.new.desk.desk c.hear-found.result c.hear-found.ensures.answer) c.args.pass.now.pass.number c.hear-found.new.pass.pass.number c.hear-found.ensures.number new
+    c.hand.new.desk.desk c.refuse.new.self (events.Full c.number-request.result c.shortest-queue.result) c.number-request.ensures.number c.refuse.ensures.log c.refuse.ensures.sound c.in-Full.ensures.moves c.in-Full.ensures.says c.in-Full.ensures.held (λ e. cc)
 
 pub returns-in-Full-clause-kept : goal.returns-in-Full-clause-kept
 returns-in-Full-clause-kept g c =
     let new = is_new c.self.inside.ledger c.number-request.result c.args.pass.now.pass.number c.has_arrived.result c.number-request.ensures.number c.has_arrived.ensures.arrived c.if-has_arrived.false in
-    kept_arrived (opened c.legal_histories_are_in_order.ensures).statuses c.self.inside.desk.desk c.hear-found.new.desk.desk c.self.inside.ledger c.self.invariant c.hear-found.ensures.served c.hear-found.ensures.more c.args.pass.now.pass.number c.hear-found.new.pass.pass.number c.hear-found.ensures.number new
-    c.hand.new.desk.desk c.refuse.new.self (events.Full c.number-request.result c.shortest-queue.result) c.number-request.ensures.number c.refuse.ensures.log c.refuse.ensures.sound c.in-Full.ensures.moves c.in-Full.ensures.held (λ e. cc)
+    kept_arrived (opened c.legal_histories_are_in_order.ensures).statuses c.self.inside.desk.desk c.hear-found.new.desk.desk c.self.inside.ledger c.self.invariant c.hear-found.ensures.served c.hear-found.ensures.more (hears_quiet c.args.pass.now.pass c.hear-found.new.pass.pass c.self.inside.desk.desk c.hear-found.new.desk.desk c.hear-found.result c.hear-found.ensures.answer) c.args.pass.now.pass.number c.hear-found.new.pass.pass.number c.hear-found.ensures.number new
+    c.hand.new.desk.desk c.refuse.new.self (events.Full c.number-request.result c.shortest-queue.result) c.number-request.ensures.number c.refuse.ensures.log c.refuse.ensures.sound c.in-Full.ensures.moves c.in-Full.ensures.says c.in-Full.ensures.held (λ e. cc)
 
 pub returns-then-has_arrived-clause-kept : goal.returns-then-has_arrived-clause-kept
-returns-then-has_arrived-clause-kept g c = kept_still c.self.inside.desk.desk c.hear-found.new.desk.desk c.self.inside.ledger c.self.invariant c.hear-found.ensures.served c.hear-found.ensures.more
+returns-then-has_arrived-clause-kept g c = kept_quiet c.self.inside.desk.desk c.hear-found.new.desk.desk c.self.inside.ledger c.self.invariant c.hear-found.ensures.served c.hear-found.ensures.more (hears_quiet c.args.pass.now.pass c.hear-found.new.pass.pass c.self.inside.desk.desk c.hear-found.new.desk.desk c.hear-found.result c.hear-found.ensures.answer)
 
 pub returns-in-Some-Cancelled-clause-kept : goal.returns-in-Some-Cancelled-clause-kept
-returns-in-Some-Cancelled-clause-kept g c = kept_still c.self.inside.desk.desk c.hear-found.new.desk.desk c.self.inside.ledger c.self.invariant c.hear-found.ensures.served c.hear-found.ensures.more
+returns-in-Some-Cancelled-clause-kept g c = kept_quiet c.self.inside.desk.desk c.hear-found.new.desk.desk c.self.inside.ledger c.self.invariant c.hear-found.ensures.served c.hear-found.ensures.more (hears_quiet c.args.pass.now.pass c.hear-found.new.pass.pass c.self.inside.desk.desk c.hear-found.new.desk.desk c.hear-found.result c.hear-found.ensures.answer)
+
+pub invariant_of-self : goal.invariant_of-self
+invariant_of-self g c = kept_quiet c.self.inside.desk.desk c.hear-found.new.desk.desk c.self.inside.ledger c.self.invariant c.hear-found.ensures.served c.hear-found.ensures.more (hears_quiet c.args.pass.now.pass c.hear-found.new.pass.pass c.self.inside.desk.desk c.hear-found.new.desk.desk c.hear-found.result c.hear-found.ensures.answer)
+
+pub invariant_of-self-in-Some-Cancelled : goal.invariant_of-self-in-Some-Cancelled
+invariant_of-self-in-Some-Cancelled g c = kept_quiet c.self.inside.desk.desk c.hear-found.new.desk.desk c.self.inside.ledger c.self.invariant c.hear-found.ensures.served c.hear-found.ensures.more (hears_quiet c.args.pass.now.pass c.hear-found.new.pass.pass c.self.inside.desk.desk c.hear-found.new.desk.desk c.hear-found.result c.hear-found.ensures.answer)
+
+pub returns-in-Entered-clause-cancelled_seen : goal.returns-in-Entered-clause-cancelled_seen
+returns-in-Entered-clause-cancelled_seen g c = λ cancelled _.
+    let heard = heard_own (record { pass = c.args.pass.now.pass; desk = c.self.inside.desk.desk }) (record { pass = c.hear-found.new.pass.pass; desk = c.hear-found.new.desk.desk }) c.hear-found.result c.hear-found.ensures.answer in
+    let seen : c.hear-found.result ≡ Some Cancelled = sym heard ∙ (sym (c.in-Entered.ensures.told_entering refl) ∙ cancelled) in
+    let other : c.hear-found.result ≢ Some Cancelled = (search rules) in
+    absurd (other seen)
+
+pub returns-in-Full-clause-cancelled_seen : goal.returns-in-Full-clause-cancelled_seen
+returns-in-Full-clause-cancelled_seen g c = λ cancelled _. absurd (let bad = sym c.in-Full.ensures.told.1 ∙ cancelled in cc)

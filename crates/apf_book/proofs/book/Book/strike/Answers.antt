@@ -1,15 +1,20 @@
 -- A strike: one load, and where that found cancelled a second step.
-use Rattle.std.proofs.Common.{◌≢◌, ℕ, false, List, None, refl, sym, ap, ◌∙◌, subst}
+use Rattle.std.proofs.Common.{rules, ◌≡◌, ◌≢◌, ℕ, false, List, Some, None, refl, sym, ap, ◌∙◌, subst}
 use Rattle.std.specs.Prelude.{Contains}
+use Rattle.apf_words.specs.declared.decision.Decision.TheVariants.{Cancelled}
+use Rattle.apf_history.specs.declared.events.Event.TheVariants.{Strike}
 use Rattle.apf_model.specs.History.{waiting}
 use Rattle.apf_gate.specs.declared.record.Service.{Service}
+use Rattle.apf_gate.specs.declared.record.Service.TheVariants.{Left}
 use Rattle.apf_gate.specs.Records.{told_of, service_of, KnowsMore}
 use Rattle.apf_book.specs.LedgerView.{LedgerView, IsLogOf}
-use Rattle.apf_book.specs.BookView.{BookView}
+use Rattle.apf_book.specs.BookView.{BookView, IsKept}
 use Rattle.apf_book.specs.Servings.{Strikes}
 use Rattle.apf_book.proofs.Opened.{opened}
-use Rattle.apf_book.proofs.Keeping.{member_waits, told_cancelled, struck_is_out, strike_fewer}
-use Rattle.apf_book.proofs.Knowing.{more_then}
+use Rattle.apf_book.proofs.Keeping.{member_waits, told_cancelled, struck_is_out, strike_fewer, kept_quiet, kept_after}
+use Rattle.apf_book.proofs.Moving.{moves_to}
+use Rattle.apf_book.proofs.Saying.{loads_decision, leaves}
+use Rattle.apf_book.proofs.Knowing.{more_then, told_still}
 use Rattle.apf_book.proofs.book.Book.strike.Goals as goal
 
 pub returns-in_default-clause-reads : goal.returns-in_default-clause-reads
@@ -51,3 +56,39 @@ pub leave-requires-clause-waits : goal.leave-requires-clause-waits
 leave-requires-clause-waits g c =
     ap (λ (services : List (ℕ × Service)). service_of services c.args.request) c.seen.ensures.same.0
     ∙ member_waits (opened c.legal_histories_are_in_order.ensures).statuses c.self.inside.desk.desk c.self.inside.ledger c.self.invariant c.in-Some._queue c.args.request c.in-Some.ensures.waited
+
+pub invariant_of-self : goal.invariant_of-self
+invariant_of-self g c = (kept_quiet c.self.inside.desk.desk c.seen.new.desk.desk c.self.inside.ledger c.self.invariant c.seen.ensures.same c.seen.ensures.more (loads_decision c.self.inside.desk.desk c.seen.new.desk.desk c.args.request c.seen.result c.seen.ensures.answer))
+
+pub returns-then-ne-clause-kept : goal.returns-then-ne-clause-kept
+returns-then-ne-clause-kept g c = (kept_quiet c.self.inside.desk.desk c.seen.new.desk.desk c.self.inside.ledger c.self.invariant c.seen.ensures.same c.seen.ensures.more (loads_decision c.self.inside.desk.desk c.seen.new.desk.desk c.args.request c.seen.result c.seen.ensures.answer))
+
+pub invariant_of-self-in_default : goal.invariant_of-self-in_default
+invariant_of-self-in_default g c = subst (λ (v : LedgerView). IsKept c.seen.new.desk.desk v) (sym c.in_default.ensures.none) (kept_quiet c.self.inside.desk.desk c.seen.new.desk.desk c.self.inside.ledger c.self.invariant c.seen.ensures.same c.seen.ensures.more (loads_decision c.self.inside.desk.desk c.seen.new.desk.desk c.args.request c.seen.result c.seen.ensures.answer))
+
+pub returns-in_default-clause-kept : goal.returns-in_default-clause-kept
+returns-in_default-clause-kept g c = subst (λ (v : LedgerView). IsKept c.seen.new.desk.desk v) (sym c.in_default.ensures.none) (kept_quiet c.self.inside.desk.desk c.seen.new.desk.desk c.self.inside.ledger c.self.invariant c.seen.ensures.same c.seen.ensures.more (loads_decision c.self.inside.desk.desk c.seen.new.desk.desk c.args.request c.seen.result c.seen.ensures.answer))
+
+pub invariant_of-self-2 : goal.invariant_of-self-2
+invariant_of-self-2 g c =
+    let r : ℕ = c.args.request in
+    let told : told_of c.seen.new.desk.desk.knows.told r ≡ Some Cancelled = search rules in
+    subst (λ (v : LedgerView). IsKept c.leave.new.desk.desk v) (sym c.in-Some.ensures.some)
+    (kept_after c.seen.new.desk.desk c.leave.new.desk.desk c.self.inside.ledger (Strike r c.in-Some._queue) (kept_quiet c.self.inside.desk.desk c.seen.new.desk.desk c.self.inside.ledger c.self.invariant c.seen.ensures.same c.seen.ensures.more (loads_decision c.self.inside.desk.desk c.seen.new.desk.desk c.args.request c.seen.result c.seen.ensures.answer))
+    (subst IsLogOf c.in-Some.ensures.some c.in-Some.ensures.sound)
+    (moves_to c.seen.new.desk.desk c.leave.new.desk.desk r Left c.leave.ensures.services c.leave.ensures.more)
+    (leaves c.seen.new.desk.desk c.leave.new.desk.desk r c.leave.ensures.answer.0 c.leave.ensures.answer.1)
+    (c.leave.ensures.held ∙ (c.seen.ensures.same.1 ∙ c.self.invariant.holds_none))
+    (λ is. told_still c.seen.new.desk.desk.knows c.leave.new.desk.desk.knows r Cancelled c.leave.ensures.more told))
+
+pub returns-clause-kept : goal.returns-clause-kept
+returns-clause-kept g c =
+    let r : ℕ = c.args.request in
+    let told : told_of c.seen.new.desk.desk.knows.told r ≡ Some Cancelled = search rules in
+    subst (λ (v : LedgerView). IsKept c.leave.new.desk.desk v) (sym c.in-Some.ensures.some)
+    (kept_after c.seen.new.desk.desk c.leave.new.desk.desk c.self.inside.ledger (Strike r c.in-Some._queue) (kept_quiet c.self.inside.desk.desk c.seen.new.desk.desk c.self.inside.ledger c.self.invariant c.seen.ensures.same c.seen.ensures.more (loads_decision c.self.inside.desk.desk c.seen.new.desk.desk c.args.request c.seen.result c.seen.ensures.answer))
+    (subst IsLogOf c.in-Some.ensures.some c.in-Some.ensures.sound)
+    (moves_to c.seen.new.desk.desk c.leave.new.desk.desk r Left c.leave.ensures.services c.leave.ensures.more)
+    (leaves c.seen.new.desk.desk c.leave.new.desk.desk r c.leave.ensures.answer.0 c.leave.ensures.answer.1)
+    (c.leave.ensures.held ∙ (c.seen.ensures.same.1 ∙ c.self.invariant.holds_none))
+    (λ is. told_still c.seen.new.desk.desk.knows c.leave.new.desk.desk.knows r Cancelled c.leave.ensures.more told))

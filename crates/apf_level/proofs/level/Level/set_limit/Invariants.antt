@@ -1,6 +1,8 @@
+-- Between two tries the Station set no other limit.
 use Rattle.std.proofs.Common.{◌≡◌}
 use Rattle.apf_gate.specs.Records.{KnowsMore}
 use Rattle.apf_gate.specs.Tokens.{station_gate}
+use Rattle.apf_level.specs.Limits.{SetsSince}
 use Rattle.apf_level.proofs.level.Level.set_limit.Given as goal
 
 abbrev pub invariant-loop : goal.invariant-loop
@@ -10,4 +12,6 @@ invariant-loop g l =
       ends : (goal.iterator-loop g).is_finite l.iterator';
       same : station_gate l.station ≡ station_gate l.fn.station;
       more : KnowsMore l.fn.station.station.knows l.station.station.knows;
+      number : l.station.station.number ≡ l.fn.station.station.number;
+      no_other : SetsSince l.fn.station.station l.fn.limit l.station.station;
     }

@@ -1,4 +1,4 @@
-use Rattle.std.proofs.Common.{◌≡◌, ◌≢◌, refl, sym, ap, ◌∙◌, inl, inr}
+use Rattle.std.proofs.Common.{rules, ◌≡◌, ◌≢◌, refl, sym, ap, ◌∙◌, inl, inr}
 use Rattle.apf_model.specs.declared.response.Response.{Response}
 use Rattle.apf_model.specs.declared.response.Response.TheVariants.{Queue, Reject}
 use Rattle.apf_gate.specs.Tokens.{GateId}
@@ -18,6 +18,7 @@ returns-else-eq-clause-steps g c =
         reads = c.in_default.ensures.answer;
         takes = c.in-Taken.ensures.answer;
         decides = c.decide-decision.ensures.answer;
+        is_lost = search rules;
         gives_back = released.1;
       },
     )))

@@ -1,7 +1,7 @@
 -- A reading keeps the rule.
 use Rattle.std.proofs.Common.{rules}
-use Rattle.apf_stats.proofs.Steps.{reads_as}
+use Rattle.apf_stats.proofs.Steps.{reads}
 use Rattle.apf_stats.proofs.board.Window.stats.Goals as goal
 
 pub load_as-requires : goal.load_as-requires
-load_as-requires g c = (search rules, (search rules, (search rules, reads_as _ _ _ _ c.pass.invariant)))
+load_as-requires g c = (search rules, (search rules, (search rules, reads _ _)))

@@ -65,6 +65,7 @@ module _ (k : LevelId) (d : DeskRecord) (w : WordsView) (ps : List PassToken) (s
     made = made;
     logs_nothing = logs_nothing;
     each = e.each_pass;
+    each_station = e.each_station;
     told = told;
     all_decided = all_decided;
     cancelled_by = λ r low is. e.cancelled_by_one r low (of_words r Cancelled low is);

@@ -59,6 +59,7 @@ ended_same k level level' f f' h ps ds ss same a b e =
       logs_nothing = e.logs_nothing;
       entered = all_same ps ds same (λ (o : Outcome). (o.entered ≡ true) ↔ ((q : ℕ) × Contains h (Enter o.number q))) e.entered;
       each = λ r low. any_same ps ds same (λ (o : Outcome). o.number ≡ r) (e.each r low);
+      each_station = e.each_station;
       told = all_same ps ds same (λ (o : Outcome). f o.number ≡ o.told) e.told;
       all_decided = e.all_decided;
       cancelled_by = e.cancelled_by;

@@ -49,6 +49,8 @@ pub record Ended (k : LevelId) (level : Level) (decision : ℕ → Option Decisi
   pub entered : All (EnteredBy h) passes
   -- each request's Pass was handed in, and was told its decision
   pub each : (r : ℕ) → r < length k.gate.shape.widths → Any (λ (t : PassToken). t.pass.number ≡ r) passes
+  -- each Station was handed in
+  pub each_station : (j : ℕ) → j < k.gate.shape.stations → Any (λ (t : StationToken). t.station.number ≡ j) stations
   pub told : All (λ (t : PassToken). decision t.pass.number ≡ told_own t.pass) passes
   pub all_decided : (r : ℕ) → r < length k.gate.shape.widths → decision r ≢ None
   -- a request is cancelled exactly if a Station that was handed in wrote that

@@ -1,10 +1,10 @@
 -- What a Station's step adds to what it made.
-use Rattle.std.proofs.Common.{◌≡◌, ◌⊎◌, ℕ, true, List, ◌∷◌, ◌++◌, Option, Some, None, ap, ◌∙◌, subst, inl, inr, ⊎_elim}
+use Rattle.std.proofs.Common.{◌≡◌, ◌≢◌, ◌⊎◌, ℕ, true, List, ◌∷◌, ◌++◌, Option, Some, None, ap, ◌∙◌, subst, inl, inr, ⊎_elim}
 use Rattle.apf_words.specs.Level.{Level}
 use Rattle.apf_words.specs.declared.decision.Decision.{Decision}
 use Rattle.apf_words.specs.declared.decision.Decision.TheVariants.{Cancelled}
 use Rattle.apf_model.specs.declared.moves.Move.{Move}
-use Rattle.apf_model.specs.declared.moves.Move.TheVariants.{Decide, Close}
+use Rattle.apf_model.specs.declared.moves.Move.TheVariants.{Decide, Close, SetLimit}
 use Rattle.apf_files.specs.declared.requests.Request.{Request}
 use Rattle.apf_gate.specs.declared.answers.Close.{Close as Closing}
 use Rattle.apf_gate.specs.declared.answers.Close.TheVariants as closing
@@ -21,7 +21,7 @@ use Rattle.apf_gate.specs.Traces.{entry, NoneOf, Made, MadeFirstClose}
 use Rattle.apf_gate.specs.Tokens.{GateId, StationToken, station_gate}
 use Rattle.apf_gate.specs.Ends.{WroteCancelled, ClosedFirst}
 use Rattle.apf_gate.proofs.Traces.{made_own, close_own}
-use Rattle.apf_run.specs.Plans.{IsNamed, SomeCloses, IsFaithful}
+use Rattle.apf_run.specs.Plans.{IsNamed, SomeCloses, SetTo, IsFaithful}
 
 -- the Station made one step more, which was this, after steps of others
 pub record StepsBy (s s' : StationRecord) (own : Option Move) : Type 0 where
@@ -72,22 +72,23 @@ closed_before s s' own step made =
     ⊎_elim (λ o. inl o.1) (λ (o : MadeFirstClose shape (step.between ++ s.knows.trace) who). inr (close_own shape step.between s.knows.trace who step.of_others o)) here
 
 module _ (gate : GateId) (requests : List Request) (s s' : StationToken) where
-  -- it stays faithful by a step that neither cancels nor closes but as requests say
+  -- it stays faithful by a step that neither cancels nor closes but as requests say, and sets no limit
   stays : (own : Option Move) → IsFaithful gate requests s → station_gate s' ≡ station_gate s → StepsBy s.station s'.station own
-      → ((r : ℕ) → own ≡ Some (Decide r Cancelled) → IsNamed requests r) → (own ≡ Some Close → SomeCloses requests) → IsFaithful gate requests s'
-  stays own was same step named closes = record {
+      → ((r : ℕ) → own ≡ Some (Decide r Cancelled) → IsNamed requests r) → (own ≡ Some Close → SomeCloses requests) → ((n : ℕ) → own ≢ Some (SetLimit n)) → IsFaithful gate requests s'
+  stays own was same step named closes sets_none = record {
     own = same ∙ was.own;
     cancels = λ r made. ⊎_elim (named r) (λ (o : WroteCancelled r s). was.cancels r o) (made_before s.station s'.station own (Decide r Cancelled) step made);
     closes = λ made. ⊎_elim closes (λ (o : ClosedFirst s). was.closes o) (closed_before s.station s'.station own step made);
+    limits = λ n made. ⊎_elim (sets_none n) (λ (o : SetTo n s). was.limits n o) (made_before s.station s'.station own (SetLimit n) step made);
   }
 
   pub cancelled : (r : ℕ) (d : Decision) → IsFaithful gate requests s → station_gate s' ≡ station_gate s → IsNamed requests r → CancelsTo s.station r d s'.station → IsFaithful gate requests s'
   cancelled r d was same named to = ⊎_elim
       (λ (o : StationExchangesDecision r s.station s'.station × (d ≡ Cancelled)).
       stays (Some (Decide r Cancelled)) was same (by_decision s.station s'.station r None (Some Cancelled) (Some (Decide r Cancelled)) o.0.0 o.0.1 o.0.2)
-      (λ j is. subst (IsNamed requests) (same_request r j is) named) (λ is. absurd (no_close r is)))
+      (λ j is. subst (IsNamed requests) (same_request r j is) named) (λ is. absurd (no_close r is)) (no_limit r))
       (λ (o : StationLoadsDecision r s.station (Some d) s'.station).
-      stays None was same (by_decision s.station s'.station r (Some d) (Some d) None o.0 o.1 o.2) (λ j is. absurd (no_step (Decide j Cancelled) is)) (λ is. absurd (no_step Close is)))
+      stays None was same (by_decision s.station s'.station r (Some d) (Some d) None o.0 o.1 o.2) (λ j is. absurd (no_step (Decide j Cancelled) is)) (λ is. absurd (no_step Close is)) (λ n is. no_step (SetLimit n) is))
       to
     where
       same_request : (j k : ℕ) → Some (Decide j Cancelled) ≡ Some (Decide k Cancelled) → j ≡ k
@@ -96,15 +97,21 @@ module _ (gate : GateId) (requests : List Request) (s s' : StationToken) where
       no_close : (j : ℕ) → Some (Decide j Cancelled) ≡ Some Close → ⊥
       no_close j is = cc
 
+      no_limit : (j n : ℕ) → Some (Decide j Cancelled) ≡ Some (SetLimit n) → ⊥
+      no_limit j n is = cc
+
       no_step : (m : Move) → None ≡ Some m → ⊥
       no_step m is = cc
 
   closed_by : (level : Level) → IsFaithful gate requests s → station_gate s' ≡ station_gate s → SomeCloses requests → StationClosesLevel s.station level s'.station → IsFaithful gate requests s'
   closed_by level was same said o =
-      stays (Some Close) was same (by_level s.station s'.station level (Some Close) o.0 o.1 o.2) (λ r is. absurd (no_cancel r is)) (λ is. said)
+      stays (Some Close) was same (by_level s.station s'.station level (Some Close) o.0 o.1 o.2) (λ r is. absurd (no_cancel r is)) (λ is. said) no_limit
     where
       no_cancel : (j : ℕ) → Some Close ≡ Some (Decide j Cancelled) → ⊥
       no_cancel j is = cc
+
+      no_limit : (n : ℕ) → Some Close ≡ Some (SetLimit n) → ⊥
+      no_limit n is = cc
 
   pub closed : (answer : Closing) → IsFaithful gate requests s → station_gate s' ≡ station_gate s → SomeCloses requests → ClosesTo s.station answer s'.station → IsFaithful gate requests s'
   closed closing.First was same said to = closed_by to.0 was same said to.1

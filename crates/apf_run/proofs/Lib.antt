@@ -2,4 +2,5 @@ pub mod Faithful
 pub mod Opened
 pub mod Crews
 pub mod Returned
+pub mod Limits
 pub mod Told

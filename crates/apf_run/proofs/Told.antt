@@ -1,12 +1,17 @@
 -- What the end of a level says of the requests that its workers ran.
-use Rattle.std.proofs.Common.{◌≡◌, ℕ, ◌<◌, true, List, length, All, sym, ap, ◌∙◌, subst, arith}
-use Rattle.std.specs.Prelude.{Any, Some, slice_get, reverse}
+use Rattle.std.proofs.Common.{◌≡◌, ℕ, ◌<◌, true, List, map, length, All, sym, ap, ◌∙◌, subst, arith}
+use Rattle.std.specs.Prelude.{Any, Some, slice_get, slice_index_or, reverse}
 use Rattle.std.proofs.lemmas.Option.{slice_get_within, slice_get-get_or}
 use Rattle.apf_words.specs.declared.decision.Decision.TheVariants.{Cancelled}
+use Rattle.apf_words.specs.Level.{Level}
+use Rattle.apf_model.specs.declared.moves.Move.TheVariants.{SetLimit}
 use Rattle.apf_files.specs.declared.requests.Request.{Request}
+use Rattle.apf_gate.specs.declared.record.Actor.TheVariants.{OfStation}
+use Rattle.apf_gate.specs.Traces.{Made}
 use Rattle.apf_gate.specs.Tokens.{PassToken, StationToken}
 use Rattle.apf_gate.specs.Ends.{WroteCancelled, ClosedFirst}
 use Rattle.apf_book.specs.declared.config.Config.{Config}
+use Rattle.apf_book.specs.declared.config.Ask.{Ask}
 use Rattle.apf_book.specs.LedgerView.{LedgerView, IsLogOf, NothingWaits}
 use Rattle.apf_book.specs.Opening.{opening_ledger}
 use Rattle.apf_book.specs.LedgerKept.{AreStats}
@@ -16,6 +21,7 @@ use Rattle.apf_level.specs.Levels.{LevelId}
 use Rattle.apf_level.specs.Reports.{AreSums, Ended}
 use Rattle.apf_run.specs.Sessions.{asks_of}
 use Rattle.apf_run.specs.Plans.{IsNamed, SomeCloses, IsFaithful, closes_it, closes_at, AreOrders}
+use Rattle.apf_run.proofs.Limits.{limit_stays, made_within}
 use Rattle.apf_run.specs.Runs.{Returned, AreFinished, SeenClosed, HasRun, ledger_of}
 
 -- what follows of one of which P holds, where Q holds of each
@@ -27,7 +33,8 @@ module _ (k : LevelId) (config : Config) (requests : List Request) (report : Rep
     (orders : AreOrders k.gate requests requests)
     (finished : AreFinished k.gate requests r)
     (ended : Ended k report.word (slice_get report.decisions.items) (reverse report.log.items) r.dones r.stations)
-    (count : length report.decisions.items ≡ length k.gate.shape.widths) where
+    (count : length report.decisions.items ≡ length k.gate.shape.widths)
+    (limit : k.gate.shape.limit ≡ config.limit) (response : k.gate.shape.response ≡ config.limit_response) (widths : k.gate.shape.widths ≡ map (λ (a : Ask). a.width) (asks_of requests)) where
   in_range : (j : ℕ) → slice_get report.decisions.items j ≡ Some Cancelled → j < length k.gate.shape.widths
   in_range j is = omega (arith, slice_get_within report.decisions.items j Cancelled is, count)
 
@@ -49,6 +56,19 @@ module _ (k : LevelId) (config : Config) (requests : List Request) (report : Rep
       (λ s saw then. then saw) (seen (ap (closes_at requests) here ∙ at)) ended.closed_is_seen)
       (ended.each j low) finished.closed
 
+  -- each Station was handed in, and set no limit
+  sets_none : (j n : ℕ) → j < k.gate.shape.stations → ¬ Made ended.made.trace (OfStation j) (SetLimit n)
+  sets_none j n low made =
+      let any = ended.each_station j low in
+      let s : StationToken = slice_index_or r.stations any.0 any.1 in
+      let faithful : IsFaithful k.gate requests s = finished.faithful any.0 any.1 any.2 in
+      let on = ended.made.goes_on any.0 any.1 any.2 in
+      let number : s.station.number ≡ j = ap (λ (t : StationToken). t.station.number) any.3 ∙ any.4 in
+      faithful.limits n (made_within ended.made.trace s.station.knows.trace (OfStation s.station.number) (SetLimit n) on (subst (λ (i : ℕ). Made ended.made.trace (OfStation i) (SetLimit n)) (sym number) made))
+
+  limit_is : report.word.limit ≡ config.limit
+  limit_is = ap (λ (l : Level). l.limit) ended.made.word ∙ (limit_stays k.gate.shape ended.made.trace ended.made.made sets_none ∙ limit)
+
   same_ledger : record k.opening { history = reverse report.log.items } ≡ ledger_of config requests report
   same_ledger = ap (λ (v : LedgerView). record v { history = reverse report.log.items }) opening
 
@@ -59,6 +79,15 @@ module _ (k : LevelId) (config : Config) (requests : List Request) (report : Rep
       → AreStats report.stats (stats_of k.opening.sizes.deck (reverse report.log.items)) → HasRun config requests report
   told sums stats = record {
     drained = ended.drained;
+    limit = limit_is;
+    made = record {
+      gate = k.gate;
+      limit = limit;
+      response = response;
+      widths = widths;
+      made = record { trace = ended.made.trace; made = ended.made.made; says = ended.made.says; word = ended.made.word; goes_on = λ i d low. absurd (let l = low in omega arith) };
+      logs_nothing = λ alone. ended.logs_nothing (response ∙ alone);
+    };
     of_log = subst IsLogOf same_ledger ended.of_log;
     nobody_waits = subst NothingWaits same_ledger ended.nobody_waits;
     agrees = ended.agrees;

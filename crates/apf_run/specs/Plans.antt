@@ -1,6 +1,9 @@
 -- What the requests of a run ask of the workers' Stations.
 use Rattle.std.specs.Prelude.{◌≡◌, ℕ, true, false, Bool, List, length, Any, Option, Some, None, slice_get}
+use Rattle.apf_model.specs.declared.moves.Move.TheVariants.{SetLimit}
 use Rattle.apf_files.specs.declared.requests.Request.{Request}
+use Rattle.apf_gate.specs.declared.record.Actor.TheVariants.{OfStation}
+use Rattle.apf_gate.specs.Traces.{Made}
 use Rattle.apf_gate.specs.Tokens.{GateId, StationToken, station_gate}
 use Rattle.apf_gate.specs.Ends.{WroteCancelled, ClosedFirst}
 
@@ -21,11 +24,16 @@ closes_it None = false
 abbrev pub closes_at : List Request → ℕ → Bool
 closes_at requests r = closes_it (slice_get requests r)
 
--- the Station is of this gate, cancelled only whom some request names, and closed first only if some request closes
+-- the Station set this limit
+abbrev pub SetTo : ℕ → StationToken → Type 0
+SetTo limit s = Made s.station.knows.trace (OfStation s.station.number) (SetLimit limit)
+
+-- the Station is of this gate, cancelled only whom some request names, closed first only if some request closes, and set no limit
 pub record IsFaithful (gate : GateId) (requests : List Request) (s : StationToken) : Type 0 where
   pub own : station_gate s ≡ gate
   pub cancels : (r : ℕ) → WroteCancelled r s → IsNamed requests r
   pub closes : ClosedFirst s → SomeCloses requests
+  pub limits : (limit : ℕ) → ¬ SetTo limit s
 
 -- the requests are those of the plan, one for each width of the gate
 pub record AreOrders (gate : GateId) (plan requests : List Request) : Type 0 where

@@ -1,4 +1,4 @@
-use Rattle.std.proofs.Common.{refl, ap, ◌∙◌, subst, List}
+use Rattle.std.proofs.Common.{refl, sym, ap, ◌∙◌, subst, List, map}
 use Rattle.std.specs.Prelude.{slice_get, reverse}
 use Rattle.apf_book.specs.declared.config.Ask.{Ask}
 use Rattle.apf_book.specs.Opening.{opening_ledger}
@@ -27,4 +27,8 @@ returns g c =
     (subst (λ (plan : List Request). AreFinished k.gate plan finished) c.requires.plan c.into_parts-dones.ensures.finished)
     (subst (λ (dones : List PassToken). Ended k report.word (slice_get report.decisions.items) (reverse report.log.items) dones finished.stations) c.into_parts-dones.ensures.dones
     (subst (λ (stations : List StationToken). Ended k report.word (slice_get report.decisions.items) (reverse report.log.items) c.into_parts-dones.result.0.items stations) c.into_parts-dones.ensures.stations
-    c.in_ok-end.ensures.ended)) c.in_ok-end.ensures.count c.in_ok-end.ensures.sums c.in_ok-end.ensures.stats
+    c.in_ok-end.ensures.ended)) c.in_ok-end.ensures.count
+    (ap (λ (l : LevelId). l.gate.shape.limit) c.requires.level ∙ c.args.opening.limit_is)
+    (ap (λ (l : LevelId). l.gate.shape.response) c.requires.level ∙ c.args.opening.response_is)
+    (ap (λ (l : LevelId). l.gate.shape.widths) c.requires.level ∙ (sym c.args.opening.widths_are ∙ ap (λ (asks : List Ask). map (λ (a : Ask). a.width) asks) c.requires.asks))
+    c.in_ok-end.ensures.sums c.in_ok-end.ensures.stats

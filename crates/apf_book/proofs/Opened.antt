@@ -1,5 +1,5 @@
 -- The laws of histories, opened.
-use Rattle.apf_book.specs.Histories.{Laws, LegalLaws, Balanced, FairLaw}
+use Rattle.apf_book.specs.Histories.{Laws, LegalLaws, Balanced, FairLaw, Isolated, IsolationLaw, Waits, WaitLaws}
 
 pub opened : LegalLaws → Laws
 unfolding LegalLaws
@@ -8,3 +8,11 @@ opened laws = laws
 pub balanced : FairLaw → Balanced
 unfolding FairLaw
 balanced law = law
+
+pub isolated : IsolationLaw → Isolated
+unfolding IsolationLaw
+isolated law = law
+
+pub waits : WaitLaws → Waits
+unfolding WaitLaws
+waits laws = laws

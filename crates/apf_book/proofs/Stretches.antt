@@ -1,16 +1,18 @@
 -- The histories of a log at its places, and what is counted of a queue along them.
 use Rattle.std.proofs.Common.{◌≡◌, ℕ, zero, suc, ◌+◌, ◌-◌, ◌*◌, ◌<◌, ◌≤◌, Bool, true, false, cond, List, [], ◌∷◌, ◌++◌, length, take, drop, get_or, reverse, length-drop, refl, sym, ap, ◌∙◌, subst, arith}
-use Rattle.std.specs.Prelude.{count_by, MatchOption, IfSome, Option, Some, None}
+use Rattle.std.specs.Prelude.{Contains, count_by, MatchOption, IfSome, Option, Some, None}
 use Rattle.std.proofs.Math.Seq.{take-add, take-length, drop-append_seam}
 use Rattle.std.proofs.lemmas.List.{take_more, drop-take, length-take-le, length-reverse, reverse-append, drop-append-le}
 use Rattle.std.proofs.lemmas.List.Sums.{sum_by-cons}
+use Rattle.std.proofs.lemmas.Option.{get_or_from_slice_get}
 use Rattle.apf_history.specs.declared.events.Event.{Event}
 use Rattle.apf_history.specs.declared.events.Event.TheVariants.{Enter, Full, Dispatch, Strike}
 use Rattle.apf_model.specs.History.{waiting}
 use Rattle.apf_model.specs.Fair.{IsFair, service, IsNeverEmpty, widest, DifferAtMost}
 use Rattle.apf_model.specs.Order.{is_enter_into, is_dispatch_from, is_strike_from, AreCounted}
-use Rattle.apf_book.specs.Stretch.{history_at, IsBacklogged, service_in}
-use Rattle.apf_book.specs.Histories.{Balanced}
+use Rattle.apf_model.specs.Waits.{granted}
+use Rattle.apf_book.specs.Stretch.{history_at, IsBacklogged, service_in, IsIsolated, WaitsFrom, seats_before, IsBounded, AreWaitsBounded}
+use Rattle.apf_book.specs.Histories.{Balanced, Isolated, Waits}
 use Rattle.apf_book.specs.Counted.{coming, leaving}
 
 -- the history some events later
@@ -103,10 +105,13 @@ module _ (log : List Event) (from to : ℕ) (in_order : from ≤ to) (in_log : t
   pub whole : reverse log ≡ reverse (take (length log - to) (drop to log)) ++ (stretch ++ history_at log from)
   whole = history_whole log to in_log ∙ ap (λ (xs : List Event). reverse (take (length log - to) (drop to log)) ++ xs) now
 
-  pub service_is : (widths : List ℕ) (q : ℕ) → service_in widths log from to q ≡ service widths stretch q
-  service_is widths q =
+  pub stretch_is : reverse (drop from (take to log)) ≡ stretch
+  stretch_is =
       let n : to ≡ from + (to - from) = omega arith in
-      ap (λ (k : ℕ). service_in widths log from k q) n ∙ ap (λ (xs : List Event). service widths (reverse xs) q) (drop-take from (to - from) log)
+      ap (λ (k : ℕ). reverse (drop from (take k log))) n ∙ ap (λ (xs : List Event). reverse xs) (drop-take from (to - from) log)
+
+  pub service_is : (widths : List ℕ) (q : ℕ) → service_in widths log from to q ≡ service widths stretch q
+  service_is widths q = ap (λ (xs : List Event). service widths xs q) stretch_is
 
   earlier : (k : ℕ) → k ≤ to - from → drop k (stretch ++ history_at log from) ≡ history_at log (to - k)
   earlier k l =
@@ -141,3 +146,47 @@ module _ (law : Balanced) (log : List Event) (widths : List ℕ) (from to a b : 
       let near = services_differ is.0 is.1 queues hands limit fair la lb in
       let over = near.0 in let under = near.1 in let is_a = is.2 in let is_b = is.3 in
       (omega arith, omega arith)
+
+module _ (log : List Event) (widths : List ℕ) (queues : ℕ) (hands : ℕ → List ℕ) (limit : ℕ) (fair : IsFair queues widths hands limit (reverse log)) where
+  -- no queue is served much more than one that is never empty
+  pub services_isolated : Isolated → IsIsolated queues widths log
+  unfolding IsIsolated
+  services_isolated law = λ from to q other in_order in_log lq lo some.
+      let near = law queues widths hands limit (reverse (take (length log - to) (drop to log))) (stretch log from to in_order in_log) (history_at log from) q other
+      (subst (IsFair queues widths hands limit) (whole log from to in_order in_log) fair) lq lo (never_empty log from to in_order in_log q some) in
+      let at_q = service_is log from to in_order in_log widths q in let at_other = service_is log from to in_order in_log widths other in
+      omega arith
+
+  module _ (laws : Waits) (from to r q : ℕ) (waits : WaitsFrom log from to r q) (lq : q < queues) where
+    abbrev later : List Event
+    later = reverse (take (length log - to) (drop to log))
+
+    abbrev since : List Event
+    since = stretch log (from + 1) to (omega (arith, waits.0)) waits.1
+
+    before : history_at log (from + 1) ≡ Enter r q ∷ history_at log from
+    before = history_more log from (Enter r q) (omega (arith, waits.0, waits.1)) ∙ ap (λ (e : Event). e ∷ history_at log from) (get_or_from_slice_get log from (Enter r q) (Enter r q) waits.2)
+
+    is_fair : IsFair queues widths hands limit (later ++ (since ++ Enter r q ∷ history_at log from))
+    is_fair = subst (λ (h : List Event). IsFair queues widths hands limit (later ++ (since ++ h))) before
+        (subst (IsFair queues widths hands limit) (whole log (from + 1) to (omega (arith, waits.0)) waits.1) fair)
+
+    still : Contains (waiting (since ++ Enter r q ∷ history_at log from) q) r
+    still = subst (λ (h : List Event). Contains (waiting h q) r) (now log (from + 1) to (omega (arith, waits.0)) waits.1 ∙ ap (λ (h : List Event). since ++ h) before) waits.3
+
+    same : reverse (drop (from + 1) (take to log)) ≡ since
+    same = stretch_is log (from + 1) to (omega (arith, waits.0)) waits.1
+
+    wait_bounded : IsBounded queues widths log (from + 1) to q (seats_before widths log from q)
+    wait_bounded = record {
+      own = subst (λ (s : List Event). service widths s q ≤ seats_before widths log from q) (sym same) (laws.own queues widths hands limit later since (history_at log from) q r is_fair still);
+      others = λ other lo. subst (λ (s : List Event). service widths s other ≤ seats_before widths log from q + 2 * widest widths) (sym same)
+          (laws.others queues widths hands limit later since (history_at log from) q r is_fair still lq other lo);
+      all = subst (λ (s : List Event). granted queues widths s ≤ seats_before widths log from q + (queues - 1) * (seats_before widths log from q + 2 * widest widths)) (sym same)
+          (laws.all queues widths hands limit later since (history_at log from) q r is_fair still lq);
+    }
+
+  -- what is granted while a request waits is bounded
+  pub waits_bounded : Waits → AreWaitsBounded queues widths log
+  unfolding AreWaitsBounded
+  waits_bounded laws = wait_bounded laws

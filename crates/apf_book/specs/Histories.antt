@@ -1,8 +1,10 @@
 -- The laws of histories, closed: no search looks into them, and a proof that needs one opens them.
-use Rattle.std.specs.Prelude.{ℕ, ◌*◌, ◌<◌, List, ◌++◌, length}
+use Rattle.std.specs.Prelude.{ℕ, ◌+◌, ◌-◌, ◌*◌, ◌<◌, ◌≤◌, List, ◌∷◌, ◌++◌, length, Contains}
 use Rattle.apf_history.specs.declared.events.Event.{Event}
-use Rattle.apf_model.specs.History.{MayFollow, IsLegal}
+use Rattle.apf_history.specs.declared.events.Event.TheVariants.{Enter}
+use Rattle.apf_model.specs.History.{waiting, MayFollow, IsLegal}
 use Rattle.apf_model.specs.Fair.{IsFair, service, IsNeverEmpty, widest, DifferAtMost}
+use Rattle.apf_model.specs.Waits.{total_width, granted}
 use Rattle.apf_model.specs.Order.{AreInOrder, AreStatuses, AreCounted, Follows}
 
 -- the laws of every legal history
@@ -27,3 +29,30 @@ Balanced = (queues : ℕ) (widths : List ℕ) (hands : ℕ → List ℕ) (limit 
 -- the same, closed
 unfoldable pub FairLaw : Type 0
 FairLaw = Balanced
+
+-- the law of every fair history, of a queue that is never empty and another
+abbrev pub Isolated : Type 0
+Isolated = (queues : ℕ) (widths : List ℕ) (hands : ℕ → List ℕ) (limit : ℕ) (later stretch earlier : List Event) (q other : ℕ)
+    → IsFair queues widths hands limit (later ++ (stretch ++ earlier)) → q < queues → other < queues
+    → IsNeverEmpty (stretch ++ earlier) (length stretch) q
+    → service widths stretch other ≤ service widths stretch q + 2 * widest widths
+
+-- the same, closed
+unfoldable pub IsolationLaw : Type 0
+IsolationLaw = Isolated
+
+-- the laws of a request that entered and waits still
+pub record Waits : Type 0 where
+  pub own : (queues : ℕ) (widths : List ℕ) (hands : ℕ → List ℕ) (limit : ℕ) (later stretch earlier : List Event) (q r : ℕ)
+      → IsFair queues widths hands limit (later ++ (stretch ++ Enter r q ∷ earlier)) → Contains (waiting (stretch ++ Enter r q ∷ earlier) q) r
+      → service widths stretch q ≤ total_width widths (waiting earlier q)
+  pub others : (queues : ℕ) (widths : List ℕ) (hands : ℕ → List ℕ) (limit : ℕ) (later stretch earlier : List Event) (q r : ℕ)
+      → IsFair queues widths hands limit (later ++ (stretch ++ Enter r q ∷ earlier)) → Contains (waiting (stretch ++ Enter r q ∷ earlier) q) r
+      → q < queues → (other : ℕ) → other < queues → service widths stretch other ≤ total_width widths (waiting earlier q) + 2 * widest widths
+  pub all : (queues : ℕ) (widths : List ℕ) (hands : ℕ → List ℕ) (limit : ℕ) (later stretch earlier : List Event) (q r : ℕ)
+      → IsFair queues widths hands limit (later ++ (stretch ++ Enter r q ∷ earlier)) → Contains (waiting (stretch ++ Enter r q ∷ earlier) q) r
+      → q < queues → granted queues widths stretch ≤ total_width widths (waiting earlier q) + (queues - 1) * (total_width widths (waiting earlier q) + 2 * widest widths)
+
+-- the same, closed
+unfoldable pub WaitLaws : Type 0
+WaitLaws = Waits

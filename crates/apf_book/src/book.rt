@@ -14,7 +14,7 @@ ghost use Rattle.apf_gate.specs.Tokens.{pass_gate, desk_gate};
 ghost use Rattle.apf_gate.specs.JoinedSteps.{JoinedLoadsDecision};
 ghost use Rattle.apf_book.specs.Opening.{opening_ledger, IsFaultOf, AreSettings};
 ghost use Rattle.apf_book.specs.LedgerKept.{AreStats};
-ghost use Rattle.apf_book.specs.Stretch.{IsBacklogged, service_in};
+ghost use Rattle.apf_book.specs.Stretch.{IsBacklogged, service_in, IsIsolated, AreWaitsBounded};
 ghost use Rattle.apf_book.specs.BookView.{IsKept};
 ghost use Rattle.apf_book.specs.Arrivals.{arrival, IsTold, SaysOpen};
 ghost use Rattle.apf_book.specs.Servings.{with, Turns, Serves, Stops, Strikes};
@@ -212,8 +212,13 @@ impl<A: Allocator> Book<A> {
         self.ledger.stats()
     }
 
-    /// The log, the oldest event first. In every stretch of it in which two queues are never empty,
-    /// both ends included, their services differ by at most twice the largest width.
+    /// The log, the oldest event first.
+    ///
+    /// In every stretch of it in which two queues are never empty, both ends included, their services
+    /// differ by at most twice the largest width. In which one queue is never empty, no other is served
+    /// more than that one and so much, whether it was empty in between or not. While a request waits, its
+    /// own queue is given at most the seats of those before it, and each other queue at most these and
+    /// twice the largest width.
     pub fn log(&self) -> &[Event]
         ensures log { reverse result.now ≡ self.now.ledger.history }
         ensures balanced { (from to a b : ℕ) → from ≤ to → to ≤ length result.now
@@ -221,6 +226,8 @@ impl<A: Allocator> Book<A> {
             → IsBacklogged result.now from to a → IsBacklogged result.now from to b
             → DifferAtMost (2 * widest self.now.ledger.widths) (service_in self.now.ledger.widths result.now from to a)
             (service_in self.now.ledger.widths result.now from to b) }
+        ensures isolated { IsIsolated self.now.ledger.sizes.deck self.now.ledger.widths result.now }
+        ensures waits { AreWaitsBounded self.now.ledger.sizes.deck self.now.ledger.widths result.now }
         ensures kept { IsKept self.now.desk.desk self.now.ledger }
     {
         self.ledger.log()

@@ -3,9 +3,12 @@
 //! A law with for-all statements is tried at each goal of the function that calls it. These say the laws
 //! in a word that no search looks into; a proof that needs one opens it by a lemma.
 
-ghost use Rattle.apf_book.specs.Histories.{LegalLaws, FairLaw};
+ghost use Rattle.apf_book.specs.Histories.{LegalLaws, FairLaw, IsolationLaw, WaitLaws};
 
-use apf_model::{every_fair_history_is_balanced, every_legal_history_is_in_order};
+use apf_model::{
+    every_fair_history_is_balanced, every_fair_history_isolates, every_legal_history_is_in_order,
+    every_wait_is_bounded,
+};
 
 // The laws of every legal history.
 pub fn legal_histories_are_in_order()
@@ -19,4 +22,18 @@ pub fn fair_histories_are_balanced()
     ensures { FairLaw }
 {
     every_fair_history_is_balanced();
+}
+
+// The law of every fair history, of a queue that is never empty and another.
+pub fn fair_histories_isolate()
+    ensures { IsolationLaw }
+{
+    every_fair_history_isolates();
+}
+
+// The laws of a request that entered and waits still.
+pub fn waits_are_bounded()
+    ensures { WaitLaws }
+{
+    every_wait_is_bounded();
 }

@@ -9,12 +9,15 @@ ghost use Rattle.apf_model.specs.Outcome.{stats_of};
 ghost use Rattle.apf_book.specs.Opening.{opening_ledger, IsFaultOf, AreSettings};
 ghost use Rattle.apf_book.specs.LedgerView.{hand_in, after, IsLogOf, Arrives, NothingWaits, IsNext};
 ghost use Rattle.apf_book.specs.LedgerKept.{AreStats};
-ghost use Rattle.apf_book.specs.Stretch.{IsBacklogged, service_in};
+ghost use Rattle.apf_book.specs.Stretch.{IsBacklogged, service_in, IsIsolated, AreWaitsBounded};
 ghost use Rattle.apf_model.specs.Fair.{widest, DifferAtMost};
 
 use crate::config::{Ask, Config};
 use crate::fault::BookFault;
-use crate::histories::{fair_histories_are_balanced, legal_histories_are_in_order};
+use crate::histories::{
+    fair_histories_are_balanced, fair_histories_isolate, legal_histories_are_in_order,
+    waits_are_bounded,
+};
 use crate::stats::Stats;
 use apf_flow::Dealer;
 use apf_model::Event;
@@ -235,7 +238,8 @@ impl<A: Allocator> Ledger<A> {
     }
 
     // The log, the oldest event first. In every stretch of it in which two queues are never empty,
-    // their services differ by at most twice the largest width.
+    // their services differ by at most twice the largest width; in which one is, no other is served more
+    // than that one and so much; and while a request waits, what is granted is bounded.
     pub fn log(&self) -> &[Event]
         ensures log { reverse result.now ≡ self.now.history }
         ensures sound { IsLogOf self.now }
@@ -244,8 +248,12 @@ impl<A: Allocator> Ledger<A> {
             → IsBacklogged result.now from to a → IsBacklogged result.now from to b
             → DifferAtMost (2 * widest self.now.widths) (service_in self.now.widths result.now from to a)
             (service_in self.now.widths result.now from to b) }
+        ensures isolated { IsIsolated self.now.sizes.deck self.now.widths result.now }
+        ensures waits { AreWaitsBounded self.now.sizes.deck self.now.widths result.now }
     {
         fair_histories_are_balanced();
+        fair_histories_isolate();
+        waits_are_bounded();
         self.log.as_slice()
     }
 

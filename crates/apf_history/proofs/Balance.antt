@@ -1,5 +1,5 @@
--- Two queues that are never empty are served alike.
-use Rattle.std.proofs.Common.{◌≡◌, ◌≢◌, ℕ, zero, suc, ◌+◌, ◌*◌, ◌<◌, ◌≤◌, inl, inr, Bool, cond, List, [], ◌∷◌, ◌++◌, length, refl, sym, ap, ◌∙◌, arith}
+-- No queue is served much more than one that is never empty.
+use Rattle.std.proofs.Common.{◌≡◌, ◌≢◌, ℕ, zero, suc, ◌+◌, ◌*◌, ◌<◌, ◌≤◌, ◌⊎◌, inl, inr, Bool, cond, List, [], ◌∷◌, ◌++◌, length, refl, sym, ap, ◌∙◌, arith}
 use Rattle.std.specs.Prelude.{max, slice_index}
 use Rattle.std.proofs.lemmas.Bool.{cases_eq, eq-eqb, ne_eqb}
 use Rattle.apf_history.specs.declared.events.Event.{Event}
@@ -163,20 +163,120 @@ grows queues widths q (Dispatch r p ∷ stretch) h never =
           omega arith)
     ]
 
--- someone waits where the stretch begins
-at_start : (q : ℕ) (stretch h : List Event) → IsNeverEmpty (stretch ++ h) (length stretch) q → waiting h q ≢ []
-at_start q [] h never = never 0 (omega arith)
-at_start q (e ∷ stretch) h never = at_start q stretch h (λ k l. never (suc k) (omega arith))
+-- a list is empty or is not
+is_empty : (xs : List ℕ) → (xs ≡ []) ⊎ (xs ≢ [])
+is_empty [] = inl refl
+is_empty (x ∷ xs) = inr (λ e. cc)
 
+still_empty : (xs : List ℕ) → ¬ (xs ≢ []) → xs ≡ []
+still_empty [] never = refl
+still_empty (x ∷ xs) never = absurd (never (λ e. cc))
+
+time_enter : (v : Numbers) (p : ℕ) (ws : List ℕ) → (after_enter p ws v).virtual_time ≡ v.virtual_time
+time_enter v p [] = refl
+time_enter v p (w ∷ ws) = refl
+
+-- an Enter takes no queue's next back
+next_enter_least : (v : Numbers) (p b : ℕ) (ws : List ℕ) → v.next b ≤ (after_enter p ws v).next b
+next_enter_least v p b (w ∷ ws) = omega arith
+next_enter_least v p b [] = elim (cases_eq b p) [
+  | inl same ↦ (let e = ap v.next same in let n : put v.next p (max (v.next p) v.virtual_time) b ≡ max (v.next p) v.virtual_time = ap (put v.next p (max (v.next p) v.virtual_time)) same ∙ put_here v.next p (max (v.next p) v.virtual_time) in omega arith)
+  | inr other ↦ (let n : put v.next p (max (v.next p) v.virtual_time) b ≡ v.next b = put_else v.next p (max (v.next p) v.virtual_time) b other in omega arith)
+]
+
+-- a queue that stops being empty starts no earlier than the level's virtual time
+next_entered : (v : Numbers) (p b : ℕ) (ws : List ℕ) → p ≡ b → ws ≡ [] → v.virtual_time ≤ (after_enter p ws v).next b
+next_entered v p b (w ∷ ws) same none = absurd (cons_some w ws none) where
+  cons_some : (y : ℕ) (ys : List ℕ) → (y ∷ ys) ≡ [] → ⊥
+  cons_some y ys e = cc
+next_entered v p b [] same none = (let n : put v.next p (max (v.next p) v.virtual_time) b ≡ max (v.next p) v.virtual_time = ap (put v.next p (max (v.next p) v.virtual_time)) (sym same) ∙ put_here v.next p (max (v.next p) v.virtual_time) in omega arith)
+
+-- over a stretch the level's virtual time does not go back
+time_grows : (queues : ℕ) (widths : List ℕ) (stretch h : List Event) → (numbers queues widths h).virtual_time ≤ (numbers queues widths (stretch ++ h)).virtual_time
+time_grows queues widths [] h = omega arith
+time_grows queues widths (Enter r p ∷ stretch) h = let old = time_grows queues widths stretch h in let same = time_enter (numbers queues widths (stretch ++ h)) p (waiting (stretch ++ h) p) in omega arith
+time_grows queues widths (Full r p ∷ stretch) h = time_grows queues widths stretch h
+time_grows queues widths (Strike r p ∷ stretch) h = time_grows queues widths stretch h
+time_grows queues widths (Dispatch r p ∷ stretch) h = let old = time_grows queues widths stretch h in omega arith
+
+-- a number that every queue that is not empty and the level's virtual time have almost reached when a stretch begins: what a queue is served
+-- in the stretch brings its next past that number, or it was not served and is empty
+abbrev Reached : (queues : ℕ) (widths : List ℕ) (from most : ℕ) (b : ℕ) (stretch h : List Event) → Type 0
+Reached queues widths from most b stretch h =
+    ((service widths stretch b ≡ 0) × (waiting (stretch ++ h) b ≡ []))
+    ⊎ (service widths stretch b + from ≤ (numbers queues widths (stretch ++ h)).next b + most)
+
+reached : (queues : ℕ) (widths : List ℕ) (from most b : ℕ) (stretch h : List Event)
+    → DispatchesChoices queues widths (stretch ++ h)
+    → (waiting h b ≢ [] → from ≤ (numbers queues widths h).next b + most)
+    → from ≤ (numbers queues widths h).virtual_time + most
+    → Reached queues widths from most b stretch h
+reached queues widths from most b [] h d waits time = elim (is_empty (waiting h b)) [
+  | inl none ↦ inl (refl, none)
+  | inr some ↦ (let w = waits some in inr (omega arith))
+]
+reached queues widths from most b (Enter r p ∷ stretch) h d waits time =
+    let old = reached queues widths from most b stretch h d waits time in
+    let grown = time_grows queues widths stretch h in
+    let v = numbers queues widths (stretch ++ h) in
+    elim (cases_eq p b) [
+      | inl same ↦ elim old [
+        | inl none ↦ (let here = next_entered v p b (waiting (stretch ++ h) p) same (ap (waiting (stretch ++ h)) same ∙ none.1) in let zero_is = none.0 in inr (omega arith))
+        | inr high ↦ (let here = next_enter_least v p b (waiting (stretch ++ h) p) in inr (omega arith))
+      ]
+      | inr other ↦ elim old [
+        | inl none ↦ inl (none.0, waiting_else (stretch ++ h) r p b other ∙ none.1)
+        | inr high ↦ (let here = next_enter_least v p b (waiting (stretch ++ h) p) in inr (omega arith))
+      ]
+    ]
+reached queues widths from most b (Full r p ∷ stretch) h d waits time = reached queues widths from most b stretch h d waits time
+reached queues widths from most b (Strike r p ∷ stretch) h d waits time = elim (reached queues widths from most b stretch h d waits time) [
+  | inl none ↦ inl (none.0, still_empty (waiting (Strike r p ∷ (stretch ++ h)) b) (λ some. was_strike (stretch ++ h) r p b some none.1))
+  | inr high ↦ inr high
+]
+reached queues widths from most b (Dispatch r p ∷ stretch) h d waits time =
+    let old = reached queues widths from most b stretch h d.1 waits time in
+    let v = numbers queues widths (stretch ++ h) in
+    elim (cases_eq p b) [
+      | inl same ↦ elim old [
+        | inl none ↦ absurd (d.0.is_waited_in (ap (waiting (stretch ++ h)) same ∙ none.1))
+        | inr high ↦
+          (let n : put v.next p (v.next p + width widths r) b ≡ v.next p + width widths r = ap (put v.next p (v.next p + width widths r)) (sym same) ∙ put_here v.next p (v.next p + width widths r) in
+          let e : v.next p ≡ v.next b = ap v.next same in
+          let s : service widths (Dispatch r p ∷ stretch) b ≡ service widths stretch b + width widths r = ap (λ (y : Bool). cond y (service widths stretch b + width widths r) (service widths stretch b)) (eq-eqb p b same) in
+          inr (omega arith))
+      ]
+      | inr ne ↦
+          (let n : put v.next p (v.next p + width widths r) b ≡ v.next b = put_else v.next p (v.next p + width widths r) b (λ x. ne (sym x)) in
+          let s : service widths (Dispatch r p ∷ stretch) b ≡ service widths stretch b = ap (λ (y : Bool). cond y (service widths stretch b + width widths r) (service widths stretch b)) (ne_eqb p b ne) in
+          elim old [
+            | inl none ↦ inl (s ∙ none.0, still_empty (waiting (Dispatch r p ∷ (stretch ++ h)) b) (λ some. was_dispatch (stretch ++ h) r p b some none.1))
+            | inr high ↦ inr (omega arith)
+          ])
+    ]
+
+-- while q is never empty, no queue is served more than q and twice the largest width
+pub isolated : (queues : ℕ) (widths : List ℕ) (hands : ℕ → List ℕ) (limit : ℕ) (later stretch earlier : List Event) (q other : ℕ)
+    → IsFair queues widths hands limit (later ++ (stretch ++ earlier)) → q < queues → other < queues
+    → IsNeverEmpty (stretch ++ earlier) (length stretch) q
+    → service widths stretch other ≤ service widths stretch q + 2 * widest widths
+isolated queues widths hands limit later stretch earlier q other f lq lo never =
+    let fair = IsFair-append queues widths hands limit later (stretch ++ earlier) f in
+    let end = near queues widths hands limit (stretch ++ earlier) fair in
+    let start = near queues widths hands limit earlier (IsFair-append queues widths hands limit stretch earlier fair) in
+    let g = grows queues widths q stretch earlier never in
+    let e = end.next other q lq (never 0 (omega arith)) in
+    elim (reached queues widths ((numbers queues widths earlier).next q) (widest widths) other stretch earlier fair.1 (λ some. start.next q other lo some) (start.ahead q)) [
+      | inl none ↦ (let z = none.0 in omega arith)
+      | inr high ↦ omega arith
+    ]
+
+-- so two queues that are never empty are served alike
 pub balanced : (queues : ℕ) (widths : List ℕ) (hands : ℕ → List ℕ) (limit : ℕ) (later stretch earlier : List Event) (a b : ℕ)
     → IsFair queues widths hands limit (later ++ (stretch ++ earlier)) → a < queues → b < queues
     → IsNeverEmpty (stretch ++ earlier) (length stretch) a → IsNeverEmpty (stretch ++ earlier) (length stretch) b
     → DifferAtMost (2 * widest widths) (service widths stretch a) (service widths stretch b)
-balanced queues widths hands limit later stretch earlier a b f la lb na nb =
-    let fair = IsFair-append queues widths hands limit later (stretch ++ earlier) f in
-    let end = near queues widths hands limit (stretch ++ earlier) fair in
-    let start = near queues widths hands limit earlier (IsFair-append queues widths hands limit stretch earlier fair) in
-    let ga = grows queues widths a stretch earlier na in let gb = grows queues widths b stretch earlier nb in
-    let end_a = end.next b a la (na 0 (omega arith)) in let end_b = end.next a b lb (nb 0 (omega arith)) in
-    let start_a = start.next b a la (at_start a stretch earlier na) in let start_b = start.next a b lb (at_start b stretch earlier nb) in
-    (omega arith, omega arith)
+balanced queues widths hands limit later stretch earlier a b fair la lb na nb = (
+  isolated queues widths hands limit later stretch earlier b a fair lb la nb,
+  isolated queues widths hands limit later stretch earlier a b fair la lb na,
+)

@@ -5,3 +5,4 @@ pub mod Statuses
 pub mod Numbers
 pub mod QueueOrder
 pub mod Balance
+pub mod Waits

@@ -1,7 +1,7 @@
 -- Who waits in a legal history, and what each event makes of it.
 use Rattle.std.proofs.Common.{◌≡◌, ◌≢◌, ℕ, suc, ◌+◌, ◌≤◌, ◌⊎◌, inl, inr, Bool, true, false, cond, not, eqb, List, [], ◌∷◌, ◌++◌, length, drop, Some, refl, sym, ap, ◌∙◌, subst, arith}
 use Rattle.std.specs.Prelude.{◌||◌, Contains, slice_get, filter}
-use Rattle.std.proofs.lemmas.Bool.{cases_eq, eq-eqb, ne_eqb, false≢true}
+use Rattle.std.proofs.lemmas.Bool.{cases_eq, eq-eqb, ne_eqb, false≢true, or_left, or_right}
 use Rattle.std.proofs.lemmas.List.{length_push}
 use Rattle.std.proofs.lemmas.List.Elements.{filter-append, All-contains, All-contains_itself, All-filter, Contains-push_cases}
 use Rattle.apf_history.specs.declared.events.Event.{Event}
@@ -15,13 +15,6 @@ use Rattle.apf_history.proofs.Lists.{without, AreApart, Contains-none, NotIn-fro
 pub or_false : (a b : Bool) → (a || b) ≡ false → (a ≡ false) × (b ≡ false)
 or_false true b e = absurd (false≢true (sym e))
 or_false false b e = (refl, e)
-
-or_right : (a b : Bool) → b ≡ true → (a || b) ≡ true
-or_right true b e = refl
-or_right false b e = e
-
-or_left : (a b : Bool) → a ≡ true → (a || b) ≡ true
-or_left a b e = ap (λ (c : Bool). c || b) e
 
 pub other_number : (j r : ℕ) → eqb j r ≡ false → j ≢ r
 other_number j r e same = false≢true (sym e ∙ eq-eqb j r same)

@@ -1,9 +1,11 @@
 //! What every legal history keeps, and every fair one.
 
-ghost use Rattle.std.specs.Prelude.{ℕ, ◌*◌, ◌<◌, List, ◌++◌, length};
+ghost use Rattle.std.specs.Prelude.{ℕ, ◌+◌, ◌-◌, ◌*◌, ◌<◌, ◌≤◌, List, ◌∷◌, ◌++◌, length, Contains};
 ghost use Rattle.apf_history.specs.declared.events.Event.{Event};
-ghost use Rattle.apf_history.specs.History.{MayFollow, IsLegal};
+ghost use Rattle.apf_history.specs.declared.events.Event.TheVariants.{Enter};
+ghost use Rattle.apf_history.specs.History.{waiting, MayFollow, IsLegal};
 ghost use Rattle.apf_history.specs.Fair.{IsFair, service, IsNeverEmpty, widest, DifferAtMost};
+ghost use Rattle.apf_history.specs.Waits.{total_width, granted};
 ghost use Rattle.apf_history.specs.Order.{AreInOrder, AreStatuses, AreCounted, Follows};
 
 /// Every legal history is in order: for any hands of the requests, any length limit, and events that
@@ -46,4 +48,46 @@ pub fn every_fair_history_is_balanced()
         → IsNeverEmpty (stretch ++ earlier) (length stretch) a
         → IsNeverEmpty (stretch ++ earlier) (length stretch) b
         → DifferAtMost (2 * widest widths) (service widths stretch a) (service widths stretch b) }
+{}
+
+/// Every fair history isolates its queues: in every stretch of it in which a queue is never empty, both
+/// ends included, no other queue is served more than that one and twice the largest width of the requests,
+/// whether the other was empty in between or not.
+///
+/// It runs no code: the contract is the law.
+pub fn every_fair_history_isolates()
+    ensures isolated { (queues : ℕ) (widths : List ℕ) (hands : ℕ → List ℕ) (limit : ℕ)
+        (later stretch earlier : List Event) (q other : ℕ)
+        → IsFair queues widths hands limit (later ++ (stretch ++ earlier)) → q < queues → other < queues
+        → IsNeverEmpty (stretch ++ earlier) (length stretch) q
+        → service widths stretch other ≤ service widths stretch q + 2 * widest widths }
+{}
+
+/// In every fair history every wait is bounded. Let a request have entered a queue after the earlier events,
+/// and wait in it still after the stretch that followed. In that stretch its own queue was served at most the
+/// widths of those that waited in it when the request entered, the seats before it. Each other queue was
+/// served at most these and twice the largest width of the requests; and all queues together at most so much
+/// for each.
+///
+/// So a request is served after a number of seats that its own queue and the number of queues bound, whatever
+/// arrives elsewhere. It runs no code: the contract is the law.
+pub fn every_wait_is_bounded()
+    ensures own { (queues : ℕ) (widths : List ℕ) (hands : ℕ → List ℕ) (limit : ℕ)
+        (later stretch earlier : List Event) (q r : ℕ)
+        → IsFair queues widths hands limit (later ++ (stretch ++ Enter r q ∷ earlier))
+        → Contains (waiting (stretch ++ Enter r q ∷ earlier) q) r
+        → service widths stretch q ≤ total_width widths (waiting earlier q) }
+    ensures others { (queues : ℕ) (widths : List ℕ) (hands : ℕ → List ℕ) (limit : ℕ)
+        (later stretch earlier : List Event) (q r : ℕ)
+        → IsFair queues widths hands limit (later ++ (stretch ++ Enter r q ∷ earlier))
+        → Contains (waiting (stretch ++ Enter r q ∷ earlier) q) r
+        → q < queues → (other : ℕ) → other < queues
+        → service widths stretch other ≤ total_width widths (waiting earlier q) + 2 * widest widths }
+    ensures all { (queues : ℕ) (widths : List ℕ) (hands : ℕ → List ℕ) (limit : ℕ)
+        (later stretch earlier : List Event) (q r : ℕ)
+        → IsFair queues widths hands limit (later ++ (stretch ++ Enter r q ∷ earlier))
+        → Contains (waiting (stretch ++ Enter r q ∷ earlier) q) r
+        → q < queues
+        → granted queues widths stretch ≤ total_width widths (waiting earlier q)
+        + (queues - 1) * (total_width widths (waiting earlier q) + 2 * widest widths) }
 {}

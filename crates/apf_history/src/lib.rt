@@ -13,4 +13,7 @@ mod events;
 mod histories;
 
 pub use events::{Event, Status};
-pub use histories::{every_fair_history_is_balanced, every_legal_history_is_in_order};
+pub use histories::{
+    every_fair_history_is_balanced, every_fair_history_isolates, every_legal_history_is_in_order,
+    every_wait_is_bounded,
+};

@@ -15,7 +15,8 @@ mod moves;
 mod response;
 
 pub use apf_history::{
-    Event, Status, every_fair_history_is_balanced, every_legal_history_is_in_order,
+    Event, Status, every_fair_history_is_balanced, every_fair_history_isolates,
+    every_legal_history_is_in_order, every_wait_is_bounded,
 };
 pub use laws::{every_schedule_is_safe, every_world_adds_up};
 pub use moves::{Move, Stage};

@@ -1,8 +1,10 @@
 -- The workers of a run that were started.
-use Rattle.std.specs.Prelude.{◌≡◌, ℕ, ◌+◌, List, [], ◌∷◌}
+use Rattle.std.specs.Prelude.{◌≡◌, ℕ, ◌+◌, ◌<◌, List, [], ◌∷◌}
 use Rattle.std.specs.declared.thread.PromisedHandle.{PromisedHandle}
 use Rattle.apf_gate.specs.Tokens.{GateId, StationToken, station_gate}
 use Rattle.apf_run.specs.declared.crew.Share.{Share}
+use Rattle.apf_run.specs.declared.fault.RunFault.{RunFault}
+use Rattle.apf_run.specs.declared.fault.RunFault.TheVariants.{NoMemory, Worker, Gate, Level}
 
 -- a Station of this gate, which made no step
 abbrev pub IsNew : GateId → StationToken → Type 0
@@ -12,3 +14,10 @@ IsNew gate s = (station_gate s ≡ gate) × (s.station.knows.trace ≡ [])
 abbrev pub expected : {T : Type 0} → List (PromisedHandle T Share) → ℕ
 expected {T} [] = 0
 expected {T} (h ∷ hs) = h.promise.count + expected hs
+
+-- what keeps so many workers from their ends: one of them could not be started, or memory was refused
+abbrev pub IsCrewFault : ℕ → RunFault → Type 0
+IsCrewFault workers (Worker k) = k < workers
+IsCrewFault workers NoMemory = Unit {0}
+IsCrewFault workers (Gate fault) = ⊥
+IsCrewFault workers (Level fault) = ⊥

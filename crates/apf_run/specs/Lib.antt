@@ -7,3 +7,4 @@ pub mod Books
 pub mod Workers
 pub mod Crews
 pub mod Runs
+pub mod Faults

@@ -1,9 +1,10 @@
 //! Deals the requests of a run out to its workers, starts them, and joins them.
 
-ghost use Rattle.std.specs.Prelude.{◌≡◌, ◌+◌, ◌<◌, ◌≤◌, [], length, All, IfOk, OnOk};
+ghost use Rattle.std.specs.Prelude.{◌≡◌, ◌+◌, ◌<◌, ◌≤◌, [], length, All, IfOk, IfErr, OnOk};
 ghost use Rattle.apf_words.specs.Limits.{max_stations};
 ghost use Rattle.apf_run.specs.Workers.{IsFresh, held};
-ghost use Rattle.apf_run.specs.Crews.{IsNew, expected};
+ghost use Rattle.apf_run.specs.Crews.{IsNew, expected, IsCrewFault};
+ghost use Rattle.apf_run.specs.declared.fault.RunFault.TheVariants as run;
 
 use crate::fault::RunFault;
 use crate::finished::Finished;
@@ -83,7 +84,8 @@ fn start<'s, E, K: Plan, W: Work, R: Wait + Threads + Sync>(
     worker: Worker<K>,
 ) -> Result<Handle<K>, RunFault>
     requires { worker.dones ≡ [] }
-    ensures { IfOk result (λ h. h.promise.count ≡ length worker.passes) }
+    ensures count { IfOk result (λ h. h.promise.count ≡ length worker.passes) }
+    ensures fault { IfErr result (λ f. f ≡ run.Worker number) }
 {
     let share = Share {
         count: worker.share(),
@@ -114,6 +116,7 @@ fn start_all<'s, E, K: Plan, W: Work, R: Wait + Threads + Sync>(
     requires none_done { All (λ w. w.dones ≡ []) workers.items }
     ensures count { OnOk result (length handles.new.items ≡ length workers.items) }
     ensures expected { OnOk result (expected handles.new.items ≡ held workers.items) }
+    ensures fault { IfErr result (IsCrewFault (length workers.items)) }
 {
     let mut number = 0;
     for worker in workers {
@@ -134,6 +137,7 @@ fn join_all<K: Plan, R: Threads>(
 ) -> Result<Finished<K>, RunFault>
     ensures dones { IfOk result (λ f. length f.dones ≡ length finished.dones + expected handles.items) }
     ensures stations { IfOk result (λ f. length f.stations ≡ length finished.stations + length handles.items) }
+    ensures fault { IfErr result (λ f. f ≡ run.NoMemory) }
 {
     for handle in handles {
         finished = finished.with(handle.join(rt)?)?;
@@ -159,6 +163,7 @@ pub fn work_all<K: Plan, W: Work, R: Wait + Threads + Sync>(
     requires none_done { All (λ w. w.dones ≡ []) workers.items }
     ensures dones { IfOk result (λ f. length f.dones ≡ held workers.items) }
     ensures stations { IfOk result (λ f. length f.stations ≡ length workers.items) }
+    ensures fault { IfErr result (IsCrewFault (length workers.items)) }
 {
     let mut handles = Vec::with_capacity(alloc, workers.len())?;
     thread::scope(
@@ -170,6 +175,7 @@ pub fn work_all<K: Plan, W: Work, R: Wait + Threads + Sync>(
             requires none_done { All (λ w. w.dones ≡ []) workers.items }
             ensures dones { IfOk result (λ f. length f.dones ≡ held workers.items) }
             ensures stations { IfOk result (λ f. length f.stations ≡ length workers.items) }
+            ensures fault { IfErr result (IsCrewFault (length workers.items)) }
         {
             start_all(scope, rt, job, workers, &mut handles)?;
             join_all(rt, handles, finished)

@@ -1,5 +1,10 @@
 //! Why a replay or a run came to nothing.
 
+ghost use Rattle.std.specs.Prelude.{◌≡◌};
+ghost use Rattle.apf_run.specs.declared.fault.ReplayFault.TheVariants as replay;
+ghost use Rattle.apf_run.specs.declared.fault.RunFault.TheVariants as run;
+ghost use Rattle.apf_run.specs.Faults.{told_of_gate, told_of_level, told_of_replay};
+
 use apf_book::BookFault;
 use apf_gate::GateFault;
 use std::alloc::AllocError;
@@ -20,6 +25,8 @@ pub enum ReplayFault {
 }
 
 impl From<GateFault> for ReplayFault {
+    ghost from_gives = { λ fault told. told ≡ told_of_gate fault };
+
     fn from(fault: GateFault) -> Self {
         match fault {
             GateFault::NoMemory => Self::NoMemory,
@@ -29,6 +36,8 @@ impl From<GateFault> for ReplayFault {
 }
 
 impl From<BookFault> for ReplayFault {
+    ghost from_gives = { λ fault told. told ≡ told_of_level fault };
+
     fn from(fault: BookFault) -> Self {
         match fault {
             BookFault::NoMemory => Self::NoMemory,
@@ -38,6 +47,8 @@ impl From<BookFault> for ReplayFault {
 }
 
 impl From<AllocError> for ReplayFault {
+    ghost from_gives = { λ _ told. told ≡ replay.NoMemory };
+
     fn from(_refused: AllocError) -> Self {
         Self::NoMemory
     }
@@ -61,6 +72,8 @@ pub enum RunFault {
 }
 
 impl From<ReplayFault> for RunFault {
+    ghost from_gives = { λ fault told. told ≡ told_of_replay fault };
+
     fn from(fault: ReplayFault) -> Self {
         match fault {
             ReplayFault::Gate(fault) => Self::Gate(fault),
@@ -71,12 +84,16 @@ impl From<ReplayFault> for RunFault {
 }
 
 impl From<BookFault> for RunFault {
+    ghost from_gives = { λ fault told. told ≡ told_of_replay (told_of_level fault) };
+
     fn from(fault: BookFault) -> Self {
         ReplayFault::from(fault).into()
     }
 }
 
 impl From<AllocError> for RunFault {
+    ghost from_gives = { λ _ told. told ≡ run.NoMemory };
+
     fn from(_refused: AllocError) -> Self {
         Self::NoMemory
     }

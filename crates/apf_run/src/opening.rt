@@ -1,12 +1,14 @@
 //! Opens the gate of a level for requests.
 
-ghost use Rattle.std.specs.Prelude.{◌≡◌, ◌≤◌, length, map, All, IfOk};
+ghost use Rattle.std.specs.Prelude.{◌≡◌, ◌≤◌, length, map, All, IfOk, IfErr, OnOk};
 ghost use Rattle.apf_words.specs.Limits.{max_requests, max_stations};
 ghost use Rattle.apf_gate.specs.declared.record.State.TheVariants.{Fresh};
 ghost use Rattle.apf_gate.specs.Records.{new_desk};
+ghost use Rattle.apf_gate.specs.Gauges.{IsShape};
 ghost use Rattle.apf_gate.specs.Tokens.{pass_gate, station_gate};
 ghost use Rattle.apf_run.specs.Sessions.{asks_of};
 ghost use Rattle.apf_run.specs.Crews.{IsNew};
+ghost use Rattle.apf_run.specs.Faults.{shape_for, IsReplayFault};
 
 use crate::fault::ReplayFault;
 use apf_book::{Ask, Config};
@@ -63,6 +65,8 @@ pub fn open_gate(
     ensures config { IfOk result (λ o. o.config ≡ config.now) }
     ensures asks { IfOk result (λ o. o.asks.items ≡ asks_of requests.now) }
     ensures stations { IfOk result (λ o. o.gate.shape.stations ≡ stations) }
+    ensures is_shape { OnOk result (IsShape (shape_for config.now requests.now stations)) }
+    ensures fault { IfErr result (IsReplayFault config.now requests.now stations) }
 {
     let asks = asks_of_requests(alloc, requests)?;
     let widths: Vec<u32> = asks.iter().map(|ask| ask.width).collect(alloc)?;

@@ -1,7 +1,9 @@
 //! Replays a script.
 
-ghost use Rattle.std.specs.Prelude.{◌≡◌};
-ghost use Rattle.apf_run.specs.Sessions.{level_of};
+ghost use Rattle.std.specs.Prelude.{◌≡◌, IfErr, OnOk};
+ghost use Rattle.apf_gate.specs.Gauges.{IsShape};
+ghost use Rattle.apf_run.specs.Sessions.{level_of, asks_of};
+ghost use Rattle.apf_run.specs.Faults.{shape_for, CanOpen, IsReplayFault};
 
 use crate::fault::ReplayFault;
 use crate::opening::{Opening, open_gate};
@@ -23,14 +25,19 @@ use std::sync::Wait;
 ///
 /// # Errors
 ///
-/// The gate's fault, the level's, or want of memory.
+/// The first of these: the gate's fault (`BadLimit`, `BadWidth` of the first bad width, and `TooMany` for more than
+/// 10,000 requests), and the level's (the dealer's, then the queues'). Whenever memory is refused, in the gate or the
+/// level too, it is `NoMemory`, and that may come before anything is judged.
 pub fn replay<R: Wait>(
     rt: &R,
     alloc: Global,
     config: &Config,
     requests: &[Request],
     commands: &[Command],
-) -> Result<Transcript, ReplayFault> {
+) -> Result<Transcript, ReplayFault>
+    ensures settings { OnOk result (CanOpen config.now requests.now 1) }
+    ensures fault { IfErr result (IsReplayFault config.now requests.now 1) }
+{
     let opening = open_gate(alloc, config, requests, 1)?;
     replay_named::<Brand, R>(rt, alloc, opening, requests, commands)
 }
@@ -44,6 +51,10 @@ fn replay_named<K: Naming, R: Wait>(
 ) -> Result<Transcript, ReplayFault>
     requires level { K.level ≡ level_of opening.gate opening.config opening.asks.items }
     requires one { opening.gate.shape.stations ≡ 1 }
+    requires asks { opening.asks.items ≡ asks_of requests.now }
+    requires is_shape { IsShape (shape_for opening.config requests.now 1) }
+    ensures settings { OnOk result (CanOpen opening.config requests.now 1) }
+    ensures fault { IfErr result (IsReplayFault opening.config requests.now 1) }
 {
     let mut session = Session::<K>::open(rt, alloc, opening, commands.len())?;
     let carried_out = carry_out_all(rt, &mut session, commands);

@@ -1,8 +1,10 @@
 //! Runs requests by workers.
 
-ghost use Rattle.std.specs.Prelude.{◌≡◌, ◌<◌, IfOk};
+ghost use Rattle.std.specs.Prelude.{◌≡◌, ◌<◌, IfOk, IfErr, OnOk};
+ghost use Rattle.apf_gate.specs.Gauges.{IsShape};
 ghost use Rattle.apf_run.specs.Runs.{HasRun};
 ghost use Rattle.apf_run.specs.Sessions.{level_of, asks_of};
+ghost use Rattle.apf_run.specs.Faults.{shape_for, CanOpen, IsRunFault};
 
 use crate::crew::{deal_out, work_all};
 use crate::fault::RunFault;
@@ -27,8 +29,10 @@ use std::thread::Threads;
 ///
 /// # Errors
 ///
-/// Want of memory, a worker that could not be started (those that were go on to their ends), the gate's fault
-/// (more than 64 workers are one), or the level's.
+/// The first of these: the gate's fault (`BadLimit`, `BadWidth` of the first bad width, and `TooMany` for more than
+/// 10,000 requests or 64 workers); the level's (the dealer's, then the queues'); and `Worker`, of a worker that could
+/// not be started (those that were go on to their ends). Whenever memory is refused, in the gate or the level too, it
+/// is `NoMemory`, and that may come before anything is judged.
 pub fn run<W: Work, R: Wait + Threads + Sync>(
     rt: &R,
     alloc: Global,
@@ -38,7 +42,9 @@ pub fn run<W: Work, R: Wait + Threads + Sync>(
     work: &W,
 ) -> Result<Report, RunFault>
     requires some { 0 < workers }
-    ensures { IfOk result (HasRun config.now requests.now) }
+    ensures told { IfOk result (HasRun config.now requests.now) }
+    ensures settings { OnOk result (CanOpen config.now requests.now workers) }
+    ensures fault { IfErr result (IsRunFault config.now requests.now workers) }
 {
     let opening = open_gate(alloc, config, requests, workers)?;
     run_named::<Brand, W, R>(rt, alloc, opening, requests, work)
@@ -55,7 +61,10 @@ fn run_named<K: Plan, W: Work, R: Wait + Threads + Sync>(
     requires plan { K.requests ≡ requests.now }
     requires asks { opening.asks.items ≡ asks_of requests.now }
     requires some { 0 < opening.gate.shape.stations }
-    ensures { IfOk result (HasRun opening.config requests.now) }
+    requires is_shape { IsShape (shape_for opening.config requests.now opening.gate.shape.stations) }
+    ensures told { IfOk result (HasRun opening.config requests.now) }
+    ensures settings { OnOk result (CanOpen opening.config requests.now opening.gate.shape.stations) }
+    ensures fault { IfErr result (IsRunFault opening.config requests.now opening.gate.shape.stations) }
 {
     let Opening {
         config,

@@ -1,22 +1,22 @@
 //! A level in the hands of one thread: its requests, its one Station, and the reader of its statistics.
 
-ghost use Rattle.std.specs.Prelude.{◌≡◌, ◌↔◌, ◌<◌, ◌≤◌, [], length, All, IfOk, IsTrue};
+ghost use Rattle.std.specs.Prelude.{◌≡◌, ◌↔◌, ◌<◌, ◌≤◌, [], length, All, IfOk, IfErr, OnOk, IsTrue};
 ghost use Rattle.apf_words.specs.Limits.{max_limit};
 ghost use Rattle.apf_gate.specs.Tokens.{pass_gate, station_gate};
 ghost use Rattle.apf_files.specs.ScriptFile.{IsCommandInRange};
+ghost use Rattle.apf_level.specs.Opening.{FaultBy, SettledBy};
 ghost use Rattle.apf_run.specs.Sessions.{level_of};
 
 use crate::caller::Caller;
 use crate::client::{Answer, Client};
 use crate::clients::{clients_of, dones_of};
-use crate::fault::ReplayFault;
 use crate::line::Line;
 use crate::opening::Opening;
 use crate::record::Record;
 use crate::totals::Totals;
 use apf_files::Command;
 use apf_gate::{Close, Station};
-use apf_level::{Done, Level, Naming, Opened, StatsPass};
+use apf_level::{Done, Level, LevelFault, Naming, Opened, StatsPass};
 use apf_model::{Event, Response};
 use apf_words::{Decision, MAX_LIMIT};
 use std::alloc::{AllocError, Global};
@@ -58,9 +58,11 @@ impl<K: Naming> Session<K> {
         alloc: Global,
         opening: Opening,
         commands: usize,
-    ) -> Result<Session<K>, ReplayFault>
+    ) -> Result<Session<K>, LevelFault>
         requires level { K.level ≡ level_of opening.gate opening.config opening.asks.items }
         requires one { opening.gate.shape.stations ≡ 1 }
+        ensures settings { OnOk result (SettledBy opening.config.limit_response opening.config opening.asks.items) }
+        ensures fault { IfErr result (FaultBy opening.config.limit_response opening.config opening.asks.items) }
     {
         let Opening {
             config,

@@ -4,7 +4,7 @@
 //!
 //! - `runs`: runs of the requests of a text.
 //! - `meeting`, `counting`: runs by workers, with work that looks at the others.
-//! - `writing`: writers without room. `absent`: numbers of what is not there.
+//! - `writing`: writers without room. `absent`: numbers of what is not there. `refused`: what is out of range.
 #![tactic(auto)]
 
 #[cfg(test)]
@@ -13,6 +13,8 @@ mod absent;
 mod counting;
 #[cfg(test)]
 mod meeting;
+#[cfg(test)]
+mod refused;
 #[cfg(test)]
 mod runs;
 #[cfg(test)]

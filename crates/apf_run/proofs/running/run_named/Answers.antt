@@ -15,8 +15,8 @@ pub new-job-requires-after_bounds : goal.new-job-requires-after_bounds
 new-job-requires-after_bounds g c κs within =
     orders g.K.Naming.level c.args.opening.gate c.args.opening.config c.args.opening.asks.items g.K.Plan.requests c.args.requests.now c.requires.level c.requires.plan c.requires.asks c.args.opening.widths_are
 
-pub returns : goal.returns
-returns g c =
+pub returns-clause-told : goal.returns-clause-told
+returns-clause-told g c =
     let k : LevelId = g.K.Naming.level in
     let config = c.args.opening.config in
     let requests : List Request = c.args.requests.now in

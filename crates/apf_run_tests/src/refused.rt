@@ -1,0 +1,199 @@
+//! What a run and a replay answer where settings, requests or workers are out of range, of which no reader lets the
+//! first two through.
+
+ghost use Rattle.std.specs.Prelude.{◌<◌};
+
+use crate::runs::Fault;
+use apf_run::{
+    Config, GateFault, LevelFault, Request, Response, RunFault, Running, Work, replay, run,
+};
+use std::alloc::Global;
+use std::sync::Wait;
+use std::thread::Threads;
+
+struct Nothing;
+
+impl Work for Nothing {
+    fn work(&self, _running: &Running, _units: u32) {}
+}
+
+/// What a call answers.
+#[derive(Clone, Copy, Debug, PartialEq, Eq)]
+enum Told {
+    /// A run: how many requests it executed.
+    Executed(u32),
+    /// A replay.
+    Replayed,
+    Gate(GateFault),
+    /// The number of the dealer's fault.
+    Dealer(u8),
+    /// The number of the queues' fault.
+    Queues(u8),
+    Worker,
+    NoMemory,
+}
+
+fn told_of(fault: RunFault) -> Told {
+    match fault {
+        RunFault::Gate(fault) => Told::Gate(fault),
+        RunFault::Level(LevelFault::Dealer(fault)) => Told::Dealer(fault.number()),
+        RunFault::Level(LevelFault::Queues(fault)) => Told::Queues(fault.number()),
+        RunFault::Worker(_number) => Told::Worker,
+        RunFault::Level(LevelFault::NoMemory) | RunFault::NoMemory => Told::NoMemory,
+    }
+}
+
+// What a run by so many workers answers.
+fn ran<R: Wait + Threads + Sync>(
+    rt: &R,
+    alloc: Global,
+    config: &Config,
+    requests: &[Request],
+    workers: u32,
+) -> Told
+    requires { 0 < workers }
+{
+    match run(rt, alloc, config, requests, workers, &Nothing) {
+        Ok(report) => Told::Executed(report.counts.executed),
+        Err(fault) => told_of(fault),
+    }
+}
+
+// What a replay of no commands answers.
+fn replayed<R: Wait>(rt: &R, alloc: Global, config: &Config, requests: &[Request]) -> Told {
+    match replay(rt, alloc, config, requests, &[]) {
+        Ok(_transcript) => Told::Replayed,
+        Err(fault) => told_of(fault.into()),
+    }
+}
+
+const CONFIG: Config = Config {
+    limit: 10,
+    queues: 4,
+    hand_size: 2,
+    queue_length_limit: 10,
+    limit_response: Response::Queue,
+};
+
+const NO_HAND: Config = Config {
+    hand_size: 0,
+    ..CONFIG
+};
+
+const NOTHING: Config = Config {
+    limit: 0,
+    queues: 0,
+    hand_size: 0,
+    queue_length_limit: 0,
+    limit_response: Response::Queue,
+};
+
+const REQUEST: Request = Request {
+    width: 1,
+    hash: 0,
+    work: 0,
+    cancels: None,
+    closes: false,
+};
+
+const NARROW: Request = Request {
+    width: 0,
+    ..REQUEST
+};
+
+const WIDE: Request = Request {
+    width: 20_001,
+    ..REQUEST
+};
+
+// A run of nobody ends, and as many workers as there may be run as well as one. No setting of queues is used where
+// nobody is queued.
+#[test]
+fn runs_in_range(rt: HostRuntime) {
+    let alloc = rt.alloc();
+    let no_queues = Config {
+        limit: 10,
+        limit_response: Response::Reject,
+        ..NOTHING
+    };
+    assert_eq!(rt; ran(&rt, alloc, &CONFIG, &[], 1), Told::Executed(0));
+    assert_eq!(rt;
+        ran(&rt, alloc, &CONFIG, &[REQUEST; 3], 64),
+        Told::Executed(3)
+    );
+    assert_eq!(rt;
+        ran(&rt, alloc, &no_queues, &[REQUEST; 3], 1),
+        Told::Executed(3)
+    );
+    assert_eq!(rt; replayed(&rt, alloc, &CONFIG, &[]), Told::Replayed);
+    assert_eq!(rt;
+        replayed(&rt, alloc, &no_queues, &[REQUEST; 3]),
+        Told::Replayed
+    );
+}
+
+// A bad limit comes before bad widths, and before too many workers.
+#[test]
+fn bad_limits(rt: HostRuntime) {
+    let alloc = rt.alloc();
+    let told = Told::Gate(GateFault::BadLimit);
+    let over = Config {
+        limit: 10_001,
+        ..CONFIG
+    };
+    assert_eq!(rt; ran(&rt, alloc, &NOTHING, &[], 1), told);
+    assert_eq!(rt; ran(&rt, alloc, &over, &[WIDE], 65), told);
+    assert_eq!(rt; replayed(&rt, alloc, &NOTHING, &[]), told);
+    assert_eq!(rt; replayed(&rt, alloc, &over, &[WIDE]), told);
+}
+
+// The first bad width comes before too many workers, and before the settings of queues.
+#[test]
+fn bad_widths(rt: HostRuntime) {
+    let alloc = rt.alloc();
+    let requests = [REQUEST, NARROW, WIDE];
+    let told = Told::Gate(GateFault::BadWidth(1));
+    assert_eq!(rt; ran(&rt, alloc, &NO_HAND, &requests, 65), told);
+    assert_eq!(rt; replayed(&rt, alloc, &NO_HAND, &requests), told);
+    let told = Told::Gate(GateFault::BadWidth(0));
+    assert_eq!(rt; ran(&rt, alloc, &CONFIG, &[WIDE], 1), told);
+}
+
+// There are 64 workers and 10,000 requests at most, and one more comes before the settings of queues.
+#[test]
+fn too_many(rt: HostRuntime) -> Result<(), Fault> {
+    let alloc = rt.alloc();
+    let told = Told::Gate(GateFault::TooMany);
+    assert_eq!(rt; ran(&rt, alloc, &CONFIG, &[REQUEST; 3], 65), told);
+    assert_eq!(rt; ran(&rt, alloc, &NO_HAND, &[], u32::MAX), told);
+    let requests = vec![in alloc; REQUEST; 10_001]?;
+    assert_eq!(rt; ran(&rt, alloc, &NO_HAND, requests.as_slice(), 1), told);
+    assert_eq!(rt; replayed(&rt, alloc, &NO_HAND, requests.as_slice()), told);
+    Ok(())
+}
+
+// The dealer's fault comes before the queues'.
+#[test]
+fn bad_queues(rt: HostRuntime) {
+    let alloc = rt.alloc();
+    let large_hand = Config {
+        hand_size: 5,
+        queue_length_limit: 0,
+        ..CONFIG
+    };
+    let no_room = Config {
+        queue_length_limit: 0,
+        ..CONFIG
+    };
+    assert_eq!(rt; ran(&rt, alloc, &NO_HAND, &[], 64), Told::Dealer(1));
+    assert_eq!(rt;
+        ran(&rt, alloc, &large_hand, &[REQUEST], 1),
+        Told::Dealer(2)
+    );
+    assert_eq!(rt;
+        replayed(&rt, alloc, &large_hand, &[REQUEST]),
+        Told::Dealer(2)
+    );
+    assert_eq!(rt; ran(&rt, alloc, &no_room, &[], 1), Told::Queues(1));
+    assert_eq!(rt; replayed(&rt, alloc, &no_room, &[]), Told::Queues(1));
+}

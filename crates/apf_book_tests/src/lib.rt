@@ -16,6 +16,7 @@
 //! - `deeds`: rows of single deeds on a level of one seat.
 //! - `stretches`: the services of two queues in a stretch of a log.
 //! - `memory`: each allocation refused in turn.
+//! - `faults`: what the faults print.
 //!
 //! In threads beside one another, in rounds until each order came:
 //!
@@ -25,6 +26,8 @@
 
 #[cfg(test)]
 mod deeds;
+#[cfg(test)]
+mod faults;
 #[cfg(test)]
 mod grants;
 #[cfg(test)]

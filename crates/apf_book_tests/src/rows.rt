@@ -275,11 +275,7 @@ fn cancelled_before_it_arrived(rt: HostRuntime) -> Result<(), Fault> {
         steps: &[
             expect(Arrive(0), EXECUTED, &[]),
             expect(Command::Ask(1), Answer::InLine, &[]),
-            expect(
-                Command::CancelAlone(1),
-                Cancel(Decision::Cancelled),
-                &[],
-            ),
+            expect(Command::CancelAlone(1), Cancel(Decision::Cancelled), &[]),
             expect(Command::Hand(1), Decided(Decision::Cancelled), &[]),
             expect(Arrive(2), Queued(0), &[Enter(2, 0)]),
             expect(Finish(0), Finished, &[Dispatch(2, 0)]),
@@ -305,11 +301,7 @@ fn cancelled_wide_head(rt: HostRuntime) -> Result<(), Fault> {
             expect(Arrive(0), EXECUTED, &[]),
             expect(Arrive(1), Queued(0), &[Enter(1, 0)]),
             expect(Arrive(2), Queued(0), &[Enter(2, 0)]),
-            expect(
-                Command::CancelAlone(1),
-                Cancel(Decision::Cancelled),
-                &[],
-            ),
+            expect(Command::CancelAlone(1), Cancel(Decision::Cancelled), &[]),
             expect(
                 Arrive(3),
                 Queued(0),

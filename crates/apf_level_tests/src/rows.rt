@@ -2,10 +2,13 @@
 
 use crate::opening::{Fault, ask, settings};
 use crate::requests::Answer::{Busy, Over, Released, Run, Tried, Waits, Wrong};
-use crate::scripts::Step::{Admit, Begin, Close, Dispatch, Look, Poll, Read, Release, TryAdmit};
+use crate::scripts::Step::{
+    Admit, Begin, Close, Dispatch, Look, Poll, Read, Release, TryAdmit, TryLimit,
+};
 use crate::scripts::{Row, numbers, run_row};
 use apf_book::{Ask, Config};
 use apf_gate::Close::{Already, First};
+use apf_gate::TrySetLimit;
 use apf_level::Counts;
 use apf_model::Event;
 use apf_words::Decision;
@@ -204,6 +207,47 @@ fn the_least_virtual_finish_is_first(rt: HostRuntime) -> Result<(), Fault> {
         stats: numbers(2, 2, 0, 0, 0),
         counts: Counts {
             executed: 3,
+            ..Counts::default()
+        },
+    };
+    run_row(&rt, rt.alloc(), &row)
+}
+
+// The first seat is given back, and later the limit is larger; each time nobody but the next arrival dispatches.
+#[test]
+fn an_arrival_dispatches(rt: HostRuntime) -> Result<(), Fault> {
+    let row = Row {
+        config: settings(1),
+        asks: &[ask(1); 4],
+        steps: &[
+            Begin(0, Run),
+            Begin(1, Waits),
+            Release(0, Released(true)),
+            Poll(1, Waits),
+            Begin(2, Waits),
+            Poll(1, Run),
+            TryLimit(3, TrySetLimit::Set(1, true)),
+            Poll(2, Waits),
+            Begin(3, Run),
+            Poll(2, Run),
+            Look(false, [3, 0, 3]),
+            Release(1, Released(false)),
+            Release(2, Released(false)),
+            Release(3, Released(false)),
+        ],
+        closed: false,
+        decisions: &[Decision::Execute; 4],
+        log: &[
+            Event::Enter(1, 0),
+            Event::Enter(2, 0),
+            Event::Dispatch(1, 0),
+            Event::Enter(3, 0),
+            Event::Dispatch(2, 0),
+            Event::Dispatch(3, 0),
+        ],
+        stats: numbers(3, 3, 0, 0, 0),
+        counts: Counts {
+            executed: 4,
             ..Counts::default()
         },
     };

@@ -241,10 +241,10 @@ reached queues widths from most b (Dispatch r p ∷ stretch) h d waits time =
       | inl same ↦ elim old [
         | inl none ↦ absurd (d.0.is_waited_in (ap (waiting (stretch ++ h)) same ∙ none.1))
         | inr high ↦
-          (let n : put v.next p (v.next p + width widths r) b ≡ v.next p + width widths r = ap (put v.next p (v.next p + width widths r)) (sym same) ∙ put_here v.next p (v.next p + width widths r) in
-          let e : v.next p ≡ v.next b = ap v.next same in
-          let s : service widths (Dispatch r p ∷ stretch) b ≡ service widths stretch b + width widths r = ap (λ (y : Bool). cond y (service widths stretch b + width widths r) (service widths stretch b)) (eq-eqb p b same) in
-          inr (omega arith))
+            (let n : put v.next p (v.next p + width widths r) b ≡ v.next p + width widths r = ap (put v.next p (v.next p + width widths r)) (sym same) ∙ put_here v.next p (v.next p + width widths r) in
+            let e : v.next p ≡ v.next b = ap v.next same in
+            let s : service widths (Dispatch r p ∷ stretch) b ≡ service widths stretch b + width widths r = ap (λ (y : Bool). cond y (service widths stretch b + width widths r) (service widths stretch b)) (eq-eqb p b same) in
+            inr (omega arith))
       ]
       | inr ne ↦
           (let n : put v.next p (v.next p + width widths r) b ≡ v.next b = put_else v.next p (v.next p + width widths r) b (λ x. ne (sym x)) in

@@ -43,7 +43,7 @@ stepped_kept numbers new views by view published ruled at later on is sums mine 
       known = λ seat v e. subst (λ (n : ℕ). IsKnown trace' n seat v) (sym same) (⊎_elim
           (λ (here : (seat ≡ by) × (view' ≡ v)). subst (λ (v : View). IsKnown trace' (length views) seat v) here.1 (record { number_is = known.number_is ∙ sym here.0; newer = ([], refl, tt); counts = λ first. known.counts (sym here.0 ∙ first) }))
           (λ (there : (seat ≢ by) × (get_elem? views seat ≡ some v)). subst (λ (t : List Entry). IsKnown (entry view.number published ∷ t) (length views) seat v) (sym on)
-              (others ruled.trace (length views) view.number seat v published (λ same. there.0 (sym same ∙ known.number_is)) (ruled.known seat v there.1)))
+          (others ruled.trace (length views) view.number seat v published (λ same. there.0 (sym same ∙ known.number_is)) (ruled.known seat v there.1)))
           (at_set views by seat view' v e));
     }
 
@@ -86,11 +86,11 @@ forks by view first numbers views ruled at =
       made = subst (λ (n : ℕ). AreMade n ruled.trace) (sym count) (made_more (length views) ruled.trace ruled.made);
       known = λ seat v e. subst (λ (n : ℕ). IsKnown ruled.trace n seat v) (sym count) (⊎_elim
           (λ (was : get_elem? (set views by (with_reader view)) seat ≡ some v). ⊎_elim
-              (λ (here : (seat ≡ by) × (with_reader view ≡ v)). subst (λ (v : View). IsKnown ruled.trace (length views + 1) seat v) here.1 (record { number_is = known.number_is ∙ sym here.0; newer = subst (λ (n : ℕ). GoesOn ruled.trace n view.trace) (sym here.0) known.newer; counts = λ _. ap (λ (n : ℕ). n + 1) counted }))
-              (λ (there : (seat ≢ by) × (get_elem? views seat ≡ some v)).
-              let one = ruled.known seat v there.1 in
-              record { number_is = one.number_is; newer = one.newer; counts = λ zeroth. absurd (there.0 (zeroth ∙ sym at_first)) })
-              (at_set views by seat (with_reader view) v was))
+          (λ (here : (seat ≡ by) × (with_reader view ≡ v)). subst (λ (v : View). IsKnown ruled.trace (length views + 1) seat v) here.1 (record { number_is = known.number_is ∙ sym here.0; newer = subst (λ (n : ℕ). GoesOn ruled.trace n view.trace) (sym here.0) known.newer; counts = λ _. ap (λ (n : ℕ). n + 1) counted }))
+          (λ (there : (seat ≢ by) × (get_elem? views seat ≡ some v)).
+          let one = ruled.known seat v there.1 in
+          record { number_is = one.number_is; newer = one.newer; counts = λ zeroth. absurd (there.0 (zeroth ∙ sym at_first)) })
+          (at_set views by seat (with_reader view) v was))
           (λ (new : (seat ≡ length (set views by (with_reader view))) × (as_reader view ≡ v)).
           let place : seat ≡ length views = new.0 ∙ length_set views by (with_reader view) in
           subst (λ (v : View). IsKnown ruled.trace (length views + 1) seat v) new.1 (record {

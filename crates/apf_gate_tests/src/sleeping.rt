@@ -10,14 +10,15 @@ use crate::requests::Request;
 use crate::rounds::MOST_TURNS;
 use crate::stand::Stand;
 use crate::stations;
-use apf_gate::{Gate, Station, TryGrant};
+use apf_gate::{Gate, Station, TryEnter, TryGrant, TryTake};
+use apf_model::Response;
 use apf_words::Decision;
 use std::alloc::Global;
 use std::process::Abort;
 use std::sync::Wait;
 use std::sync::atomic::{AtomicU64, Ordering};
 use std::thread;
-use std::thread::Threads;
+use std::thread::{Threads, join_mut};
 
 /// What the threads count.
 #[derive(Drop)]
@@ -30,6 +31,8 @@ pub struct Sleeps {
     executed: AtomicU64,
     // How many woke to a cancelled request.
     cancelled: AtomicU64,
+    // How many slept on when their request was cancelled.
+    missed: AtomicU64,
 }
 
 impl Sleeps {
@@ -39,6 +42,7 @@ impl Sleeps {
             slept: AtomicU64::new(0),
             executed: AtomicU64::new(0),
             cancelled: AtomicU64::new(0),
+            missed: AtomicU64::new(0),
         }
     }
 
@@ -74,6 +78,17 @@ impl Sleeps {
         for _turn in 0..1000u32 {
             thread::yield_now();
         }
+    }
+
+    // Waits until one woke to a cancelled request, in at most so many turns. Says whether one did.
+    fn wait_for_waking(&self) -> bool {
+        for _turn in 0..MOST_TURNS / 10 {
+            if self.cancelled.load(Ordering::SeqCst) > 0 {
+                return true;
+            }
+            thread::yield_now();
+        }
+        false
     }
 }
 
@@ -203,5 +218,82 @@ fn sleep_all_beside_grant<R: Threads + Wait + Abort + Sync>(rt: &R, alloc: Globa
 fn eight_sleepers_are_woken_by_one_settle(rt: HostRuntime) {
     for _round in 0..20u32 {
         sleep_all_beside_grant(&rt, rt.alloc());
+    }
+}
+
+// Lets one other sleep, and cancels the request. If nobody wakes then, it wakes the sleeper itself, and counts it.
+fn cancel_named(gate: &Gate<Global>, sleeps: &Sleeps, named: u32, station: &mut Station)
+    requires is_request { named < length gate.now.shape.widths }
+    requires own { station_gate station.old ≡ gate.now }
+    ensures { station_gate station.new ≡ gate.now }
+{
+    sleeps.let_sleep(1);
+    stations::cancel(gate, station, named);
+    if !sleeps.wait_for_waking() {
+        sleeps.missed.fetch_add(1, Ordering::SeqCst);
+        gate.wake(named);
+    }
+}
+
+// The request sleeps in one thread until another one cancels it.
+fn sleep_until_cancelled<R: Threads + Wait + Sync>(
+    rt: &R,
+    gate: &Gate<Global>,
+    sleeps: &Sleeps,
+    request: &mut Request,
+    station: &mut Station,
+)
+    requires request { pass_gate request.old.pass ≡ gate.now }
+    requires station { station_gate station.old ≡ gate.now }
+    ensures request { pass_gate request.new.pass ≡ gate.now }
+    ensures station { station_gate station.new ≡ gate.now }
+{
+    let named = request.number(gate);
+    join_mut(
+        rt,
+        &mut || sleep(rt, gate, sleeps, request),
+        &mut || cancel_named(gate, sleeps, named, station),
+    );
+}
+
+impl Stand {
+    // The second request sleeps in one thread until another one cancels it.
+    fn sleep_second<R: Threads + Wait + Abort + Sync>(&mut self, rt: &R, sleeps: &Sleeps) {
+        assert!(rt; self.requests.len() > 1 && !self.stations.is_empty());
+        sleep_until_cancelled(
+            rt,
+            &self.gate,
+            sleeps,
+            &mut self.requests[1],
+            &mut self.stations[0],
+        );
+    }
+}
+
+// One round: the second of two requests waits, and who sleeps before its cancel is woken by it.
+fn sleep_of_the_second<R: Threads + Wait + Abort + Sync>(rt: &R, alloc: Global) {
+    let mut stand = Stand::open(rt, alloc, 1, &[1, 1], 1, Response::Queue);
+    stand.take(rt, 0, TryTake::Taken);
+    stand.decide(rt, 0, Decision::Execute, Decision::Execute);
+    stand.ask(rt, 1, None);
+    stand.enter(rt, 1, TryEnter::Entered);
+    let sleeps = Sleeps::new();
+    stand.sleep_second(rt, &sleeps);
+    assert_eq!(rt; sleeps.missed.load(Ordering::SeqCst), 0, "it sleeps on");
+    assert_eq!(rt; sleeps.cancelled.load(Ordering::SeqCst), 1);
+    stand.seen(rt, 1, Some(Decision::Cancelled));
+    stand.leave(rt, 1);
+    stand.release(rt, 0, false);
+    let words = stand.end(rt, alloc);
+    words.has(rt, 0, 0);
+    words.decision(rt, 0, Some(Decision::Execute));
+    words.decision(rt, 1, Some(Decision::Cancelled));
+}
+
+// A cancel wakes who sleeps until the request is decided that it names, and not who sleeps on another one.
+#[test]
+fn a_cancel_wakes_whom_it_names(rt: HostRuntime) {
+    for _round in 0..20u32 {
+        sleep_of_the_second(&rt, rt.alloc());
     }
 }

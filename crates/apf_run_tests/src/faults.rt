@@ -1,5 +1,7 @@
 //! Which fault of the gate and the level is told as which by a replay and a run, and what the faults print.
 
+ghost use Rattle.std.specs.Prelude.{◌<◌};
+
 use crate::runs::{Fault, run_text};
 use apf_run::{
     Config, GateFault, LevelFault, ReplayFault, Response, RunFault, Running, Work, replay, run,

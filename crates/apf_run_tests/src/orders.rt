@@ -1,7 +1,6 @@
 //! In which order a worker brings a request to its end: it does the work, cancels and strikes whom the request
 //! names, and only then gives the seats back, and dispatches.
 
-ghost use denote.Param.Send.{IsSync};
 ghost use Rattle.std.specs.Prelude.{◌<◌};
 
 use crate::runs::{Fault, run_text};
@@ -13,7 +12,7 @@ use std::process::Abort;
 use std::sync::Wait;
 use std::sync::atomic::{AtomicU64, Ordering};
 use std::thread;
-use std::thread::{Threads, join_mut};
+use std::thread::Threads;
 
 // So many turns a thread waits for others.
 const TURNS: u32 = 10_000_000;
@@ -36,19 +35,16 @@ struct Patient {
     began: AtomicU64,
     // How many of them are over.
     over: AtomicU64,
-    // Whether the run ended.
-    ended: AtomicU64,
 }
 
-// Waits until the count is so high, in at most so many turns. Says whether it is.
-fn wait_for(count: &AtomicU64, least: u64) -> bool {
+// Waits until the count is so high, in at most so many turns.
+fn wait_for(count: &AtomicU64, least: u64) {
     for _turn in 0..TURNS {
         if count.load(Ordering::SeqCst) >= least {
-            return true;
+            return;
         }
         thread::yield_now();
     }
-    false
 }
 
 impl Patient {
@@ -58,7 +54,6 @@ impl Patient {
             patience,
             began: AtomicU64::new(0),
             over: AtomicU64::new(0),
-            ended: AtomicU64::new(0),
         }
     }
 }
@@ -93,42 +88,6 @@ struct Row<'a> {
     rest: &'a [Event],
 }
 
-// Runs the requests, and notes that the run ended.
-fn run_row<R: Wait + Threads + Sync>(
-    rt: &R,
-    alloc: Global,
-    row: Row<'_>,
-    patient: &Patient,
-) -> Result<Report, Fault>
-    requires { 0 < row.workers }
-{
-    let ran = run_text(rt, alloc, row.limit, row.requests, row.workers, patient);
-    patient.ended.fetch_add(1, Ordering::SeqCst);
-    ran
-}
-
-// Runs the requests, and asserts that the run ends.
-fn run_to_its_end<R: Abort + Wait + Threads + Sync>(
-    rt: &R,
-    alloc: Global,
-    row: Row<'_>,
-    patient: &Patient,
-) -> Result<Report, Fault>
-    requires { 0 < row.workers }
-{
-    let (ran, _) = join_mut(
-        rt,
-        &mut ||
-            requires { IsSync R.row × (0 < row.workers) }
-        { run_row(rt, alloc, row, patient) },
-        &mut || {
-            let ended = wait_for(&patient.ended, 1);
-            assert!(rt; ended, "the run does not end");
-        },
-    );
-    ran
-}
-
 // Asserts that the requests are decided so, and, if the others entered in time, that this happened then. Says whether
 // they did.
 fn is_as<R: Abort>(rt: &R, row: Row<'_>, report: &Report) -> bool {
@@ -150,7 +109,7 @@ fn plays<R: Abort + Wait + Threads + Sync>(rt: &R, alloc: Global, row: Row<'_>) 
     let mut seen = 0u32;
     for _round in 0..MOST_ROUNDS {
         let patient = Patient::new(row.workers, patience);
-        let report = run_to_its_end(rt, alloc, row, &patient)?;
+        let report = run_text(rt, alloc, row.limit, row.requests, row.workers, &patient)?;
         if is_as(rt, row, &report) {
             seen = seen.saturating_add(1);
         } else {

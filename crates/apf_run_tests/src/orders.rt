@@ -19,10 +19,10 @@ const TURNS: u32 = 10_000_000;
 
 // How often requests have to enter in time. A worker that does not strike is overtaken, now and then, by the worker
 // of the request that it cancelled, which it wakes, and which strikes its request itself.
-const ENOUGH: u32 = 30;
+const ENOUGH: u32 = 5;
 
 // How many rounds are made at most.
-const MOST_ROUNDS: u32 = 100;
+const MOST_ROUNDS: u32 = 50;
 
 /// Work in which the first requests of all workers run together, and end one after another. Before each one ends,
 /// the worker of the one that ended before it has time to bring its next request into the queue.
@@ -105,7 +105,7 @@ fn is_as<R: Abort>(rt: &R, row: Row<'_>, report: &Report) -> bool {
 fn plays<R: Abort + Wait + Threads + Sync>(rt: &R, alloc: Global, row: Row<'_>) -> Result<(), Fault>
     requires { 0 < row.workers }
 {
-    let mut patience = 1000u32;
+    let mut patience = 100u32;
     let mut seen = 0u32;
     for _round in 0..MOST_ROUNDS {
         let patient = Patient::new(row.workers, patience);
@@ -113,7 +113,7 @@ fn plays<R: Abort + Wait + Threads + Sync>(rt: &R, alloc: Global, row: Row<'_>) 
         if is_as(rt, row, &report) {
             seen = seen.saturating_add(1);
         } else {
-            patience = patience.saturating_mul(2).min(1_000_000);
+            patience = patience.saturating_mul(2).min(5_000);
         }
         if seen >= ENOUGH {
             return Ok(());

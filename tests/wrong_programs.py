@@ -96,6 +96,16 @@ int main(int count, char **words) {
 }
 """
 
+# numbers the workers from one
+NUMBERED = USAGE.replace("#include <unistd.h>\n", "#include <string.h>\n#include <unistd.h>\n").replace(
+    '''    if (WEXITSTATUS(status) == 3)
+        return write(2, "error: usage\\n", 13) < 0 ? 9 : 2;
+''',
+    '''    if (!strncmp(second, "apf: worker ", 12))
+        second[12]++;
+''',
+)
+
 
 def compiled(path, text):
     source = files(os.path.basename(path) + ".c", text)
@@ -109,6 +119,7 @@ WRONG = [
     ("no memory for a config of over 64 KiB", shell('[ "$1" = replay ] && [ "$(wc -c <"$2")" -gt 65536 ] && { echo "apf: out of memory" >&2; exit 3; }'), "files.py", "FAILED a config of over 64 KiB"),
     ("no memory for 9,999 requests", shell('[ "$1" = replay ] && [ "$(wc -c <"$3")" -eq 109990 ] && { echo "apf: out of memory" >&2; exit 3; }'), "files.py", "FAILED 9999 requests"),
     ("no memory told as a usage error", USAGE, "memory.py", "FAILED hash a b without allocation 1"),
+    ("workers that are numbered from one", NUMBERED, "memory.py", "FAILED run config requests 1 without allocation"),
     ("each width is 1", python('changed(1, rb\'"width" *: *[1-9][0-9]*\', b\'"width":1\')'), "replay.py", "FAILED widths 2 and 1 of 2 seats"),
     ("the limit is 1", python('changed(0, rb\'"limit" *: *[1-9][0-9]*\', b\'"limit":1\')'), "replay.py", "FAILED limit 2, widths (1, 1)"),
     ("Reject is replayed as Queue", python('changed(0, rb"Reject", b"Queue")'), "replay.py", "FAILED Reject"),
@@ -148,7 +159,7 @@ if any("\\udc80" <= it <= "\\udcff" for word in words for it in word):
 def tried(wrong):
     name, text, script, row = wrong
     path = os.path.join(files.folder.name, name.replace(" ", "-").replace(",", ""))
-    if text is USAGE:
+    if text in (USAGE, NUMBERED):
         compiled(path, text)
     else:
         with open(path, "w") as file:

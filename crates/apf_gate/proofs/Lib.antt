@@ -29,3 +29,4 @@ pub mod Numbers
 pub mod HandedIn
 pub mod Ending
 pub mod Determined
+pub mod Owing

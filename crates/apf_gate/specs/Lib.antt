@@ -16,3 +16,4 @@ pub mod StationCalls
 pub mod Opens
 pub mod Ends
 pub mod Hidden
+pub mod Owing

@@ -5,6 +5,9 @@ ghost use Rattle.apf_gate.specs.declared.record.DeskRecord.{DeskRecord};
 ghost use Rattle.apf_gate.specs.Tokens.{GateId, PassToken, StationToken};
 ghost use Rattle.apf_gate.specs.Ends.{WordsView, EndsWith, EndAgrees};
 ghost use Rattle.apf_gate.specs.Hidden.{NothingIsHidden};
+ghost use Rattle.apf_gate.specs.Owing.{NoDispatchIsLost};
+
+use apf_model::every_world_adds_up;
 
 /// Every gate that ended agrees with its tokens: of any tokens that `Gate::end` was handed, and the words
 /// that it answered.
@@ -21,3 +24,17 @@ pub fn every_end_agrees()
 pub fn no_step_is_hidden()
     ensures { NothingIsHidden }
 {}
+
+/// No dispatch is lost: of every state under the rule of a gate in which a request waits, and of any place in its
+/// trace after which the Desk made no step but loads.
+///
+/// Where nobody gave seats back and nobody set the limit since that place, seats and limit of the level word are
+/// still those of that place. Each Release and each SetLimit since then found requests waiting, which its caller
+/// was told.
+///
+/// It runs no code: the contract is the law.
+pub fn no_dispatch_is_lost()
+    ensures { NoDispatchIsLost }
+{
+    every_world_adds_up();
+}

@@ -12,7 +12,7 @@
 //!   they answer.
 //! - `sleep`: sleeping until a request is decided.
 //! - `end`: how a gate ends, and what its words said.
-//! - `laws`: what follows for the tokens that were handed in.
+//! - `laws`: what follows for the tokens that were handed in, and while requests wait.
 #![tactic(auto)]
 
 mod answers;
@@ -35,7 +35,7 @@ pub use desk::Desk;
 pub use end::Words;
 pub use fault::GateFault;
 pub use gate::Gate;
-pub use laws::{every_end_agrees, no_step_is_hidden};
+pub use laws::{every_end_agrees, no_dispatch_is_lost, no_step_is_hidden};
 pub use open::Opened;
 pub use pass::Pass;
 pub use station::Station;

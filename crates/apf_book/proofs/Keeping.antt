@@ -1,5 +1,5 @@
 -- What keeps the Desk and the log in agreement.
-use Rattle.std.proofs.Common.{◌≡◌, ◌≢◌, ◌↔◌, ℕ, ◌⊎◌, inl, inr, Bool, true, false, not, eqb, List, [], ◌∷◌, Option, Some, None, refl, sym, ap, ◌∙◌, subst}
+use Rattle.std.proofs.Common.{◌≡◌, ◌≢◌, ◌↔◌, ℕ, ◌⊎◌, inl, inr, Bool, true, false, not, eqb, List, [], ◌∷◌, length, Option, Some, None, refl, sym, ap, ◌∙◌, subst}
 use Rattle.std.specs.Prelude.{Contains}
 use Rattle.std.proofs.lemmas.Bool.{cases_eq}
 use Rattle.apf_words.specs.declared.decision.Decision.{Decision}
@@ -37,7 +37,7 @@ kept_moves desk desk' v r kept moves says held = record {
   ];
   holds_none = held;
   struck = λ j is. told_still desk.knows desk'.knows j Cancelled moves.more (kept.struck j is);
-  widths = kept.widths ∙ ap (λ (s : Shape). s.widths) (sym moves.more.shape);
+  one_cost_each = kept.one_cost_each ∙ ap (λ (s : Shape). length s.widths) (sym moves.more.shape);
   has_queues = ap (λ (s : Shape). s.response) moves.more.shape ∙ kept.has_queues;
 }
 
@@ -60,7 +60,7 @@ kept_after desk desk' v e kept of_log moves says held told = record {
     | inl same ↦ ap (told_of desk'.knows.told) same ∙ told (sym (put_here (status v.history) (request_of e) (makes e)) ∙ (ap (status (e ∷ v.history)) (sym same) ∙ is))
     | inr other ↦ told_still desk.knows desk'.knows j Cancelled moves.more (kept.struck j (sym (put_else (status v.history) (request_of e) (makes e) j other) ∙ is))
   ];
-  widths = kept.widths ∙ ap (λ (s : Shape). s.widths) (sym moves.more.shape);
+  one_cost_each = kept.one_cost_each ∙ ap (λ (s : Shape). length s.widths) (sym moves.more.shape);
   has_queues = ap (λ (s : Shape). s.response) moves.more.shape ∙ kept.has_queues;
 }
 

@@ -29,19 +29,19 @@ other_number j r e same = false≢true (sym e ∙ eq-eqb j r same)
 
 -- what is told of a log
 pub sound_of : (v : LedgerView) (s : QueuesView) (marks : List Bool) (capacity : ℕ) → AreOfLog v s marks capacity → IsLogOf v
-sound_of v s marks capacity is = record { fair = is.fair; names_requests = is.names_requests; names_queues = is.names_queues; widths = is.widths; few = is.few }
+sound_of v s marks capacity is = record { fair = is.fair; names_requests = is.names_requests; names_queues = is.names_queues; costs = is.costs; few = is.few }
 
 module _ (laws : Laws) (v : LedgerView) (s : QueuesView) (marks : List Bool) (capacity : ℕ) (is : AreOfLog v s marks capacity) where
   -- the log has room for what may come
-  pub has_room : (e : Event) → MayFollow (hand_in v) v.limit v.history e → request_of e < length v.widths → length v.history < capacity
-  has_room e m inside = let two = (laws.numbers (hand_in v) v.limit (e ∷ v.history) (m, is.fair.0)).of_requests (length v.widths) (inside, is.names_requests) in let k = is.room in omega arith
+  pub has_room : (e : Event) → MayFollow (hand_in v) v.limit v.history e → request_of e < length v.costs → length v.history < capacity
+  has_room e m inside = let two = (laws.numbers (hand_in v) v.limit (e ∷ v.history) (m, is.fair.0)).of_requests (length v.costs) (inside, is.names_requests) in let k = is.room in omega arith
 
   -- the log is short
   pub few_events : length v.history ≤ 20000
-  few_events = let two = (laws.numbers (hand_in v) v.limit v.history is.fair.0).of_requests (length v.widths) is.names_requests in let k = is.few in omega arith
+  few_events = let two = (laws.numbers (hand_in v) v.limit v.history is.fair.0).of_requests (length v.costs) is.names_requests in let k = is.few in omega arith
 
-  pub waiting_request : (q r : ℕ) → Contains (waiting v.history q) r → r < length v.widths
-  waiting_request q r c = (laws.numbers (hand_in v) v.limit v.history is.fair.0).waits_named (length v.widths) is.names_requests q r c
+  pub waiting_request : (q r : ℕ) → Contains (waiting v.history q) r → r < length v.costs
+  waiting_request q r c = (laws.numbers (hand_in v) v.limit v.history is.fair.0).waits_named (length v.costs) is.names_requests q r c
 
   module _ (e : Event) (may : MayFollow (hand_in v) v.limit v.history e) where
     named_after : waiting (e ∷ v.history) (queue_of e) ≡ changed e (waiting v.history (queue_of e))
@@ -77,7 +77,7 @@ module _ (laws : Laws) (v : LedgerView) (s : QueuesView) (marks : List Bool) (ca
 
       -- a request leaves its queue: it is dispatched or struck
       pub leaves : ((xs : List ℕ) (j : ℕ) → Contains (changed e xs) j → Contains xs j) → ((j : ℕ) → has_arrived (e ∷ v.history) j ≡ has_arrived v.history j)
-          → request_of e < length v.widths → HasFairLog (after v e) → numbers_in t ≡ numbers v.sizes.deck v.widths (e ∷ v.history)
+          → request_of e < length v.costs → HasFairLog (after v e) → numbers_in t ≡ numbers v.sizes.deck v.costs (e ∷ v.history)
           → t.widths ≡ s.widths → t.length_limit ≡ s.length_limit → AreOfLog (after v e) t marks capacity
       leaves fewer arrived named fair numbers_are widths limit = record {
         queue_is = queues_after;
@@ -90,7 +90,7 @@ module _ (laws : Laws) (v : LedgerView) (s : QueuesView) (marks : List Bool) (ca
         marked = λ j. is.marked j ∙ sym (arrived j);
         names_queues = (inside, is.names_queues);
         names_requests = (named, is.names_requests);
-        widths = is.widths;
+        costs = is.costs;
         few = is.few;
         one_hash_each = is.one_hash_each;
         one_place_each = ap (λ (x : List ℕ). length x) widths ∙ is.one_place_each;
@@ -98,7 +98,7 @@ module _ (laws : Laws) (v : LedgerView) (s : QueuesView) (marks : List Bool) (ca
         room = is.room;
       }
 
-  mark_set : (r : ℕ) → r < length v.widths → (j : ℕ) → get_or (set marks r true) j false ≡ (eqb r j || has_arrived v.history j)
+  mark_set : (r : ℕ) → r < length v.costs → (j : ℕ) → get_or (set marks r true) j false ≡ (eqb r j || has_arrived v.history j)
   mark_set r inside j = elim (cases_eq j r) [
     | inl e ↦ (let l : r < length marks = (let n = is.one_mark_each in omega arith) in ap (λ (i : ℕ). get_or (set marks r true) i false) e ∙ get_or-set_same marks r true false l)
         ∙ sym (ap (λ (b : Bool). b || has_arrived v.history j) (eq-eqb r j (sym e)))
@@ -122,7 +122,7 @@ module _ (laws : Laws) (v : LedgerView) (s : QueuesView) (marks : List Bool) (ca
       marked = mark_set r comes.is_request;
       names_queues = (comes.is_queue, is.names_queues);
       names_requests = (comes.is_request, is.names_requests);
-      widths = is.widths;
+      costs = is.costs;
       few = is.few;
       one_hash_each = is.one_hash_each;
       one_place_each = is.one_place_each;
@@ -131,16 +131,16 @@ module _ (laws : Laws) (v : LedgerView) (s : QueuesView) (marks : List Bool) (ca
     }
 
     -- it enters the queue
-    module _ (t : QueuesView) (room : length (waiting v.history q) ≢ v.limit) (e : Enters s t q r (width v.widths r)) where
-      width_here : width t.widths r ≡ width v.widths r
-      width_here = ap (λ (x : List ℕ). get_or x r 0) e.widths ∙ get_or-set_same s.widths r (width v.widths r) 0 (let d = is.one_place_each in let k = comes.is_request in omega arith)
+    module _ (t : QueuesView) (room : length (waiting v.history q) ≢ v.limit) (e : Enters s t q r (width v.costs r)) where
+      width_here : width t.widths r ≡ width v.costs r
+      width_here = ap (λ (x : List ℕ). get_or x r 0) e.widths ∙ get_or-set_same s.widths r (width v.costs r) 0 (let d = is.one_place_each in let k = comes.is_request in omega arith)
 
       width_else : (j : ℕ) → j ≢ r → width t.widths j ≡ width s.widths j
-      width_else j ne = ap (λ (x : List ℕ). get_or x j 0) e.widths ∙ get_or-set_other s.widths r j (width v.widths r) 0 ne
+      width_else j ne = ap (λ (x : List ℕ). get_or x j 0) e.widths ∙ get_or-set_other s.widths r j (width v.costs r) 0 ne
 
-      pushed_after : (p j : ℕ) → Contains (queue_in t p) j → width t.widths j ≡ width v.widths j
+      pushed_after : (p j : ℕ) → Contains (queue_in t p) j → width t.widths j ≡ width v.costs j
       pushed_after p j c = elim (cases_eq j r) [
-        | inl same ↦ ap (width t.widths) same ∙ (width_here ∙ ap (width v.widths) (sym same))
+        | inl same ↦ ap (width t.widths) same ∙ (width_here ∙ ap (width v.costs) (sym same))
         | inr ne ↦ width_else j ne ∙ is.pushed p j (elim (cases_eq p q) [
           | inl at ↦ elim (Contains-push_cases (queue_in s q) r j (subst (λ (xs : List ℕ). Contains xs j) (ap (queue_in t) at ∙ queue_named (Enter r q) (may_enter room) comes.is_queue t e.queues) c)) [
             | inl old ↦ subst (λ (i : ℕ). Contains (queue_in s i) j) (sym at) old
@@ -162,10 +162,10 @@ module _ (laws : Laws) (v : LedgerView) (s : QueuesView) (marks : List Bool) (ca
         marked = mark_set r comes.is_request;
         names_queues = (comes.is_queue, is.names_queues);
         names_requests = (comes.is_request, is.names_requests);
-        widths = is.widths;
+        costs = is.costs;
         few = is.few;
         one_hash_each = is.one_hash_each;
-        one_place_each = ap (λ (x : List ℕ). length x) e.widths ∙ (length-set s.widths r (width v.widths r) ∙ is.one_place_each);
+        one_place_each = ap (λ (x : List ℕ). length x) e.widths ∙ (length-set s.widths r (width v.costs r) ∙ is.one_place_each);
         one_mark_each = length-set marks r true ∙ is.one_mark_each;
         room = is.room;
       }
@@ -176,7 +176,7 @@ module _ (laws : Laws) (v : LedgerView) (s : QueuesView) (marks : List Bool) (ca
       let waits = first_contains (waiting v.history c.queue) c.request n.is_first in
       leaves (Dispatch c.request c.queue) n.is_first n.is_choice.is_queue t d.queues Contains-rest (λ j. refl)
       (waiting_request c.queue c.request waits) ((n.is_first, is.fair.0), (n.is_choice, is.fair.1))
-      (d.numbers ∙ (ap (λ (k : ℕ). after_dispatch c.queue k (numbers_in s)) n.width_is ∙ ap (after_dispatch c.queue (width v.widths c.request)) is.numbers_are))
+      (d.numbers ∙ (ap (λ (k : ℕ). after_dispatch c.queue k (numbers_in s)) n.cost_is ∙ ap (after_dispatch c.queue (width v.costs c.request)) is.numbers_are))
       d.widths d.length_limit
 
   -- a request that waits is struck

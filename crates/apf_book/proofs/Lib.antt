@@ -1,3 +1,4 @@
+pub mod Charging
 pub mod Opened
 pub mod Puts
 pub mod Knowing
@@ -6,8 +7,13 @@ pub mod Saying
 pub mod Keeping
 pub mod Arriving
 pub mod Turning
+pub mod Stopped
+pub mod Dispatched
 pub mod Lists
 pub mod Ledgers
 pub mod Nexts
 pub mod Running
 pub mod Stretches
+pub mod Widths
+pub mod Leavings
+pub mod Givings

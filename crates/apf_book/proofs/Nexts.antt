@@ -17,14 +17,14 @@ use Rattle.apf_book.specs.Histories.{Laws}
 use Rattle.apf_book.proofs.Ledgers.{waiting_request}
 
 module _ (v : LedgerView) (s : QueuesView) (marks : List Bool) (capacity : ℕ) (is : AreOfLog v s marks capacity) where
-  finish_same : (q : ℕ) → queue_in s q ≢ [] → finish s.widths (queue_in s) (numbers_in s) q ≡ finish v.widths (waiting v.history) (numbers v.sizes.deck v.widths v.history) q
+  finish_same : (q : ℕ) → queue_in s q ≢ [] → finish s.widths (queue_in s) (numbers_in s) q ≡ finish v.costs (waiting v.history) (numbers v.sizes.deck v.costs v.history) q
   finish_same q ne =
-      let a : slice_index s.next q ≡ (numbers v.sizes.deck v.widths v.history).next q = ap (λ (n : Numbers). n.next q) is.numbers_are in
-      let b : width s.widths (slice_index (queue_in s q) 0) ≡ width v.widths (slice_index (waiting v.history q) 0) =
-      is.pushed q (slice_index (queue_in s q) 0) (some_first (queue_in s q) ne) ∙ ap (λ (xs : List ℕ). width v.widths (slice_index xs 0)) (is.queue_is q) in
+      let a : slice_index s.next q ≡ (numbers v.sizes.deck v.costs v.history).next q = ap (λ (n : Numbers). n.next q) is.numbers_are in
+      let b : width s.widths (slice_index (queue_in s q) 0) ≡ width v.costs (slice_index (waiting v.history q) 0) =
+      is.pushed q (slice_index (queue_in s q) 0) (some_first (queue_in s q) ne) ∙ ap (λ (xs : List ℕ). width v.costs (slice_index xs 0)) (is.queue_is q) in
       omega arith
 
-  steps_same : (q : ℕ) → steps_round (queue_count s) (numbers_in s).robin q ≡ steps_round v.sizes.deck (numbers v.sizes.deck v.widths v.history).robin q
+  steps_same : (q : ℕ) → steps_round (queue_count s) (numbers_in s).robin q ≡ steps_round v.sizes.deck (numbers v.sizes.deck v.costs v.history).robin q
   steps_same q = ap (λ (n : ℕ). steps_round n (numbers_in s).robin q) is.deck ∙ ap (λ (n : Numbers). steps_round v.sizes.deck n.robin q) is.numbers_are
 
   some_waits : (q : ℕ) → waiting v.history q ≢ [] → queue_in s q ≢ []
@@ -34,7 +34,7 @@ module _ (v : LedgerView) (s : QueuesView) (marks : List Bool) (capacity : ℕ) 
   some_queue q ne e = ne (is.queue_is q ∙ e)
 
   -- the choice by the queues is that by the log
-  choice_of_log : (q : ℕ) → IsChoice (queue_count s) s.widths (queue_in s) (numbers_in s) q → IsChoice v.sizes.deck v.widths (waiting v.history) (numbers v.sizes.deck v.widths v.history) q
+  choice_of_log : (q : ℕ) → IsChoice (queue_count s) s.widths (queue_in s) (numbers_in s) q → IsChoice v.sizes.deck v.costs (waiting v.history) (numbers v.sizes.deck v.costs v.history) q
   choice_of_log q c = record {
     is_queue = let d = is.deck in let k = c.is_queue in omega arith;
     is_waited_in = some_queue q c.is_waited_in;
@@ -43,7 +43,7 @@ module _ (v : LedgerView) (s : QueuesView) (marks : List Bool) (capacity : ℕ) 
         let k = c.is_reached_first p (let d = is.deck in omega arith) (some_waits p ne) (omega arith) in omega arith);
   }
 
-  choice_of_queues : (q : ℕ) → IsChoice v.sizes.deck v.widths (waiting v.history) (numbers v.sizes.deck v.widths v.history) q → IsChoice (queue_count s) s.widths (queue_in s) (numbers_in s) q
+  choice_of_queues : (q : ℕ) → IsChoice v.sizes.deck v.costs (waiting v.history) (numbers v.sizes.deck v.costs v.history) q → IsChoice (queue_count s) s.widths (queue_in s) (numbers_in s) q
   choice_of_queues q c =
       let some = some_waits q c.is_waited_in in
       record {
@@ -60,7 +60,7 @@ module _ (v : LedgerView) (s : QueuesView) (marks : List Bool) (capacity : ℕ) 
       record {
         is_choice = choice_of_log c.queue is_chosen.is_choice;
         is_first = ap (λ (xs : List ℕ). slice_get xs 0) (sym (is.queue_is c.queue)) ∙ first;
-        width_is = is_chosen.is_head.width_is ∙ is.pushed c.queue c.request (first_contains (queue_in s c.queue) c.request first);
+        cost_is = is_chosen.is_head.width_is ∙ is.pushed c.queue c.request (first_contains (queue_in s c.queue) c.request first);
       }
 
   pub next_of_queues : (c : Chosen) → IsNext v c → IsChosen s c
@@ -71,7 +71,7 @@ module _ (v : LedgerView) (s : QueuesView) (marks : List Bool) (capacity : ℕ) 
         is_head = record {
           queue_is = refl;
           is_first = first;
-          width_is = n.width_is ∙ sym (is.pushed c.queue c.request (first_contains (queue_in s c.queue) c.request first));
+          width_is = n.cost_is ∙ sym (is.pushed c.queue c.request (first_contains (queue_in s c.queue) c.request first));
         };
       }
 
@@ -92,30 +92,30 @@ module _ (v : LedgerView) (s : QueuesView) (marks : List Bool) (capacity : ℕ) 
   choose_of_log None h = nothing_waits h
   choose_of_log (Some c) h = next_of_log c h
 
-  pub chosen_request : Laws → (x : Option Chosen) → MatchOption x (NothingQueued s) (IsChosen s) → IfSome x (λ c. c.request < length v.widths)
+  pub chosen_request : Laws → (x : Option Chosen) → MatchOption x (NothingQueued s) (IsChosen s) → IfSome x (λ c. c.request < length v.costs)
   chosen_request laws None h = tt
   chosen_request laws (Some c) h = waiting_request laws v s marks capacity is c.queue c.request (first_contains (waiting v.history c.queue) c.request (next_of_log c h).is_first)
 
 -- how it begins
 pub opens : (v : LedgerView) (s : QueuesView) (marks : List Bool) (capacity n : ℕ) → v.history ≡ [] → s ≡ opening_view v.sizes.deck v.limit n → numbers_in s ≡ opening_numbers v.sizes.deck → marks ≡ replicate n false
-    → length v.widths ≡ n → length v.hashes ≡ n → AreWidths v.widths → n ≤ 10000 → 2 * n ≤ capacity → AreOfLog v s marks capacity
-opens v s marks capacity n nothing opening start unmarked widths hashes are few room =
+    → length v.costs ≡ n → length v.hashes ≡ n → AreWidths v.costs → n ≤ 10000 → 2 * n ≤ capacity → AreOfLog v s marks capacity
+opens v s marks capacity n nothing opening start unmarked costs hashes are few room =
     let empty : (q : ℕ) → queue_in s q ≡ [] = λ (q : ℕ). ap (λ (x : QueuesView). queue_in x q) opening ∙ no_queue v.sizes.deck q in
     record {
       queue_is = λ q. empty q ∙ sym (ap (λ (h : List Event). waiting h q) nothing);
-      fair = subst (λ (h : List Event). IsFair v.sizes.deck v.widths (hand_in v) v.limit h) (sym nothing) (tt, tt);
-      numbers_are = start ∙ sym (ap (numbers v.sizes.deck v.widths) nothing);
+      fair = subst (λ (h : List Event). IsFair v.sizes.deck v.costs (hand_in v) v.limit h) (sym nothing) (tt, tt);
+      numbers_are = start ∙ sym (ap (numbers v.sizes.deck v.costs) nothing);
       deck = ap queue_count opening ∙ length-replicate v.sizes.deck [];
       limit = ap (λ (x : QueuesView). x.length_limit) opening;
       not_pushed = λ r e. ap (λ (x : QueuesView). width x.widths r) opening ∙ no_width n r;
       pushed = λ q r c. absurd (Contains-none r (subst (λ (xs : List ℕ). Contains xs r) (empty q) c));
       marked = λ r. ap (λ (x : List Bool). slice_index_or x r false) unmarked ∙ (no_mark n r ∙ sym (ap (λ (h : List Event). has_arrived h r) nothing));
       names_queues = subst (λ (h : List Event). NamesQueues v.sizes.deck h) (sym nothing) tt;
-      names_requests = subst (λ (h : List Event). NamesRequests (length v.widths) h) (sym nothing) tt;
-      widths = are;
+      names_requests = subst (λ (h : List Event). NamesRequests (length v.costs) h) (sym nothing) tt;
+      costs = are;
       few = omega arith;
-      one_hash_each = hashes ∙ sym widths;
-      one_place_each = ap (λ (x : QueuesView). length x.widths) opening ∙ (length-replicate n 0 ∙ sym widths);
-      one_mark_each = ap (λ (x : List Bool). length x) unmarked ∙ (length-replicate n false ∙ sym widths);
+      one_hash_each = hashes ∙ sym costs;
+      one_place_each = ap (λ (x : QueuesView). length x.widths) opening ∙ (length-replicate n 0 ∙ sym costs);
+      one_mark_each = ap (λ (x : List Bool). length x) unmarked ∙ (length-replicate n false ∙ sym costs);
       room = omega arith;
     }

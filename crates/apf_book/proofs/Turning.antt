@@ -1,5 +1,5 @@
 -- The events of several turns.
-use Rattle.std.proofs.Common.{◌≡◌, ℕ, ◌+◌, cond, List, [], ◌∷◌, length, refl, ap, ◌∙◌, arith}
+use Rattle.std.proofs.Common.{◌≡◌, ℕ, ◌+◌, cond, List, [], ◌∷◌, length, refl, ap, ◌∙◌, subst, arith}
 use Rattle.std.specs.Prelude.{count_by}
 use Rattle.std.proofs.lemmas.List.Sums.{sum_by-cons}
 use Rattle.apf_history.specs.declared.events.Event.{Event}
@@ -7,7 +7,9 @@ use Rattle.apf_history.specs.declared.events.Event.TheVariants.{Dispatch, Strike
 use Rattle.apf_model.specs.Outcome.{is_dispatch}
 use Rattle.apf_book.specs.LedgerView.{LedgerView}
 use Rattle.apf_book.specs.Servings.{with, Serves, HeadMisses}
+use Rattle.apf_book.specs.Moves.{LastFound}
 use Rattle.apf_book.proofs.Knowing.{found_then}
+use Rattle.apf_gate.specs.declared.record.Shape.{Shape}
 use Rattle.apf_gate.specs.declared.record.Knowledge.{Knowledge}
 use Rattle.apf_gate.specs.Records.{KnowsMore}
 
@@ -39,4 +41,4 @@ longer v v' e is = let a = ap (λ (w : LedgerView). length w.history) is in omeg
 
 -- the head misses after earlier turns
 pub misses_then : (v : LedgerView) (a b c : Knowledge) → KnowsMore a b → HeadMisses v b c → HeadMisses v a c
-misses_then v a b c more misses = record { head = misses.head; is_next = misses.is_next; misses = found_then a b c v.widths misses.head.request more misses.misses }
+misses_then v a b c more misses = record { head = misses.head; is_next = misses.is_next; misses = subst (λ (s : Shape). LastFound a s.widths misses.head.request c) more.shape (found_then a b c b.shape.widths misses.head.request more misses.misses) }

@@ -1,5 +1,5 @@
 -- The Desk and the log agree.
-use Rattle.std.specs.Prelude.{◌≡◌, ℕ, map, Option, Some, None}
+use Rattle.std.specs.Prelude.{◌≡◌, ℕ, length, map, Option, Some, None}
 use Rattle.apf_words.specs.declared.decision.Decision.TheVariants.{Cancelled}
 use Rattle.apf_model.specs.declared.response.Response.TheVariants.{Queue}
 use Rattle.apf_history.specs.declared.events.Status.{Status}
@@ -39,5 +39,5 @@ pub record IsKept (desk : DeskRecord) (v : LedgerView) : Type 0 where
   pub said : map saying v.history ≡ sayings desk.knows.trace
   -- the Desk was told cancelled of each struck request
   pub struck : (r : ℕ) → status v.history r ≡ status_is.Struck → told_of desk.knows.told r ≡ Some Cancelled
-  pub widths : v.widths ≡ desk.knows.shape.widths
+  pub one_cost_each : length v.costs ≡ length desk.knows.shape.widths
   pub has_queues : desk.knows.shape.response ≡ Queue

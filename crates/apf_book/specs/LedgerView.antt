@@ -14,7 +14,8 @@ use Rattle.apf_queue.specs.declared.choice.Chosen.{Chosen}
 pub record LedgerView : Type 0 where
   -- the log as a history: the newest event stands first
   pub history : List Event
-  pub widths : List ℕ
+  -- what the dispatch of each request is charged
+  pub costs : List ℕ
   pub hashes : List ℕ
   -- how many queues there are, and how many a hand has
   pub sizes : Sizes
@@ -27,15 +28,15 @@ hand_in v r = hand_of v.sizes (slice_index v.hashes r)
 
 -- the log is legal, and each dispatch names the choice
 abbrev pub HasFairLog : LedgerView → Type 0
-HasFairLog v = IsFair v.sizes.deck v.widths (hand_in v) v.limit v.history
+HasFairLog v = IsFair v.sizes.deck v.costs (hand_in v) v.limit v.history
 
--- the log is fair, names requests and queues of the level, and requests have the widths and the number that a level may have
+-- the log is fair, names requests and queues of the level, and there are at most so many requests, of costs in the range of widths
 pub record IsLogOf (v : LedgerView) : Type 0 where
   pub fair : HasFairLog v
-  pub names_requests : NamesRequests (length v.widths) v.history
+  pub names_requests : NamesRequests (length v.costs) v.history
   pub names_queues : NamesQueues v.sizes.deck v.history
-  pub widths : AreWidths v.widths
-  pub few : length v.widths ≤ max_requests
+  pub costs : AreWidths v.costs
+  pub few : length v.costs ≤ max_requests
 
 -- with one event more, after what the log has
 abbrev pub after : LedgerView → Event → LedgerView
@@ -43,7 +44,7 @@ after v e = record v { history = e ∷ v.history }
 
 -- r neither entered nor was refused as full, and q is the shortest queue of its hand
 pub record Arrives (v : LedgerView) (r q : ℕ) : Type 0 where
-  pub is_request : r < length v.widths
+  pub is_request : r < length v.costs
   pub is_queue : q < v.sizes.deck
   pub is_new : has_arrived v.history r ≡ false
   pub is_shortest : IsShortest (waiting v.history) (hand_in v r) q
@@ -52,8 +53,8 @@ pub record Arrives (v : LedgerView) (r q : ℕ) : Type 0 where
 abbrev pub NothingWaits : LedgerView → Type 0
 NothingWaits v = (q : ℕ) → waiting v.history q ≡ []
 
--- what is dispatched next, by the log: the choice, its first request, and that one's width
+-- what is dispatched next, by the log: the choice, its first request, and that one's cost
 pub record IsNext (v : LedgerView) (c : Chosen) : Type 0 where
-  pub is_choice : IsChoice v.sizes.deck v.widths (waiting v.history) (numbers v.sizes.deck v.widths v.history) c.queue
+  pub is_choice : IsChoice v.sizes.deck v.costs (waiting v.history) (numbers v.sizes.deck v.costs v.history) c.queue
   pub is_first : slice_get (waiting v.history c.queue) 0 ≡ Some c.request
-  pub width_is : c.width ≡ width v.widths c.request
+  pub cost_is : c.width ≡ width v.costs c.request

@@ -3,6 +3,8 @@ pub mod LedgerKept
 pub mod Opening
 pub mod Stretch
 pub mod Counted
+pub mod Seats
+pub mod Overtaken
 pub mod BookView
 pub mod Moves
 pub mod Said
@@ -10,3 +12,5 @@ pub mod Arrivals
 pub mod Servings
 pub mod Laws
 pub mod Histories
+pub mod Stopped
+pub mod Dispatched

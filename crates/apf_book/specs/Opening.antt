@@ -1,5 +1,5 @@
 -- How a ledger begins.
-use Rattle.std.specs.Prelude.{◌≡◌, List, [], map, length, Some}
+use Rattle.std.specs.Prelude.{◌≡◌, ℕ, List, [], map, length, Some}
 use Rattle.apf_flow.specs.Fault.{fault_of}
 use Rattle.apf_flow.specs.Sizes.{IsDealable}
 use Rattle.apf_queue.specs.View.{IsQueueShape}
@@ -10,16 +10,20 @@ use Rattle.apf_book.specs.declared.fault.BookFault.{BookFault}
 use Rattle.apf_book.specs.declared.fault.BookFault.TheVariants.{Dealer, Queues, NoMemory}
 use Rattle.apf_book.specs.LedgerView.{LedgerView}
 
--- nothing happened yet
-abbrev pub opening_ledger : Config → List Ask → LedgerView
-opening_ledger c asks =
+-- nothing happened yet, and the dispatch of each request is charged this
+abbrev pub opening_ledger_with : Config → List Ask → List ℕ → LedgerView
+opening_ledger_with c asks costs =
     record {
       history = [];
-      widths = map (λ (a : Ask). a.width) asks;
+      costs = costs;
       hashes = map (λ (a : Ask). a.hash) asks;
       sizes = record { deck = c.queues; hand = c.hand_size };
       limit = c.queue_length_limit;
     }
+
+-- the same, where each is charged its width
+abbrev pub opening_ledger : Config → List Ask → LedgerView
+opening_ledger c asks = opening_ledger_with c asks (map (λ (a : Ask). a.width) asks)
 
 -- the settings make a dealer and queues
 abbrev pub AreSettings : Config → List Ask → Type 0

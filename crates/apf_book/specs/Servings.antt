@@ -28,11 +28,11 @@ after_serving served.Raced = Some status_is.Waits
 abbrev pub with : List Event → LedgerView → LedgerView
 with events v = record v { history = events ++ v.history }
 
--- the Desk's last two steps, in this call, did not find the chosen head cancelled, and found a level word that it does not fit
+-- the Desk's last two steps, in this call, did not find the chosen head cancelled, and found a level word that it does not fit by its width
 pub record HeadMisses (v : LedgerView) (known known' : Knowledge) : Type 0 where
   pub head : Chosen
   pub is_next : IsNext v head
-  pub misses : LastFound known v.widths head.request known'
+  pub misses : LastFound known known.shape.widths head.request known'
 
 -- where serving stops: nothing waits, or the chosen head does not fit
 abbrev pub Stops : LedgerView → Knowledge → Knowledge → Type 0

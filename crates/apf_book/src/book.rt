@@ -7,24 +7,26 @@ ghost use Rattle.apf_history.specs.declared.events.Event.TheVariants as events;
 ghost use Rattle.apf_model.specs.declared.response.Response.TheVariants.{Queue};
 ghost use Rattle.apf_model.specs.History.{has_arrived, waiting};
 ghost use Rattle.apf_model.specs.Outcome.{stats_of};
+ghost use Rattle.apf_model.specs.Schedule.{AreWidths};
 ghost use Rattle.apf_model.specs.Fair.{widest, DifferAtMost};
 ghost use Rattle.apf_gate.specs.declared.record.State.TheVariants.{InLine};
 ghost use Rattle.apf_gate.specs.Records.{new_desk, told_of, told_own, KnowsMore};
 ghost use Rattle.apf_gate.specs.Tokens.{pass_gate, desk_gate};
 ghost use Rattle.apf_gate.specs.JoinedSteps.{JoinedLoadsDecision};
-ghost use Rattle.apf_book.specs.Opening.{opening_ledger, IsFaultOf, AreSettings};
+ghost use Rattle.apf_book.specs.Opening.{opening_ledger, opening_ledger_with, IsFaultOf, AreSettings};
 ghost use Rattle.apf_book.specs.LedgerKept.{AreStats};
 ghost use Rattle.apf_book.specs.Stretch.{IsBacklogged, service_in, IsIsolated, AreWaitsBounded};
 ghost use Rattle.apf_book.specs.BookView.{IsKept};
 ghost use Rattle.apf_book.specs.Arrivals.{arrival, IsTold, SaysOpen};
 ghost use Rattle.apf_book.specs.Servings.{with, Turns, Serves, Stops, Strikes};
+ghost use Rattle.apf_book.specs.Stopped.{IsStopped};
 
 use crate::arrived::Arrived;
 use crate::config::{Ask, Config};
 use crate::fault::BookFault;
 use crate::handing::{Handed, hand};
 use crate::histories::legal_histories_are_in_order;
-use crate::ledger::Ledger;
+use crate::ledger::{Ledger, widths_of};
 use crate::serving::{Served, serve};
 use crate::stats::Stats;
 use apf_gate::{Desk, Gate, Pass};
@@ -55,8 +57,8 @@ impl<A: Allocator> Model for Book<A> {
 }
 
 impl<A: Allocator + Copy> Book<A> {
-    /// A book in which nothing happened yet. All memory is taken here, the log's too: two events for
-    /// each request.
+    /// A book in which nothing happened yet, and a dispatch is charged the request's width. All memory is
+    /// taken here, the log's too: two events for each request.
     ///
     /// The Desk is as `Gate::open` gave it, for the widths of the asks and the response Queue.
     ///
@@ -69,11 +71,44 @@ impl<A: Allocator + Copy> Book<A> {
         requires has_queues { desk.desk.knows.shape.response ≡ Queue }
         ensures desk { IfOk result (λ b. b.desk ≡ desk) }
         ensures ledger { IfOk result (λ b. b.ledger ≡ opening_ledger config.now asks.now) }
+        ensures stopped { IfOk result (λ b. IsStopped b.ledger b.desk.desk.knows) }
         ensures settings { OnOk result (AreSettings config.now asks.now) }
         ensures fault { IfErr result (IsFaultOf config.now asks.now) }
     {
         desk.is_of_a_gate();
-        let ledger = Ledger::new(alloc, config, asks)?;
+        let ledger = Ledger::new(alloc, config, asks, widths_of(alloc, asks))?;
+        Ok(Book { desk, ledger })
+    }
+
+    /// As `new`, but a dispatch is charged the request's cost: its queue's next and the level's virtual
+    /// time go on by it. Seats are taken by the width, as ever.
+    ///
+    /// There is one cost for each request, 1 to 20,000, in a unit of the caller's: its width, or an
+    /// estimate of its seats times the time that it holds them.
+    ///
+    /// # Errors
+    ///
+    /// As `new`.
+    pub fn with_costs(
+        alloc: A,
+        config: &Config,
+        asks: &[Ask],
+        costs: &[u32],
+        desk: Desk,
+    ) -> Result<Book<A>, BookFault>
+        requires fresh { desk.desk ≡ new_desk desk.desk.knows.shape }
+        requires widths { map (λ a. a.width) asks.now ≡ desk.desk.knows.shape.widths }
+        requires one_cost_each { length costs.now ≡ length asks.now }
+        requires costs { AreWidths costs.now }
+        requires has_queues { desk.desk.knows.shape.response ≡ Queue }
+        ensures desk { IfOk result (λ b. b.desk ≡ desk) }
+        ensures ledger { IfOk result (λ b. b.ledger ≡ opening_ledger_with config.now asks.now costs.now) }
+        ensures stopped { IfOk result (λ b. IsStopped b.ledger b.desk.desk.knows) }
+        ensures settings { OnOk result (AreSettings config.now asks.now) }
+        ensures fault { IfErr result (IsFaultOf config.now asks.now) }
+    {
+        desk.is_of_a_gate();
+        let ledger = Ledger::new(alloc, config, asks, Vec::from_slice(alloc, costs))?;
         Ok(Book { desk, ledger })
     }
 }
@@ -144,6 +179,7 @@ impl<A: Allocator> Book<A> {
         ensures gate { desk_gate self.new.desk ≡ desk_gate self.old.desk }
         ensures log { Serves self.old.ledger self.new.ledger result }
         ensures stops { Stops self.new.ledger self.old.desk.desk.knows self.new.desk.desk.knows }
+        ensures stopped { IsStopped self.new.ledger self.new.desk.desk.knows }
         ensures more { KnowsMore self.old.desk.desk.knows self.new.desk.desk.knows }
         ensures kept { IsKept self.new.desk.desk self.new.ledger }
     {
@@ -170,6 +206,7 @@ impl<A: Allocator> Book<A> {
         ensures stays { result ≡ false → self.new.ledger ≡ self.old.ledger }
         ensures reads { Strikes self.old.desk.desk request result ((q : ℕ) × Contains (waiting self.old.ledger.history q) request) self.new.desk.desk }
         ensures told { told_of self.old.desk.desk.knows.told request ≢ None → (q : ℕ) → ¬ Contains (waiting self.new.ledger.history q) request }
+        ensures still_stopped { result ≡ false → IsStopped self.old.ledger self.old.desk.desk.knows → IsStopped self.new.ledger self.new.desk.desk.knows }
         ensures nobody_new { (q r : ℕ) → Contains (waiting self.new.ledger.history q) r → Contains (waiting self.old.ledger.history q) r }
         ensures more { KnowsMore self.old.desk.desk.knows self.new.desk.desk.knows }
         ensures kept { IsKept self.new.desk.desk self.new.ledger }
@@ -214,20 +251,21 @@ impl<A: Allocator> Book<A> {
 
     /// The log, the oldest event first.
     ///
-    /// In every stretch of it in which two queues are never empty, both ends included, their services
-    /// differ by at most twice the largest width. In which one queue is never empty, no other is served
-    /// more than that one and so much, whether it was empty in between or not. While a request waits, its
-    /// own queue is given at most the seats of those before it, and each other queue at most these and
-    /// twice the largest width.
+    /// A queue's service in a stretch of it is the sum of the costs of those dispatched from it there;
+    /// these are widths in a book that was made by `new`. In every stretch in which two queues are never
+    /// empty, both ends included, their services differ by at most twice the largest cost. In which one
+    /// queue is never empty, no other is served more than that one and so much, whether it was empty in
+    /// between or not. While a request waits, its own queue is served at most the costs of those before it,
+    /// and each other queue at most these and twice the largest cost.
     pub fn log(&self) -> &[Event]
         ensures log { reverse result.now ≡ self.now.ledger.history }
         ensures balanced { (from to a b : ℕ) → from ≤ to → to ≤ length result.now
             → a < self.now.ledger.sizes.deck → b < self.now.ledger.sizes.deck
             → IsBacklogged result.now from to a → IsBacklogged result.now from to b
-            → DifferAtMost (2 * widest self.now.ledger.widths) (service_in self.now.ledger.widths result.now from to a)
-            (service_in self.now.ledger.widths result.now from to b) }
-        ensures isolated { IsIsolated self.now.ledger.sizes.deck self.now.ledger.widths result.now }
-        ensures waits { AreWaitsBounded self.now.ledger.sizes.deck self.now.ledger.widths result.now }
+            → DifferAtMost (2 * widest self.now.ledger.costs) (service_in self.now.ledger.costs result.now from to a)
+            (service_in self.now.ledger.costs result.now from to b) }
+        ensures isolated { IsIsolated self.now.ledger.sizes.deck self.now.ledger.costs result.now }
+        ensures waits { AreWaitsBounded self.now.ledger.sizes.deck self.now.ledger.costs result.now }
         ensures kept { IsKept self.now.desk.desk self.now.ledger }
     {
         self.ledger.log()

@@ -1,15 +1,18 @@
 //! What is true of every book.
 
-ghost use Rattle.std.specs.Prelude.{◌≡◌, List};
+ghost use Rattle.std.specs.Prelude.{◌≡◌, List, reverse};
+ghost use Rattle.apf_history.specs.declared.events.Event.{Event};
 ghost use Rattle.apf_gate.specs.declared.record.DeskRecord.{DeskRecord};
 ghost use Rattle.apf_gate.specs.Tokens.{GateId, DeskToken, PassToken, StationToken, desk_gate};
 ghost use Rattle.apf_gate.specs.Ends.{WordsView, EndsWith};
-ghost use Rattle.apf_book.specs.LedgerView.{LedgerView};
+ghost use Rattle.apf_book.specs.LedgerView.{LedgerView, IsLogOf};
 ghost use Rattle.apf_book.specs.BookView.{IsKept};
 ghost use Rattle.apf_book.specs.Laws.{IsOfOneMind, LogAgrees};
+ghost use Rattle.apf_book.specs.Dispatched.{AreDispatchesBounded};
+ghost use Rattle.apf_book.specs.Stopped.{NoRequestIsForgotten};
 
-use crate::histories::legal_histories_are_in_order;
-use apf_gate::every_end_agrees;
+use crate::histories::{legal_histories_are_in_order, waits_are_bounded};
+use apf_gate::{every_end_agrees, no_dispatch_is_lost};
 
 /// The Desk and the log of every book say the same, whenever no call of the book runs: which requests
 /// wait, were dispatched, and were refused as full; and the Desk holds nothing, and was told of each
@@ -32,4 +35,30 @@ pub fn every_ended_book_agrees()
     legal_histories_are_in_order();
     every_book_is_kept();
     every_end_agrees();
+}
+
+/// No request is forgotten: of every state of a gate whose Desk's book is stopped.
+///
+/// Nothing waits; or the chosen head does not fit the level word; or others gave seats back or set the limit since
+/// the Desk found that it does not fit. Each of them found requests waiting, and so owes a dispatch.
+///
+/// It runs no code: the contract is the law.
+pub fn no_request_is_forgotten()
+    ensures { NoRequestIsForgotten }
+{
+    legal_histories_are_in_order();
+    no_dispatch_is_lost();
+}
+
+/// The wait of every request that was dispatched was bounded, in the log of every book and of every report.
+///
+/// Between its Enter and its Dispatch its own queue was charged at most the costs of those that stood before it, and
+/// each other queue at most these and twice the largest cost. Where no costs were given, a cost is a width in seats.
+///
+/// It runs no code: the contract is the law.
+pub fn every_dispatched_wait_is_bounded()
+    ensures { (v : LedgerView) (log : List Event) → IsLogOf v → reverse log ≡ v.history → AreDispatchesBounded v.sizes.deck v.costs log }
+{
+    legal_histories_are_in_order();
+    waits_are_bounded();
 }

@@ -1,12 +1,12 @@
 //! The queues of a level, and the log that they are of.
 
-ghost use Rattle.std.specs.Prelude.{◌≡◌, ◌≢◌, ◌↔◌, ℕ, ◌+◌, ◌*◌, ◌<◌, ◌≤◌, length, map, reverse, IsTrue, Contains, IfOk, OnOk, IfErr, IfNone, IfSome, MatchOption};
+ghost use Rattle.std.specs.Prelude.{◌≡◌, ◌≢◌, ◌↔◌, ℕ, ◌+◌, ◌*◌, ◌<◌, ◌≤◌, length, map, reverse, IsTrue, Contains, IfOk, IsOkAnd, OnOk, IfErr, IfNone, IfSome, MatchOption};
 ghost use Rattle.apf_words.specs.Limits.{max_requests};
 ghost use Rattle.apf_history.specs.declared.events.Event.TheVariants as events;
 ghost use Rattle.apf_model.specs.History.{has_arrived, waiting, IsShortest};
 ghost use Rattle.apf_model.specs.Schedule.{AreWidths};
 ghost use Rattle.apf_model.specs.Outcome.{stats_of};
-ghost use Rattle.apf_book.specs.Opening.{opening_ledger, IsFaultOf, AreSettings};
+ghost use Rattle.apf_book.specs.Opening.{opening_ledger_with, IsFaultOf, AreSettings};
 ghost use Rattle.apf_book.specs.LedgerView.{hand_in, after, IsLogOf, Arrives, NothingWaits, IsNext};
 ghost use Rattle.apf_book.specs.LedgerKept.{AreStats};
 ghost use Rattle.apf_book.specs.Stretch.{IsBacklogged, service_in, IsIsolated, AreWaitsBounded};
@@ -31,7 +31,7 @@ pub struct Ledger<A: Allocator> {
     dealer: Dealer,
     queues: Queues<A>,
     length_limit: u32,
-    widths: Vec<u32, A>,
+    costs: Vec<u32, A>,
     hashes: Vec<u64, A>,
     // whether a request entered or was refused as full
     arrived: Vec<bool, A>,
@@ -53,25 +53,32 @@ impl<A: Allocator> Model for Ledger<A> {
 
     ghost view = { λ s. record {
       history = reverse s.log.items;
-      widths = s.widths.items;
+      costs = s.costs.items;
       hashes = s.hashes.items;
       sizes = s.dealer;
       limit = s.length_limit;
     } };
 
     ghost invariant = { λ s. AreOfLog
-        (record { history = reverse s.log.items; widths = s.widths.items; hashes = s.hashes.items; sizes = s.dealer; limit = s.length_limit })
+        (record { history = reverse s.log.items; costs = s.costs.items; hashes = s.hashes.items; sizes = s.dealer; limit = s.length_limit })
         s.queues s.arrived.items (vec_capacity s.log)
         × AreRunning (reverse s.log.items) s.entered s.dispatched s.struck s.full };
 }
 
 impl<A: Allocator + Copy> Ledger<A> {
-    // Empty queues, and an empty log with room for two events of each request. All memory is taken
-    // here. There are at most 10,000 requests, of widths 1 to 20,000.
-    pub fn new(alloc: A, config: &Config, asks: &[Ask]) -> Result<Ledger<A>, BookFault>
-        requires widths { AreWidths (map (λ a. a.width) asks.now) }
+    // Empty queues, and an empty log with room for two events of each request. All other memory is
+    // taken here. There are at most 10,000 requests, each with a cost of 1 to 20,000. Where the costs
+    // found no memory, that is the last fault.
+    pub fn new(
+        alloc: A,
+        config: &Config,
+        asks: &[Ask],
+        costs: Result<Vec<u32, A>, AllocError>,
+    ) -> Result<Ledger<A>, BookFault>
+        requires one_cost_each { IfOk costs (λ v. length v.items ≡ length asks.now) }
+        requires costs { IfOk costs (λ v. AreWidths v.items) }
         requires few { length asks.now ≤ max_requests }
-        ensures opening { IfOk result (λ v. v ≡ opening_ledger config.now asks.now) }
+        ensures opening { IfOk result (λ l. IsOkAnd costs (λ v. l ≡ opening_ledger_with config.now asks.now v.items)) }
         ensures settings { OnOk result (AreSettings config.now asks.now) }
         ensures sound { IfOk result IsLogOf }
         ensures fault { IfErr result (IsFaultOf config.now asks.now) }
@@ -95,7 +102,7 @@ impl<A: Allocator + Copy> Ledger<A> {
             dealer,
             queues,
             length_limit: config.queue_length_limit,
-            widths: widths_of(alloc, asks)?,
+            costs: costs?,
             hashes: hashes_of(alloc, asks)?,
             arrived: vec![in alloc; false; requests]?,
             log: Vec::with_capacity(alloc, 2 * requests)?,
@@ -108,7 +115,7 @@ impl<A: Allocator + Copy> Ledger<A> {
 }
 
 // The width of each request.
-fn widths_of<A: Allocator>(alloc: A, asks: &[Ask]) -> Result<Vec<u32, A>, AllocError>
+pub fn widths_of<A: Allocator>(alloc: A, asks: &[Ask]) -> Result<Vec<u32, A>, AllocError>
     ensures { IfOk result (λ v. v.items ≡ map (λ a. a.width) asks.now) }
 {
     asks.iter().map(|ask| ask.width).collect(alloc)
@@ -124,7 +131,7 @@ fn hashes_of<A: Allocator>(alloc: A, asks: &[Ask]) -> Result<Vec<u64, A>, AllocE
 impl<A: Allocator> Ledger<A> {
     // Whether the request entered, or was refused as full.
     pub fn has_arrived(&self, request: u32) -> bool
-        requires { request < length self.now.widths }
+        requires { request < length self.now.costs }
         ensures arrived { result ≡ has_arrived self.now.history request }
         ensures sound { IsLogOf self.now }
     {
@@ -133,7 +140,7 @@ impl<A: Allocator> Ledger<A> {
 
     // The shortest queue of the request's hand.
     pub fn shortest(&self, request: u32) -> u32
-        requires { request < length self.now.widths }
+        requires { request < length self.now.costs }
         ensures shortest { IsShortest (waiting self.now.history) (hand_in self.now request) result }
         ensures is_queue { result < self.now.sizes.deck }
     {
@@ -157,8 +164,8 @@ impl<A: Allocator> Ledger<A> {
         ensures sound { IsLogOf self.new }
     {
         legal_histories_are_in_order();
-        let width = self.widths[request as usize];
-        let Ok(()) = self.queues.push(queue, request, width) else {
+        let cost = self.costs[request as usize];
+        let Ok(()) = self.queues.push(queue, request, cost) else {
             unreachable!()
         };
         self.arrived[request as usize] = true;
@@ -182,7 +189,7 @@ impl<A: Allocator> Ledger<A> {
     // What is dispatched next, or `None` if nothing waits.
     pub fn choose(&self) -> Option<Chosen>
         ensures next { MatchOption result (NothingWaits self.now) (IsNext self.now) }
-        ensures is_request { IfSome result (λ c. c.request < length self.now.widths) }
+        ensures is_request { IfSome result (λ c. c.request < length self.now.costs) }
         ensures few { length self.now.history ≤ 20000 }
         ensures sound { IsLogOf self.now }
     {
@@ -206,7 +213,7 @@ impl<A: Allocator> Ledger<A> {
     // Strikes the request out of its queue, and tells the queue: `None`, with nothing changed, if it
     // waits in none.
     pub fn strike(&mut self, request: u32) -> Option<u32>
-        requires is_request { request < length self.old.widths }
+        requires is_request { request < length self.old.costs }
         ensures none { IfNone result (self.new ≡ self.old) }
         ensures nowhere { IfNone result ((q : ℕ) → ¬ Contains (waiting self.old.history q) request) }
         ensures some { IfSome result (λ q. self.new ≡ after self.old (events.Strike request q)) }
@@ -238,18 +245,18 @@ impl<A: Allocator> Ledger<A> {
     }
 
     // The log, the oldest event first. In every stretch of it in which two queues are never empty,
-    // their services differ by at most twice the largest width; in which one is, no other is served more
-    // than that one and so much; and while a request waits, what is granted is bounded.
+    // their services, in costs, differ by at most twice the largest cost; in which one is, no other is
+    // served more than that one and so much; and while a request waits, what is granted is bounded.
     pub fn log(&self) -> &[Event]
         ensures log { reverse result.now ≡ self.now.history }
         ensures sound { IsLogOf self.now }
         ensures balanced { (from to a b : ℕ) → from ≤ to → to ≤ length result.now
             → a < self.now.sizes.deck → b < self.now.sizes.deck
             → IsBacklogged result.now from to a → IsBacklogged result.now from to b
-            → DifferAtMost (2 * widest self.now.widths) (service_in self.now.widths result.now from to a)
-            (service_in self.now.widths result.now from to b) }
-        ensures isolated { IsIsolated self.now.sizes.deck self.now.widths result.now }
-        ensures waits { AreWaitsBounded self.now.sizes.deck self.now.widths result.now }
+            → DifferAtMost (2 * widest self.now.costs) (service_in self.now.costs result.now from to a)
+            (service_in self.now.costs result.now from to b) }
+        ensures isolated { IsIsolated self.now.sizes.deck self.now.costs result.now }
+        ensures waits { AreWaitsBounded self.now.sizes.deck self.now.costs result.now }
     {
         fair_histories_are_balanced();
         fair_histories_isolate();

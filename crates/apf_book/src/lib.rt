@@ -3,12 +3,13 @@
 //!
 //! In the order of the data's way:
 //!
-//! - `config`: the settings of a level, and what a request asks of it.
+//! - `config`: the settings of a level, what a request asks of it, and the costs that it may have.
 //! - `fault`: why a book is refused.
 //! - `histories`: the laws of histories, for proofs.
 //! - `ledger`: the queues, and the log that they are of.
 //! - `stats`: the numbers of a log.
 //! - `stretch`: the services of two queues in a stretch of a log.
+//! - `overtaking`: the wait of a request in a log, and what is granted while it lasts.
 //! - `arrived`: what becomes of an arrival.
 //! - `handing`: an arrival is handed to the Desk.
 //! - `serving`: the Desk serves the head of a queue.
@@ -24,6 +25,7 @@ mod handing;
 mod histories;
 mod laws;
 mod ledger;
+mod overtaking;
 mod serving;
 mod stats;
 mod stretch;
@@ -31,8 +33,12 @@ mod stretch;
 pub use apf_model::Response;
 pub use arrived::Arrived;
 pub use book::Book;
-pub use config::{Ask, Config};
+pub use config::{Ask, Config, are_costs};
 pub use fault::BookFault;
-pub use laws::{every_book_is_kept, every_ended_book_agrees};
+pub use laws::{
+    every_book_is_kept, every_dispatched_wait_is_bounded, every_ended_book_agrees,
+    no_request_is_forgotten,
+};
+pub use overtaking::{Wait, overtaken};
 pub use stats::Stats;
 pub use stretch::balance;

@@ -14,7 +14,8 @@
 //!
 //! - `rows`: worked scripts.
 //! - `deeds`: rows of single deeds on a level of one seat.
-//! - `stretches`: the services of two queues in a stretch of a log.
+//! - `stretches`: the services of two queues in a stretch of a log. `overtaking`: what is granted while a request
+//!   waits.
 //! - `memory`: each allocation refused in turn.
 //! - `faults`: what the faults print.
 //!
@@ -40,6 +41,8 @@ mod marks;
 mod memory;
 #[cfg(test)]
 mod opening;
+#[cfg(test)]
+mod overtaking;
 #[cfg(test)]
 mod requests;
 #[cfg(test)]

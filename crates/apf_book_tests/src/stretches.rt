@@ -12,7 +12,7 @@ use std::process::Abort;
 use std::test::Fail;
 
 // Whether each request of the log has a width.
-fn have_widths(log: &[Event], widths: &[u32]) -> bool
+pub fn have_widths(log: &[Event], widths: &[u32]) -> bool
     ensures { IsTrue result ↔ All (λ e. request_of e < length widths.now) log.now }
 {
     log.iter().all(|event| {
@@ -26,14 +26,14 @@ fn have_widths(log: &[Event], widths: &[u32]) -> bool
 
 // A log in the order of time, with the queue that each request was dealt and how wide it is.
 #[derive(Clone, Copy)]
-struct Row<'a> {
-    log: &'a [Event],
-    queues: &'a [u32],
-    widths: &'a [u32],
+pub struct Row<'a> {
+    pub log: &'a [Event],
+    pub queues: &'a [u32],
+    pub widths: &'a [u32],
 }
 
 // Asserts that the log is legal, each hand being one queue.
-fn assert_legal(
+pub fn assert_legal(
     rt: &impl Abort,
     alloc: Global,
     log: &[Event],

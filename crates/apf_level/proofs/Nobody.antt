@@ -20,7 +20,7 @@ pub nobody : (counted : (hands : ℕ → List ℕ) (limit : ℕ) (h : List Event
     (k : LevelId) (d : DeskToken) (v : LedgerView) → desk_gate d ≡ k.gate → IsKept d.desk v → IsOfOneMind d.desk v
     → ((r : ℕ) → r < length k.gate.shape.widths → service d.desk r ≢ service_is.Waiting) → NothingWaits (logged_as k v.history)
 nobody counted k d v own kept mind none q = nothing (waiting v.history q) (λ r here.
-    let low : r < length v.widths = (counted (hand_in v) v.limit v.history kept.of_log.fair.0).waits_named (length v.widths) kept.of_log.names_requests q r here in
-    let a = ap (λ (l : List ℕ). length l) kept.widths in
+    let low : r < length v.costs = (counted (hand_in v) v.limit v.history kept.of_log.fair.0).waits_named (length v.costs) kept.of_log.names_requests q r here in
+    let a = kept.one_cost_each in
     let b = ap (λ (x : GateId). length x.shape.widths) own in
     none r (omega arith) ((mind.waiting_is r).1 (q, here)))

@@ -1,11 +1,14 @@
 //! The gate beside the lock, and how a level begins.
 
-ghost use Rattle.std.specs.Prelude.{◌≡◌, [], map, IfOk, IfErr, OnOk};
-ghost use Rattle.apf_model.specs.declared.response.Response.TheVariants.{Queue, Reject};
+ghost use Rattle.std.specs.Prelude.{◌≡◌, [], length, map, IfOk, IfErr, OnOk};
+ghost use Rattle.apf_model.specs.declared.response.Response.TheVariants.{Reject};
+ghost use Rattle.apf_model.specs.Schedule.{AreWidths};
 ghost use Rattle.apf_gate.specs.Records.{new_desk};
 ghost use Rattle.apf_book.specs.declared.fault.BookFault.TheVariants.{NoMemory};
-ghost use Rattle.apf_book.specs.Opening.{opening_ledger, AreSettings, IsFaultOf};
+ghost use Rattle.apf_book.specs.Stopped.{IsStopped};
+ghost use Rattle.apf_book.specs.Opening.{opening_ledger, opening_ledger_with, AreSettings, IsFaultOf};
 ghost use Rattle.apf_gate.specs.Tokens.{desk_gate};
+ghost use Rattle.apf_level.specs.Levels.{IsBookOf};
 ghost use Rattle.apf_level.specs.Opening.{FaultBy, SettledBy};
 
 use crate::alone::Alone;
@@ -54,7 +57,7 @@ pub struct Opened<K: Naming> {
 
 impl<K: Naming> Level<K> {
     /// A level over the parts of K's gate, as `Gate::open` gave them for the config's limit and response and
-    /// the asks' widths. All memory is taken here.
+    /// the asks' widths. A dispatch is charged the request's width. All memory is taken here.
     ///
     /// On a level whose response is Reject the settings of queues are not used.
     ///
@@ -85,42 +88,119 @@ impl<K: Naming> Level<K> {
         ensures fault { IfErr result (FaultBy config.now.limit_response config.now asks.now) }
     {
         let response = config.limit_response;
-        let (shared, window, stats) = match response {
-            Response::Queue => queued::<K>(alloc, config, asks, desk)?,
-            Response::Reject => alone::<K>(alloc, config, asks, desk)?,
+        let under = match response {
+            Response::Queue => {
+                let book = Book::new(alloc, config, asks, desk);
+                queued::<K>(alloc, config, asks, book)?
+            }
+            Response::Reject => {
+                desk.is_of_a_gate();
+                alone::<K>(alloc, desk)?
+            }
         };
-        let level = Level {
-            gate,
-            response,
-            shared: Mutex::new(shared),
-            window,
+        Ok(assembled(gate, response, under, passes, stations))
+    }
+
+    /// As `open`, but a dispatch is charged the request's cost: its queue's next and the level's virtual
+    /// time go on by it. Seats are taken by the width, as ever.
+    ///
+    /// There is one cost for each request, 1 to 20,000, in a unit of the caller's: its width, or an
+    /// estimate of its seats times the time that it holds them. On a level whose response is Reject nothing
+    /// is charged.
+    ///
+    /// # Errors
+    ///
+    /// As `open`.
+    pub fn open_with_costs(
+        alloc: Global,
+        config: &Config,
+        asks: &[Ask],
+        costs: &[u32],
+        gate: Gate<Global>,
+        desk: Desk,
+        passes: Vec<Pass>,
+        stations: Vec<Station>,
+    ) -> Result<Opened<K>, LevelFault>
+        requires own { gate ≡ K.level.gate }
+        requires opening { K.level.opening ≡ opening_ledger_with config.now asks.now costs.now }
+        requires desk { desk ≡ record { table = gate.table; desk = new_desk gate.shape } }
+        requires limit { gate.shape.limit ≡ config.now.limit }
+        requires widths { map (λ a. a.width) asks.now ≡ gate.shape.widths }
+        requires one_cost_each { length costs.now ≡ length asks.now }
+        requires costs { AreWidths costs.now }
+        requires response { gate.shape.response ≡ config.now.limit_response }
+        ensures gate { IfOk result (λ o. o.level.gate ≡ gate) }
+        ensures passes { IfOk result (λ o. o.passes ≡ passes) }
+        ensures stations { IfOk result (λ o. o.stations ≡ stations) }
+        ensures stats { IfOk result (λ o. (o.stats.cell ≡ o.level.cell) × (o.stats.trace ≡ [])) }
+        ensures settings { OnOk result (SettledBy config.now.limit_response config.now asks.now) }
+        ensures fault { IfErr result (FaultBy config.now.limit_response config.now asks.now) }
+    {
+        let response = config.limit_response;
+        let under = match response {
+            Response::Queue => {
+                let book = Book::with_costs(alloc, config, asks, costs, desk);
+                queued::<K>(alloc, config, asks, book)?
+            }
+            Response::Reject => alone::<K>(alloc, desk)?,
         };
-        Ok(Opened {
-            level,
-            passes,
-            stations,
-            stats,
-        })
+        Ok(assembled(gate, response, under, passes, stations))
     }
 }
 
-// What stands under the lock of a level with queues, with the readers' end of its statistics.
+// What stands under a level's lock, with both ends of its statistics.
+type Under<K> = (Shared<K>, Window, StatsPass);
+
+// The level over these parts.
+fn assembled<K: Naming>(
+    gate: Gate<Global>,
+    response: Response,
+    under: Under<K>,
+    passes: Vec<Pass>,
+    stations: Vec<Station>,
+) -> Opened<K>
+    requires own { gate ≡ K.level.gate }
+    requires response { gate.shape.response ≡ response }
+    requires stats { (under.2.cell ≡ under.1) × (under.2.trace ≡ []) }
+    ensures gate { result.level.gate ≡ gate }
+    ensures passes { result.passes ≡ passes }
+    ensures stations { result.stations ≡ stations }
+    ensures stats { (result.stats.cell ≡ result.level.cell) × (result.stats.trace ≡ []) }
+{
+    let (shared, window, stats) = under;
+    let level = Level {
+        gate,
+        response,
+        shared: Mutex::new(shared),
+        window,
+    };
+    Opened {
+        level,
+        passes,
+        stations,
+        stats,
+    }
+}
+
+// What stands under the lock of a level with queues, of whose book this was made, with the readers' end of
+// its statistics.
 fn queued<K: Naming>(
     alloc: Global,
     config: &Config,
     asks: &[Ask],
-    desk: Desk,
-) -> Result<(Shared<K>, Window, StatsPass), LevelFault>
-    requires own { desk_gate desk ≡ K.level.gate }
-    requires opening { K.level.opening ≡ opening_ledger config.now asks.now }
-    requires fresh { desk.desk ≡ new_desk desk.desk.knows.shape }
+    book: Result<Book<Global>, BookFault>,
+) -> Result<Under<K>, LevelFault>
+    requires book { IfOk book (IsBookOf K.level) }
+    requires new { IfOk book (λ b. b.ledger.history ≡ []) }
+    requires stopped { IfOk book (λ b. IsStopped b.ledger b.desk.desk.knows) }
     requires widths { map (λ a. a.width) asks.now ≡ K.level.gate.shape.widths }
-    requires has_queues { K.level.gate.shape.response ≡ Queue }
+    requires settings { OnOk book (AreSettings config.now asks.now) }
+    requires fault { IfErr book (IsFaultOf config.now asks.now) }
     ensures settings { OnOk result (AreSettings config.now asks.now) }
     ensures stats { IfOk result (λ o. (o.2.cell ≡ o.1) × (o.2.trace ≡ [])) }
     ensures fault { IfErr result (IsFaultOf config.now asks.now) }
 {
-    let book = Book::new(alloc, config, asks, desk)?;
+    let book = book?;
     let (board, window, stats) = apf_stats::open(alloc)?;
     let queued = Queued {
         book,
@@ -132,16 +212,12 @@ fn queued<K: Naming>(
 }
 
 // What stands under the lock of a level without queues, whose statistics nobody writes.
-fn alone<K: Naming>(
-    alloc: Global,
-    config: &Config,
-    asks: &[Ask],
-    desk: Desk,
-) -> Result<(Shared<K>, Window, StatsPass), LevelFault>
+fn alone<K: Naming>(alloc: Global, desk: Desk) -> Result<Under<K>, LevelFault>
     requires own { desk_gate desk ≡ K.level.gate }
-    requires opening { K.level.opening ≡ opening_ledger config.now asks.now }
     requires fresh { desk.desk ≡ new_desk desk.desk.knows.shape }
-    requires widths { map (λ a. a.width) asks.now ≡ K.level.gate.shape.widths }
+    requires nothing { K.level.opening.history ≡ [] }
+    requires one_cost_each { length K.level.opening.costs ≡ length K.level.gate.shape.widths }
+    requires costs { AreWidths K.level.opening.costs }
     requires no_queues { K.level.gate.shape.response ≡ Reject }
     ensures stats { IfOk result (λ o. (o.2.cell ≡ o.1) × (o.2.trace ≡ [])) }
     ensures fault { IfErr result (λ f. f ≡ NoMemory) }

@@ -9,6 +9,7 @@
 //! - `admission`: the steps of a request outside the lock. `arriving`: those that may take it.
 //! - `stations`: the calls of a Station. `locked`: those that take the lock.
 //! - `hearing`, `finish`, `report`, `end`: how a level ends, and what it tells then.
+//! - `laws`: what is true of every report.
 #![tactic(auto)]
 
 mod admission;
@@ -18,6 +19,7 @@ mod arriving;
 mod end;
 mod finish;
 mod hearing;
+mod laws;
 mod level;
 mod locked;
 mod naming;
@@ -29,6 +31,7 @@ mod tokens;
 
 pub use answers::{Admit, Begin, Poll, TryAdmit};
 pub use apf_stats::StatsPass;
+pub use laws::every_reported_wait_is_bounded;
 pub use level::{Level, LevelFault, Opened};
 pub use naming::Naming;
 pub use report::{Counts, Report};

@@ -4,8 +4,11 @@ ghost use Rattle.std.specs.Prelude.{◌≡◌, ◌≢◌, ◌<◌, length, false
 ghost use Rattle.apf_words.specs.declared.decision.Decision.TheVariants as decisions;
 ghost use Rattle.apf_gate.specs.declared.record.State.TheVariants.{InLine};
 ghost use Rattle.apf_gate.specs.Records.{told_own};
-ghost use Rattle.apf_gate.specs.Tokens.{pass_gate};
+ghost use Rattle.apf_gate.specs.Tokens.{pass_gate, desk_gate};
 ghost use Rattle.apf_stats.specs.Traces.{shown};
+ghost use Rattle.apf_book.specs.BookView.{IsKept};
+ghost use Rattle.apf_book.specs.Servings.{Serves};
+ghost use Rattle.apf_book.specs.Stopped.{IsStopped};
 ghost use Rattle.apf_level.specs.Levels.{IsBookOf};
 ghost use Rattle.apf_level.specs.Tokens.{IsOf};
 ghost use Rattle.apf_level.specs.Served.{Dispatched, Struck};
@@ -22,6 +25,8 @@ use std::marker::PhantomData;
 use std::sync::Wait;
 
 /// The book of K's level, beside the numbers that are published of it.
+///
+/// Nothing waits, or the chosen head does not fit the level word that the Desk found last.
 #[derive(Drop)]
 pub struct Queued<K: Naming> {
     pub book: Book<Global>,
@@ -30,6 +35,7 @@ pub struct Queued<K: Naming> {
     pub sleeps: Vec<bool>,
     pub of: PhantomData<K>,
     ghost tied: { IsBookOf K.level book },
+    ghost stopped: { IsStopped book.ledger book.desk.desk.knows },
     ghost published: { shown board.trace ≡ shown_of book.ledger.history },
     ghost one_flag_each: { length sleeps.items ≡ length K.level.gate.shape.widths },
 }
@@ -61,9 +67,36 @@ fn publish<R: Wait>(rt: &R, book: &Book<Global>, board: &mut Board, before: usiz
     }
 }
 
+// Dispatches while the chosen head fits, wakes whoever was dispatched since the log had this length, and publishes
+// its numbers. Returns how many were dispatched now.
+fn serve<R: Wait>(
+    rt: &R,
+    gate: &Gate<Global>,
+    book: &mut Book<Global>,
+    board: &mut Board,
+    sleeps: &[bool],
+    before: usize,
+) -> u32
+    requires own { desk_gate book.old.desk ≡ gate.now }
+    requires one_flag_each { length sleeps.now ≡ length gate.now.shape.widths }
+    requires went_on { WentOn (shown board.old.trace) before book.old.ledger.history }
+    ensures gate { desk_gate book.new.desk ≡ desk_gate book.old.desk }
+    ensures log { Serves book.old.ledger book.new.ledger result }
+    ensures stopped { IsStopped book.new.ledger book.new.desk.desk.knows }
+    ensures kept { IsKept book.new.desk.desk book.new.ledger }
+    ensures cell { board.new.cell ≡ board.old.cell }
+    ensures shown { shown board.new.trace ≡ shown_of book.new.ledger.history }
+{
+    let count = book.dispatch(rt, gate);
+    wake(gate, book, sleeps, before);
+    publish(rt, book, board, before);
+    count
+}
+
 impl<K: Naming> Queued<K> {
-    /// The request arrives, and whoever waits is dispatched while the chosen head fits. Tells the request's
-    /// decision, unless it waits: then somebody may sleep until it is decided, if this says so.
+    /// The request arrives, and whoever waits is dispatched while the chosen head fits, also where the request does
+    /// not enter. Returns the request's decision, unless it waits: then somebody may sleep until it is decided, if
+    /// this says so.
     pub fn arrive<R: Wait>(
         &mut self,
         rt: &R,
@@ -82,20 +115,23 @@ impl<K: Naming> Queued<K> {
         ensures refused { result ≢ Some decisions.Execute }
     {
         let before = self.book.log().len();
-        match self.book.arrive(rt, gate, pass) {
+        let arrived = self.book.arrive(rt, gate, pass);
+        serve(
+            rt,
+            gate,
+            &mut self.book,
+            &mut self.board,
+            self.sleeps.as_slice(),
+            before,
+        );
+        match arrived {
             Arrived::Queued(_queue) => {
-                self.book.dispatch(rt, gate);
-                wake(gate, &self.book, self.sleeps.as_slice(), before);
-                publish(rt, &self.book, &mut self.board, before);
                 if let Some(flag) = self.sleeps.get_mut(pass.number() as usize) {
                     *flag = sleeps;
                 }
                 None
             }
-            Arrived::Full(_queue) => {
-                publish(rt, &self.book, &mut self.board, before);
-                Some(Decision::QueueFull)
-            }
+            Arrived::Full(_queue) => Some(Decision::QueueFull),
             Arrived::Closed => Some(Decision::Closed),
             Arrived::Cancelled => Some(Decision::Cancelled),
             Arrived::Again => unreachable!(),
@@ -108,10 +144,14 @@ impl<K: Naming> Queued<K> {
         ensures dispatched { Dispatched K.level result }
     {
         let before = self.book.log().len();
-        let count = self.book.dispatch(rt, gate);
-        wake(gate, &self.book, self.sleeps.as_slice(), before);
-        publish(rt, &self.book, &mut self.board, before);
-        count
+        serve(
+            rt,
+            gate,
+            &mut self.book,
+            &mut self.board,
+            self.sleeps.as_slice(),
+            before,
+        )
     }
 
     /// Strikes the request, if it waits and is cancelled, and dispatches then. Says whether it struck.
@@ -123,9 +163,14 @@ impl<K: Naming> Queued<K> {
         let before = self.book.log().len();
         let struck = self.book.strike(gate, request);
         if struck {
-            self.book.dispatch(rt, gate);
-            wake(gate, &self.book, self.sleeps.as_slice(), before);
-            publish(rt, &self.book, &mut self.board, before);
+            serve(
+                rt,
+                gate,
+                &mut self.book,
+                &mut self.board,
+                self.sleeps.as_slice(),
+                before,
+            );
         }
         struck
     }

@@ -52,8 +52,8 @@ named_at n (f ∷ h) e names (suc k) l is = named_at n h e names.1 k (omega arit
 module _ (gate : GateId) (desk : DeskToken) (v : LedgerView) (passes : List PassToken) (stations : List StationToken) (words : WordsView) (own : desk_gate desk ≡ gate) (kept : IsKept desk.desk v) where
   inside : (e : Event) → Contains v.history e → request_of e < length gate.shape.widths
   inside e c =
-      let k = named_at (length v.widths) v.history e kept.of_log.names_requests c.0 c.1 c.2 in
-      let a = ap (λ (x : List ℕ). length x) kept.widths in
+      let k = named_at (length v.costs) v.history e kept.of_log.names_requests c.0 c.1 c.2 in
+      let a = kept.one_cost_each in
       let b = ap (λ (x : GateId). length x.shape.widths) own in omega arith
 
 decided : (words : WordsView) (r : ℕ) (decision : Decision) → slice_get words.decisions r ≡ Some (Some decision) → decision_in words r ≡ Some decision

@@ -1,7 +1,8 @@
 -- What the turns appended, and where they stopped.
-use Rattle.std.proofs.Common.{inr, ◌∙◌, arith}
+use Rattle.std.proofs.Common.{inl, inr, ◌∙◌, arith}
 use Rattle.apf_history.specs.declared.events.Event.TheVariants as events
 use Rattle.apf_book.proofs.Knowing.{more_then}
+use Rattle.apf_book.proofs.Stopped.{stopped}
 use Rattle.apf_book.proofs.Turning.{serves_dispatch, serves_strike, longer, misses_then}
 use Rattle.apf_book.proofs.book.Book.dispatch.Goals as goal
 
@@ -50,3 +51,12 @@ loop-preserved g c =
       more = more_then c.args.self.now.desk.desk.knows c.loop.self.desk.desk.knows c.turn.new.self.desk.desk.knows c.loop.invariant.more c.in-Some-Raced.ensures.more;
       within = rw turned c.loop.invariant.within;
     }
+
+pub returns-in-None-turn-clause-stopped : goal.returns-in-None-turn-clause-stopped
+returns-in-None-turn-clause-stopped g c =
+    stopped c.turn.new.self.ledger c.loop.self.desk.desk.knows c.turn.new.self.desk.desk.knows c.in-None-turn.ensures.more (inl c.in-None-turn.ensures.turns.1)
+
+pub returns-in-Some-NoRoom-clause-stopped : goal.returns-in-Some-NoRoom-clause-stopped
+returns-in-Some-NoRoom-clause-stopped g c =
+    let turned = rw c.in-Some-NoRoom.field-0-is at c.in-Some-NoRoom.ensures.turns in
+    stopped c.turn.new.self.ledger c.loop.self.desk.desk.knows c.turn.new.self.desk.desk.knows c.in-Some-NoRoom.ensures.more (inr turned.1)

@@ -15,6 +15,8 @@ use Rattle.apf_book.proofs.Keeping.{member_waits, told_cancelled, struck_is_out,
 use Rattle.apf_book.proofs.Moving.{moves_to}
 use Rattle.apf_book.proofs.Saying.{loads_decision, leaves}
 use Rattle.apf_book.proofs.Knowing.{more_then, told_still}
+use Rattle.apf_book.proofs.Stopped.{still_stopped}
+use Rattle.apf_book.specs.Stopped.{IsStopped}
 use Rattle.apf_book.proofs.book.Book.strike.Goals as goal
 
 pub returns-in_default-clause-reads : goal.returns-in_default-clause-reads
@@ -92,3 +94,12 @@ returns-clause-kept g c =
     (leaves c.seen.new.desk.desk c.leave.new.desk.desk r c.leave.ensures.answer.0 c.leave.ensures.answer.1)
     (c.leave.ensures.held ∙ (c.seen.ensures.same.1 ∙ c.self.invariant.holds_none))
     (λ is. told_still c.seen.new.desk.desk.knows c.leave.new.desk.desk.knows r Cancelled c.leave.ensures.more told))
+
+pub returns-then-ne-clause-still_stopped : goal.returns-then-ne-clause-still_stopped
+returns-then-ne-clause-still_stopped g c = λ _ is.
+    still_stopped c.self.inside.ledger c.self.inside.desk.desk c.seen.new.desk.desk c.args.request c.seen.result c.seen.ensures.answer (subst (λ (v : BookView). IsStopped v.ledger v.desk.desk.knows) (sym c.self.view_is) is)
+
+pub returns-in_default-clause-still_stopped : goal.returns-in_default-clause-still_stopped
+returns-in_default-clause-still_stopped g c = λ _ is.
+    subst (λ (v : LedgerView). IsStopped v c.seen.new.desk.desk.knows) (sym c.in_default.ensures.none)
+    (still_stopped c.self.inside.ledger c.self.inside.desk.desk c.seen.new.desk.desk c.args.request c.seen.result c.seen.ensures.answer (subst (λ (v : BookView). IsStopped v.ledger v.desk.desk.knows) (sym c.self.view_is) is))

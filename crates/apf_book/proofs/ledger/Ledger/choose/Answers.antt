@@ -13,7 +13,7 @@ returns-clause-next g c = subst (λ (w : LedgerView). MatchOption c.choose.resul
 pub returns-clause-is_request : goal.returns-clause-is_request
 returns-clause-is_request g c =
     let laws = opened c.legal_histories_are_in_order.ensures in
-    subst (λ (w : LedgerView). IfSome c.choose.result (λ x. x.request < length w.widths)) c.self.view_is (chosen_request _ _ _ _ c.self.invariant.0 laws c.choose.result c.choose.ensures.chosen)
+    subst (λ (w : LedgerView). IfSome c.choose.result (λ x. x.request < length w.costs)) c.self.view_is (chosen_request _ _ _ _ c.self.invariant.0 laws c.choose.result c.choose.ensures.chosen)
 
 pub returns-clause-few : goal.returns-clause-few
 returns-clause-few g c =

@@ -35,9 +35,9 @@ invariant_of-self g c =
     let laws = opened c.legal_histories_are_in_order.ensures in
     let comes = subst (λ (w : LedgerView). Arrives w c.args.request c.args.queue) (sym c.self.view_is) c.requires.arrives in
     let room = subst (λ (w : LedgerView). length (waiting w.history c.args.queue) ≢ w.limit) (sym c.self.view_is) c.requires.room in
-    let w : c.index-width.result.now ≡ width c.self.inside.widths.items c.args.request =
-    sym (get_or_from_slice_get c.self.inside.widths.items c.args.request c.index-width.result.now 0
-    (slice_get_read c.self.inside.widths.items (length c.self.inside.widths.items) c.args.request c.index-width.result.now refl comes.is_request c.index-width.ensures)) in
+    let w : c.index-cost.result.now ≡ width c.self.inside.costs.items c.args.request =
+    sym (get_or_from_slice_get c.self.inside.costs.items c.args.request c.index-cost.result.now 0
+    (slice_get_read c.self.inside.costs.items (length c.self.inside.costs.items) c.args.request c.index-cost.result.now refl comes.is_request c.index-cost.ensures)) in
     let entered = subst (λ (k : ℕ). Enters c.self.inside.queues c.push.new.self c.args.queue c.args.request k) w c.in-Ok.ensures.enters in (
       rw (c.push_reserved.ensures.items, reversed, c.push_reserved.ensures.capacity)
           (enters laws _ _ _ _ c.self.invariant.0 c.args.request c.args.queue comes c.push.new.self room entered),
@@ -49,8 +49,8 @@ returns-clause-sound g c =
     let laws = opened c.legal_histories_are_in_order.ensures in
     let comes = subst (λ (w : LedgerView). Arrives w c.args.request c.args.queue) (sym c.self.view_is) c.requires.arrives in
     let room = subst (λ (w : LedgerView). length (waiting w.history c.args.queue) ≢ w.limit) (sym c.self.view_is) c.requires.room in
-    let w : c.index-width.result.now ≡ width c.self.inside.widths.items c.args.request =
-    sym (get_or_from_slice_get c.self.inside.widths.items c.args.request c.index-width.result.now 0
-    (slice_get_read c.self.inside.widths.items (length c.self.inside.widths.items) c.args.request c.index-width.result.now refl comes.is_request c.index-width.ensures)) in
+    let w : c.index-cost.result.now ≡ width c.self.inside.costs.items c.args.request =
+    sym (get_or_from_slice_get c.self.inside.costs.items c.args.request c.index-cost.result.now 0
+    (slice_get_read c.self.inside.costs.items (length c.self.inside.costs.items) c.args.request c.index-cost.result.now refl comes.is_request c.index-cost.ensures)) in
     let entered = subst (λ (k : ℕ). Enters c.self.inside.queues c.push.new.self c.args.queue c.args.request k) w c.in-Ok.ensures.enters in
     rw (c.push_reserved.ensures.items, reversed) (sound_of _ _ _ _ (enters laws _ _ _ _ c.self.invariant.0 c.args.request c.args.queue comes c.push.new.self room entered))

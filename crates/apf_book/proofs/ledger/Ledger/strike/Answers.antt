@@ -20,7 +20,7 @@ returns-in_default-clause-nowhere g c = λ q waits.
 pub push_reserved-requires : goal.push_reserved-requires
 push_reserved-requires g c =
     let laws = opened c.legal_histories_are_in_order.ensures in
-    let inside = subst (λ (w : LedgerView). c.args.request < length w.widths) (sym c.self.view_is) c.requires.is_request in
+    let inside = subst (λ (w : LedgerView). c.args.request < length w.costs) (sym c.self.view_is) c.requires.is_request in
     let stands = (c.in-Some.ensures.stood c.in-Some.queue).0 (refl {a = Some c.in-Some.queue}) in
     let waits = subst (λ (xs : List ℕ). Contains xs c.args.request) (c.self.invariant.0.queue_is c.in-Some.queue) stands in
     let more = has_room laws _ _ _ _ c.self.invariant.0 (events.Strike c.args.request c.in-Some.queue) waits inside in

@@ -1,8 +1,8 @@
 -- What a level that is tested is opened with, and whose tokens its requests hold.
-use Rattle.std.specs.Prelude.{◌≡◌, List}
+use Rattle.std.specs.Prelude.{◌≡◌, ℕ, List}
 use Rattle.apf_book.specs.declared.config.Config.{Config}
 use Rattle.apf_book.specs.declared.config.Ask.{Ask}
-use Rattle.apf_book.specs.Opening.{opening_ledger}
+use Rattle.apf_book.specs.Opening.{opening_ledger, opening_ledger_with}
 use Rattle.apf_gate.specs.declared.record.State.{State}
 use Rattle.apf_gate.specs.declared.record.State.TheVariants.{Fresh}
 use Rattle.apf_gate.specs.Tokens.{GateId, pass_gate}
@@ -13,6 +13,10 @@ use Rattle.apf_level_tests.specs.declared.token.Token.TheVariants as tokens
 -- the level of this gate, opened with these settings
 abbrev pub level_of : GateId → Config → List Ask → LevelId
 level_of gate config asks = record { gate = gate; opening = opening_ledger config asks }
+
+-- the same, with these costs
+abbrev pub level_with : GateId → Config → List Ask → List ℕ → LevelId
+level_with gate config asks costs = record { gate = gate; opening = opening_ledger_with config asks costs }
 
 -- the gate that the token is of, or else this one
 abbrev pub gate_in : GateId → Token → GateId

@@ -12,13 +12,14 @@
 //! In one thread:
 //!
 //! - `rows`: worked scripts, `strikes` those of cancelled requests, `limits` those of limits, over-wide requests
-//!   and levels without queues.
+//!   and levels without queues, `costs` those of levels whose dispatches are charged costs.
 //!
 //! In many threads:
 //!
 //! - `taking`: requests take seats outside the lock. `reading`: the statistics are read while requests run.
 //! - `closing`, `cancelling`: eight Stations close a level, and cancel a request.
 //! - `sleeping`: who sleeps is woken. `admitting`: many sleep and wake each other.
+//! - `losing`: who loses its decision to a cancel dispatches.
 #![tactic(auto)]
 
 #[cfg(test)]
@@ -30,11 +31,15 @@ mod cancelling;
 #[cfg(test)]
 mod closing;
 #[cfg(test)]
+mod costs;
+#[cfg(test)]
 mod crowds;
 #[cfg(test)]
 mod endings;
 #[cfg(test)]
 mod limits;
+#[cfg(test)]
+mod losing;
 #[cfg(test)]
 mod opening;
 #[cfg(test)]

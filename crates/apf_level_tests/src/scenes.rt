@@ -7,6 +7,7 @@ use crate::admitting::Admissions;
 use crate::cancelling::Cancellers;
 use crate::closing::Closers;
 use crate::endings::Ended;
+use crate::losing::Losers;
 use crate::opening::{Fault, Opening, open_gate};
 use crate::reading::Readings;
 use crate::scripts::Script;
@@ -20,6 +21,7 @@ use std::marker::Brand;
 use std::process::Abort;
 use std::sync::Wait;
 use std::thread::Threads;
+use std::time::Clock;
 
 /// What is played. It is an enum, as what a trait's generic method sends to threads is not covered yet.
 #[derive(Clone, Copy)]
@@ -38,10 +40,12 @@ pub enum Scene<'a> {
     Sleep(&'a Sleepers),
     /// Each request is admitted in a thread of its own.
     Admit(&'a Admissions),
+    /// Some requests take the seat, and lose their decisions to cancels while others come to wait.
+    Lose(&'a Losers),
 }
 
 /// Opens a level, plays the scenes on it, one after another, and ends it.
-pub fn run<R: Threads + Wait + Abort + Sync>(
+pub fn run<R: Threads + Wait + Abort + Clock + Sync>(
     rt: &R,
     alloc: Global,
     config: Config,
@@ -53,7 +57,7 @@ pub fn run<R: Threads + Wait + Abort + Sync>(
     play_named::<Brand, R>(rt, alloc, opening, scenes)
 }
 
-fn play_named<K: Naming, R: Threads + Wait + Abort + Sync>(
+fn play_named<K: Naming, R: Threads + Wait + Abort + Clock + Sync>(
     rt: &R,
     alloc: Global,
     opening: Opening<'_>,
@@ -70,7 +74,7 @@ fn play_named<K: Naming, R: Threads + Wait + Abort + Sync>(
     Ok(Ended { last, report })
 }
 
-fn play<K: Naming, R: Threads + Wait + Abort + Sync>(
+fn play<K: Naming, R: Threads + Wait + Abort + Clock + Sync>(
     rt: &R,
     scene: Scene<'_>,
     stand: &mut Stand<K>,
@@ -83,5 +87,6 @@ fn play<K: Naming, R: Threads + Wait + Abort + Sync>(
         Scene::Cancel(cancellers) => cancellers.play(rt, stand),
         Scene::Sleep(sleepers) => sleepers.play(rt, stand),
         Scene::Admit(admissions) => admissions.play(rt, stand),
+        Scene::Lose(losers) => losers.play(rt, stand),
     }
 }

@@ -14,6 +14,7 @@ use std::alloc::Global;
 use std::process::Abort;
 use std::sync::Wait;
 use std::thread::Threads;
+use std::time::Clock;
 
 /// A call with what it is to answer.
 #[derive(Clone, Copy, Debug)]
@@ -78,7 +79,7 @@ pub fn numbers(entered: u32, dispatched: u32, struck: u32, full: u32, waiting: u
 }
 
 /// Plays the script, and asserts that the answers and the report are the row's.
-pub fn run_row<R: Threads + Wait + Abort + Sync>(
+pub fn run_row<R: Threads + Wait + Abort + Clock + Sync>(
     rt: &R,
     alloc: Global,
     row: &Row<'_>,

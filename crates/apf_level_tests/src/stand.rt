@@ -2,8 +2,9 @@
 
 ghost use Rattle.std.specs.Prelude.{◌≡◌, length, All, IfOk};
 ghost use Rattle.apf_gate.specs.declared.record.State.TheVariants.{Fresh};
+ghost use Rattle.apf_model.specs.Schedule.{AreWidths};
 ghost use Rattle.apf_gate.specs.Tokens.{pass_gate, station_gate};
-ghost use Rattle.apf_level_tests.specs.Stands.{level_of};
+ghost use Rattle.apf_level_tests.specs.Stands.{level_of, level_with};
 
 use crate::callers::Caller;
 use crate::opening::{Fault, Opening};
@@ -113,12 +114,50 @@ impl<K: Naming> Stand<K> {
             passes,
             stations,
         } = opening;
+        let opened = Level::open(alloc, &config, asks, gate, desk, passes, stations)?;
+        Stand::of(rt, alloc, opened)
+    }
+
+    /// The level of this opening, with these costs.
+    pub fn with_costs<R: Abort>(
+        rt: &R,
+        alloc: Global,
+        opening: Opening<'_>,
+        costs: &[u32],
+    ) -> Result<Stand<K>, Fault>
+        requires level { K.level ≡ level_with opening.gate opening.config opening.asks.now costs.now }
+        requires one_cost_each { length costs.now ≡ length opening.asks.now }
+        requires costs { AreWidths costs.now }
+    {
+        let Opening {
+            config,
+            asks,
+            gate,
+            desk,
+            passes,
+            stations,
+        } = opening;
+        let opened = Level::open_with_costs(
+            alloc, &config, asks, costs, gate, desk, passes, stations,
+        )?;
+        Stand::of(rt, alloc, opened)
+    }
+
+    // The level that was opened, with what its tokens are of.
+    fn of<R: Abort>(rt: &R, alloc: Global, opened: Opened<K>) -> Result<Stand<K>, Fault>
+        requires gate { opened.level.gate ≡ K.level.gate }
+        requires passes { All (λ t. (pass_gate t ≡ K.level.gate) × (t.pass.state ≡ Fresh)) opened.passes.items }
+        requires stations { All (λ t. station_gate t ≡ K.level.gate) opened.stations.items }
+        requires passes_count { length opened.passes.items ≡ length K.level.gate.shape.widths }
+        requires stations_count { length opened.stations.items ≡ K.level.gate.shape.stations }
+        requires stats { opened.stats.cell ≡ opened.level.cell }
+    {
         let Opened {
             level,
             passes,
             stations,
             stats,
-        } = Level::open(alloc, &config, asks, gate, desk, passes, stations)?;
+        } = opened;
         let callers = callers_of(alloc, stations)?;
         let requests = requests_of(rt, alloc, passes)?;
         Ok(Stand {

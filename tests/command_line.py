@@ -38,7 +38,7 @@ for words, line in [
     tally.check(" ".join(words), run(program, words), (2, b"", line))
 
 # help that is asked for goes to standard output, and has a line for each command, argument and file
-COMMANDS = ["  hash ", "  deal ", "  replay ", "  run ", "  services ", "apf hash workload-low alice", "  2 "]
+COMMANDS = ["  hash ", "  deal ", "  replay ", "  run ", "  services ", "  waits ", "apf hash workload-low alice", "  2 "]
 DEAL = ["<DECK>", "<HAND>", "<HASH>", "printf %u 0x", "not positive", "hand too large", "deck too large", "too much entropy"]
 SCRIPT = ["<CONFIG>", "<REQUESTS>", "<SCRIPT>"]
 CONFIG = ["limit", "10000", "queues", "1024", "64", "handSize", "15", "queueLengthLimit", "50", "limitResponse", '"Queue"', '"Reject"']
@@ -54,6 +54,7 @@ for words, says in [
     (["replay", "--help"], SCRIPT + CONFIG + REQUESTS + LINES),
     (["run", "--help"], ["<CONFIG>", "<REQUESTS>", "<WORKERS>", "1 to 64"] + CONFIG + REQUESTS),
     (["services", "--help"], SCRIPT + CONFIG + REQUESTS + LINES),
+    (["waits", "--help"], SCRIPT + ["request R queue Q ahead A most M all T", "twice the widest"]),
 ]:
     status, out, err = run(program, words)
     tally.check(" ".join(words), (status, [it for it in says if it not in out.decode()], err), (0, [], b""))
@@ -92,6 +93,7 @@ for words in [
     ["deal", "1", "1", "18446744073709551616"],
     ["replay", "a", "b"],
     ["services", "a", "b"],
+    ["waits", "a", "b"],
     ["run", "a", "b"],
     ["run", "a", "b", "0"],
     ["run", "a", "b", "65"],

@@ -35,6 +35,7 @@ for words, status in (
     (["deal", "8", "3", "100"], 0),
     (["replay", config, requests, script], 0),
     (["services", config, requests, script], 0),
+    (["waits", config, requests, script], 0),
     (["run", config, requests, "1"], 0),
     (["run", roomy, fit, "3"], 0),
     (["--version"], 0),

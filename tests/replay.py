@@ -96,6 +96,17 @@ tally.check("services after a dispatch", run(program, ["services", config, two, 
 tally.check("services of an empty log", run(program, ["services", config, two, files("s", "arrive 0\n")]), (0, b"", b""))
 tally.check("a fault in services", run(program, ["services", files("zero", '{"limit":0}'), two, served]), (1, b"", b"apf: config fault 5: bad value of limit\n"))
 
+# what was granted while each request waited
+tally.check("waits", run(program, ["waits", config, two, served]), (0, b"request 1 queue 0 ahead 0 most 0 all 0 dispatched\n", b""))
+three = files("three", '[{"hash":0},{"hash":0},{"hash":0}]')
+left = files("left", "arrive 0\narrive 1\narrive 2\ncancel 1\n")
+STRUCK = b"request 1 queue 0 ahead 0 most 0 all 0 struck\nrequest 2 queue 0 ahead 1 most 0 all 0 waiting\n"
+narrow = files("narrow", '{"limit":1,"queues":1,"handSize":1}')
+tally.check("waits of the struck and the waiting", run(program, ["waits", narrow, three, left]), (0, STRUCK, b""))
+tally.check("waits of an empty log", run(program, ["waits", config, two, files("s", "arrive 0\n")]), (0, b"", b""))
+tally.check("waits on a level that rejects", run(program, ["waits", files("rejects", '{"limit":1,"limitResponse":"Reject"}'), two, served]), (0, b"", b""))
+tally.check("a fault in waits", run(program, ["waits", files("zero", '{"limit":0}'), two, served]), (1, b"", b"apf: config fault 5: bad value of limit\n"))
+
 # a level of the largest sizes is opened
 largest = files("largest", '{"limit":1,"queues":1024,"handSize":1,"queueLengthLimit":10000}')
 many = files("many", "[" + ",".join(['{"hash":0}'] * 10_000) + "]")
@@ -135,7 +146,7 @@ else:
     tally.check("no right to read", run(copy, ["replay", config, closed, config], **rights), (1, b"", b"apf: cannot read requests\n"))
 
 # output that can't be written
-for words in (["hash", "", ""], ["deal", "8", "3", "0"], ["replay", *good], ["services", config, two, served], ["--help"]):
+for words in (["hash", "", ""], ["deal", "8", "3", "0"], ["replay", *good], ["services", config, two, served], ["waits", config, two, served], ["--help"]):
     with open("/dev/full", "wb") as full:
         done = subprocess.run([program, *words], stdout=full, stderr=subprocess.PIPE)
     tally.check(f"full disk {words[0]}", (done.returncode, done.stderr), (1, b"apf: cannot write\n"))

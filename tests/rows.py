@@ -29,7 +29,7 @@ for name, body in re.findall(r"#\[test\]\nfn (\w+)\(.*?\{\n(.*?)\n\}", SOURCE, r
         tally.check(f"the row {name} can be read", False, True)
         continue
     config, requests, script, out = (text_of(it[1]) for it in found)
-    command = "services" if '"services"' in body else "replay"
+    command = next((it for it in ("services", "waits") if f'"{it}"' in body), "replay")
     names = [files(kind, text) for kind, text in (("config", config), ("requests", requests), ("script", script))]
     tally.check(name, run(program, [command, *names]), (0, out.encode(), b""))
     rows += 1

@@ -1,4 +1,5 @@
-"""2,000 random scripts of all commands, on levels of both responses: `replay` and `services` against an independent model."""
+"""2,000 random scripts of all commands, on levels of both responses: `replay`, `services` and `waits` against an independent
+model, and the bound of each wait."""
 
 import json
 import os
@@ -66,18 +67,35 @@ def adds_up(requests, out):
     return sums == (len(requests), refused, entered)
 
 
+def is_bounded(level, requests, out):
+    """Whether each wait is bounded: another queue is given at most the seats before the request and twice the largest width."""
+    widest = max((it.get("width", 1) for it in requests), default=0)
+    for line in out.decode().splitlines():
+        ahead, most, total = (int(line.split()[place]) for place in (5, 7, 9))
+        if most > ahead + 2 * widest or total > ahead + (level["queues"] - 1) * (ahead + 2 * widest):
+            return False
+    return True
+
+
 SCRIPTS = int(os.environ.get("APF_SCRIPTS", "2000"))
 seen = dict.fromkeys(["again", "queued", "queue-full", "concurrency-limit", "closed", "cancelled", "not running", "dispatch", "strike", "close already", "was"], 0)
+waited = 0
 for number in range(SCRIPTS):
     requests = [request() for _ in range(draw.choice([0, 1, 5, 20, 50]))]
-    contents = [json.dumps(config()).encode(), json.dumps(requests).encode(), script(len(requests)).encode()]
+    level = config()
+    contents = [json.dumps(level).encode(), json.dumps(requests).encode(), script(len(requests)).encode()]
     paths = [files(name, content) for name, content in zip(("config", "requests", "script"), contents)]
     got = run(program, ["replay", *paths])
     tally.check(f"replay of {contents}", got, answer(*contents))
     tally.check(f"services of {contents}", run(program, ["services", *paths]), answer(*contents, Level.services))
+    got_waits = run(program, ["waits", *paths])
+    tally.check(f"waits of {contents}", got_waits, answer(*contents, Level.waits))
+    tally.check(f"the waits of {contents} are bounded", is_bounded(level, requests, got_waits[1]), True)
+    waited += any(line.split()[7] != "0" for line in got_waits[1].decode().splitlines())
     tally.check(f"the book of {contents} adds up", adds_up(requests, got[1]), True)
     for what in seen:
         seen[what] += any(what in it for it in got[1].decode().splitlines()[:-4])
 for what, count in seen.items():
     tally.check(f"many scripts have a line with {what}: {count}", count >= min(100, SCRIPTS // 20), True)
+tally.check(f"in many scripts a request is overtaken: {waited}", waited >= min(100, SCRIPTS // 20), True)
 tally.end()

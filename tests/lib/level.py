@@ -156,6 +156,30 @@ class Level:
                 lines.append(f"queue {queue} entered {entered} service {service}\n")
         return "".join(lines)
 
+    def waits(self):
+        """Of each request that entered: the seats before it, and what was granted from then to its end, by walks over the whole log."""
+        lines = []
+        for request in range(len(self.requests)):
+            entries = [place for place, event in enumerate(self.log) if event[:2] == ("enter", request)]
+            if not entries:
+                continue
+            entry = entries[0]
+            queue = self.log[entry][2]
+            there = []
+            for kind, other, at in self.log[:entry]:
+                if at == queue and kind == "enter":
+                    there.append(other)
+                elif at == queue and kind in ("dispatch", "strike"):
+                    there.remove(other)
+            ends = [place for place, event in enumerate(self.log) if event[0] in ("dispatch", "strike") and event[1] == request]
+            end = ends[0] if ends else len(self.log)
+            what = {"dispatch": "dispatched", "strike": "struck"}[self.log[end][0]] if ends else "waiting"
+            granted = [(at, self.width(other)) for kind, other, at in self.log[entry + 1 : end] if kind == "dispatch"]
+            others = [sum(width for at, width in granted if at == one) for one in range(len(self.queues)) if one != queue]
+            ahead, most, total = sum(map(self.width, there)), max(others, default=0), sum(width for _, width in granted)
+            lines.append(f"request {request} queue {queue} ahead {ahead} most {most} all {total} {what}\n")
+        return "".join(lines)
+
 
 def followed(config, requests, script):
     """The level after the script in files of these bytes, read and judged in this order."""
@@ -171,7 +195,7 @@ def followed(config, requests, script):
 
 
 def answer(config, requests, script, tells=Level.transcript):
-    """The status, output and errors of `replay`, or of `services`, on files of these bytes."""
+    """The status, output and errors of `replay`, or of `services` or `waits`, on files of these bytes."""
     try:
         return 0, tells(followed(config, requests, script)).encode(), b""
     except Refused as line:

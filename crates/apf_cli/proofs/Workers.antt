@@ -2,7 +2,7 @@
 use Rattle.std.proofs.Common.{List, arith}
 use Rattle.clap.specs.Words.{Row, Text}
 use Rattle.apf_cli.specs.declared.words.Action.{Action}
-use Rattle.apf_cli.specs.declared.words.Action.TheVariants.{Hash, Deal, Replay, Run, Services}
+use Rattle.apf_cli.specs.declared.words.Action.TheVariants.{Hash, Deal, Replay, Run, Services, Waits}
 use Rattle.apf_cli.specs.Meaning.{AsksFor, IsActionOf, HasWorkers}
 
 asked : (name : Text) (rows : List Row) (action : Action) → AsksFor name rows action → HasWorkers action
@@ -11,6 +11,7 @@ asked name rows (Hash schema distinguisher) is = tt
 asked name rows (Deal deck hand hash) is = tt
 asked name rows (Replay config requests script) is = tt
 asked name rows (Services config requests script) is = tt
+asked name rows (Waits config requests script) is = tt
 
 pub has_workers : (words : List Text) (action : Action) → IsActionOf words action → HasWorkers action
 has_workers words action is = asked is.0 is.1.0 action is.1.2

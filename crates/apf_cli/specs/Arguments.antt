@@ -22,7 +22,7 @@ pub record HasDealArguments (rows : List Row) : Type 0 where
   pub hand : HasNumber 32 rows (codes "HAND")
   pub hash : HasNumber 64 rows (codes "HASH")
 
--- the arguments of `replay` and of `services`
+-- the arguments of `replay`, `services` and `waits`
 pub record HasScriptArguments (rows : List Row) : Type 0 where
   pub config : HasText rows (codes "CONFIG")
   pub requests : HasText rows (codes "REQUESTS")
@@ -41,3 +41,4 @@ pub data IsCommand (name : Text) (rows : List Row) : Type 0 where
   is_replay : name ≡ codes "replay" → HasScriptArguments rows → IsCommand name rows
   is_run : name ≡ codes "run" → HasRunArguments rows → IsCommand name rows
   is_services : name ≡ codes "services" → HasScriptArguments rows → IsCommand name rows
+  is_waits : name ≡ codes "waits" → HasScriptArguments rows → IsCommand name rows

@@ -60,9 +60,13 @@ run_shape = command_shape (codes "run")
 unfoldable pub services_shape : Shape
 services_shape = command_shape (codes "services") (file_rules ++ text_rule (codes "SCRIPT") ∷ [])
 
--- the program: one of its five commands must be named, and it has a version
+-- `waits CONFIG REQUESTS SCRIPT`
+unfoldable pub waits_shape : Shape
+waits_shape = command_shape (codes "waits") (file_rules ++ text_rule (codes "SCRIPT") ∷ [])
+
+-- the program: one of its six commands must be named, and it has a version
 unfoldable pub apf_app : App
 apf_app = record {
   top = record (command_shape (codes "apf") []) { is_leaf = false; subcommand_required = true; has_version = true };
-  subs = hash_shape ∷ deal_shape ∷ replay_shape ∷ run_shape ∷ services_shape ∷ [];
+  subs = hash_shape ∷ deal_shape ∷ replay_shape ∷ run_shape ∷ services_shape ∷ waits_shape ∷ [];
 }

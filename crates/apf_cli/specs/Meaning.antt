@@ -4,7 +4,7 @@ use Rattle.std.specs.Str.Parse.{ParsesUnsigned}
 use Rattle.clap.specs.Words.{Row, Text, first_of, one_of, subcommand_of}
 use Rattle.apf_cli.specs.Commands.{apf_app}
 use Rattle.apf_cli.specs.declared.words.Action.{Action}
-use Rattle.apf_cli.specs.declared.words.Action.TheVariants.{Hash, Deal, Replay, Run, Services}
+use Rattle.apf_cli.specs.declared.words.Action.TheVariants.{Hash, Deal, Replay, Run, Services, Waits}
 
 -- the argument's text
 abbrev pub IsText : List Row → Text → Text → Type 0
@@ -35,6 +35,9 @@ AsksFor name rows (Run config requests workers) = (name ≡ codes "run")
 AsksFor name rows (Services config requests script) = (name ≡ codes "services")
     × IsText rows (codes "CONFIG") config.now × IsText rows (codes "REQUESTS") requests.now
     × IsText rows (codes "SCRIPT") script.now
+AsksFor name rows (Waits config requests script) = (name ≡ codes "waits")
+    × IsText rows (codes "CONFIG") config.now × IsText rows (codes "REQUESTS") requests.now
+    × IsText rows (codes "SCRIPT") script.now
 
 -- the words name a command that asks for the action
 abbrev pub IsActionOf : List Text → Action → Type 0
@@ -48,3 +51,4 @@ HasWorkers (Hash schema distinguisher) = Unit {0}
 HasWorkers (Deal deck hand hash) = Unit {0}
 HasWorkers (Replay config requests script) = Unit {0}
 HasWorkers (Services config requests script) = Unit {0}
+HasWorkers (Waits config requests script) = Unit {0}

@@ -3,7 +3,7 @@ ghost use Rattle.std.specs.Prelude.{◌≡◌, IfOk, false};
 ghost use Rattle.clap.specs.Words.{app_of, rule_of, shape_of};
 ghost use Rattle.clap.specs.declared.builder.command.Command.TheViews.{out-Command};
 ghost use Rattle.apf_cli.specs.Commands.{apf_app, files_app, text_rule, number_rule};
-ghost use Rattle.apf_cli.specs.Commands.{hash_shape, deal_shape, replay_shape, run_shape, services_shape};
+ghost use Rattle.apf_cli.specs.Commands.{hash_shape, deal_shape, replay_shape, run_shape, services_shape, waits_shape};
 
 use crate::help;
 use clap::builder::ValueParser;
@@ -128,7 +128,20 @@ fn services_command<'a>(alloc: Global) -> Result<Command<'a>, AllocError>
     .arg(text(alloc, "SCRIPT", "Script file"))
 }
 
-/// The program's command line, of which one of the five commands must be named.
+fn waits_command<'a>(alloc: Global) -> Result<Command<'a>, AllocError>
+    ensures shape { IfOk result (λ c. shape_of c ≡ waits_shape) }
+    ensures local { IfOk result (λ c. (out-Command c).has_globals ≡ false) }
+{
+    files_command(
+        alloc,
+        "waits",
+        "Run a script of requests and print what was granted while each request waited",
+        help::WAITS,
+    )?
+    .arg(text(alloc, "SCRIPT", "Script file"))
+}
+
+/// The program's command line, of which one of the six commands must be named.
 ///
 /// # Errors
 ///
@@ -145,5 +158,6 @@ pub(crate) fn apf_command<'a>(alloc: Global) -> Result<Command<'a>, AllocError>
         .subcommand(deal_command(alloc)?)?
         .subcommand(replay_command(alloc)?)?
         .subcommand(run_command(alloc)?)?
-        .subcommand(services_command(alloc)?)
+        .subcommand(services_command(alloc)?)?
+        .subcommand(waits_command(alloc)?)
 }

@@ -76,6 +76,22 @@ Example:
 Status: 0 done, 1 a file's fault or output that can't be written, 2 a command line's fault,
 3 no memory.";
 
+/// Of `waits`.
+pub(crate) const WAITS: &str = "\
+Prints a line for each request that entered a queue, in ascending order:
+  request R queue Q ahead A most M all T dispatched|struck|waiting
+While request R waited in queue Q, from its entry until it was dispatched, or struck out after a
+cancel, or the script ended:
+  A  seats of the requests that stood before it in its queue when it entered
+  M  most seats that one other queue was given
+  T  seats that all queues were given, its own among them
+M is at most A and twice the widest request of the level.
+
+The files are those of apf replay; apf replay --help says what they hold.
+
+Status: 0 done, 1 a file's fault or output that can't be written, 2 a command line's fault,
+3 no memory.";
+
 /// Of `run`.
 pub(crate) const RUN: &str = "\
 CONFIG is one JSON object:

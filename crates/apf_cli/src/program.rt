@@ -145,6 +145,11 @@ fn perform<F: Files, O: Write, R: Wait + Threads + Sync>(
             requests,
             script,
         } => replayed(rt, alloc, files, (config, requests, script))?.write_services(out)?,
+        Action::Waits {
+            config,
+            requests,
+            script,
+        } => replayed(rt, alloc, files, (config, requests, script))?.write_waits(out)?,
     }
     out.flush().map_err(|_| Fault::CannotWrite)
 }

@@ -43,6 +43,12 @@ pub enum Action<'a> {
         requests: &'a str,
         script: &'a str,
     },
+    /// Run a script and print what was granted while each request waited; the texts are file names.
+    Waits {
+        config: &'a str,
+        requests: &'a str,
+        script: &'a str,
+    },
 }
 
 // The text of an argument.
@@ -139,6 +145,19 @@ fn services_action<'a>(matches: &ArgMatches<'a>) -> Action<'a>
     }
 }
 
+fn waits_action<'a>(matches: &ArgMatches<'a>) -> Action<'a>
+    requires { HasScriptArguments (rows_of (found_of matches.now)) }
+    ensures { AsksFor (codes "waits") (rows_of (found_of matches.now)) result }
+{
+    let (config, requests) = files_of(matches);
+    let script = text_of(matches, "SCRIPT");
+    Action::Waits {
+        config,
+        requests,
+        script,
+    }
+}
+
 // The action of the command of this name.
 fn action_of<'a>(name: &str, matches: &ArgMatches<'a>) -> Action<'a>
     requires { IsCommand name.now (rows_of (found_of matches.now)) }
@@ -152,8 +171,10 @@ fn action_of<'a>(name: &str, matches: &ArgMatches<'a>) -> Action<'a>
         replay_action(matches)
     } else if name == "run" {
         run_action(matches)
-    } else {
+    } else if name == "services" {
         services_action(matches)
+    } else {
+        waits_action(matches)
     }
 }
 
@@ -161,8 +182,8 @@ fn action_of<'a>(name: &str, matches: &ArgMatches<'a>) -> Action<'a>
 ///
 /// Its texts and numbers are those that `clap` reads of the words, for the commands
 /// `hash SCHEMA DISTINGUISHER`, `deal DECK HAND HASH`, `replay CONFIG REQUESTS SCRIPT`,
-/// `run CONFIG REQUESTS WORKERS` and `services CONFIG REQUESTS SCRIPT`. `DECK` and `HAND` are whole
-/// decimal numbers of 32 bits, `HASH` is one of 64 bits, and `WORKERS` is 1 to 64.
+/// `run CONFIG REQUESTS WORKERS`, `services CONFIG REQUESTS SCRIPT` and `waits CONFIG REQUESTS SCRIPT`.
+/// `DECK` and `HAND` are whole decimal numbers of 32 bits, `HASH` is one of 64 bits, and `WORKERS` is 1 to 64.
 ///
 /// # Errors
 ///

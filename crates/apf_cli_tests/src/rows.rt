@@ -521,3 +521,20 @@ fn services(rt: HostRuntime) {
     let out = "queue 0 entered 2 service 6\nqueue 1 entered 2 service 2\n";
     check(&rt, files, &words, 0, out, "");
 }
+
+// Of each request that entered, the seats before it, and what was granted while it waited.
+#[test]
+fn waits(rt: HostRuntime) {
+    let files = Memory {
+        alloc: rt.alloc(),
+        config: "{\"limit\":3,\"queues\":2,\"handSize\":1,\"queueLengthLimit\":10}",
+        requests: "[{\"hash\":0,\"width\":3},{\"hash\":0,\"width\":3},{\"hash\":0,\"width\":3},{\"hash\":1},{\"hash\":1}]",
+        script: "arrive 0\narrive 1\narrive 2\narrive 3\narrive 4\nfinish 0\nfinish 3\nfinish 4\nfinish 1\n",
+    };
+    let words = ["apf", "waits", "config", "requests", "script"];
+    let out = "request 1 queue 0 ahead 0 most 2 all 2 dispatched\n\
+        request 2 queue 0 ahead 3 most 2 all 5 dispatched\n\
+        request 3 queue 1 ahead 0 most 0 all 0 dispatched\n\
+        request 4 queue 1 ahead 1 most 0 all 1 dispatched\n";
+    check(&rt, files, &words, 0, out, "");
+}

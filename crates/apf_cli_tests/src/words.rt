@@ -68,6 +68,15 @@ fn reads_texts(rt: HostRuntime) -> Result<(), Fail> {
             script: "s"
         }
     );
+    let waits = read_words(alloc, &["apf", "waits", "c", "r", "s"])?;
+    assert_eq!(rt;
+        waits,
+        Action::Waits {
+            config: "c",
+            requests: "r",
+            script: "s"
+        }
+    );
     Ok(())
 }
 
@@ -111,7 +120,7 @@ fn reads_numbers_at_their_ends(rt: HostRuntime) -> Result<(), Fail> {
 
 #[test]
 fn refuses_other_words(rt: HostRuntime) {
-    let rows: [(&[&str], ErrorKind); 15] = [
+    let rows: [(&[&str], ErrorKind); 16] = [
         (&[], ErrorKind::MissingSubcommand),
         (&["apf"], ErrorKind::MissingSubcommand),
         (&["apf", "nonsense"], ErrorKind::InvalidSubcommand),
@@ -143,6 +152,10 @@ fn refuses_other_words(rt: HostRuntime) {
         (&["apf", "run", "a", "b", "65"], ErrorKind::ValueValidation),
         (
             &["apf", "services", "a", "b"],
+            ErrorKind::MissingRequiredArgument,
+        ),
+        (
+            &["apf", "waits", "a", "b"],
             ErrorKind::MissingRequiredArgument,
         ),
     ];

@@ -4,3 +4,4 @@ pub mod Crews
 pub mod Returned
 pub mod Limits
 pub mod Told
+pub mod Copied

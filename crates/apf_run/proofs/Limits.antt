@@ -1,12 +1,12 @@
 -- The limit of a gate whose Stations set none.
-use Rattle.std.proofs.Common.{◌≡◌, ℕ, ◌<◌, List, [], ◌∷◌, ◌++◌, Option, Some, None, refl, sym, subst, inl, inr}
+use Rattle.std.proofs.Common.{◌≡◌, ℕ, ◌<◌, List, [], ◌∷◌, Option, Some, None, refl, sym, subst, inl, inr}
 use Rattle.apf_model.specs.declared.moves.Move.{Move}
 use Rattle.apf_model.specs.declared.moves.Move.TheVariants.{Take, Enter, Grant, Leave, Decide, Release, Close, SetLimit, See}
 use Rattle.apf_gate.specs.declared.record.Shape.{Shape}
 use Rattle.apf_gate.specs.declared.record.Actor.{Actor}
 use Rattle.apf_gate.specs.declared.record.Actor.TheVariants.{OfPass, OfDesk, OfStation}
 use Rattle.apf_gate.specs.declared.record.Entry.{Entry}
-use Rattle.apf_gate.specs.Traces.{entry, world_of, NoneOf, GoesOn, Made, IsToken, MayMake, AreMade}
+use Rattle.apf_gate.specs.Traces.{entry, world_of, GoesOn, Made, IsToken, MayMake, AreMade}
 use Rattle.apf_gate.proofs.Traces.{made_own}
 
 -- a step leaves the limit, unless it is a Station's that sets one

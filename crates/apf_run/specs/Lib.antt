@@ -8,3 +8,4 @@ pub mod Workers
 pub mod Crews
 pub mod Runs
 pub mod Faults
+pub mod Waits

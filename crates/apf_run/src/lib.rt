@@ -1,7 +1,7 @@
 //! Runs a priority level from what its files say: by a script in one thread, or by workers in threads of their own.
 //!
 //! - `fault`: why a replay or a run came to nothing.
-//! - `line`, `totals`, `services`, `transcript`: what is told, and how it is written.
+//! - `line`, `totals`, `services`, `waits`, `transcript`: what is told, and how it is written.
 //! - `opening`: opens the gate of a level. `token`: what a request holds.
 //! - `client`: a request with its token, and `caller` a Station, of the level that a type names. `clients`: all of
 //!   a level.
@@ -31,6 +31,7 @@ mod session;
 mod token;
 mod totals;
 mod transcript;
+mod waits;
 mod worker;
 
 pub use apf_files::{

@@ -56,17 +56,21 @@ fn replay_named<K: Naming, R: Wait>(
     ensures settings { OnOk result (CanOpen opening.config requests.now 1) }
     ensures fault { IfErr result (IsReplayFault opening.config requests.now 1) }
 {
+    let response = opening.config.limit_response;
     let mut session = Session::<K>::open(rt, alloc, opening, commands.len())?;
     let carried_out = carry_out_all(rt, &mut session, commands);
     let totals = session.totals(rt);
+    let waits = session.waits(rt, alloc, response, requests);
     let (record, ended) = session.end(rt, alloc);
     carried_out?;
     ended?;
+    let waits = waits?;
     let (lines, services) = record.into_lines(requests);
     Ok(Transcript {
         lines,
         totals,
         services,
+        waits,
     })
 }
 

@@ -1,7 +1,8 @@
 //! A level in the hands of one thread: its requests, its one Station, and the reader of its statistics.
 
-ghost use Rattle.std.specs.Prelude.{◌≡◌, ◌↔◌, ◌<◌, ◌≤◌, [], length, All, IfOk, IfErr, OnOk, IsTrue};
-ghost use Rattle.apf_words.specs.Limits.{max_limit};
+ghost use Rattle.std.specs.Prelude.{◌≡◌, ◌↔◌, ◌<◌, ◌≤◌, [], length, map, All, IfOk, IfErr, OnOk, IsTrue};
+ghost use Rattle.apf_words.specs.Limits.{max_limit, max_queues, max_requests};
+ghost use Rattle.apf_model.specs.declared.response.Response.TheVariants.{Queue};
 ghost use Rattle.apf_gate.specs.Tokens.{pass_gate, station_gate};
 ghost use Rattle.apf_files.specs.ScriptFile.{IsCommandInRange};
 ghost use Rattle.apf_level.specs.Opening.{FaultBy, SettledBy};
@@ -14,7 +15,8 @@ use crate::line::Line;
 use crate::opening::Opening;
 use crate::record::Record;
 use crate::totals::Totals;
-use apf_files::Command;
+use crate::waits::{Waits, waits_of};
+use apf_files::{Command, Request};
 use apf_gate::{Close, Station};
 use apf_level::{Done, Level, LevelFault, Naming, Opened, StatsPass};
 use apf_model::{Event, Response};
@@ -258,6 +260,26 @@ impl<K: Naming> Session<K> {
         let word = self.caller.look(&self.level);
         let stats = self.level.stats(rt, &mut self.stats);
         Totals::new(word, self.record.counts(), self.record.undecided(), stats)
+    }
+
+    /// The log as it stands, and the widths of the requests.
+    ///
+    /// # Errors
+    ///
+    /// `AllocError` if memory was refused.
+    pub fn waits<R: Wait>(
+        &self,
+        rt: &R,
+        alloc: Global,
+        response: Response,
+        requests: &[Request],
+    ) -> Result<Waits, AllocError>
+        requires one_each { length requests.now ≡ length K.level.opening.costs }
+        requires few { length requests.now ≤ max_requests }
+        requires queues { response ≡ Queue → K.level.opening.sizes.deck ≤ max_queues }
+        ensures { IfOk result (λ w. w.widths ≡ map (λ r. r.width) requests.now) }
+    {
+        waits_of(rt, alloc, &self.level, response, requests)
     }
 
     // Closes the level, cancels and strikes each undecided request, and lets each running one give its seats back.

@@ -15,6 +15,7 @@ use std::sync::Wait;
 enum Text<'a> {
     Transcript(&'a Transcript),
     Services(&'a Transcript),
+    Waits(&'a Transcript),
     Book(&'a Report),
 }
 
@@ -23,6 +24,7 @@ impl Text<'_> {
         match self {
             Text::Transcript(transcript) => transcript.write(out),
             Text::Services(transcript) => transcript.write_services(out),
+            Text::Waits(transcript) => transcript.write_waits(out),
             Text::Book(report) => write_book(report, out),
         }
     }
@@ -90,7 +92,10 @@ fn a_transcript_without_room(rt: HostRuntime) -> Result<(), Fault> {
         entered 2 dispatched 1 struck 1\n";
     fails_at_each_place(&rt, rt.alloc(), Text::Transcript(&transcript), whole)?;
     let whole = "queue 0 entered 2 service 1\n";
-    fails_at_each_place(&rt, rt.alloc(), Text::Services(&transcript), whole)
+    fails_at_each_place(&rt, rt.alloc(), Text::Services(&transcript), whole)?;
+    let whole = "request 1 queue 0 ahead 0 most 0 all 0 dispatched\n\
+        request 2 queue 0 ahead 1 most 0 all 0 struck\n";
+    fails_at_each_place(&rt, rt.alloc(), Text::Waits(&transcript), whole)
 }
 
 #[test]

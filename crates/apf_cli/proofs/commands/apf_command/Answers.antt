@@ -15,7 +15,8 @@ returns c =
     let deal = c.in_ok-subcommand-2.ensures.shape c.in_ok-deal_command.ensures.local ∙ ap₂ with_subcommand hash c.in_ok-deal_command.ensures.shape in
     let replay = c.in_ok-subcommand-3.ensures.shape c.in_ok-replay_command.ensures.local ∙ ap₂ with_subcommand deal c.in_ok-replay_command.ensures.shape in
     let run = c.in_ok-subcommand-4.ensures.shape c.in_ok-run_command.ensures.local ∙ ap₂ with_subcommand replay c.in_ok-run_command.ensures.shape in
+    let services = c.in_ok-subcommand-5.ensures.shape c.in_ok-services_command.ensures.local ∙ ap₂ with_subcommand run c.in_ok-services_command.ensures.shape in
     record {
-      app = IfOk-weaker c.subcommand-5.result _ _
-          (λ r h. h.shape c.in_ok-services_command.ensures.local ∙ ap₂ with_subcommand run c.in_ok-services_command.ensures.shape) c.subcommand-5.ensures;
+      app = IfOk-weaker c.subcommand-6.result _ _
+          (λ r h. h.shape c.in_ok-waits_command.ensures.local ∙ ap₂ with_subcommand services c.in_ok-waits_command.ensures.shape) c.subcommand-6.ensures;
     }

@@ -1,7 +1,7 @@
 //! Choose and dispatch, before and after.
 
-use crate::checked::Checked;
 use crate::scan::Scan;
+use apf_checked::Checked;
 use std::time::{Clock, Instant};
 
 // How many requests wait at first, over all queues.

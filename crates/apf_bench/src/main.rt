@@ -6,7 +6,6 @@
 #![tactic(auto)]
 
 mod bare;
-mod checked;
 mod choices;
 mod course;
 mod gated;
@@ -18,7 +17,6 @@ mod measures;
 mod plain;
 mod ratio;
 mod scan;
-mod slot;
 
 use choices::{Shape, after, before, median};
 use course::Callers;

@@ -8,7 +8,7 @@
 //! - `level`: a level that is driven by commands, in one thread.
 //! - `scripts`: a script with the answers and events that it is to have.
 //! - `judging`: the plain program judges a level that ended.
-//! - `shared`: a book under a lock, and what threads do with it. `rounds`: the delays between their steps.
+//! - `shared`: a book under a lock, and what threads do with it.
 //!
 //! In one thread:
 //!
@@ -45,8 +45,6 @@ mod opening;
 mod overtaking;
 #[cfg(test)]
 mod requests;
-#[cfg(test)]
-mod rounds;
 #[cfg(test)]
 mod rows;
 #[cfg(test)]

@@ -5,9 +5,9 @@ ghost use Rattle.apf_gate.specs.Tokens.{desk_gate};
 
 use crate::marks::Mark;
 use crate::requests::{Request, Tried};
-use crate::rounds::{Start, pass_time, turns};
 use apf_book::{Arrived, Book};
 use apf_gate::Gate;
+use apf_rounds::{Start, pass_time, turns};
 use apf_words::Decision;
 use std::alloc::Global;
 use std::marker::PhantomData;

@@ -1,30 +1,59 @@
-//! The example of the README: opens a gate, takes a seat, decides, releases, and ends.
+//! The example of the README: opens a level, lets two requests of one client in, and ends it.
 #![tactic(auto)]
 
-use apf_gate::{Gate, TryTake};
+ghost use Rattle.std.specs.Prelude.{◌≡◌, length};
+ghost use Rattle.apf_session.specs.Openings.{level_of};
+
+use apf_book::{Ask, Config};
+use apf_level::{Naming, Report};
 use apf_model::Response;
-use apf_words::Decision;
+use apf_session::{OpenFault, Opening, Session};
+use std::alloc::Global;
+use std::marker::Brand;
 use std::process::ExitCode;
+use std::sync::Wait;
+
+// K names the level of this opening, so no call can mix it up with another level.
+fn serve_named<K: Naming, R: Wait>(
+    rt: &R,
+    alloc: Global,
+    opening: Opening<'_>,
+) -> Result<Report, OpenFault>
+    requires level { K.level ≡ level_of opening.gate opening.config opening.asks.now }
+    requires two { length opening.gate.shape.widths ≡ 2 }
+{
+    let mut session = Session::<K>::open(rt, alloc, opening)?;
+    // request 0 takes the seat, and request 1 waits in a queue
+    session.begin(rt, 0);
+    session.begin(rt, 1);
+    // here request 0 is served; then it gives its seat to request 1
+    session.finish(rt, 0);
+    session.poll(rt, 1);
+    session.finish(rt, 1);
+    Ok(session.end(rt, alloc)?)
+}
+
+// One seat, one queue, and two requests of one seat each, of one flow.
+fn serve<R: Wait>(rt: &R, alloc: Global) -> Result<Report, OpenFault> {
+    let config = Config {
+        limit: 1,
+        queues: 1,
+        hand_size: 1,
+        queue_length_limit: 10,
+        limit_response: Response::Queue,
+    };
+    let asks = [Ask { width: 1, hash: 7 }; 2];
+    let opening = Opening::new(alloc, &config, &asks, 1)?;
+    serve_named::<Brand, R>(rt, alloc, opening)
+}
 
 fn main(rt: HostRuntime) -> ExitCode {
-    // one seat, two requests of width 1, and no Station, which would cancel or close
-    let opened = Gate::open(rt.alloc(), 1, &[1, 1], 0, Response::Queue);
-    let Ok((gate, desk, mut passes, stations)) = opened else {
+    let Ok(report) = serve(&rt, rt.alloc()) else {
         return ExitCode::from(3);
     };
-    let TryTake::Taken = gate.try_take(&mut passes[0]) else {
-        return ExitCode::from(1);
-    };
-    // written once: the answer is this, or what stood there before
-    let told = gate.decide(&mut passes[0], Decision::Execute);
-    // here the request is served
-    let others_wait = gate.release(&mut passes[0]);
-    // what the words said at the end
-    let Ok(words) = gate.end(rt.alloc(), desk, passes, stations) else {
-        return ExitCode::from(3);
-    };
-    let seats = words.level().seats();
-    match println!(rt; "{told:?} {others_wait} {seats}") {
+    let counts = report.counts;
+    let log = report.log;
+    match println!(rt; "{counts:?}\n{log:?}") {
         Ok(()) => ExitCode::SUCCESS,
         Err(_) => ExitCode::from(1),
     }

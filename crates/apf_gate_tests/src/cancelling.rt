@@ -5,10 +5,10 @@ ghost use Rattle.apf_gate.specs.Tokens.{desk_gate, station_gate};
 
 use crate::crews::{DeskWork, StationWork};
 use crate::desks::Keeper;
-use crate::rounds::{ENOUGH, MOST_ROUNDS, Start, pass_time, turns};
 use crate::stand::Stand;
 use crate::stations;
 use apf_gate::{Gate, Station, TryGrant};
+use apf_rounds::{ENOUGH, MOST_ROUNDS, Start, pass_time, turns};
 use apf_words::Decision;
 use std::alloc::Global;
 use std::process::Abort;

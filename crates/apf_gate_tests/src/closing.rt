@@ -4,11 +4,11 @@ ghost use Rattle.std.specs.Prelude.{◌≡◌};
 ghost use Rattle.apf_gate.specs.Tokens.{station_gate};
 
 use crate::crews::StationWork;
-use crate::rounds::{ENOUGH, MOST_ROUNDS, Start, pass_time, turns};
 use crate::stand::Stand;
 use crate::stations;
 use apf_gate::{Close, Gate, Station, TryTake};
 use apf_model::Response;
+use apf_rounds::{ENOUGH, MOST_ROUNDS, Start, pass_time, turns};
 use std::alloc::Global;
 use std::process::Abort;
 use std::sync::Wait;

@@ -5,7 +5,7 @@
 //! - `stage`: how far a token is. It is no test itself, as `specs/` name it.
 //! - `requests`, `desks`, `stations`: the calls of each kind of token, with no more in their contracts than tests need.
 //! - `stand`: a gate with all its tokens. `endings`: what its words say at its end.
-//! - `rounds`: delays, and where threads begin together. `crews`: the threads, each with tokens of its own.
+//! - `crews`: the threads, each with tokens of its own.
 //!
 //! In one thread:
 //!
@@ -48,8 +48,6 @@ mod parking;
 mod refusals;
 #[cfg(test)]
 mod requests;
-#[cfg(test)]
-mod rounds;
 #[cfg(test)]
 mod rows;
 #[cfg(test)]

@@ -3,13 +3,12 @@
 ghost use Rattle.std.specs.Prelude.{◌≡◌, length};
 
 use crate::crowds::Crowd;
-use crate::opening::{Fault, ask, settings};
-use crate::requests::{Answer, Request};
-use crate::rounds::{ENOUGH, MOST_ROUNDS, Start};
+use crate::opening::{ask, settings};
 use crate::scenes::{Scene, run};
-use crate::stand::Stand;
 use apf_book::Config;
 use apf_level::{Level, Naming};
+use apf_rounds::{ENOUGH, MOST_LEVELS, Start};
+use apf_session::{Answer, OpenFault, Request, Session};
 use std::sync::Wait;
 use std::sync::atomic::{AtomicU64, Ordering};
 use std::thread;
@@ -34,8 +33,8 @@ impl Admissions {
     }
 
     /// Each request is admitted in a thread of its own.
-    pub fn play<K: Naming, R: Threads + Wait + Sync>(&self, rt: &R, stand: &mut Stand<K>) {
-        serve_all(rt, &stand.level, self, stand.requests.as_mut_slice());
+    pub fn play<K: Naming, R: Threads + Wait + Sync>(&self, rt: &R, session: &mut Session<K>) {
+        serve_all(rt, &session.level, self, session.requests.as_mut_slice());
     }
 }
 
@@ -75,13 +74,13 @@ fn serve_all<K: Naming, R: Threads + Wait + Sync>(
 
 // All are executed, one at a time, and some of them waited.
 #[test]
-fn sixty_four_threads_on_one_seat(rt: HostRuntime) -> Result<(), Fault> {
+fn sixty_four_threads_on_one_seat(rt: HostRuntime) -> Result<(), OpenFault> {
     let config = Config {
         queue_length_limit: 64,
         ..settings(1)
     };
     let mut entered = 0u64;
-    for _round in 0..MOST_ROUNDS {
+    for _round in 0..MOST_LEVELS {
         let admissions = Admissions::new();
         let ended = run(
             &rt,

@@ -2,17 +2,16 @@
 
 ghost use Rattle.std.specs.Prelude.{◌≡◌, ◌<◌, length};
 
-use crate::callers::Caller;
 use crate::endings::Ending;
-use crate::opening::{Fault, ask, settings};
-use crate::requests::Answer::{Over, Released, Run, Waits};
-use crate::rounds::{Start, pass_time, turns};
+use crate::opening::{ask, settings};
 use crate::scenes::{Scene, run};
 use crate::scripts::Step::{Begin, Look, Poll, Release, Strike};
 use crate::scripts::{Script, numbers};
-use crate::stand::Stand;
 use apf_level::{Counts, Level, Naming};
 use apf_model::Event;
+use apf_rounds::{Start, pass_time, turns};
+use apf_session::Answer::{Over, Released, Run, Waits};
+use apf_session::{OpenFault, Operator, Session};
 use apf_words::Decision;
 use std::process::Abort;
 use std::sync::Wait;
@@ -42,9 +41,13 @@ impl Cancellers {
     }
 
     /// Each Station cancels the second request and strikes it, in a thread of its own.
-    pub fn play<K: Naming, R: Threads + Wait + Abort + Sync>(&self, rt: &R, stand: &mut Stand<K>) {
-        assert!(rt; stand.requests.len() > 1);
-        cancel_all(rt, &stand.level, self, stand.callers.as_mut_slice());
+    pub fn play<K: Naming, R: Threads + Wait + Abort + Sync>(
+        &self,
+        rt: &R,
+        session: &mut Session<K>,
+    ) {
+        assert!(rt; session.requests.len() > 1);
+        cancel_all(rt, &session.level, self, session.operators.as_mut_slice());
     }
 }
 
@@ -54,7 +57,7 @@ fn cancel<K: Naming, R: Wait>(
     level: &Level<K>,
     cancellers: &Cancellers,
     thread: usize,
-    caller: &mut Caller<K>,
+    caller: &mut Operator<K>,
 )
     requires { 1 < length K.level.gate.shape.widths }
 {
@@ -74,7 +77,7 @@ fn cancel_all<K: Naming, R: Threads + Wait + Sync>(
     rt: &R,
     level: &Level<K>,
     cancellers: &Cancellers,
-    callers: &mut [Caller<K>],
+    callers: &mut [Operator<K>],
 )
     requires { 1 < length K.level.gate.shape.widths }
     ensures { length callers.new ≡ length callers.old }
@@ -83,7 +86,7 @@ fn cancel_all<K: Naming, R: Threads + Wait + Sync>(
         rt,
         callers,
         8,
-        &|thread: usize, caller: &mut Caller<K>|
+        &|thread: usize, caller: &mut Operator<K>|
             requires { 1 < length K.level.gate.shape.widths }
         { cancel(rt, level, cancellers, thread, caller) },
     );
@@ -91,7 +94,7 @@ fn cancel_all<K: Naming, R: Threads + Wait + Sync>(
 
 // All eight are told that it is cancelled, and one that it struck the request. The log has that one strike.
 #[test]
-fn eight_cancel(rt: HostRuntime) -> Result<(), Fault> {
+fn eight_cancel(rt: HostRuntime) -> Result<(), OpenFault> {
     for round in 0..20u32 {
         let cancellers = Cancellers::new(round);
         let before = Script::of(&[Begin(0, Run), Begin(1, Waits)]);

@@ -2,17 +2,16 @@
 
 ghost use Rattle.std.specs.Prelude.{◌≡◌, length};
 
-use crate::callers::Caller;
 use crate::endings::Ending;
-use crate::opening::{Fault, ask, settings};
-use crate::requests::Answer::{Over, Tried};
-use crate::rounds::{ENOUGH, MOST_ROUNDS, Start, pass_time, turns};
+use crate::opening::{ask, settings};
 use crate::scenes::{Scene, run};
 use crate::scripts::Step::{Begin, Close as Closes, Look, TryAdmit};
 use crate::scripts::{Script, numbers};
-use crate::stand::Stand;
 use apf_gate::Close;
 use apf_level::{Counts, Level, Naming};
+use apf_rounds::{ENOUGH, MOST_LEVELS, Start, pass_time, turns};
+use apf_session::Answer::{Over, Tried};
+use apf_session::{OpenFault, Operator, Session};
 use apf_words::Decision;
 use std::sync::atomic::{AtomicU64, Ordering};
 use std::thread;
@@ -46,13 +45,13 @@ impl Closers {
     }
 
     /// Each Station closes the level, in a thread of its own.
-    pub fn play<K: Naming, R: Threads + Sync>(&self, rt: &R, stand: &mut Stand<K>) {
-        close_all(rt, &stand.level, self, stand.callers.as_mut_slice());
+    pub fn play<K: Naming, R: Threads + Sync>(&self, rt: &R, session: &mut Session<K>) {
+        close_all(rt, &session.level, self, session.operators.as_mut_slice());
     }
 }
 
 // A Station looks at the level, waits until the others looked too, and closes it soon after, at its own time.
-fn close<K: Naming>(level: &Level<K>, closers: &Closers, thread: usize, caller: &mut Caller<K>) {
+fn close<K: Naming>(level: &Level<K>, closers: &Closers, thread: usize, caller: &mut Operator<K>) {
     closers.start.wait_for(8);
     let before = caller.look(level);
     closers.looked.wait_for(8);
@@ -72,7 +71,7 @@ fn close_all<K: Naming, R: Threads + Sync>(
     rt: &R,
     level: &Level<K>,
     closers: &Closers,
-    callers: &mut [Caller<K>],
+    callers: &mut [Operator<K>],
 )
     ensures { length callers.new ≡ length callers.old }
 {
@@ -86,9 +85,9 @@ fn close_all<K: Naming, R: Threads + Sync>(
 
 // One is the first of eight, and some find the level closed that they saw open. Who comes later is turned away.
 #[test]
-fn eight_close(rt: HostRuntime) -> Result<(), Fault> {
+fn eight_close(rt: HostRuntime) -> Result<(), OpenFault> {
     let mut overtaken = 0u64;
-    for round in 0..MOST_ROUNDS {
+    for round in 0..MOST_LEVELS {
         let closers = Closers::new(round);
         let later = Script::of(&[
             Look(true, [0, 0, 1]),

@@ -5,18 +5,18 @@
 
 ghost use Rattle.std.specs.Prelude.{◌≡◌, length};
 ghost use Rattle.apf_model.specs.Schedule.{AreWidths};
-ghost use Rattle.apf_level_tests.specs.Stands.{level_with};
+ghost use Rattle.apf_session.specs.Openings.{level_with};
 
 use crate::endings::{Ended, Ending};
-use crate::opening::{Fault, Opening, open_gate, settings};
-use crate::requests::Answer::{Over, Released, Run, Waits};
+use crate::opening::settings;
 use crate::scenes::{Scene, run};
 use crate::scripts::Step::{Begin, Dispatch, Poll, Release};
 use crate::scripts::{Script, Step, numbers};
-use crate::stand::Stand;
 use apf_book::{Ask, Config, are_costs};
 use apf_level::{Counts, Naming};
 use apf_model::{Event, Response};
+use apf_session::Answer::{Over, Released, Run, Waits};
+use apf_session::{OpenFault, Opening, Session};
 use apf_words::Decision;
 use std::alloc::{AllocError, Global};
 use std::marker::Brand;
@@ -79,15 +79,15 @@ fn play_named<K: Naming, R: Wait + Abort>(
     opening: Opening<'_>,
     costs: &[u32],
     steps: &[Step],
-) -> Result<Ended, Fault>
+) -> Result<Ended, OpenFault>
     requires level { K.level ≡ level_with opening.gate opening.config opening.asks.now costs.now }
     requires one_cost_each { length costs.now ≡ length opening.asks.now }
     requires costs { AreWidths costs.now }
 {
-    let mut stand = Stand::<K>::with_costs(rt, alloc, opening, costs)?;
-    Script::of(steps).play(rt, &mut stand);
-    let last = stand.read(rt);
-    let report = stand.end(rt, alloc)?;
+    let mut session = Session::<K>::open_with_costs(rt, alloc, opening, costs)?;
+    Script::of(steps).play(rt, &mut session);
+    let last = session.stats(rt);
+    let report = session.end(rt, alloc)?;
     Ok(Ended { last, report })
 }
 
@@ -99,8 +99,8 @@ fn play<R: Wait + Abort>(
     asks: &[Ask],
     costs: &[u32],
     steps: &[Step],
-) -> Result<Ended, Fault> {
-    let opening = open_gate(alloc, config, asks, 0)?;
+) -> Result<Ended, OpenFault> {
+    let opening = Opening::new(alloc, &config, asks, 0)?;
     assert!(rt; are_costs(costs));
     assert!(rt; costs.len() == opening.asks.len());
     play_named::<Brand, R>(rt, alloc, opening, costs, steps)
@@ -137,7 +137,7 @@ fn served(alloc: Global, order: &[u32]) -> Result<Vec<Step>, AllocError> {
 // One seat, and a client whose requests cost three times what those of the other one do: two of these are
 // served before the first of those, and not one.
 #[test]
-fn costs(rt: HostRuntime) -> Result<(), Fault> {
+fn costs(rt: HostRuntime) -> Result<(), OpenFault> {
     let alloc = rt.alloc();
     let steps = served(alloc, &[0, 3, 4, 1, 5, 2])?;
     let asks = three_each();
@@ -161,7 +161,7 @@ fn costs(rt: HostRuntime) -> Result<(), Fault> {
 
 // The same requests without costs, and with costs that are their widths: one of each client in turn.
 #[test]
-fn without_costs(rt: HostRuntime) -> Result<(), Fault> {
+fn without_costs(rt: HostRuntime) -> Result<(), OpenFault> {
     let alloc = rt.alloc();
     let steps = served(alloc, &[0, 1, 3, 2, 4, 5])?;
     let asks = three_each();
@@ -189,7 +189,7 @@ fn without_costs(rt: HostRuntime) -> Result<(), Fault> {
 // Two seats, and two requests of one seat that cost as much as any may: both run, and one of two seats that
 // costs the least waits until both are back.
 #[test]
-fn costs_take_no_seats(rt: HostRuntime) -> Result<(), Fault> {
+fn costs_take_no_seats(rt: HostRuntime) -> Result<(), OpenFault> {
     let steps = [
         Begin(0, Run),
         Begin(1, Run),
@@ -210,7 +210,7 @@ fn costs_take_no_seats(rt: HostRuntime) -> Result<(), Fault> {
 
 // A level without queues charges nothing, and its settings of queues and its costs are not used.
 #[test]
-fn costs_without_queues(rt: HostRuntime) -> Result<(), Fault> {
+fn costs_without_queues(rt: HostRuntime) -> Result<(), OpenFault> {
     let config = Config {
         limit_response: Response::Reject,
         ..shaped(0, 0)
@@ -231,7 +231,7 @@ fn costs_without_queues(rt: HostRuntime) -> Result<(), Fault> {
 fn faults_beside_costs(rt: HostRuntime) -> Result<(), Fail> {
     let alloc = rt.alloc();
     for (config, text) in [(shaped(0, 0), "not positive"), (shaped(2, 0), "bad shape")] {
-        let Err(Fault::Level(fault)) = play(&rt, alloc, config, &[], &[], &[]) else {
+        let Err(OpenFault::Level(fault)) = play(&rt, alloc, config, &[], &[], &[]) else {
             panic!(rt; "{text}")
         };
         assert_eq!(rt; fault.to_string(alloc)?.as_str(), text);

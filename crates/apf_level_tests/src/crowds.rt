@@ -1,6 +1,6 @@
 //! The requests that run at once.
 
-use crate::rounds::MOST_TURNS;
+use apf_rounds::MOST_TURNS;
 use std::sync::atomic::{AtomicU64, Ordering};
 use std::thread;
 

@@ -1,13 +1,13 @@
 //! The tests of a level, by the public calls of `apf_level` alone.
 //!
-//! They stand in a crate of their own, as a crate with tests is proved twice. What they share:
+//! They session in a crate of their own, as a crate with tests is proved twice. What they share:
 //!
 //! - `opening`: opens the gate of a level.
 //! - `token`: what a request holds. It is no test itself, as `specs/` name it.
 //! - `requests`: a request with its token, and `callers` a Station, of the level that a type names.
-//! - `stand`: a level with all its tokens. `scenes`: what is played on it. `endings`: what it tells at its end.
+//! - `session`: a level with all its tokens. `scenes`: what is played on it. `endings`: what it tells at its end.
 //! - `scripts`: a script with the answers that it is to have.
-//! - `rounds`: delays, and where threads begin together. `crowds`: the requests that run at once.
+//! - `crowds`: the requests that run at once.
 //!
 //! In one thread:
 //!
@@ -24,8 +24,6 @@
 
 #[cfg(test)]
 mod admitting;
-#[cfg(test)]
-mod callers;
 #[cfg(test)]
 mod cancelling;
 #[cfg(test)]
@@ -45,10 +43,6 @@ mod opening;
 #[cfg(test)]
 mod reading;
 #[cfg(test)]
-mod requests;
-#[cfg(test)]
-mod rounds;
-#[cfg(test)]
 mod rows;
 #[cfg(test)]
 mod scenes;
@@ -57,11 +51,6 @@ mod scripts;
 #[cfg(test)]
 mod sleeping;
 #[cfg(test)]
-mod stand;
-#[cfg(test)]
 mod strikes;
 #[cfg(test)]
 mod taking;
-mod token;
-
-pub use token::Token;

@@ -1,7 +1,6 @@
 //! Limits that change, requests that are wider than the limit, and levels without queues.
 
-use crate::opening::{Fault, ask, settings};
-use crate::requests::Answer::{Busy, Over, Released, Run, Tried, Waits};
+use crate::opening::{ask, settings};
 use crate::scripts::Step::{
     Admit, Begin, Cancel, Close, Copy, Dispatch, Limit, Look, Poll, Read, Release, Strike,
     TryAdmit, TryLimit,
@@ -12,11 +11,13 @@ use apf_gate::Close::First;
 use apf_gate::TrySetLimit::Set;
 use apf_level::Counts;
 use apf_model::{Event, Response};
+use apf_session::Answer::{Busy, Over, Released, Run, Tried, Waits};
+use apf_session::OpenFault;
 use apf_words::Decision;
 
 // The caller of `try_set_limit` owes a dispatch where requests wait, `set_limit` makes it itself.
 #[test]
-fn limits(rt: HostRuntime) -> Result<(), Fault> {
+fn limits(rt: HostRuntime) -> Result<(), OpenFault> {
     let row = Row {
         config: settings(1),
         asks: &[ask(1); 4],
@@ -68,7 +69,7 @@ fn limits(rt: HostRuntime) -> Result<(), Fault> {
 
 // Five seats under a limit of two: such a request executes alone, on arrival and from a queue.
 #[test]
-fn over_wide(rt: HostRuntime) -> Result<(), Fault> {
+fn over_wide(rt: HostRuntime) -> Result<(), OpenFault> {
     let row = Row {
         config: settings(2),
         asks: &[ask(5), ask(1), ask(1), ask(5), ask(1)],
@@ -121,7 +122,7 @@ fn over_wide(rt: HostRuntime) -> Result<(), Fault> {
 
 // On a level without queues nobody waits, nothing is dispatched or struck, and the log stays empty.
 #[test]
-fn no_queues(rt: HostRuntime) -> Result<(), Fault> {
+fn no_queues(rt: HostRuntime) -> Result<(), OpenFault> {
     let row = Row {
         config: Config {
             limit_response: Response::Reject,

@@ -8,13 +8,11 @@
 
 ghost use Rattle.std.specs.Prelude.{◌≡◌, length};
 
-use crate::callers::Caller;
-use crate::opening::{Fault, ask, settings};
-use crate::requests::{Answer, Request};
-use crate::rounds::{MOST_TURNS, Start};
+use crate::opening::{ask, settings};
 use crate::scenes::{Scene, run};
-use crate::stand::Stand;
 use apf_level::{Level, Naming};
+use apf_rounds::{MOST_TURNS, Start};
+use apf_session::{Answer, OpenFault, Operator, Request, Session};
 use apf_words::Decision;
 use std::process::Abort;
 use std::sync::atomic::{AtomicU64, Ordering};
@@ -73,20 +71,20 @@ impl Losers {
     pub fn play<K: Naming, R: Threads + Wait + Abort + Clock + Sync>(
         &self,
         rt: &R,
-        stand: &mut Stand<K>,
+        session: &mut Session<K>,
     ) {
-        let Some(caller) = stand.callers.pop() else {
+        let Some(caller) = session.operators.pop() else {
             panic!(rt; "a Station")
         };
         let caller = Mutex::new(caller);
         serve_all(
             rt,
-            &stand.level,
+            &session.level,
             self,
             &caller,
-            stand.requests.as_mut_slice(),
+            session.requests.as_mut_slice(),
         );
-        let Ok(()) = stand.callers.push(caller.into_inner()) else {
+        let Ok(()) = session.operators.push(caller.into_inner()) else {
             panic!(rt; "memory")
         };
     }
@@ -106,7 +104,7 @@ impl Losers {
         &self,
         rt: &R,
         level: &Level<K>,
-        caller: &Mutex<Caller<K>>,
+        caller: &Mutex<Operator<K>>,
     ) -> Option<u64> {
         let mut before = 0u64;
         let mut seen = 0u32;
@@ -155,7 +153,7 @@ fn take<K: Naming, R: Wait + Clock>(
     rt: &R,
     level: &Level<K>,
     losers: &Losers,
-    caller: &Mutex<Caller<K>>,
+    caller: &Mutex<Operator<K>>,
     request: &mut Request<K>,
 ) {
     losers.wait_for_comer(rt);
@@ -176,7 +174,7 @@ fn come<K: Naming, R: Wait + Clock>(
     rt: &R,
     level: &Level<K>,
     losers: &Losers,
-    caller: &Mutex<Caller<K>>,
+    caller: &Mutex<Operator<K>>,
     request: &mut Request<K>,
 ) {
     let taker = losers.wait_for_taker(rt, level, caller);
@@ -198,7 +196,7 @@ fn serve<K: Naming, R: Wait + Clock>(
     rt: &R,
     level: &Level<K>,
     losers: &Losers,
-    caller: &Mutex<Caller<K>>,
+    caller: &Mutex<Operator<K>>,
     place: usize,
     request: &mut Request<K>,
 ) {
@@ -220,7 +218,7 @@ fn serve_all<K: Naming, R: Threads + Wait + Clock + Sync>(
     rt: &R,
     level: &Level<K>,
     losers: &Losers,
-    caller: &Mutex<Caller<K>>,
+    caller: &Mutex<Operator<K>>,
     requests: &mut [Request<K>],
 )
     ensures { length requests.new ≡ length requests.old }
@@ -237,7 +235,7 @@ fn serve_all<K: Naming, R: Threads + Wait + Clock + Sync>(
 // rounds end once three did. Where a busy machine lets too few be cancelled by the last round, nothing is asked of
 // their number.
 #[test]
-fn a_lost_decision_dispatches(rt: HostRuntime) -> Result<(), Fault> {
+fn a_lost_decision_dispatches(rt: HostRuntime) -> Result<(), OpenFault> {
     let asks = vec![in rt.alloc(); ask(1); 2 * HALF]?;
     let mut lost = 0u64;
     let mut cancels = 0u64;

@@ -3,14 +3,13 @@
 ghost use denote.Param.Send.{IsSync};
 ghost use Rattle.std.specs.Prelude.{◌≡◌, length};
 
-use crate::opening::{Fault, settings};
-use crate::requests::{Answer, Request};
-use crate::rounds::{ENOUGH, MOST_ROUNDS, MOST_TURNS, Start, pass_time, turns};
+use crate::opening::settings;
 use crate::scenes::{Scene, run};
 use crate::scripts::numbers;
-use crate::stand::Stand;
 use apf_book::{Ask, Config, Stats};
 use apf_level::{Level, Naming, StatsPass};
+use apf_rounds::{ENOUGH, MOST_LEVELS, MOST_TURNS, Start, pass_time, turns};
+use apf_session::{Answer, OpenFault, Request, Session};
 use std::process::Abort;
 use std::sync::Wait;
 use std::sync::atomic::{AtomicU64, Ordering};
@@ -36,13 +35,17 @@ impl Readings {
     }
 
     /// Each request is run, in four threads, while one more reads the statistics.
-    pub fn play<K: Naming, R: Threads + Wait + Abort + Sync>(&self, rt: &R, stand: &mut Stand<K>) {
+    pub fn play<K: Naming, R: Threads + Wait + Abort + Sync>(
+        &self,
+        rt: &R,
+        session: &mut Session<K>,
+    ) {
         serve_beside_reader(
             rt,
-            &stand.level,
+            &session.level,
             self,
-            &mut stand.stats,
-            stand.requests.as_mut_slice(),
+            &mut session.stats,
+            session.requests.as_mut_slice(),
         );
     }
 }
@@ -176,7 +179,7 @@ fn serve_beside_reader<K: Naming, R: Threads + Wait + Abort + Sync>(
 
 // Each reading adds up, and none goes back. Some readings differ from the ones before them.
 #[test]
-fn one_reads_while_four_run(rt: HostRuntime) -> Result<(), Fault> {
+fn one_reads_while_four_run(rt: HostRuntime) -> Result<(), OpenFault> {
     let asks: Vec<Ask> = (0..100u64)
         .map(|request| Ask {
             width: 1,
@@ -189,7 +192,7 @@ fn one_reads_while_four_run(rt: HostRuntime) -> Result<(), Fault> {
         ..settings(1)
     };
     let mut changes = 0u64;
-    for round in 0..MOST_ROUNDS {
+    for round in 0..MOST_LEVELS {
         let readings = Readings::new(round);
         let ended = run(
             &rt,

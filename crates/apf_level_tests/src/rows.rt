@@ -1,7 +1,6 @@
 //! Worked scripts on a level with queues: who runs, who waits, who is turned away.
 
-use crate::opening::{Fault, ask, settings};
-use crate::requests::Answer::{Busy, Over, Released, Run, Tried, Waits, Wrong};
+use crate::opening::{ask, settings};
 use crate::scripts::Step::{
     Admit, Begin, Close, Dispatch, Look, Poll, Read, Release, TryAdmit, TryLimit,
 };
@@ -11,11 +10,13 @@ use apf_gate::Close::{Already, First};
 use apf_gate::TrySetLimit;
 use apf_level::Counts;
 use apf_model::Event;
+use apf_session::Answer::{Busy, Over, Released, Run, Tried, Waits, Wrong};
+use apf_session::OpenFault;
 use apf_words::Decision;
 
 // The second request waits until the first gave its seat back.
 #[test]
-fn two_requests(rt: HostRuntime) -> Result<(), Fault> {
+fn two_requests(rt: HostRuntime) -> Result<(), OpenFault> {
     let row = Row {
         config: settings(1),
         asks: &[ask(1), ask(1)],
@@ -53,7 +54,7 @@ fn two_requests(rt: HostRuntime) -> Result<(), Fault> {
 
 // The third request would fit, but may not pass the second, which does not.
 #[test]
-fn nobody_passes_who_waits(rt: HostRuntime) -> Result<(), Fault> {
+fn nobody_passes_who_waits(rt: HostRuntime) -> Result<(), OpenFault> {
     let row = Row {
         config: settings(2),
         asks: &[ask(1), ask(2), ask(1), ask(1)],
@@ -96,7 +97,7 @@ fn nobody_passes_who_waits(rt: HostRuntime) -> Result<(), Fault> {
 
 // The queue has room for one request.
 #[test]
-fn a_full_queue(rt: HostRuntime) -> Result<(), Fault> {
+fn a_full_queue(rt: HostRuntime) -> Result<(), OpenFault> {
     let row = Row {
         config: Config {
             queue_length_limit: 1,
@@ -129,7 +130,7 @@ fn a_full_queue(rt: HostRuntime) -> Result<(), Fault> {
 
 // Who waited before the close is still served. Who arrives later is not, even where seats are free.
 #[test]
-fn a_closed_level(rt: HostRuntime) -> Result<(), Fault> {
+fn a_closed_level(rt: HostRuntime) -> Result<(), OpenFault> {
     let row = Row {
         config: settings(1),
         asks: &[ask(1); 6],
@@ -172,7 +173,7 @@ fn a_closed_level(rt: HostRuntime) -> Result<(), Fault> {
 // Two queues of one flow each. The narrow request is dispatched before the wide one that came before it: its
 // finish is 1 beside 3.
 #[test]
-fn the_least_virtual_finish_is_first(rt: HostRuntime) -> Result<(), Fault> {
+fn the_least_virtual_finish_is_first(rt: HostRuntime) -> Result<(), OpenFault> {
     let row = Row {
         config: Config {
             queues: 2,
@@ -215,7 +216,7 @@ fn the_least_virtual_finish_is_first(rt: HostRuntime) -> Result<(), Fault> {
 
 // The first seat is given back, and later the limit is larger; each time nobody but the next arrival dispatches.
 #[test]
-fn an_arrival_dispatches(rt: HostRuntime) -> Result<(), Fault> {
+fn an_arrival_dispatches(rt: HostRuntime) -> Result<(), OpenFault> {
     let row = Row {
         config: settings(1),
         asks: &[ask(1); 4],

@@ -1,21 +1,20 @@
 //! What is played on a level, from its opening to its end.
 
 ghost use Rattle.std.specs.Prelude.{◌≡◌};
-ghost use Rattle.apf_level_tests.specs.Stands.{level_of};
+ghost use Rattle.apf_session.specs.Openings.{level_of};
 
 use crate::admitting::Admissions;
 use crate::cancelling::Cancellers;
 use crate::closing::Closers;
 use crate::endings::Ended;
 use crate::losing::Losers;
-use crate::opening::{Fault, Opening, open_gate};
 use crate::reading::Readings;
 use crate::scripts::Script;
 use crate::sleeping::Sleepers;
-use crate::stand::Stand;
 use crate::taking::Takers;
 use apf_book::{Ask, Config};
 use apf_level::Naming;
+use apf_session::{OpenFault, Opening, Session};
 use std::alloc::Global;
 use std::marker::Brand;
 use std::process::Abort;
@@ -52,8 +51,8 @@ pub fn run<R: Threads + Wait + Abort + Clock + Sync>(
     asks: &[Ask],
     stations: u32,
     scenes: &[Scene<'_>],
-) -> Result<Ended, Fault> {
-    let opening = open_gate(alloc, config, asks, stations)?;
+) -> Result<Ended, OpenFault> {
+    let opening = Opening::new(alloc, &config, asks, stations)?;
     play_named::<Brand, R>(rt, alloc, opening, scenes)
 }
 
@@ -62,31 +61,31 @@ fn play_named<K: Naming, R: Threads + Wait + Abort + Clock + Sync>(
     alloc: Global,
     opening: Opening<'_>,
     scenes: &[Scene<'_>],
-) -> Result<Ended, Fault>
+) -> Result<Ended, OpenFault>
     requires { K.level ≡ level_of opening.gate opening.config opening.asks.now }
 {
-    let mut stand = Stand::<K>::new(rt, alloc, opening)?;
+    let mut session = Session::<K>::open(rt, alloc, opening)?;
     for scene in scenes {
-        play(rt, *scene, &mut stand);
+        play(rt, *scene, &mut session);
     }
-    let last = stand.read(rt);
-    let report = stand.end(rt, alloc)?;
+    let last = session.stats(rt);
+    let report = session.end(rt, alloc)?;
     Ok(Ended { last, report })
 }
 
 fn play<K: Naming, R: Threads + Wait + Abort + Clock + Sync>(
     rt: &R,
     scene: Scene<'_>,
-    stand: &mut Stand<K>,
+    session: &mut Session<K>,
 ) {
     match scene {
-        Scene::Script(script) => script.play(rt, stand),
-        Scene::Take(takers) => takers.play(rt, stand),
-        Scene::Read(readings) => readings.play(rt, stand),
-        Scene::Close(closers) => closers.play(rt, stand),
-        Scene::Cancel(cancellers) => cancellers.play(rt, stand),
-        Scene::Sleep(sleepers) => sleepers.play(rt, stand),
-        Scene::Admit(admissions) => admissions.play(rt, stand),
-        Scene::Lose(losers) => losers.play(rt, stand),
+        Scene::Script(script) => script.play(rt, session),
+        Scene::Take(takers) => takers.play(rt, session),
+        Scene::Read(readings) => readings.play(rt, session),
+        Scene::Close(closers) => closers.play(rt, session),
+        Scene::Cancel(cancellers) => cancellers.play(rt, session),
+        Scene::Sleep(sleepers) => sleepers.play(rt, session),
+        Scene::Admit(admissions) => admissions.play(rt, session),
+        Scene::Lose(losers) => losers.play(rt, session),
     }
 }

@@ -1,14 +1,12 @@
 //! A script with the answers that it is to have, and what the level is to tell at its end.
 
 use crate::endings::Ending;
-use crate::opening::Fault;
-use crate::requests::Answer;
 use crate::scenes::{Scene, run};
-use crate::stand::Stand;
 use apf_book::{Ask, Config, Stats};
 use apf_gate::{Close, TrySetLimit};
 use apf_level::{Counts, Naming};
 use apf_model::Event;
+use apf_session::{Answer, OpenFault, Session};
 use apf_words::Decision;
 use std::alloc::Global;
 use std::process::Abort;
@@ -83,7 +81,7 @@ pub fn run_row<R: Threads + Wait + Abort + Clock + Sync>(
     rt: &R,
     alloc: Global,
     row: &Row<'_>,
-) -> Result<(), Fault> {
+) -> Result<(), OpenFault> {
     let script = Script {
         steps: row.steps,
         log: row.log,
@@ -114,116 +112,130 @@ impl<'a> Script<'a> {
     }
 
     /// Makes the steps.
-    pub fn play<K: Naming, R: Wait + Abort>(&self, rt: &R, stand: &mut Stand<K>) {
+    pub fn play<K: Naming, R: Wait + Abort>(&self, rt: &R, session: &mut Session<K>) {
         for (place, step) in self.steps.iter().enumerate() {
-            stand.follow(rt, place, *step, self.log);
+            follow(rt, session, place, *step, self.log);
         }
     }
 }
 
-impl<K: Naming> Stand<K> {
-    // Makes the call, and asserts that it answers so.
-    fn follow<R: Wait + Abort>(&mut self, rt: &R, place: usize, step: Step, log: &[Event]) {
-        match step {
-            Step::TryAdmit(request, answer)
-            | Step::Begin(request, answer)
-            | Step::Poll(request, answer)
-            | Step::Admit(request, answer)
-            | Step::Release(request, answer) => {
-                assert_eq!(rt; self.call(rt, request, step), answer, "step {place}");
-            }
-            Step::Dispatch(count) => assert_eq!(rt; self.level.dispatch(rt), count, "step {place}"),
-            Step::Strike(request, struck) => {
-                assert!(rt; (request as usize) < self.requests.len());
-                assert_eq!(rt; self.level.strike(rt, request), struck, "step {place}");
-            }
-            Step::Read(stats) => {
-                assert_eq!(rt; self.read(rt), stats, "step {place}");
-            }
-            Step::Copy(from, room, count) => {
-                assert!(rt; from as usize <= log.len() || count == 0);
-                let rest = log.get(from as usize..).unwrap_or(&[]);
-                assert!(rt; count <= rest.len());
-                self.copy(rt, place, from, room, &rest[..count]);
-            }
-            _ => self.follow_station(rt, place, step),
+// Makes the call, and asserts that it answers so.
+fn follow<K: Naming, R: Wait + Abort>(
+    rt: &R,
+    session: &mut Session<K>,
+    place: usize,
+    step: Step,
+    log: &[Event],
+) {
+    match step {
+        Step::TryAdmit(request, answer)
+        | Step::Begin(request, answer)
+        | Step::Poll(request, answer)
+        | Step::Admit(request, answer)
+        | Step::Release(request, answer) => {
+            assert_eq!(rt; call(rt, session, request, step), answer, "step {place}");
         }
+        Step::Dispatch(count) => assert_eq!(rt; session.level.dispatch(rt), count, "step {place}"),
+        Step::Strike(request, struck) => {
+            assert!(rt; (request as usize) < session.requests.len());
+            assert_eq!(rt; session.level.strike(rt, request), struck, "step {place}");
+        }
+        Step::Read(stats) => {
+            assert_eq!(rt; session.stats(rt), stats, "step {place}");
+        }
+        Step::Copy(from, room, count) => {
+            assert!(rt; from as usize <= log.len() || count == 0);
+            let rest = log.get(from as usize..).unwrap_or(&[]);
+            assert!(rt; count <= rest.len());
+            copy(rt, session, place, from, room, &rest[..count]);
+        }
+        _ => follow_station(rt, session, place, step),
     }
+}
 
-    // Makes the call of the request.
-    fn call<R: Wait + Abort>(&mut self, rt: &R, request: u32, step: Step) -> Answer {
-        assert!(rt; (request as usize) < self.requests.len());
-        let request = &mut self.requests[request as usize];
-        match step {
-            Step::TryAdmit(..) => request.try_admit(&self.level),
-            Step::Begin(..) => request.begin(rt, &self.level),
-            Step::Poll(..) => request.poll(rt, &self.level),
-            Step::Admit(..) => request.admit(rt, &self.level),
-            Step::Release(..) => request.release(&self.level),
-            _ => Answer::Wrong,
-        }
+// Makes the call of the request.
+fn call<K: Naming, R: Wait + Abort>(
+    rt: &R,
+    session: &mut Session<K>,
+    request: u32,
+    step: Step,
+) -> Answer {
+    assert!(rt; (request as usize) < session.requests.len());
+    let request = &mut session.requests[request as usize];
+    match step {
+        Step::TryAdmit(..) => request.try_admit(&session.level),
+        Step::Begin(..) => request.begin(rt, &session.level),
+        Step::Poll(..) => request.poll(rt, &session.level),
+        Step::Admit(..) => request.admit(rt, &session.level),
+        Step::Release(..) => request.release(&session.level),
+        _ => Answer::Wrong,
     }
+}
 
-    // Makes the call of the Station, and asserts that it answers so.
-    fn follow_station<R: Wait + Abort>(&mut self, rt: &R, place: usize, step: Step) {
-        assert!(rt; !self.callers.is_empty());
-        let caller = &mut self.callers[0];
-        match step {
-            Step::Cancel(request, decision) => {
-                assert!(rt; (request as usize) < self.requests.len());
-                assert_eq!(rt;
-                    caller.cancel(&self.level, request),
-                    decision,
-                    "step {place}"
-                );
-            }
-            Step::Close(close) => assert_eq!(rt; caller.close(&self.level), close, "step {place}"),
-            Step::TryLimit(limit, answer) => {
-                assert!(rt; (1..=10_000).contains(&limit));
-                assert_eq!(rt;
-                    caller.try_set_limit(&self.level, limit),
-                    answer,
-                    "step {place}"
-                );
-            }
-            Step::Limit(limit, old) => {
-                assert!(rt; (1..=10_000).contains(&limit));
-                assert_eq!(rt;
-                    caller.set_limit(rt, &self.level, limit),
-                    old,
-                    "step {place}"
-                );
-            }
-            Step::Look(closed, numbers) => {
-                let word = caller.look(&self.level);
-                assert_eq!(rt; word.closed(), closed, "step {place}");
-                assert_eq!(rt;
-                    [word.seats(), word.waiters(), word.limit()],
-                    numbers,
-                    "step {place}"
-                );
-            }
-            _ => panic!(rt; "step {place} is of a request"),
+// Makes the call of the Station, and asserts that it answers so.
+fn follow_station<K: Naming, R: Wait + Abort>(
+    rt: &R,
+    session: &mut Session<K>,
+    place: usize,
+    step: Step,
+) {
+    assert!(rt; !session.operators.is_empty());
+    let caller = &mut session.operators[0];
+    match step {
+        Step::Cancel(request, decision) => {
+            assert!(rt; (request as usize) < session.requests.len());
+            assert_eq!(rt;
+                caller.cancel(&session.level, request),
+                decision,
+                "step {place}"
+            );
         }
+        Step::Close(close) => assert_eq!(rt; caller.close(&session.level), close, "step {place}"),
+        Step::TryLimit(limit, answer) => {
+            assert!(rt; (1..=10_000).contains(&limit));
+            assert_eq!(rt;
+                caller.try_set_limit(&session.level, limit),
+                answer,
+                "step {place}"
+            );
+        }
+        Step::Limit(limit, old) => {
+            assert!(rt; (1..=10_000).contains(&limit));
+            assert_eq!(rt;
+                caller.set_limit(rt, &session.level, limit),
+                old,
+                "step {place}"
+            );
+        }
+        Step::Look(closed, numbers) => {
+            let word = caller.look(&session.level);
+            assert_eq!(rt; word.closed(), closed, "step {place}");
+            assert_eq!(rt;
+                [word.seats(), word.waiters(), word.limit()],
+                numbers,
+                "step {place}"
+            );
+        }
+        _ => panic!(rt; "step {place} is of a request"),
     }
+}
 
-    // Copies the log, and asserts that these events were copied, and that the rest of the room is as it was.
-    fn copy<R: Wait + Abort>(
-        &mut self,
-        rt: &R,
-        place: usize,
-        from: u32,
-        room: usize,
-        events: &[Event],
-    ) {
-        let unused = Event::Full(99, 99);
-        let mut into = [unused; 4];
-        assert!(rt; room <= 4 && events.len() <= room);
-        let count = self.level.copy_events(rt, from, &mut into[..room]);
-        assert_eq!(rt; count as usize, events.len(), "step {place}");
-        assert_eq!(rt; &into[..events.len()], events, "step {place}");
-        for event in &into[events.len()..] {
-            assert_eq!(rt; *event, unused, "step {place}");
-        }
+// Copies the log, and asserts that these events were copied, and that the rest of the room is as it was.
+fn copy<K: Naming, R: Wait + Abort>(
+    rt: &R,
+    session: &mut Session<K>,
+    place: usize,
+    from: u32,
+    room: usize,
+    events: &[Event],
+) {
+    let unused = Event::Full(99, 99);
+    let mut into = [unused; 4];
+    assert!(rt; room <= 4 && events.len() <= room);
+    let count = session.level.copy_events(rt, from, &mut into[..room]);
+    assert_eq!(rt; count as usize, events.len(), "step {place}");
+    assert_eq!(rt; &into[..events.len()], events, "step {place}");
+    for event in &into[events.len()..] {
+        assert_eq!(rt; *event, unused, "step {place}");
     }
 }

@@ -2,18 +2,16 @@
 
 ghost use Rattle.std.specs.Prelude.{◌≡◌, ◌<◌, length};
 
-use crate::callers::Caller;
 use crate::endings::Ending;
-use crate::opening::{Fault, ask, settings};
-use crate::requests::Answer::{Over, Released, Run};
-use crate::requests::{Answer, Request};
-use crate::rounds::MOST_TURNS;
+use crate::opening::{ask, settings};
 use crate::scenes::{Scene, run};
 use crate::scripts::Step::{Begin, Look, Release};
 use crate::scripts::{Script, numbers};
-use crate::stand::Stand;
 use apf_level::{Counts, Level, Naming};
 use apf_model::Event;
+use apf_rounds::MOST_TURNS;
+use apf_session::Answer::{Over, Released, Run};
+use apf_session::{Answer, OpenFault, Operator, Request, Session};
 use apf_words::Decision;
 use std::process::Abort;
 use std::sync::atomic::{AtomicU64, Ordering};
@@ -50,20 +48,24 @@ impl Sleepers {
     }
 
     /// The second request sleeps until the thread of the first one wakes it.
-    pub fn play<K: Naming, R: Threads + Wait + Abort + Sync>(&self, rt: &R, stand: &mut Stand<K>) {
-        assert!(rt; stand.requests.len() > 1);
-        let Some(caller) = stand.callers.pop() else {
+    pub fn play<K: Naming, R: Threads + Wait + Abort + Sync>(
+        &self,
+        rt: &R,
+        session: &mut Session<K>,
+    ) {
+        assert!(rt; session.requests.len() > 1);
+        let Some(caller) = session.operators.pop() else {
             panic!(rt; "a Station")
         };
         let caller = Mutex::new(caller);
         serve_both(
             rt,
-            &stand.level,
+            &session.level,
             self,
             &caller,
-            stand.requests.as_mut_slice(),
+            session.requests.as_mut_slice(),
         );
-        let Ok(()) = stand.callers.push(caller.into_inner()) else {
+        let Ok(()) = session.operators.push(caller.into_inner()) else {
             panic!(rt; "memory")
         };
     }
@@ -80,17 +82,30 @@ impl Sleepers {
     }
 }
 
+// Lets one request sleep: waits until it stands in a queue, in at most so many turns, and gives it time.
+fn let_sleep<K: Naming>(level: &Level<K>, operator: &mut Operator<K>) {
+    for _turn in 0..MOST_TURNS {
+        if operator.look(level).waiters() == 1 {
+            break;
+        }
+        thread::yield_now();
+    }
+    for _turn in 0..3000u32 {
+        thread::yield_now();
+    }
+}
+
 // The first request runs. Its thread lets the other one sleep, and then wakes it.
 fn wake<K: Naming, R: Wait + Abort>(
     rt: &R,
     level: &Level<K>,
     sleepers: &Sleepers,
-    caller: &Mutex<Caller<K>>,
+    caller: &Mutex<Operator<K>>,
     request: &mut Request<K>,
 )
     requires { 1 < length K.level.gate.shape.widths }
 {
-    caller.lock(rt).let_sleep(level);
+    let_sleep(level, &mut caller.lock(rt));
     assert_eq!(rt; sleepers.woken.load(Ordering::SeqCst), 0);
     match sleepers.call {
         Call::Dispatch => {
@@ -121,7 +136,7 @@ fn serve_both<K: Naming, R: Threads + Wait + Abort + Sync>(
     rt: &R,
     level: &Level<K>,
     sleepers: &Sleepers,
-    caller: &Mutex<Caller<K>>,
+    caller: &Mutex<Operator<K>>,
     requests: &mut [Request<K>],
 )
     requires { 1 < length K.level.gate.shape.widths }
@@ -141,7 +156,7 @@ fn serve<K: Naming, R: Wait + Abort>(
     rt: &R,
     level: &Level<K>,
     sleepers: &Sleepers,
-    caller: &Mutex<Caller<K>>,
+    caller: &Mutex<Operator<K>>,
     place: usize,
     request: &mut Request<K>,
 )
@@ -156,7 +171,7 @@ fn serve<K: Naming, R: Wait + Abort>(
 
 // The first request gave its seat back, and the sleeper runs.
 #[test]
-fn a_dispatch_wakes(rt: HostRuntime) -> Result<(), Fault> {
+fn a_dispatch_wakes(rt: HostRuntime) -> Result<(), OpenFault> {
     for _round in 0..20u32 {
         let sleepers = Sleepers::new(Call::Dispatch, Run);
         let before = Script::of(&[Begin(0, Run)]);
@@ -191,7 +206,7 @@ fn a_dispatch_wakes(rt: HostRuntime) -> Result<(), Fault> {
 
 // The first request still runs, and the sleeper is cancelled.
 #[test]
-fn a_cancel_wakes(rt: HostRuntime) -> Result<(), Fault> {
+fn a_cancel_wakes(rt: HostRuntime) -> Result<(), OpenFault> {
     for _round in 0..20u32 {
         let sleepers = Sleepers::new(Call::Cancel, Over(Decision::Cancelled));
         let before = Script::of(&[Begin(0, Run)]);

@@ -1,18 +1,19 @@
 //! Cancelled requests, struck by a Station, by whoever polls, and by a dispatch.
 
-use crate::opening::{Fault, ask, settings};
-use crate::requests::Answer::{Over, Released, Run, Tried, Waits};
+use crate::opening::{ask, settings};
 use crate::scripts::Step::{
     Admit, Begin, Cancel, Copy, Dispatch, Look, Poll, Read, Release, Strike, TryAdmit,
 };
 use crate::scripts::{Row, numbers, run_row};
 use apf_level::Counts;
 use apf_model::Event;
+use apf_session::Answer::{Over, Released, Run, Tried, Waits};
+use apf_session::OpenFault;
 use apf_words::Decision::{Cancelled, Execute};
 
 // Three requests of one seat each. The second is cancelled and struck while it waits.
 #[test]
-fn strike(rt: HostRuntime) -> Result<(), Fault> {
+fn strike(rt: HostRuntime) -> Result<(), OpenFault> {
     let row = Row {
         config: settings(1),
         asks: &[ask(1); 3],
@@ -67,7 +68,7 @@ fn strike(rt: HostRuntime) -> Result<(), Fault> {
 
 // The second request does not fit, and is cancelled. Once it is struck the third one fits, with no further call.
 #[test]
-fn a_strike_dispatches(rt: HostRuntime) -> Result<(), Fault> {
+fn a_strike_dispatches(rt: HostRuntime) -> Result<(), OpenFault> {
     let row = Row {
         config: settings(2),
         asks: &[ask(1), ask(2), ask(1)],
@@ -104,7 +105,7 @@ fn a_strike_dispatches(rt: HostRuntime) -> Result<(), Fault> {
 
 // The same, where the cancelled request reads its decision.
 #[test]
-fn a_poll_strikes_and_dispatches(rt: HostRuntime) -> Result<(), Fault> {
+fn a_poll_strikes_and_dispatches(rt: HostRuntime) -> Result<(), OpenFault> {
     let row = Row {
         config: settings(2),
         asks: &[ask(1), ask(2), ask(1)],
@@ -140,7 +141,7 @@ fn a_poll_strikes_and_dispatches(rt: HostRuntime) -> Result<(), Fault> {
 
 // A dispatch finds a cancelled head, strikes it, and goes on to the next one.
 #[test]
-fn a_dispatch_strikes(rt: HostRuntime) -> Result<(), Fault> {
+fn a_dispatch_strikes(rt: HostRuntime) -> Result<(), OpenFault> {
     let row = Row {
         config: settings(1),
         asks: &[ask(1); 3],
@@ -177,7 +178,7 @@ fn a_dispatch_strikes(rt: HostRuntime) -> Result<(), Fault> {
 
 // Requests that are cancelled before they arrive take no seats, and enter no queue.
 #[test]
-fn cancelled_before_they_arrive(rt: HostRuntime) -> Result<(), Fault> {
+fn cancelled_before_they_arrive(rt: HostRuntime) -> Result<(), OpenFault> {
     let row = Row {
         config: settings(1),
         asks: &[ask(1); 4],

@@ -3,12 +3,11 @@
 ghost use Rattle.std.specs.Prelude.{◌≡◌, length};
 
 use crate::crowds::Crowd;
-use crate::opening::{Fault, ask, settings};
-use crate::requests::{Answer, Request};
-use crate::rounds::{ENOUGH, MOST_ROUNDS, MOST_TURNS};
+use crate::opening::{ask, settings};
 use crate::scenes::{Scene, run};
-use crate::stand::Stand;
 use apf_level::{Level, Naming};
+use apf_rounds::{ENOUGH, MOST_LEVELS, MOST_TURNS};
+use apf_session::{Answer, OpenFault, Request, Session};
 use std::sync::atomic::{AtomicU64, Ordering};
 use std::thread;
 use std::thread::Threads;
@@ -39,8 +38,8 @@ impl Takers {
     }
 
     /// Each request takes its seats and gives them back, in four threads at most.
-    pub fn play<K: Naming, R: Threads + Sync>(&self, rt: &R, stand: &mut Stand<K>) {
-        serve_all(rt, &stand.level, self, stand.requests.as_mut_slice());
+    pub fn play<K: Naming, R: Threads + Sync>(&self, rt: &R, session: &mut Session<K>) {
+        serve_all(rt, &session.level, self, session.requests.as_mut_slice());
     }
 }
 
@@ -85,10 +84,10 @@ fn serve_all<K: Naming, R: Threads + Sync>(
 
 // At most two run at once, and two do. Some are told that there is no room. Nobody waits.
 #[test]
-fn four_threads_on_two_seats(rt: HostRuntime) -> Result<(), Fault> {
+fn four_threads_on_two_seats(rt: HostRuntime) -> Result<(), OpenFault> {
     let asks = vec![in rt.alloc(); ask(1); 4000]?;
     let mut is_seen = false;
-    for _round in 0..MOST_ROUNDS {
+    for _round in 0..MOST_LEVELS {
         let takers = Takers::new(1);
         let ended = run(
             &rt,
@@ -113,7 +112,7 @@ fn four_threads_on_two_seats(rt: HostRuntime) -> Result<(), Fault> {
 
 // Each of the two runs until the other runs too.
 #[test]
-fn two_run_at_once(rt: HostRuntime) -> Result<(), Fault> {
+fn two_run_at_once(rt: HostRuntime) -> Result<(), OpenFault> {
     for _round in 0..20u32 {
         let takers = Takers::new(2);
         let ended = run(

@@ -3,6 +3,7 @@
 use apf_book::Stats;
 use apf_gate::Close;
 use apf_model::Event;
+use apf_session::Answer as Called;
 use apf_words::{Decision, LevelWord};
 
 /// What one call answers. It is copied, so that it can be told after all calls.
@@ -34,4 +35,18 @@ pub enum Answer {
     Copied(u32, [Event; 4]),
     /// What the close found.
     Closed(Close),
+}
+
+impl From<Called> for Answer {
+    fn from(called: Called) -> Self {
+        match called {
+            Called::Run => Self::Run,
+            Called::Over(decision) => Self::Over(decision),
+            Called::Tried(decision, waiting) => Self::Tried(decision, waiting),
+            Called::Busy => Self::Busy,
+            Called::Waits => Self::Waits,
+            Called::Released(waiting) => Self::Released(waiting),
+            Called::Wrong => Self::Wrong,
+        }
+    }
 }

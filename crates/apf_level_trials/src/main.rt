@@ -1,20 +1,13 @@
 //! Two courses of a level that scripts judge, each by its word: `memory`, and `stress` with a seed and a number of
 //! requests. With no word both are made, the second one short.
 //!
-//! - `token`: what a request holds. `answers`: what a call answers.
-//! - `opening`: the gate of a level. `fault`: why there is no level.
-//! - `request`, `caller`: a request and a Station of the level that a type names.
+//! - `answers`: what a call answers.
 //! - `memory`: calls, one after another, while memory is refused. `stress`: many threads.
 #![tactic(auto)]
 
 mod answers;
-mod caller;
-mod fault;
 mod memory;
-mod opening;
-mod request;
 mod stress;
-mod token;
 
 use std::process::ExitCode;
 use std::sync::Wait;

@@ -6,13 +6,12 @@
 //!
 //! In the order of the data's way:
 //!
-//! - `four`: the requests. `calls`: the calls. `course`: the level from its opening to its end.
+//! - `calls`: the calls. `course`: the level from its opening to its end.
 
 mod calls;
 mod course;
-mod four;
 
-use crate::fault::Fault;
+use apf_session::OpenFault;
 use course::{Course, run};
 use std::io;
 use std::sync::Wait;
@@ -21,10 +20,10 @@ use std::sync::Wait;
 pub const NO_MEMORY: u8 = 3;
 
 // Tells what became of the level, and answers the program's status.
-fn tell(rt: &HostRuntime, told: Result<Course, Fault>) -> io::Result<u8> {
+fn tell(rt: &HostRuntime, told: Result<Course, OpenFault>) -> io::Result<u8> {
     let Course { answers, end } = match told {
         Ok(course) => course,
-        Err(Fault::NoMemory) => {
+        Err(OpenFault::NoMemory) => {
             eprintln!(rt; "out of memory")?;
             return Ok(NO_MEMORY);
         }
@@ -41,13 +40,9 @@ fn tell(rt: &HostRuntime, told: Result<Course, Fault>) -> io::Result<u8> {
             println!(rt; "{counts:?}")?;
             Ok(0)
         }
-        Err(Fault::NoMemory) => {
+        Err(_refused) => {
             eprintln!(rt; "out of memory at the end")?;
             Ok(NO_MEMORY)
-        }
-        Err(_) => {
-            eprintln!(rt; "a request did not arrive")?;
-            Ok(1)
         }
     }
 }

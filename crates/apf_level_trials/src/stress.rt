@@ -23,7 +23,7 @@ mod stage;
 mod telling;
 mod worker;
 
-use crate::fault::Fault;
+use apf_session::OpenFault;
 use course::run;
 use judged::judge;
 use std::io;
@@ -76,10 +76,14 @@ pub fn load<R: Threads + Wait + Sync>(
     let ran = run(runner, rt.alloc(), asked.seed, asked.requests);
     let judged = ran.and_then(|course| {
         let verdict = judge(rt.alloc(), &course, JUDGED)?;
-        Ok::<_, Fault>((course, verdict))
+        Ok::<_, OpenFault>((course, verdict))
     });
     match judged {
         Ok((course, verdict)) => {
+            let Some(verdict) = verdict else {
+                eprintln!(rt; "the log can't be judged")?;
+                return Ok(1);
+            };
             if asked.is_told {
                 tell(rt, &course)?;
             }

@@ -1,8 +1,8 @@
 //! Queues beside plain lists, with the history of what happened to them.
 
-use crate::checked::Checked;
 use crate::draws::Xorshift;
 use crate::slow::Slow;
+use apf_checked::Checked;
 use apf_model::Event;
 use apf_plain::{choice, names_queues, waiting};
 use apf_queue::Chosen;

@@ -9,13 +9,11 @@
 //! - `agreement`: many more for several numbers of queues, also compared with what `apf_plain`
 //!   computes of the history so far.
 //! - `levels`: queues beside plain lists, with their history. `slow`: the plain lists.
-//! - `checked`: calls of queues, made where their conditions are kept. `draws`: random numbers.
+//! - `draws`: random numbers.
 #![tactic(auto)]
 
 #[cfg(test)]
 mod agreement;
-#[cfg(test)]
-mod checked;
 #[cfg(test)]
 mod draws;
 #[cfg(test)]

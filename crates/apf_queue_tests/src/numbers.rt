@@ -5,7 +5,7 @@
 //! queues, one queue or both are emptied by strikes, which move no number, and a request of each width
 //! in turn is put there. R is told by a third queue, which was empty all the time and so starts at R.
 
-use crate::checked::Checked;
+use apf_checked::Checked;
 use apf_model::Event::{self, Dispatch, Enter, Strike};
 use apf_plain::{choice, names_queues, numbers_of, waiting};
 use apf_queue::{Chosen, Full};

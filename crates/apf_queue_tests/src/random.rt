@@ -1,8 +1,8 @@
 //! Many random calls, whose answers are compared with those of plain lists.
 
-use crate::checked::Checked;
 use crate::draws::Xorshift;
 use crate::slow::Slow;
+use apf_checked::Checked;
 use std::process::Abort;
 use std::test::Fail;
 

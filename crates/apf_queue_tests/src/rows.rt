@@ -1,6 +1,6 @@
 //! Worked rows of calls, and the shapes that are refused.
 
-use crate::checked::Checked;
+use apf_checked::Checked;
 use apf_queue::{Chosen, Full, QueueFault, Queues};
 use std::process::Abort;
 use std::test::Fail;

@@ -19,7 +19,7 @@ use Rattle.apf_model.specs.Outcome.{stats_of}
 use Rattle.apf_level.specs.declared.report.Report.{Report}
 use Rattle.apf_level.specs.Levels.{LevelId}
 use Rattle.apf_level.specs.Reports.{AreSums, Ended}
-use Rattle.apf_run.specs.Sessions.{asks_of}
+use Rattle.apf_run.specs.Asks.{asks_of}
 use Rattle.apf_run.specs.Plans.{IsNamed, SomeCloses, IsFaithful, closes_it, closes_at, AreOrders}
 use Rattle.apf_run.proofs.Limits.{limit_stays, made_within}
 use Rattle.apf_run.specs.Runs.{Returned, AreFinished, SeenClosed, HasRun, ledger_of}

@@ -1,14 +1,9 @@
 -- The workers of a run that were started.
-use Rattle.std.specs.Prelude.{◌≡◌, ℕ, ◌+◌, ◌<◌, List, [], ◌∷◌}
+use Rattle.std.specs.Prelude.{ℕ, ◌+◌, ◌<◌, List, [], ◌∷◌}
 use Rattle.std.specs.declared.thread.PromisedHandle.{PromisedHandle}
-use Rattle.apf_gate.specs.Tokens.{GateId, StationToken, station_gate}
 use Rattle.apf_run.specs.declared.crew.Share.{Share}
 use Rattle.apf_run.specs.declared.fault.RunFault.{RunFault}
 use Rattle.apf_run.specs.declared.fault.RunFault.TheVariants.{NoMemory, Worker, Gate, Level}
-
--- a Station of this gate, which made no step
-abbrev pub IsNew : GateId → StationToken → Type 0
-IsNew gate s = (station_gate s ≡ gate) × (s.station.knows.trace ≡ [])
 
 -- how many requests they bring to their ends
 abbrev pub expected : {T : Type 0} → List (PromisedHandle T Share) → ℕ

@@ -1,5 +1,5 @@
 pub use Rattle.apf_words.specs.Limits
-pub mod Sessions
+pub mod Asks
 pub mod Texts
 pub mod Services
 pub mod Plans

@@ -13,7 +13,7 @@ use Rattle.apf_book.specs.Opening.{opening_ledger}
 use Rattle.apf_book.specs.Laws.{IsMade}
 use Rattle.apf_level.specs.declared.report.Report.{Report}
 use Rattle.apf_level.specs.Reports.{AreSums}
-use Rattle.apf_run.specs.Sessions.{asks_of}
+use Rattle.apf_run.specs.Asks.{asks_of}
 use Rattle.apf_run.specs.Plans.{IsNamed, SomeCloses, IsFaithful, closes_at}
 
 -- the Passes and the Stations that came back

@@ -3,7 +3,8 @@
 ghost use Rattle.std.specs.Prelude.{◌≡◌, ◌+◌, ◌<◌, ◌≤◌, [], length, All, IfOk, IfErr, OnOk};
 ghost use Rattle.apf_words.specs.Limits.{max_stations};
 ghost use Rattle.apf_run.specs.Workers.{IsFresh, held};
-ghost use Rattle.apf_run.specs.Crews.{IsNew, expected, IsCrewFault};
+ghost use Rattle.apf_session.specs.Openings.{IsNew};
+ghost use Rattle.apf_run.specs.Crews.{expected, IsCrewFault};
 ghost use Rattle.apf_run.specs.declared.fault.RunFault.TheVariants as run;
 
 use crate::fault::RunFault;

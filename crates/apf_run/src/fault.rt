@@ -1,58 +1,18 @@
 //! Why a replay or a run came to nothing.
 
 ghost use Rattle.std.specs.Prelude.{◌≡◌};
-ghost use Rattle.apf_run.specs.declared.fault.ReplayFault.TheVariants as replay;
+ghost use Rattle.apf_session.specs.Openings.{told_of_level};
 ghost use Rattle.apf_run.specs.declared.fault.RunFault.TheVariants as run;
-ghost use Rattle.apf_run.specs.Faults.{told_of_gate, told_of_level, told_of_replay};
+ghost use Rattle.apf_run.specs.Faults.{told_of_replay};
 
 use apf_book::BookFault;
 use apf_gate::GateFault;
+use apf_session::OpenFault;
 use std::alloc::AllocError;
 use thiserror::Error;
 
-/// Why a script was not replayed.
-#[derive(Clone, Copy, Debug, PartialEq, Eq, Error)]
-pub enum ReplayFault {
-    /// The gate was not opened.
-    #[error("{0}")]
-    Gate(GateFault),
-    /// The level was not opened.
-    #[error("{0}")]
-    Level(BookFault),
-    /// Memory was refused.
-    #[error("out of memory")]
-    NoMemory,
-}
-
-impl From<GateFault> for ReplayFault {
-    ghost from_gives = { λ fault told. told ≡ told_of_gate fault };
-
-    fn from(fault: GateFault) -> Self {
-        match fault {
-            GateFault::NoMemory => Self::NoMemory,
-            _ => Self::Gate(fault),
-        }
-    }
-}
-
-impl From<BookFault> for ReplayFault {
-    ghost from_gives = { λ fault told. told ≡ told_of_level fault };
-
-    fn from(fault: BookFault) -> Self {
-        match fault {
-            BookFault::NoMemory => Self::NoMemory,
-            _ => Self::Level(fault),
-        }
-    }
-}
-
-impl From<AllocError> for ReplayFault {
-    ghost from_gives = { λ _ told. told ≡ replay.NoMemory };
-
-    fn from(_refused: AllocError) -> Self {
-        Self::NoMemory
-    }
-}
+/// Why a script was not replayed: why its level was not opened.
+pub type ReplayFault = OpenFault;
 
 /// Why requests were not run by workers.
 #[derive(Clone, Copy, Debug, PartialEq, Eq, Error)]

@@ -2,33 +2,27 @@
 //!
 //! - `fault`: why a replay or a run came to nothing.
 //! - `line`, `totals`, `services`, `waits`, `transcript`: what is told, and how it is written.
-//! - `opening`: opens the gate of a level. `token`: what a request holds.
-//! - `client`: a request with its token, and `caller` a Station, of the level that a type names. `clients`: all of
-//!   a level.
-//! - `record`: what a replay notes. `session`: a level with all its tokens in one thread.
+//! - `asks`: what a level asks of each request. `record`: what a replay notes. `recorder`: a level in one thread, and
+//!   what is noted of it.
 //! - `replaying`: replays a script.
 //! - `plan`: which level and which requests a run is of. `operator`: a worker's Station, and `worker` a worker with
 //!   its share of the requests. `crew`: all workers, dealt out, started and joined. `finished`: what they gave back.
 //! - `running`: runs requests by workers. `book`: writes what a run reports.
 #![tactic(auto)]
 
+mod asks;
 mod book;
-mod caller;
-mod client;
-mod clients;
 mod crew;
 mod fault;
 mod finished;
 mod line;
-mod opening;
 mod operator;
 mod plan;
 mod record;
+mod recorder;
 mod replaying;
 mod running;
 mod services;
-mod session;
-mod token;
 mod totals;
 mod transcript;
 mod waits;
@@ -46,7 +40,6 @@ pub use line::Line;
 pub use replaying::replay;
 pub use running::run;
 pub use services::Service;
-pub use token::Token;
 pub use totals::Totals;
 pub use transcript::{Transcript, WriteFault};
 pub use worker::Work;

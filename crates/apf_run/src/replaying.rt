@@ -1,16 +1,17 @@
 //! Replays a script.
 
 ghost use Rattle.std.specs.Prelude.{◌≡◌, IfErr, OnOk};
-ghost use Rattle.apf_gate.specs.Gauges.{IsShape};
-ghost use Rattle.apf_run.specs.Sessions.{level_of, asks_of};
-ghost use Rattle.apf_run.specs.Faults.{shape_for, CanOpen, IsReplayFault};
+ghost use Rattle.apf_session.specs.Openings.{level_of};
+ghost use Rattle.apf_run.specs.Asks.{asks_of};
+ghost use Rattle.apf_run.specs.Faults.{CanRun, IsReplayFault};
 
+use crate::asks::asks_of_requests;
 use crate::fault::ReplayFault;
-use crate::opening::{Opening, open_gate};
-use crate::session::Session;
+use crate::recorder::Recorder;
 use crate::transcript::Transcript;
 use apf_files::{Command, Config, Request};
 use apf_level::Naming;
+use apf_session::Opening;
 use std::alloc::{AllocError, Global};
 use std::marker::Brand;
 use std::sync::Wait;
@@ -35,33 +36,33 @@ pub fn replay<R: Wait>(
     requests: &[Request],
     commands: &[Command],
 ) -> Result<Transcript, ReplayFault>
-    ensures settings { OnOk result (CanOpen config.now requests.now 1) }
+    ensures settings { OnOk result (CanRun config.now requests.now 1) }
     ensures fault { IfErr result (IsReplayFault config.now requests.now 1) }
 {
-    let opening = open_gate(alloc, config, requests, 1)?;
+    let asks = asks_of_requests(alloc, requests)?;
+    let opening = Opening::new(alloc, config, asks.as_slice(), 1)?;
     replay_named::<Brand, R>(rt, alloc, opening, requests, commands)
 }
 
 fn replay_named<K: Naming, R: Wait>(
     rt: &R,
     alloc: Global,
-    opening: Opening,
+    opening: Opening<'_>,
     requests: &[Request],
     commands: &[Command],
 ) -> Result<Transcript, ReplayFault>
-    requires level { K.level ≡ level_of opening.gate opening.config opening.asks.items }
+    requires level { K.level ≡ level_of opening.gate opening.config opening.asks.now }
     requires one { opening.gate.shape.stations ≡ 1 }
-    requires asks { opening.asks.items ≡ asks_of requests.now }
-    requires is_shape { IsShape (shape_for opening.config requests.now 1) }
-    ensures settings { OnOk result (CanOpen opening.config requests.now 1) }
-    ensures fault { IfErr result (IsReplayFault opening.config requests.now 1) }
+    requires asks { opening.asks.now ≡ asks_of requests.now }
+    ensures settings { OnOk result (CanRun opening.entry.config requests.now 1) }
+    ensures fault { IfErr result (IsReplayFault opening.entry.config requests.now 1) }
 {
     let response = opening.config.limit_response;
-    let mut session = Session::<K>::open(rt, alloc, opening, commands.len())?;
-    let carried_out = carry_out_all(rt, &mut session, commands);
-    let totals = session.totals(rt);
-    let waits = session.waits(rt, alloc, response, requests);
-    let (record, ended) = session.end(rt, alloc);
+    let mut recorder = Recorder::<K>::open(rt, alloc, opening, commands.len())?;
+    let carried_out = carry_out_all(rt, &mut recorder, commands);
+    let totals = recorder.totals(rt);
+    let waits = recorder.waits(rt, alloc, response, requests);
+    let (record, ended) = recorder.end(rt, alloc);
     carried_out?;
     ended?;
     let waits = waits?;
@@ -77,11 +78,11 @@ fn replay_named<K: Naming, R: Wait>(
 // Carries out each command.
 fn carry_out_all<K: Naming, R: Wait>(
     rt: &R,
-    session: &mut Session<K>,
+    recorder: &mut Recorder<K>,
     commands: &[Command],
 ) -> Result<(), AllocError> {
     for command in commands {
-        session.carry_out(rt, *command)?;
+        recorder.carry_out(rt, *command)?;
     }
     Ok(())
 }

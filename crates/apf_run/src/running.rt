@@ -1,19 +1,20 @@
 //! Runs requests by workers.
 
 ghost use Rattle.std.specs.Prelude.{◌≡◌, ◌<◌, IfOk, IfErr, OnOk};
-ghost use Rattle.apf_gate.specs.Gauges.{IsShape};
+ghost use Rattle.apf_session.specs.Openings.{level_of};
+ghost use Rattle.apf_run.specs.Asks.{asks_of};
 ghost use Rattle.apf_run.specs.Runs.{HasRun};
-ghost use Rattle.apf_run.specs.Sessions.{level_of, asks_of};
-ghost use Rattle.apf_run.specs.Faults.{shape_for, CanOpen, IsRunFault};
+ghost use Rattle.apf_run.specs.Faults.{CanRun, IsRunFault};
 
+use crate::asks::asks_of_requests;
 use crate::crew::{deal_out, work_all};
 use crate::fault::RunFault;
 use crate::finished::Finished;
-use crate::opening::{Opening, open_gate};
 use crate::plan::Plan;
 use crate::worker::{Job, Work};
 use apf_files::{Config, Request};
 use apf_level::{Level, Opened, Report};
+use apf_session::Opening;
 use std::alloc::Global;
 use std::marker::Brand;
 use std::sync::Wait;
@@ -43,28 +44,28 @@ pub fn run<W: Work, R: Wait + Threads + Sync>(
 ) -> Result<Report, RunFault>
     requires some { 0 < workers }
     ensures told { IfOk result (HasRun config.now requests.now) }
-    ensures settings { OnOk result (CanOpen config.now requests.now workers) }
+    ensures settings { OnOk result (CanRun config.now requests.now workers) }
     ensures fault { IfErr result (IsRunFault config.now requests.now workers) }
 {
-    let opening = open_gate(alloc, config, requests, workers)?;
+    let asks = asks_of_requests(alloc, requests)?;
+    let opening = Opening::new(alloc, config, asks.as_slice(), workers)?;
     run_named::<Brand, W, R>(rt, alloc, opening, requests, work)
 }
 
 fn run_named<K: Plan, W: Work, R: Wait + Threads + Sync>(
     rt: &R,
     alloc: Global,
-    opening: Opening,
+    opening: Opening<'_>,
     requests: &[Request],
     work: &W,
 ) -> Result<Report, RunFault>
-    requires level { K.level ≡ level_of opening.gate opening.config opening.asks.items }
+    requires level { K.level ≡ level_of opening.gate opening.config opening.asks.now }
     requires plan { K.requests ≡ requests.now }
-    requires asks { opening.asks.items ≡ asks_of requests.now }
+    requires asks { opening.asks.now ≡ asks_of requests.now }
     requires some { 0 < opening.gate.shape.stations }
-    requires is_shape { IsShape (shape_for opening.config requests.now opening.gate.shape.stations) }
-    ensures told { IfOk result (HasRun opening.config requests.now) }
-    ensures settings { OnOk result (CanOpen opening.config requests.now opening.gate.shape.stations) }
-    ensures fault { IfErr result (IsRunFault opening.config requests.now opening.gate.shape.stations) }
+    ensures told { IfOk result (HasRun opening.entry.config requests.now) }
+    ensures settings { OnOk result (CanRun opening.entry.config requests.now opening.entry.gate.shape.stations) }
+    ensures fault { IfErr result (IsRunFault opening.entry.config requests.now opening.entry.gate.shape.stations) }
 {
     let Opening {
         config,
@@ -79,15 +80,7 @@ fn run_named<K: Plan, W: Work, R: Wait + Threads + Sync>(
         passes,
         stations,
         stats,
-    } = Level::<K>::open(
-        alloc,
-        &config,
-        asks.as_slice(),
-        gate,
-        desk,
-        passes,
-        stations,
-    )?;
+    } = Level::<K>::open(alloc, &config, asks, gate, desk, passes, stations)?;
     let finished = Finished::new(alloc, passes.len(), stations.len())?;
     let workers = deal_out(alloc, passes, stations)?;
     let job = Job::new(&level, requests, work);

@@ -5,12 +5,12 @@ ghost use Rattle.apf_gate.specs.Tokens.{pass_gate};
 ghost use Rattle.apf_run.specs.Plans.{AreOrders};
 ghost use Rattle.apf_run.specs.Workers.{IsFresh, SawClosed, IsLoadOf};
 
-use crate::client::release;
 use crate::operator::Operator;
 use crate::plan::Plan;
 use apf_files::Request;
 use apf_gate::{Pass, Station};
 use apf_level::{Admit, Done, Level, Running};
+use apf_session::release;
 use std::alloc::{AllocError, Global};
 use std::marker::Model;
 use std::sync::Wait;

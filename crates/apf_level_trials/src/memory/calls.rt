@@ -3,61 +3,45 @@
 ghost use Rattle.std.specs.Prelude.{◌≡◌, length};
 
 use crate::answers::Answer;
-use crate::caller::Caller;
-use crate::memory::four::Four;
-use apf_level::{Level, Naming, StatsPass};
+use apf_level::Naming;
 use apf_model::Event;
+use apf_session::Session;
 use std::sync::Wait;
 
 /// How many calls are made.
 pub const CALLS: usize = 19;
 
-// Reads the statistics.
-fn numbers<K: Naming, R: Wait>(rt: &R, level: &Level<K>, stats: &mut StatsPass) -> Answer
-    requires { stats.old.cell ≡ level.now.cell }
-    ensures { stats.new.cell ≡ stats.old.cell }
-{
-    Answer::Numbers(level.stats(rt, stats))
-}
-
 // Copies the log into room for four events.
-fn copied<K: Naming, R: Wait>(rt: &R, level: &Level<K>) -> Answer {
+fn copied<K: Naming, R: Wait>(rt: &R, session: &Session<K>) -> Answer {
     let mut into = [Event::Full(9, 9); 4];
-    let count = level.copy_events(rt, 0, &mut into);
+    let count = session.level.copy_events(rt, 0, &mut into);
     Answer::Copied(count, into)
 }
 
 /// Makes the calls on a level whose four requests did not arrive yet, and tells what they answered.
-pub fn make<K: Naming, R: Wait>(
-    rt: &R,
-    level: &Level<K>,
-    four: &mut Four<K>,
-    caller: &mut Caller<K>,
-    stats: &mut StatsPass,
-) -> [Answer; CALLS]
-    requires own { level.now.gate ≡ K.level.gate }
+pub fn make<K: Naming, R: Wait>(rt: &R, session: &mut Session<K>) -> [Answer; CALLS]
     requires requests { length K.level.gate.shape.widths ≡ 4 }
-    requires stats { stats.old.cell ≡ level.now.cell }
+    requires one { K.level.gate.shape.stations ≡ 1 }
 {
     [
-        four.first.try_admit(level),
-        four.second.begin(rt, level),
-        four.third.begin(rt, level),
-        four.second.poll(rt, level),
-        Answer::Over(caller.cancel(level, 1)),
-        Answer::Word(caller.look(level)),
-        Answer::Struck(level.strike(rt, 1)),
-        Answer::Word(caller.look(level)),
-        numbers(rt, level, stats),
-        copied(rt, level),
-        four.first.release(level),
-        Answer::Dispatched(level.dispatch(rt)),
-        numbers(rt, level, stats),
-        four.second.poll(rt, level),
-        four.third.poll(rt, level),
-        four.third.release(level),
-        four.fourth.admit(rt, level),
-        four.fourth.release(level),
-        Answer::Closed(caller.close(level)),
+        session.requests[0].try_admit(&session.level).into(),
+        session.begin(rt, 1).into(),
+        session.begin(rt, 2).into(),
+        session.poll(rt, 1).into(),
+        Answer::Over(session.operators[0].cancel(&session.level, 1)),
+        Answer::Word(session.look()),
+        Answer::Struck(session.level.strike(rt, 1)),
+        Answer::Word(session.look()),
+        Answer::Numbers(session.stats(rt)),
+        copied(rt, session),
+        session.requests[0].release(&session.level).into(),
+        Answer::Dispatched(session.level.dispatch(rt)),
+        Answer::Numbers(session.stats(rt)),
+        session.poll(rt, 1).into(),
+        session.poll(rt, 2).into(),
+        session.requests[2].release(&session.level).into(),
+        session.requests[3].admit(rt, &session.level).into(),
+        session.requests[3].release(&session.level).into(),
+        Answer::Closed(session.close()),
     ]
 }

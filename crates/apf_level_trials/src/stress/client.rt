@@ -1,14 +1,13 @@
 //! A request with what its caller was told.
 
-ghost use Rattle.std.specs.Prelude.{◌≡◌, ◌<◌, length, IfSome};
+ghost use Rattle.std.specs.Prelude.{◌≡◌, ◌<◌, length};
 ghost use Rattle.apf_gate.specs.declared.record.State.TheVariants.{Fresh};
 ghost use Rattle.apf_gate.specs.Tokens.{pass_gate};
 
-use crate::answers::Answer;
-use crate::request::{Place, Request};
 use crate::stress::note::Note;
 use apf_gate::Pass;
 use apf_level::{Done, Level, Naming};
+use apf_session::{Answer, Place, Request};
 use apf_words::Decision;
 use std::sync::Wait;
 
@@ -96,23 +95,14 @@ impl<K: Naming> Client<K> {
 
     /// Gives its seats back, if it executes, and dispatches where requests wait.
     pub fn release<R: Wait>(&mut self, rt: &R, level: &Level<K>) {
-        if let Answer::Released(true) = self.request.release(level) {
-            level.dispatch(rt);
-        }
+        self.request.finish(rt, level);
     }
 
-    /// Brings it to its end: arrives if it did not, waits until it is decided, and gives its seats back. There is
-    /// nothing left of it if a call has its token.
-    pub fn finish<R: Wait>(self, rt: &R, level: &Level<K>) -> Option<Done>
-        ensures { IfSome result (λ done. pass_gate done ≡ K.level.gate) }
+    /// Brings it to its end: arrives if it did not, waits until it is decided, and gives its seats back.
+    pub fn end<R: Wait>(self, rt: &R, level: &Level<K>) -> Done
+        ensures { pass_gate result ≡ K.level.gate }
     {
-        let Client {
-            mut request,
-            note: _,
-        } = self;
-        if request.place() == Place::Away {
-            request.admit(rt, level);
-        }
-        request.finish(rt, level)
+        let Client { request, note: _ } = self;
+        request.end(rt, level)
     }
 }

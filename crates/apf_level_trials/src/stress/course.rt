@@ -1,10 +1,8 @@
 //! A level of a seed, from its opening to its end.
 
 ghost use Rattle.std.specs.Prelude.{◌≡◌, length};
-ghost use Rattle.apf_level_trials.specs.Tokens.{level_of};
+ghost use Rattle.apf_session.specs.Openings.{level_of};
 
-use crate::fault::Fault;
-use crate::opening::{Opening, open_gate};
 use crate::stress::crew::{Gathered, closing, deal_out, gather, work_all};
 use crate::stress::note::{Act, Note};
 use crate::stress::settings::{THREADS, asks, settings};
@@ -12,6 +10,7 @@ use crate::stress::stage::Stage;
 use crate::stress::worker::Worker;
 use apf_book::{Ask, Config, Stats};
 use apf_level::{Level, Naming, Opened, Report};
+use apf_session::{OpenFault, Opening};
 use std::alloc::Global;
 use std::marker::Brand;
 use std::sync::Wait;
@@ -61,7 +60,7 @@ fn run_named<K: Naming, R: Threads + Wait + Sync>(
     alloc: Global,
     seed: u64,
     opening: Opening<'_>,
-) -> Result<Told, Fault>
+) -> Result<Told, OpenFault>
     requires { K.level ≡ level_of opening.gate opening.config opening.asks.now }
 {
     let Opening {
@@ -91,7 +90,7 @@ fn run_named<K: Naming, R: Threads + Wait + Sync>(
     } = gather(alloc, requests, workers)?;
     let read = level.stats(rt, &mut stats);
     if dones.len() != requests || stations.len() != callers {
-        return Err(Fault::NoMemory);
+        return Err(OpenFault::NoMemory);
     }
     let report = level.end(alloc, dones, stations, stats)?;
     Ok(Told {
@@ -113,10 +112,10 @@ pub fn run<R: Threads + Wait + Sync>(
     alloc: Global,
     seed: u64,
     count: u32,
-) -> Result<Course, Fault> {
+) -> Result<Course, OpenFault> {
     let config = settings();
     let asks = asks(alloc, seed, count)?;
-    let opening = open_gate(alloc, config, asks.as_slice(), THREADS)?;
+    let opening = Opening::new(alloc, &config, asks.as_slice(), THREADS)?;
     let told = run_named::<Brand, R>(rt, alloc, seed, opening)?;
     Ok(Course { config, asks, told })
 }

@@ -4,7 +4,6 @@ ghost use Rattle.std.specs.Prelude.{◌≡◌, ◌<◌, [], length, All, IfOk};
 ghost use Rattle.apf_gate.specs.declared.record.State.TheVariants.{Fresh};
 ghost use Rattle.apf_gate.specs.Tokens.{pass_gate, station_gate};
 
-use crate::caller::Caller;
 use crate::stress::note::{Act, Note};
 use crate::stress::random::Random;
 use crate::stress::settings::THREADS;
@@ -12,6 +11,7 @@ use crate::stress::stage::Stage;
 use crate::stress::worker::Worker;
 use apf_gate::{Pass, Station};
 use apf_level::{Done, Naming};
+use apf_session::Operator;
 use std::alloc::{AllocError, Global};
 use std::marker::PhantomData;
 use std::sync::Wait;
@@ -60,7 +60,7 @@ fn idle<K: Naming>(
     while let Some(station) = stations.pop() {
         let thread = workers.len() as u64;
         let random = Random::new(seed, thread.saturating_add(1));
-        workers.push(Worker::new(alloc, Caller::new(station), random))?;
+        workers.push(Worker::new(alloc, Operator::new(station), random))?;
     }
     Ok(workers)
 }

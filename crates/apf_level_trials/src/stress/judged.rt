@@ -2,7 +2,6 @@
 
 ghost use Rattle.std.specs.Prelude.{◌<◌, ◌≤◌, ◌^◌, length};
 
-use crate::fault::Fault;
 use crate::stress::course::Course;
 use apf_book::Ask;
 use apf_flow::Dealer;
@@ -141,12 +140,12 @@ fn adds_up(alloc: Global, report: &Report, requests: usize) -> Result<bool, Allo
     Ok(sum == requests as u64)
 }
 
-/// What the plain program says of the level, by so many of its oldest events.
+/// What the plain program says of the level, by so many of its oldest events, or `None` if it can't judge them.
 ///
 /// # Errors
 ///
-/// `NoMemory` if memory was refused.
-pub fn judge(alloc: Global, course: &Course, most: usize) -> Result<Verdict, Fault> {
+/// `AllocError` if memory was refused.
+pub fn judge(alloc: Global, course: &Course, most: usize) -> Result<Option<Verdict>, AllocError> {
     let config = &course.config;
     let report = &course.told.report;
     let history = oldest(alloc, report.log.as_slice(), most)?;
@@ -154,7 +153,7 @@ pub fn judge(alloc: Global, course: &Course, most: usize) -> Result<Verdict, Fau
     let widths: Vec<u32> = course.asks.iter().map(|ask| ask.width).collect(alloc)?;
     let widths = widths.as_slice();
     let Ok(dealer) = Dealer::new(config.queues, config.hand_size) else {
-        return Err(Fault::BadSettings);
+        return Ok(None);
     };
     let hands = hands_of(alloc, &dealer, course.asks.as_slice())?;
     let decisions = decisions_of(alloc, report, most)?;
@@ -169,9 +168,9 @@ pub fn judge(alloc: Global, course: &Course, most: usize) -> Result<Verdict, Fau
         || !names_queues(config.queues, history)
         || !names_requests(widths.len() as u32, history)
     {
-        return Err(Fault::BadSettings);
+        return Ok(None);
     }
-    Ok(Verdict {
+    Ok(Some(Verdict {
         is_fair: is_fair(
             alloc,
             config.queues,
@@ -185,5 +184,5 @@ pub fn judge(alloc: Global, course: &Course, most: usize) -> Result<Verdict, Fau
             && executes_arrivals(history, decisions.as_slice(), took.as_slice()),
         is_balanced: is_balanced(alloc, config.queues, widths, history)?,
         adds_up: adds_up(alloc, report, course.asks.len())?,
-    })
+    }))
 }

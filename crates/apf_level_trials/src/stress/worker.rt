@@ -4,15 +4,14 @@ ghost use Rattle.std.specs.Prelude.{◌≡◌, ◌<◌, ◌≤◌, length, All, 
 ghost use Rattle.apf_gate.specs.declared.record.State.TheVariants.{Fresh};
 ghost use Rattle.apf_gate.specs.Tokens.{pass_gate, station_gate};
 
-use crate::caller::Caller;
-use crate::request::Place;
 use crate::stress::client::Client;
 use crate::stress::note::{Act, Note};
 use crate::stress::random::Random;
 use crate::stress::settings::{LEAST_LIMIT, MOST_LIMIT, THREADS};
 use crate::stress::stage::Stage;
-use apf_gate::{Pass, Station};
+use apf_gate::{Pass, Station, TrySetLimit};
 use apf_level::{Done, Naming};
+use apf_session::{Operator, Place};
 use std::alloc::{AllocError, Global};
 use std::sync::Wait;
 use std::thread;
@@ -34,7 +33,7 @@ pub struct Worker<K: Naming> {
     // What the callers of its requests were told, each with the request's number.
     notes: Vec<(u32, Note)>,
     acts: Vec<Act>,
-    caller: Caller<K>,
+    operator: Operator<K>,
     random: Random,
     ghost passes_are: { All (λ t. (pass_gate t ≡ K.level.gate) × (t.pass.state ≡ Fresh)) passes.items },
     ghost dones_are: { All (λ t. pass_gate t ≡ K.level.gate) dones.items },
@@ -53,13 +52,13 @@ fn limit(random: &mut Random) -> u32
 
 impl<K: Naming> Worker<K> {
     /// A thread without requests.
-    pub fn new(alloc: Global, caller: Caller<K>, random: Random) -> Worker<K> {
+    pub fn new(alloc: Global, operator: Operator<K>, random: Random) -> Worker<K> {
         Worker {
             passes: Vec::new(alloc),
             dones: Vec::new(alloc),
             notes: Vec::new(alloc),
             acts: Vec::new(alloc),
-            caller,
+            operator,
             random,
         }
     }
@@ -108,10 +107,26 @@ impl<K: Naming> Worker<K> {
         let Some(request) = self.whom(stage, window) else {
             return;
         };
-        let decision = self.caller.cancel(stage.level, request);
+        let decision = self.operator.cancel(stage.level, request);
         self.note(Act::Cancel(request, decision));
         if self.random.is_one_in(2) && stage.level.strike(rt, request) {
             self.note(Act::Strike(request));
+        }
+    }
+
+    // Tries to set the limit, and dispatches where requests waited then. Answers the old one, if it was set.
+    fn try_limit<R: Wait>(&mut self, rt: &R, stage: &Stage<'_, K>, limit: u32) -> Option<u32>
+        requires some { 1 ≤ limit }
+        requires small { limit ≤ 6 }
+    {
+        match self.operator.try_set_limit(stage.level, limit) {
+            TrySetLimit::Set(old, waiting) => {
+                if waiting {
+                    stage.level.dispatch(rt);
+                }
+                Some(old)
+            }
+            TrySetLimit::Raced => None,
         }
     }
 
@@ -119,9 +134,9 @@ impl<K: Naming> Worker<K> {
     fn set_limit<R: Wait>(&mut self, rt: &R, stage: &Stage<'_, K>) {
         let limit = limit(&mut self.random);
         let old = if self.random.is_one_in(2) {
-            Some(self.caller.set_limit(rt, stage.level, limit))
+            Some(self.operator.set_limit(rt, stage.level, limit))
         } else {
-            self.caller.try_set_limit(rt, stage.level, limit)
+            self.try_limit(rt, stage, limit)
         };
         if let Some(old) = old {
             self.note(Act::Limit(old, limit));
@@ -129,7 +144,7 @@ impl<K: Naming> Worker<K> {
     }
 
     fn close(&mut self, stage: &Stage<'_, K>) {
-        let told = self.caller.close(stage.level);
+        let told = self.operator.close(stage.level);
         stage.note_close();
         self.note(Act::Close(told));
     }
@@ -219,9 +234,7 @@ impl<K: Naming> Worker<K> {
         let note = request.note();
         let _ = self.notes.push((number, note));
         // one that finds no memory is missed at the end of the level
-        if let Some(done) = request.finish(rt, stage.level) {
-            let _ = self.dones.push(done);
-        }
+        let _ = self.dones.push(request.end(rt, stage.level));
     }
 
     // Whether its next request arrives now, beside so many: by turns many are on their way at once, or one after a
@@ -307,9 +320,9 @@ impl<K: Naming> Worker<K> {
             dones,
             notes,
             acts,
-            caller,
+            operator,
             random: _,
         } = self;
-        (caller.into_station(), dones, notes, acts)
+        (operator.into_station(), dones, notes, acts)
     }
 }

@@ -1,5 +1,5 @@
 -- The gate that was opened is the level's, and the costs are.
-use Rattle.apf_level_tests.specs.Stands.{level_with}
+use Rattle.apf_session.specs.Openings.{level_with}
 use Rattle.apf_level_tests.proofs.costs.play.Given as goal
 
 abbrev pub ghosts-play_named : goal.ghosts-play_named

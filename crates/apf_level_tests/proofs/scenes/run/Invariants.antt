@@ -1,5 +1,5 @@
 -- The gate that was opened is the level's.
-use Rattle.apf_level_tests.specs.Stands.{level_of}
+use Rattle.apf_session.specs.Openings.{level_of}
 use Rattle.apf_level_tests.proofs.scenes.run.Given as goal
 
 abbrev pub ghosts-play_named : goal.ghosts-play_named

@@ -4,7 +4,7 @@ use Rattle.std.proofs.lemmas.List.{length_push}
 use Rattle.std.proofs.lemmas.List.Elements.{All-rest, All-push}
 use Rattle.apf_gate.specs.Tokens.{StationToken}
 use Rattle.apf_run.specs.Workers.{Load}
-use Rattle.apf_run.specs.Crews.{IsNew}
+use Rattle.apf_session.specs.Openings.{IsNew}
 use Rattle.apf_run.proofs.crew.idle.Goals as goal
 
 pub loop-station-preserved : goal.loop-station-preserved

@@ -1,7 +1,7 @@
 -- The workers so far have nothing, and there are as many as Stations that are gone.
 use Rattle.std.proofs.Common.{◌≡◌, ◌+◌, [], length, All}
 use Rattle.std.specs.Vec.Iter.{into_iter_items}
-use Rattle.apf_run.specs.Crews.{IsNew}
+use Rattle.apf_session.specs.Openings.{IsNew}
 use Rattle.apf_run.specs.Workers.{Load}
 use Rattle.apf_run.proofs.crew.idle.Given as goal
 

@@ -1,5 +1,5 @@
 -- The gate that was opened is the level's.
-use Rattle.apf_level_trials.specs.Tokens.{level_of}
+use Rattle.apf_session.specs.Openings.{level_of}
 use Rattle.apf_level_trials.proofs.memory.course.run.Given as goal
 
 abbrev pub ghosts-run_named : goal.ghosts-run_named

@@ -1,0 +1,4 @@
+pub use Rattle.apf_words.specs.Limits
+pub mod Openings
+pub mod Requests
+pub mod Ends

@@ -1,0 +1,95 @@
+-- What a request of a level holds, and what the answer of a call says of it.
+use Rattle.std.specs.Prelude.{◌≡◌, ◌≢◌, ℕ, ◌<◌, List, length, slice_index_or, All, Some}
+use Rattle.apf_words.specs.declared.decision.Decision.{Decision}
+use Rattle.apf_words.specs.declared.decision.Decision.TheVariants.{Execute}
+use Rattle.apf_gate.specs.declared.record.State.TheVariants.{Fresh}
+use Rattle.apf_gate.specs.Records.{told_own}
+use Rattle.apf_gate.specs.Tokens.{PassToken, pass_gate}
+use Rattle.apf_level.specs.Levels.{LevelId}
+use Rattle.apf_session.specs.declared.token.Token.{Token}
+use Rattle.apf_session.specs.declared.token.Token.TheVariants as tokens
+use Rattle.apf_session.specs.declared.answer.Answer.{Answer}
+use Rattle.apf_session.specs.declared.answer.Answer.TheVariants as answers
+use Rattle.apf_session.specs.declared.answer.Place.{Place}
+use Rattle.apf_session.specs.declared.answer.Place.TheVariants as places
+
+-- the Pass is this level's, and its request this one
+abbrev pub IsPassOf : LevelId → ℕ → PassToken → Type 0
+IsPassOf k number pass = (pass_gate pass ≡ k.gate) × (pass.pass.number ≡ number)
+
+-- there is a token of this request of the level, and it is fresh if it says so
+abbrev pub IsTokenOf : LevelId → ℕ → Token → Type 0
+IsTokenOf k number (tokens.Fresh pass) = IsPassOf k number pass × (pass.pass.state ≡ Fresh)
+IsTokenOf k number (tokens.Waiting pass) = IsPassOf k number pass
+IsTokenOf k number (tokens.Running pass) = IsPassOf k number pass
+IsTokenOf k number (tokens.Done pass) = IsPassOf k number pass
+IsTokenOf k number tokens.Gone = ⊥
+
+-- a request, as contracts see it: its number, and what it holds
+pub record RequestView : Type 0 where
+  pub number : ℕ
+  pub token : Token
+
+-- the request is one of the level's, and holds a token of its own
+pub record IsRequestOf (k : LevelId) (r : RequestView) : Type 0 where
+  pub own : IsTokenOf k r.number r.token
+  pub inside : r.number < length k.gate.shape.widths
+
+-- where the request is
+abbrev pub place_of : Token → Place
+place_of (tokens.Fresh pass) = places.Away
+place_of (tokens.Waiting pass) = places.Waits
+place_of (tokens.Running pass) = places.Runs
+place_of (tokens.Done pass) = places.Over
+place_of tokens.Gone = places.Over
+
+-- it executes, and was told so
+abbrev pub IsToldRun : Token → Type 0
+IsToldRun (tokens.Fresh pass) = ⊥
+IsToldRun (tokens.Waiting pass) = ⊥
+IsToldRun (tokens.Running pass) = told_own pass.pass ≡ Some Execute
+IsToldRun (tokens.Done pass) = ⊥
+IsToldRun tokens.Gone = ⊥
+
+-- it is over, and was told this decision
+abbrev pub IsToldOver : Decision → Token → Type 0
+IsToldOver decision (tokens.Fresh pass) = ⊥
+IsToldOver decision (tokens.Waiting pass) = ⊥
+IsToldOver decision (tokens.Running pass) = ⊥
+IsToldOver decision (tokens.Done pass) = told_own pass.pass ≡ Some decision
+IsToldOver decision tokens.Gone = ⊥
+
+-- what the answer says of the request, which holds this token now. That of a call which did nothing says nothing
+abbrev pub Says : Answer → Token → Type 0
+Says answers.Run token = IsToldRun token
+Says (answers.Over decision) token = IsToldOver decision token × (decision ≢ Execute)
+Says (answers.Tried decision waiting) token = IsToldOver decision token × (decision ≢ Execute)
+Says answers.Busy token = place_of token ≡ places.Away
+Says answers.Waits token = place_of token ≡ places.Waits
+Says (answers.Released waiting) token = IsToldOver Execute token
+Says answers.Wrong token = Unit {0}
+
+-- a call of a request that is at this place, and else answers that it is wrong here and changes nothing
+pub record Answers (place : Place) (old : RequestView) (answer : Answer) (new : RequestView) : Type 0 where
+  pub same : new.number ≡ old.number
+  pub says : Says answer new.token
+  pub right : place_of old.token ≡ place → answer ≢ answers.Wrong
+  pub wrong : place_of old.token ≢ place → (answer ≡ answers.Wrong) × (new ≡ old)
+
+-- a call of one of these requests, which leaves the others as they are
+pub record CallsOne (place : Place) (request : ℕ) (old : List RequestView) (answer : Answer) (new : List RequestView) : Type 0 where
+  pub count : length new ≡ length old
+  pub one : (d : RequestView) → Answers place (slice_index_or old request d) answer (slice_index_or new request d)
+  pub others : (i : ℕ) (d : RequestView) → i ≢ request → slice_index_or new i d ≡ slice_index_or old i d
+
+-- each request's number is its place
+abbrev pub AreNumbered : List RequestView → Type 0
+AreNumbered requests = (i : ℕ) (d : RequestView) → i < length requests → (slice_index_or requests i d).number ≡ i
+
+-- each Pass's number is its place
+abbrev pub ArePassesNumbered : List PassToken → Type 0
+ArePassesNumbered passes = (i : ℕ) (d : PassToken) → i < length passes → (slice_index_or passes i d).pass.number ≡ i
+
+-- none of the requests arrived
+abbrev pub AreAway : List RequestView → Type 0
+AreAway requests = All (λ (r : RequestView). place_of r.token ≡ places.Away) requests

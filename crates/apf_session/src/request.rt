@@ -1,0 +1,253 @@
+//! One request of a level, from its arrival to its end.
+
+ghost use Rattle.std.specs.Prelude.{◌≡◌, ◌<◌, length};
+ghost use Rattle.apf_gate.specs.declared.record.State.TheVariants as states;
+ghost use Rattle.apf_gate.specs.Tokens.{pass_gate};
+ghost use Rattle.apf_session.specs.declared.answer.Place.TheVariants as places;
+ghost use Rattle.apf_session.specs.declared.token.Token.TheVariants as tokens;
+ghost use Rattle.apf_session.specs.Requests.{place_of, Answers};
+
+use crate::answer::{Answer, Place};
+use crate::token::Token;
+use apf_gate::Pass;
+use apf_level::{Admit, Begin, Done, Level, Naming, Poll, Running, TryAdmit, Waiting};
+use std::marker::{Model, PhantomData};
+use std::mem;
+use std::sync::Wait;
+
+/// A request of the level that K names. It must be spent, by `end`.
+pub struct Request<K: Naming> {
+    token: Token,
+    number: u32,
+    of: PhantomData<K>,
+}
+
+impl<K: Naming> Model for Request<K> {
+    ghost use Rattle.apf_session.specs.Requests.{RequestView, IsRequestOf};
+
+    ghost Value = { RequestView };
+
+    ghost view = { λ r. record { number = r.number; token = r.token } };
+
+    ghost invariant = { λ r. IsRequestOf K.level (record { number = r.number; token = r.token }) };
+}
+
+// Takes the token, in whose place there is none then.
+fn take(place: &mut Token) -> Token
+    ensures token { result ≡ place.old }
+    ensures gone { place.new ≡ tokens.Gone }
+{
+    mem::replace(place, Token::Gone)
+}
+
+// Puts a token where there is none, and answers so.
+fn put(place: &mut Token, token: Token, answer: Answer) -> Answer
+    requires { place.old ≡ tokens.Gone }
+    ensures token { place.new ≡ token }
+    ensures answer { result ≡ answer }
+{
+    match mem::replace(place, token) {
+        Token::Gone => answer,
+        _token => unreachable!(),
+    }
+}
+
+/// Gives the seats back, and dispatches if requests wait.
+pub fn release<K: Naming, R: Wait>(rt: &R, level: &Level<K>, running: Running) -> Done
+    requires { pass_gate running ≡ K.level.gate }
+    ensures own { pass_gate result ≡ K.level.gate }
+    ensures same { result.pass.number ≡ running.pass.number }
+{
+    let (done, waiting) = level.release(running);
+    if waiting {
+        level.dispatch(rt);
+    }
+    done
+}
+
+// Waits until the request is decided, and gives its seats back.
+fn wait<K: Naming, R: Wait>(rt: &R, level: &Level<K>, mut waiting: Waiting) -> Done
+    requires { pass_gate waiting ≡ K.level.gate }
+    ensures own { pass_gate result ≡ K.level.gate }
+    ensures same { result.pass.number ≡ waiting.pass.number }
+{
+    for _ in rt.forever() {
+        waiting = match level.poll(rt, waiting) {
+            Poll::Run(running) => return release(rt, level, running),
+            Poll::Over(done, _decision) => return done,
+            Poll::Still(waiting) => waiting,
+        };
+    }
+    unreachable!()
+}
+
+impl<K: Naming> Request<K> {
+    /// A request that did not arrive yet.
+    pub fn new(pass: Pass) -> Request<K>
+        requires own { pass_gate pass ≡ K.level.gate }
+        requires fresh { pass.pass.state ≡ states.Fresh }
+        ensures number { result.number ≡ pass.pass.number }
+        ensures away { place_of result.token ≡ places.Away }
+    {
+        let number = pass.number();
+        Request {
+            token: Token::Fresh(pass),
+            number,
+            of: PhantomData,
+        }
+    }
+
+    /// The request's number, from 0.
+    pub fn number(&self) -> u32
+        ensures number { result ≡ self.now.number }
+        ensures inside { result < length K.level.gate.shape.widths }
+    {
+        self.number
+    }
+
+    /// Where it is on its way.
+    pub fn place(&self) -> Place
+        ensures { result ≡ place_of self.now.token }
+    {
+        match self.token {
+            Token::Fresh(_) => Place::Away,
+            Token::Waiting(_) => Place::Waits,
+            Token::Running(_) => Place::Runs,
+            Token::Done(_) | Token::Gone => Place::Over,
+        }
+    }
+
+    /// Admits it, if nobody waits and it fits. It takes no lock. Answers `Run`, `Tried` or `Busy`.
+    pub fn try_admit(&mut self, level: &Level<K>) -> Answer
+        ensures { Answers places.Away self.old result self.new }
+    {
+        match take(&mut self.token) {
+            Token::Fresh(pass) => match level.try_admit(pass) {
+                TryAdmit::Run(running) => put(
+                    &mut self.token,
+                    Token::Running(running),
+                    Answer::Run,
+                ),
+                TryAdmit::Over(done, decision, waiting) => put(
+                    &mut self.token,
+                    Token::Done(done),
+                    Answer::Tried(decision, waiting),
+                ),
+                TryAdmit::Busy(pass) => put(&mut self.token, Token::Fresh(pass), Answer::Busy),
+            },
+            token => put(&mut self.token, token, Answer::Wrong),
+        }
+    }
+
+    /// It arrives: it takes its seats, or enters a queue, or is decided otherwise. Answers `Run`, `Waits` or `Over`.
+    pub fn begin<R: Wait>(&mut self, rt: &R, level: &Level<K>) -> Answer
+        ensures { Answers places.Away self.old result self.new }
+    {
+        match take(&mut self.token) {
+            Token::Fresh(pass) => match level.begin(rt, pass) {
+                Begin::Run(running) => put(&mut self.token, Token::Running(running), Answer::Run),
+                Begin::Over(done, decision) => put(
+                    &mut self.token,
+                    Token::Done(done),
+                    Answer::Over(decision),
+                ),
+                Begin::Waiting(waiting) => put(
+                    &mut self.token,
+                    Token::Waiting(waiting),
+                    Answer::Waits,
+                ),
+            },
+            token => put(&mut self.token, token, Answer::Wrong),
+        }
+    }
+
+    /// It arrives, and its caller sleeps until it is decided. Answers `Run` or `Over`.
+    pub fn admit<R: Wait>(&mut self, rt: &R, level: &Level<K>) -> Answer
+        ensures { Answers places.Away self.old result self.new }
+    {
+        match take(&mut self.token) {
+            Token::Fresh(pass) => match level.admit(rt, pass) {
+                Admit::Run(running) => put(&mut self.token, Token::Running(running), Answer::Run),
+                Admit::Over(done, decision) => put(
+                    &mut self.token,
+                    Token::Done(done),
+                    Answer::Over(decision),
+                ),
+            },
+            token => put(&mut self.token, token, Answer::Wrong),
+        }
+    }
+
+    /// Reads the decision of a request that waits. One that is cancelled is struck. Answers `Run`, `Waits` or `Over`.
+    pub fn poll<R: Wait>(&mut self, rt: &R, level: &Level<K>) -> Answer
+        ensures { Answers places.Waits self.old result self.new }
+    {
+        match take(&mut self.token) {
+            Token::Waiting(waiting) => match level.poll(rt, waiting) {
+                Poll::Run(running) => put(&mut self.token, Token::Running(running), Answer::Run),
+                Poll::Over(done, decision) => put(
+                    &mut self.token,
+                    Token::Done(done),
+                    Answer::Over(decision),
+                ),
+                Poll::Still(waiting) => put(
+                    &mut self.token,
+                    Token::Waiting(waiting),
+                    Answer::Waits,
+                ),
+            },
+            token => put(&mut self.token, token, Answer::Wrong),
+        }
+    }
+
+    /// A request that executes gives its seats back, by one step. Answers `Released`.
+    pub fn release(&mut self, level: &Level<K>) -> Answer
+        ensures { Answers places.Runs self.old result self.new }
+    {
+        match take(&mut self.token) {
+            Token::Running(running) => {
+                let (done, waiting) = level.release(running);
+                put(
+                    &mut self.token,
+                    Token::Done(done),
+                    Answer::Released(waiting),
+                )
+            }
+            token => put(&mut self.token, token, Answer::Wrong),
+        }
+    }
+
+    /// A request that executes gives its seats back. Then requests that wait are dispatched. Answers `Released`.
+    pub fn finish<R: Wait>(&mut self, rt: &R, level: &Level<K>) -> Answer
+        ensures { Answers places.Runs self.old result self.new }
+    {
+        let answer = self.release(level);
+        if answer == Answer::Released(true) {
+            level.dispatch(rt);
+        }
+        answer
+    }
+
+    /// Brings it to its end: it arrives if it did not, its caller waits until it is decided, and it gives its seats
+    /// back. Then requests that wait are dispatched.
+    pub fn end<R: Wait>(self, rt: &R, level: &Level<K>) -> Done
+        ensures own { pass_gate result ≡ K.level.gate }
+        ensures number { result.pass.number ≡ self.number }
+    {
+        let Request {
+            token,
+            number: _,
+            of: _,
+        } = self;
+        match token {
+            Token::Fresh(pass) => match level.admit(rt, pass) {
+                Admit::Run(running) => release(rt, level, running),
+                Admit::Over(done, _decision) => done,
+            },
+            Token::Waiting(waiting) => wait(rt, level, waiting),
+            Token::Running(running) => release(rt, level, running),
+            Token::Done(done) => done,
+            Token::Gone => unreachable!(),
+        }
+    }
+}

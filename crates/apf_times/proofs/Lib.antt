@@ -1,0 +1,10 @@
+pub mod Arrivals
+pub mod Counts
+pub mod Horizons
+pub mod Keeping
+pub mod NearestRank
+pub mod Opening
+pub mod Orders
+pub mod Running
+pub mod Taking
+pub mod Told

@@ -1,0 +1,7 @@
+pub mod Calendars
+pub mod Courses
+pub mod Derived
+pub mod Dues
+pub mod Percentiles
+pub mod Runs
+pub mod Views

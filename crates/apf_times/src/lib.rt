@@ -1,0 +1,37 @@
+//! The time side of requests: what is due, in order, and the percentiles of waits.
+//!
+//! Times are whole microseconds.
+//!
+//! - `due`: one thing that is due, and which of two is due first.
+//! - `agenda`: what is due, in order.
+//! - `course`: what became of a request.
+//! - `act`: what happens by a calendar.
+//! - `calendar`: what is carried out when, by the courses of the requests.
+//! - `percentiles`: a percentile of waits.
+//! - `laws`: what is true of each of them.
+#![tactic(auto)]
+
+mod act;
+mod agenda;
+mod calendar;
+mod course;
+mod due;
+mod laws;
+mod percentiles;
+
+pub use act::Act;
+pub use agenda::Agenda;
+pub use calendar::Calendar;
+pub use course::{Course, Seats, Times, are_in_range};
+pub use due::{Due, Kind};
+pub use laws::{every_agenda_is_in_order, every_calendar_is_kept, every_percentile_is_one};
+pub use percentiles::percentile;
+
+/// The latest arrival, in microseconds.
+pub const MOST_ARRIVES_AT: u64 = 1_000_000_000_000;
+
+/// The longest run, in microseconds.
+pub const MOST_RUNS_FOR: u64 = 10_000_000_000;
+
+/// The longest patience, in microseconds.
+pub const MOST_PATIENCE: u64 = 1_000_000_000;

@@ -1,0 +1,23 @@
+//! The tests of `apf_times`, by its public calls alone.
+//!
+//! They stand in a crate of their own, as a crate with tests is proved twice.
+//!
+//! - `percentiles`: worked percentiles, and random ones beside a plain count.
+//! - `agenda`: worked orders, and random calls beside a plain list.
+//! - `calendar`: worked calendars, and random ones beside a plain scan.
+//! - `memory`: allocations refused.
+//! - `calls`: calls that test what is asked of callers. `draws`: random numbers.
+#![tactic(auto)]
+
+#[cfg(test)]
+mod agenda;
+#[cfg(test)]
+mod calendar;
+#[cfg(test)]
+mod calls;
+#[cfg(test)]
+mod draws;
+#[cfg(test)]
+mod memory;
+#[cfg(test)]
+mod percentiles;

@@ -1,0 +1,3 @@
+pub mod TraceFaults
+pub mod TraceValue
+pub mod TraceFile

@@ -1,0 +1,91 @@
+//! Why a trace is refused.
+
+ghost use Rattle.std.specs.Prelude.{◌≡◌};
+ghost use Rattle.apf_traces.specs.TraceFaults.{trace_fault_number, line_of};
+
+use thiserror::Error;
+
+/// Why a trace was refused: the first fault, with its line, counted from 1.
+///
+/// Lines are judged from the first to the last, each by the faults in the order of their numbers.
+#[derive(Clone, Copy, Debug, PartialEq, Eq, Error)]
+pub enum TraceFault {
+    /// 1: the line is number 10,001.
+    #[error("too many lines")]
+    TooMany(u32),
+    /// 2: the line has more than 65,536 bytes. Its LF does not count.
+    #[error("line too long")]
+    TooLong(u32),
+    /// 3: the line is no JSON text in UTF-8.
+    #[error("not JSON")]
+    NotUtf8Json(u32),
+    /// 4: the value is no object.
+    #[error("not an object")]
+    NotObject(u32),
+    /// 5: the object has a key that requests of a trace do not have.
+    #[error("unknown key")]
+    UnknownKey(u32),
+    /// 6: `arrivesAt` is not a whole number from 0 to 1,000,000,000,000, or it is absent.
+    #[error("bad arrivesAt")]
+    BadArrival(u32),
+    /// 7: `runsFor` is not a whole number from 0 to 10,000,000,000, or it is absent.
+    #[error("bad runsFor")]
+    BadRun(u32),
+    /// 8: there is neither `hash` alone, a number of 64 bits, nor both `schema` and `distinguisher` alone, two texts.
+    #[error("bad flow")]
+    BadFlow(u32),
+    /// 9: `width` is not a whole number from 1 to 20,000.
+    #[error("bad width")]
+    BadWidth(u32),
+    /// 10: `cost` is not a whole number from 1 to 20,000.
+    #[error("bad cost")]
+    BadCost(u32),
+    /// 11: the line is not ended by LF.
+    #[error("truncated")]
+    Truncated(u32),
+    /// 12: memory was refused.
+    #[error("out of memory")]
+    NoMemory,
+}
+
+impl TraceFault {
+    /// The fault's number, 1 to 12.
+    pub fn number(&self) -> u8
+        ensures { result ≡ trace_fault_number self.now }
+    {
+        match self {
+            TraceFault::TooMany(_) => 1,
+            TraceFault::TooLong(_) => 2,
+            TraceFault::NotUtf8Json(_) => 3,
+            TraceFault::NotObject(_) => 4,
+            TraceFault::UnknownKey(_) => 5,
+            TraceFault::BadArrival(_) => 6,
+            TraceFault::BadRun(_) => 7,
+            TraceFault::BadFlow(_) => 8,
+            TraceFault::BadWidth(_) => 9,
+            TraceFault::BadCost(_) => 10,
+            TraceFault::Truncated(_) => 11,
+            TraceFault::NoMemory => 12,
+        }
+    }
+
+    /// The line of the fault, counted from 1. Out of memory has none.
+    pub fn line(&self) -> Option<u32>
+        ensures { result ≡ line_of self.now }
+    {
+        match *self {
+            TraceFault::TooMany(line)
+            | TraceFault::TooLong(line)
+            | TraceFault::NotUtf8Json(line)
+            | TraceFault::NotObject(line)
+            | TraceFault::UnknownKey(line)
+            | TraceFault::BadArrival(line)
+            | TraceFault::BadRun(line)
+            | TraceFault::BadFlow(line)
+            | TraceFault::BadWidth(line)
+            | TraceFault::BadCost(line)
+            | TraceFault::Truncated(line) => Some(line),
+            TraceFault::NoMemory => None,
+        }
+    }
+}

@@ -1,0 +1,18 @@
+//! Reads a trace: requests with the times of their arrivals and runs, one JSON object a line.
+//!
+//! - `fault`: why a trace is refused.
+//! - `request`: what one line asks for.
+//! - `value`: the request that a JSON value is.
+//! - `line`: the request that the bytes of a line are.
+//! - `trace`: the requests of a whole trace.
+#![tactic(auto)]
+
+mod fault;
+mod line;
+mod request;
+mod trace;
+mod value;
+
+pub use fault::TraceFault;
+pub use request::{FlowNames, TraceRequest};
+pub use trace::read_trace;

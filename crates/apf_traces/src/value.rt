@@ -1,0 +1,115 @@
+//! The request that a JSON value is.
+
+ghost use Rattle.std.specs.Prelude.{◌≡◌, ◌≢◌, ◌≤◌, IfOk, IfErr, IfSome, Ok, Err, option_map};
+ghost use Rattle.serde_json.specs.View.{view, members_view};
+ghost use Rattle.apf_files.specs.JsonFile.{all_known};
+ghost use Rattle.apf_traces.specs.TraceValue.{is_key, number_at as number_at_key, text_at as text_at_key, names_of as names_of_value, entry_of, entry, texts, IsRequestInRange, IsNamed};
+
+use crate::fault::TraceFault;
+use crate::request::{FlowNames, TraceRequest};
+use apf_files::{flow_of, number_or};
+use apf_words::MAX_WIDTH;
+use serde_json::{Map, Value};
+use std::alloc::{AllocError, Global};
+
+const MAX_ARRIVAL: u64 = 1_000_000_000_000;
+
+const MAX_RUN: u64 = 10_000_000_000;
+
+const DEFAULT_WIDTH: u32 = 1;
+
+// The largest cost is the largest width.
+const MAX_COST: u32 = MAX_WIDTH;
+
+#[tactic(auto, unfolding(crate::specs::TraceValue::is_key))]
+fn is_trace_key(name: &str) -> bool
+    ensures { result ≡ is_key name.now }
+{
+    name == "arrivesAt"
+        || name == "runsFor"
+        || name == "schema"
+        || name == "distinguisher"
+        || name == "hash"
+        || name == "width"
+        || name == "cost"
+}
+
+fn has_trace_keys(members: &Map<String, Value>) -> bool
+    ensures { result ≡ all_known is_key (members_view members.now.entries) }
+{
+    members.keys().all(|name| is_trace_key(name.as_str()))
+}
+
+// The whole number from 0 to `high` at `key`, which has to be there.
+#[tactic(auto, unfolding(crate::specs::TraceValue::number_at))]
+fn number_at(value: &Value, key: &str, high: u64) -> Option<u64>
+    ensures value { result ≡ number_at_key key.now high (view value.now) }
+    ensures within { IfSome result (λ n. n ≤ high) }
+{
+    match value.get(key)?.as_u64() {
+        Some(n) if n <= high => Some(n),
+        _ => None,
+    }
+}
+
+// The text at `key`, if there is one.
+#[tactic(auto, unfolding(crate::specs::TraceValue::text_at))]
+fn text_at<'a>(value: &'a Value, key: &str) -> Option<&'a str>
+    ensures { option_map (λ text. text.now) result ≡ text_at_key key.now (view value.now) }
+{
+    value.get(key)?.as_str()
+}
+
+// The names of the flow, where both are texts.
+fn names_of(alloc: Global, value: &Value) -> Result<Option<FlowNames>, AllocError>
+    ensures { IfOk result (λ names. option_map texts names ≡ names_of_value (view value.now)) }
+{
+    match (text_at(value, "schema"), text_at(value, "distinguisher")) {
+        (Some(schema), Some(distinguisher)) => Ok(Some(FlowNames {
+            schema: String::from_str(alloc, schema)?,
+            distinguisher: String::from_str(alloc, distinguisher)?,
+        })),
+        _ => Ok(None),
+    }
+}
+
+/// The request that the value of line `line` is.
+#[tactic(auto, unfolding(crate::specs::TraceValue::entry_of))]
+pub(crate) fn request_of_value(
+    alloc: Global,
+    value: &Value,
+    line: u32,
+) -> Result<TraceRequest, TraceFault>
+    ensures ok { IfOk result (λ request. entry_of line (view value.now) ≡ Ok (entry request)) }
+    ensures ranges { IfOk result IsRequestInRange }
+    ensures named { IfOk result IsNamed }
+    ensures err { IfErr result (λ fault. fault ≢ TraceFault.NoMemory
+        → entry_of line (view value.now) ≡ Err fault) }
+{
+    let Some(members) = value.as_object() else {
+        return Err(TraceFault::NotObject(line));
+    };
+    if !has_trace_keys(members) {
+        return Err(TraceFault::UnknownKey(line));
+    }
+    let arrives_at = number_at(value, "arrivesAt", MAX_ARRIVAL).ok_or(TraceFault::BadArrival(
+        line,
+    ))?;
+    let runs_for = number_at(value, "runsFor", MAX_RUN).ok_or(TraceFault::BadRun(line))?;
+    let hash = flow_of(value).ok_or(TraceFault::BadFlow(line))?;
+    let width = number_or(value, "width", 1, MAX_WIDTH, DEFAULT_WIDTH).ok_or(TraceFault::BadWidth(
+        line,
+    ))?;
+    let cost = number_or(value, "cost", 1, MAX_COST, width).ok_or(TraceFault::BadCost(line))?;
+    let Ok(names) = names_of(alloc, value) else {
+        return Err(TraceFault::NoMemory);
+    };
+    Ok(TraceRequest {
+        arrives_at,
+        runs_for,
+        hash,
+        names,
+        width,
+        cost,
+    })
+}

@@ -2,13 +2,16 @@
 //! `apf_cli`, and ends with its status.
 #![tactic(auto)]
 
+ghost use Rattle.std.specs.Prelude.{◌≤◌, IfOk, vec_len};
+
 use apf_cli::{FileFault, Files, act};
-use std::alloc::AllocError;
-use std::io::BufWriter;
+use std::alloc::{AllocError, Global};
+use std::fs::File;
+use std::io;
+use std::io::{BufWriter, Read};
 use std::process::ExitCode;
 use std::sync::Wait;
 use std::thread::Threads;
-use std::{fs, io};
 
 // The machine's files.
 #[derive(Drop)]
@@ -17,13 +20,38 @@ struct Disk<'a> {
 }
 
 impl Files for Disk<'_> {
-    fn read(&mut self, name: &str) -> Result<Vec<u8>, FileFault> {
-        match fs::read(self.rt, name) {
-            Ok(bytes) => Ok(bytes),
-            Err(e) if e.kind() == io::ErrorKind::OutOfMemory => Err(FileFault::NoMemory),
-            Err(_) => Err(FileFault::CannotRead),
-        }
+    fn read(&mut self, name: &str, most: u32) -> Result<Vec<u8>, FileFault>
+        ensures within { IfOk result (λ bytes. vec_len bytes ≤ most) }
+    {
+        let file = File::open(self.rt, name).map_err(fault_of)?;
+        read_bounded(self.rt.alloc(), file, most)
     }
+
+    fn read_stdin(&mut self, most: u32) -> Result<Vec<u8>, FileFault>
+        ensures within { IfOk result (λ bytes. vec_len bytes ≤ most) }
+    {
+        read_bounded(self.rt.alloc(), self.rt.stdin(), most)
+    }
+}
+
+fn fault_of(error: io::Error) -> FileFault {
+    match error.kind() {
+        io::ErrorKind::OutOfMemory => FileFault::NoMemory,
+        _ => FileFault::CannotRead,
+    }
+}
+
+// The bytes up to the end, of which no more than `most` and one are read.
+fn read_bounded<R: Read + Drop>(alloc: Global, from: R, most: u32) -> Result<Vec<u8>, FileFault>
+    ensures within { IfOk result (λ bytes. vec_len bytes ≤ most) }
+{
+    let mut bytes = Vec::new(alloc);
+    let mut bounded = from.take(u64::from(most) + 1);
+    bounded.read_to_end(&mut bytes).map_err(fault_of)?;
+    if bytes.len() > most as usize {
+        return Err(FileFault::TooLarge);
+    }
+    Ok(bytes)
 }
 
 // Why the program ends before it reads its words.

@@ -1,28 +1,11 @@
 //! Why the program ends with another status than 0, and the line that says so.
 
+use crate::files::Input;
 use apf_flow::DealerFault;
 use apf_run::{
     ConfigFault, LevelFault, ReplayFault, RequestFault, RunFault, ScriptFault, WriteFault,
 };
 use std::fmt;
-
-/// The files of a command line.
-#[derive(Clone, Copy, Debug, PartialEq, Eq)]
-pub enum Input {
-    Config,
-    Requests,
-    Script,
-}
-
-impl fmt::Display for Input {
-    fn fmt<W: fmt::Write>(&self, f: &mut fmt::Formatter<W>) -> fmt::Result {
-        f.write_str(match self {
-            Input::Config => "config",
-            Input::Requests => "requests",
-            Input::Script => "script",
-        })
-    }
-}
 
 /// Where a dealer's sizes come from.
 #[derive(Clone, Copy, Debug, PartialEq, Eq)]
@@ -42,6 +25,10 @@ pub enum Fault {
     /// The level was not opened, for another cause than the dealer's. What the readers accept has none.
     Level(ReplayFault),
     CannotRead(Input),
+    /// The file has more bytes than it may have.
+    TooLarge(Input),
+    /// Two files are to be read from standard input.
+    TwoInputs,
     CannotWrite,
     /// The worker of this number could not be started.
     Worker(u32),
@@ -53,7 +40,7 @@ impl Fault {
     /// fault; 3 want of memory, or a worker that could not be started.
     pub fn status(&self) -> u8 {
         match self {
-            Fault::Dealer(_, Sizes::OfCommandLine) => 2,
+            Fault::Dealer(_, Sizes::OfCommandLine) | Fault::TwoInputs => 2,
             Fault::Worker(_) | Fault::NoMemory => 3,
             Fault::Dealer(_, Sizes::OfConfig)
             | Fault::Config(_)
@@ -61,6 +48,7 @@ impl Fault {
             | Fault::Script(_)
             | Fault::Level(_)
             | Fault::CannotRead(_)
+            | Fault::TooLarge(_)
             | Fault::CannotWrite => 1,
         }
     }
@@ -150,6 +138,11 @@ impl fmt::Display for Fault {
             }
             Fault::Level(fault) => write!(f, "apf: the level can't be opened: {fault}"),
             Fault::CannotRead(input) => write!(f, "apf: cannot read {input}"),
+            Fault::TooLarge(input) => {
+                let most = input.most();
+                write!(f, "apf: {input} too large: more than {most} bytes")
+            }
+            Fault::TwoInputs => f.write_str("apf: standard input is named twice"),
             Fault::CannotWrite => f.write_str("apf: cannot write"),
             Fault::Worker(number) => write!(f, "apf: worker {number} could not start"),
             Fault::NoMemory => f.write_str("apf: out of memory"),

@@ -3,15 +3,18 @@
 //! In the order of the data's way:
 //!
 //! - `help`, `commands`, `words`: what a command line asks for, read by `clap`.
+//! - `files`: where the files' bytes come from.
 //! - `program`: does it, and answers the status.
 //! - `faults`: the lines on standard error.
 #![tactic(auto)]
 
 mod commands;
 mod faults;
+mod files;
 mod help;
 mod program;
 mod words;
 
-pub use program::{FileFault, Files, act};
+pub use files::{FileFault, Files};
+pub use program::act;
 pub use words::{Action, read_words};

@@ -4,7 +4,8 @@ ghost use Rattle.std.specs.Prelude.{◌<◌, ◌≤◌, length, IfOk};
 ghost use Rattle.apf_run.specs.Limits.{max_requests};
 ghost use Rattle.apf_cli.specs.Meaning.{HasWorkers};
 
-use crate::faults::{Fault, Input, Sizes};
+use crate::faults::{Fault, Sizes};
+use crate::files::{Files, Input, judge_names, read_input};
 use crate::words::{Action, read_words};
 use apf_flow::{Dealer, flow_hash};
 use apf_run::{
@@ -17,29 +18,6 @@ use std::hint;
 use std::io::Write;
 use std::sync::Wait;
 use std::thread::Threads;
-
-/// Why a file was not read.
-#[derive(Clone, Copy, Debug, PartialEq, Eq)]
-pub enum FileFault {
-    /// There is no such file, or it is a folder, or the right to read it is missing.
-    CannotRead,
-    /// Memory was refused.
-    NoMemory,
-}
-
-/// Where the program's files come from.
-pub trait Files {
-    /// The bytes of the file of this name.
-    fn read(&mut self, name: &str) -> Result<Vec<u8>, FileFault>;
-}
-
-fn read<F: Files>(files: &mut F, input: Input, name: &str) -> Result<Vec<u8>, Fault> {
-    match files.read(name) {
-        Ok(bytes) => Ok(bytes),
-        Err(FileFault::CannotRead) => Err(Fault::CannotRead(input)),
-        Err(FileFault::NoMemory) => Err(Fault::NoMemory),
-    }
-}
 
 // Prints the hash as 16 hexadecimal digits.
 fn print_hash<O: Write>(schema: &str, distinguisher: &str, out: &mut O) -> Result<(), Fault> {
@@ -71,8 +49,11 @@ fn read_level<F: Files>(
 ) -> Result<(Config, Vec<Request>), Fault>
     ensures few { IfOk result (λ o. length o.1.items ≤ max_requests) }
 {
-    let config = read_config(alloc, read(files, Input::Config, config)?.as_slice())?;
-    let requests = read_requests(alloc, read(files, Input::Requests, requests)?.as_slice())?;
+    let config = read_config(alloc, read_input(files, Input::Config, config)?.as_slice())?;
+    let requests = read_requests(
+        alloc,
+        read_input(files, Input::Requests, requests)?.as_slice(),
+    )?;
     Ok((config, requests))
 }
 
@@ -98,6 +79,7 @@ fn ran<F: Files, R: Wait + Threads + Sync>(
 ) -> Result<Report, Fault>
     requires { 0 < workers }
 {
+    judge_names(&[config, requests])?;
     let (config, requests) = read_level(alloc, files, config, requests)?;
     Ok(run(rt, alloc, &config, requests.as_slice(), workers, &Turns)?)
 }
@@ -109,8 +91,9 @@ fn replayed<F: Files, R: Wait>(
     files: &mut F,
     names: (&str, &str, &str),
 ) -> Result<Transcript, Fault> {
+    judge_names(&[names.0, names.1, names.2])?;
     let (config, requests) = read_level(alloc, files, names.0, names.1)?;
-    let script = read(files, Input::Script, names.2)?;
+    let script = read_input(files, Input::Script, names.2)?;
     let commands = read_script(alloc, script.as_slice(), requests.len() as u32)?;
     Ok(replay(rt, alloc, &config, requests.as_slice(), commands.as_slice())?)
 }
@@ -176,7 +159,7 @@ fn print_refusal<O: Write, E: Write>(
 /// The whole program: the first word is its name, and the answer is its status.
 ///
 /// 0 is done; 1 a file's fault, or output that can't be written; 2 a command line's fault, dealer
-/// faults of `deal` among them; 3 want of memory or a worker that could not start. Before the
+/// faults of `deal` and standard input named twice among them; 3 want of memory or a worker that could not start. Before the
 /// status is 1, 2 or 3, one fault is printed on `err`, and a write to it that fails changes no
 /// status. A fault prints nothing on `out`, except that a failed write may have written a beginning.
 #[tactic(auto, using(crate::proofs::Workers::has_workers))]

@@ -1,12 +1,14 @@
 //! Worked examples of the whole program, with files in memory.
 
+ghost use Rattle.std.specs.Prelude.{◌≤◌, IfOk, vec_len};
+
 use apf_cli::{FileFault, Files, act};
 use std::alloc::Global;
 use std::process::Abort;
 use std::sync::Wait;
 use std::thread::Threads;
 
-const BOOK_OF_NOTHING: &str = "level open seats 0 waiting 0\n\
+pub const BOOK_OF_NOTHING: &str = "level open seats 0 waiting 0\n\
     executed 0 rejected 0 cancelled 0 undecided 0\n\
     queue-full 0 closed 0 concurrency-limit 0\n\
     entered 0 dispatched 0 struck 0\n";
@@ -20,17 +22,36 @@ pub struct Memory<'a> {
     pub script: &'a str,
 }
 
+// The text's bytes, if they are at most `most`.
+fn bytes_of(alloc: Global, text: &str, most: u32) -> Result<Vec<u8>, FileFault>
+    ensures within { IfOk result (λ bytes. vec_len bytes ≤ most) }
+{
+    if text.len() > most as usize {
+        return Err(FileFault::TooLarge);
+    }
+    text.as_bytes()
+        .to_vec(alloc)
+        .map_err(|_| FileFault::NoMemory)
+}
+
 impl Files for Memory<'_> {
-    fn read(&mut self, name: &str) -> Result<Vec<u8>, FileFault> {
+    fn read(&mut self, name: &str, most: u32) -> Result<Vec<u8>, FileFault>
+        ensures within { IfOk result (λ bytes. vec_len bytes ≤ most) }
+    {
         let text = match name {
             "config" => self.config,
             "requests" => self.requests,
             "script" => self.script,
             _ => return Err(FileFault::CannotRead),
         };
-        text.as_bytes()
-            .to_vec(self.alloc)
-            .map_err(|_| FileFault::NoMemory)
+        bytes_of(self.alloc, text, most)
+    }
+
+    // Standard input has the script.
+    fn read_stdin(&mut self, most: u32) -> Result<Vec<u8>, FileFault>
+        ensures within { IfOk result (λ bytes. vec_len bytes ≤ most) }
+    {
+        bytes_of(self.alloc, self.script, most)
     }
 }
 

@@ -4,11 +4,13 @@
 //!
 //! - `words`: what a command line asks for.
 //! - `examples`: worked examples of the whole program, with files in memory; `rows` those of `replay`, `workers`
-//!   those of `run`.
+//!   those of `run`, `inputs` those of files by their size and of standard input.
 #![tactic(auto)]
 
 #[cfg(test)]
 mod examples;
+#[cfg(test)]
+mod inputs;
 #[cfg(test)]
 mod rows;
 #[cfg(test)]

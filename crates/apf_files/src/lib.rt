@@ -4,6 +4,8 @@
 //! - `config`: the config file.
 //! - `requests`: the requests file.
 //! - `script`: the script file.
+//!
+//! `flow_of`, `number_or` and `line_end` are shared with the reader of traces.
 #![tactic(auto)]
 
 mod config;
@@ -13,5 +15,5 @@ mod script;
 
 pub use apf_book::{Config, Response};
 pub use config::{ConfigFault, ConfigKey, read_config};
-pub use requests::{Request, RequestFault, read_requests};
-pub use script::{Command, ScriptFault, read_script};
+pub use requests::{Request, RequestFault, flow_of, number_or, read_requests};
+pub use script::{Command, ScriptFault, line_end, read_script};

@@ -121,8 +121,8 @@ fn judge(bytes: &[u8], line: u32, requests: u32) -> Result<Command, ScriptFault>
     in_range(command, requests, line)
 }
 
-// Where the first line ends.
-fn line_end(bytes: &[u8]) -> Option<usize>
+/// The place of the first LF, where there is one.
+pub fn line_end(bytes: &[u8]) -> Option<usize>
     ensures found { MatchOption result
         ((k : ℕ) → k < length bytes.now → slice_index bytes.now k ≢ 10)
         (λ end. (end < length bytes.now) × (slice_index bytes.now end ≡ 10)

@@ -37,8 +37,9 @@ fn has_request_keys(members: &Map<String, Value>) -> bool
     members.keys().all(|name| is_request_key(name.as_str()))
 }
 
-// The hash of the flow, by its hash alone or by schema and distinguisher alone.
-fn flow_of(value: &Value) -> Option<u64>
+/// The hash of the flow that an object names: by `hash` alone, a whole number of 64 bits, or by both of the texts
+/// `schema` and `distinguisher` alone. None for anything else.
+pub fn flow_of(value: &Value) -> Option<u64>
     ensures { result ≡ flow_of_members (get (codes "hash") (view value.now))
         (get (codes "schema") (view value.now)) (get (codes "distinguisher") (view value.now)) }
 {
@@ -55,8 +56,8 @@ fn flow_of(value: &Value) -> Option<u64>
     }
 }
 
-// The whole number from `low` to `high` at `key`, or the default where the key is absent.
-fn number_or(value: &Value, key: &str, low: u32, high: u32, default: u32) -> Option<u32>
+/// The whole number from `low` to `high` at `key`, or the default where the key is absent. None for anything else.
+pub fn number_or(value: &Value, key: &str, low: u32, high: u32, default: u32) -> Option<u32>
     requires { (low ≤ default) × (default ≤ high) }
     ensures value { result ≡ number_or_default low high default (get key.now (view value.now)) }
     ensures within { IfSome result (λ n. (low ≤ n) × (n ≤ high)) }

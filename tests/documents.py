@@ -66,19 +66,27 @@ for name, least in (("README.md", 2), (os.path.join("docs", "FORMATS.md"), 10)):
     outside = re.sub(r"^```.*?^```$", "", page, flags=re.M | re.S)
     tally.check(f"{name}: each command line is in a block that is run", re.findall(r"^\s*\$ .*|\./apf (?:hash|deal|replay|services|waits) \S.*", outside, re.M), [])
 
-# each fault that the pages list is one that the program's sources have, and the other way round
+# each fault that a table lists is one that its sources have, and the other way round, with a place or without
 page = open(os.path.join(TOP, "docs", "FORMATS.md"), encoding="utf-8").read()
-listed = set(re.findall(r"^\| `(\d+)(?: at [IL]| at line L)?: ([^`]*)`", page, re.M))
-wanted = set()
-for path in (("apf_files", "src", "config.rt"), ("apf_files", "src", "requests.rt"), ("apf_files", "src", "script.rt")):
+listed = {}
+for name, rows in re.findall(r"^Of .*\(`apf: (\w+) fault \.\.`\).*\n\n((?:\|.*\n)+)", page, re.M):
+    listed[name] = [(number, place != "", line) for number, place, line in re.findall(r"^\| `(\d+)( at I| at line L|): ([^`]*)`", rows, re.M)]
+wanted = {}
+for name, path in (
+    ("config", ("apf_files", "src", "config.rt")),
+    ("requests", ("apf_files", "src", "requests.rt")),
+    ("script", ("apf_files", "src", "script.rt")),
+    ("trace", ("apf_traces", "src", "fault.rt")),
+):
     text = open(os.path.join(TOP, "crates", *path), encoding="utf-8").read()
-    for number, line in re.findall(r"/// (\d+): .*\n\s*#\[error\(\"(.*)\"\)\]", text):
-        wanted.add((number, line.replace("{0}", "KEY")))
-wanted = {it for it in wanted if it[1] != "out of memory"}
+    found = re.findall(r"/// (\d+): .*\n\s*#\[error\(\"(.*)\"\)\]\n\s*\w+(\(u32\)|)", text)
+    wanted[name] = [(number, place != "", line.replace("{0}", "KEY")) for number, line, place in found if line != "out of memory"]
 text = open(os.path.join(TOP, "crates", "apf_flow", "src", "fault.rt"), encoding="utf-8").read()
 numbers = dict(re.findall(r"^    (\w+) = (\d+),", text, re.M))
-wanted |= {(numbers[name], line) for name, line in re.findall(r"DealerFault::(\w+) => \"(.*)\"", text)}
-tally.check("the faults that are listed", sorted(listed ^ wanted), [])
+wanted["dealer"] = [(numbers[name], False, line) for name, line in re.findall(r"DealerFault::(\w+) => \"(.*)\"", text)]
+tally.check("the files whose faults are listed", sorted(listed), sorted(wanted))
+for name in wanted:
+    tally.check(f"the faults of the {name} that are listed", sorted(listed.get(name, [])), sorted(wanted[name]))
 
 # each example is shown, and has its three files
 for example in sorted(os.listdir(os.path.join(TOP, "examples"))):
@@ -88,28 +96,40 @@ for example in sorted(os.listdir(os.path.join(TOP, "examples"))):
         shown = [it for it in ("README.md", os.path.join("docs", "FORMATS.md")) if f"examples/{example}/config.json" in open(os.path.join(TOP, it)).read()]
         tally.check(f"examples/{example} is shown", len(shown) > 0, True)
 
-# each line of docs/PROVED.md that names a contract and a file: the file is there, and it or the crate's definitions have that name
+# each row of docs/PROVED.md names a contract and its files: the files are there, and they or their crates' definitions have each name
 page = open(os.path.join(TOP, "docs", "PROVED.md"), encoding="utf-8").read()
-last = []
-for line in re.findall(r"^- .*$", page, re.M):
-    names = re.findall(r"`([A-Za-z_:]+)`", line)
-    paths = [os.path.join(TOP, "crates", it) for it in re.findall(r"`(apf\w*/[\w/.]+)`", line)]
-    paths = paths if paths else (last if "the same file" in line else [])
-    last = paths
-    there = [it for it in paths if os.path.exists(it)]
-    tally.check(f"docs/PROVED.md: the files of: {line[:60]}", there, paths)
-    specs = {re.sub(r"(crates/\w+)/.*", r"\1/specs", it) for it in there}
-    files = [*there, *(os.path.join(it, name) for it in specs if os.path.isdir(it) for name in os.listdir(it))]
-    text = "".join(open(it, encoding="utf-8").read() for it in files if os.path.isfile(it))
-    missing = [it for it in names if it.split("::")[-1] not in text and not os.path.isdir(os.path.join(TOP, "crates", it))]
-    tally.check(f"docs/PROVED.md: the names of: {line[:60]}", missing if there and all(map(os.path.isfile, there)) else [], [])
+heads = {("Promise", "Contract", "File"), ("Behavior", "Test", "File")}
+cells = [tuple(cell.strip() for cell in line.strip("|").split("|")) for line in re.findall(r"^\|.*$", page, re.M)]
+rows = [it for it in cells if it not in heads and not all(re.fullmatch("-+", cell) for cell in it)]
+tally.check("docs/PROVED.md: at least 200 rows", len(rows) >= 200, True)
+
+
+def code_of(path):
+    """A source's text without its comments, which are no contracts."""
+    text = open(path, encoding="utf-8").read()
+    return re.sub({".rt": r"//.*", ".antt": r"--.*", ".py": r"#.*"}[os.path.splitext(path)[1]], "", text)
+
+
+for row in rows:
+    promise = row[0][:70]
+    tally.check(f"docs/PROVED.md: a row has three cells: {promise}", (len(row), len(row[0]) > 0), (3, True))
+    if len(row) != 3:
+        continue
+    names, named = re.findall(r"`([^`]+)`", row[1]), re.findall(r"`([^`]+)`", row[2])
+    tally.check(f"docs/PROVED.md: a contract and a file of: {promise}", (len(names) > 0, len(named) > 0), (True, True))
+    paths = [os.path.join(TOP, it) if it.startswith("tests/") else os.path.join(TOP, "crates", it) for it in named]
+    tally.check(f"docs/PROVED.md: the files of: {promise}", [it for it in paths if not os.path.isfile(it)], [])
+    specs = {re.sub(r"(crates/\w+)/.*", r"\1/specs", it) for it in paths if not it.startswith(os.path.join(TOP, "tests"))}
+    files = [*paths, *(os.path.join(it, name) for it in specs if os.path.isdir(it) for name in sorted(os.listdir(it)))]
+    text = "\n".join(code_of(it) for it in files if os.path.isfile(it))
+    parts = [part for it in names for part in it.split("::")]
+    tally.check(f"docs/PROVED.md: the names of: {promise}", [it for it in parts if not re.search(rf"(?<![\w]){re.escape(it)}(?![\w])", text)], [])
 
 # the library's example stands in a program, which is proved and run
 page = open(os.path.join(TOP, "README.md"), encoding="utf-8").read()
 source = open(os.path.join(TOP, "crates", "apf_example", "src", "main.rt"), encoding="utf-8").read()
 shown = [body for head, body in blocks(page) if head == "rust"]
-inside = "".join(line.removeprefix("    ") + "\n" for line in source.split("\n"))
-tally.check("README.md: the example of the library", [len(shown), *(body in inside for body in shown)], [1, True])
+tally.check("README.md: the example of the library", [len(shown), *(body in source for body in shown)], [1, True])
 
 # the planted bugs are as many as the README says
 edits = sum(name.endswith(".edit") for folder in ("crates", "planted") for _, _, names in os.walk(os.path.join(TOP, folder)) for name in names)

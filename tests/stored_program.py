@@ -43,7 +43,7 @@ def lines_of_crates():
 
 def hash_of_sources():
     """What the launcher calls `made_of`, computed anew: kit, lines, and the hash and name of each file, in order."""
-    kit = subprocess.run(["rt", "version"], capture_output=True, check=True).stdout.decode().strip()
+    kit = re.search(r'^kit="(.*)"$', open(LAUNCHER).read(), re.M)[1]
     order, files = lines_of_crates(), []
     for line in order:
         name = re.split(r"[ :]", line)[0]
@@ -62,6 +62,8 @@ if subprocess.run([LAUNCHER, "--version"], stdout=subprocess.DEVNULL, env=dict(o
     # the launcher has said why
     print("0 passed, 1 failed")
     sys.exit(1)
+here = subprocess.run(["rt", "version"], capture_output=True, check=True).stdout.decode().strip()
+tally.check("the logic of the kit", here.partition(" logic ")[2], re.search(r'^kit=".* logic (.*)"$', open(LAUNCHER).read(), re.M)[1])
 wanted = hash_of_sources()
 stored_of = (content(STORED, "made-of") or b"").decode().strip()
 tally.check("the launcher's hash of the sources", subprocess.run(["bash", "-c", '. "$1"; made_of', "", LAUNCHER], capture_output=True).stdout.decode().strip(), wanted)

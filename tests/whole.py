@@ -119,6 +119,13 @@ tally.check("test: says how to store it", [it for it in lines[:3] if "program/st
 top = test_of("another kit", WELL)
 lines = begun(top, WELL, kit="rattle-kit-0").communicate(timeout=60)[0].split("\n")[:-1]
 tally.check("test: another kit", (lines[-1], os.path.exists(os.path.join(top, "notes"))), ("0 passed, 1 failed", False))
+top = test_of("another logic", WELL)
+lines = begun(top, WELL, kit=KIT + "0").communicate(timeout=60)[0].split("\n")[:-1]
+tally.check("test: another logic", (lines[-1], os.path.exists(os.path.join(top, "notes"))), ("0 passed, 1 failed", False))
+top = test_of("another release", WELL)
+lines = begun(top, WELL, kit=KIT.replace(KIT.split()[0], "rattle-kit-0")).communicate(timeout=60)[0].split("\n")[:-1]
+told = [it for it in lines if "another release" in it]
+tally.check("test: another release of the same logic", (lines[-1], len(told), open(os.path.join(top, "notes")).read().split()), ("6 passed, 0 failed", 1, ["ci"]))
 
 # side by side: each of two scripts waits for the other one, and what each says stands whole, in the order of their names
 MEETS = "open('met-%d', 'w').close()\nfor _ in range(400): os.path.exists('met-%d') or time.sleep(0.05)\nmet = os.path.exists('met-%d')"

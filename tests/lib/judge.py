@@ -171,6 +171,15 @@ def whole_in(value, low, high):
     return type(value) is int and low <= value <= high
 
 
+# the most bytes that a file may have
+MOST = {"config": 65_536, "requests": 16_777_216, "script": 2_097_152}
+
+
+def judge_size(name, content):
+    if len(content) > MOST[name]:
+        raise Refused(f"apf: {name} too large: more than {MOST[name]} bytes")
+
+
 # key: lowest, highest, if absent
 CONFIG = {"limit": (1, 10_000, None), "queues": (1, 1_024, 64), "handSize": (1, 15, 8), "queueLengthLimit": (1, 10_000, 50)}
 RESPONSE = "limitResponse"
@@ -180,6 +189,7 @@ def config_of(content):
     def refuse(number, text):
         raise Refused(f"apf: config fault {number}: {text}")
 
+    judge_size("config", content)
     try:
         value = Json(content).whole()
     except NotJson:
@@ -238,6 +248,7 @@ def requests_of(content):
     def refuse(number, text):
         raise Refused(f"apf: requests fault {number}: {text}")
 
+    judge_size("requests", content)
     try:
         value = Json(content).whole()
     except NotJson:
@@ -274,6 +285,7 @@ def command_of(line, place, count):
 
 
 def script_of(content, count):
+    judge_size("script", content)
     *lines, rest = content.split(b"\n")
     commands = []
     for place, line in enumerate([*lines, rest], 1):

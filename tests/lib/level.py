@@ -37,6 +37,10 @@ class Level:
     def width(self, request):
         return self.requests[request]["width"]
 
+    def cost(self, request):
+        """What its dispatch is charged: the width of a request without a cost."""
+        return self.requests[request].get("cost", self.width(request))
+
     def seats(self):
         return sum(self.width(request) for request in self.running)
 
@@ -55,7 +59,7 @@ class Level:
     def dispatch(self):
         while self.waiting():
             busy = [queue for queue in range(len(self.queues)) if self.queues[queue]]
-            finish = {queue: self.starts[queue] + self.width(self.queues[queue][0]) for queue in busy}
+            finish = {queue: self.starts[queue] + self.cost(self.queues[queue][0]) for queue in busy}
             round_from = [(self.last + 1 + step) % len(self.queues) for step in range(len(self.queues))]
             chosen = next(queue for queue in round_from if queue in finish and finish[queue] == min(finish.values()))
             request = self.queues[chosen][0]
@@ -63,7 +67,7 @@ class Level:
                 return
             self.queues[chosen].pop(0)
             self.time = max(self.time, self.starts[chosen])
-            self.starts[chosen] += self.width(request)
+            self.starts[chosen] += self.cost(request)
             self.last = chosen
             self.decided[request] = "execute"
             self.running.add(request)

@@ -1,0 +1,146 @@
+"""A judge of runs of requests with times, by the rules alone: it makes no run of its own, and reads the script and what `replay` prints."""
+
+import re
+
+# what is due at one time comes in this order
+ORDER = ("finish", "cancel", "arrive")
+
+
+def area(begins, ends, weight):
+    """The sum, over all times, of the weights of the requests that began and did not end yet."""
+    changes = [(time, weight(it)) for it, (time, _) in begins.items()] + [(ends[it], -weight(it)) for it in begins if it in ends]
+    height = total = before = 0
+    for time, change in sorted(changes):
+        total += height * (time - before)
+        height, before = height + change, time
+    return total
+
+
+class Record:
+    """A run by its script and its transcript. Times are computed from the trace and from where the requests took their seats."""
+
+    def __init__(self, limit, trace, patience, script, transcript):
+        self.limit, self.trace, self.patience = limit, trace, patience
+        # each call: its time, its place in ORDER, its request, and after how many calls it was known that it would be due
+        self.calls = []
+        # of each request, the time and the place of the call in which it arrived, took its seats, entered a queue, was struck
+        self.arrived, self.started, self.entered, self.struck = {}, {}, {}, {}
+        self.broken = []
+        # the seats in use
+        self.seats = 0
+        lines = [line.split() for line in transcript]
+        for command in script:
+            if not re.fullmatch(f"({'|'.join(ORDER)}) [0-9]+", command) or int(command.split()[1]) >= len(trace):
+                self.broken.append("each call is one of the trace")
+                continue
+            word, number = command.split()
+            line = lines.pop(0) if lines else []
+            if line[:2] != [word, number] or line[2:] in (["again"], ["not", "running"]):
+                self.broken.append("each call has its line")
+            self.follow(word, int(number), line[2:])
+            while lines and lines[0][:1] in (["dispatch"], ["strike"]):
+                self.take_out(*lines.pop(0)[:2])
+            if not self.seats and set(self.entered) - set(self.started) - set(self.struck):
+                self.broken.append("no request waits while no seat is taken")
+        if lines:
+            self.broken.append("each line is of a call")
+
+    def follow(self, word, request, rest):
+        arrival, here = self.trace[request]["arrivesAt"], len(self.calls)
+        if word == "arrive":
+            time, since = arrival, 0
+            self.arrived[request] = (time, here)
+            if rest == ["execute"]:
+                self.start(request, (time, here))
+            if rest[:1] == ["queued"]:
+                self.entered[request] = (time, here)
+        elif word == "cancel":
+            time, since = arrival + self.patience, self.arrived.get(request, (0, here))[1] + 1
+        else:
+            start, since = self.started.get(request, (0, here))
+            time, since = start + self.trace[request]["runsFor"], since + 1
+            self.seats -= self.trace[request]["width"]
+        self.calls.append((time, ORDER.index(word), request, since))
+
+    def take_out(self, kind, request):
+        """A line of a request that the last call took out of a queue."""
+        here = (self.calls[-1][0], len(self.calls) - 1)
+        if kind == "strike":
+            self.struck[int(request)] = here
+        else:
+            self.start(int(request), here)
+
+    def start(self, request, here):
+        width = self.trace[request]["width"]
+        if request in self.started:
+            self.broken.append("each request takes its seats once")
+        if self.seats and self.seats + width > self.limit:
+            self.broken.append("each request takes its seats where there is room")
+        self.seats += width
+        self.started[request] = here
+
+    def is_in_order(self):
+        """Whether no call was made while one that comes before it was known to be due."""
+        keys = [call[:3] for call in self.calls]
+        return all(keys[place] > max(keys[since:place], default=(-1,)) for place, (*_, since) in enumerate(self.calls))
+
+    def of(self, word):
+        return sorted(request for _, kind, request, _ in self.calls if ORDER[kind] == word)
+
+    def starts_in_time(self, request):
+        return not self.patience or request not in self.started or self.started[request][0] <= self.trace[request]["arrivesAt"] + self.patience
+
+    def areas(self):
+        """The time of the last call, the area under the seats in use, and the area under the number of those that wait."""
+        finished = {request: time for time, kind, request, _ in self.calls if ORDER[kind] == "finish"}
+        left = {it: time for it, (time, _) in [*self.started.items(), *self.struck.items()]}
+        seats = area(self.started, finished, lambda it: self.trace[it]["width"])
+        return self.calls[-1][0] if self.calls else 0, seats, area(self.entered, left, lambda it: 1)
+
+    def faults(self):
+        """The sentences that the run breaks."""
+        entered, started, struck = set(self.entered), set(self.started), set(self.struck)
+        sentences = [
+            ("what is due is carried out in its order", self.is_in_order()),
+            ("each request arrives once", self.of("arrive") == [*range(len(self.trace))]),
+            ("each request that took its seats finishes once, and no other one finishes", self.of("finish") == sorted(started)),
+            ("each request that is struck gave up once, and no other one gives up", self.of("cancel") == sorted(struck)),
+            ("without patience no request gives up", bool(self.patience) or not struck),
+            ("no request takes its seats after the time of giving up", all(map(self.starts_in_time, started))),
+            ("each request that entered took its seats or gave up, and not both", entered <= started | struck and not started & struck),
+            ("each request that gave up had entered", struck <= entered),
+        ]
+        return [*self.broken, *(name for name, holds in sentences if not holds)]
+
+
+FORM = re.compile(
+    r"(flow [0-9a-f]{16} requests \d+ executed \d+ rejected \d+ cancelled \d+ seat-time \d+ wait \d+ \d+ \d+( of \".*\" \".*\")?\n)*"
+    r"end \d+ seat-time \d+ of \d+ waited \d+\n"
+    r"level (open|closed) seats \d+ waiting \d+\n"
+    r"executed \d+ rejected \d+ cancelled \d+ undecided \d+\n"
+    r"queue-full \d+ closed \d+ concurrency-limit \d+\n"
+    r"entered \d+ dispatched \d+ struck \d+\n",
+    re.ASCII,
+)
+
+
+def sums_broken(trace, config, lines):
+    """The sums that the lines of `simulate` break: columns against the book, and the parts of the line of the whole."""
+    if not FORM.fullmatch("".join(f"{line}\n" for line in lines)):
+        return ["each line has its form"]
+    *flows, end, level, decided, rejected, log = (line.split(" ") for line in lines)
+    columns = ("requests", "executed", "rejected", "cancelled", "seats")
+    numbers = {name: sum(int(flow[3 + 2 * place]) for flow in flows) for place, name in enumerate(columns)}
+    book = [int(decided[place]) for place in (1, 3, 5, 7)]
+    sentences = [
+        ("the requests are those of the trace", numbers["requests"] == len(trace)),
+        ("the columns are the book's", [numbers[it] for it in ("executed", "rejected", "cancelled")] == book[:3]),
+        ("each request is decided", book[3] == 0 and sum(book) == len(trace)),
+        ("the rejected requests are of three kinds, and none is closed", sum(int(it) for it in rejected[1::2]) == book[1] and rejected[3] == "0"),
+        ("the seat-time is that of the flows", numbers["seats"] == int(end[3])),
+        ("what could be used is the limit times the end", int(end[5]) == config["limit"] * int(end[1])),
+        ("the waits of a flow ascend", all(int(flow[13]) <= int(flow[14]) <= int(flow[15]) for flow in flows)),
+        ("the level is empty", level == "level open seats 0 waiting 0".split(" ")),
+        ("each request that entered was dispatched or struck", int(log[1]) == int(log[3]) + int(log[5]) and int(log[5]) == book[2]),
+    ]
+    return [name for name, holds in sentences if not holds]

@@ -1,0 +1,152 @@
+"""What the commands print of requests with times: an independent computation, slow on purpose.
+
+A run looks at each step for what is due, and makes the calls of the independent level (level.py).
+"""
+
+import json
+
+from judge import Refused, config_of, dealer_fault
+from level import Level, hand_of
+from trace import trace_of
+
+# what is due at one time comes in this order, and by number among equals
+FINISH, CANCEL, ARRIVE = range(3)
+WORDS = ("finish", "cancel", "arrive")
+
+
+class Run:
+    """A trace on a level of one thread, from its first call to its last. With a patience of 0 no request gives up."""
+
+    def __init__(self, config, trace, patience):
+        self.config, self.trace, self.patience = config, trace, patience
+        self.level = Level(config, trace)
+        # the requests that did not arrive yet, in the order of their arrivals
+        self.coming = sorted(range(len(trace)), key=lambda it: (trace[it]["arrivesAt"], it))
+        # when each request took its seats, and when each wait was over: by its seats, or by giving up
+        self.started, self.waited_until = {}, {}
+        # each call that was made: its time, its kind and its request
+        self.calls = []
+        while due := self.due():
+            self.carry_out(*min(due))
+
+    def due(self):
+        """What is due, as far as it is known now. A call may make more due at once: the finish of a request that runs for no time."""
+        finishes = [(self.started[it] + self.trace[it]["runsFor"], FINISH, it) for it in self.level.running]
+        waiting = [it for queue in self.level.queues for it in queue] if self.patience else []
+        cancels = [(self.trace[it]["arrivesAt"] + self.patience, CANCEL, it) for it in waiting]
+        return finishes + cancels + [(self.trace[it]["arrivesAt"], ARRIVE, it) for it in self.coming[:1]]
+
+    def carry_out(self, time, kind, request):
+        before = set(self.level.running)
+        getattr(self.level, WORDS[kind])(request)
+        self.calls.append((time, kind, request))
+        for other in self.level.running - before:
+            self.started[other] = self.waited_until[other] = time
+        if kind == CANCEL:
+            self.waited_until[request] = time
+        if kind == ARRIVE:
+            self.coming.remove(request)
+
+    def wait(self, request):
+        """How long it waited for its seats, or until it gave up. A request that is rejected does not wait."""
+        arrival = self.trace[request]["arrivesAt"]
+        return self.waited_until.get(request, arrival) - arrival
+
+    def seat_time(self, request):
+        return self.trace[request]["width"] * self.trace[request]["runsFor"] if request in self.started else 0
+
+    def end(self):
+        return self.calls[-1][0] if self.calls else 0
+
+
+def flows_of(trace):
+    """The numbers of each flow's requests, by the flow's hash, in the order of the flows' first requests."""
+    flows = {}
+    for number, request in enumerate(trace):
+        flows.setdefault(request["hash"], []).append(number)
+    return flows
+
+
+def names_of(trace, members):
+    """The names of a flow as JSON texts, escaped only where JSON must: those of its first request, none where that one gives a hash."""
+    return [json.dumps(it, ensure_ascii=False) for it in trace[members[0]]["names"] or ()]
+
+
+def of_names(trace, members):
+    return "".join(f" {it}" for it in ["of", *names_of(trace, members)]) if names_of(trace, members) else ""
+
+
+def nearest_rank(waits, percent):
+    """The least wait such that at least so many of a hundred are not above it; 0 of none."""
+    ordered = sorted(waits)
+    for place, wait in enumerate(ordered, 1):
+        if 100 * place >= percent * len(ordered):
+            return wait
+    return 0
+
+
+def flow_line(run, flow, members):
+    decisions = [run.level.decided[it] for it in members]
+    executed, cancelled = decisions.count("execute"), decisions.count("cancelled")
+    waits = [run.wait(it) for it in members if it in run.started]
+    return (
+        f"flow {flow:016x} requests {len(members)}"
+        f" executed {executed} rejected {len(members) - executed - cancelled} cancelled {cancelled}"
+        f" seat-time {sum(map(run.seat_time, members))}"
+        f" wait {nearest_rank(waits, 50)} {nearest_rank(waits, 99)} {max(waits, default=0)}{of_names(run.trace, members)}"
+    )
+
+
+def simulate(run):
+    flows = [flow_line(run, flow, members) for flow, members in flows_of(run.trace).items()]
+    used, waited = (sum(map(each, range(len(run.trace)))) for each in (run.seat_time, run.wait))
+    end = f"end {run.end()} seat-time {used} of {run.config['limit'] * run.end()} waited {waited}"
+    return [*flows, end, *run.level.transcript().splitlines()[-4:]]
+
+
+def timeline(run):
+    return [f"{WORDS[kind]} {request}" for _, kind, request in run.calls]
+
+
+def requests(trace):
+    """One array, one object a line, without blanks: the flow as the trace gives it, and a width that is not 1."""
+    lines = []
+    for request in trace:
+        flow = dict(zip(("schema", "distinguisher"), request["names"])) if request["names"] else {"hash": request["hash"]}
+        width = {"width": request["width"]} if request["width"] != 1 else {}
+        lines.append(json.dumps({**flow, **width}, ensure_ascii=False, separators=(",", ":")))
+    return ["[", *(f"{line}," for line in lines[:-1]), *lines[-1:], "]"]
+
+
+def hands(config, trace):
+    """The queues of each hand, and those that are shared, in the order in which they were dealt. A level that rejects deals none."""
+    flows, lines = flows_of(trace), []
+    queues = config["queues"] if config["limitResponse"] == "Queue" else 0
+    dealt = {flow: hand_of(queues, config["handSize"] if queues else 0, flow) for flow in flows}
+    for flow, members in flows.items():
+        lines.append(" ".join([f"flow {flow:016x} hand", *map(str, dealt[flow])]) + of_names(trace, members))
+        covers = []
+        for other, its_members in flows.items():
+            shared = [queue for queue in dealt[flow] if queue in dealt[other]]
+            if other != flow and shared:
+                lines.append(" ".join(["  shares", *map(str, shared), "with", f"{other:016x}", *names_of(trace, its_members)]))
+                covers += [f"{other:016x}"] if shared == dealt[flow] else []
+        if covers:
+            lines.append(" ".join(["  covered by", *covers]))
+    return lines
+
+
+def answer(command, contents, *patience):
+    """The status, output and errors of one of these commands, on files of these bytes that are judged in this order."""
+    try:
+        if command is requests:
+            lines = requests(trace_of(*contents))
+        else:
+            config, trace = config_of(contents[0]), trace_of(contents[1])
+            fault = config["limitResponse"] == "Queue" and dealer_fault(config["queues"], config["handSize"])
+            if fault:
+                raise Refused(fault)
+            lines = command(Run(config, trace, *patience)) if patience else command(config, trace)
+        return 0, "".join(f"{line}\n" for line in lines).encode(), b""
+    except Refused as line:
+        return 1, b"", f"{line}\n".encode()

@@ -1,0 +1,103 @@
+"""What a trace file says, by the table of its faults: an independent judge of its bytes.
+
+A trace is one JSON object a line, for a request each. `trace_of` answers the requests, or raises TraceFault.
+"""
+
+import functools
+
+from judge import Json, NotJson, Refused, flow_of, whole_in
+from level import hash_of
+
+LINES = 10_000
+# of a line without its LF
+BYTES = 65_536
+
+# each fault's number is its place in the order in which a line is judged
+TOO_MANY, TOO_LONG, NOT_JSON, NOT_OBJECT, UNKNOWN_KEY, BAD_ARRIVAL, BAD_RUN, BAD_FLOW, BAD_WIDTH, BAD_COST, TRUNCATED = range(1, 12)
+TEXTS = {
+    TOO_MANY: "too many lines",
+    TOO_LONG: "line too long",
+    NOT_JSON: "not JSON",
+    NOT_OBJECT: "not an object",
+    UNKNOWN_KEY: "unknown key",
+    BAD_ARRIVAL: "bad arrivesAt",
+    BAD_RUN: "bad runsFor",
+    BAD_FLOW: "bad flow",
+    BAD_WIDTH: "bad width",
+    BAD_COST: "bad cost",
+    TRUNCATED: "truncated",
+}
+KEYS = ("arrivesAt", "runsFor", "schema", "distinguisher", "hash", "width", "cost")
+# key: lowest, highest, and the fault of another value; the two times must be there
+TIMES = {"arrivesAt": (0, 1_000_000_000_000, BAD_ARRIVAL), "runsFor": (0, 10_000_000_000, BAD_RUN)}
+SEATS = {"width": (1, 20_000, BAD_WIDTH), "cost": (1, 20_000, BAD_COST)}
+
+
+class TraceFault(Refused):
+    """The first fault of a trace: its number, its line from 1, and its text."""
+
+    def __init__(self, number, line):
+        self.number, self.line, self.text = number, line, TEXTS[number]
+        super().__init__(f"apf: trace fault {number} at line {line}: {self.text}")
+
+
+def lines_of(content):
+    """Each line without its LF, and whether it has one: bytes after the last LF are a line without."""
+    *lines, rest = content.split(b"\n")
+    return [*((line, True) for line in lines), *([(rest, False)] if rest else [])]
+
+
+@functools.lru_cache(maxsize=16)
+def value_of(line):
+    """The JSON value of a line. The last ones are kept, as large traces of the tests repeat one line."""
+    return Json(line).whole()
+
+
+def value_fault(value):
+    """The first fault of a line's value, or None. A flow is named as in the requests file: by its hash alone, or by both texts alone."""
+    if not isinstance(value, dict):
+        return NOT_OBJECT
+    if any(key not in KEYS for key in value):
+        return UNKNOWN_KEY
+    for key, (low, high, fault) in TIMES.items():
+        if not whole_in(value.get(key), low, high):
+            return fault
+    if flow_of(value) is None:
+        return BAD_FLOW
+    for key, (low, high, fault) in SEATS.items():
+        if key in value and not whole_in(value[key], low, high):
+            return fault
+    return None
+
+
+def request_of(value):
+    flow = flow_of(value)
+    names = None if isinstance(flow, int) else flow
+    width = value.get("width", 1)
+    return {
+        "arrivesAt": value["arrivesAt"],
+        "runsFor": value["runsFor"],
+        "flow": flow,
+        "names": names,
+        "hash": flow if names is None else hash_of(*names),
+        "width": width,
+        "cost": value.get("cost", width),
+    }
+
+
+def trace_of(content):
+    requests = []
+    for number, (line, is_ended) in enumerate(lines_of(content), 1):
+        if number > LINES:
+            raise TraceFault(TOO_MANY, number)
+        if len(line) > BYTES:
+            raise TraceFault(TOO_LONG, number)
+        try:
+            value = value_of(line)
+        except NotJson:
+            raise TraceFault(NOT_JSON, number) from None
+        fault = value_fault(value) or (None if is_ended else TRUNCATED)
+        if fault:
+            raise TraceFault(fault, number)
+        requests.append(request_of(value))
+    return requests

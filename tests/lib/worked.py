@@ -1,0 +1,372 @@
+"""Runs of requests with times that were worked by hand from the rules, and the independent computation (simulation.py) against them."""
+
+from simulation import answer, hands, nearest_rank, requests, simulate, timeline
+
+CRAWLER = '{"schema":"batch","distinguisher":"crawler","arrivesAt":0,"runsFor":100}\n'
+ALICE = '{"schema":"users","distinguisher":"alice","arrivesAt":%d,"runsFor":20%s}\n'
+ONE_QUEUE = '{"limit":%d,"queues":1,"handSize":1,"queueLengthLimit":%d}'
+COSTLY = (
+    '{"hash":1,"arrivesAt":0,"runsFor":10,"cost":20000}\n'
+    '{"hash":0,"arrivesAt":1,"runsFor":10,"cost":3}\n'
+    '{"hash":0,"arrivesAt":1,"runsFor":10}\n'
+    '{"hash":1,"arrivesAt":1,"runsFor":10}\n'
+    '{"hash":1,"arrivesAt":1,"runsFor":10}\n'
+)
+# a name, the config, the trace, and what each command prints of them, with its patience if it takes one
+WORKED = [
+    (
+        "a crawler and alice",
+        '{"limit":2,"queues":2,"handSize":1,"queueLengthLimit":2}',
+        CRAWLER * 6 + ALICE % (50, "") + ALICE % (60, ',"width":2') + ALICE % (400, ""),
+        [
+            (
+                simulate,
+                0,
+                'flow b2cfa8521298df5f requests 6 executed 4 rejected 2 cancelled 0 seat-time 400 wait 0 120 120 of "batch" "crawler"\n'
+                'flow f7c495a40a0feec0 requests 3 executed 3 rejected 0 cancelled 0 seat-time 80 wait 50 160 160 of "users" "alice"\n'
+                "end 420 seat-time 480 of 840 waited 430\n"
+                "level open seats 0 waiting 0\n"
+                "executed 7 rejected 2 cancelled 0 undecided 0\n"
+                "queue-full 2 closed 0 concurrency-limit 0\n"
+                "entered 4 dispatched 4 struck 0\n",
+            ),
+            (
+                simulate,
+                90,
+                'flow b2cfa8521298df5f requests 6 executed 2 rejected 2 cancelled 2 seat-time 200 wait 0 0 0 of "batch" "crawler"\n'
+                'flow f7c495a40a0feec0 requests 3 executed 3 rejected 0 cancelled 0 seat-time 80 wait 50 60 60 of "users" "alice"\n'
+                "end 420 seat-time 280 of 840 waited 290\n"
+                "level open seats 0 waiting 0\n"
+                "executed 5 rejected 2 cancelled 2 undecided 0\n"
+                "queue-full 2 closed 0 concurrency-limit 0\n"
+                "entered 4 dispatched 2 struck 2\n",
+            ),
+            (
+                timeline,
+                0,
+                "arrive 0\narrive 1\narrive 2\narrive 3\narrive 4\narrive 5\narrive 6\narrive 7\n"
+                "finish 0\nfinish 1\nfinish 6\nfinish 2\nfinish 3\nfinish 7\narrive 8\nfinish 8\n",
+            ),
+            (
+                timeline,
+                90,
+                "arrive 0\narrive 1\narrive 2\narrive 3\narrive 4\narrive 5\narrive 6\narrive 7\n"
+                "cancel 2\ncancel 3\nfinish 0\nfinish 1\nfinish 6\nfinish 7\narrive 8\nfinish 8\n",
+            ),
+            (
+                hands,
+                None,
+                'flow b2cfa8521298df5f hand 1 of "batch" "crawler"\nflow f7c495a40a0feec0 hand 0 of "users" "alice"\n',
+            ),
+            (
+                requests,
+                None,
+                "[\n"
+                + '{"schema":"batch","distinguisher":"crawler"},\n' * 6
+                + '{"schema":"users","distinguisher":"alice"},\n'
+                + '{"schema":"users","distinguisher":"alice","width":2},\n'
+                + '{"schema":"users","distinguisher":"alice"}\n'
+                + "]\n",
+            ),
+        ],
+    ),
+    (
+        "one seat is given back at the time at which two would give up",
+        ONE_QUEUE % (1, 50),
+        '{"hash":0,"arrivesAt":0,"runsFor":10}\n' + '{"hash":0,"arrivesAt":0,"runsFor":5}\n' * 2,
+        [
+            (timeline, 10, "arrive 0\narrive 1\narrive 2\nfinish 0\ncancel 2\nfinish 1\n"),
+            (
+                simulate,
+                10,
+                "flow 0000000000000000 requests 3 executed 2 rejected 0 cancelled 1 seat-time 15 wait 0 10 10\n"
+                "end 15 seat-time 15 of 15 waited 20\n"
+                "level open seats 0 waiting 0\n"
+                "executed 2 rejected 0 cancelled 1 undecided 0\n"
+                "queue-full 0 closed 0 concurrency-limit 0\n"
+                "entered 2 dispatched 1 struck 1\n",
+            ),
+        ],
+    ),
+    (
+        "one gives up, and another takes its place in the queue at the same time",
+        ONE_QUEUE % (1, 1),
+        '{"hash":0,"arrivesAt":0,"runsFor":100}\n{"hash":0,"arrivesAt":0,"runsFor":1}\n{"hash":0,"arrivesAt":10,"runsFor":1}\n',
+        [
+            (timeline, 10, "arrive 0\narrive 1\ncancel 1\narrive 2\ncancel 2\nfinish 0\n"),
+            (
+                simulate,
+                10,
+                "flow 0000000000000000 requests 3 executed 1 rejected 0 cancelled 2 seat-time 100 wait 0 0 0\n"
+                "end 100 seat-time 100 of 100 waited 20\n"
+                "level open seats 0 waiting 0\n"
+                "executed 1 rejected 0 cancelled 2 undecided 0\n"
+                "queue-full 0 closed 0 concurrency-limit 0\n"
+                "entered 2 dispatched 0 struck 2\n",
+            ),
+        ],
+    ),
+    (
+        "runs of no time end before the next arrival of that time",
+        ONE_QUEUE % (1, 50),
+        '{"hash":0,"arrivesAt":5,"runsFor":0}\n' * 2 + '{"hash":0,"arrivesAt":3,"runsFor":2}\n',
+        [
+            (timeline, 0, "arrive 2\nfinish 2\narrive 0\nfinish 0\narrive 1\nfinish 1\n"),
+            (timeline, 1, "arrive 2\nfinish 2\narrive 0\nfinish 0\narrive 1\nfinish 1\n"),
+            (
+                simulate,
+                0,
+                "flow 0000000000000000 requests 3 executed 3 rejected 0 cancelled 0 seat-time 2 wait 0 0 0\n"
+                "end 5 seat-time 2 of 5 waited 0\n"
+                "level open seats 0 waiting 0\n"
+                "executed 3 rejected 0 cancelled 0 undecided 0\n"
+                "queue-full 0 closed 0 concurrency-limit 0\n"
+                "entered 0 dispatched 0 struck 0\n",
+            ),
+        ],
+    ),
+    (
+        "a wide request gives up, and the one behind it takes a seat",
+        ONE_QUEUE % (2, 50),
+        '{"hash":0,"arrivesAt":0,"runsFor":100}\n{"hash":0,"arrivesAt":10,"runsFor":5,"width":2}\n{"hash":0,"arrivesAt":20,"runsFor":0}\n',
+        [
+            (timeline, 50, "arrive 0\narrive 1\narrive 2\ncancel 1\nfinish 2\nfinish 0\n"),
+            (
+                simulate,
+                50,
+                "flow 0000000000000000 requests 3 executed 2 rejected 0 cancelled 1 seat-time 100 wait 0 40 40\n"
+                "end 100 seat-time 100 of 200 waited 90\n"
+                "level open seats 0 waiting 0\n"
+                "executed 2 rejected 0 cancelled 1 undecided 0\n"
+                "queue-full 0 closed 0 concurrency-limit 0\n"
+                "entered 2 dispatched 1 struck 1\n",
+            ),
+        ],
+    ),
+    (
+        "a request that is wider than the limit runs alone",
+        ONE_QUEUE % (2, 50),
+        '{"hash":0,"arrivesAt":0,"runsFor":10}\n{"hash":0,"arrivesAt":1,"runsFor":10,"width":5}\n{"hash":0,"arrivesAt":2,"runsFor":10}\n',
+        [
+            (timeline, 0, "arrive 0\narrive 1\narrive 2\nfinish 0\nfinish 1\nfinish 2\n"),
+            (
+                simulate,
+                0,
+                "flow 0000000000000000 requests 3 executed 3 rejected 0 cancelled 0 seat-time 70 wait 9 18 18\n"
+                "end 30 seat-time 70 of 60 waited 27\n"
+                "level open seats 0 waiting 0\n"
+                "executed 3 rejected 0 cancelled 0 undecided 0\n"
+                "queue-full 0 closed 0 concurrency-limit 0\n"
+                "entered 2 dispatched 2 struck 0\n",
+            ),
+            (requests, None, '[\n{"hash":0},\n{"hash":0,"width":5},\n{"hash":0}\n]\n'),
+        ],
+    ),
+    (
+        "a level that rejects",
+        '{"limit":1,"limitResponse":"Reject"}',
+        '{"hash":0,"arrivesAt":0,"runsFor":10}\n{"hash":1,"arrivesAt":5,"runsFor":10}\n{"hash":0,"arrivesAt":10,"runsFor":10}\n',
+        [
+            (timeline, 3, "arrive 0\narrive 1\nfinish 0\narrive 2\nfinish 2\n"),
+            (
+                simulate,
+                3,
+                "flow 0000000000000000 requests 2 executed 2 rejected 0 cancelled 0 seat-time 20 wait 0 0 0\n"
+                "flow 0000000000000001 requests 1 executed 0 rejected 1 cancelled 0 seat-time 0 wait 0 0 0\n"
+                "end 20 seat-time 20 of 20 waited 0\n"
+                "level open seats 0 waiting 0\n"
+                "executed 2 rejected 1 cancelled 0 undecided 0\n"
+                "queue-full 0 closed 0 concurrency-limit 1\n"
+                "entered 0 dispatched 0 struck 0\n",
+            ),
+        ],
+    ),
+    # the flow of the hash 1 has queue 1, the other one queue 0: of the first heads, that of queue 1 ends at 1, the other one at 3
+    (
+        "dispatches are charged their costs",
+        '{"limit":1,"queues":2,"handSize":1}',
+        COSTLY,
+        [
+            (timeline, 0, "arrive 0\narrive 1\narrive 2\narrive 3\narrive 4\nfinish 0\nfinish 3\nfinish 4\nfinish 1\nfinish 2\n"),
+            (
+                simulate,
+                0,
+                "flow 0000000000000001 requests 3 executed 3 rejected 0 cancelled 0 seat-time 30 wait 9 19 19\n"
+                "flow 0000000000000000 requests 2 executed 2 rejected 0 cancelled 0 seat-time 20 wait 29 39 39\n"
+                "end 50 seat-time 50 of 50 waited 96\n"
+                "level open seats 0 waiting 0\n"
+                "executed 5 rejected 0 cancelled 0 undecided 0\n"
+                "queue-full 0 closed 0 concurrency-limit 0\n"
+                "entered 4 dispatched 4 struck 0\n",
+            ),
+            (requests, None, '[\n{"hash":1},\n{"hash":0},\n{"hash":0},\n{"hash":1},\n{"hash":1}\n]\n'),
+        ],
+    ),
+    (
+        "the same requests without the cost of 3",
+        '{"limit":1,"queues":2,"handSize":1}',
+        COSTLY.replace(',"cost":3', ""),
+        [
+            (timeline, 0, "arrive 0\narrive 1\narrive 2\narrive 3\narrive 4\nfinish 0\nfinish 1\nfinish 3\nfinish 2\nfinish 4\n"),
+            (
+                simulate,
+                0,
+                "flow 0000000000000001 requests 3 executed 3 rejected 0 cancelled 0 seat-time 30 wait 19 39 39\n"
+                "flow 0000000000000000 requests 2 executed 2 rejected 0 cancelled 0 seat-time 20 wait 9 29 29\n"
+                "end 50 seat-time 50 of 50 waited 96\n"
+                "level open seats 0 waiting 0\n"
+                "executed 5 rejected 0 cancelled 0 undecided 0\n"
+                "queue-full 0 closed 0 concurrency-limit 0\n"
+                "entered 4 dispatched 4 struck 0\n",
+            ),
+        ],
+    ),
+    # at 10 the head of queue 1 would end at 1, the other one at 5; at 20 two of a seat each take the two seats
+    (
+        "seats go by widths, and charges by costs",
+        '{"limit":2,"queues":2,"handSize":1}',
+        '{"hash":0,"arrivesAt":0,"runsFor":10,"width":2}\n'
+        + '{"hash":0,"arrivesAt":1,"runsFor":10,"cost":5}\n' * 2
+        + '{"hash":1,"arrivesAt":1,"runsFor":10,"width":2,"cost":1}\n',
+        [
+            (timeline, 0, "arrive 0\narrive 1\narrive 2\narrive 3\nfinish 0\nfinish 3\nfinish 1\nfinish 2\n"),
+            (
+                simulate,
+                0,
+                "flow 0000000000000000 requests 3 executed 3 rejected 0 cancelled 0 seat-time 40 wait 19 19 19\n"
+                "flow 0000000000000001 requests 1 executed 1 rejected 0 cancelled 0 seat-time 20 wait 9 9 9\n"
+                "end 30 seat-time 60 of 60 waited 47\n"
+                "level open seats 0 waiting 0\n"
+                "executed 4 rejected 0 cancelled 0 undecided 0\n"
+                "queue-full 0 closed 0 concurrency-limit 0\n"
+                "entered 3 dispatched 3 struck 0\n",
+            ),
+        ],
+    ),
+    # the hash of the names in the second line is the number in the first
+    (
+        "a flow is named by the first of its requests, and comes by that one's line",
+        '{"limit":5,"queues":1,"handSize":1}',
+        '{"hash":12884702129383071583,"arrivesAt":9,"runsFor":1}\n'
+        '{"schema":"batch","distinguisher":"crawler","arrivesAt":0,"runsFor":1}\n'
+        '{"schema":"a\\"\\\\\\n\\u0001\\u007f\\/\\u00e4\\ud83d\\ude00","distinguisher":"","arrivesAt":0,"runsFor":1}\n',
+        [
+            (timeline, 0, "arrive 1\narrive 2\nfinish 1\nfinish 2\narrive 0\nfinish 0\n"),
+            (
+                simulate,
+                0,
+                "flow b2cfa8521298df5f requests 2 executed 2 rejected 0 cancelled 0 seat-time 2 wait 0 0 0\n"
+                'flow 318d292d6ad4546e requests 1 executed 1 rejected 0 cancelled 0 seat-time 1 wait 0 0 0 of "a\\"\\\\\\n\\u0001\x7f/ä😀" ""\n'
+                "end 10 seat-time 3 of 50 waited 0\n"
+                "level open seats 0 waiting 0\n"
+                "executed 3 rejected 0 cancelled 0 undecided 0\n"
+                "queue-full 0 closed 0 concurrency-limit 0\n"
+                "entered 0 dispatched 0 struck 0\n",
+            ),
+            (
+                hands,
+                None,
+                "flow b2cfa8521298df5f hand 0\n"
+                '  shares 0 with 318d292d6ad4546e "a\\"\\\\\\n\\u0001\x7f/ä😀" ""\n'
+                "  covered by 318d292d6ad4546e\n"
+                'flow 318d292d6ad4546e hand 0 of "a\\"\\\\\\n\\u0001\x7f/ä😀" ""\n'
+                "  shares 0 with b2cfa8521298df5f\n"
+                "  covered by b2cfa8521298df5f\n",
+            ),
+            (
+                requests,
+                None,
+                '[\n{"hash":12884702129383071583},\n{"schema":"batch","distinguisher":"crawler"},\n'
+                '{"schema":"a\\"\\\\\\n\\u0001\x7f/ä😀","distinguisher":""}\n]\n',
+            ),
+        ],
+    ),
+    # of four queues, 0 is dealt 0 and the first of the others; 5 is dealt 1 and the second of 0, 2, 3; 1 is dealt 1 and 0
+    (
+        "three hands of two",
+        '{"limit":1,"queues":4,"handSize":2}',
+        "".join('{"hash":%d,"arrivesAt":0,"runsFor":0}\n' % number for number in (0, 5, 0, 1)),
+        [
+            (
+                hands,
+                None,
+                "flow 0000000000000000 hand 0 1\n"
+                "  shares 1 with 0000000000000005\n"
+                "  shares 0 1 with 0000000000000001\n"
+                "  covered by 0000000000000001\n"
+                "flow 0000000000000005 hand 1 2\n"
+                "  shares 1 with 0000000000000000\n"
+                "  shares 1 with 0000000000000001\n"
+                "flow 0000000000000001 hand 1 0\n"
+                "  shares 1 0 with 0000000000000000\n"
+                "  shares 1 with 0000000000000005\n"
+                "  covered by 0000000000000000\n",
+            ),
+        ],
+    ),
+    (
+        "the latest, the longest and the widest",
+        '{"limit":10000}',
+        '{"hash":18446744073709551615,"arrivesAt":1000000000000,"runsFor":10000000000,"width":20000,"cost":20000}\n',
+        [
+            (timeline, 1_000_000_000, "arrive 0\nfinish 0\n"),
+            (
+                simulate,
+                1_000_000_000,
+                "flow ffffffffffffffff requests 1 executed 1 rejected 0 cancelled 0 seat-time 200000000000000 wait 0 0 0\n"
+                "end 1010000000000 seat-time 200000000000000 of 10100000000000000 waited 0\n"
+                "level open seats 0 waiting 0\n"
+                "executed 1 rejected 0 cancelled 0 undecided 0\n"
+                "queue-full 0 closed 0 concurrency-limit 0\n"
+                "entered 0 dispatched 0 struck 0\n",
+            ),
+            (requests, None, '[\n{"hash":18446744073709551615,"width":20000}\n]\n'),
+        ],
+    ),
+    (
+        "nobody",
+        '{"limit":1}',
+        "",
+        [
+            (timeline, 0, ""),
+            (
+                simulate,
+                1,
+                "end 0 seat-time 0 of 0 waited 0\n"
+                "level open seats 0 waiting 0\n"
+                "executed 0 rejected 0 cancelled 0 undecided 0\n"
+                "queue-full 0 closed 0 concurrency-limit 0\n"
+                "entered 0 dispatched 0 struck 0\n",
+            ),
+            (hands, None, ""),
+            (requests, None, "[\n]\n"),
+        ],
+    ),
+]
+# waits, the median of them, and the 99th percentile
+RANKS = [
+    ([], 0, 0),
+    ([7], 7, 7),
+    ([3, 1], 1, 3),
+    ([3, 1, 2, 2], 2, 3),
+    (range(1, 101), 50, 99),
+    (range(1, 102), 51, 100),
+    (range(1, 201), 100, 198),
+]
+
+
+def worked():
+    """Each example: its name, the command, the contents of its files, a list of its patience if it takes one, and what is printed."""
+    for name, config, trace, rows in WORKED:
+        for command, patience, text in rows:
+            contents = [trace.encode()] if command is requests else [config.encode(), trace.encode()]
+            more = [] if patience is None else [patience]
+            yield " ".join([name, command.__name__, *map(str, more)]), command, contents, more, text
+
+
+def self_test(check):
+    """The computation against each example."""
+    for name, command, contents, patience, text in worked():
+        check(f"the model: {name}", answer(command, contents, *patience), (0, text.encode(), b""))
+    for waits, median, high in RANKS:
+        check(f"the ranks of {waits}", (nearest_rank(waits, 50), nearest_rank(waits, 99)), (median, high))

@@ -1,0 +1,390 @@
+"""Requests with times. First 300 drawn traces: an independent computation makes a script and a requests file of each, and foresees
+what `replay` prints of them. Then the computation itself, by examples that were worked by hand and by rules that hold of every run,
+and the judge of traces, by 500 faulty files. Last the commands, each where the program has it."""
+
+import json
+import os
+import random
+import subprocess
+import sys
+import time
+
+sys.path.insert(0, os.path.join(os.path.dirname(os.path.abspath(__file__)), "lib"))
+import simulation
+import worked
+from harness import Files, Tally, build, run
+from judge import config_of, requests_of
+from level import hash_of
+from runs import Record, sums_broken
+from simulation import Run, flows_of, nearest_rank
+from trace import TraceFault, trace_of
+from traces import FAULTY_ENDS, Traces, good_ends
+
+# which of simulate, timeline, requests and hands the program has: what stands below of another one is not run
+COMMANDS = ()
+# those that take a patience
+PATIENT = ("simulate", "timeline")
+CONFIG = b'{"limit":2,"queues":2,"handSize":1}'
+LINE = b'{"hash":0,"arrivesAt":0,"runsFor":0}\n'
+
+tally = Tally()
+program = build()
+files = Files()
+# the same draws each time; APF_SEED draws others
+seed = int(os.environ.get("APF_SEED", "1040"))
+traces = Traces(random.Random(seed))
+TRACES = int(os.environ.get("APF_TRACES", "300"))
+FAULTY = int(os.environ.get("APF_FAULTY", "500"))
+print(f"seed {seed}")
+
+
+def text_of(lines):
+    return "".join(f"{line}\n" for line in lines)
+
+
+def lines_of(text):
+    return text.split("\n")[:-1]
+
+
+def replayed(config, requests, script):
+    """The status, the lines and the errors of `replay` on these texts."""
+    texts = {"config.json": json.dumps(config), "requests.json": requests, "script": script}
+    status, out, err = run(program, ["replay", *(files(name, text) for name, text in texts.items())])
+    return status, lines_of(out.decode()), err
+
+
+def line_of_whole(config, record):
+    """The line of the whole by areas: the seats in use over time, and the number of those that wait."""
+    end, seats, waits = record.areas()
+    return f"end {end} seat-time {seats} of {config['limit'] * end} waited {waits}"
+
+
+# what happens in a drawn run, and in how many of 300 at least
+SEEN = {
+    "two calls at one time": 150,
+    "a finish, and an arrival at its time": 30,
+    "a run of no time, and an arrival after it at its time": 50,
+    "a run of no time that had waited": 30,
+    "a finish that dispatches two": 20,
+    "a strike": 40,
+    "a strike that dispatches": 5,
+    "a seat at the time of giving up": 10,
+    "a wait with patience": 40,
+    "a wait that is wider than the limit": 20,
+    "a full queue": 50,
+    "no room on a level that rejects": 10,
+}
+
+
+def happenings(made):
+    """Those of them that happen in this run."""
+    level, trace = made.level, made.trace
+    words = [line.split()[0] for line in level.lines]
+    waited = [it for it in made.started if made.wait(it) > 0]
+    pairs = [(one[2], one[1], other[1]) for one, other in zip(made.calls, made.calls[1:]) if one[0] == other[0]]
+    ends = [it for it, kind, next_kind in pairs if (kind, next_kind) == (simulation.FINISH, simulation.ARRIVE)]
+    happens = {
+        "two calls at one time": pairs,
+        "a finish, and an arrival at its time": [it for it in ends if trace[it]["runsFor"]],
+        "a run of no time, and an arrival after it at its time": [it for it in ends if not trace[it]["runsFor"]],
+        "a run of no time that had waited": [it for it in waited if not trace[it]["runsFor"]],
+        "a finish that dispatches two": ["finish dispatch dispatch"] if "finish dispatch dispatch" in " ".join(words) else [],
+        "a strike": ["strike"] if "strike" in words else [],
+        "a strike that dispatches": ["strike dispatch"] if "strike dispatch" in " ".join(words) else [],
+        "a seat at the time of giving up": [it for it in waited if made.wait(it) == made.patience],
+        "a wait with patience": waited if made.patience else [],
+        "a wait that is wider than the limit": [it for it in waited if trace[it]["width"] > level.limit],
+        "a full queue": [it for it in level.decided.values() if it == "queue-full"],
+        "no room on a level that rejects": [it for it in level.decided.values() if it == "concurrency-limit"],
+    }
+    return [what for what, cases in happens.items() if cases]
+
+
+def check_replays():
+    """The program's `replay` of the computation's script and requests, by the computation and by the rules."""
+    seen = dict.fromkeys(SEEN, 0)
+    for number in range(TRACES):
+        config, (objects, patience) = traces.config(), traces.trace(has_costs=False)
+        content = traces.content(objects)
+        made = Run(config, trace_of(content), patience)
+        script, requests = simulation.timeline(made), simulation.requests(made.trace)
+        status, lines, err = replayed(config, text_of(requests), text_of(script))
+        name = f"run {number} of {config}, {content}, patience {patience}"
+        tally.check(f"{name}: status and errors", (status, err), (0, b""))
+        tally.check(f"{name}: the book", lines[-4:], simulation.simulate(made)[-4:])
+        tally.check(f"{name}: the answers", lines[:-4], made.level.lines)
+        record = Record(made.level.limit, made.trace, patience, script, lines[:-4])
+        tally.check(f"{name}: the rules", record.faults(), [])
+        tally.check(f"{name}: the line of the whole", simulation.simulate(made)[-5], line_of_whole(config, record))
+        for what in happenings(made):
+            seen[what] += 1
+    for what, count in seen.items():
+        tally.check(f"in many runs there is {what}: {count}", count >= SEEN[what] * TRACES // 300, True)
+
+
+# false copies of the first example with a patience of 90: what a judge says of one, a patience, and what stands for what in the
+# script and in the answers of `replay`
+FALSE_RUNS = [
+    ("each call is one of the trace", 90, [("finish 6\n", "finish 9\n")], []),
+    ("each call is one of the trace", 90, [("finish 6\n", "\n")], []),
+    ("each call has its line", 90, [], [("finish 6\n", "finish 6 not running\n")]),
+    ("each line is of a call", 90, [], [("finish 8\n", "finish 8\nfinish 8\n")]),
+    ("each request takes its seats once", 90, [], [("finish 0\n", "finish 0\ndispatch 1 queue 0\n")]),
+    ("each request takes its seats where there is room", 90, [], [("arrive 4 queue-full 1", "arrive 4 execute")]),
+    ("no request waits while no seat is taken", 90, [], [("dispatch 7 queue 0\n", "")]),
+    ("what is due is carried out in its order", 90, [("arrive 4\narrive 5\n", "arrive 5\narrive 4\n")], []),
+    ("what is due is carried out in its order", 101, [], []),
+    ("each request arrives once", 90, [("arrive 5\n", "")], [("arrive 5 queue-full 1\n", "")]),
+    ("each request that took its seats finishes once, and no other one finishes", 90, [("finish 8\n", "")], [("finish 8\n", "")]),
+    ("each request that is struck gave up once, and no other one gives up", 90, [], [("strike 3 queue 1\n", "")]),
+    ("without patience no request gives up", 0, [], []),
+    ("no request takes its seats after the time of giving up", 30, [], []),
+    ("each request that entered took its seats or gave up, and not both", 90, [], [("dispatch 7 queue 0\n", "")]),
+    ("each request that gave up had entered", 90, [], [("arrive 3 queued 1", "arrive 3 queue-full 1")]),
+]
+# the same of what `simulate` prints
+FALSE_SUMS = [
+    ("each line has its form", "seat-time 80", "seat-time  80"),
+    ("the requests are those of the trace", "requests 6", "requests 7"),
+    ("the columns are the book's", "executed 2 rejected 2 cancelled 2", "executed 3 rejected 2 cancelled 1"),
+    ("each request is decided", "undecided 0", "undecided 1"),
+    ("the rejected requests are of three kinds, and none is closed", "queue-full 2 closed 0", "queue-full 1 closed 1"),
+    ("the seat-time is that of the flows", "seat-time 280", "seat-time 281"),
+    ("what could be used is the limit times the end", "of 840", "of 841"),
+    ("the waits of a flow ascend", "wait 50 60 60", "wait 60 50 60"),
+    ("the level is empty", "seats 0 waiting 0", "seats 1 waiting 0"),
+    ("each request that entered was dispatched or struck", "struck 2", "struck 1"),
+]
+
+
+def replaced(text, pairs):
+    for old, new in pairs:
+        text = text.replace(old, new, 1)
+    return text
+
+
+def check_rules():
+    """The judges of a run by the rules, by false copies of a true one."""
+    _, config, trace, _ = worked.WORKED[0]
+    made = Run(config_of(config.encode()), trace_of(trace.encode()), 90)
+    script, answers = text_of(simulation.timeline(made)), text_of(made.level.lines)
+    for sentence, patience, in_script, in_answers in FALSE_RUNS:
+        record = Record(2, made.trace, patience, lines_of(replaced(script, in_script)), lines_of(replaced(answers, in_answers)))
+        tally.check(f"a false run is refused: {sentence}", sentence in record.faults(), True)
+    text = text_of(simulation.simulate(made))
+    for sentence, old, new in FALSE_SUMS:
+        broken = sums_broken(made.trace, made.config, lines_of(replaced(text, [(old, new)])))
+        tally.check(f"false sums are refused: {sentence}", sentence in broken, True)
+
+
+def rank_of(waits, percent):
+    """The percentile by its definition, by a walk over the waits for each of them."""
+    return min((it for it in waits if 100 * sum(other <= it for other in waits) >= percent * len(waits)), default=0)
+
+
+def check_model():
+    """The computation by the examples, and by the rules where there are costs, too."""
+    worked.self_test(tally.check)
+    for number in range(TRACES):
+        config, (objects, patience) = traces.config(), traces.trace()
+        made = Run(config, trace_of(traces.content(objects)), patience)
+        lines = simulation.simulate(made)
+        name = f"the model's run {number} of {config}, {objects}, patience {patience}"
+        record = Record(made.level.limit, made.trace, patience, simulation.timeline(made), made.level.lines)
+        tally.check(f"{name}: the rules", record.faults(), [])
+        tally.check(f"{name}: the line of the whole", lines[-5], line_of_whole(config, record))
+        tally.check(f"{name}: the sums", sums_broken(made.trace, config, lines), [])
+        for members in flows_of(made.trace).values():
+            waits = [made.wait(it) for it in members]
+            ranks, want = ([rank(waits, percent) for percent in (50, 99)] for rank in (nearest_rank, rank_of))
+            tally.check(f"{name}: the percentiles of {waits}", ranks, want)
+        want = [{"flow": it["flow"], "width": it["width"]} for it in made.trace]
+        tally.check(f"{name}: the requests say the same", requests_of(text_of(simulation.requests(made.trace)).encode()), want)
+
+
+def read(content):
+    """What the judge says of a trace: its requests, or the number, the line and the text of its first fault."""
+    try:
+        return [[it[key] for key in ("arrivesAt", "runsFor", "hash", "names", "width", "cost")] for it in trace_of(content)]
+    except TraceFault as fault:
+        return fault.number, fault.line, str(fault)
+
+
+def meant(objects):
+    """The requests of a trace whose lines are these objects."""
+    requests = []
+    for it in objects:
+        names = (it["schema"], it["distinguisher"]) if "schema" in it else None
+        width = it.get("width", 1)
+        requests.append([it["arrivesAt"], it["runsFor"], hash_of(*names) if names else it["hash"], names, width, it.get("cost", width)])
+    return requests
+
+
+# the texts of the faults, by their numbers
+TEXTS = ["too many lines", "line too long", "not JSON", "not an object", "unknown key", "bad arrivesAt", "bad runsFor", "bad flow"]
+TEXTS += ["bad width", "bad cost", "truncated"]
+
+
+def fault_line(number, line):
+    return f"apf: trace fault {number} at line {line}: {TEXTS[number - 1]}"
+
+
+def all_faulty():
+    """The faulty files, each with its first fault's number and line."""
+    yield from FAULTY_ENDS
+    yield from traces.all_faulty(FAULTY)
+
+
+def check_judge():
+    """The judge of traces, by files that were made faulty in a known place, and by good ones."""
+    kinds = set()
+    for content, number, line in all_faulty():
+        tally.check(f"the judge of {content[-300:]!r}", read(content), (number, line, fault_line(number, line)))
+        kinds.add(number)
+    tally.check("the faulty files have each fault", sorted(kinds), [*range(1, 12)])
+    for name, content, objects in good_ends():
+        tally.check(f"the judge of {name}", read(content), meant(objects))
+    for number in range(TRACES):
+        objects, _ = traces.trace()
+        tally.check(f"the judge of the drawn trace {number}", read(traces.content(objects)), meant(objects))
+
+
+# the commands
+
+
+def printed(command, contents, *patience):
+    """What the program does by a command on files of these bytes."""
+    names = ("trace",) if command == "requests" else ("config", "trace")
+    return run(program, [command, *(files(name, content) for name, content in zip(names, contents)), *map(str, patience)])
+
+
+def foreseen(command, contents, *patience):
+    return simulation.answer(getattr(simulation, command), contents, *patience)
+
+
+def inputs(command, config, trace, patience):
+    """What the command takes of these: its files, and its patience."""
+    return [trace] if command == "requests" else [config, trace], *([patience] if command in PATIENT else [])
+
+
+def check_examples():
+    for name, command, contents, patience, text in worked.worked():
+        if command.__name__ in COMMANDS:
+            tally.check(name, printed(command.__name__, contents, *patience), (0, text.encode(), b""))
+
+
+def check_drawn(command):
+    """On drawn traces, what the model foresees."""
+    for number in range(TRACES):
+        config, (objects, patience) = traces.config(), traces.trace()
+        taken = inputs(command, json.dumps(config).encode(), traces.content(objects), patience)
+        got = printed(command, *taken)
+        tally.check(f"{command} of {taken}", got, foreseen(command, *taken))
+        if command == "simulate":
+            tally.check(f"the sums of {taken}", sums_broken(objects, config, lines_of(got[1].decode())), [])
+
+
+def check_circle():
+    """The program's own script and requests, through its `replay`: the rules, the line of the whole and the book."""
+    for number in range(TRACES // 3):
+        config, (objects, patience) = traces.config(), traces.trace(has_costs=False)
+        contents = json.dumps(config).encode(), traces.content(objects)
+        script = printed("timeline", contents, patience)[1].decode()
+        lines = lines_of(printed("simulate", contents, patience)[1].decode())
+        _, answers, _ = replayed(config, printed("requests", contents[1:])[1], script)
+        record = Record(config["limit"], trace_of(contents[1]), patience, lines_of(script), answers[:-4])
+        name = f"replay of the script of {contents}, patience {patience}"
+        tally.check(f"{name}: the rules", record.faults(), [])
+        tally.check(f"{name}: the whole and the book", lines[-5:], [line_of_whole(config, record), *answers[-4:]])
+
+
+def check_traces(command):
+    """Each faulty trace, and those at the ends of what is allowed."""
+    for content, number, line in FAULTY_ENDS if command != "simulate" else all_faulty():
+        got = printed(command, *inputs(command, CONFIG, content, 0))
+        tally.check(f"{command} of {content[-300:]!r}", got, (1, b"", f"{fault_line(number, line)}\n".encode()))
+    for name, content, _ in good_ends():
+        taken = inputs(command, CONFIG, content, 0)
+        tally.check(f"{command} of {name}", printed(command, *taken), foreseen(command, *taken))
+
+
+def check_reading(command):
+    """Files that can't be read, and the order in which the files are read and judged, and the level is opened."""
+    missing, good = os.path.join(files.folder.name, "missing"), [files("config", CONFIG), files("trace", LINE)]
+    patience = ["0"] if command in PATIENT else []
+    if command == "requests":
+        for path in (missing, files.folder.name):
+            tally.check(f"{command} {path}", run(program, [command, path]), (1, b"", b"apf: cannot read trace\n"))
+        return
+    narrow, zero, cut = files("narrow", b'{"limit":1,"queues":3}'), files("zero", b'{"limit":0}'), files("cut", LINE[:-1])
+    for words, line in [
+        ((missing, missing), "cannot read config"),
+        ((zero, missing), "config fault 5: bad value of limit"),
+        ((good[0], missing), "cannot read trace"),
+        ((good[0], files.folder.name), "cannot read trace"),
+        ((narrow, missing), "cannot read trace"),
+        ((narrow, cut), "trace fault 11 at line 1: truncated"),
+        ((narrow, good[1]), "dealer fault 2: hand too large"),
+    ]:
+        tally.check(f"{command} {words}", run(program, [command, *words, *patience]), (1, b"", f"apf: {line}\n".encode()))
+    rejects = b'{"limit":1,"queues":3,"limitResponse":"Reject"}'
+    taken = inputs(command, rejects, LINE, 0)
+    tally.check(f"{command} on a level that rejects, no hand", printed(command, *taken), foreseen(command, *taken))
+
+
+def check_words(command):
+    """Words that the command line does not take, and output that can't be written."""
+    paths = [files(name, content) for name, content in zip(("config", "trace"), (CONFIG, LINE))]
+    paths = paths[1:] if command == "requests" else paths
+    if command in PATIENT:
+        for patience in ("-1", "1000000001", "18446744073709551616", "1.0", "1e3", "x", ""):
+            status, out, err = run(program, [command, *paths, patience])
+            tally.check(f"{command} with the patience {patience!r}", (status, out, len(err) > 0), (2, b"", True))
+        for patience in (0, 1_000_000_000):
+            taken = [CONFIG, LINE], patience
+            tally.check(f"{command} with the patience {patience}", printed(command, *taken), foreseen(command, *taken))
+        paths.append("0")
+    for words in (paths[:-1], [*paths, "0"]):
+        status, out, err = run(program, [command, *words])
+        tally.check(f"{command} with {len(words)} words", (status, out, len(err) > 0), (2, b"", True))
+    with open("/dev/full", "wb") as full:
+        done = subprocess.run([program, command, *paths], stdin=subprocess.DEVNULL, stdout=full, stderr=subprocess.PIPE)
+    tally.check(f"{command} on a full disk", (done.returncode, done.stderr), (1, b"apf: cannot write\n"))
+
+
+def check_largest(command):
+    """10,000 requests of 200 flows, with waits, full queues and requests that give up."""
+    draw = random.Random(seed)
+    config = b'{"limit":20,"queues":8,"handSize":2,"queueLengthLimit":4}'
+    form = b'{"hash":%d,"arrivesAt":%d,"runsFor":%d,"width":%d}\n'
+    lines = [form % (draw.randrange(200), draw.randrange(10**6), draw.randrange(3000), 1 + number % 3) for number in range(10_000)]
+    taken = inputs(command, config, b"".join(lines), 2000)
+    began = time.monotonic()
+    got = printed(command, *taken)
+    took = time.monotonic() - began
+    want = foreseen(command, *taken)
+    tally.check(f"{command} of 10,000 requests", got, want)
+    tally.check(f"{command} of 10,000 requests in well under ten seconds: {took:.2f} s", took < 10, True)
+    if command == "simulate":
+        # these happened
+        nothing = [word for word in (b"queue-full 0 ", b"dispatched 0 ", b"struck 0\n") if word in want[1]]
+        tally.check("10,000 requests wait, find full queues and give up", nothing, [])
+
+
+missing = [name for name in ("simulate", "timeline", "requests", "hands") if name not in COMMANDS]
+if missing:
+    print(f"not run, as the program has no such command: {', '.join(missing)}")
+check_replays()
+check_rules()
+check_model()
+check_judge()
+check_examples()
+for command in COMMANDS:
+    check_drawn(command)
+    check_traces(command)
+    check_reading(command)
+    check_words(command)
+    check_largest(command)
+if len(COMMANDS) == 4:
+    check_circle()
+tally.end()

@@ -93,6 +93,36 @@ fn serve<R: Wait>(
     count
 }
 
+// Strikes the request, if it waits and is cancelled, and serves then. Says whether it struck.
+fn strike_and_serve<K: Naming, R: Wait>(
+    rt: &R,
+    gate: &Gate<Global>,
+    book: &mut Book<Global>,
+    board: &mut Board,
+    sleeps: &[bool],
+    request: u32,
+) -> bool
+    requires own { gate.now ≡ K.level.gate }
+    requires is_request { request < length K.level.gate.shape.widths }
+    requires tied { IsBookOf K.level book.old }
+    requires stopped { IsStopped book.old.ledger book.old.desk.desk.knows }
+    requires published { shown board.old.trace ≡ shown_of book.old.ledger.history }
+    requires one_flag_each { length sleeps.now ≡ length K.level.gate.shape.widths }
+    ensures struck { result ≡ true → Struck K.level request }
+    ensures tied { IsBookOf K.level book.new }
+    ensures stopped { IsStopped book.new.ledger book.new.desk.desk.knows }
+    ensures kept { IsKept book.new.desk.desk book.new.ledger }
+    ensures cell { board.new.cell ≡ board.old.cell }
+    ensures published { shown board.new.trace ≡ shown_of book.new.ledger.history }
+{
+    let before = book.log().len();
+    let struck = book.strike(gate, request);
+    if struck {
+        serve(rt, gate, book, board, sleeps, before);
+    }
+    struck
+}
+
 impl<K: Naming> Queued<K> {
     /// The request arrives, and whoever waits is dispatched while the chosen head fits, also where the request does
     /// not enter. Returns the request's decision, unless it waits: then somebody may sleep until it is decided, if
@@ -160,18 +190,13 @@ impl<K: Naming> Queued<K> {
         requires is_request { request < length K.level.gate.shape.widths }
         ensures struck { result ≡ true → Struck K.level request }
     {
-        let before = self.book.log().len();
-        let struck = self.book.strike(gate, request);
-        if struck {
-            serve(
-                rt,
-                gate,
-                &mut self.book,
-                &mut self.board,
-                self.sleeps.as_slice(),
-                before,
-            );
-        }
-        struck
+        strike_and_serve::<K, R>(
+            rt,
+            gate,
+            &mut self.book,
+            &mut self.board,
+            self.sleeps.as_slice(),
+            request,
+        )
     }
 }

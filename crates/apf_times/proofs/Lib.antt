@@ -6,5 +6,6 @@ pub mod NearestRank
 pub mod Opening
 pub mod Orders
 pub mod Running
+pub mod Left
 pub mod Taking
 pub mod Told

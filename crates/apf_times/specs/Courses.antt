@@ -86,6 +86,26 @@ dues_from patience r (c ∷ cs) =
 abbrev pub all_dues : ℕ → List Course → List Due
 all_dues patience courses = dues_from patience 0 courses
 
+-- one, unless it is over
+abbrev pub one_unless : Bool → ℕ
+one_unless true = 0
+one_unless false = 1
+
+-- one, until the seats were returned
+abbrev pub one_until_returned : Seats → ℕ
+one_until_returned NotGiven = 1
+one_until_returned (Held since) = 1
+one_until_returned (Returned since) = 0
+
+-- how much of a course is left: its arrival, the end of its patience, and its finish
+abbrev pub left_of : Course → ℕ
+left_of c = one_unless c.has_arrived + (one_unless c.patience_over + one_until_returned c.seats)
+
+-- how much of these courses is left
+abbrev pub left : List Course → ℕ
+left [] = 0
+left (c ∷ cs) = left_of c + left cs
+
 -- it is one of these, and none of these is before it
 pub record IsFirst (d : Due) (ds : List Due) : Type 0 where
   pub is_one : Contains ds d

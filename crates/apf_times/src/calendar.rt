@@ -2,7 +2,7 @@
 
 ghost use Rattle.std.specs.Prelude.{◌≡◌, ◌+◌, ◌*◌, ◌^◌, ◌≤◌, ◌<◌, [], length, IfOk, IfSome, IfNone, IsTrue, OnOk};
 ghost use Rattle.std.specs.List.{AllByRecursion};
-ghost use Rattle.apf_times.specs.Courses.{AreInRange, At, CanStart, HasWaited, all_dues};
+ghost use Rattle.apf_times.specs.Courses.{AreInRange, At, CanStart, HasWaited, all_dues, left};
 ghost use Rattle.apf_times.specs.declared.act.Act.TheVariants.{CarriedOut, Started};
 ghost use Rattle.apf_times.specs.declared.course.Seats.TheVariants.{NotGiven};
 ghost use Rattle.apf_times.specs.Runs.{IsStep};
@@ -122,6 +122,9 @@ impl<A: Allocator> Calendar<A> {
     pub fn next(&mut self) -> Option<Due>
         ensures step { IfSome result (λ d. IsStep self.old (CarriedOut d) self.new) }
         ensures forward { self.old.time ≤ self.new.time }
+        ensures inside { IfSome result (λ d. d.request < length self.old.courses) }
+        ensures count { length self.new.courses ≡ length self.old.courses }
+        ensures fewer { IfSome result (λ d. left self.new.courses < left self.old.courses) }
         ensures none { IfNone result (all_dues self.old.patience self.old.courses ≡ []) }
         ensures unchanged { IfNone result (self.new ≡ self.old) }
     {
@@ -145,7 +148,9 @@ impl<A: Allocator> Calendar<A> {
     /// This request is given its seats now. It has arrived, and was not given any before.
     pub fn start(&mut self, request: u32)
         requires { At request self.old.courses CanStart }
-        ensures { IsStep self.old (Started request self.old.time) self.new }
+        ensures step { IsStep self.old (Started request self.old.time) self.new }
+        ensures count { length self.new.courses ≡ length self.old.courses }
+        ensures as_many { left self.new.courses ≡ left self.old.courses }
     {
         let now = self.agenda.time();
         let course = self.courses[request as usize];

@@ -1,5 +1,5 @@
 -- One more time is in its range.
-use Rattle.std.proofs.Common.{◌≡◌, ◌≤◌, ◌^◌, length, take, get_or, sym, subst, arith}
+use Rattle.std.proofs.Common.{take, get_or, sym, subst, arith}
 use Rattle.std.specs.List.{AllByRecursion}
 use Rattle.std.proofs.lemmas.List.{take_more, take_all}
 use Rattle.apf_times.specs.declared.course.Times.{Times}

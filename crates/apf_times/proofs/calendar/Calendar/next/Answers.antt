@@ -1,7 +1,9 @@
 -- What is first leaves, and its request's course is marked.
-use Rattle.std.proofs.Common.{◌≡◌, ◌≤◌, [], set, sym, ap, ◌∙◌, subst, arith}
+use Rattle.std.proofs.Common.{◌≡◌, ◌≤◌, ◌<◌, length, [], set, sym, ap, ◌∙◌, subst, arith}
+use Rattle.apf_times.specs.Views.{CalendarView}
 use Rattle.apf_times.specs.Courses.{IsFirst, marked, updated, all_dues}
 use Rattle.apf_times.specs.Calendars.{IsKept}
+use Rattle.apf_times.proofs.Left.{fewer}
 use Rattle.apf_times.proofs.Keeping.{first_inside, first_is, none_due, next_kept}
 use Rattle.apf_times.proofs.Taking.{updated_is}
 use Rattle.apf_times.proofs.calendar.Calendar.next.Goals as goal
@@ -42,3 +44,12 @@ returns-clause-step g c =
           (first_is c.self.inside.agenda cs c.self.inside.patience c.self.invariant d c.next.new.self.due c.in-Some.ensures.some c.in-Some.ensures.first),
       λ i. record { time = c.in-Some.ensures.time i; patience = patience i; courses = written i },
     )
+
+pub returns-clause-fewer : goal.returns-clause-fewer
+returns-clause-fewer g c =
+    let now : CalendarView = record { time = c.next.new.self.time; patience = c.self.inside.patience; courses = set c.self.inside.courses.items c.in-Some.due.request c.after.result } in
+    fewer c.args.self.now now c.in-Some.due (returns-clause-step g c)
+
+pub returns-clause-inside : goal.returns-clause-inside
+returns-clause-inside g c =
+    subst (λ v. c.in-Some.due.request < length v.courses) c.self.view_is (first_inside c.self.inside.agenda c.self.inside.courses.items c.self.inside.patience c.self.invariant c.in-Some.due c.next.new.self.due c.in-Some.ensures.some)

@@ -1,8 +1,10 @@
 -- The finish goes to its place, and the request's course is written.
 use Rattle.std.proofs.Common.{set, Result, Ok, Err, OnOk, IsOk, true≢false, refl, sym, ap, ◌∙◌, subst, arith}
+use Rattle.apf_times.specs.Views.{CalendarView}
 use Rattle.apf_times.specs.Dues.{finish, placed}
 use Rattle.apf_times.specs.Courses.{At, CanStart, started_at, updated}
 use Rattle.apf_times.specs.Calendars.{IsKept}
+use Rattle.apf_times.proofs.Left.{as_many}
 use Rattle.apf_times.proofs.Keeping.{finish_fits, below_wrap, has_room, start_kept}
 use Rattle.apf_times.proofs.Taking.{inside_from, updated_is}
 use Rattle.apf_times.proofs.calendar.Calendar.start.Goals as goal
@@ -46,8 +48,8 @@ invariant_of-self g c =
     subst (λ l. IsKept c.add.new.self l patience) (sym written)
     (start_kept agenda cs patience c.self.invariant c.add.new.self r x can c.index-course.ensures more c.add.ensures.time c.add.ensures.room)
 
-pub returns : goal.returns
-returns g c =
+pub returns-clause-step : goal.returns-clause-step
+returns-clause-step g c =
     let cs = c.self.inside.courses.items in
     let agenda = c.self.inside.agenda in
     let r = c.args.request in
@@ -57,3 +59,8 @@ returns g c =
     let time = c.add.ensures.time ∙ ap (λ v. v.time) c.self.view_is in
     let patience = ap (λ v. v.patience) c.self.view_is in
     (c.requires, refl, λ i. record { time = time i; patience = patience i; courses = written i })
+
+pub returns-clause-as_many : goal.returns-clause-as_many
+returns-clause-as_many g c =
+    let now : CalendarView = record { time = c.add.new.self.time; patience = c.self.inside.patience; courses = set c.self.inside.courses.items c.args.request (started_at c.time-now.result c.index-course.result.now) } in
+    as_many c.args.self.now now c.args.request c.args.self.now.time (returns-clause-step g c)

@@ -1,0 +1,4 @@
+pub mod Firsts
+pub mod Grouped
+pub mod Deals
+pub mod Written

@@ -1,0 +1,7 @@
+pub mod Flows
+pub mod Known
+pub mod Json
+pub mod Names
+pub mod Requests
+pub mod Hands
+pub mod Dealt

@@ -1,12 +1,12 @@
 -- The wait at the nearest rank is the percentile.
-use Rattle.std.proofs.Common.{◌≡◌, [], ◌∷◌, ◌≤◌, ℕ, ◌-◌, ◌*◌, ◌<◌, List, length, count_by, nat_le, nat_lt, cond, slice_index_or, subst, IsPermutation, arith}
+use Rattle.std.proofs.Common.{◌≡◌, [], ◌∷◌, ◌≤◌, ℕ, ◌-◌, ◌*◌, ◌<◌, List, length, count_by, nat_le, nat_lt, cond, slice_index_or, sym, ◌∙◌, subst, IsPermutation, arith}
 use Rattle.std.specs.Int.{div_ceil}
 use Rattle.std.specs.List.Sorted.{IsNonDecreasing}
 use Rattle.std.proofs.lemmas.Bool.Decides.{nat_tests}
 use Rattle.std.proofs.lemmas.List.Elements.{Contains-get_or}
 use Rattle.std.proofs.lemmas.List.Sums.{sum_by-cons}
 use Rattle.std.proofs.lemmas.List.Sorted.{Contains-permutation, IsPermutation-sym, length_permutation, sum_by-IsPermutation}
-use Rattle.apf_times.specs.Percentiles.{IsPercentile}
+use Rattle.apf_times.specs.Percentiles.{IsPercentile, IsNearestRank}
 use Rattle.apf_times.proofs.Counts.{up_to, before_it}
 
 low_product : (p n : ℕ) → 1 ≤ p → n ≤ p * n
@@ -62,3 +62,12 @@ percentile_unique percent waits a b p q =
     let no = not_below percent waits a b p q in
     let on = not_below percent waits b a q p in
     omega arith
+
+-- the same of the waits in another order
+pub rank_moved : (percent : ℕ) (old xs : List ℕ) → IsPermutation old xs → (wait : ℕ) → (length xs ≡ 0 → wait ≡ 0) → (0 < length xs → IsPercentile percent xs wait) → IsNearestRank percent old wait
+rank_moved percent old xs moved wait none some =
+    let same = length_permutation old xs moved in
+    record {
+      none = λ e. none (same ∙ e);
+      some = λ n. percentile_moved percent old xs moved wait (some (subst (λ k. 0 < k) (sym same) n));
+    }

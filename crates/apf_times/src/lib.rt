@@ -7,7 +7,7 @@
 //! - `course`: what became of a request.
 //! - `act`: what happens by a calendar.
 //! - `calendar`: what is carried out when, by the courses of the requests.
-//! - `percentiles`: a percentile of waits.
+//! - `percentiles`: a percentile of waits. `spread`: how long waits are, in three numbers.
 //! - `laws`: what is true of each of them.
 #![tactic(auto)]
 
@@ -18,6 +18,7 @@ mod course;
 mod due;
 mod laws;
 mod percentiles;
+mod spread;
 
 pub use act::Act;
 pub use agenda::Agenda;
@@ -26,6 +27,7 @@ pub use course::{Course, Seats, Times, are_in_range};
 pub use due::{Due, Kind};
 pub use laws::{every_agenda_is_in_order, every_calendar_is_kept, every_percentile_is_one};
 pub use percentiles::percentile;
+pub use spread::Spread;
 
 /// The latest arrival, in microseconds.
 pub const MOST_ARRIVES_AT: u64 = 1_000_000_000_000;

@@ -1,0 +1,10 @@
+pub mod Areas
+pub mod Booked
+pub mod Columns
+pub mod Ending
+pub mod Going
+pub mod Rowing
+pub mod Ranges
+pub mod Running
+pub mod Summing
+pub mod Timely

@@ -1,0 +1,45 @@
+-- The parts, each by its own call.
+use Rattle.std.proofs.Common.{◌≡◌, ◌≤◌, List, refl, sym, ap, ◌∙◌, subst, arith}
+use Rattle.apf_words.specs.declared.decision.Decision.{Decision}
+use Rattle.apf_simulation.specs.Areas.{AreAreas}
+use Rattle.apf_simulation.specs.Ends.{ends_of}
+use Rattle.apf_simulation.specs.Rows.{AreRows, IsWhole, latest}
+use Rattle.apf_simulation.proofs.Booked.{columns}
+use Rattle.apf_simulation.proofs.Timely.{waits_area, holdings_area}
+use Rattle.apf_simulation.proofs.simulating.simulation_of.Goals as goal
+
+pub returns : goal.returns
+returns c =
+    let limit = c.args.limit in
+    let patience = c.args.patience in
+    let ts = c.args.trace.now in
+    let cs = c.args.diary.calendar.courses in
+    let flows = c.in_ok-flows.flows in
+    let fs = flows.of.items in
+    let ds = c.args.report.decisions.items in
+    let es = c.in_ok-ends.ends.items in
+    let rs = c.in_ok-rows.rows.items in
+    let w = c.of-whole.result in
+    let is : es ≡ ends_of patience fs ds ts cs = c.in_ok-ends.ensures.ends
+    ∙ (ap (λ xs. ends_of patience xs c.as_slice-2.result.now ts cs) c.as_slice.ensures.value ∙ ap (λ (xs : List Decision). ends_of patience fs xs ts cs) c.as_slice-2.ensures.value) in
+    let rows : AreRows ts es 0 flows.firsts.items rs =
+    subst (λ xs. AreRows ts xs 0 flows.firsts.items rs) c.as_slice-4.ensures.value
+    (subst (λ xs. AreRows ts c.as_slice-4.result.now 0 xs rs) c.as_slice-3.ensures.value c.in_ok-rows.ensures) in
+    let whole : IsWhole limit es w = subst (λ xs. IsWhole limit xs w) c.as_slice-5.ensures.value c.of-whole.ensures in
+    let made : IsWhole limit (ends_of patience fs ds ts cs) w = subst (λ xs. IsWhole limit xs w) is whole in
+    let ended = made.end in
+    let late : latest (ends_of patience fs ds ts cs) ≤ w.end = omega arith in
+    record {
+      report = refl;
+      carried = c.into_carried.ensures;
+      flows = c.in_ok-flows.ensures.flows;
+      in_order = c.in_ok-flows.ensures.in_order;
+      ends = is;
+      rows = rows;
+      whole = whole;
+      areas = subst (λ xs. AreAreas ts xs w) (sym is) (record {
+        waited = made.waited ∙ waits_area w.end patience fs ds ts cs c.are_of_trace.ensures late;
+        seat_time = made.seat_time ∙ holdings_area w.end patience fs ds ts cs c.are_of_trace.ensures late;
+      });
+      columns = columns limit ts patience cs flows ds c.args.report.counts es rs w c.requires.decided c.are_of_trace.ensures c.requires.sums c.in_ok-flows.ensures.flows is rows whole;
+    }

@@ -1,0 +1,11 @@
+-- The diary goes on, and as much is left.
+use Rattle.std.proofs.Common.{◌≡◌}
+use Rattle.apf_times.specs.Courses.{left}
+use Rattle.apf_simulation.specs.Diaries.{GoesOn}
+use Rattle.apf_simulation.proofs.simulator.Simulator.follow.Given as goal
+
+abbrev pub invariant-loop-place : goal.invariant-loop-place
+invariant-loop-place g l = record {
+  goes_on : GoesOn l.initial.self.diary l.self.diary;
+  as_many : left l.self.diary.calendar.courses ≡ left l.initial.self.diary.calendar.courses;
+}

@@ -1,0 +1,9 @@
+pub mod Areas
+pub mod Columns
+pub mod Diaries
+pub mod Ends
+pub mod Rows
+pub mod Runs
+pub mod Tallies
+pub mod Texts
+pub mod Times

@@ -5,10 +5,11 @@ import re
 import sys
 
 sys.path.insert(0, os.path.join(os.path.dirname(os.path.abspath(__file__)), "lib"))
-from harness import Tally, build, run
+from harness import Files, Tally, build, run
 
 tally = Tally()
 program = build()
+files = Files()
 
 # what is printed, to the letter
 for words, out in [
@@ -38,12 +39,19 @@ for words, line in [
     tally.check(" ".join(words), run(program, words), (2, b"", line))
 
 # help that is asked for goes to standard output, and has a line for each command, argument and file
-COMMANDS = ["  hash ", "  deal ", "  replay ", "  run ", "  services ", "  waits ", "apf hash workload-low alice", "  2 "]
+COMMANDS = ["  hash ", "  deal ", "  replay ", "  run ", "  services ", "  waits ", "  simulate ", "  timeline ", "  requests ", "  hands "]
+COMMANDS += ["apf hash workload-low alice", "  2 "]
 DEAL = ["<DECK>", "<HAND>", "<HASH>", "printf %u 0x", "not positive", "hand too large", "deck too large", "too much entropy"]
 SCRIPT = ["<CONFIG>", "<REQUESTS>", "<SCRIPT>"]
 CONFIG = ["limit", "10000", "queues", "1024", "64", "handSize", "15", "queueLengthLimit", "50", "limitResponse", '"Queue"', '"Reject"']
 REQUESTS = ["hash", "schema", "distinguisher", "width", "20000", "work", "1000000", "cancels", "closes"]
 LINES = ["arrive N", "finish N", "cancel N", "close", "limit N"]
+# each command on a trace says the form of its file and the unit of its times, and that no server is simulated
+TIMES = ["<TRACE>", "JSON Lines", "microseconds", "not kube-apiserver"]
+LEVEL = ["<CONFIG>", *TIMES]
+PATIENCE = [*LEVEL, "<PATIENCE>", "0 to 1000000000"]
+TRACE = ["arrivesAt", "1000000000000", "runsFor", "10000000000", "hash", "schema", "distinguisher", "width", "cost", "20000", "10000 lines", "65536"]
+FLOW = ["flow H requests N executed E rejected J cancelled X seat-time T wait A B C of SCHEMA DISTINGUISHER", "end T seat-time U of V waited W"]
 for words, says in [
     (["--help"], COMMANDS),
     (["-h"], COMMANDS),
@@ -54,6 +62,10 @@ for words, says in [
     (["replay", "--help"], SCRIPT + CONFIG + REQUESTS + LINES),
     (["run", "--help"], ["<CONFIG>", "<REQUESTS>", "<WORKERS>", "1 to 64"] + CONFIG + REQUESTS),
     (["services", "--help"], SCRIPT + CONFIG + REQUESTS + LINES),
+    (["simulate", "--help"], PATIENCE + TRACE + FLOW),
+    (["timeline", "--help"], PATIENCE + ["apf replay", "script"]),
+    (["requests", "--help"], TIMES + ["apf replay", "width"]),
+    (["hands", "--help"], LEVEL + ["flow H hand Q1 Q2 .. of SCHEMA DISTINGUISHER", "shares Q .. with H SCHEMA DISTINGUISHER", "covered by H"]),
     (["waits", "--help"], SCRIPT + ["request R queue Q ahead A most M all T", "twice the widest"]),
 ]:
     status, out, err = run(program, words)
@@ -69,6 +81,15 @@ for words, least in ((["hash", "--help"], 1), (["deal", "--help"], 2)):
         command = command.replace("apf ", '"$0" ')
         wanted = "".join(line[2:] + "\n" for line in printed.split("\n")[:-1])
         tally.check(f"example of {words[0]}: {command}", run("bash", ["-c", command, program]), (0, wanted.encode(), b""))
+
+# the example of simulate, with the files that it shows
+help_text = run(program, ["simulate", "--help"])[1].decode()
+found = re.search(r"^  \$ cat config.json trace.jsonl\n  (.*)\n((?:  \{.*\n)+)  \$ apf (simulate) config.json trace.jsonl (\d+)\n((?:  .*\n)+)", help_text, re.M)
+tally.check("simulate has an example", found is not None, True)
+if found:
+    config, trace, command, patience, printed = (re.sub("^  ", "", it, flags=re.M) for it in found.groups())
+    got = run(program, [command, files("config.json", config), files("trace.jsonl", trace), patience])
+    tally.check("example of simulate", got, (0, printed.encode(), b""))
 
 # the version, which is the crate's own
 for words in (["--version"], ["-V"]):
@@ -98,6 +119,18 @@ for words in [
     ["run", "a", "b", "0"],
     ["run", "a", "b", "65"],
     ["run", "a", "b", "c"],
+    ["simulate", "a", "b"],
+    ["simulate", "a", "b", "0", "0"],
+    ["simulate", "a", "b", "1000000001"],
+    ["simulate", "a", "b", "-1"],
+    ["timeline", "a", "b"],
+    ["timeline", "a", "b", "0", "0"],
+    ["timeline", "a", "b", "1000000001"],
+    ["timeline", "a", "b", "1.5"],
+    ["requests"],
+    ["requests", "a", "b"],
+    ["hands", "a"],
+    ["hands", "a", "b", "0"],
 ]:
     status, out, err = run(program, words)
     tally.check(" ".join(["apf", *words]), (status, out, len(err) > 0), (2, b"", True))

@@ -21,6 +21,15 @@ marker = os.path.join(files.folder.name, "refused")
 WANT = (3, b"", b"apf: out of memory\n")
 # each request fits, so that the book comes out so in every schedule
 fit = files("fit", '[{"hash":0},{"hash":0,"work":9},{"hash":0}]')
+# a trace that executes, waits, gives up and finds a full queue, by names and by hashes
+trace = files(
+    "trace",
+    '{"schema":"a","distinguisher":"b","arrivesAt":0,"runsFor":9}\n'
+    '{"hash":0,"arrivesAt":1,"runsFor":9,"width":2}\n'
+    '{"hash":0,"arrivesAt":1,"runsFor":9,"width":5,"cost":1}\n',
+)
+tight = files("tight", '{"limit":1,"queues":1,"handSize":1,"queueLengthLimit":1}')
+cut = files("cut", '{"hash":0,"arrivesAt":0,"runsFor":0}\n{"hash":0')
 roomy = files("roomy", '{"limit":3,"queues":1,"handSize":1,"queueLengthLimit":10}')
 
 
@@ -37,6 +46,11 @@ for words, status in (
     (["services", config, requests, script], 0),
     (["waits", config, requests, script], 0),
     (["run", config, requests, "1"], 0),
+    (["simulate", tight, trace, "0"], 0),
+    (["simulate", tight, trace, "3"], 0),
+    (["timeline", tight, trace, "3"], 0),
+    (["requests", trace], 0),
+    (["hands", tight, trace], 0),
     (["run", roomy, fit, "3"], 0),
     (["--version"], 0),
     (["--help"], 0),
@@ -47,6 +61,8 @@ for words, status in (
     (["replay", config, bad, script], 1),
     (["replay", config, requests, bad], 1),
     (["replay", config, requests, "missing"], 1),
+    (["simulate", tight, cut, "0"], 1),
+    (["hands", tight, "missing"], 1),
 ):
     name = " ".join(os.path.basename(word) for word in words)
     ample = run(program, words)

@@ -371,6 +371,17 @@ def check_largest(command):
         tally.check("10,000 requests wait, find full queues and give up", nothing, [])
 
 
+def check_sizes():
+    """A trace of the largest size, of lines of the largest size, and one byte more."""
+    most, line = 67_108_864, LINE[:-1].ljust(65_536) + b"\n"
+    content = line * (most // len(line))
+    content += LINE[:-1].ljust(most - len(content) - 1) + b"\n"
+    tally.check("the largest trace", len(content), most)
+    tally.check("requests of the largest trace", printed("requests", [content]), foreseen("requests", [content]))
+    large = (1, b"", b"apf: trace too large: more than 67108864 bytes\n")
+    tally.check("a trace of one byte more", printed("requests", [content + b"x"]), large)
+
+
 missing = [name for name in ("simulate", "timeline", "requests", "hands") if name not in COMMANDS]
 if missing:
     print(f"not run, as the program has no such command: {', '.join(missing)}")
@@ -385,6 +396,8 @@ for command in COMMANDS:
     check_reading(command)
     check_words(command)
     check_largest(command)
+if "requests" in COMMANDS:
+    check_sizes()
 if len(COMMANDS) == 4:
     check_circle()
 tally.end()

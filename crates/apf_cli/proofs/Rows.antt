@@ -4,7 +4,7 @@ use Rattle.clap.specs.Words.{Text, fault_of, first_of, one_of, subcommand_of}
 use Rattle.clap.specs.Kinds.{Kinds}
 use Rattle.clap.specs.declared.error.kind.ErrorKind.TheVariants as kind
 use Rattle.clap.proofs.OnLiterals.{clap_on_literals}
-use Rattle.apf_cli.specs.Commands.{apf_app, hash_shape, deal_shape, replay_shape, run_shape, services_shape, waits_shape}
+use Rattle.apf_cli.specs.Commands.{apf_app, hash_shape, deal_shape, replay_shape, run_shape, services_shape, waits_shape, simulate_shape, timeline_shape, requests_shape, hands_shape}
 
 -- the kinds of error of the words after the program's name
 abbrev fault : List Text → Kinds
@@ -26,11 +26,15 @@ record HasFaults : Type 0 where
   hash : fault (codes "deal" ∷ codes "1" ∷ codes "1" ∷ codes "18446744073709551616" ∷ []) ≡ kind.ValueValidation ∷ []
   no_worker : fault (codes "run" ∷ codes "a" ∷ codes "b" ∷ codes "0" ∷ []) ≡ kind.ValueValidation ∷ []
   many_workers : fault (codes "run" ∷ codes "a" ∷ codes "b" ∷ codes "65" ∷ []) ≡ kind.ValueValidation ∷ []
+  no_patience : fault (codes "simulate" ∷ codes "a" ∷ codes "b" ∷ []) ≡ kind.MissingRequiredArgument ∷ []
+  much_patience : fault (codes "timeline" ∷ codes "a" ∷ codes "b" ∷ codes "1000000001" ∷ []) ≡ kind.ValueValidation ∷ []
+  no_trace : fault (codes "requests" ∷ []) ≡ kind.MissingRequiredArgument ∷ []
+  hands_patience : fault (codes "hands" ∷ codes "a" ∷ codes "b" ∷ codes "0" ∷ []) ≡ kind.UnknownArgument ∷ []
   help : fault (codes "--help" ∷ []) ≡ kind.DisplayHelp ∷ []
   deal_help : fault (codes "deal" ∷ codes "--help" ∷ []) ≡ kind.DisplayHelp ∷ []
 
 refused_rows : HasFaults
-unfolding clap_on_literals apf_app hash_shape deal_shape replay_shape run_shape services_shape waits_shape
+unfolding clap_on_literals apf_app hash_shape deal_shape replay_shape run_shape services_shape waits_shape simulate_shape timeline_shape requests_shape hands_shape
 refused_rows = record {
   nothing = refl;
   short = refl;
@@ -39,6 +43,10 @@ refused_rows = record {
   hash = refl;
   no_worker = refl;
   many_workers = refl;
+  no_patience = refl;
+  much_patience = refl;
+  no_trace = refl;
+  hands_patience = refl;
   help = refl;
   deal_help = refl;
 }
@@ -51,9 +59,14 @@ record IsAccepted : Type 0 where
   least : fault (codes "run" ∷ codes "a" ∷ codes "b" ∷ codes "1" ∷ []) ≡ []
   most : fault (codes "run" ∷ codes "a" ∷ codes "b" ∷ codes "64" ∷ []) ≡ []
   script : text (codes "services" ∷ codes "a" ∷ codes "b" ∷ codes "c" ∷ []) (codes "SCRIPT") ≡ Some (codes "services", Some (codes "c"))
+  least_patience : fault (codes "simulate" ∷ codes "a" ∷ codes "b" ∷ codes "0" ∷ []) ≡ []
+  most_patience : fault (codes "timeline" ∷ codes "a" ∷ codes "b" ∷ codes "1000000000" ∷ []) ≡ []
+  patience : number (codes "simulate" ∷ codes "a" ∷ codes "b" ∷ codes "90" ∷ []) (codes "PATIENCE") ≡ Some (codes "simulate", Some (codes "90"))
+  trace : text (codes "requests" ∷ codes "a" ∷ []) (codes "TRACE") ≡ Some (codes "requests", Some (codes "a"))
+  hands_trace : text (codes "hands" ∷ codes "a" ∷ codes "b" ∷ []) (codes "TRACE") ≡ Some (codes "hands", Some (codes "b"))
 
 accepted_rows : IsAccepted
-unfolding clap_on_literals apf_app hash_shape deal_shape replay_shape run_shape services_shape waits_shape
+unfolding clap_on_literals apf_app hash_shape deal_shape replay_shape run_shape services_shape waits_shape simulate_shape timeline_shape requests_shape hands_shape
 accepted_rows = record {
   empty = refl;
   dashes = refl;
@@ -62,4 +75,9 @@ accepted_rows = record {
   least = refl;
   most = refl;
   script = refl;
+  least_patience = refl;
+  most_patience = refl;
+  patience = refl;
+  trace = refl;
+  hands_trace = refl;
 }

@@ -1,17 +1,36 @@
--- Words that are accepted give a run some workers.
+-- Words that are accepted give a run some workers, and a simulation a patience in its range.
 use Rattle.std.proofs.Common.{List, arith}
 use Rattle.clap.specs.Words.{Row, Text}
 use Rattle.apf_cli.specs.declared.words.Action.{Action}
-use Rattle.apf_cli.specs.declared.words.Action.TheVariants.{Hash, Deal, Replay, Run, Services, Waits}
-use Rattle.apf_cli.specs.Meaning.{AsksFor, IsActionOf, HasWorkers}
+use Rattle.apf_cli.specs.declared.words.Action.TheVariants.{Hash, Deal, Replay, Run, Services, Waits, Simulate, Timeline, Requests, Hands}
+use Rattle.apf_cli.specs.Meaning.{AsksFor, IsActionOf, HasWorkers, HasPatience}
 
-asked : (name : Text) (rows : List Row) (action : Action) → AsksFor name rows action → HasWorkers action
-asked name rows (Run config requests workers) is = (let some = is.3.1 in omega arith)
-asked name rows (Hash schema distinguisher) is = tt
-asked name rows (Deal deck hand hash) is = tt
-asked name rows (Replay config requests script) is = tt
-asked name rows (Services config requests script) is = tt
-asked name rows (Waits config requests script) is = tt
+some_workers : (name : Text) (rows : List Row) (action : Action) → AsksFor name rows action → HasWorkers action
+some_workers name rows (Run config requests workers) is = (let some = is.3.1 in omega arith)
+some_workers name rows (Hash schema distinguisher) is = tt
+some_workers name rows (Deal deck hand hash) is = tt
+some_workers name rows (Replay config requests script) is = tt
+some_workers name rows (Services config requests script) is = tt
+some_workers name rows (Waits config requests script) is = tt
+some_workers name rows (Simulate config trace patience) is = tt
+some_workers name rows (Timeline config trace patience) is = tt
+some_workers name rows (Requests trace) is = tt
+some_workers name rows (Hands config trace) is = tt
+
+some_patience : (name : Text) (rows : List Row) (action : Action) → AsksFor name rows action → HasPatience action
+some_patience name rows (Simulate config trace patience) is = is.3.1
+some_patience name rows (Timeline config trace patience) is = is.3.1
+some_patience name rows (Hash schema distinguisher) is = tt
+some_patience name rows (Deal deck hand hash) is = tt
+some_patience name rows (Replay config requests script) is = tt
+some_patience name rows (Run config requests workers) is = tt
+some_patience name rows (Services config requests script) is = tt
+some_patience name rows (Waits config requests script) is = tt
+some_patience name rows (Requests trace) is = tt
+some_patience name rows (Hands config trace) is = tt
 
 pub has_workers : (words : List Text) (action : Action) → IsActionOf words action → HasWorkers action
-has_workers words action is = asked is.0 is.1.0 action is.1.2
+has_workers words action is = some_workers is.0 is.1.0 action is.1.2
+
+pub has_patience : (words : List Text) (action : Action) → IsActionOf words action → HasPatience action
+has_patience words action is = some_patience is.0 is.1.0 action is.1.2

@@ -1,7 +1,7 @@
 -- The arguments that a command has once `clap` has accepted its words, which the readers require.
 use Rattle.std.specs.Prelude.{◌≡◌, ℕ, List, codes}
 use Rattle.clap.specs.Words.{Row, Text}
-use Rattle.apf_cli.specs.Meaning.{IsNumber, IsText, IsWorkerCount}
+use Rattle.apf_cli.specs.Meaning.{IsNumber, IsPatience, IsText, IsWorkerCount}
 
 -- the argument has a text
 abbrev pub HasText : List Row → Text → Type 0
@@ -34,6 +34,21 @@ pub record HasRunArguments (rows : List Row) : Type 0 where
   pub requests : HasText rows (codes "REQUESTS")
   pub workers : (n : ℕ) × IsWorkerCount rows n
 
+-- the arguments of `simulate` and `timeline`
+pub record HasSimulationArguments (rows : List Row) : Type 0 where
+  pub config : HasText rows (codes "CONFIG")
+  pub trace : HasText rows (codes "TRACE")
+  pub patience : (n : ℕ) × IsPatience rows n
+
+-- the argument of `requests`
+pub record HasRequestsArguments (rows : List Row) : Type 0 where
+  pub trace : HasText rows (codes "TRACE")
+
+-- the arguments of `hands`
+pub record HasHandsArguments (rows : List Row) : Type 0 where
+  pub config : HasText rows (codes "CONFIG")
+  pub trace : HasText rows (codes "TRACE")
+
 -- the command is one of the program's, with its arguments
 pub data IsCommand (name : Text) (rows : List Row) : Type 0 where
   is_hash : name ≡ codes "hash" → HasHashArguments rows → IsCommand name rows
@@ -42,3 +57,7 @@ pub data IsCommand (name : Text) (rows : List Row) : Type 0 where
   is_run : name ≡ codes "run" → HasRunArguments rows → IsCommand name rows
   is_services : name ≡ codes "services" → HasScriptArguments rows → IsCommand name rows
   is_waits : name ≡ codes "waits" → HasScriptArguments rows → IsCommand name rows
+  is_simulate : name ≡ codes "simulate" → HasSimulationArguments rows → IsCommand name rows
+  is_timeline : name ≡ codes "timeline" → HasSimulationArguments rows → IsCommand name rows
+  is_requests : name ≡ codes "requests" → HasRequestsArguments rows → IsCommand name rows
+  is_hands : name ≡ codes "hands" → HasHandsArguments rows → IsCommand name rows

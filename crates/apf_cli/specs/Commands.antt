@@ -24,6 +24,10 @@ any_u64 = Unsigned 0 18446744073709551615
 abbrev pub worker_count : ValueParser
 worker_count = Signed (pos 1) (pos 64)
 
+-- for how many microseconds a request may wait
+abbrev pub patience_range : ValueParser
+patience_range = Signed (pos 0) (pos 1000000000)
+
 -- a command that takes these arguments, in this order
 abbrev pub command_shape : Text → List Rule → Shape
 command_shape name rules = record (new_app name).top { rules = rules }
@@ -64,9 +68,38 @@ services_shape = command_shape (codes "services") (file_rules ++ text_rule (code
 unfoldable pub waits_shape : Shape
 waits_shape = command_shape (codes "waits") (file_rules ++ text_rule (codes "SCRIPT") ∷ [])
 
--- the program: one of its six commands must be named, and it has a version
+-- the arguments of a command that reads a configuration file and a trace
+abbrev pub trace_rules : List Rule
+trace_rules = text_rule (codes "CONFIG") ∷ text_rule (codes "TRACE") ∷ []
+
+-- a command that takes those two files so far
+abbrev pub trace_app : Text → App
+trace_app name = record { top = command_shape name trace_rules; subs = [] }
+
+-- the arguments of a command that simulates a trace
+abbrev pub simulation_rules : List Rule
+simulation_rules = trace_rules ++ number_rule (codes "PATIENCE") patience_range ∷ []
+
+-- `simulate CONFIG TRACE PATIENCE`
+unfoldable pub simulate_shape : Shape
+simulate_shape = command_shape (codes "simulate") simulation_rules
+
+-- `timeline CONFIG TRACE PATIENCE`
+unfoldable pub timeline_shape : Shape
+timeline_shape = command_shape (codes "timeline") simulation_rules
+
+-- `requests TRACE`
+unfoldable pub requests_shape : Shape
+requests_shape = command_shape (codes "requests") (text_rule (codes "TRACE") ∷ [])
+
+-- `hands CONFIG TRACE`
+unfoldable pub hands_shape : Shape
+hands_shape = command_shape (codes "hands") trace_rules
+
+-- the program: one of its ten commands must be named, and it has a version
 unfoldable pub apf_app : App
 apf_app = record {
   top = record (command_shape (codes "apf") []) { is_leaf = false; subcommand_required = true; has_version = true };
-  subs = hash_shape ∷ deal_shape ∷ replay_shape ∷ run_shape ∷ services_shape ∷ waits_shape ∷ [];
+  subs = hash_shape ∷ deal_shape ∷ replay_shape ∷ run_shape ∷ services_shape ∷ waits_shape
+      ∷ simulate_shape ∷ timeline_shape ∷ requests_shape ∷ hands_shape ∷ [];
 }

@@ -4,7 +4,7 @@ use Rattle.std.specs.Str.Parse.{ParsesUnsigned}
 use Rattle.clap.specs.Words.{Row, Text, first_of, one_of, subcommand_of}
 use Rattle.apf_cli.specs.Commands.{apf_app}
 use Rattle.apf_cli.specs.declared.words.Action.{Action}
-use Rattle.apf_cli.specs.declared.words.Action.TheVariants.{Hash, Deal, Replay, Run, Services, Waits}
+use Rattle.apf_cli.specs.declared.words.Action.TheVariants.{Hash, Deal, Replay, Run, Services, Waits, Simulate, Timeline, Requests, Hands}
 
 -- the argument's text
 abbrev pub IsText : List Row → Text → Text → Type 0
@@ -18,6 +18,10 @@ IsNumber k rows id n =
 -- the number of workers is in its range
 abbrev pub IsWorkerCount : List Row → ℕ → Type 0
 IsWorkerCount rows n = IsNumber 32 rows (codes "WORKERS") n × (1 ≤ n) × (n ≤ 64)
+
+-- the number of microseconds that a request may wait is in its range
+abbrev pub IsPatience : List Row → ℕ → Type 0
+IsPatience rows n = IsNumber 32 rows (codes "PATIENCE") n × (n ≤ 1000000000)
 
 -- a command of this name with these arguments asks for the action
 abbrev pub AsksFor : Text → List Row → Action → Type 0
@@ -38,6 +42,16 @@ AsksFor name rows (Services config requests script) = (name ≡ codes "services"
 AsksFor name rows (Waits config requests script) = (name ≡ codes "waits")
     × IsText rows (codes "CONFIG") config.now × IsText rows (codes "REQUESTS") requests.now
     × IsText rows (codes "SCRIPT") script.now
+AsksFor name rows (Simulate config trace patience) = (name ≡ codes "simulate")
+    × IsText rows (codes "CONFIG") config.now × IsText rows (codes "TRACE") trace.now
+    × IsPatience rows patience
+AsksFor name rows (Timeline config trace patience) = (name ≡ codes "timeline")
+    × IsText rows (codes "CONFIG") config.now × IsText rows (codes "TRACE") trace.now
+    × IsPatience rows patience
+AsksFor name rows (Requests trace) = (name ≡ codes "requests")
+    × IsText rows (codes "TRACE") trace.now
+AsksFor name rows (Hands config trace) = (name ≡ codes "hands")
+    × IsText rows (codes "CONFIG") config.now × IsText rows (codes "TRACE") trace.now
 
 -- the words name a command that asks for the action
 abbrev pub IsActionOf : List Text → Action → Type 0
@@ -47,8 +61,10 @@ IsActionOf words action = (name : Text) × ((rows : List Row)
 -- who runs requests by workers has some
 abbrev pub HasWorkers : Action → Type 0
 HasWorkers (Run config requests workers) = 0 < workers
-HasWorkers (Hash schema distinguisher) = Unit {0}
-HasWorkers (Deal deck hand hash) = Unit {0}
-HasWorkers (Replay config requests script) = Unit {0}
-HasWorkers (Services config requests script) = Unit {0}
-HasWorkers (Waits config requests script) = Unit {0}
+HasWorkers _ = Unit {0}
+
+-- who simulates requests has a patience in its range
+abbrev pub HasPatience : Action → Type 0
+HasPatience (Simulate config trace patience) = patience ≤ 1000000000
+HasPatience (Timeline config trace patience) = patience ≤ 1000000000
+HasPatience _ = Unit {0}

@@ -2,8 +2,9 @@
 ghost use Rattle.std.specs.Prelude.{◌≡◌, IfOk, false};
 ghost use Rattle.clap.specs.Words.{app_of, rule_of, shape_of};
 ghost use Rattle.clap.specs.declared.builder.command.Command.TheViews.{out-Command};
-ghost use Rattle.apf_cli.specs.Commands.{apf_app, files_app, text_rule, number_rule};
+ghost use Rattle.apf_cli.specs.Commands.{apf_app, command_shape, files_app, trace_app, simulation_rules, text_rule, number_rule};
 ghost use Rattle.apf_cli.specs.Commands.{hash_shape, deal_shape, replay_shape, run_shape, services_shape, waits_shape};
+ghost use Rattle.apf_cli.specs.Commands.{simulate_shape, timeline_shape, requests_shape, hands_shape};
 
 use crate::help;
 use clap::builder::ValueParser;
@@ -141,7 +142,89 @@ fn waits_command<'a>(alloc: Global) -> Result<Command<'a>, AllocError>
     .arg(text(alloc, "SCRIPT", "Script file"))
 }
 
-/// The program's command line, of which one of the six commands must be named.
+// A command whose first arguments are the configuration file and the trace.
+fn trace_command<'a>(
+    alloc: Global,
+    name: &'a str,
+    about: &'a str,
+    after_help: &'a str,
+) -> Result<Command<'a>, AllocError>
+    ensures app { IfOk result (λ c. app_of c ≡ trace_app name.entry.now) }
+    ensures local { IfOk result (λ c. (out-Command c).has_globals ≡ false) }
+{
+    Command::new(alloc, name)
+        .about(about)
+        .after_help(after_help)
+        .arg(text(alloc, "CONFIG", "Configuration file of the priority level"))?
+        .arg(text(alloc, "TRACE", "Trace file of requests with their times"))
+}
+
+// A command that simulates a trace.
+fn simulation_command<'a>(
+    alloc: Global,
+    name: &'a str,
+    about: &'a str,
+    after_help: &'a str,
+) -> Result<Command<'a>, AllocError>
+    ensures shape { IfOk result (λ c. shape_of c ≡ command_shape name.entry.now simulation_rules) }
+    ensures local { IfOk result (λ c. (out-Command c).has_globals ≡ false) }
+{
+    let patience = value_parser!(u32).range(0..=1_000_000_000);
+    trace_command(alloc, name, about, after_help)?.arg(number(
+        alloc,
+        "PATIENCE",
+        patience,
+        "Microseconds after which a waiting request gives up, 0 to 1000000000; 0: never",
+    ))
+}
+
+fn simulate_command<'a>(alloc: Global) -> Result<Command<'a>, AllocError>
+    ensures shape { IfOk result (λ c. shape_of c ≡ simulate_shape) }
+    ensures local { IfOk result (λ c. (out-Command c).has_globals ≡ false) }
+{
+    simulation_command(
+        alloc,
+        "simulate",
+        "Simulate requests with times and print each flow's waits and the book",
+        help::SIMULATE,
+    )
+}
+
+fn timeline_command<'a>(alloc: Global) -> Result<Command<'a>, AllocError>
+    ensures shape { IfOk result (λ c. shape_of c ≡ timeline_shape) }
+    ensures local { IfOk result (λ c. (out-Command c).has_globals ≡ false) }
+{
+    simulation_command(
+        alloc,
+        "timeline",
+        "Simulate requests with times and print the script of the simulation",
+        help::TIMELINE,
+    )
+}
+
+fn requests_command<'a>(alloc: Global) -> Result<Command<'a>, AllocError>
+    ensures shape { IfOk result (λ c. shape_of c ≡ requests_shape) }
+    ensures local { IfOk result (λ c. (out-Command c).has_globals ≡ false) }
+{
+    Command::new(alloc, "requests")
+        .about("Print the requests file of a trace")
+        .after_help(help::REQUESTS)
+        .arg(text(alloc, "TRACE", "Trace file of requests with their times"))
+}
+
+fn hands_command<'a>(alloc: Global) -> Result<Command<'a>, AllocError>
+    ensures shape { IfOk result (λ c. shape_of c ≡ hands_shape) }
+    ensures local { IfOk result (λ c. (out-Command c).has_globals ≡ false) }
+{
+    trace_command(
+        alloc,
+        "hands",
+        "Print the hand of queues of each flow of a trace, and who shares them",
+        help::HANDS,
+    )
+}
+
+/// The program's command line, of which one of the ten commands must be named.
 ///
 /// # Errors
 ///
@@ -150,7 +233,9 @@ pub(crate) fn apf_command<'a>(alloc: Global) -> Result<Command<'a>, AllocError>
     ensures app { IfOk result (λ c. app_of c ≡ apf_app) }
 {
     Command::new(alloc, "apf")
-        .about("Replay or run requests at one priority level of API Priority and Fairness")
+        .about(
+            "Replay, run or simulate requests at one priority level of API Priority and Fairness",
+        )
         .after_help(help::PROGRAM)
         .version(VERSION)
         .subcommand_required(true)
@@ -159,5 +244,9 @@ pub(crate) fn apf_command<'a>(alloc: Global) -> Result<Command<'a>, AllocError>
         .subcommand(replay_command(alloc)?)?
         .subcommand(run_command(alloc)?)?
         .subcommand(services_command(alloc)?)?
-        .subcommand(waits_command(alloc)?)
+        .subcommand(waits_command(alloc)?)?
+        .subcommand(simulate_command(alloc)?)?
+        .subcommand(timeline_command(alloc)?)?
+        .subcommand(requests_command(alloc)?)?
+        .subcommand(hands_command(alloc)?)
 }

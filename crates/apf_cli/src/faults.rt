@@ -2,9 +2,11 @@
 
 use crate::files::Input;
 use apf_flow::DealerFault;
+use apf_flows::HandsFault;
 use apf_run::{
     ConfigFault, LevelFault, ReplayFault, RequestFault, RunFault, ScriptFault, WriteFault,
 };
+use apf_traces::TraceFault;
 use std::fmt;
 
 /// Where a dealer's sizes come from.
@@ -22,6 +24,7 @@ pub enum Fault {
     Config(ConfigFault),
     Requests(RequestFault),
     Script(ScriptFault),
+    Trace(TraceFault),
     /// The level was not opened, for another cause than the dealer's. What the readers accept has none.
     Level(ReplayFault),
     CannotRead(Input),
@@ -46,6 +49,7 @@ impl Fault {
             | Fault::Config(_)
             | Fault::Requests(_)
             | Fault::Script(_)
+            | Fault::Trace(_)
             | Fault::Level(_)
             | Fault::CannotRead(_)
             | Fault::TooLarge(_)
@@ -77,6 +81,25 @@ impl From<ScriptFault> for Fault {
         match fault {
             ScriptFault::NoMemory => Fault::NoMemory,
             _ => Fault::Script(fault),
+        }
+    }
+}
+
+impl From<TraceFault> for Fault {
+    fn from(fault: TraceFault) -> Fault {
+        match fault {
+            TraceFault::NoMemory => Fault::NoMemory,
+            _ => Fault::Trace(fault),
+        }
+    }
+}
+
+impl From<HandsFault> for Fault {
+    fn from(fault: HandsFault) -> Fault {
+        match fault {
+            HandsFault::Dealer(fault) => Fault::Dealer(fault, Sizes::OfConfig),
+            HandsFault::NoMemory => Fault::NoMemory,
+            HandsFault::CannotWrite => Fault::CannotWrite,
         }
     }
 }
@@ -134,6 +157,13 @@ impl fmt::Display for Fault {
                 match fault.line() {
                     Some(line) => write!(f, "apf: script fault {number} at line {line}: {fault}"),
                     None => write!(f, "apf: script fault {number}: {fault}"),
+                }
+            }
+            Fault::Trace(fault) => {
+                let number = fault.number();
+                match fault.line() {
+                    Some(line) => write!(f, "apf: trace fault {number} at line {line}: {fault}"),
+                    None => write!(f, "apf: trace fault {number}: {fault}"),
                 }
             }
             Fault::Level(fault) => write!(f, "apf: the level can't be opened: {fault}"),

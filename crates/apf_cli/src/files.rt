@@ -15,10 +15,11 @@ pub enum Input {
     Config,
     Requests,
     Script,
+    Trace,
 }
 
 impl Input {
-    /// The most bytes that the file may have: 64 KiB, 16 MiB and 2 MiB.
+    /// The most bytes that the file may have: 64 KiB, 16 MiB, 2 MiB and 64 MiB.
     pub fn most(self) -> u32
         ensures { result ≡ most_bytes self }
     {
@@ -26,6 +27,7 @@ impl Input {
             Input::Config => 65_536,
             Input::Requests => 16_777_216,
             Input::Script => 2_097_152,
+            Input::Trace => 67_108_864,
         }
     }
 }
@@ -36,6 +38,7 @@ impl fmt::Display for Input {
             Input::Config => "config",
             Input::Requests => "requests",
             Input::Script => "script",
+            Input::Trace => "trace",
         })
     }
 }

@@ -117,3 +117,101 @@ Example:
 
 Status: 0 done, 1 a file's fault or output that can't be written, 2 a command line's fault,
 3 no memory or a worker that could not start.";
+
+/// Of `simulate`.
+pub(crate) const SIMULATE: &str = "\
+Requests arrive at their times, run for their times and give their seats back, on the level of
+CONFIG alone. This is a simulation of that level by this project's rules, and not kube-apiserver:
+no clock runs, a dispatch is charged a number that is known before, and no level borrows or lends.
+
+CONFIG is that of apf replay; apf replay --help says what it holds.
+TRACE is JSON Lines: one JSON object a line, each line ended by LF, in any order of time. At most
+10000 lines of at most 65536 bytes. Its requests are numbered from 0. Times are whole microseconds
+from the trace's beginning:
+  arrivesAt         when the request arrives, 0 to 1000000000000; must be there
+  runsFor           how long it holds its seats, 0 to 10000000000; must be there
+  hash              the flow, 0 to 18446744073709551615; or else both of
+  schema, distinguisher  two texts, of which the hash is made
+  width             seats that the request takes, 1 to 20000; 1 if absent
+  cost              what a dispatch is charged, 1 to 20000; the width if absent
+PATIENCE is in microseconds. A request that waits so long after its arrival gives up. With 0 nobody
+gives up. An API server lets a request wait for a quarter of its time-out, by default 15000000.
+
+Prints a line for each flow, in the order of their first requests, a line of the whole, and the
+book of apf replay:
+  flow H requests N executed E rejected J cancelled X seat-time T wait A B C of SCHEMA DISTINGUISHER
+  end T seat-time U of V waited W
+  flow H       the flow's hash, in hexadecimal digits
+  seat-time T  the sum of width times runsFor of the flow's executed requests; U is that of all
+  wait A B C   microseconds that its executed requests waited: median, 99th percentile, most
+  of SCHEMA DISTINGUISHER  as JSON texts; nothing where the flow's first request gives the hash
+  end T        when the last thing was done, in microseconds
+  of V         the level's limit times the end
+  waited W     microseconds that all requests waited, those that gave up too
+
+Example:
+  $ cat config.json trace.jsonl
+  {\"limit\":1}
+  {\"hash\":0,\"arrivesAt\":0,\"runsFor\":100}
+  {\"hash\":0,\"arrivesAt\":40,\"runsFor\":100}
+  $ apf simulate config.json trace.jsonl 15000000
+  flow 0000000000000000 requests 2 executed 2 rejected 0 cancelled 0 seat-time 200 wait 0 60 60
+  end 200 seat-time 200 of 200 waited 60
+  level open seats 0 waiting 0
+  executed 2 rejected 0 cancelled 0 undecided 0
+  queue-full 0 closed 0 concurrency-limit 0
+  entered 1 dispatched 1 struck 0
+
+Status: 0 done, 1 a file's fault or output that can't be written, 2 a command line's fault,
+3 no memory.";
+
+/// Of `timeline`.
+pub(crate) const TIMELINE: &str = "\
+Prints the script of what apf simulate does, for apf replay: one line for each arrival, end and
+request that gives up, in the order of their times in microseconds. Of one time come first the ends,
+then those who give up, then the arrivals, each by the requests' numbers. The script has no times.
+
+It simulates this level by this project's rules, and not kube-apiserver. TRACE is JSON Lines, and
+PATIENCE is in microseconds; apf simulate --help says what they and CONFIG hold.
+
+Example, and the same run by apf replay:
+  apf timeline config.json trace.jsonl 15000000 >script.txt
+  apf requests trace.jsonl >requests.json
+  apf replay config.json requests.json script.txt
+
+Status: 0 done, 1 a file's fault or output that can't be written, 2 a command line's fault,
+3 no memory.";
+
+/// Of `requests`.
+pub(crate) const REQUESTS: &str = "\
+Prints the requests file of a trace, for apf replay: its flows and widths, one request a line in the
+order of their numbers. The times, which a trace has in microseconds, are left out, and so are the
+costs. TRACE is JSON Lines; apf simulate --help says what it holds.
+
+Example: with the script of apf timeline, apf replay makes the run that apf simulate makes. Both
+simulate this level by this project's rules, and not kube-apiserver.
+  apf requests trace.jsonl >requests.json
+
+Status: 0 done, 1 a file's fault or output that can't be written, 2 a command line's fault,
+3 no memory.";
+
+/// Of `hands`.
+pub(crate) const HANDS: &str = "\
+Prints the hand of queues of each flow of a trace, in the order of their first requests, and below
+it the other flows that share a queue with it:
+  flow H hand Q1 Q2 .. of SCHEMA DISTINGUISHER
+    shares Q .. with H SCHEMA DISTINGUISHER
+    covered by H ..
+  H           a flow's hash, in hexadecimal digits
+  Q           the number of a queue, from 0, in the order dealt
+  covered by  the flows whose hand alone holds all of its queues
+The hands are those of this level by this project's rules, and not kube-apiserver's. The times of
+the trace, in microseconds, change nothing. A level that rejects deals no queues.
+
+TRACE is JSON Lines; apf simulate --help says what it and CONFIG hold.
+
+Example:
+  apf hands config.json trace.jsonl
+
+Status: 0 done, 1 a file's fault or output that can't be written, 2 a command line's fault,
+3 no memory.";

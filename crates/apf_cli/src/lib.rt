@@ -4,7 +4,8 @@
 //!
 //! - `help`, `commands`, `words`: what a command line asks for, read by `clap`.
 //! - `files`: where the files' bytes come from.
-//! - `program`: does it, and answers the status.
+//! - `traces`: does the commands on a trace.
+//! - `program`: does the others, and answers the status.
 //! - `faults`: the lines on standard error.
 #![tactic(auto)]
 
@@ -13,6 +14,7 @@ mod faults;
 mod files;
 mod help;
 mod program;
+mod traces;
 mod words;
 
 pub use files::{FileFault, Files};

@@ -2,10 +2,11 @@
 
 ghost use Rattle.std.specs.Prelude.{◌<◌, ◌≤◌, length, IfOk};
 ghost use Rattle.apf_run.specs.Limits.{max_requests};
-ghost use Rattle.apf_cli.specs.Meaning.{HasWorkers};
+ghost use Rattle.apf_cli.specs.Meaning.{HasPatience, HasWorkers};
 
 use crate::faults::{Fault, Sizes};
 use crate::files::{Files, Input, judge_names, read_input};
+use crate::traces::{print_hands, print_requests, print_simulation, print_timeline};
 use crate::words::{Action, read_words};
 use apf_flow::{Dealer, flow_hash};
 use apf_run::{
@@ -105,7 +106,8 @@ fn perform<F: Files, O: Write, R: Wait + Threads + Sync>(
     files: &mut F,
     out: &mut O,
 ) -> Result<(), Fault>
-    requires { HasWorkers action }
+    requires workers { HasWorkers action }
+    requires patience { HasPatience action }
 {
     match action {
         Action::Hash {
@@ -133,6 +135,18 @@ fn perform<F: Files, O: Write, R: Wait + Threads + Sync>(
             requests,
             script,
         } => replayed(rt, alloc, files, (config, requests, script))?.write_waits(out)?,
+        Action::Simulate {
+            config,
+            trace,
+            patience,
+        } => print_simulation(rt, alloc, files, (config, trace), patience, out)?,
+        Action::Timeline {
+            config,
+            trace,
+            patience,
+        } => print_timeline(rt, alloc, files, (config, trace), patience, out)?,
+        Action::Requests { trace } => print_requests(alloc, files, trace, out)?,
+        Action::Hands { config, trace } => print_hands(alloc, files, (config, trace), out)?,
     }
     out.flush().map_err(|_| Fault::CannotWrite)
 }
@@ -162,7 +176,7 @@ fn print_refusal<O: Write, E: Write>(
 /// faults of `deal` and standard input named twice among them; 3 want of memory or a worker that could not start. Before the
 /// status is 1, 2 or 3, one fault is printed on `err`, and a write to it that fails changes no
 /// status. A fault prints nothing on `out`, except that a failed write may have written a beginning.
-#[tactic(auto, using(crate::proofs::Workers::has_workers))]
+#[tactic(auto, using(crate::proofs::Workers::has_workers, crate::proofs::Workers::has_patience))]
 pub fn act<F: Files, O: Write, E: Write, R: Wait + Threads + Sync>(
     rt: &R,
     alloc: Global,

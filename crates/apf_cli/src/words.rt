@@ -6,6 +6,7 @@ ghost use Rattle.apf_cli.specs.Commands.{apf_app};
 ghost use Rattle.apf_cli.specs.Meaning.{AsksFor, IsActionOf, IsNumber, IsText};
 ghost use Rattle.apf_cli.specs.Arguments.{HasText, HasNumber, HasHashArguments, HasDealArguments};
 ghost use Rattle.apf_cli.specs.Arguments.{HasScriptArguments, HasRunArguments, IsCommand};
+ghost use Rattle.apf_cli.specs.Arguments.{HasSimulationArguments, HasRequestsArguments, HasHandsArguments};
 
 use crate::commands::apf_command;
 use clap::{ArgMatches, Error};
@@ -48,6 +49,29 @@ pub enum Action<'a> {
         config: &'a str,
         requests: &'a str,
         script: &'a str,
+    },
+    /// Simulate a trace and print what its flows met; the texts are file names, and the patience is 0 to
+    /// 1,000,000,000 microseconds.
+    Simulate {
+        config: &'a str,
+        trace: &'a str,
+        patience: u32,
+    },
+    /// Simulate a trace and print the simulation's script; the texts are file names, and the patience is 0 to
+    /// 1,000,000,000 microseconds.
+    Timeline {
+        config: &'a str,
+        trace: &'a str,
+        patience: u32,
+    },
+    /// Print the requests file of a trace; the text is a file name.
+    Requests {
+        trace: &'a str,
+    },
+    /// Print the hand of each flow of a trace, and who shares it; the texts are file names.
+    Hands {
+        config: &'a str,
+        trace: &'a str,
     },
 }
 
@@ -158,6 +182,47 @@ fn waits_action<'a>(matches: &ArgMatches<'a>) -> Action<'a>
     }
 }
 
+fn simulate_action<'a>(matches: &ArgMatches<'a>) -> Action<'a>
+    requires { HasSimulationArguments (rows_of (found_of matches.now)) }
+    ensures { AsksFor (codes "simulate") (rows_of (found_of matches.now)) result }
+{
+    Action::Simulate {
+        config: text_of(matches, "CONFIG"),
+        trace: text_of(matches, "TRACE"),
+        patience: u32_of(matches, "PATIENCE"),
+    }
+}
+
+fn timeline_action<'a>(matches: &ArgMatches<'a>) -> Action<'a>
+    requires { HasSimulationArguments (rows_of (found_of matches.now)) }
+    ensures { AsksFor (codes "timeline") (rows_of (found_of matches.now)) result }
+{
+    Action::Timeline {
+        config: text_of(matches, "CONFIG"),
+        trace: text_of(matches, "TRACE"),
+        patience: u32_of(matches, "PATIENCE"),
+    }
+}
+
+fn requests_action<'a>(matches: &ArgMatches<'a>) -> Action<'a>
+    requires { HasRequestsArguments (rows_of (found_of matches.now)) }
+    ensures { AsksFor (codes "requests") (rows_of (found_of matches.now)) result }
+{
+    Action::Requests {
+        trace: text_of(matches, "TRACE"),
+    }
+}
+
+fn hands_action<'a>(matches: &ArgMatches<'a>) -> Action<'a>
+    requires { HasHandsArguments (rows_of (found_of matches.now)) }
+    ensures { AsksFor (codes "hands") (rows_of (found_of matches.now)) result }
+{
+    Action::Hands {
+        config: text_of(matches, "CONFIG"),
+        trace: text_of(matches, "TRACE"),
+    }
+}
+
 // The action of the command of this name.
 fn action_of<'a>(name: &str, matches: &ArgMatches<'a>) -> Action<'a>
     requires { IsCommand name.now (rows_of (found_of matches.now)) }
@@ -173,8 +238,16 @@ fn action_of<'a>(name: &str, matches: &ArgMatches<'a>) -> Action<'a>
         run_action(matches)
     } else if name == "services" {
         services_action(matches)
-    } else {
+    } else if name == "waits" {
         waits_action(matches)
+    } else if name == "simulate" {
+        simulate_action(matches)
+    } else if name == "timeline" {
+        timeline_action(matches)
+    } else if name == "requests" {
+        requests_action(matches)
+    } else {
+        hands_action(matches)
     }
 }
 
@@ -182,8 +255,10 @@ fn action_of<'a>(name: &str, matches: &ArgMatches<'a>) -> Action<'a>
 ///
 /// Its texts and numbers are those that `clap` reads of the words, for the commands
 /// `hash SCHEMA DISTINGUISHER`, `deal DECK HAND HASH`, `replay CONFIG REQUESTS SCRIPT`,
-/// `run CONFIG REQUESTS WORKERS`, `services CONFIG REQUESTS SCRIPT` and `waits CONFIG REQUESTS SCRIPT`.
-/// `DECK` and `HAND` are whole decimal numbers of 32 bits, `HASH` is one of 64 bits, and `WORKERS` is 1 to 64.
+/// `run CONFIG REQUESTS WORKERS`, `services CONFIG REQUESTS SCRIPT`, `waits CONFIG REQUESTS SCRIPT`,
+/// `simulate CONFIG TRACE PATIENCE`, `timeline CONFIG TRACE PATIENCE`, `requests TRACE` and `hands CONFIG TRACE`.
+/// `DECK` and `HAND` are whole decimal numbers of 32 bits, `HASH` is one of 64 bits, `WORKERS` is 1 to 64, and
+/// `PATIENCE` is 0 to 1,000,000,000 microseconds.
 ///
 /// # Errors
 ///

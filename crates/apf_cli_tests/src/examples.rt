@@ -13,7 +13,7 @@ pub const BOOK_OF_NOTHING: &str = "level open seats 0 waiting 0\n\
     queue-full 0 closed 0 concurrency-limit 0\n\
     entered 0 dispatched 0 struck 0\n";
 
-/// The three files of a replay, by their names.
+/// The files of a command, by their names. The requests are the trace too, as no command reads both.
 #[derive(Clone, Copy)]
 pub struct Memory<'a> {
     pub alloc: Global,
@@ -40,7 +40,7 @@ impl Files for Memory<'_> {
     {
         let text = match name {
             "config" => self.config,
-            "requests" => self.requests,
+            "requests" | "trace" => self.requests,
             "script" => self.script,
             _ => return Err(FileFault::CannotRead),
         };

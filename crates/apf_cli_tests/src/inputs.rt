@@ -103,6 +103,30 @@ fn largest_script(rt: HostRuntime) -> Result<(), AllocError> {
     Ok(())
 }
 
+// The lines of a trace of 67,108,864 bytes are judged, and one byte more is too large.
+#[test]
+fn largest_trace(rt: HostRuntime) -> Result<(), AllocError> {
+    let alloc = rt.alloc();
+    let words = ["apf", "requests", "trace"];
+    let largest = padded(alloc, "x\n", 67_108_862, "")?;
+    let files = Memory {
+        alloc,
+        config: "",
+        requests: largest.as_str(),
+        script: "",
+    };
+    let line = "apf: trace fault 3 at line 1: not JSON\n";
+    check(&rt, files, &words, 1, "", line);
+    let larger = padded(alloc, "x\n", 67_108_863, "")?;
+    let files = Memory {
+        requests: larger.as_str(),
+        ..files
+    };
+    let line = "apf: trace too large: more than 67108864 bytes\n";
+    check(&rt, files, &words, 1, "", line);
+    Ok(())
+}
+
 // A file that is too large is refused before the next file is read, and after the one before it.
 #[test]
 fn order_of_sizes(rt: HostRuntime) -> Result<(), AllocError> {

@@ -4,7 +4,8 @@
 //!
 //! - `words`: what a command line asks for.
 //! - `examples`: worked examples of the whole program, with files in memory; `rows` those of `replay`, `workers`
-//!   those of `run`, `inputs` those of files by their size and of standard input.
+//!   those of `run`, `inputs` those of files by their size and of standard input, `traces` those of requests with
+//!   times, `trace_faults` those of traces that are refused.
 #![tactic(auto)]
 
 #[cfg(test)]
@@ -13,6 +14,10 @@ mod examples;
 mod inputs;
 #[cfg(test)]
 mod rows;
+#[cfg(test)]
+mod trace_faults;
+#[cfg(test)]
+mod traces;
 #[cfg(test)]
 mod words;
 #[cfg(test)]

@@ -77,6 +77,16 @@ fn reads_texts(rt: HostRuntime) -> Result<(), Fail> {
             script: "s"
         }
     );
+    let requests = read_words(alloc, &["apf", "requests", "t"])?;
+    assert_eq!(rt; requests, Action::Requests { trace: "t" });
+    let hands = read_words(alloc, &["apf", "hands", "c", "t"])?;
+    assert_eq!(rt;
+        hands,
+        Action::Hands {
+            config: "c",
+            trace: "t"
+        }
+    );
     Ok(())
 }
 
@@ -116,6 +126,93 @@ fn reads_numbers_at_their_ends(rt: HostRuntime) -> Result<(), Fail> {
         }
     );
     Ok(())
+}
+
+#[test]
+fn reads_a_patience_at_its_ends(rt: HostRuntime) -> Result<(), Fail> {
+    let alloc = rt.alloc();
+    for (word, patience) in [
+        ("0", 0),
+        ("90", 90),
+        ("+1", 1),
+        ("1000000000", 1_000_000_000),
+    ] {
+        assert_eq!(rt;
+            read_words(alloc, &["apf", "simulate", "c", "t", word])?,
+            Action::Simulate {
+                config: "c",
+                trace: "t",
+                patience
+            }
+        );
+        assert_eq!(rt;
+            read_words(alloc, &["apf", "timeline", "c", "t", word])?,
+            Action::Timeline {
+                config: "c",
+                trace: "t",
+                patience
+            }
+        );
+    }
+    Ok(())
+}
+
+// Each command on a trace wants all of its words, no more, and a patience in its range.
+#[test]
+fn refuses_other_words_of_traces(rt: HostRuntime) {
+    let rows: [(&[&str], ErrorKind); 15] = [
+        (
+            &["apf", "simulate", "c", "t"],
+            ErrorKind::MissingRequiredArgument,
+        ),
+        (
+            &["apf", "simulate", "c", "t", "0", "0"],
+            ErrorKind::UnknownArgument,
+        ),
+        (
+            &["apf", "simulate", "c", "t", "1000000001"],
+            ErrorKind::ValueValidation,
+        ),
+        (
+            &["apf", "simulate", "c", "t", "-1"],
+            ErrorKind::UnknownArgument,
+        ),
+        (
+            &["apf", "simulate", "c", "t", "1.0"],
+            ErrorKind::ValueValidation,
+        ),
+        (
+            &["apf", "timeline", "c", "t"],
+            ErrorKind::MissingRequiredArgument,
+        ),
+        (
+            &["apf", "timeline", "c", "t", "0", "0"],
+            ErrorKind::UnknownArgument,
+        ),
+        (
+            &["apf", "timeline", "c", "t", "1000000001"],
+            ErrorKind::ValueValidation,
+        ),
+        (
+            &["apf", "timeline", "c", "t", "18446744073709551616"],
+            ErrorKind::ValueValidation,
+        ),
+        (
+            &["apf", "timeline", "c", "t", "15s"],
+            ErrorKind::ValueValidation,
+        ),
+        (&["apf", "requests"], ErrorKind::MissingRequiredArgument),
+        (&["apf", "requests", "c", "t"], ErrorKind::UnknownArgument),
+        (&["apf", "hands", "c"], ErrorKind::MissingRequiredArgument),
+        (&["apf", "hands", "c", "t", "0"], ErrorKind::UnknownArgument),
+        (
+            &["apf", "simulation", "c", "t", "0"],
+            ErrorKind::InvalidSubcommand,
+        ),
+    ];
+    for (words, kind) in rows {
+        let _ = refused(&rt, rt.alloc(), words, kind);
+    }
 }
 
 #[test]
@@ -166,7 +263,11 @@ fn refuses_other_words(rt: HostRuntime) {
 
 #[test]
 fn answers_with_help(rt: HostRuntime) -> Result<(), Fail> {
-    let rows: [(&[&str], &str); 4] = [
+    let rows: [(&[&str], &str); 8] = [
+        (&["apf", "simulate", "--help"], "in microseconds"),
+        (&["apf", "timeline", "--help"], "not kube-apiserver"),
+        (&["apf", "help", "requests"], "JSON Lines"),
+        (&["apf", "help", "hands"], "covered by"),
         (&["apf", "--help"], "Print the hand of queues"),
         (&["apf", "help"], "Print the hand of queues"),
         (&["apf", "deal", "--help"], "Number of queues in a hand"),

@@ -16,7 +16,11 @@ returns c =
     let replay = c.in_ok-subcommand-3.ensures.shape c.in_ok-replay_command.ensures.local ∙ ap₂ with_subcommand deal c.in_ok-replay_command.ensures.shape in
     let run = c.in_ok-subcommand-4.ensures.shape c.in_ok-run_command.ensures.local ∙ ap₂ with_subcommand replay c.in_ok-run_command.ensures.shape in
     let services = c.in_ok-subcommand-5.ensures.shape c.in_ok-services_command.ensures.local ∙ ap₂ with_subcommand run c.in_ok-services_command.ensures.shape in
+    let waits = c.in_ok-subcommand-6.ensures.shape c.in_ok-waits_command.ensures.local ∙ ap₂ with_subcommand services c.in_ok-waits_command.ensures.shape in
+    let simulate = c.in_ok-subcommand-7.ensures.shape c.in_ok-simulate_command.ensures.local ∙ ap₂ with_subcommand waits c.in_ok-simulate_command.ensures.shape in
+    let timeline = c.in_ok-subcommand-8.ensures.shape c.in_ok-timeline_command.ensures.local ∙ ap₂ with_subcommand simulate c.in_ok-timeline_command.ensures.shape in
+    let requests = c.in_ok-subcommand-9.ensures.shape c.in_ok-requests_command.ensures.local ∙ ap₂ with_subcommand timeline c.in_ok-requests_command.ensures.shape in
     record {
-      app = IfOk-weaker c.subcommand-6.result _ _
-          (λ r h. h.shape c.in_ok-waits_command.ensures.local ∙ ap₂ with_subcommand services c.in_ok-waits_command.ensures.shape) c.subcommand-6.ensures;
+      app = IfOk-weaker c.subcommand-10.result _ _
+          (λ r h. h.shape c.in_ok-hands_command.ensures.local ∙ ap₂ with_subcommand requests c.in_ok-hands_command.ensures.shape) c.subcommand-10.ensures;
     }

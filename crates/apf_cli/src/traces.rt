@@ -1,0 +1,135 @@
+//! The commands on a trace: each reads its files, and prints.
+
+ghost use Rattle.std.specs.Prelude.{◌≤◌, All, IfOk, vec_len};
+ghost use Rattle.apf_traces.specs.TraceFile.{max_lines};
+ghost use Rattle.apf_traces.specs.TraceValue.{IsRequestInRange};
+
+use crate::faults::Fault;
+use crate::files::{Files, Input, judge_names, read_input};
+use apf_flows::{write_hands, write_requests};
+use apf_run::{Config, read_config, write_book};
+use apf_simulation::{Simulation, simulate};
+use apf_traces::{TraceRequest, read_trace};
+use std::alloc::Global;
+use std::io::Write;
+use std::sync::Wait;
+
+// Reads the trace.
+fn read_requests<F: Files>(
+    alloc: Global,
+    files: &mut F,
+    trace: &str,
+) -> Result<Vec<TraceRequest>, Fault>
+    ensures few { IfOk result (λ trace. vec_len trace ≤ max_lines) }
+    ensures ranges { IfOk result (λ trace. All IsRequestInRange trace.items) }
+{
+    let bytes = read_input(files, Input::Trace, trace)?;
+    Ok(read_trace(alloc, bytes.as_slice())?)
+}
+
+// Reads the config and the trace of these names, the config judged before the trace is read.
+fn read_both<F: Files>(
+    alloc: Global,
+    files: &mut F,
+    names: (&str, &str),
+) -> Result<(Config, Vec<TraceRequest>), Fault>
+    ensures few { IfOk result (λ read. vec_len read.1 ≤ max_lines) }
+    ensures ranges { IfOk result (λ read. All IsRequestInRange read.1.items) }
+{
+    judge_names(&[names.0, names.1])?;
+    let config = read_config(alloc, read_input(files, Input::Config, names.0)?.as_slice())?;
+    let trace = read_requests(alloc, files, names.1)?;
+    Ok((config, trace))
+}
+
+// Reads the two files, and simulates the trace; the patience is in microseconds.
+fn simulated<F: Files, R: Wait>(
+    rt: &R,
+    alloc: Global,
+    files: &mut F,
+    names: (&str, &str),
+    patience: u32,
+) -> Result<(Vec<TraceRequest>, Simulation), Fault>
+    requires { patience ≤ 1000000000 }
+{
+    let (config, trace) = read_both(alloc, files, names)?;
+    let simulation = simulate(rt, alloc, &config, trace.as_slice(), u64::from(patience))?;
+    Ok((trace, simulation))
+}
+
+/// Simulates the trace on the level of the config, and prints what its flows met and the book.
+///
+/// The patience is 0 to 1,000,000,000 microseconds.
+///
+/// # Errors
+///
+/// The faults of the files in the order config, trace, then those of the level, then those of the output.
+pub(crate) fn print_simulation<F: Files, O: Write, R: Wait>(
+    rt: &R,
+    alloc: Global,
+    files: &mut F,
+    names: (&str, &str),
+    patience: u32,
+    out: &mut O,
+) -> Result<(), Fault>
+    requires { patience ≤ 1000000000 }
+{
+    let (trace, simulation) = simulated(rt, alloc, files, names, patience)?;
+    simulation
+        .write(trace.as_slice(), out)
+        .map_err(|_| Fault::CannotWrite)?;
+    Ok(write_book(&simulation.report, out)?)
+}
+
+/// Simulates the trace on the level of the config, and prints the script of the simulation.
+///
+/// The patience is 0 to 1,000,000,000 microseconds.
+///
+/// # Errors
+///
+/// As for `print_simulation`.
+pub(crate) fn print_timeline<F: Files, O: Write, R: Wait>(
+    rt: &R,
+    alloc: Global,
+    files: &mut F,
+    names: (&str, &str),
+    patience: u32,
+    out: &mut O,
+) -> Result<(), Fault>
+    requires { patience ≤ 1000000000 }
+{
+    let (_, simulation) = simulated(rt, alloc, files, names, patience)?;
+    simulation
+        .write_timeline(out)
+        .map_err(|_| Fault::CannotWrite)
+}
+
+/// Prints the requests file of the trace.
+///
+/// # Errors
+///
+/// The faults of the trace, then those of the output.
+pub(crate) fn print_requests<F: Files, O: Write>(
+    alloc: Global,
+    files: &mut F,
+    trace: &str,
+    out: &mut O,
+) -> Result<(), Fault> {
+    let trace = read_requests(alloc, files, trace)?;
+    write_requests(trace.as_slice(), out).map_err(|_| Fault::CannotWrite)
+}
+
+/// Prints the hands of the trace's flows on the level of the config.
+///
+/// # Errors
+///
+/// The faults of the files in the order config, trace, then the dealer's, then those of the output.
+pub(crate) fn print_hands<F: Files, O: Write>(
+    alloc: Global,
+    files: &mut F,
+    names: (&str, &str),
+    out: &mut O,
+) -> Result<(), Fault> {
+    let (config, trace) = read_both(alloc, files, names)?;
+    Ok(write_hands(alloc, &config, trace.as_slice(), out)?)
+}

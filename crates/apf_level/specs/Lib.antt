@@ -3,6 +3,7 @@ pub mod Nobody
 pub mod Opening
 pub mod Tokens
 pub mod Admission
+pub mod Attempts
 pub mod Shown
 pub mod Copies
 pub mod Served

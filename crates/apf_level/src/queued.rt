@@ -1,7 +1,8 @@
 //! What stands under the lock of a level with queues.
 
-ghost use Rattle.std.specs.Prelude.{◌≡◌, ◌≢◌, ◌<◌, length, false, true, Some, None};
+ghost use Rattle.std.specs.Prelude.{◌≡◌, ◌≢◌, ◌<◌, ◌≤◌, length, false, true, Some, None};
 ghost use Rattle.apf_words.specs.declared.decision.Decision.TheVariants as decisions;
+ghost use Rattle.apf_model.specs.declared.response.Response.TheVariants.{Queue};
 ghost use Rattle.apf_gate.specs.declared.record.State.TheVariants.{InLine};
 ghost use Rattle.apf_gate.specs.Records.{told_own};
 ghost use Rattle.apf_gate.specs.Tokens.{pass_gate, desk_gate};
@@ -11,18 +12,19 @@ ghost use Rattle.apf_book.specs.Servings.{Serves};
 ghost use Rattle.apf_book.specs.Stopped.{IsStopped};
 ghost use Rattle.apf_level.specs.Levels.{IsBookOf};
 ghost use Rattle.apf_level.specs.Tokens.{IsOf};
+ghost use Rattle.apf_level.specs.Copies.{Copies, IsCopied};
 ghost use Rattle.apf_level.specs.Served.{Dispatched, Struck};
 ghost use Rattle.apf_level.specs.Shown.{shown_of, WentOn};
 
 use crate::naming::Naming;
 use apf_book::{Arrived, Book};
 use apf_gate::{Gate, Pass};
-use apf_model::Event;
+use apf_model::{Event, every_legal_history_is_in_order};
 use apf_stats::Board;
 use apf_words::Decision;
 use std::alloc::Global;
 use std::marker::PhantomData;
-use std::sync::Wait;
+use std::sync::{Mutex, Wait};
 
 /// The book of K's level, beside the numbers that are published of it.
 ///
@@ -38,6 +40,13 @@ pub struct Queued<K: Naming> {
     ghost stopped: { IsStopped book.ledger book.desk.desk.knows },
     ghost published: { shown board.trace ≡ shown_of book.ledger.history },
     ghost one_flag_each: { length sleeps.items ≡ length K.level.gate.shape.widths },
+}
+
+/// The lock of a level with queues.
+#[derive(Drop)]
+pub struct QueuedLock<K: Naming> {
+    pub lock: Mutex<Queued<K>>,
+    ghost has_queues: { K.level.gate.shape.response ≡ Queue },
 }
 
 // Wakes those who may sleep until a request is decided that was dispatched since the log had this length.
@@ -123,6 +132,19 @@ fn strike_and_serve<K: Naming, R: Wait>(
     struck
 }
 
+/// Copies as much of the log from this place on as there is room for. Tells how many events.
+pub fn copy(log: &[Event], from: u32, into: &mut [Event]) -> u32
+    requires few { length log.now ≤ 20000 }
+    ensures { Copies log.now from into.old result into.new }
+{
+    let Some(rest) = log.get(from as usize..) else {
+        return 0;
+    };
+    let count = rest.len().min(into.len());
+    into[..count].copy_from_slice(&rest[..count]);
+    count as u32
+}
+
 impl<K: Naming> Queued<K> {
     /// The request arrives, and whoever waits is dispatched while the chosen head fits, also where the request does
     /// not enter. Returns the request's decision, unless it waits: then somebody may sleep until it is decided, if
@@ -198,5 +220,13 @@ impl<K: Naming> Queued<K> {
             self.sleeps.as_slice(),
             request,
         )
+    }
+
+    /// Copies as much of the log from this place on as there is room for. Tells how many events.
+    pub fn copy_events(&self, from: u32, into: &mut [Event]) -> u32
+        ensures { IsCopied K.level from into.old result into.new }
+    {
+        every_legal_history_is_in_order();
+        copy(self.book.log(), from, into)
     }
 }

@@ -6,3 +6,4 @@ pub mod Outcomes
 pub mod Ends
 pub mod Idle
 pub mod Nobody
+pub mod Appending

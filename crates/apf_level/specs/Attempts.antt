@@ -1,5 +1,6 @@
 -- One attempt of a request to be admitted, which says why it is busy.
-use Rattle.std.specs.Prelude.{◌≡◌, None}
+use Rattle.std.specs.Prelude.{◌≡◌, ◌≢◌, None}
+use Rattle.apf_words.specs.declared.decision.Decision.TheVariants.{QueueFull}
 use Rattle.apf_gate.specs.declared.record.PassRecord.{PassRecord}
 use Rattle.apf_gate.specs.declared.record.State.TheVariants.{Fresh}
 use Rattle.apf_gate.specs.PassSteps.{PassLoadsDecision}
@@ -20,9 +21,9 @@ tried_of (attempted.Raced token) = tried.Busy token
 abbrev pub TakesOrDecides : PassRecord → Attempt → Type 0
 TakesOrDecides read answer = (pass : PassRecord) → pass.knows.shape ≡ read.knows.shape → PassLoadsDecision pass None read → TriesToAdmit pass (tried_of answer)
 
--- whoever is busy is fresh, and entered no more than before
+-- whoever is busy is fresh, and entered no more than before. Whoever is over found no queue full
 abbrev pub StaysOut : PassRecord → Attempt → Type 0
 StaysOut pass (attempted.Run token) = Unit {0}
-StaysOut pass (attempted.Over token decision waiters) = Unit {0}
+StaysOut pass (attempted.Over token decision waiters) = decision ≢ QueueFull
 StaysOut pass (attempted.Blocked token) = (token.pass.state ≡ Fresh) × (token.pass.entered ≡ pass.entered)
 StaysOut pass (attempted.Raced token) = (token.pass.state ≡ Fresh) × (token.pass.entered ≡ pass.entered)

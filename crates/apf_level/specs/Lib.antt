@@ -4,6 +4,7 @@ pub mod Opening
 pub mod Tokens
 pub mod Admission
 pub mod Attempts
+pub mod Arrivals
 pub mod Shown
 pub mod Copies
 pub mod Served

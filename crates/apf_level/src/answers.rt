@@ -38,6 +38,16 @@ pub enum Begin {
     Waiting(Waiting),
 }
 
+/// What became of an arrival under the lock.
+pub enum Stood {
+    /// It entered this queue.
+    Entered(u32),
+    /// This queue was full: it is decided so.
+    Full(u32),
+    /// It is decided so, and no queue has to do with it.
+    Over(Decision),
+}
+
 /// What was read of a request that waits.
 pub enum Poll {
     /// It executes.

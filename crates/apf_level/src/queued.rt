@@ -12,10 +12,12 @@ ghost use Rattle.apf_book.specs.Servings.{Serves};
 ghost use Rattle.apf_book.specs.Stopped.{IsStopped};
 ghost use Rattle.apf_level.specs.Levels.{IsBookOf};
 ghost use Rattle.apf_level.specs.Tokens.{IsOf};
+ghost use Rattle.apf_level.specs.Arrivals.{StandsAs};
 ghost use Rattle.apf_level.specs.Copies.{Copies, IsCopied};
 ghost use Rattle.apf_level.specs.Served.{Dispatched, Struck};
 ghost use Rattle.apf_level.specs.Shown.{shown_of, WentOn};
 
+use crate::answers::Stood;
 use crate::naming::Naming;
 use apf_book::{Arrived, Book};
 use apf_gate::{Gate, Pass};
@@ -147,24 +149,21 @@ pub fn copy(log: &[Event], from: u32, into: &mut [Event]) -> u32
 
 impl<K: Naming> Queued<K> {
     /// The request arrives, and whoever waits is dispatched while the chosen head fits, also where the request does
-    /// not enter. Returns the request's decision, unless it waits: then somebody may sleep until it is decided, if
-    /// this says so.
+    /// not enter. If it enters, somebody may sleep until it is decided, if this says so.
     pub fn arrive<R: Wait>(
         &mut self,
         rt: &R,
         gate: &Gate<Global>,
         pass: &mut Pass,
         sleeps: bool,
-    ) -> Option<Decision>
+    ) -> Stood
         requires own { gate.now ≡ K.level.gate }
         requires own_pass { pass_gate pass.old ≡ K.level.gate }
         requires in_line { pass.old.pass.state ≡ InLine }
         requires not_handed { pass.old.pass.handed ≡ false }
         ensures same { IsOf pass.old pass.new }
         ensures in_line { pass.new.pass.state ≡ InLine }
-        ensures entered { result ≡ None → pass.new.pass.entered ≡ true }
-        ensures told { result ≢ None → told_own pass.new.pass ≡ result }
-        ensures refused { result ≢ Some decisions.Execute }
+        ensures stands { StandsAs K.level pass.new.pass result }
     {
         let before = self.book.log().len();
         let arrived = self.book.arrive(rt, gate, pass);
@@ -177,15 +176,15 @@ impl<K: Naming> Queued<K> {
             before,
         );
         match arrived {
-            Arrived::Queued(_queue) => {
+            Arrived::Queued(queue) => {
                 if let Some(flag) = self.sleeps.get_mut(pass.number() as usize) {
                     *flag = sleeps;
                 }
-                None
+                Stood::Entered(queue)
             }
-            Arrived::Full(_queue) => Some(Decision::QueueFull),
-            Arrived::Closed => Some(Decision::Closed),
-            Arrived::Cancelled => Some(Decision::Cancelled),
+            Arrived::Full(queue) => Stood::Full(queue),
+            Arrived::Closed => Stood::Over(Decision::Closed),
+            Arrived::Cancelled => Stood::Over(Decision::Cancelled),
             Arrived::Again => unreachable!(),
         }
     }

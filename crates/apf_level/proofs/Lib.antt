@@ -7,3 +7,4 @@ pub mod Ends
 pub mod Idle
 pub mod Nobody
 pub mod Appending
+pub mod Entered

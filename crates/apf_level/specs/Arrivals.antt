@@ -1,5 +1,5 @@
 -- What an arrival is, and what the log got by it.
-use Rattle.std.specs.Prelude.{◌≡◌, ◌≢◌, ℕ, ◌++◌, true, List, ◌∷◌, Option, Some, None}
+use Rattle.std.specs.Prelude.{◌≡◌, ◌≢◌, ℕ, ◌++◌, true, false, List, ◌∷◌, Option, Some, None}
 use Rattle.apf_words.specs.declared.decision.Decision.TheVariants as decisions
 use Rattle.apf_history.specs.declared.events.Event.{Event}
 use Rattle.apf_history.specs.declared.events.Event.TheVariants as events
@@ -25,7 +25,7 @@ pub record Appended (k : LevelId) (event : Event) : Type 0 where
 abbrev pub StandsAs : LevelId → PassRecord → Stood → Type 0
 StandsAs k pass (stood.Entered q) = (pass.entered ≡ true) × Appended k (events.Enter pass.number q)
 StandsAs k pass (stood.Full q) = (told_own pass ≡ Some decisions.QueueFull) × Appended k (events.Full pass.number q)
-StandsAs k pass (stood.Over decision) = (told_own pass ≡ Some decision) × (decision ≢ decisions.Execute) × (decision ≢ decisions.QueueFull)
+StandsAs k pass (stood.Over decision) = (told_own pass ≡ Some decision) × (decision ≢ decisions.Execute) × (decision ≢ decisions.QueueFull) × (pass.entered ≡ false)
 
 -- the answer says that a queue was full
 abbrev pub SaysFull : Begin → Type 0
@@ -40,10 +40,10 @@ IsEventOf r answer (events.Full r' q) = (r' ≡ r) × SaysFull answer
 IsEventOf r answer (events.Dispatch r' q) = ⊥
 IsEventOf r answer (events.Strike r' q) = ⊥
 
--- what is answered where the log got no event: the request does not wait, and no queue was full
+-- what is answered where the log got no event: the request did not enter, and no queue was full
 abbrev pub NeedsNoEvent : Begin → Type 0
-NeedsNoEvent (begun.Run token) = Unit {0}
-NeedsNoEvent (begun.Over token decision) = decision ≢ decisions.QueueFull
+NeedsNoEvent (begun.Run token) = token.pass.entered ≡ false
+NeedsNoEvent (begun.Over token decision) = (token.pass.entered ≡ false) × (decision ≢ decisions.QueueFull)
 NeedsNoEvent (begun.Waiting token) = ⊥
 
 -- the event, if there is one, is the request's, and a log that the level had got it

@@ -21,9 +21,9 @@ tried_of (attempted.Raced token) = tried.Busy token
 abbrev pub TakesOrDecides : PassRecord → Attempt → Type 0
 TakesOrDecides read answer = (pass : PassRecord) → pass.knows.shape ≡ read.knows.shape → PassLoadsDecision pass None read → TriesToAdmit pass (tried_of answer)
 
--- whoever is busy is fresh, and entered no more than before. Whoever is over found no queue full
+-- nobody enters by an attempt, nor finds a queue full; and whoever is busy is fresh
 abbrev pub StaysOut : PassRecord → Attempt → Type 0
-StaysOut pass (attempted.Run token) = Unit {0}
-StaysOut pass (attempted.Over token decision waiters) = decision ≢ QueueFull
+StaysOut pass (attempted.Run token) = token.pass.entered ≡ pass.entered
+StaysOut pass (attempted.Over token decision waiters) = (token.pass.entered ≡ pass.entered) × (decision ≢ QueueFull)
 StaysOut pass (attempted.Blocked token) = (token.pass.state ≡ Fresh) × (token.pass.entered ≡ pass.entered)
 StaysOut pass (attempted.Raced token) = (token.pass.state ≡ Fresh) × (token.pass.entered ≡ pass.entered)

@@ -1,6 +1,6 @@
 //! The steps of a request outside the lock.
 
-ghost use Rattle.std.specs.Prelude.{◌≡◌, ◌==◌, not, true, Some};
+ghost use Rattle.std.specs.Prelude.{◌≡◌, ◌==◌, not, true, false, Some};
 ghost use Rattle.apf_words.specs.Level.{Level as Word};
 ghost use Rattle.apf_words.specs.declared.decision.Decision.TheVariants.{Execute};
 ghost use Rattle.apf_gate.specs.declared.record.State.TheVariants.{Fresh};
@@ -50,6 +50,7 @@ impl<K: Naming> Level<K> {
         ensures steps { TriesToAdmit pass.pass (tried_of result) }
         ensures stays_closed { pass.pass.knows.saw_closed ≡ true → ¬ SaysOpen (tried_of result) }
         ensures outside { StaysOut pass.pass result }
+        ensures never_entered { pass.pass.entered ≡ false }
     {
         if let Some(decision) = self.gate.told(&mut pass) {
             return Attempt::Over(Done { pass }, decision, false);

@@ -1,4 +1,5 @@
--- Whoever is not decided is the same request, fresh, and did not enter since.
+-- The request is the same and did not enter. Whoever is not decided is fresh.
+use Rattle.std.proofs.Common.{◌≡◌, false}
 use Rattle.apf_level.specs.Admission.{tried_pass, IsTriedTold}
 use Rattle.apf_level.specs.Attempts.{tried_of, StaysOut}
 use Rattle.apf_level.specs.Tokens.{IsOf}
@@ -12,4 +13,5 @@ invariant-loop g l =
       same : IsOf l.fn.pass (tried_pass (tried_of l.attempt));
       told : IsTriedTold (tried_of l.attempt);
       outside : StaysOut l.fn.pass.pass l.attempt;
+      never_entered : l.fn.pass.pass.entered ≡ false;
     }

@@ -6,3 +6,5 @@ pub mod Outcomes
 pub mod Ends
 pub mod Idle
 pub mod Nobody
+pub mod Appending
+pub mod Entered

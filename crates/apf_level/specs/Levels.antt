@@ -40,3 +40,8 @@ pub record IsIdleOf (k : LevelId) (d : DeskToken) : Type 0 where
   pub holds_none : d.desk.held ≡ None
   -- the log stays empty
   pub of_log : IsLogOf (logged_as k [])
+
+-- the level has no queues, and its log stays empty
+pub record HasNoQueues (k : LevelId) : Type 0 where
+  pub response : k.gate.shape.response ≡ Reject
+  pub of_log : IsLogOf (logged_as k [])

@@ -3,6 +3,8 @@ pub mod Nobody
 pub mod Opening
 pub mod Tokens
 pub mod Admission
+pub mod Attempts
+pub mod Arrivals
 pub mod Shown
 pub mod Copies
 pub mod Served

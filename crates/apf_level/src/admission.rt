@@ -1,6 +1,6 @@
 //! The steps of a request outside the lock.
 
-ghost use Rattle.std.specs.Prelude.{◌≡◌, ◌==◌, not, true, Some};
+ghost use Rattle.std.specs.Prelude.{◌≡◌, ◌==◌, not, true, false, Some};
 ghost use Rattle.apf_words.specs.Level.{Level as Word};
 ghost use Rattle.apf_words.specs.declared.decision.Decision.TheVariants.{Execute};
 ghost use Rattle.apf_gate.specs.declared.record.State.TheVariants.{Fresh};
@@ -9,13 +9,14 @@ ghost use Rattle.apf_gate.specs.PassSteps.{PassSubtractsLevel};
 ghost use Rattle.apf_gate.specs.Tokens.{pass_gate};
 ghost use Rattle.apf_level.specs.Tokens.{IsOf};
 ghost use Rattle.apf_level.specs.Admission.{tried_pass, IsTriedTold, TriesToAdmit, SaysOpen};
+ghost use Rattle.apf_level.specs.Attempts.{tried_of, TakesOrDecides, StaysOut};
 
-use crate::answers::TryAdmit;
+use crate::answers::{Attempt, TryAdmit};
 use crate::level::Level;
 use crate::naming::Naming;
+use crate::shared::Shared;
 use crate::tokens::{Done, Running};
 use apf_gate::{Pass, TryTake};
-use apf_model::Response;
 use apf_words::Decision;
 
 impl<K: Naming> Level<K> {
@@ -24,7 +25,7 @@ impl<K: Naming> Level<K> {
     /// It reads the decision, and where that is not written makes a load of the level word; where that
     /// showed room an exchange; and an exchange of the decision word, unless it answers busy. Seats that were
     /// taken while the request was cancelled are given back.
-    pub fn try_admit(&self, mut pass: Pass) -> TryAdmit
+    pub fn try_admit(&self, pass: Pass) -> TryAdmit
         requires own { pass_gate pass ≡ K.level.gate }
         requires fresh { pass.pass.state ≡ Fresh }
         ensures same { IsOf pass (tried_pass result) }
@@ -32,31 +33,64 @@ impl<K: Naming> Level<K> {
         ensures steps { TriesToAdmit pass.pass result }
         ensures stays_closed { pass.pass.knows.saw_closed ≡ true → ¬ SaysOpen result }
     {
-        if let Some(decision) = self.gate.told(&mut pass) {
-            return TryAdmit::Over(Done { pass }, decision, false);
+        match self.attempt(pass) {
+            Attempt::Run(running) => TryAdmit::Run(running),
+            Attempt::Over(done, decision, waiting) => TryAdmit::Over(done, decision, waiting),
+            Attempt::Blocked(pass) => TryAdmit::Busy(pass),
+            Attempt::Raced(pass) => TryAdmit::Busy(pass),
         }
+    }
+
+    // As `try_admit`, but it says why it is busy.
+    pub(crate) fn attempt(&self, mut pass: Pass) -> Attempt
+        requires own { pass_gate pass ≡ K.level.gate }
+        requires fresh { pass.pass.state ≡ Fresh }
+        ensures same { IsOf pass (tried_pass (tried_of result)) }
+        ensures told { IsTriedTold (tried_of result) }
+        ensures steps { TriesToAdmit pass.pass (tried_of result) }
+        ensures stays_closed { pass.pass.knows.saw_closed ≡ true → ¬ SaysOpen (tried_of result) }
+        ensures outside { StaysOut pass.pass result }
+        ensures never_entered { pass.pass.entered ≡ false }
+    {
+        if let Some(decision) = self.gate.told(&mut pass) {
+            return Attempt::Over(Done { pass }, decision, false);
+        }
+        self.take(pass)
+    }
+
+    // Takes the seats, if nobody waits and they fit, and decides: what `try_admit` does once it read that
+    // nothing is decided.
+    pub(crate) fn take(&self, mut pass: Pass) -> Attempt
+        requires own { pass_gate pass ≡ K.level.gate }
+        requires fresh { pass.pass.state ≡ Fresh }
+        ensures same { IsOf pass (tried_pass (tried_of result)) }
+        ensures told { IsTriedTold (tried_of result) }
+        ensures steps { TakesOrDecides pass.pass result }
+        ensures stays_closed { pass.pass.knows.saw_closed ≡ true → ¬ SaysOpen (tried_of result) }
+        ensures outside { StaysOut pass.pass result }
+    {
         match self.gate.try_take(&mut pass) {
             TryTake::Taken => {
                 let decision = self.gate.decide(&mut pass, Decision::Execute);
                 if decision == Decision::Execute {
-                    return TryAdmit::Run(Running { pass });
+                    return Attempt::Run(Running { pass });
                 }
                 let waiting = self.gate.release(&mut pass);
-                TryAdmit::Over(Done { pass }, decision, waiting)
+                Attempt::Over(Done { pass }, decision, waiting)
             }
             TryTake::Closed => {
                 let decision = self.gate.decide(&mut pass, Decision::Closed);
-                TryAdmit::Over(Done { pass }, decision, false)
+                Attempt::Over(Done { pass }, decision, false)
             }
-            TryTake::Waiters => TryAdmit::Busy(pass),
-            TryTake::NoRoom => match self.response {
-                Response::Queue => TryAdmit::Busy(pass),
-                Response::Reject => {
+            TryTake::Waiters => Attempt::Blocked(pass),
+            TryTake::NoRoom => match &self.shared {
+                Shared::Queued(_queued) => Attempt::Blocked(pass),
+                Shared::Alone(_alone) => {
                     let decision = self.gate.decide(&mut pass, Decision::ConcurrencyLimit);
-                    TryAdmit::Over(Done { pass }, decision, false)
+                    Attempt::Over(Done { pass }, decision, false)
                 }
             },
-            TryTake::Raced => TryAdmit::Busy(pass),
+            TryTake::Raced => Attempt::Raced(pass),
         }
     }
 

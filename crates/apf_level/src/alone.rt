@@ -1,10 +1,11 @@
 //! What stands under the lock of a level without queues.
 
-ghost use Rattle.apf_level.specs.Levels.{IsIdleOf};
+ghost use Rattle.apf_level.specs.Levels.{IsIdleOf, HasNoQueues};
 
 use crate::naming::Naming;
 use apf_gate::Desk;
 use std::marker::PhantomData;
+use std::sync::Mutex;
 
 /// The Desk of K's level, which never serves anybody.
 #[derive(Drop)]
@@ -12,4 +13,11 @@ pub struct Alone<K: Naming> {
     pub desk: Desk,
     pub of: PhantomData<K>,
     ghost tied: { IsIdleOf K.level desk },
+}
+
+/// The lock of a level without queues, which nobody takes: a Desk is for one thread at a time.
+#[derive(Drop)]
+pub struct AloneLock<K: Naming> {
+    pub lock: Mutex<Alone<K>>,
+    ghost no_queues: { HasNoQueues K.level },
 }

@@ -16,6 +16,18 @@ pub enum TryAdmit {
     Busy(Pass),
 }
 
+/// What became of an attempt to be admitted, with why it is busy.
+pub enum Attempt {
+    /// It executes.
+    Run(Running),
+    /// It is decided so. Where the bool is true a dispatch is owed, as after `TryAdmit::Over`.
+    Over(Done, Decision, bool),
+    /// Requests wait, or it does not fit. Never on a level without queues.
+    Blocked(Pass),
+    /// The level word changed in between.
+    Raced(Pass),
+}
+
 /// What became of an arrival.
 pub enum Begin {
     /// It executes.
@@ -24,6 +36,16 @@ pub enum Begin {
     Over(Done, Decision),
     /// It waits in a queue.
     Waiting(Waiting),
+}
+
+/// What became of an arrival under the lock.
+pub enum Stood {
+    /// It entered this queue.
+    Entered(u32),
+    /// This queue was full: it is decided so.
+    Full(u32),
+    /// It is decided so, and no queue has to do with it.
+    Over(Decision),
 }
 
 /// What was read of a request that waits.

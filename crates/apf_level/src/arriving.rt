@@ -1,18 +1,21 @@
 //! The arrival of a request, and its wait.
 
-ghost use Rattle.std.specs.Prelude.{◌≡◌, ◌≢◌, true, None};
-ghost use Rattle.apf_model.specs.declared.response.Response.TheVariants.{Queue, Reject};
-ghost use Rattle.apf_gate.specs.declared.record.State.TheVariants.{Fresh, Took};
+ghost use Rattle.std.specs.Prelude.{◌≡◌, true};
+ghost use Rattle.apf_model.specs.declared.response.Response.TheVariants.{Queue};
+ghost use Rattle.apf_gate.specs.declared.record.State.TheVariants.{Fresh};
 ghost use Rattle.apf_gate.specs.Tokens.{pass_gate};
 ghost use Rattle.apf_level.specs.Tokens.{IsOf};
 ghost use Rattle.apf_level.specs.Admission.{begun_pass, polled_pass, admitted_pass, IsBegunTold, IsAdmittedTold, EnteredNow, SaysWaiting, Polls, IsNotExecuted};
+ghost use Rattle.apf_level.specs.Arrivals.{Logs};
 
-use crate::answers::{Admit, Begin, Poll};
+use crate::answers::{Admit, Attempt, Begin, Poll, Stood};
 use crate::level::Level;
 use crate::naming::Naming;
+use crate::queued::QueuedLock;
+use crate::shared::Shared;
 use crate::tokens::{Done, Running, Waiting};
-use apf_gate::{Pass, TryTake};
-use apf_model::Response;
+use apf_gate::Pass;
+use apf_model::Event;
 use apf_words::Decision;
 use std::hint;
 use std::sync::Wait;
@@ -33,6 +36,21 @@ impl<K: Naming> Level<K> {
         ensures told { IsBegunTold result }
         ensures entered { EnteredNow pass.pass result }
         ensures queues { SaysWaiting result → self.now.gate.shape.response ≡ Queue }
+    {
+        let (begun, _event) = self.arrive(rt, pass, false);
+        begun
+    }
+
+    /// As `begin`. Answers also the event that the log got by the arrival: the request's Enter or Full, which
+    /// name its queue, or none, of a request that took its seats or was decided without a queue.
+    pub fn begin_with_event<R: Wait>(&self, rt: &R, pass: Pass) -> (Begin, Option<Event>)
+        requires own { pass_gate pass ≡ K.level.gate }
+        requires fresh { pass.pass.state ≡ Fresh }
+        ensures same { IsOf pass (begun_pass result.0) }
+        ensures told { IsBegunTold result.0 }
+        ensures entered { EnteredNow pass.pass result.0 }
+        ensures queues { SaysWaiting result.0 → self.now.gate.shape.response ≡ Queue }
+        ensures logs { Logs K.level pass.pass.number result.0 result.1 }
     {
         self.arrive(rt, pass, false)
     }
@@ -65,7 +83,8 @@ impl<K: Naming> Level<K> {
         ensures same { IsOf pass (admitted_pass result) }
         ensures told { IsAdmittedTold result }
     {
-        let mut waiting = match self.arrive(rt, pass, true) {
+        let (begun, _event) = self.arrive(rt, pass, true);
+        let mut waiting = match begun {
             Begin::Run(running) => return Admit::Run(running),
             Begin::Over(done, decision) => return Admit::Over(done, decision),
             Begin::Waiting(waiting) => waiting,
@@ -88,83 +107,80 @@ impl<K: Naming> Level<K> {
     }
 
     // The request arrives. If it waits, somebody may sleep until it is decided, if this says so.
-    fn arrive<R: Wait>(&self, rt: &R, mut pass: Pass, sleeps: bool) -> Begin
+    fn arrive<R: Wait>(&self, rt: &R, pass: Pass, sleeps: bool) -> (Begin, Option<Event>)
         requires own { pass_gate pass ≡ K.level.gate }
         requires fresh { pass.pass.state ≡ Fresh }
-        ensures same { IsOf pass (begun_pass result) }
-        ensures told { IsBegunTold result }
-        ensures entered { EnteredNow pass.pass result }
-        ensures queues { SaysWaiting result → self.now.gate.shape.response ≡ Queue }
+        ensures same { IsOf pass (begun_pass result.0) }
+        ensures told { IsBegunTold result.0 }
+        ensures entered { EnteredNow pass.pass result.0 }
+        ensures queues { SaysWaiting result.0 → self.now.gate.shape.response ≡ Queue }
+        ensures logs { Logs K.level pass.pass.number result.0 result.1 }
     {
-        if let Some(decision) = self.gate.told(&mut pass) {
-            return Begin::Over(Done { pass }, decision);
-        }
-        match self.take(rt, &mut pass) {
-            TryTake::Taken => {
-                let decision = self.gate.decide(&mut pass, Decision::Execute);
-                if decision == Decision::Execute {
-                    return Begin::Run(Running { pass });
-                }
-                if self.gate.release(&mut pass) {
-                    self.dispatch(rt);
-                }
-                Begin::Over(Done { pass }, decision)
-            }
-            TryTake::Closed => {
-                let decision = self.gate.decide(&mut pass, Decision::Closed);
-                Begin::Over(Done { pass }, decision)
-            }
-            TryTake::Waiters => self.stand(rt, pass, sleeps),
-            TryTake::NoRoom => match self.response {
-                Response::Queue => self.stand(rt, pass, sleeps),
-                Response::Reject => {
-                    let decision = self.gate.decide(&mut pass, Decision::ConcurrencyLimit);
-                    Begin::Over(Done { pass }, decision)
-                }
-            },
-            TryTake::Raced => unreachable!(),
-        }
-    }
-
-    // Takes the seats, if nobody waits and they fit. A lost exchange is tried again.
-    fn take<R: Wait>(&self, rt: &R, pass: &mut Pass) -> TryTake
-        requires own { pass_gate pass.old ≡ K.level.gate }
-        requires fresh { pass.old.pass.state ≡ Fresh }
-        ensures same { IsOf pass.old pass.new }
-        ensures took { result ≡ TryTake.Taken → (pass.new.pass.state ≡ Took) × (pass.new.pass.wrote ≡ None) }
-        ensures fresh { result ≢ TryTake.Taken → (pass.new.pass.state ≡ Fresh) × (pass.new.pass.entered ≡ pass.old.pass.entered) }
-        ensures closed { result ≡ TryTake.Closed → pass.new.pass.knows.saw_closed ≡ true }
-        ensures no_race { result ≢ TryTake.Raced }
-        ensures no_queues { self.now.gate.shape.response ≡ Reject → result ≢ TryTake.Waiters }
-        ensures no_room { result ≡ TryTake.NoRoom → pass.new.pass.no_room ≡ true }
-    {
+        let mut attempt = self.attempt(pass);
         for _ in rt.forever() {
-            match self.gate.try_take(pass) {
-                TryTake::Raced => {}
-                answer => return answer,
-            }
+            let pass = match attempt {
+                Attempt::Run(running) => return (Begin::Run(running), None),
+                Attempt::Over(done, decision, waiting) => {
+                    if waiting {
+                        self.dispatch(rt);
+                    }
+                    return (Begin::Over(done, decision), None);
+                }
+                Attempt::Blocked(pass) => match &self.shared {
+                    Shared::Queued(queued) => return self.stand(rt, queued, pass, sleeps),
+                    // without queues a request is busy after a lost exchange alone
+                    Shared::Alone(_alone) => pass,
+                },
+                Attempt::Raced(pass) => pass,
+            };
+            attempt = self.take(pass);
         }
         unreachable!()
     }
 
     // The request asks, and arrives under the lock.
-    fn stand<R: Wait>(&self, rt: &R, mut pass: Pass, sleeps: bool) -> Begin
+    fn stand<R: Wait>(
+        &self,
+        rt: &R,
+        queued: &QueuedLock<K>,
+        mut pass: Pass,
+        sleeps: bool,
+    ) -> (Begin, Option<Event>)
         requires own { pass_gate pass ≡ K.level.gate }
         requires fresh { pass.pass.state ≡ Fresh }
-        requires has_queues { self.now.gate.shape.response ≡ Queue }
-        ensures same { IsOf pass (begun_pass result) }
-        ensures told { IsBegunTold result }
-        ensures entered { EnteredNow pass.pass result }
+        ensures same { IsOf pass (begun_pass result.0) }
+        ensures told { IsBegunTold result.0 }
+        ensures entered { EnteredNow pass.pass result.0 }
+        ensures logs { Logs K.level pass.pass.number result.0 result.1 }
+        ensures queues { self.now.gate.shape.response ≡ Queue }
     {
         self.gate.ask(&mut pass);
-        let told = self
-            .shared
+        let request = pass.number();
+        let stood = queued
+            .lock
             .lock(rt)
             .arrive(rt, &self.gate, &mut pass, sleeps);
-        if let Some(decision) = told {
-            return Begin::Over(Done { pass }, decision);
+        match stood {
+            Stood::Entered(queue) => {
+                let begun = self.look_again(rt, Waiting { pass });
+                (begun, Some(Event::Enter(request, queue)))
+            }
+            Stood::Full(queue) => {
+                let begun = Begin::Over(Done { pass }, Decision::QueueFull);
+                (begun, Some(Event::Full(request, queue)))
+            }
+            Stood::Over(decision) => (Begin::Over(Done { pass }, decision), None),
         }
-        match self.poll(rt, Waiting { pass }) {
+    }
+
+    // Reads the decision of a request that entered, as `poll`.
+    fn look_again<R: Wait>(&self, rt: &R, waiting: Waiting) -> Begin
+        requires own { pass_gate waiting ≡ K.level.gate }
+        ensures same { IsOf waiting (begun_pass result) }
+        ensures told { IsBegunTold result }
+        ensures entered { (begun_pass result).pass.entered ≡ true }
+    {
+        match self.poll(rt, waiting) {
             Poll::Run(running) => Begin::Run(running),
             Poll::Over(done, decision) => Begin::Over(done, decision),
             Poll::Still(waiting) => Begin::Waiting(waiting),

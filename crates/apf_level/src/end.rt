@@ -7,12 +7,12 @@ ghost use Rattle.apf_book.specs.LedgerKept.{AreStats};
 ghost use Rattle.apf_level.specs.Keepers.{log_in, IsKeeperOf};
 ghost use Rattle.apf_level.specs.Reports.{AreSums, Ended};
 
-use crate::alone::Alone;
+use crate::alone::{Alone, AloneLock};
 use crate::finish::finish;
 use crate::hearing::{Keeper, gather};
 use crate::level::Level;
 use crate::naming::Naming;
-use crate::queued::Queued;
+use crate::queued::{Queued, QueuedLock};
 use crate::report::{Report, read};
 use crate::shared::Shared;
 use crate::tokens::Done;
@@ -26,17 +26,17 @@ fn keeper_of<K: Naming>(shared: Shared<K>) -> Keeper
     ensures { IsKeeperOf K.level result }
 {
     match shared {
-        Shared::Queued(queued) => {
+        Shared::Queued(QueuedLock { lock }) => {
             let Queued {
                 book,
                 board: _,
                 sleeps: _,
                 of: _,
-            } = queued;
+            } = lock.into_inner();
             Keeper::Book(book)
         }
-        Shared::Alone(alone) => {
-            let Alone { desk, of: _ } = alone;
+        Shared::Alone(AloneLock { lock }) => {
+            let Alone { desk, of: _ } = lock.into_inner();
             Keeper::Desk(desk)
         }
     }
@@ -84,11 +84,10 @@ impl<K: Naming> Level<K> {
     {
         let Level {
             gate,
-            response: _,
             shared,
             window: _,
         } = self;
-        let mut keeper = keeper_of(shared.into_inner());
+        let mut keeper = keeper_of(shared);
         let passes = gather::<K>(alloc, &gate, &mut keeper, dones)?;
         let count = passes.len() as u32;
         let stats = numbers::<K>(&keeper);

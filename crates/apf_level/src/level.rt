@@ -1,7 +1,7 @@
 //! The gate beside the lock, and how a level begins.
 
 ghost use Rattle.std.specs.Prelude.{◌≡◌, [], length, map, IfOk, IfErr, OnOk};
-ghost use Rattle.apf_model.specs.declared.response.Response.TheVariants.{Reject};
+ghost use Rattle.apf_model.specs.declared.response.Response.TheVariants.{Queue, Reject};
 ghost use Rattle.apf_model.specs.Schedule.{AreWidths};
 ghost use Rattle.apf_gate.specs.Records.{new_desk};
 ghost use Rattle.apf_book.specs.declared.fault.BookFault.TheVariants.{NoMemory};
@@ -11,9 +11,9 @@ ghost use Rattle.apf_gate.specs.Tokens.{desk_gate};
 ghost use Rattle.apf_level.specs.Levels.{IsBookOf};
 ghost use Rattle.apf_level.specs.Opening.{FaultBy, SettledBy};
 
-use crate::alone::Alone;
+use crate::alone::{Alone, AloneLock};
 use crate::naming::Naming;
-use crate::queued::Queued;
+use crate::queued::{Queued, QueuedLock};
 use crate::shared::Shared;
 use apf_book::{Ask, Book, BookFault, Config};
 use apf_gate::{Desk, Gate, Pass, Station};
@@ -30,20 +30,18 @@ pub type LevelFault = BookFault;
 #[derive(Drop)]
 pub struct Level<K: Naming> {
     pub(crate) gate: Gate<Global>,
-    pub(crate) response: Response,
-    pub(crate) shared: Mutex<Shared<K>>,
+    pub(crate) shared: Shared<K>,
     pub(crate) window: Window,
 }
 
 impl<K: Naming> Model for Level<K> {
-    ghost use Rattle.std.specs.Prelude.{◌≡◌};
     ghost use Rattle.apf_level.specs.Levels.{LevelView, IsGateOf};
 
     ghost Value = { LevelView };
 
     ghost view = { λ l. record { gate = l.gate; cell = l.window } };
 
-    ghost invariant = { λ l. IsGateOf K.level l.gate × (l.response ≡ l.gate.shape.response) };
+    ghost invariant = { λ l. IsGateOf K.level l.gate };
 }
 
 /// A level that was opened, with the tokens of its gate, and one reader's pass of its statistics.
@@ -87,8 +85,7 @@ impl<K: Naming> Level<K> {
         ensures settings { OnOk result (SettledBy config.now.limit_response config.now asks.now) }
         ensures fault { IfErr result (FaultBy config.now.limit_response config.now asks.now) }
     {
-        let response = config.limit_response;
-        let under = match response {
+        let under = match config.limit_response {
             Response::Queue => {
                 let book = Book::new(alloc, config, asks, desk);
                 queued::<K>(alloc, config, asks, book)?
@@ -98,7 +95,7 @@ impl<K: Naming> Level<K> {
                 alone::<K>(alloc, desk)?
             }
         };
-        Ok(assembled(gate, response, under, passes, stations))
+        Ok(assembled(gate, under, passes, stations))
     }
 
     /// As `open`, but a dispatch is charged the request's cost: its queue's next and the level's virtual
@@ -136,15 +133,14 @@ impl<K: Naming> Level<K> {
         ensures settings { OnOk result (SettledBy config.now.limit_response config.now asks.now) }
         ensures fault { IfErr result (FaultBy config.now.limit_response config.now asks.now) }
     {
-        let response = config.limit_response;
-        let under = match response {
+        let under = match config.limit_response {
             Response::Queue => {
                 let book = Book::with_costs(alloc, config, asks, costs, desk);
                 queued::<K>(alloc, config, asks, book)?
             }
             Response::Reject => alone::<K>(alloc, desk)?,
         };
-        Ok(assembled(gate, response, under, passes, stations))
+        Ok(assembled(gate, under, passes, stations))
     }
 }
 
@@ -154,13 +150,11 @@ type Under<K> = (Shared<K>, Window, StatsPass);
 // The level over these parts.
 fn assembled<K: Naming>(
     gate: Gate<Global>,
-    response: Response,
     under: Under<K>,
     passes: Vec<Pass>,
     stations: Vec<Station>,
 ) -> Opened<K>
     requires own { gate ≡ K.level.gate }
-    requires response { gate.shape.response ≡ response }
     requires stats { (under.2.cell ≡ under.1) × (under.2.trace ≡ []) }
     ensures gate { result.level.gate ≡ gate }
     ensures passes { result.passes ≡ passes }
@@ -170,8 +164,7 @@ fn assembled<K: Naming>(
     let (shared, window, stats) = under;
     let level = Level {
         gate,
-        response,
-        shared: Mutex::new(shared),
+        shared,
         window,
     };
     Opened {
@@ -196,6 +189,7 @@ fn queued<K: Naming>(
     requires widths { map (λ a. a.width) asks.now ≡ K.level.gate.shape.widths }
     requires settings { OnOk book (AreSettings config.now asks.now) }
     requires fault { IfErr book (IsFaultOf config.now asks.now) }
+    requires has_queues { K.level.gate.shape.response ≡ Queue }
     ensures settings { OnOk result (AreSettings config.now asks.now) }
     ensures stats { IfOk result (λ o. (o.2.cell ≡ o.1) × (o.2.trace ≡ [])) }
     ensures fault { IfErr result (IsFaultOf config.now asks.now) }
@@ -208,7 +202,10 @@ fn queued<K: Naming>(
         sleeps: vec![in alloc; false; asks.len()]?,
         of: PhantomData,
     };
-    Ok((Shared::Queued(queued), window, stats))
+    let lock = QueuedLock {
+        lock: Mutex::new(queued),
+    };
+    Ok((Shared::Queued(lock), window, stats))
 }
 
 // What stands under the lock of a level without queues, whose statistics nobody writes.
@@ -228,5 +225,8 @@ fn alone<K: Naming>(alloc: Global, desk: Desk) -> Result<Under<K>, LevelFault>
         desk,
         of: PhantomData,
     };
-    Ok((Shared::Alone(alone), window, stats))
+    let lock = AloneLock {
+        lock: Mutex::new(alone),
+    };
+    Ok((Shared::Alone(lock), window, stats))
 }

@@ -4,7 +4,7 @@
 //!
 //! - `naming`: which level a type is of.
 //! - `tokens`: a request at a level, by what became of it so far. `answers`: what calls answer.
-//! - `queued`: what stands under the lock of a level with queues. `alone`: of one without. `shared`: either.
+//! - `queued`: what stands under the lock of a level with queues. `alone`: of one without. `shared`: the lock of either.
 //! - `level`: the level, and how it begins.
 //! - `admission`: the steps of a request outside the lock. `arriving`: those that may take it.
 //! - `stations`: the calls of a Station. `locked`: those that take the lock.

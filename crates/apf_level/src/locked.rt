@@ -23,7 +23,7 @@ impl<K: Naming> Level<K> {
     pub fn dispatch<R: Wait>(&self, rt: &R) -> u32
         ensures dispatched { Dispatched K.level result }
     {
-        self.shared.lock(rt).dispatch(rt, &self.gate)
+        self.shared.dispatch(rt, &self.gate)
     }
 
     /// Strikes the request out of its queue, if it waits and is cancelled, and dispatches then under the
@@ -32,7 +32,7 @@ impl<K: Naming> Level<K> {
         requires is_request { request < length K.level.gate.shape.widths }
         ensures struck { result ≡ true → Struck K.level request }
     {
-        self.shared.lock(rt).strike(rt, &self.gate, request)
+        self.shared.strike(rt, &self.gate, request)
     }
 
     /// Sets the limit, in seats, and then dispatches. Answers the old limit. A lost exchange is tried again.
@@ -57,7 +57,7 @@ impl<K: Naming> Level<K> {
     pub fn copy_events<R: Wait>(&self, rt: &R, from: u32, into: &mut [Event]) -> u32
         ensures copied { IsCopied K.level from into.old result into.new }
     {
-        self.shared.lock(rt).copy_events(from, into)
+        self.shared.copy_events(rt, from, into)
     }
 
     /// The numbers of the log as they were published last, by one reading. It takes no lock of the queues.

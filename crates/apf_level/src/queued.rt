@@ -1,7 +1,8 @@
 //! What stands under the lock of a level with queues.
 
-ghost use Rattle.std.specs.Prelude.{◌≡◌, ◌≢◌, ◌<◌, length, false, true, Some, None};
+ghost use Rattle.std.specs.Prelude.{◌≡◌, ◌≢◌, ◌<◌, ◌≤◌, length, false, true, Some, None};
 ghost use Rattle.apf_words.specs.declared.decision.Decision.TheVariants as decisions;
+ghost use Rattle.apf_model.specs.declared.response.Response.TheVariants.{Queue};
 ghost use Rattle.apf_gate.specs.declared.record.State.TheVariants.{InLine};
 ghost use Rattle.apf_gate.specs.Records.{told_own};
 ghost use Rattle.apf_gate.specs.Tokens.{pass_gate, desk_gate};
@@ -11,18 +12,21 @@ ghost use Rattle.apf_book.specs.Servings.{Serves};
 ghost use Rattle.apf_book.specs.Stopped.{IsStopped};
 ghost use Rattle.apf_level.specs.Levels.{IsBookOf};
 ghost use Rattle.apf_level.specs.Tokens.{IsOf};
+ghost use Rattle.apf_level.specs.Arrivals.{StandsAs};
+ghost use Rattle.apf_level.specs.Copies.{Copies, IsCopied};
 ghost use Rattle.apf_level.specs.Served.{Dispatched, Struck};
 ghost use Rattle.apf_level.specs.Shown.{shown_of, WentOn};
 
+use crate::answers::Stood;
 use crate::naming::Naming;
 use apf_book::{Arrived, Book};
 use apf_gate::{Gate, Pass};
-use apf_model::Event;
+use apf_model::{Event, every_legal_history_is_in_order};
 use apf_stats::Board;
 use apf_words::Decision;
 use std::alloc::Global;
 use std::marker::PhantomData;
-use std::sync::Wait;
+use std::sync::{Mutex, Wait};
 
 /// The book of K's level, beside the numbers that are published of it.
 ///
@@ -38,6 +42,13 @@ pub struct Queued<K: Naming> {
     ghost stopped: { IsStopped book.ledger book.desk.desk.knows },
     ghost published: { shown board.trace ≡ shown_of book.ledger.history },
     ghost one_flag_each: { length sleeps.items ≡ length K.level.gate.shape.widths },
+}
+
+/// The lock of a level with queues.
+#[derive(Drop)]
+pub struct QueuedLock<K: Naming> {
+    pub lock: Mutex<Queued<K>>,
+    ghost has_queues: { K.level.gate.shape.response ≡ Queue },
 }
 
 // Wakes those who may sleep until a request is decided that was dispatched since the log had this length.
@@ -123,26 +134,36 @@ fn strike_and_serve<K: Naming, R: Wait>(
     struck
 }
 
+/// Copies as much of the log from this place on as there is room for. Tells how many events.
+pub fn copy(log: &[Event], from: u32, into: &mut [Event]) -> u32
+    requires few { length log.now ≤ 20000 }
+    ensures { Copies log.now from into.old result into.new }
+{
+    let Some(rest) = log.get(from as usize..) else {
+        return 0;
+    };
+    let count = rest.len().min(into.len());
+    into[..count].copy_from_slice(&rest[..count]);
+    count as u32
+}
+
 impl<K: Naming> Queued<K> {
     /// The request arrives, and whoever waits is dispatched while the chosen head fits, also where the request does
-    /// not enter. Returns the request's decision, unless it waits: then somebody may sleep until it is decided, if
-    /// this says so.
+    /// not enter. If it enters, somebody may sleep until it is decided, if this says so.
     pub fn arrive<R: Wait>(
         &mut self,
         rt: &R,
         gate: &Gate<Global>,
         pass: &mut Pass,
         sleeps: bool,
-    ) -> Option<Decision>
+    ) -> Stood
         requires own { gate.now ≡ K.level.gate }
         requires own_pass { pass_gate pass.old ≡ K.level.gate }
         requires in_line { pass.old.pass.state ≡ InLine }
         requires not_handed { pass.old.pass.handed ≡ false }
         ensures same { IsOf pass.old pass.new }
         ensures in_line { pass.new.pass.state ≡ InLine }
-        ensures entered { result ≡ None → pass.new.pass.entered ≡ true }
-        ensures told { result ≢ None → told_own pass.new.pass ≡ result }
-        ensures refused { result ≢ Some decisions.Execute }
+        ensures stands { StandsAs K.level pass.new.pass result }
     {
         let before = self.book.log().len();
         let arrived = self.book.arrive(rt, gate, pass);
@@ -155,15 +176,15 @@ impl<K: Naming> Queued<K> {
             before,
         );
         match arrived {
-            Arrived::Queued(_queue) => {
+            Arrived::Queued(queue) => {
                 if let Some(flag) = self.sleeps.get_mut(pass.number() as usize) {
                     *flag = sleeps;
                 }
-                None
+                Stood::Entered(queue)
             }
-            Arrived::Full(_queue) => Some(Decision::QueueFull),
-            Arrived::Closed => Some(Decision::Closed),
-            Arrived::Cancelled => Some(Decision::Cancelled),
+            Arrived::Full(queue) => Stood::Full(queue),
+            Arrived::Closed => Stood::Over(Decision::Closed),
+            Arrived::Cancelled => Stood::Over(Decision::Cancelled),
             Arrived::Again => unreachable!(),
         }
     }
@@ -198,5 +219,13 @@ impl<K: Naming> Queued<K> {
             self.sleeps.as_slice(),
             request,
         )
+    }
+
+    /// Copies as much of the log from this place on as there is room for. Tells how many events.
+    pub fn copy_events(&self, from: u32, into: &mut [Event]) -> u32
+        ensures { IsCopied K.level from into.old result into.new }
+    {
+        every_legal_history_is_in_order();
+        copy(self.book.log(), from, into)
     }
 }

@@ -2,7 +2,7 @@
 
 use crate::opening::{ask, settings};
 use crate::scripts::Step::{
-    Admit, Begin, Close, Dispatch, Look, Poll, Read, Release, TryAdmit, TryLimit,
+    Admit, Begin, BeginWithEvent, Close, Dispatch, Look, Poll, Read, Release, TryAdmit, TryLimit,
 };
 use crate::scripts::{Row, numbers, run_row};
 use apf_book::{Ask, Config};
@@ -121,6 +121,59 @@ fn a_full_queue(rt: HostRuntime) -> Result<(), OpenFault> {
         stats: numbers(1, 1, 0, 1, 0),
         counts: Counts {
             executed: 2,
+            queue_full: 1,
+            ..Counts::default()
+        },
+    };
+    run_row(&rt, rt.alloc(), &row)
+}
+
+// The event of an arrival names the queue, also where the request is dispatched at once. There is none of a request
+// that takes its seats, and none of one that arrived before.
+#[test]
+fn an_arrival_tells_its_event(rt: HostRuntime) -> Result<(), OpenFault> {
+    let row = Row {
+        config: Config {
+            queues: 2,
+            queue_length_limit: 1,
+            ..settings(1)
+        },
+        asks: &[
+            Ask { width: 1, hash: 0 },
+            Ask { width: 1, hash: 1 },
+            Ask { width: 1, hash: 1 },
+            Ask { width: 2, hash: 0 },
+        ],
+        steps: &[
+            BeginWithEvent(0, Run, None),
+            BeginWithEvent(1, Waits, Some(Event::Enter(1, 1))),
+            BeginWithEvent(2, Over(Decision::QueueFull), Some(Event::Full(2, 1))),
+            BeginWithEvent(1, Wrong, None),
+            TryLimit(4, TrySetLimit::Set(1, true)),
+            BeginWithEvent(3, Run, Some(Event::Enter(3, 0))),
+            Poll(1, Run),
+            Look(false, [4, 0, 4]),
+            Release(0, Released(false)),
+            Release(1, Released(false)),
+            Release(3, Released(false)),
+        ],
+        closed: false,
+        decisions: &[
+            Decision::Execute,
+            Decision::Execute,
+            Decision::QueueFull,
+            Decision::Execute,
+        ],
+        log: &[
+            Event::Enter(1, 1),
+            Event::Full(2, 1),
+            Event::Enter(3, 0),
+            Event::Dispatch(1, 1),
+            Event::Dispatch(3, 0),
+        ],
+        stats: numbers(2, 2, 0, 1, 0),
+        counts: Counts {
+            executed: 3,
             queue_full: 1,
             ..Counts::default()
         },

@@ -21,6 +21,8 @@ pub enum Step {
     TryAdmit(u32, Answer),
     /// The request arrives.
     Begin(u32, Answer),
+    /// The request arrives. Tells the event of its arrival too.
+    BeginWithEvent(u32, Answer, Option<Event>),
     /// The request reads its decision.
     Poll(u32, Answer),
     /// The request arrives, and waits until it is decided.
@@ -134,6 +136,12 @@ fn follow<K: Naming, R: Wait + Abort>(
         | Step::Admit(request, answer)
         | Step::Release(request, answer) => {
             assert_eq!(rt; call(rt, session, request, step), answer, "step {place}");
+        }
+        Step::BeginWithEvent(request, answer, event) => {
+            assert!(rt; (request as usize) < session.requests.len());
+            let (told, logged) = session.begin_with_event(rt, request);
+            assert_eq!(rt; told, answer, "step {place}");
+            assert_eq!(rt; logged, event, "step {place}");
         }
         Step::Dispatch(count) => assert_eq!(rt; session.level.dispatch(rt), count, "step {place}"),
         Step::Strike(request, struck) => {

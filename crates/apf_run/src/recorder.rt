@@ -28,6 +28,15 @@ pub struct Recorder<K: Naming> {
     ghost numbered: { AreNumbered session.requests.items },
 }
 
+// The decision that an answer tells.
+fn decision_of(answer: Answer) -> Option<Decision> {
+    match answer {
+        Answer::Run => Some(Decision::Execute),
+        Answer::Over(decision) => Some(decision),
+        _ => None,
+    }
+}
+
 impl<K: Naming> Recorder<K> {
     /// The level of this opening, with memory for a script of so many commands.
     ///
@@ -78,33 +87,32 @@ impl<K: Naming> Recorder<K> {
         }
         let line = match command {
             Command::Arrive(request) => self.arrive(rt, request),
-            Command::Finish(request) => Some(self.finish(rt, request)),
-            Command::Cancel(request) => Some(self.cancel(rt, request)),
-            Command::Close => Some(self.close()),
-            Command::Limit(limit) => Some(self.set_limit(rt, limit)),
+            Command::Finish(request) => self.finish(rt, request),
+            Command::Cancel(request) => self.cancel(rt, request),
+            Command::Close => self.close(),
+            Command::Limit(limit) => self.set_limit(rt, limit),
         };
         let from = self.record.read();
         let end = self.read_log(rt);
-        if let Some(line) = line {
-            if !self.log_tells(line, from) {
-                self.record.add(line)?;
-            }
-        }
+        self.record.add(line)?;
         self.note_all(rt, from, end)
     }
 
-    // The request arrives, unless it did. There is no line of a request that waits: the log tells it.
-    fn arrive<R: Wait>(&mut self, rt: &R, request: u32) -> Option<Line>
+    // The request arrives, unless it did. If it entered a queue, or found one full, the line names the queue.
+    fn arrive<R: Wait>(&mut self, rt: &R, request: u32) -> Line
         requires { request < length K.level.gate.shape.widths }
     {
-        let decision = match self.session.begin(rt, request) {
-            Answer::Run => Decision::Execute,
-            Answer::Over(decision) => decision,
-            Answer::Waits => return None,
-            _ => return Some(Line::Again(request)),
-        };
-        self.record.decide(request, decision);
-        Some(Line::Arrives(request, decision))
+        let (answer, event) = self.session.begin_with_event(rt, request);
+        let told = decision_of(answer);
+        if let Some(decision) = told {
+            self.record.decide(request, decision);
+        }
+        match (event, told) {
+            (Some(Event::Enter(_request, queue)), _told) => Line::Queued(request, queue),
+            (Some(Event::Full(_request, queue)), _told) => Line::QueueFull(request, queue),
+            (_none, Some(decision)) => Line::Arrives(request, decision),
+            (_none, None) => Line::Again(request),
+        }
     }
 
     // The request gives its seats back, if it runs.
@@ -148,17 +156,6 @@ impl<K: Naming> Recorder<K> {
         self.record.advance(count)
     }
 
-    // Whether the event at this place tells that the request of this line entered a queue, or found it full.
-    fn log_tells(&self, line: Line, place: u32) -> bool {
-        let Line::Arrives(request, _decision) = line else {
-            return false;
-        };
-        match self.record.event(place) {
-            Some(Event::Enter(other, _queue) | Event::Full(other, _queue)) => other == request,
-            _ => false,
-        }
-    }
-
     // Notes the events of these places.
     fn note_all<R: Wait>(&mut self, rt: &R, from: u32, end: u32) -> Result<(), AllocError> {
         for place in from..end {
@@ -169,11 +166,10 @@ impl<K: Naming> Recorder<K> {
         Ok(())
     }
 
-    // Notes an event. A request that was dispatched or struck reads its decision.
+    // Notes an event. A request that was dispatched or struck reads its decision. An arrival has its line already.
     fn note<R: Wait>(&mut self, rt: &R, event: Event) -> Result<(), AllocError> {
         match event {
-            Event::Enter(request, queue) => self.record.add(Line::Queued(request, queue)),
-            Event::Full(request, queue) => self.record.add(Line::QueueFull(request, queue)),
+            Event::Enter(_request, _queue) | Event::Full(_request, _queue) => Ok(()),
             Event::Dispatch(request, queue) => {
                 self.poll(rt, request);
                 self.record.add(Line::Dispatches(request, queue))
@@ -190,10 +186,8 @@ impl<K: Naming> Recorder<K> {
         if request as usize >= self.session.requests.len() {
             return;
         }
-        match self.session.poll(rt, request) {
-            Answer::Run => self.record.decide(request, Decision::Execute),
-            Answer::Over(decision) => self.record.decide(request, decision),
-            _ => {}
+        if let Some(decision) = decision_of(self.session.poll(rt, request)) {
+            self.record.decide(request, decision);
         }
     }
 

@@ -1,11 +1,16 @@
 -- What a request of a level holds, and what the answer of a call says of it.
-use Rattle.std.specs.Prelude.{◌≡◌, ◌≢◌, ℕ, ◌<◌, List, length, slice_index_or, All, Some}
+use Rattle.std.specs.Prelude.{◌≡◌, ◌≢◌, ℕ, ◌<◌, List, length, slice_index_or, All, Option, Some, None}
 use Rattle.apf_words.specs.declared.decision.Decision.{Decision}
-use Rattle.apf_words.specs.declared.decision.Decision.TheVariants.{Execute}
+use Rattle.apf_words.specs.declared.decision.Decision.TheVariants.{Execute, QueueFull}
+use Rattle.apf_history.specs.declared.events.Event.{Event}
+use Rattle.apf_history.specs.declared.events.Event.TheVariants as events
 use Rattle.apf_gate.specs.declared.record.State.TheVariants.{Fresh}
 use Rattle.apf_gate.specs.Records.{told_own}
 use Rattle.apf_gate.specs.Tokens.{PassToken, pass_gate}
+use Rattle.apf_level.specs.declared.answers.Begin.{Begin}
+use Rattle.apf_level.specs.declared.answers.Begin.TheVariants as begun
 use Rattle.apf_level.specs.Levels.{LevelId}
+use Rattle.apf_level.specs.Arrivals.{Appended}
 use Rattle.apf_session.specs.declared.token.Token.{Token}
 use Rattle.apf_session.specs.declared.token.Token.TheVariants as tokens
 use Rattle.apf_session.specs.declared.answer.Answer.{Answer}
@@ -75,6 +80,20 @@ pub record Answers (place : Place) (old : RequestView) (answer : Answer) (new : 
   pub says : Says answer new.token
   pub right : place_of old.token ≡ place → answer ≢ answers.Wrong
   pub wrong : place_of old.token ≢ place → (answer ≡ answers.Wrong) × (new ≡ old)
+
+-- what is answered of an arrival, and the token that is kept of it
+abbrev pub KeepsBegun : Begin → Answer → Token → Type 0
+KeepsBegun (begun.Run pass) answer token = (answer ≡ answers.Run) × (token ≡ tokens.Running pass)
+KeepsBegun (begun.Over pass decision) answer token = (answer ≡ answers.Over decision) × (token ≡ tokens.Done pass)
+KeepsBegun (begun.Waiting pass) answer token = (answer ≡ answers.Waits) × (token ≡ tokens.Waiting pass)
+
+-- what the log got by the arrival of a request of this number that is answered so: its Enter; its Full, if a queue was full; and no event only if it does not wait, and no queue was full
+abbrev pub LogsFor : LevelId → ℕ → Answer → Option Event → Type 0
+LogsFor k r answer (Some (events.Enter r' q)) = (r' ≡ r) × Appended k (events.Enter r q)
+LogsFor k r answer (Some (events.Full r' q)) = (r' ≡ r) × (answer ≡ answers.Over QueueFull) × Appended k (events.Full r q)
+LogsFor k r answer (Some (events.Dispatch r' q)) = ⊥
+LogsFor k r answer (Some (events.Strike r' q)) = ⊥
+LogsFor k r answer None = (answer ≢ answers.Waits) × (answer ≢ answers.Over QueueFull)
 
 -- a call of one of these requests, which leaves the others as they are
 pub record CallsOne (place : Place) (request : ℕ) (old : List RequestView) (answer : Answer) (new : List RequestView) : Type 0 where

@@ -5,12 +5,13 @@ ghost use Rattle.apf_gate.specs.declared.record.State.TheVariants as states;
 ghost use Rattle.apf_gate.specs.Tokens.{pass_gate};
 ghost use Rattle.apf_session.specs.declared.answer.Place.TheVariants as places;
 ghost use Rattle.apf_session.specs.declared.token.Token.TheVariants as tokens;
-ghost use Rattle.apf_session.specs.Requests.{place_of, Answers};
+ghost use Rattle.apf_session.specs.Requests.{place_of, Answers, KeepsBegun, LogsFor};
 
 use crate::answer::{Answer, Place};
 use crate::token::Token;
 use apf_gate::Pass;
 use apf_level::{Admit, Begin, Done, Level, Naming, Poll, Running, TryAdmit, Waiting};
+use apf_model::Event;
 use std::marker::{Model, PhantomData};
 use std::mem;
 use std::sync::Wait;
@@ -49,6 +50,18 @@ fn put(place: &mut Token, token: Token, answer: Answer) -> Answer
     match mem::replace(place, token) {
         Token::Gone => answer,
         _token => unreachable!(),
+    }
+}
+
+// Puts what an arrival gave where there is no token.
+fn put_begun(place: &mut Token, begun: Begin) -> Answer
+    requires { place.old ≡ tokens.Gone }
+    ensures { KeepsBegun begun result place.new }
+{
+    match begun {
+        Begin::Run(running) => put(place, Token::Running(running), Answer::Run),
+        Begin::Over(done, decision) => put(place, Token::Done(done), Answer::Over(decision)),
+        Begin::Waiting(waiting) => put(place, Token::Waiting(waiting), Answer::Waits),
     }
 }
 
@@ -144,20 +157,23 @@ impl<K: Naming> Request<K> {
         ensures { Answers places.Away self.old result self.new }
     {
         match take(&mut self.token) {
-            Token::Fresh(pass) => match level.begin(rt, pass) {
-                Begin::Run(running) => put(&mut self.token, Token::Running(running), Answer::Run),
-                Begin::Over(done, decision) => put(
-                    &mut self.token,
-                    Token::Done(done),
-                    Answer::Over(decision),
-                ),
-                Begin::Waiting(waiting) => put(
-                    &mut self.token,
-                    Token::Waiting(waiting),
-                    Answer::Waits,
-                ),
-            },
+            Token::Fresh(pass) => put_begun(&mut self.token, level.begin(rt, pass)),
             token => put(&mut self.token, token, Answer::Wrong),
+        }
+    }
+
+    /// As `begin`. Answers also the event that the log got by the arrival: the request's Enter or Full, which name
+    /// its queue, or none, of a request that took its seats or was decided without a queue.
+    pub fn begin_with_event<R: Wait>(&mut self, rt: &R, level: &Level<K>) -> (Answer, Option<Event>)
+        ensures answers { Answers places.Away self.old result.0 self.new }
+        ensures logs { LogsFor K.level self.old.number result.0 result.1 }
+    {
+        match take(&mut self.token) {
+            Token::Fresh(pass) => {
+                let (begun, event) = level.begin_with_event(rt, pass);
+                (put_begun(&mut self.token, begun), event)
+            }
+            token => (put(&mut self.token, token, Answer::Wrong), None),
         }
     }
 

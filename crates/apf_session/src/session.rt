@@ -13,7 +13,7 @@ ghost use Rattle.apf_level.specs.Limits.{LastSet};
 ghost use Rattle.apf_level.specs.Opening.{SettledBy};
 ghost use Rattle.apf_session.specs.declared.answer.Place.TheVariants as places;
 ghost use Rattle.apf_session.specs.Openings.{level_of, level_with, IsOpenFault};
-ghost use Rattle.apf_session.specs.Requests.{AreNumbered, ArePassesNumbered, AreAway, CallsOne};
+ghost use Rattle.apf_session.specs.Requests.{RequestView, AreNumbered, ArePassesNumbered, AreAway, CallsOne, LogsFor};
 ghost use Rattle.apf_session.specs.Ends.{HasEnded};
 
 use crate::answer::{Answer, Place};
@@ -24,6 +24,7 @@ use crate::request::Request;
 use apf_book::Stats;
 use apf_gate::{Close, Pass, Station};
 use apf_level::{Done, Level, Naming, Opened, Report, StatsPass};
+use apf_model::Event;
 use apf_words::{Decision, LevelWord};
 use std::alloc::{AllocError, Global};
 use std::sync::Wait;
@@ -248,6 +249,16 @@ impl<K: Naming> Session<K> {
         ensures { CallsOne places.Away request self.old.requests.items result self.new.requests.items }
     {
         self.requests[request as usize].begin(rt, &self.level)
+    }
+
+    /// As `begin`. Answers also the event that the log got by the arrival: the request's Enter or Full, which name
+    /// its queue, or none.
+    pub fn begin_with_event<R: Wait>(&mut self, rt: &R, request: u32) -> (Answer, Option<Event>)
+        requires { request < length K.level.gate.shape.widths }
+        ensures calls { CallsOne places.Away request self.old.requests.items result.0 self.new.requests.items }
+        ensures logs { (d : RequestView) → LogsFor K.level (slice_index_or self.old.requests.items request d).number result.0 result.1 }
+    {
+        self.requests[request as usize].begin_with_event(rt, &self.level)
     }
 
     /// Reads the decision of a request that waits. Answers `Run`, `Waits` or `Over`.

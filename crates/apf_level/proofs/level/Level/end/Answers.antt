@@ -27,7 +27,7 @@ counted k gate n ps ds own is same all =
     (whole, omega arith)
 
 pub overflow_cast-count : goal.overflow_cast-count
-overflow_cast-count g c = let few = (counted g.K.Naming.level c.self.inside.gate c.len-count.result c.in_ok-passes.passes.items c.args.dones.items c.self.invariant.0 (search rules) c.in_ok-passes.ensures.same c.requires.all_dones).1 in omega arith
+overflow_cast-count g c = let few = (counted g.K.Naming.level c.self.inside.gate c.len-count.result c.in_ok-passes.passes.items c.args.dones.items c.self.invariant (search rules) c.in_ok-passes.ensures.same c.requires.all_dones).1 in omega arith
 
 pub finish-requires-clause-own_passes : goal.finish-requires-clause-own_passes
 finish-requires-clause-own_passes g c κs within =
@@ -37,13 +37,13 @@ pub finish-requires-clause-all_passes : goal.finish-requires-clause-all_passes
 finish-requires-clause-all_passes g c κs within = as_many c.in_ok-passes.passes.items c.args.dones.items (length g.K.Naming.level.gate.shape.widths) c.in_ok-passes.ensures.same c.requires.all_dones
 
 pub read-requires-clause-count : goal.read-requires-clause-count
-read-requires-clause-count g c = (counted g.K.Naming.level c.self.inside.gate c.len-count.result c.in_ok-passes.passes.items c.args.dones.items c.self.invariant.0 (search rules) c.in_ok-passes.ensures.same c.requires.all_dones).0 ∙ sym c.in_ok-words.ensures.count
+read-requires-clause-count g c = (counted g.K.Naming.level c.self.inside.gate c.len-count.result c.in_ok-passes.passes.items c.args.dones.items c.self.invariant (search rules) c.in_ok-passes.ensures.same c.requires.all_dones).0 ∙ sym c.in_ok-words.ensures.count
 
 pub read-requires-clause-few : goal.read-requires-clause-few
-read-requires-clause-few g c = (counted g.K.Naming.level c.self.inside.gate c.len-count.result c.in_ok-passes.passes.items c.args.dones.items c.self.invariant.0 (search rules) c.in_ok-passes.ensures.same c.requires.all_dones).1
+read-requires-clause-few g c = (counted g.K.Naming.level c.self.inside.gate c.len-count.result c.in_ok-passes.passes.items c.args.dones.items c.self.invariant (search rules) c.in_ok-passes.ensures.same c.requires.all_dones).1
 
 pub read-requires-clause-decided : goal.read-requires-clause-decided
-read-requires-clause-decided g c = λ r low. c.in_ok-words.ensures.ended.all_decided r (subst (λ n. r < n) (counted g.K.Naming.level c.self.inside.gate c.len-count.result c.in_ok-passes.passes.items c.args.dones.items c.self.invariant.0 (search rules) c.in_ok-passes.ensures.same c.requires.all_dones).0 low)
+read-requires-clause-decided g c = λ r low. c.in_ok-words.ensures.ended.all_decided r (subst (λ n. r < n) (counted g.K.Naming.level c.self.inside.gate c.len-count.result c.in_ok-passes.passes.items c.args.dones.items c.self.invariant (search rules) c.in_ok-passes.ensures.same c.requires.all_dones).0 low)
 
 pub returns-clause-ended : goal.returns-clause-ended
 returns-clause-ended g c =
@@ -53,7 +53,7 @@ returns-clause-ended g c =
     c.level.ensures (same_map w decisions c.in_ok-decisions.ensures.decisions) c.in_ok-words.ensures.ended
 
 pub returns-clause-count : goal.returns-clause-count
-returns-clause-count g c = c.in_ok-decisions.ensures.count ∙ (counted g.K.Naming.level c.self.inside.gate c.len-count.result c.in_ok-passes.passes.items c.args.dones.items c.self.invariant.0 (search rules) c.in_ok-passes.ensures.same c.requires.all_dones).0
+returns-clause-count g c = c.in_ok-decisions.ensures.count ∙ (counted g.K.Naming.level c.self.inside.gate c.len-count.result c.in_ok-passes.passes.items c.args.dones.items c.self.invariant (search rules) c.in_ok-passes.ensures.same c.requires.all_dones).0
 
 pub returns-clause-sums : goal.returns-clause-sums
 returns-clause-sums g c =

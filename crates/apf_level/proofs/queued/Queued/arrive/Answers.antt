@@ -1,11 +1,35 @@
-use Rattle.std.proofs.Common.{refl, sym, subst, arith}
+use Rattle.std.proofs.Common.{rules, ℕ, refl, sym, subst, arith}
 use Rattle.std.specs.Prelude.{Contains}
 use Rattle.apf_history.specs.declared.events.Event.{Event}
 use Rattle.apf_history.specs.declared.events.Event.TheVariants.{Enter}
 use Rattle.apf_book.specs.LedgerView.{LedgerView}
+use Rattle.apf_level.specs.Arrivals.{Appended}
+use Rattle.apf_level.proofs.Appending.{appended}
+use Rattle.apf_level.proofs.Entered.{never}
 use Rattle.apf_level.proofs.queued.Queued.arrive.Goals as goal
 
-pub returns-in-Some-clause-entered : goal.returns-in-Some-clause-entered
-returns-in-Some-clause-entered g c = λ none.
-    let e : Event = Enter c.args.pass.now.pass.number c.in-Queued._queue in
-    c.in-Queued.ensures.entered.1 (c.in-Queued._queue, subst (λ (v : LedgerView). Contains v.history e) (sym c.in-Queued.ensures.log) (0, omega arith, refl))
+pub returns-in-Some-clause-stands : goal.returns-in-Some-clause-stands
+returns-in-Some-clause-stands g c =
+    let e : Event = Enter c.args.pass.now.pass.number c.in-Queued.queue in (
+      c.in-Queued.ensures.entered.1 (c.in-Queued.queue, subst (λ (v : LedgerView). Contains v.history e) (sym c.in-Queued.ensures.log) (0, omega arith, refl)),
+      subst (λ (n : ℕ). Appended g.K.Naming.level (Enter n c.in-Queued.queue)) (sym c.in-Queued.ensures.number)
+          (appended g.K.Naming.level e c.args.self.now.book.ledger c.arrive-arrived.new.self.ledger c.serve.new.book.ledger c.serve.result c.args.self.now.tied.ledger c.in-Queued.ensures.log c.serve.ensures.log c.serve.ensures.kept.of_log),
+    )
+
+pub returns-in-Closed-clause-stands : goal.returns-in-Closed-clause-stands
+returns-in-Closed-clause-stands g c = (
+  c.in-Closed.ensures.told.1,
+  search rules,
+  search rules,
+  never c.args.self.now.book.ledger.history c.args.pass.now.pass.number c.arrive-arrived.new.pass.pass.entered (c.in-Closed.ensures.first c.requires.not_handed)
+      (λ is. subst (λ (v : LedgerView). (q : ℕ) × Contains v.history (Enter c.args.pass.now.pass.number q)) c.in-Closed.ensures.log (c.in-Closed.ensures.entered.0 is)),
+)
+
+pub returns-in-Cancelled-clause-stands : goal.returns-in-Cancelled-clause-stands
+returns-in-Cancelled-clause-stands g c = (
+  c.in-Cancelled.ensures.told.1,
+  search rules,
+  search rules,
+  never c.args.self.now.book.ledger.history c.args.pass.now.pass.number c.arrive-arrived.new.pass.pass.entered (c.in-Cancelled.ensures.first c.requires.not_handed)
+      (λ is. subst (λ (v : LedgerView). (q : ℕ) × Contains v.history (Enter c.args.pass.now.pass.number q)) c.in-Cancelled.ensures.log (c.in-Cancelled.ensures.entered.0 is)),
+)

@@ -1,0 +1,4 @@
+pub mod Naturals
+pub mod Taken
+pub mod Logs
+pub mod Order

@@ -2,3 +2,5 @@ pub mod Naturals
 pub mod Taken
 pub mod Logs
 pub mod Order
+pub mod Lengths
+pub mod Earliest

@@ -9,12 +9,14 @@
 //! - `arrivals`: the times of arrivals from the earliest on.
 //! - `log`: the requests of a whole audit log.
 //! - `trace`: the trace of these requests.
+//! - `laws`: what holds of every log and trace.
 #![tactic(auto)]
 
 mod arrivals;
 mod event;
 mod events;
 mod fault;
+mod laws;
 mod line;
 mod log;
 mod request;
@@ -22,6 +24,7 @@ mod times;
 mod trace;
 
 pub use fault::AuditFault;
+pub use laws::every_trace_fits;
 pub use log::read_audit_log;
 pub use request::AuditRequest;
 pub use trace::write_trace;

@@ -77,10 +77,13 @@ for name, path in (
     ("requests", ("apf_files", "src", "requests.rt")),
     ("script", ("apf_files", "src", "script.rt")),
     ("trace", ("apf_traces", "src", "fault.rt")),
+    ("audit", ("apf_audit", "src", "fault.rt")),
 ):
     text = open(os.path.join(TOP, "crates", *path), encoding="utf-8").read()
-    found = re.findall(r"/// (\d+): .*\n\s*#\[error\(\"(.*)\"\)\]\n\s*\w+(\(u32\)|)", text)
-    wanted[name] = [(number, place != "", line.replace("{0}", "KEY")) for number, line, place in found if line != "out of memory"]
+    found = re.findall(r"/// (\d+): .*\n\s*#\[error\(\"(.*)\"\)\]\n\s*\w+(\((?:u32|usize)\)|)", text)
+    # what the text itself says is no place
+    said = {"audit": "COUNT"}.get(name, "KEY")
+    wanted[name] = [(number, place != "" and "{0}" not in line, line.replace("{0}", said)) for number, line, place in found if line != "out of memory"]
 text = open(os.path.join(TOP, "crates", "apf_flow", "src", "fault.rt"), encoding="utf-8").read()
 numbers = dict(re.findall(r"^    (\w+) = (\d+),", text, re.M))
 wanted["dealer"] = [(numbers[name], False, line) for name, line in re.findall(r"DealerFault::(\w+) => \"(.*)\"", text)]
@@ -88,12 +91,13 @@ tally.check("the files whose faults are listed", sorted(listed), sorted(wanted))
 for name in wanted:
     tally.check(f"the faults of the {name} that are listed", sorted(listed.get(name, [])), sorted(wanted[name]))
 
-# each example is shown, and has its three files
+# each example is shown, and has its three files; the one of an audit log has the log and its trace
 for example in sorted(os.listdir(os.path.join(TOP, "examples"))):
     if os.path.isdir(os.path.join(TOP, "examples", example)):
         names = sorted(os.listdir(os.path.join(TOP, "examples", example)))
-        tally.check(f"examples/{example}", names, ["config.json", "requests.json", "script.txt"])
-        shown = [it for it in ("README.md", os.path.join("docs", "FORMATS.md")) if f"examples/{example}/config.json" in open(os.path.join(TOP, it)).read()]
+        wanted = ["audit.log", "trace.jsonl"] if example == "audit" else ["config.json", "requests.json", "script.txt"]
+        tally.check(f"examples/{example}", names, wanted)
+        shown = [it for it in ("README.md", os.path.join("docs", "FORMATS.md")) if f"examples/{example}/{wanted[0]}" in open(os.path.join(TOP, it)).read()]
         tally.check(f"examples/{example} is shown", len(shown) > 0, True)
 
 # each row of docs/PROVED.md names a contract and its files: the files are there, and they or their crates' definitions have each name

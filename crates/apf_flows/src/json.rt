@@ -65,8 +65,12 @@ fn write_bytes<W: Write>(out: &mut W, bytes: &[u8]) -> io::Result<()>
 }
 
 /// Writes a text between quotes, escaped only where JSON must.
+///
+/// # Errors
+///
+/// The writer's. Then nothing is known of how much was written.
 #[tactic(auto, unfolding(crate::specs::Json::json_text))]
-pub(crate) fn write_text<W: Write>(out: &mut W, text: &str) -> io::Result<()>
+pub fn write_text<W: Write>(out: &mut W, text: &str) -> io::Result<()>
     ensures { OnOk result (Appends (W.contents out.old) (W.contents out.new) (json_text text.now)) }
 {
     out.write_all(b"\"")?;

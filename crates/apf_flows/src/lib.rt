@@ -19,5 +19,6 @@ mod sharing;
 
 pub use flows::{Flows, flows_of};
 pub use hands::{HandsFault, write_hands};
+pub use json::write_text;
 pub use names::{write_hash, write_names, write_of_names};
 pub use requests::write_requests;

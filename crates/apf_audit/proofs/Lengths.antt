@@ -1,0 +1,58 @@
+-- How long a line of a trace can be.
+use Rattle.std.proofs.Common.{ℕ, ◌+◌, ◌*◌, ◌≤◌, ◌<◌, ◌^◌, List, [], ◌∷◌, ◌++◌, length, length-append, Bool, true, false, Option, None, Some, string_bytes, arith, lit≤}
+use Rattle.std.specs.Prelude.{codes, decimal, nat_lt, if◌then◌else◌}
+use Rattle.std.proofs.lemmas.Fmt.{length-decimal-le}
+use Rattle.apf_flows.specs.Json.{escape_by, escape_of, escapes_of, letter_of, json_text}
+use Rattle.apf_audit.specs.AuditEvent.{max_name}
+use Rattle.apf_audit.specs.Arrivals.{IsRequestInRange}
+use Rattle.apf_audit.specs.TraceText.{member_text, times_text, line_text}
+use Rattle.apf_audit.specs.declared.request.AuditRequest.{AuditRequest}
+
+by_test : (x y b : ℕ) (t : Bool) → length (if t then codes "\\u00" ++ x ∷ y ∷ [] else b ∷ []) ≤ 6
+by_test x y b true = lit≤ tt
+by_test x y b false = lit≤ tt
+
+by_letter : (o : Option ℕ) (b : ℕ) → length (escape_by o b) ≤ 6
+by_letter (Some letter) b = lit≤ tt
+by_letter None b = by_test _ _ b (nat_lt b 32)
+
+-- a text becomes at most six times as long between the quotes
+escapes_length : (text : List ℕ) → length (escapes_of text) ≤ 6 * length text
+escapes_length [] = lit≤ tt
+escapes_length (b ∷ text) =
+    let one : length (escape_of b) ≤ 6 = by_letter (letter_of b) b in
+    let others : length (escapes_of text) ≤ 6 * length text = escapes_length text in
+    omega (arith, length-append (escape_of b) (escapes_of text))
+
+json_length : (text : List ℕ) → length (json_text text) ≤ 6 * length text + 2
+unfolding json_text
+json_length text =
+    let others : length (escapes_of text) ≤ 6 * length text = escapes_length text in
+    omega (arith, length-append (codes "\"" ++ escapes_of text) (codes "\""), length-append (codes "\"") (escapes_of text))
+
+member_length : (front text : List ℕ) → length (member_text front text) ≤ length front + 6 * length text + 2
+unfolding member_text
+member_length front text =
+    let quoted : length (json_text text) ≤ 6 * length text + 2 = json_length text in
+    omega (arith, length-append front (json_text text))
+
+times_length : (arrives_at runs_for : ℕ) → arrives_at < 10 ^ 13 → runs_for < 10 ^ 11 → length (times_text arrives_at runs_for) ≤ 50
+unfolding times_text
+times_length arrives_at runs_for early short =
+    let first : length (decimal arrives_at) ≤ 13 = length-decimal-le 13 arrives_at (lit≤ tt) early (omega arith) in
+    let second : length (decimal runs_for) ≤ 11 = length-decimal-le 11 runs_for (lit≤ tt) short (omega arith) in
+    simp length-append (omega arith)
+
+-- a line of a trace
+pub line_length : (schema : List ℕ) (request : AuditRequest) → length schema ≤ max_name → IsRequestInRange request → length (line_text schema request) ≤ 65537
+unfolding line_text
+line_length schema request short ranges =
+    let first = member_length (codes "{\"schema\":") schema in
+    let second = member_length (codes ",\"distinguisher\":") (string_bytes request.distinguisher) in
+    let times = times_length request.arrives_at request.runs_for (omega (arith, ranges.arrival)) (omega (arith, ranges.run)) in
+    omega (
+      arith,
+      ranges.name,
+      length-append (member_text (codes "{\"schema\":") schema ++ member_text (codes ",\"distinguisher\":") (string_bytes request.distinguisher)) (times_text request.arrives_at request.runs_for),
+      length-append (member_text (codes "{\"schema\":") schema) (member_text (codes ",\"distinguisher\":") (string_bytes request.distinguisher)),
+    )

@@ -1,0 +1,6 @@
+pub mod Naturals
+pub mod Taken
+pub mod Logs
+pub mod Order
+pub mod Lengths
+pub mod Earliest

@@ -1,0 +1,34 @@
+-- The requests of a log, by what is taken of its lines.
+use Rattle.std.proofs.Common.{◌≡◌, ℕ, ◌≤◌, ◌<◌, List, length, map, true, false, refl, arith, Ok, Err}
+use Rattle.std.specs.Prelude.{nat_le}
+use Rattle.std.proofs.lemmas.List.{length-map}
+use Rattle.std.proofs.lemmas.Bool.Decides.{nat_tests}
+use Rattle.apf_audit.specs.AuditEvent.{event}
+use Rattle.apf_audit.specs.Arrivals.{entries_from, earliest, max_requests}
+use Rattle.apf_audit.specs.AuditLog.{events_of, log_of}
+use Rattle.apf_audit.specs.declared.event.Taken.{Taken}
+use Rattle.apf_audit.specs.declared.fault.AuditFault.{AuditFault}
+use Rattle.apf_audit.specs.declared.fault.AuditFault.TheVariants.{TooMany}
+
+-- a fault of a line
+pub log_err : (bytes : List ℕ) (fault : AuditFault) → events_of bytes ≡ Err fault → log_of bytes ≡ Err fault
+unfolding log_of
+log_err bytes fault is = rw is refl
+
+few_tests : (n : ℕ) → n ≤ max_requests → nat_le n max_requests ≡ true
+few_tests n h = grind (arith, nat_tests)
+
+many_tests : (n : ℕ) → max_requests < n → nat_le n max_requests ≡ false
+many_tests n h = grind (arith, nat_tests)
+
+-- not too many
+pub log_few : (bytes : List ℕ) (all : List Taken) → events_of bytes ≡ Ok (map event all) → length all ≤ max_requests
+    → log_of bytes ≡ entries_from (earliest (map event all)) (map event all)
+unfolding log_of
+log_few bytes all are few = rw (are, length-map all event, few_tests (length all) few) refl
+
+-- too many
+pub log_many : (bytes : List ℕ) (all : List Taken) → events_of bytes ≡ Ok (map event all) → max_requests < length all
+    → log_of bytes ≡ Err (TooMany (length all))
+unfolding log_of
+log_many bytes all are many = rw (are, length-map all event, many_tests (length all) many, length-map all event) refl

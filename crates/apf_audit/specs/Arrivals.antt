@@ -1,0 +1,70 @@
+-- The requests of an audit log, and the times of their arrivals.
+use Rattle.std.specs.Prelude.{ℕ, ◌-◌, ◌≤◌, min, List, [], ◌∷◌, length, Bool, ◌&&◌, ◌||◌, ◌==◌, nat_le, nat_lt, if◌then◌else◌, Result, Ok, Err, string_bytes}
+use Rattle.apf_files.specs.FirstFault.{before}
+use Rattle.apf_audit.specs.Times.{max_run}
+use Rattle.apf_audit.specs.AuditEvent.{Event, max_name}
+use Rattle.apf_audit.specs.declared.request.AuditRequest.{AuditRequest}
+use Rattle.apf_audit.specs.declared.fault.AuditFault.{AuditFault}
+use Rattle.apf_audit.specs.declared.fault.AuditFault.TheVariants.{BadArrival}
+
+-- a trace has at most this many requests
+abbrev pub max_requests : ℕ
+max_requests = 10000
+
+-- the latest arrival, in microseconds
+abbrev pub max_arrival : ℕ
+max_arrival = 1000000000000
+
+-- a request, with the bytes of its distinguisher
+pub record Entry : Type 0 where
+  pub line : ℕ
+  pub arrives_at : ℕ
+  pub runs_for : ℕ
+  pub distinguisher : List ℕ
+
+-- what a request of the code says
+abbrev pub entry : AuditRequest → Entry
+entry request = record {
+  line = request.line;
+  arrives_at = request.arrives_at;
+  runs_for = request.runs_for;
+  distinguisher = string_bytes request.distinguisher;
+}
+
+-- the earliest of a time and of those at which requests were received
+abbrev pub earliest_from : ℕ → List Event → ℕ
+earliest_from time [] = time
+earliest_from time (event ∷ events) = earliest_from (min time event.received) events
+
+-- the earliest time at which a request was received
+abbrev pub earliest : List Event → ℕ
+earliest [] = 0
+earliest (event ∷ events) = earliest_from event.received events
+
+-- the request of an event, where the earliest one was received at this time; or the fault that it arrives too late
+abbrev pub arrived : ℕ → Event → Result Entry AuditFault
+arrived start event =
+    if nat_le (event.received - start) max_arrival
+    then Ok (record {
+      line = event.line;
+      arrives_at = event.received - start;
+      runs_for = event.runs_for;
+      distinguisher = event.user;
+    })
+    else Err (BadArrival event.line)
+
+-- the requests of events, or the first fault
+abbrev pub entries_from : ℕ → List Event → Result (List Entry) AuditFault
+entries_from start [] = Ok []
+entries_from start (event ∷ events) = before (arrived start event) (entries_from start events)
+
+-- the one arrives before the other, or at the same time and has an earlier line
+abbrev pub comes_before : AuditRequest → AuditRequest → Bool
+comes_before one other =
+    nat_lt one.arrives_at other.arrives_at || ((one.arrives_at == other.arrives_at) && nat_lt one.line other.line)
+
+-- each number is in its range, and the distinguisher is short
+pub record IsRequestInRange (request : AuditRequest) : Type 0 where
+  pub arrival : request.arrives_at ≤ max_arrival
+  pub run : request.runs_for ≤ max_run
+  pub name : length (string_bytes request.distinguisher) ≤ max_name

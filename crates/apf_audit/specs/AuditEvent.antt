@@ -1,0 +1,106 @@
+-- What the JSON value of a line of an audit log says.
+use Rattle.std.specs.Prelude.{ℕ, ◌≤◌, List, length, Bool, true, false, ◌&&◌, ◌||◌, not, nat_le, if◌then◌else◌, Option, Some, None, option_and_then, IfSome, Result, Ok, Err, codes, bytes_eq, string_bytes}
+use Rattle.serde_json.specs.Data.{Data}
+use Rattle.serde_json.specs.Find.{get, as_str}
+use Rattle.apf_files.specs.FirstFault.{◌>>=◌, or_fault}
+use Rattle.apf_audit.specs.Times.{instant_of, wait_of, run_of, max_run}
+use Rattle.apf_audit.specs.declared.event.Taken.{Taken}
+use Rattle.apf_audit.specs.declared.fault.AuditFault.{AuditFault}
+use Rattle.apf_audit.specs.declared.fault.AuditFault.TheVariants.{NotEvent, BadUser, BadReceived, BadStage, BadWait, BadRun}
+
+-- the name of a user has at most this many bytes
+abbrev pub max_name : ℕ
+max_name = 4096
+
+-- what is taken of an event, with the bytes of the user's name, and the time of its arrival in microseconds from 1970 on
+pub record Event : Type 0 where
+  pub line : ℕ
+  pub received : ℕ
+  pub runs_for : ℕ
+  pub user : List ℕ
+
+-- what the code takes of an event
+abbrev pub event : Taken → Event
+event taken = record {
+  line = taken.line;
+  received = taken.received;
+  runs_for = taken.runs_for;
+  user = string_bytes taken.distinguisher;
+}
+
+-- the text at a key, if there is one
+unfoldable pub text_at : List ℕ → Data → Option (List ℕ)
+text_at key d = option_and_then as_str (get key d)
+
+-- the text at a key of the object at another, if there is one
+unfoldable pub text_within : (outer inner : List ℕ) → Data → Option (List ℕ)
+text_within outer inner d = option_and_then (text_at inner) (get outer d)
+
+-- a request for such a subresource is a connection that lasts
+unfoldable pub is_lasting : List ℕ → Bool
+is_lasting subresource =
+    bytes_eq subresource (codes "exec") || bytes_eq subresource (codes "attach") || bytes_eq subresource (codes "portforward")
+    || bytes_eq subresource (codes "proxy") || bytes_eq subresource (codes "log")
+
+abbrev pub lasts : Option (List ℕ) → Bool
+lasts (Some subresource) = is_lasting subresource
+lasts None = false
+
+-- whether an event of this stage, verb and subresource is taken; without a stage or a verb it is no event
+abbrev pub taken_by : (stage verb subresource : Option (List ℕ)) → Option Bool
+taken_by (Some stage) (Some verb) subresource =
+    Some (bytes_eq stage (codes "ResponseComplete") && not (bytes_eq verb (codes "watch")) && not (lasts subresource))
+taken_by (Some stage) None subresource = None
+taken_by None verb subresource = None
+
+-- whether an event is taken, or none where the value is no event
+unfoldable pub is_taken : Data → Option Bool
+is_taken d = taken_by (text_at (codes "stage") d) (text_at (codes "verb") d) (text_within (codes "objectRef") (codes "subresource") d)
+
+-- the text, if it is short enough for a line of a trace
+abbrev pub short : List ℕ → Option (List ℕ)
+short name = if nat_le (length name) max_name then Some name else None
+
+-- the name of the user, where a trace can have it
+unfoldable pub user_of : Data → Option (List ℕ)
+user_of d = option_and_then short (text_within (codes "user") (codes "username") d)
+
+-- the instant at a key
+unfoldable pub instant_at : List ℕ → Data → Option ℕ
+instant_at key d = option_and_then instant_of (text_at key d)
+
+-- what an annotation says, and no wait where there is none
+abbrev pub wait_by : Option Data → Option ℕ
+wait_by None = Some 0
+wait_by (Some d) = option_and_then wait_of (as_str d)
+
+-- the wait in the queue
+unfoldable pub wait_at : Data → Option ℕ
+wait_at d = wait_by (option_and_then (get (codes "apiserver.latency.k8s.io/apf-queue-wait")) (get (codes "annotations") d))
+
+-- what is taken of an event, or its first fault
+unfoldable pub taken_of : ℕ → Data → Result Event AuditFault
+taken_of line d = do
+  user ← or_fault (BadUser line) (user_of d)
+  received ← or_fault (BadReceived line) (instant_at (codes "requestReceivedTimestamp") d)
+  completed ← or_fault (BadStage line) (instant_at (codes "stageTimestamp") d)
+  wait ← or_fault (BadWait line) (wait_at d)
+  runs_for ← or_fault (BadRun line) (run_of received completed wait)
+  Ok (record { line = line; received = received; runs_for = runs_for; user = user })
+
+-- what is taken of the value of a line, by whether it is taken
+abbrev pub event_by : ℕ → Data → Option Bool → Result (Option Event) AuditFault
+event_by line d None = Err (NotEvent line)
+event_by line d (Some false) = Ok None
+event_by line d (Some true) = taken_of line d >>= (λ e. Ok (Some e))
+
+unfoldable pub event_of : ℕ → Data → Result (Option Event) AuditFault
+event_of line d = event_by line d (is_taken d)
+
+-- the run and the name are such that a trace can have them
+pub record IsTakenInRange (taken : Taken) : Type 0 where
+  pub run : taken.runs_for ≤ max_run
+  pub name : length (string_bytes taken.distinguisher) ≤ max_name
+
+abbrev pub IsInRangeIfTaken : Option Taken → Type 0
+IsInRangeIfTaken taken = IfSome taken IsTakenInRange

@@ -1,0 +1,72 @@
+//! The times of arrivals from the earliest on.
+
+ghost use Rattle.std.specs.Prelude.{◌≡◌, ◌≢◌, ◌≤◌, IfOk, IfErr, Ok, Err, All, map, vec_len};
+ghost use Rattle.apf_audit.specs.AuditEvent.{event, IsTakenInRange};
+ghost use Rattle.apf_audit.specs.Arrivals.{entry, entries_from, arrived, earliest_from, earliest as earliest_event, IsRequestInRange};
+
+use crate::event::Taken;
+use crate::fault::AuditFault;
+use crate::request::AuditRequest;
+use std::alloc::Global;
+
+// In microseconds after the earliest: some eleven and a half days.
+const MAX_ARRIVAL: u64 = 1_000_000_000_000;
+
+/// The earliest time at which one of the requests was received, and 0 where there is none.
+pub(crate) fn earliest(all: &[Taken]) -> u64
+    ensures { result ≡ earliest_event (map event all.now) }
+{
+    let Some((first, others)) = all.split_first() else {
+        return 0;
+    };
+    let mut time = first.received;
+    let mut rest = others;
+    while let Some((next, others)) = rest.split_first() {
+        time = time.min(next.received);
+        rest = others;
+    }
+    time
+}
+
+// The request that is taken of an event, where the earliest one was received at `start`.
+fn request_of(taken: Taken, start: u64) -> Result<AuditRequest, AuditFault>
+    requires { IsTakenInRange taken }
+    ensures ok { IfOk result (λ request. arrived start (event taken) ≡ Ok (entry request)) }
+    ensures ranges { IfOk result IsRequestInRange }
+    ensures err { IfErr result (λ fault. arrived start (event taken) ≡ Err fault) }
+{
+    let arrives_at = taken.received.saturating_sub(start);
+    if arrives_at > MAX_ARRIVAL {
+        return Err(AuditFault::BadArrival(taken.line));
+    }
+    Ok(AuditRequest {
+        line: taken.line,
+        arrives_at,
+        runs_for: taken.runs_for,
+        distinguisher: taken.distinguisher,
+    })
+}
+
+/// The requests that are taken of events, in their order.
+pub(crate) fn requests_of(
+    alloc: Global,
+    all: Vec<Taken>,
+    start: u64,
+) -> Result<Vec<AuditRequest>, AuditFault>
+    requires { All IsTakenInRange all.items }
+    ensures ok { IfOk result (λ requests. entries_from start (map event all.items) ≡ Ok (map entry requests.items)) }
+    ensures ranges { IfOk result (λ requests. All IsRequestInRange requests.items) }
+    ensures count { IfOk result (λ requests. vec_len requests ≡ vec_len all) }
+    ensures err { IfErr result (λ fault. fault ≢ AuditFault.NoMemory
+        → entries_from start (map event all.items) ≡ Err fault) }
+{
+    let mut requests = Vec::new(alloc);
+    let mut rest = all.into_iter();
+    while let Some(taken) = rest.next() {
+        let request = request_of(taken, start)?;
+        let Ok(()) = requests.push(request) else {
+            return Err(AuditFault::NoMemory);
+        };
+    }
+    Ok(requests)
+}

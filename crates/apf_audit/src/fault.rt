@@ -1,0 +1,86 @@
+//! Why an audit log is refused.
+
+ghost use Rattle.std.specs.Prelude.{◌≡◌};
+ghost use Rattle.apf_audit.specs.AuditFaults.{audit_fault_number, line_of};
+
+use thiserror::Error;
+
+/// Why an audit log was refused. Lines are counted from 1.
+///
+/// Lines are judged from the first to the last, each by the faults 1 to 8 in the order of their numbers. The first
+/// fault is answered. Where no line has one, the whole log is judged by the faults 9 and 10.
+#[derive(Clone, Copy, Debug, PartialEq, Eq, Error)]
+pub enum AuditFault {
+    /// 1: the line is not ended by LF.
+    #[error("truncated")]
+    Truncated(usize),
+    /// 2: the line is no JSON text in UTF-8.
+    #[error("not JSON")]
+    NotUtf8Json(usize),
+    /// 3: the value is no object with the texts `stage` and `verb`.
+    #[error("not an audit event")]
+    NotEvent(usize),
+    /// 4: `user.username` is not a text of at most 4,096 bytes, or it is absent.
+    #[error("bad username")]
+    BadUser(usize),
+    /// 5: `requestReceivedTimestamp` is not the text of an instant from 1970 on, or it is absent.
+    #[error("bad requestReceivedTimestamp")]
+    BadReceived(usize),
+    /// 6: `stageTimestamp` is not the text of an instant from 1970 on, or it is absent.
+    #[error("bad stageTimestamp")]
+    BadStage(usize),
+    /// 7: the annotation `apiserver.latency.k8s.io/apf-queue-wait` is not the text of a duration from 0 to 10,000 s.
+    #[error("bad apf-queue-wait")]
+    BadWait(usize),
+    /// 8: the run is below 0, or above 10,000,000,000 microseconds.
+    #[error("bad run")]
+    BadRun(usize),
+    /// 9: so many requests, more than 10,000.
+    #[error("too many requests: {0}")]
+    TooMany(usize),
+    /// 10: the request arrives more than 1,000,000,000,000 microseconds after the earliest one.
+    #[error("arrives too late")]
+    BadArrival(usize),
+    /// 11: memory was refused.
+    #[error("out of memory")]
+    NoMemory,
+}
+
+impl AuditFault {
+    /// The fault's number, 1 to 11.
+    pub fn number(&self) -> u8
+        ensures { result ≡ audit_fault_number self.now }
+    {
+        match self {
+            AuditFault::Truncated(_) => 1,
+            AuditFault::NotUtf8Json(_) => 2,
+            AuditFault::NotEvent(_) => 3,
+            AuditFault::BadUser(_) => 4,
+            AuditFault::BadReceived(_) => 5,
+            AuditFault::BadStage(_) => 6,
+            AuditFault::BadWait(_) => 7,
+            AuditFault::BadRun(_) => 8,
+            AuditFault::TooMany(_) => 9,
+            AuditFault::BadArrival(_) => 10,
+            AuditFault::NoMemory => 11,
+        }
+    }
+
+    /// The line of the fault, counted from 1. Too many requests and out of memory have none.
+    pub fn line(&self) -> Option<usize>
+        ensures { result ≡ line_of self.now }
+    {
+        match *self {
+            AuditFault::Truncated(line)
+            | AuditFault::NotUtf8Json(line)
+            | AuditFault::NotEvent(line)
+            | AuditFault::BadUser(line)
+            | AuditFault::BadReceived(line)
+            | AuditFault::BadStage(line)
+            | AuditFault::BadWait(line)
+            | AuditFault::BadRun(line)
+            | AuditFault::BadArrival(line) => Some(line),
+            AuditFault::TooMany(_) | AuditFault::NoMemory => None,
+        }
+    }
+}

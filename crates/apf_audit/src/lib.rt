@@ -1,0 +1,30 @@
+//! Reads an audit log of a Kubernetes API server, and writes the trace of its requests.
+//!
+//! - `fault`: why an audit log is refused.
+//! - `request`: a request of an audit log.
+//! - `times`: the instants, waits and runs that an event says.
+//! - `event`: which events are taken, and what is taken of one.
+//! - `line`: what is taken of the bytes of a line.
+//! - `events`: what is taken of all lines.
+//! - `arrivals`: the times of arrivals from the earliest on.
+//! - `log`: the requests of a whole audit log.
+//! - `trace`: the trace of these requests.
+//! - `laws`: what holds of every log and trace.
+#![tactic(auto)]
+
+mod arrivals;
+mod event;
+mod events;
+mod fault;
+mod laws;
+mod line;
+mod log;
+mod request;
+mod times;
+mod trace;
+
+pub use fault::AuditFault;
+pub use laws::every_trace_fits;
+pub use log::read_audit_log;
+pub use request::AuditRequest;
+pub use trace::write_trace;

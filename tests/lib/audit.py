@@ -1,0 +1,170 @@
+"""What an audit log says, by the table of its faults: an independent judge of its bytes.
+
+An audit log has one event a line, as JSON. `trace_of` answers the trace of its requests as text, or raises AuditFault.
+"""
+
+import datetime
+import json
+import re
+from fractions import Fraction
+
+from judge import NotJson, Refused
+
+REQUESTS = 10_000
+# bytes of the name of a user
+NAME = 4096
+# microseconds after the earliest request
+ARRIVAL = 1_000_000_000_000
+# microseconds
+RUN = 10_000_000_000
+WAIT = 10_000_000_000
+
+# each fault's number is its place in the order in which a line is judged; the last two are judged once no line has a fault
+TRUNCATED, NOT_JSON, NOT_EVENT, BAD_USER, BAD_RECEIVED, BAD_STAGE, BAD_WAIT, BAD_RUN, TOO_MANY, BAD_ARRIVAL = range(1, 11)
+TEXTS = {
+    TRUNCATED: "truncated",
+    NOT_JSON: "not JSON",
+    NOT_EVENT: "not an audit event",
+    BAD_USER: "bad username",
+    BAD_RECEIVED: "bad requestReceivedTimestamp",
+    BAD_STAGE: "bad stageTimestamp",
+    BAD_WAIT: "bad apf-queue-wait",
+    BAD_RUN: "bad run",
+    TOO_MANY: "too many requests",
+    BAD_ARRIVAL: "arrives too late",
+}
+LASTING = ("exec", "attach", "portforward", "proxy", "log")
+QUEUE_WAIT = "apiserver.latency.k8s.io/apf-queue-wait"
+RFC_3339 = re.compile(r"(\d{4}-\d\d-\d\dT\d\d:\d\d:\d\d)(?:\.(\d{1,9}))?(Z|[+-]\d\d:\d\d)", re.ASCII)
+# as Go writes a duration: hours, minutes, and a last unit that may have a fraction
+DURATION = re.compile(r"(-?)(?:(\d+)h)?(?:(\d+)m)?(?:(\d+(?:\.\d+)?)(s|ms|µs|us|ns))?", re.ASCII)
+# of a second
+UNITS = {"s": 1, "ms": Fraction(1, 10**3), "µs": Fraction(1, 10**6), "us": Fraction(1, 10**6), "ns": Fraction(1, 10**9)}
+EPOCH = datetime.datetime(1970, 1, 1, tzinfo=datetime.timezone.utc)
+
+
+class AuditFault(Refused):
+    """A fault of an audit log: its number, its line from 1 (of TOO_MANY how many requests there are), and its text."""
+
+    def __init__(self, number, line):
+        self.number, self.line, self.text = number, line, TEXTS[number]
+        said = f"audit fault 9: {self.text}: {line}" if number == TOO_MANY else f"audit fault {number} at line {line}: {self.text}"
+        super().__init__(f"apf: {said}")
+
+
+def no_constant(word):
+    raise ValueError(word)
+
+
+def value_of(line):
+    """The JSON value of a line. Python alone takes NaN and the like, a mark of byte order, and halves of a surrogate pair."""
+    try:
+        text = line.decode("utf-8")
+        if text.startswith("\ufeff"):
+            raise NotJson
+        value = json.loads(text, parse_constant=no_constant)
+        json.dumps(value, ensure_ascii=False).encode("utf-8")
+    except (ValueError, RecursionError):
+        raise NotJson from None
+    return value
+
+
+def at(value, *path):
+    """What stands at the path, or None."""
+    for key in path:
+        value = value.get(key) if isinstance(value, dict) else None
+    return value
+
+
+def text_at(value, *path):
+    found = at(value, *path)
+    return found if isinstance(found, str) else None
+
+
+def instant(text):
+    """The whole microseconds from 1970 on, or None."""
+    found = RFC_3339.fullmatch(text or "")
+    if not found:
+        return None
+    second, fraction, offset = found.groups()
+    try:
+        whole = datetime.datetime.fromisoformat(second + offset.replace("Z", "+00:00"))
+    except ValueError:
+        return None
+    micros = (whole - EPOCH) // datetime.timedelta(microseconds=1) + int((fraction or "")[:6].ljust(6, "0"))
+    return micros if micros >= 0 else None
+
+
+def duration(text):
+    """The whole microseconds of a duration, or None. The longest one has no fraction of a microsecond more."""
+    found = DURATION.fullmatch(text)
+    if not found or not any(found.groups()[1:]):
+        return None
+    sign, hours, minutes, last, unit = found.groups()
+    seconds = 3600 * int(hours or 0) + 60 * int(minutes or 0) + (Fraction(last) * UNITS[unit] if last else 0)
+    micros = (-1 if sign else 1) * seconds * 10**6
+    return int(micros) if 0 <= micros <= WAIT else None
+
+
+def wait_of(event):
+    annotations = at(event, "annotations")
+    if not isinstance(annotations, dict) or QUEUE_WAIT not in annotations:
+        return 0
+    wait = annotations[QUEUE_WAIT]
+    return duration(wait) if isinstance(wait, str) else None
+
+
+def is_taken(event):
+    return event["stage"] == "ResponseComplete" and event["verb"] != "watch" and at(event, "objectRef", "subresource") not in LASTING
+
+
+def request_of(event, line):
+    """The arrival from 1970 on, the line, the run and the user of an event that is taken."""
+    user = text_at(event, "user", "username")
+    if user is None or len(user.encode()) > NAME:
+        raise AuditFault(BAD_USER, line)
+    times = [instant(text_at(event, key)) for key in ("requestReceivedTimestamp", "stageTimestamp")]
+    for time, fault in zip(times, (BAD_RECEIVED, BAD_STAGE)):
+        if time is None:
+            raise AuditFault(fault, line)
+    wait = wait_of(event)
+    if wait is None:
+        raise AuditFault(BAD_WAIT, line)
+    run = times[1] - times[0] - wait
+    if not 0 <= run <= RUN:
+        raise AuditFault(BAD_RUN, line)
+    return times[0], line, run, user
+
+
+def taken_of(content):
+    """What is taken of the lines, in their order."""
+    *lines, rest = content.split(b"\n")
+    for line, text in enumerate(lines, 1):
+        try:
+            event = value_of(text)
+        except NotJson:
+            raise AuditFault(NOT_JSON, line) from None
+        if text_at(event, "stage") is None or text_at(event, "verb") is None:
+            raise AuditFault(NOT_EVENT, line)
+        if is_taken(event):
+            yield request_of(event, line)
+    if rest:
+        raise AuditFault(TRUNCATED, len(lines) + 1)
+
+
+def trace_of(content, schema):
+    taken = list(taken_of(content))
+    if len(taken) > REQUESTS:
+        raise AuditFault(TOO_MANY, len(taken))
+    start = min((received for received, *_ in taken), default=0)
+    for received, line, _, _ in taken:
+        if received - start > ARRIVAL:
+            raise AuditFault(BAD_ARRIVAL, line)
+    schema = json_text(schema)
+    form = '{{"schema":{},"distinguisher":{},"arrivesAt":{},"runsFor":{}}}\n'
+    return "".join(form.format(schema, json_text(user), received - start, run) for received, _, run, user in sorted(taken, key=lambda it: it[:2]))
+
+
+def json_text(text):
+    """The text as JSON has it, escaped only where JSON must."""
+    return json.dumps(text, ensure_ascii=False)

@@ -1,0 +1,19 @@
+-- One column more, and all of them.
+use Rattle.std.proofs.Common.{◌≡◌, ℕ, ◌+◌, ◌++◌, ◌∷◌, [], List, subst, arith}
+use Rattle.std.specs.Prelude.{map}
+use Rattle.std.specs.List.{range_with_len}
+use Rattle.std.proofs.lemmas.List.FromFn.{map-range_with_len_more}
+use Rattle.apf_picture.specs.Columns.{seats_at, time_of, columns, tops_of}
+use Rattle.apf_picture.proofs.columns.row_area.Goals as goal
+
+pub loop-column-preserved : goal.loop-column-preserved
+loop-column-preserved c =
+    let n = c.loop-column.column in
+    let more = map-range_with_len_more (λ (column : ℕ). seats_at c.args.lives.now c.args.row (time_of c.args.end column)) 0 n n (omega arith) in
+    cc (more, c.loop-column.invariant, c.in_ok-push.ensures.items, c.seats_at.ensures, c.scaled.ensures.place)
+
+pub returns-clause-tops : goal.returns-clause-tops
+unfolding columns tops_of
+returns-clause-tops c =
+    let at : c.loop-column.column ≡ 880 = omega arith in
+    subst (λ (n : ℕ). c.loop-column.tops.items ≡ map (λ (column : ℕ). seats_at c.args.lives.now c.args.row (time_of c.args.end column)) (range_with_len 0 n)) at c.loop-column.invariant

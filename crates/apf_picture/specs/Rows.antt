@@ -1,0 +1,55 @@
+-- The requests of one row, and their numbers.
+use Rattle.std.specs.Prelude.{◌≡◌, ℕ, ◌+◌, ◌*◌, min, List, length, map, filter, count_by, ◌==◌, Bool, true, false}
+use Rattle.apf_picture.specs.declared.life.Fate.{Fate}
+use Rattle.apf_picture.specs.declared.life.Fate.TheVariants.{Executed, Rejected, GaveUp}
+use Rattle.apf_picture.specs.declared.life.Life.{Life}
+use Rattle.apf_picture.specs.declared.row.Numbers.{Numbers}
+use Rattle.apf_picture.specs.declared.row.Row.{Row}
+use Rattle.apf_picture.specs.Scales.{scaled_of}
+use Rattle.apf_picture.specs.Columns.{greatest_of}
+
+abbrev pub is_fate : Fate → Fate → Bool
+is_fate Executed Executed = true
+is_fate Executed Rejected = false
+is_fate Executed GaveUp = false
+is_fate Rejected Executed = false
+is_fate Rejected Rejected = true
+is_fate Rejected GaveUp = false
+is_fate GaveUp Executed = false
+is_fate GaveUp Rejected = false
+is_fate GaveUp GaveUp = true
+
+-- how many of the requests ended so
+abbrev pub count_of : Fate → List Life → ℕ
+count_of fate lives = count_by (λ life. is_fate fate life.fate) lives
+
+-- the longest wait of the requests
+abbrev pub longest_of : List Life → ℕ
+longest_of lives = greatest_of (map (λ life. life.wait) lives)
+
+-- the numbers of these requests
+abbrev pub numbers_of : List Life → Numbers
+numbers_of lives = record {
+  requests = length lives;
+  executed = count_of Executed lives;
+  rejected = count_of Rejected lives;
+  gave_up = count_of GaveUp lives;
+  longest = longest_of lives;
+}
+
+-- the requests of a row
+abbrev pub members_of : List Life → ℕ → List Life
+members_of lives row = filter (λ life. life.row == row) lives
+
+abbrev pub lives_in : Row → List Life
+lives_in row = row.lives.items
+
+-- how high the bars of so many requests are together: at most 6 pixels each, and by their share of all requests
+abbrev pub tall_of : (members requests : ℕ) → ℕ
+tall_of members requests = min (6 * members) (30 + scaled_of members requests 240)
+
+-- the row has the requests of its number, and their numbers
+pub record IsRow (lives : List Life) (row : Row) : Type 0 where
+  pub members : lives_in row ≡ members_of lives row.number
+  pub numbers : row.numbers ≡ numbers_of (members_of lives row.number)
+  pub tall : row.tall ≡ tall_of (length (members_of lives row.number)) (length lives)

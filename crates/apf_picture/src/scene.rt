@@ -1,0 +1,30 @@
+//! What a picture is made of.
+
+use apf_flows::Flows;
+use apf_traces::TraceRequest;
+use apf_words::Decision;
+
+/// What became of one request of a run.
+#[derive(Clone, Copy, Debug, PartialEq, Eq)]
+pub struct Outcome {
+    pub decision: Decision,
+    /// How long it waited, until it was given its seats or gave up, in microseconds.
+    pub wait: u64,
+    /// The queue that it entered, if it entered one.
+    pub queue: Option<u32>,
+}
+
+/// A run of a level on the requests of a trace.
+#[derive(Clone, Copy)]
+pub struct Scene<'a> {
+    /// The seats of the level.
+    pub limit: u32,
+    /// When the run ended, in microseconds.
+    pub end: u64,
+    /// The requests, at most 10,000.
+    pub trace: &'a [TraceRequest],
+    /// The flows of the trace.
+    pub flows: &'a Flows,
+    /// What became of each request of the trace.
+    pub outcomes: &'a [Outcome],
+}

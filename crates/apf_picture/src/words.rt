@@ -1,0 +1,149 @@
+//! Numbers, times and names in words, as XML has them.
+
+ghost use Rattle.std.specs.Prelude.{◌≡◌, ◌<◌, ◌≤◌, ◌+◌, ◌*◌, ◌^◌, length, OnOk};
+ghost use Rattle.std.specs.Io.KnownBytes.{Appends};
+ghost use Rattle.apf_picture.specs.Words.{character_text, escaped, name_text, counted_text, label_text, tenths_text, two_text, time_text, endings_text, numbers_text, row_numbers_text};
+
+use crate::row::{Label, Numbers};
+use apf_flows::write_hash;
+use std::io;
+use std::io::Write;
+
+/// So many characters of a name are written.
+const NAME: usize = 30;
+
+// Writes a character. One that XML does not allow is a mark for a character that is missing.
+fn write_character<W: Write>(out: &mut W, character: char) -> io::Result<()>
+    ensures { OnOk result (Appends (W.contents out.old) (W.contents out.new) (character_text character)) }
+{
+    match character {
+        '&' => out.write_all(b"&amp;"),
+        '<' => out.write_all(b"&lt;"),
+        '>' => out.write_all(b"&gt;"),
+        '"' => out.write_all(b"&quot;"),
+        '\0'..='\u{1f}' | '\u{fffe}' | '\u{ffff}' => out.write_all(b"&#65533;"),
+        _ => write!(out, "{character}"),
+    }
+}
+
+// Writes a text.
+fn write_text<W: Write>(out: &mut W, text: &[char]) -> io::Result<()>
+    ensures { OnOk result (Appends (W.contents out.old) (W.contents out.new) (escaped text.now)) }
+{
+    for character in text {
+        write_character(out, *character)?;
+    }
+    Ok(())
+}
+
+// Writes a name, of a long one its first characters and an ellipsis.
+#[tactic(auto, unfolding(crate::specs::Words::name_text))]
+fn write_name<W: Write>(out: &mut W, name: &[char], most: usize) -> io::Result<()>
+    ensures { OnOk result (Appends (W.contents out.old) (W.contents out.new) (name_text most name.now)) }
+{
+    if name.len() <= most {
+        return write_text(out, name);
+    }
+    write_text(out, &name[..most])?;
+    out.write_all(b"&#8230;")
+}
+
+/// Writes a number and a noun, in the plural where the number is not 1.
+pub(crate) fn write_counted<W: Write>(out: &mut W, number: u64, noun: &str) -> io::Result<()>
+    ensures { OnOk result (Appends (W.contents out.old) (W.contents out.new) (counted_text number noun.now)) }
+{
+    if number == 1 {
+        return write!(out, "1 {noun}");
+    }
+    write!(out, "{number} {noun}s")
+}
+
+/// Writes what a row is called.
+pub(crate) fn write_label<W: Write>(out: &mut W, label: &Label) -> io::Result<()>
+    ensures { OnOk result (Appends (W.contents out.old) (W.contents out.new) (label_text label.now)) }
+{
+    match label {
+        Label::Names {
+            schema,
+            distinguisher,
+        } => {
+            write_name(out, schema.as_slice(), NAME)?;
+            out.write_all(b" / ")?;
+            write_name(out, distinguisher.as_slice(), NAME)
+        }
+        Label::Hash(hash) => write_hash(out, *hash),
+        Label::Others(flows) => write_counted(out, u64::from(*flows), "other flow"),
+    }
+}
+
+// Writes a number of two units, of which the second has so many in one of the first.
+#[tactic(auto, unfolding(crate::specs::Words::tenths_text))]
+fn write_tenths<W: Write>(out: &mut W, time: u64, unit: u64, name: &str) -> io::Result<()>
+    requires { 10 ≤ unit }
+    ensures { OnOk result (Appends (W.contents out.old) (W.contents out.new) (tenths_text time unit name.now)) }
+{
+    let whole = time / unit;
+    let tenth = time % unit / (unit / 10);
+    write!(out, "{whole}.{tenth} {name}")
+}
+
+#[tactic(auto, unfolding(crate::specs::Words::two_text))]
+fn write_two<W: Write>(
+    out: &mut W,
+    whole: u64,
+    name: &str,
+    rest: u64,
+    smaller: &str,
+) -> io::Result<()>
+    ensures { OnOk result (Appends (W.contents out.old) (W.contents out.new) (two_text whole name.now rest smaller.now)) }
+{
+    write!(out, "{whole} {name} {rest} {smaller}")
+}
+
+/// Writes a time of so many microseconds: with one digit after the point, or in two units.
+pub(crate) fn write_time<W: Write>(out: &mut W, time: u64) -> io::Result<()>
+    ensures { OnOk result (Appends (W.contents out.old) (W.contents out.new) (time_text time)) }
+{
+    let seconds = time / 1_000_000;
+    let minutes = seconds / 60;
+    let hours = minutes / 60;
+    match time {
+        0..=999 => write!(out, "{time} &#181;s"),
+        1_000..=999_999 => write_tenths(out, time, 1_000, "ms"),
+        1_000_000..=59_999_999 => write_tenths(out, time, 1_000_000, "s"),
+        60_000_000..=3_599_999_999 => write_two(out, minutes, "min", seconds % 60, "s"),
+        3_600_000_000..=86_399_999_999 => write_two(out, hours, "h", minutes % 60, "min"),
+        _ => write_two(out, hours / 24, "d", hours % 24, "h"),
+    }
+}
+
+/// Writes how many requests ended how, and the longest wait.
+pub(crate) fn write_numbers<W: Write>(out: &mut W, numbers: &Numbers) -> io::Result<()>
+    ensures { OnOk result (Appends (W.contents out.old) (W.contents out.new) (numbers_text numbers.now)) }
+{
+    write_endings(out, numbers)?;
+    write_time(out, numbers.longest)
+}
+
+// Writes how many requests ended how.
+#[tactic(auto, unfolding(crate::specs::Words::endings_text))]
+fn write_endings<W: Write>(out: &mut W, numbers: &Numbers) -> io::Result<()>
+    ensures { OnOk result (Appends (W.contents out.old) (W.contents out.new) (endings_text numbers.now)) }
+{
+    let executed = numbers.executed;
+    let rejected = numbers.rejected;
+    let gave_up = numbers.gave_up;
+    write!(
+        out,
+        "{executed} executed, {rejected} rejected, {gave_up} gave up, longest wait "
+    )
+}
+
+/// Writes the number of requests, and how they ended.
+pub(crate) fn write_row_numbers<W: Write>(out: &mut W, numbers: &Numbers) -> io::Result<()>
+    ensures { OnOk result (Appends (W.contents out.old) (W.contents out.new) (row_numbers_text numbers.now)) }
+{
+    write_counted(out, u64::from(numbers.requests), "request")?;
+    out.write_all(b": ")?;
+    write_numbers(out, numbers)
+}

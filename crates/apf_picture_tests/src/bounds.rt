@@ -1,0 +1,91 @@
+use crate::scenes::{all_executed, drawn, executed, request, times};
+use apf_flows::flows_of;
+use apf_picture::{Outcome, Picture, Scene};
+use apf_traces::TraceRequest;
+use std::alloc::Global;
+use std::test::Fail;
+
+#[test]
+fn no_request(rt: HostRuntime) -> Result<(), Fail> {
+    let text = drawn(rt.alloc(), &[], &[], 0)?;
+    let title = ">0 requests of 0 flows on 2 seats</title>";
+    let axis = "<path class=\"line\" d=\"M0 0v230\"/>";
+    assert_eq!(rt; times(text.as_slice(), title), 1);
+    assert_eq!(rt; times(text.as_slice(), axis), 1);
+    assert_eq!(rt; times(text.as_slice(), ">0 queues used"), 1);
+    Ok(())
+}
+
+// Times at the end of their range, and seats beyond the limit.
+#[test]
+fn late_times(rt: HostRuntime) -> Result<(), Fail> {
+    let wide = TraceRequest {
+        width: u32::MAX,
+        ..request(1, u64::MAX, u64::MAX)
+    };
+    let trace = [request(1, 0, u64::MAX), wide];
+    let outcomes = [
+        executed(u64::MAX, Some(u32::MAX)),
+        executed(u64::MAX, Some(0)),
+    ];
+    let text = drawn(rt.alloc(), trace.as_slice(), outcomes.as_slice(), u64::MAX)?;
+    assert_eq!(rt; times(text.as_slice(), "213503982 d 8 h in all"), 2);
+    assert_eq!(rt; times(text.as_slice(), "d=\"M0 1h880M880 3h1\"/>"), 1);
+    Ok(())
+}
+
+// So many requests of so many flows, which all waited, each in one of so many queues.
+fn many(
+    alloc: Global,
+    requests: u32,
+    flows: u64,
+    queues: u32,
+) -> Result<(Vec<TraceRequest>, Vec<Outcome>), Fail>
+    requires flows { 0 < flows }
+    requires queues { 0 < queues }
+{
+    let mut trace = Vec::new(alloc);
+    let mut outcomes = Vec::new(alloc);
+    for number in 0..requests {
+        let time = u64::from(number);
+        trace.push(request(time % flows, 7 * time, 40))?;
+        outcomes.push(executed(time % 97, Some(number % queues)))?;
+    }
+    Ok((trace, outcomes))
+}
+
+#[test]
+fn a_thousand_requests(rt: HostRuntime) -> Result<(), Fail> {
+    let (trace, outcomes) = many(rt.alloc(), 1_000, 30, 64)?;
+    let text = drawn(rt.alloc(), trace.as_slice(), outcomes.as_slice(), 7_200)?;
+    assert_eq!(rt; times(text.as_slice(), ">18 other flows <tspan"), 1);
+    assert!(rt; text.len() < 300_000);
+    Ok(())
+}
+
+#[test]
+fn a_writer_that_fails(rt: HostRuntime) -> Result<(), Fail> {
+    let trace = [request(1, 0, 10)];
+    let outcomes = all_executed(rt.alloc(), 1)?;
+    let whole = drawn(rt.alloc(), trace.as_slice(), outcomes.as_slice(), 10)?;
+    let flows = flows_of(rt.alloc(), trace.as_slice())?;
+    let scene = Scene {
+        limit: 2,
+        end: 10,
+        trace: trace.as_slice(),
+        flows: &flows,
+        outcomes: outcomes.as_slice(),
+    };
+    let picture = Picture::of(rt.alloc(), &scene)?;
+    let mut room: Vec<u8> = Vec::new(rt.alloc());
+    for _ in 1..whole.len() {
+        let mut out = room.as_mut_slice();
+        assert!(rt; picture.write(&mut out).is_err());
+        room.push(0)?;
+    }
+    room.push(0)?;
+    let mut out = room.as_mut_slice();
+    picture.write(&mut out)?;
+    assert!(rt; room.as_slice() == whole.as_slice());
+    Ok(())
+}

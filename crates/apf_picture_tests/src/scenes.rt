@@ -1,0 +1,74 @@
+use apf_flows::flows_of;
+use apf_picture::{Outcome, Picture, Scene};
+use apf_traces::{FlowNames, TraceRequest};
+use apf_words::Decision;
+use std::alloc::Global;
+use std::test::Fail;
+
+// A request of one seat.
+pub(crate) fn request(hash: u64, arrives_at: u64, runs_for: u64) -> TraceRequest {
+    TraceRequest {
+        arrives_at,
+        runs_for,
+        hash,
+        names: None,
+        width: 1,
+        cost: 1,
+    }
+}
+
+pub(crate) fn named(alloc: Global, hash: u64, distinguisher: &str) -> Result<TraceRequest, Fail> {
+    let names = FlowNames {
+        schema: String::from_str(alloc, "a \"<&>\" b")?,
+        distinguisher: String::from_str(alloc, distinguisher)?,
+    };
+    Ok(TraceRequest {
+        names: Some(names),
+        ..request(hash, 0, 10)
+    })
+}
+
+// It executed after so long a wait.
+pub(crate) fn executed(wait: u64, queue: Option<u32>) -> Outcome {
+    Outcome {
+        decision: Decision::Execute,
+        wait,
+        queue,
+    }
+}
+
+// Each request executed at once.
+pub(crate) fn all_executed(alloc: Global, requests: usize) -> Result<Vec<Outcome>, Fail> {
+    let mut outcomes = Vec::new(alloc);
+    for _ in 0..requests {
+        outcomes.push(executed(0, None))?;
+    }
+    Ok(outcomes)
+}
+
+// The picture of a run on a level of two seats.
+pub(crate) fn drawn(
+    alloc: Global,
+    trace: &[TraceRequest],
+    outcomes: &[Outcome],
+    end: u64,
+) -> Result<Vec<u8>, Fail> {
+    let flows = flows_of(alloc, trace)?;
+    let scene = Scene {
+        limit: 2,
+        end,
+        trace,
+        flows: &flows,
+        outcomes,
+    };
+    let mut out = Vec::new(alloc);
+    Picture::of(alloc, &scene)?.write(&mut out)?;
+    Ok(out)
+}
+
+// How often a part stands in a text.
+pub(crate) fn times(text: &[u8], part: &str) -> usize {
+    text.windows(part.len().max(1))
+        .filter(|window| *window == part.as_bytes())
+        .count()
+}

@@ -1,0 +1,177 @@
+"""The picture of a run. First an independent computation of the SVG (lib/picture.py), judged on drawn traces by what an XML reader
+finds in it: numbers, bars, ticks, rows, queues and seats. Then what the program prints, where it has the command."""
+
+import json
+import os
+import random
+import re
+import subprocess
+import sys
+import xml.etree.ElementTree as ElementTree
+
+sys.path.insert(0, os.path.join(os.path.dirname(os.path.abspath(__file__)), "lib"))
+from harness import TOP, Files, Tally, build, run
+from judge import Refused, config_of
+from picture import COLUMNS, Picture
+from simulation import Run, answer, flows_of
+from trace import trace_of
+from traces import Traces
+
+# whether the program has the command
+COMMAND = False
+SVG = "{http://www.w3.org/2000/svg}"
+EXAMPLE = os.path.join(TOP, "examples", "noisy-client")
+# what the picture of the example is drawn with
+PATIENCE = 8_000_000
+SMALL = b'{"limit":2,"queues":2,"handSize":1,"queueLengthLimit":2}'
+LINE = b'{"hash":0,"arrivesAt":0,"runsFor":0}\n'
+
+tally = Tally()
+program = build()
+files = Files()
+# the same draws each time; APF_SEED draws others
+seed = int(os.environ.get("APF_SEED", "1040"))
+traces = Traces(random.Random(seed))
+TRACES = int(os.environ.get("APF_TRACES", "100"))
+print(f"seed {seed}")
+
+
+def picture(run, *_):
+    return Picture(run).text()
+
+
+def foreseen(config, trace, patience):
+    """The status, output and errors of the command."""
+    return answer(lambda made: Picture(made).lines(), (config, trace), patience)
+
+
+# what a reader of the SVG finds
+
+
+def of_class(element, name):
+    """The elements of a class, without that of the key to the ticks."""
+    return [it for it in element.iter() if name in it.get("class", "").split()]
+
+
+def steps(path):
+    """The heights of an area at each column: of `M0 140H..V..H880V140z` the last V before or at it."""
+    changes = [(int(x), int(y)) for x, y in re.findall(r"H(\d+)V(\d+)", path.get("d"))][:-1]
+    heights = []
+    for (x, y), (end, _) in zip(changes, [*changes[1:], (COLUMNS, 0)]):
+        heights += [y] * (end - x)
+    return heights
+
+
+def seats_in_use(made, time):
+    """By the calls of the run: what had been started and not finished when the time came to its end."""
+    done = [call for call in made.calls if call[0] <= time]
+    ended = {it for _, kind, it in done if kind == 0}
+    return sum(made.trace[it]["width"] for it, start in made.started.items() if start <= time and it not in ended)
+
+
+def judged(name, text, made):
+    """Checks a picture of this run by what an XML reader finds in it."""
+    root = ElementTree.fromstring(text)
+    decided = made.level.decided
+    counts = [sum(decided[it] == "execute" for it in decided), 0, sum(decided[it] == "cancelled" for it in decided)]
+    counts[1] = len(made.trace) - counts[0] - counts[2]
+    tally.check(f"{name}: a picture for who does not see it", (root.tag, root.get("role"), root.get("aria-labelledby")), (f"{SVG}svg", "img", "title desc"))
+    tally.check(f"{name}: a title and a description", [root.find(f"{SVG}{it}").get("id") for it in ("title", "desc")], ["title", "desc"])
+    title, words = (root.find(f"{SVG}{it}").text for it in ("title", "desc"))
+    found = [int(it) for it in re.findall(r"\d+", title)]
+    flows = flows_of(made.trace)
+    tally.check(f"{name}: the title's numbers", found, [len(made.trace), len(flows), made.config["limit"]])
+    tally.check(f"{name}: the description's numbers", [int(it) for it in re.findall(r"(\d+) (?:executed|rejected|gave up)", words)][:3], counts)
+    others = [it for it in root.iter() if it.tag.split("}")[1] in ("script", "image", "use", "a", "foreignObject")]
+    tally.check(f"{name}: nothing but its own", (others, re.findall(r"href|url\(|@import|https?://(?!www\.w3\.org/2000/svg\")", text)), ([], []))
+    # the rows
+    bars = of_class(root, "bars")
+    tally.check(f"{name}: the rows", len(bars), min(len(flows), 13))
+    tally.check(f"{name}: a bar for each request that was not rejected", sum(it.get("d").count("M") for it in bars), counts[0] + counts[2])
+    tally.check(f"{name}: no bar leaves the plot", [it for path in bars for it in re.findall(r"M(\d+) \d+h(\d+)", path.get("d")) if int(it[0]) + int(it[1]) > COLUMNS + 1], [])
+    for kind, count in (("rejected", counts[1]), ("gave-up", counts[2])):
+        tally.check(f"{name}: ticks of {kind}", sum(it.get("d").count("M") for it in of_class(root, kind)), count + 1)
+    # the seats: the last area that is drawn is the first row's, and the first one is of all
+    heights = [steps(it) for it in root.iter(f"{SVG}path") if re.fullmatch(r"f\d+", it.get("class"))]
+    tally.check(f"{name}: the areas", len(heights), len(bars))
+    if heights:
+        seats = [seats_in_use(made, column * made.end() // COLUMNS) for column in range(COLUMNS)]
+        most = max(*seats, made.config["limit"])
+        tally.check(f"{name}: the seats in use", heights[0], [140 - it * 130 // most for it in seats])
+        tally.check(f"{name}: no area is above that of all", [1 for above, below in zip(heights, heights[1:]) if any(a > b for a, b in zip(above, below))], [])
+    # the queues
+    queues = {queue for kind, _, queue in made.level.log if kind == "enter"}
+    found = int(re.search(r"Queues used: (\d+)", words)[1])
+    tally.check(f"{name}: the queues", found, len(queues))
+    numbers = [int(it.text) for it in root.iter(f"{SVG}text") if it.get("x") == "-6"][2:]
+    tally.check(f"{name}: numbers of queues", (set(numbers) <= queues, numbers), (True, sorted(numbers)))
+    tally.check(f"{name}: no more numbers than have room", len(numbers) <= 20, True)
+    tally.check(f"{name}: marks of the axis", len(re.findall("M", of_class(root, "line")[0].get("d"))) <= 11, True)
+
+
+def check_model():
+    for number in range(TRACES):
+        config, (objects, patience) = traces.config(), traces.trace()
+        made = Run(config, trace_of(traces.content(objects)), patience)
+        judged(f"the picture {number} of {config}, {objects}, patience {patience}", picture(made), made)
+
+
+def example():
+    return [open(os.path.join(EXAMPLE, name), "rb").read() for name in ("config.json", "trace.jsonl", "picture.svg")]
+
+
+def check_example():
+    """The picture of the repository is that of its files, and the trace that of its maker."""
+    config, trace, stored = example()
+    made = Run(config_of(config), trace_of(trace), PATIENCE)
+    text = picture(made)
+    tally.check("the picture of the example", text.encode() == stored, True)
+    judged("the picture of the example", text, made)
+    maker = os.path.join(TOP, "examples", "noisy-trace.py")
+    tally.check("the trace of the example", subprocess.run([sys.executable, maker], stdout=subprocess.PIPE).stdout == trace, True)
+
+
+def check_sizes():
+    """A thousand requests are below 300 kB, whatever they are: each has a bar, or a tick, and at most two changes of its queue's shade."""
+    draw = random.Random(seed)
+    config = config_of(b'{"limit":7,"queues":64,"handSize":3,"queueLengthLimit":3}')
+    lines = [b'{"hash":%d,"arrivesAt":%d,"runsFor":%d}\n' % (draw.randrange(40) ** 3, draw.randrange(10**6), draw.randrange(9000)) for _ in range(1000)]
+    made = Run(config, trace_of(b"".join(lines)), 2500)
+    size = len(picture(made).encode())
+    tally.check(f"the picture of 1,000 requests: {size} bytes", size < 300_000, True)
+
+
+# the command
+
+
+def printed(config, trace, patience):
+    return run(program, ["picture", files("config", config), files("trace", trace), str(patience)])
+
+
+def check_drawn():
+    for number in range(TRACES):
+        config, (objects, patience) = traces.config(), traces.trace()
+        taken = json.dumps(config).encode(), traces.content(objects), patience
+        tally.check(f"the picture of {taken}", printed(*taken), foreseen(*taken))
+
+
+def check_command():
+    config, trace, stored = example()
+    tally.check("the picture of the example, by the program", printed(config, trace, PATIENCE), (0, stored, b""))
+    for name, content in (("no request", b""), ("one request of no time", LINE), ("a cut file", LINE[:-1])):
+        tally.check(f"a picture of {name}", printed(SMALL, content, 0), foreseen(SMALL, content, 0))
+    with open("/dev/full", "wb") as full:
+        words = [program, "picture", files("config", SMALL), files("trace", LINE), "0"]
+        done = subprocess.run(words, stdin=subprocess.DEVNULL, stdout=full, stderr=subprocess.PIPE)
+    tally.check("a picture on a full disk", (done.returncode, done.stderr), (1, b"apf: cannot write\n"))
+
+
+if not COMMAND:
+    print("not run, as the program has no such command: picture")
+check_model()
+check_example()
+check_sizes()
+if COMMAND:
+    check_drawn()
+    check_command()
+tally.end()

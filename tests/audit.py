@@ -13,7 +13,7 @@ from audits import NOON, Logs
 from harness import TOP, Files, Tally, build, run
 
 # the name of the program's command; none: what stands below of the command is not run
-COMMAND = None
+COMMAND = "trace"
 
 tally = Tally()
 files = Files()

@@ -39,7 +39,7 @@ for words, line in [
     tally.check(" ".join(words), run(program, words), (2, b"", line))
 
 # help that is asked for goes to standard output, and has a line for each command, argument and file
-COMMANDS = ["  hash ", "  deal ", "  replay ", "  run ", "  services ", "  waits ", "  simulate ", "  timeline ", "  requests ", "  hands "]
+COMMANDS = ["  hash ", "  deal ", "  replay ", "  run ", "  services ", "  waits ", "  simulate ", "  timeline ", "  requests ", "  picture ", "  hands ", "  trace "]
 COMMANDS += ["apf hash workload-low alice", "  2 "]
 DEAL = ["<DECK>", "<HAND>", "<HASH>", "printf %u 0x", "not positive", "hand too large", "deck too large", "too much entropy"]
 SCRIPT = ["<CONFIG>", "<REQUESTS>", "<SCRIPT>"]
@@ -65,6 +65,8 @@ for words, says in [
     (["simulate", "--help"], PATIENCE + TRACE + FLOW),
     (["timeline", "--help"], PATIENCE + ["apf replay", "script"]),
     (["requests", "--help"], TIMES + ["apf replay", "width"]),
+    (["picture", "--help"], PATIENCE + ["SVG", "apf simulate --help"]),
+    (["trace", "--help"], ["<AUDITLOG>", "<SCHEMA>", "user.username", "requestReceivedTimestamp", "microseconds", "4096 bytes"]),
     (["hands", "--help"], LEVEL + ["flow H hand Q1 Q2 .. of SCHEMA DISTINGUISHER", "shares Q .. with H SCHEMA DISTINGUISHER", "covered by H"]),
     (["waits", "--help"], SCRIPT + ["request R queue Q ahead A most M all T", "twice the widest"]),
 ]:
@@ -131,6 +133,12 @@ for words in [
     ["requests", "a", "b"],
     ["hands", "a"],
     ["hands", "a", "b", "0"],
+    ["picture", "a", "b"],
+    ["picture", "a", "b", "0", "0"],
+    ["picture", "a", "b", "1000000001"],
+    ["trace", "a"],
+    ["trace", "a", "b", "c"],
+    ["trace", "a", "b" * 4097],
 ]:
     status, out, err = run(program, words)
     tally.check(" ".join(["apf", *words]), (status, out, len(err) > 0), (2, b"", True))

@@ -29,6 +29,15 @@ trace = files(
     '{"hash":0,"arrivesAt":1,"runsFor":9,"width":5,"cost":1}\n',
 )
 tight = files("tight", '{"limit":1,"queues":1,"handSize":1,"queueLengthLimit":1}')
+# events that are taken, with a wait and out of order, and one that is not
+log = files(
+    "log",
+    '{"stage":"ResponseComplete","verb":"get","user":{"username":"b"},"requestReceivedTimestamp":"2026-11-25T12:00:00.000002Z",'
+    '"stageTimestamp":"2026-11-25T12:00:00.000009Z","annotations":{"apiserver.latency.k8s.io/apf-queue-wait":"3µs"}}\n'
+    '{"stage":"ResponseComplete","verb":"list","user":{"username":"c"},"requestReceivedTimestamp":"2026-11-25T12:00:00.000001Z",'
+    '"stageTimestamp":"2026-11-25T12:00:00.000009Z"}\n'
+    '{"stage":"RequestReceived","verb":"get"}\n',
+)
 cut = files("cut", '{"hash":0,"arrivesAt":0,"runsFor":0}\n{"hash":0')
 roomy = files("roomy", '{"limit":3,"queues":1,"handSize":1,"queueLengthLimit":10}')
 
@@ -51,6 +60,8 @@ for words, status in (
     (["timeline", tight, trace, "3"], 0),
     (["requests", trace], 0),
     (["hands", tight, trace], 0),
+    (["picture", tight, trace, "3"], 0),
+    (["trace", log, "a"], 0),
     (["run", roomy, fit, "3"], 0),
     (["--version"], 0),
     (["--help"], 0),

@@ -18,7 +18,7 @@ from trace import trace_of
 from traces import Traces
 
 # whether the program has the command
-COMMAND = False
+COMMAND = True
 SVG = "{http://www.w3.org/2000/svg}"
 EXAMPLE = os.path.join(TOP, "examples", "noisy-client")
 # what the picture of the example is drawn with

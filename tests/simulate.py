@@ -1,4 +1,4 @@
-"""Requests with times. First 300 drawn traces: an independent computation makes a script and a requests file of each, and foresees
+"""Requests with times. First 500 drawn traces: an independent computation makes a script and a requests file of each, and foresees
 what `replay` prints of them. Then the computation itself, by examples that were worked by hand and by rules that hold of every run,
 and the judge of traces, by 500 faulty files. Last the commands, each where the program has it."""
 
@@ -21,7 +21,7 @@ from trace import TraceFault, trace_of
 from traces import FAULTY_ENDS, Traces, good_ends
 
 # which of simulate, timeline, requests and hands the program has: what stands below of another one is not run
-COMMANDS = ()
+COMMANDS = ("simulate", "timeline", "requests", "hands")
 # those that take a patience
 PATIENT = ("simulate", "timeline")
 CONFIG = b'{"limit":2,"queues":2,"handSize":1}'
@@ -33,7 +33,7 @@ files = Files()
 # the same draws each time; APF_SEED draws others
 seed = int(os.environ.get("APF_SEED", "1040"))
 traces = Traces(random.Random(seed))
-TRACES = int(os.environ.get("APF_TRACES", "300"))
+TRACES = int(os.environ.get("APF_TRACES", "500"))
 FAULTY = int(os.environ.get("APF_FAULTY", "500"))
 print(f"seed {seed}")
 

@@ -8,18 +8,18 @@ use Rattle.clap.specs.Walk.{Row, Text, answers_to, nothing_held, rows_after, wal
 use Rattle.clap.specs.Simple.{Shape, argument_words, built, built_leaf, entered, inherited, is_simple, label_of, marked_built, names_of, rows_at, subcommand_of, with_leaf_noted}
 use Rattle.clap.specs.Faults.{entered_fault, fault_of, is_simple_and_free, level_fault}
 use Rattle.clap.proofs.OnLiterals.{clap_on_literals}
-use Rattle.apf_cli.specs.Commands.{apf_app, hash_shape, deal_shape, replay_shape, run_shape, services_shape, waits_shape, simulate_shape, timeline_shape, requests_shape, hands_shape}
-use Rattle.apf_cli.specs.Arguments.{HasDealArguments, HasHandsArguments, HasHashArguments, HasRequestsArguments, HasRunArguments, HasScriptArguments, HasSimulationArguments, IsCommand, is_deal, is_hands, is_hash, is_replay, is_requests, is_run, is_services, is_simulate, is_timeline, is_waits}
+use Rattle.apf_cli.specs.Commands.{apf_app, hash_shape, deal_shape, replay_shape, run_shape, services_shape, waits_shape, simulate_shape, timeline_shape, requests_shape, picture_shape, hands_shape, audit_shape}
+use Rattle.apf_cli.specs.Arguments.{HasAuditArguments, HasDealArguments, HasHandsArguments, HasHashArguments, HasRequestsArguments, HasRunArguments, HasScriptArguments, HasSimulationArguments, IsCommand, is_deal, is_hands, is_hash, is_picture, is_replay, is_requests, is_run, is_services, is_simulate, is_timeline, is_trace, is_waits}
 use Rattle.apf_cli.proofs.Taken.{Each, MayStop, found, is_plain_rule, walk_holds}
 use Rattle.apf_cli.proofs.Given.{all_given, level_parts, no_check, signed_reads, unsigned_reads}
 
 -- the program's commands have the form of which `clap` says what a parse gives, and when it fails
 pub apf_is_simple : is_simple apf_app ≡ true
-unfolding clap_on_literals apf_app hash_shape deal_shape replay_shape run_shape services_shape waits_shape simulate_shape timeline_shape requests_shape hands_shape
+unfolding clap_on_literals apf_app hash_shape deal_shape replay_shape run_shape services_shape waits_shape simulate_shape timeline_shape requests_shape picture_shape hands_shape audit_shape
 apf_is_simple = refl
 
 pub apf_is_free : is_simple_and_free apf_app ≡ true
-unfolding clap_on_literals apf_app hash_shape deal_shape replay_shape run_shape services_shape waits_shape simulate_shape timeline_shape requests_shape hands_shape
+unfolding clap_on_literals apf_app hash_shape deal_shape replay_shape run_shape services_shape waits_shape simulate_shape timeline_shape requests_shape picture_shape hands_shape audit_shape
 apf_is_free = refl
 
 -- the command as the parse has it
@@ -138,7 +138,29 @@ hands_given words e =
     let trace = given.1.0 refl refl in
     record { config = (config.text, config.first); trace = (trace.text, trace.first) }
 
--- a walk that stops at a name of this command leaves it words with no fault only where they are those of one of the ten
+picture_given : (words : List Text) → IsFaultFree (ready picture_shape) words → HasSimulationArguments (rows_after (ready picture_shape).rules [] words)
+unfolding apf_app picture_shape
+picture_given words e =
+    let given = all_given (ready picture_shape) (record { rules = refl; defaults = refl; negates = refl }) words e in
+    let config = given.0 refl refl in
+    let trace = given.1.0 refl refl in
+    let patience = given.1.1.0 refl refl in
+    let reads = signed_reads 32 0 1000000000 patience.text (lit< tt) patience.accepted in
+    record {
+      config = (config.text, config.first);
+      trace = (trace.text, trace.first);
+      patience = (reads.0, ((_, patience.one, reads.1), reads.3));
+    }
+
+trace_given : (words : List Text) → IsFaultFree (ready audit_shape) words → HasAuditArguments (rows_after (ready audit_shape).rules [] words)
+unfolding apf_app audit_shape
+trace_given words e =
+    let given = all_given (ready audit_shape) (record { rules = refl; defaults = refl; negates = refl }) words e in
+    let log = given.0 refl refl in
+    let schema = given.1.0 refl refl in
+    record { log = (log.text, log.first); schema = (schema.text, schema.first) }
+
+-- a walk that stops at a name of this command leaves it words with no fault only where they are those of one of the twelve
 abbrev IsEntered : Shape → Type 0
 IsEntered s = (name : Text) (words : List Text) → answers_to name (label_of s) ≡ true → MayStop (built apf_app).top (Some name) → IsFaultFree s words
     → IsCommand s.name (rows_after s.rules [] words)
@@ -158,45 +180,51 @@ help_stays name met stays = true≢false (sym here ∙ stays)
     here = ap (λ n. bytes_eq n (codes "help") && true) (sym is)
 
 each_entered : Each IsEntered (built apf_app).subs
-unfolding apf_app hash_shape deal_shape replay_shape run_shape services_shape waits_shape simulate_shape timeline_shape requests_shape hands_shape
+unfolding apf_app hash_shape deal_shape replay_shape run_shape services_shape waits_shape simulate_shape timeline_shape requests_shape picture_shape hands_shape audit_shape
 each_entered = (
   λ name words met stays e. is_hash refl (hash_given words e),
   (
-    λ name words met stays e. is_deal refl (deal_given words e),
-    (
-      λ name words met stays e. is_replay refl (replay_given words e),
-      (
-        λ name words met stays e. is_run refl (run_given words e),
-        (
-          λ name words met stays e. is_services refl (services_given words e),
-          (
-            λ name words met stays e. is_waits refl (waits_given words e),
-            (
-              λ name words met stays e. is_simulate refl (simulate_given words e),
-              (
-                λ name words met stays e. is_timeline refl (timeline_given words e),
-                (
-                  λ name words met stays e. is_requests refl (requests_given words e),
-                  (
-                    λ name words met stays e. is_hands refl (hands_given words e),
-                    (λ name words met stays e. absurd (help_stays name met stays), tt),
-                  ),
-                ),
-              ),
-            ),
-          ),
-        ),
-      ),
-    ),
-  ),
+  λ name words met stays e. is_deal refl (deal_given words e),
+  (
+  λ name words met stays e. is_replay refl (replay_given words e),
+  (
+  λ name words met stays e. is_run refl (run_given words e),
+  (
+  λ name words met stays e. is_services refl (services_given words e),
+  (
+  λ name words met stays e. is_waits refl (waits_given words e),
+  (
+  λ name words met stays e. is_simulate refl (simulate_given words e),
+  (
+  λ name words met stays e. is_timeline refl (timeline_given words e),
+  (
+  λ name words met stays e. is_requests refl (requests_given words e),
+  (
+  λ name words met stays e. is_picture refl (picture_given words e),
+  (
+  λ name words met stays e. is_hands refl (hands_given words e),
+  (
+  λ name words met stays e. is_trace refl (trace_given words e),
+  (λ name words met stays e. absurd (help_stays name met stays), tt),
+),
+),
+),
+),
+),
+),
+),
+),
+),
+),
+),
 )
 
 top_rules : list_all is_plain_rule (built apf_app).top.rules ≡ true
-unfolding apf_app hash_shape deal_shape replay_shape run_shape services_shape waits_shape simulate_shape timeline_shape requests_shape hands_shape
+unfolding apf_app hash_shape deal_shape replay_shape run_shape services_shape waits_shape simulate_shape timeline_shape requests_shape picture_shape hands_shape audit_shape
 top_rules = refl
 
 top_wants_command : (built apf_app).top.subcommand_required ≡ true
-unfolding apf_app hash_shape deal_shape replay_shape run_shape services_shape waits_shape simulate_shape timeline_shape requests_shape hands_shape
+unfolding apf_app hash_shape deal_shape replay_shape run_shape services_shape waits_shape simulate_shape timeline_shape requests_shape picture_shape hands_shape audit_shape
 top_wants_command = refl
 
 -- the command that the walk stopped at

@@ -34,7 +34,7 @@ pub record HasRunArguments (rows : List Row) : Type 0 where
   pub requests : HasText rows (codes "REQUESTS")
   pub workers : (n : ℕ) × IsWorkerCount rows n
 
--- the arguments of `simulate` and `timeline`
+-- the arguments of `simulate`, `timeline` and `picture`
 pub record HasSimulationArguments (rows : List Row) : Type 0 where
   pub config : HasText rows (codes "CONFIG")
   pub trace : HasText rows (codes "TRACE")
@@ -49,6 +49,11 @@ pub record HasHandsArguments (rows : List Row) : Type 0 where
   pub config : HasText rows (codes "CONFIG")
   pub trace : HasText rows (codes "TRACE")
 
+-- the arguments of `trace`
+pub record HasAuditArguments (rows : List Row) : Type 0 where
+  pub log : HasText rows (codes "AUDITLOG")
+  pub schema : HasText rows (codes "SCHEMA")
+
 -- the command is one of the program's, with its arguments
 pub data IsCommand (name : Text) (rows : List Row) : Type 0 where
   is_hash : name ≡ codes "hash" → HasHashArguments rows → IsCommand name rows
@@ -60,4 +65,6 @@ pub data IsCommand (name : Text) (rows : List Row) : Type 0 where
   is_simulate : name ≡ codes "simulate" → HasSimulationArguments rows → IsCommand name rows
   is_timeline : name ≡ codes "timeline" → HasSimulationArguments rows → IsCommand name rows
   is_requests : name ≡ codes "requests" → HasRequestsArguments rows → IsCommand name rows
+  is_picture : name ≡ codes "picture" → HasSimulationArguments rows → IsCommand name rows
   is_hands : name ≡ codes "hands" → HasHandsArguments rows → IsCommand name rows
+  is_trace : name ≡ codes "trace" → HasAuditArguments rows → IsCommand name rows

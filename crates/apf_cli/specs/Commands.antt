@@ -92,14 +92,23 @@ timeline_shape = command_shape (codes "timeline") simulation_rules
 unfoldable pub requests_shape : Shape
 requests_shape = command_shape (codes "requests") (text_rule (codes "TRACE") ∷ [])
 
+-- `picture CONFIG TRACE PATIENCE`
+unfoldable pub picture_shape : Shape
+picture_shape = command_shape (codes "picture") simulation_rules
+
 -- `hands CONFIG TRACE`
 unfoldable pub hands_shape : Shape
 hands_shape = command_shape (codes "hands") trace_rules
 
--- the program: one of its ten commands must be named, and it has a version
+-- `trace AUDITLOG SCHEMA`
+unfoldable pub audit_shape : Shape
+audit_shape = command_shape (codes "trace")
+    (text_rule (codes "AUDITLOG") ∷ text_rule (codes "SCHEMA") ∷ [])
+
+-- the program: one of its twelve commands must be named, and it has a version
 unfoldable pub apf_app : App
 apf_app = record {
   top = record (command_shape (codes "apf") []) { is_leaf = false; subcommand_required = true; has_version = true };
   subs = hash_shape ∷ deal_shape ∷ replay_shape ∷ run_shape ∷ services_shape ∷ waits_shape
-      ∷ simulate_shape ∷ timeline_shape ∷ requests_shape ∷ hands_shape ∷ [];
+      ∷ simulate_shape ∷ timeline_shape ∷ requests_shape ∷ picture_shape ∷ hands_shape ∷ audit_shape ∷ [];
 }

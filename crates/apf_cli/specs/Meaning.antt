@@ -4,7 +4,7 @@ use Rattle.std.specs.Str.Parse.{ParsesUnsigned}
 use Rattle.clap.specs.Words.{Row, Text, first_of, one_of, subcommand_of}
 use Rattle.apf_cli.specs.Commands.{apf_app}
 use Rattle.apf_cli.specs.declared.words.Action.{Action}
-use Rattle.apf_cli.specs.declared.words.Action.TheVariants.{Hash, Deal, Replay, Run, Services, Waits, Simulate, Timeline, Requests, Hands}
+use Rattle.apf_cli.specs.declared.words.Action.TheVariants.{Hash, Deal, Replay, Run, Services, Waits, Simulate, Timeline, Requests, Picture, Hands, Trace}
 
 -- the argument's text
 abbrev pub IsText : List Row → Text → Text → Type 0
@@ -50,8 +50,13 @@ AsksFor name rows (Timeline config trace patience) = (name ≡ codes "timeline")
     × IsPatience rows patience
 AsksFor name rows (Requests trace) = (name ≡ codes "requests")
     × IsText rows (codes "TRACE") trace.now
+AsksFor name rows (Picture config trace patience) = (name ≡ codes "picture")
+    × IsText rows (codes "CONFIG") config.now × IsText rows (codes "TRACE") trace.now
+    × IsPatience rows patience
 AsksFor name rows (Hands config trace) = (name ≡ codes "hands")
     × IsText rows (codes "CONFIG") config.now × IsText rows (codes "TRACE") trace.now
+AsksFor name rows (Trace log schema) = (name ≡ codes "trace")
+    × IsText rows (codes "AUDITLOG") log.now × IsText rows (codes "SCHEMA") schema.now
 
 -- the words name a command that asks for the action
 abbrev pub IsActionOf : List Text → Action → Type 0
@@ -67,4 +72,5 @@ HasWorkers _ = Unit {0}
 abbrev pub HasPatience : Action → Type 0
 HasPatience (Simulate config trace patience) = patience ≤ 1000000000
 HasPatience (Timeline config trace patience) = patience ≤ 1000000000
+HasPatience (Picture config trace patience) = patience ≤ 1000000000
 HasPatience _ = Unit {0}

@@ -4,7 +4,7 @@ ghost use Rattle.clap.specs.Words.{app_of, rule_of, shape_of};
 ghost use Rattle.clap.specs.declared.builder.command.Command.TheViews.{out-Command};
 ghost use Rattle.apf_cli.specs.Commands.{apf_app, command_shape, files_app, trace_app, simulation_rules, text_rule, number_rule};
 ghost use Rattle.apf_cli.specs.Commands.{hash_shape, deal_shape, replay_shape, run_shape, services_shape, waits_shape};
-ghost use Rattle.apf_cli.specs.Commands.{simulate_shape, timeline_shape, requests_shape, hands_shape};
+ghost use Rattle.apf_cli.specs.Commands.{simulate_shape, timeline_shape, requests_shape, picture_shape, hands_shape, audit_shape};
 
 use crate::help;
 use clap::builder::ValueParser;
@@ -212,6 +212,18 @@ fn requests_command<'a>(alloc: Global) -> Result<Command<'a>, AllocError>
         .arg(text(alloc, "TRACE", "Trace file of requests with their times"))
 }
 
+fn picture_command<'a>(alloc: Global) -> Result<Command<'a>, AllocError>
+    ensures shape { IfOk result (λ c. shape_of c ≡ picture_shape) }
+    ensures local { IfOk result (λ c. (out-Command c).has_globals ≡ false) }
+{
+    simulation_command(
+        alloc,
+        "picture",
+        "Simulate requests with times and draw the run as an SVG",
+        help::PICTURE,
+    )
+}
+
 fn hands_command<'a>(alloc: Global) -> Result<Command<'a>, AllocError>
     ensures shape { IfOk result (λ c. shape_of c ≡ hands_shape) }
     ensures local { IfOk result (λ c. (out-Command c).has_globals ≡ false) }
@@ -224,7 +236,18 @@ fn hands_command<'a>(alloc: Global) -> Result<Command<'a>, AllocError>
     )
 }
 
-/// The program's command line, of which one of the ten commands must be named.
+fn audit_command<'a>(alloc: Global) -> Result<Command<'a>, AllocError>
+    ensures shape { IfOk result (λ c. shape_of c ≡ audit_shape) }
+    ensures local { IfOk result (λ c. (out-Command c).has_globals ≡ false) }
+{
+    Command::new(alloc, "trace")
+        .about("Print the trace of a Kubernetes audit log")
+        .after_help(help::TRACE)
+        .arg(text(alloc, "AUDITLOG", "Audit log, one JSON event a line"))?
+        .arg(text(alloc, "SCHEMA", "Name of the flow schema of its requests"))
+}
+
+/// The program's command line, of which one of the twelve commands must be named.
 ///
 /// # Errors
 ///
@@ -248,5 +271,7 @@ pub(crate) fn apf_command<'a>(alloc: Global) -> Result<Command<'a>, AllocError>
         .subcommand(simulate_command(alloc)?)?
         .subcommand(timeline_command(alloc)?)?
         .subcommand(requests_command(alloc)?)?
-        .subcommand(hands_command(alloc)?)
+        .subcommand(picture_command(alloc)?)?
+        .subcommand(hands_command(alloc)?)?
+        .subcommand(audit_command(alloc)?)
 }

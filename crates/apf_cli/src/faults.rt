@@ -1,12 +1,14 @@
 //! Why the program ends with another status than 0, and the line that says so.
 
 use crate::files::Input;
+use apf_audit::AuditFault;
 use apf_flow::DealerFault;
 use apf_flows::HandsFault;
 use apf_run::{
     ConfigFault, LevelFault, ReplayFault, RequestFault, RunFault, ScriptFault, WriteFault,
 };
 use apf_traces::TraceFault;
+use std::alloc::AllocError;
 use std::fmt;
 
 /// Where a dealer's sizes come from.
@@ -25,6 +27,9 @@ pub enum Fault {
     Requests(RequestFault),
     Script(ScriptFault),
     Trace(TraceFault),
+    Audit(AuditFault),
+    /// The name of the flow schema is longer than a trace can hold.
+    LongSchema,
     /// The level was not opened, for another cause than the dealer's. What the readers accept has none.
     Level(ReplayFault),
     CannotRead(Input),
@@ -43,13 +48,14 @@ impl Fault {
     /// fault; 3 want of memory, or a worker that could not be started.
     pub fn status(&self) -> u8 {
         match self {
-            Fault::Dealer(_, Sizes::OfCommandLine) | Fault::TwoInputs => 2,
+            Fault::Dealer(_, Sizes::OfCommandLine) | Fault::TwoInputs | Fault::LongSchema => 2,
             Fault::Worker(_) | Fault::NoMemory => 3,
             Fault::Dealer(_, Sizes::OfConfig)
             | Fault::Config(_)
             | Fault::Requests(_)
             | Fault::Script(_)
             | Fault::Trace(_)
+            | Fault::Audit(_)
             | Fault::Level(_)
             | Fault::CannotRead(_)
             | Fault::TooLarge(_)
@@ -94,6 +100,15 @@ impl From<TraceFault> for Fault {
     }
 }
 
+impl From<AuditFault> for Fault {
+    fn from(fault: AuditFault) -> Fault {
+        match fault {
+            AuditFault::NoMemory => Fault::NoMemory,
+            _ => Fault::Audit(fault),
+        }
+    }
+}
+
 impl From<HandsFault> for Fault {
     fn from(fault: HandsFault) -> Fault {
         match fault {
@@ -122,6 +137,12 @@ impl From<RunFault> for Fault {
             RunFault::Gate(fault) => ReplayFault::Gate(fault).into(),
             RunFault::Level(fault) => ReplayFault::Level(fault).into(),
         }
+    }
+}
+
+impl From<AllocError> for Fault {
+    fn from(_refused: AllocError) -> Fault {
+        Fault::NoMemory
     }
 }
 
@@ -166,6 +187,14 @@ impl fmt::Display for Fault {
                     None => write!(f, "apf: trace fault {number}: {fault}"),
                 }
             }
+            Fault::Audit(fault) => {
+                let number = fault.number();
+                match fault.line() {
+                    Some(line) => write!(f, "apf: audit fault {number} at line {line}: {fault}"),
+                    None => write!(f, "apf: audit fault {number}: {fault}"),
+                }
+            }
+            Fault::LongSchema => f.write_str("apf: SCHEMA is longer than 4096 bytes"),
             Fault::Level(fault) => write!(f, "apf: the level can't be opened: {fault}"),
             Fault::CannotRead(input) => write!(f, "apf: cannot read {input}"),
             Fault::TooLarge(input) => {

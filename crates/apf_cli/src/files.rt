@@ -16,10 +16,11 @@ pub enum Input {
     Requests,
     Script,
     Trace,
+    AuditLog,
 }
 
 impl Input {
-    /// The most bytes that the file may have: 64 KiB, 16 MiB, 2 MiB and 64 MiB.
+    /// The most bytes that the file may have: 64 KiB, 16 MiB, 2 MiB, 64 MiB and 64 MiB.
     pub fn most(self) -> u32
         ensures { result ≡ most_bytes self }
     {
@@ -28,6 +29,7 @@ impl Input {
             Input::Requests => 16_777_216,
             Input::Script => 2_097_152,
             Input::Trace => 67_108_864,
+            Input::AuditLog => 67_108_864,
         }
     }
 }
@@ -39,6 +41,7 @@ impl fmt::Display for Input {
             Input::Requests => "requests",
             Input::Script => "script",
             Input::Trace => "trace",
+            Input::AuditLog => "audit log",
         })
     }
 }

@@ -215,3 +215,38 @@ Example:
 
 Status: 0 done, 1 a file's fault or output that can't be written, 2 a command line's fault,
 3 no memory.";
+
+/// Of `picture`.
+pub(crate) const PICTURE: &str = "\
+Draws the run that apf simulate makes, as one SVG with no script and no other file: the seats in use
+by flow against the limit, the queues that were used by their length, each request's wait as a bar
+in the row of its flow, and marks where a request was rejected or gave up. At most twelve flows have
+a row of their own, those with most requests. Times are microseconds in the files.
+
+It simulates this level by this project's rules, and not kube-apiserver. TRACE is JSON Lines, and
+PATIENCE is in microseconds; apf simulate --help says what they and CONFIG hold.
+
+Example:
+  apf picture config.json trace.jsonl 15000000 >picture.svg
+
+Status: 0 done, 1 a file's fault or output that can't be written, 2 a command line's fault,
+3 no memory.";
+
+/// Of `trace`.
+pub(crate) const TRACE: &str = "\
+Prints the trace of an audit log of a Kubernetes API server, for apf simulate: one line a request,
+in the order of their arrivals. AUDITLOG has one JSON object a line, an audit event. Taken are the
+events of stage ResponseComplete, but for the verb watch and the subresources exec, attach,
+portforward, proxy and log. At most 10000 events are taken.
+  schema         SCHEMA, at most 4096 bytes
+  distinguisher  the event's user.username
+  arrivesAt      its requestReceivedTimestamp, in microseconds from the earliest of those taken
+  runsFor        from there to its stageTimestamp, less the annotation
+                 apiserver.latency.k8s.io/apf-queue-wait where it stands
+
+Example, from a log to a picture:
+  apf trace audit.log users >trace.jsonl
+  apf picture config.json trace.jsonl 15000000 >picture.svg
+
+Status: 0 done, 1 a file's fault or output that can't be written, 2 a command line's fault or a
+SCHEMA that is too long, 3 no memory.";

@@ -4,15 +4,17 @@
 //!
 //! - `help`, `commands`, `words`: what a command line asks for, read by `clap`.
 //! - `files`: where the files' bytes come from.
-//! - `traces`: does the commands on a trace.
+//! - `traces`, `pictures`: do the commands on a trace. `audits`: does that on an audit log.
 //! - `program`: does the others, and answers the status.
 //! - `faults`: the lines on standard error.
 #![tactic(auto)]
 
+mod audits;
 mod commands;
 mod faults;
 mod files;
 mod help;
+mod pictures;
 mod program;
 mod traces;
 mod words;

@@ -6,6 +6,8 @@ ghost use Rattle.apf_cli.specs.Meaning.{HasPatience, HasWorkers};
 
 use crate::faults::{Fault, Sizes};
 use crate::files::{Files, Input, judge_names, read_input};
+use crate::audits::print_trace;
+use crate::pictures::print_picture;
 use crate::traces::{print_hands, print_requests, print_simulation, print_timeline};
 use crate::words::{Action, read_words};
 use apf_flow::{Dealer, flow_hash};
@@ -146,7 +148,13 @@ fn perform<F: Files, O: Write, R: Wait + Threads + Sync>(
             patience,
         } => print_timeline(rt, alloc, files, (config, trace), patience, out)?,
         Action::Requests { trace } => print_requests(alloc, files, trace, out)?,
+        Action::Picture {
+            config,
+            trace,
+            patience,
+        } => print_picture(rt, alloc, files, (config, trace), patience, out)?,
         Action::Hands { config, trace } => print_hands(alloc, files, (config, trace), out)?,
+        Action::Trace { log, schema } => print_trace(alloc, files, log, schema, out)?,
     }
     out.flush().map_err(|_| Fault::CannotWrite)
 }

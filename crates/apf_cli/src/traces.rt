@@ -1,6 +1,6 @@
 //! The commands on a trace: each reads its files, and prints.
 
-ghost use Rattle.std.specs.Prelude.{◌≤◌, All, IfOk, vec_len};
+ghost use Rattle.std.specs.Prelude.{◌≡◌, ◌≤◌, All, IfOk, vec_len};
 ghost use Rattle.apf_traces.specs.TraceFile.{max_lines};
 ghost use Rattle.apf_traces.specs.TraceValue.{IsRequestInRange};
 
@@ -42,19 +42,28 @@ fn read_both<F: Files>(
     Ok((config, trace))
 }
 
-// Reads the two files, and simulates the trace; the patience is in microseconds.
-fn simulated<F: Files, R: Wait>(
+/// A trace with the config of its level, and the simulation of both.
+pub(crate) type Simulated = (Config, Vec<TraceRequest>, Simulation);
+
+/// Reads the two files, and simulates the trace. The patience is 0 to 1,000,000,000 microseconds.
+///
+/// # Errors
+///
+/// The faults of the files in the order config, trace, then those of the level.
+pub(crate) fn simulated<F: Files, R: Wait>(
     rt: &R,
     alloc: Global,
     files: &mut F,
     names: (&str, &str),
     patience: u32,
-) -> Result<(Vec<TraceRequest>, Simulation), Fault>
+) -> Result<Simulated, Fault>
     requires { patience ≤ 1000000000 }
+    ensures few { IfOk result (λ o. vec_len o.1 ≤ max_lines) }
+    ensures each { IfOk result (λ o. vec_len o.2.ends ≡ vec_len o.1) }
 {
     let (config, trace) = read_both(alloc, files, names)?;
     let simulation = simulate(rt, alloc, &config, trace.as_slice(), u64::from(patience))?;
-    Ok((trace, simulation))
+    Ok((config, trace, simulation))
 }
 
 /// Simulates the trace on the level of the config, and prints what its flows met and the book.
@@ -74,7 +83,7 @@ pub(crate) fn print_simulation<F: Files, O: Write, R: Wait>(
 ) -> Result<(), Fault>
     requires { patience ≤ 1000000000 }
 {
-    let (trace, simulation) = simulated(rt, alloc, files, names, patience)?;
+    let (_config, trace, simulation) = simulated(rt, alloc, files, names, patience)?;
     simulation
         .write(trace.as_slice(), out)
         .map_err(|_| Fault::CannotWrite)?;
@@ -98,7 +107,7 @@ pub(crate) fn print_timeline<F: Files, O: Write, R: Wait>(
 ) -> Result<(), Fault>
     requires { patience ≤ 1000000000 }
 {
-    let (_, simulation) = simulated(rt, alloc, files, names, patience)?;
+    let (_config, _trace, simulation) = simulated(rt, alloc, files, names, patience)?;
     simulation
         .write_timeline(out)
         .map_err(|_| Fault::CannotWrite)

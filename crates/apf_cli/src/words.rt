@@ -6,7 +6,7 @@ ghost use Rattle.apf_cli.specs.Commands.{apf_app};
 ghost use Rattle.apf_cli.specs.Meaning.{AsksFor, IsActionOf, IsNumber, IsText};
 ghost use Rattle.apf_cli.specs.Arguments.{HasText, HasNumber, HasHashArguments, HasDealArguments};
 ghost use Rattle.apf_cli.specs.Arguments.{HasScriptArguments, HasRunArguments, IsCommand};
-ghost use Rattle.apf_cli.specs.Arguments.{HasSimulationArguments, HasRequestsArguments, HasHandsArguments};
+ghost use Rattle.apf_cli.specs.Arguments.{HasSimulationArguments, HasRequestsArguments, HasHandsArguments, HasAuditArguments};
 
 use crate::commands::apf_command;
 use clap::{ArgMatches, Error};
@@ -68,10 +68,22 @@ pub enum Action<'a> {
     Requests {
         trace: &'a str,
     },
+    /// Simulate a trace and draw the run as an SVG; the texts are file names, and the patience is 0 to
+    /// 1,000,000,000 microseconds.
+    Picture {
+        config: &'a str,
+        trace: &'a str,
+        patience: u32,
+    },
     /// Print the hand of each flow of a trace, and who shares it; the texts are file names.
     Hands {
         config: &'a str,
         trace: &'a str,
+    },
+    /// Print the trace of an audit log; the first text is a file name.
+    Trace {
+        log: &'a str,
+        schema: &'a str,
     },
 }
 
@@ -213,6 +225,17 @@ fn requests_action<'a>(matches: &ArgMatches<'a>) -> Action<'a>
     }
 }
 
+fn picture_action<'a>(matches: &ArgMatches<'a>) -> Action<'a>
+    requires { HasSimulationArguments (rows_of (found_of matches.now)) }
+    ensures { AsksFor (codes "picture") (rows_of (found_of matches.now)) result }
+{
+    Action::Picture {
+        config: text_of(matches, "CONFIG"),
+        trace: text_of(matches, "TRACE"),
+        patience: u32_of(matches, "PATIENCE"),
+    }
+}
+
 fn hands_action<'a>(matches: &ArgMatches<'a>) -> Action<'a>
     requires { HasHandsArguments (rows_of (found_of matches.now)) }
     ensures { AsksFor (codes "hands") (rows_of (found_of matches.now)) result }
@@ -220,6 +243,16 @@ fn hands_action<'a>(matches: &ArgMatches<'a>) -> Action<'a>
     Action::Hands {
         config: text_of(matches, "CONFIG"),
         trace: text_of(matches, "TRACE"),
+    }
+}
+
+fn trace_action<'a>(matches: &ArgMatches<'a>) -> Action<'a>
+    requires { HasAuditArguments (rows_of (found_of matches.now)) }
+    ensures { AsksFor (codes "trace") (rows_of (found_of matches.now)) result }
+{
+    Action::Trace {
+        log: text_of(matches, "AUDITLOG"),
+        schema: text_of(matches, "SCHEMA"),
     }
 }
 
@@ -246,8 +279,12 @@ fn action_of<'a>(name: &str, matches: &ArgMatches<'a>) -> Action<'a>
         timeline_action(matches)
     } else if name == "requests" {
         requests_action(matches)
-    } else {
+    } else if name == "picture" {
+        picture_action(matches)
+    } else if name == "hands" {
         hands_action(matches)
+    } else {
+        trace_action(matches)
     }
 }
 
@@ -256,7 +293,8 @@ fn action_of<'a>(name: &str, matches: &ArgMatches<'a>) -> Action<'a>
 /// Its texts and numbers are those that `clap` reads of the words, for the commands
 /// `hash SCHEMA DISTINGUISHER`, `deal DECK HAND HASH`, `replay CONFIG REQUESTS SCRIPT`,
 /// `run CONFIG REQUESTS WORKERS`, `services CONFIG REQUESTS SCRIPT`, `waits CONFIG REQUESTS SCRIPT`,
-/// `simulate CONFIG TRACE PATIENCE`, `timeline CONFIG TRACE PATIENCE`, `requests TRACE` and `hands CONFIG TRACE`.
+/// `simulate CONFIG TRACE PATIENCE`, `timeline CONFIG TRACE PATIENCE`, `requests TRACE`, `picture CONFIG TRACE PATIENCE`, `hands CONFIG TRACE`
+/// and `trace AUDITLOG SCHEMA`.
 /// `DECK` and `HAND` are whole decimal numbers of 32 bits, `HASH` is one of 64 bits, `WORKERS` is 1 to 64, and
 /// `PATIENCE` is 0 to 1,000,000,000 microseconds.
 ///

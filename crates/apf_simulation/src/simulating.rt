@@ -126,7 +126,8 @@ fn simulation_of(
     requires run { HasRun trace.now patience diary }
     requires decided { length report.decisions.items ≡ length trace.now }
     requires sums { AreSums report.counts (slice_get report.decisions.items) (length report.decisions.items) }
-    ensures { IfOk result (IsMadeOf limit trace.now patience diary report) }
+    ensures made { IfOk result (IsMadeOf limit trace.now patience diary report) }
+    ensures each { IfOk result (λ s. length s.ends.items ≡ length trace.now) }
 {
     are_of_trace(&diary, trace, patience);
     let flows = flows_of(alloc, trace)?;
@@ -173,6 +174,7 @@ pub fn simulate<R: Wait>(
     requires ranges { All IsRequestInRange trace.now }
     requires patience { patience ≤ 10 ^ 9 }
     ensures simulation { IfOk result (IsSimulation config.now trace.now patience) }
+    ensures each { IfOk result (λ s. length s.ends.items ≡ length trace.now) }
     ensures settings { OnOk result (CanOpen config.now (asks_of trace.now) 1) }
     ensures fault { IfErr result (IsOpenFault config.now (asks_of trace.now) 1) }
 {

@@ -20,7 +20,9 @@ returns c =
     let simulate = c.in_ok-subcommand-7.ensures.shape c.in_ok-simulate_command.ensures.local ∙ ap₂ with_subcommand waits c.in_ok-simulate_command.ensures.shape in
     let timeline = c.in_ok-subcommand-8.ensures.shape c.in_ok-timeline_command.ensures.local ∙ ap₂ with_subcommand simulate c.in_ok-timeline_command.ensures.shape in
     let requests = c.in_ok-subcommand-9.ensures.shape c.in_ok-requests_command.ensures.local ∙ ap₂ with_subcommand timeline c.in_ok-requests_command.ensures.shape in
+    let picture = c.in_ok-subcommand-10.ensures.shape c.in_ok-picture_command.ensures.local ∙ ap₂ with_subcommand requests c.in_ok-picture_command.ensures.shape in
+    let hands = c.in_ok-subcommand-11.ensures.shape c.in_ok-hands_command.ensures.local ∙ ap₂ with_subcommand picture c.in_ok-hands_command.ensures.shape in
     record {
-      app = IfOk-weaker c.subcommand-10.result _ _
-          (λ r h. h.shape c.in_ok-hands_command.ensures.local ∙ ap₂ with_subcommand requests c.in_ok-hands_command.ensures.shape) c.subcommand-10.ensures;
+      app = IfOk-weaker c.subcommand-12.result _ _
+          (λ r h. h.shape c.in_ok-audit_command.ensures.local ∙ ap₂ with_subcommand hands c.in_ok-audit_command.ensures.shape) c.subcommand-12.ensures;
     }

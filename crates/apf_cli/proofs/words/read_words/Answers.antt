@@ -1,4 +1,4 @@
--- A parse that succeeds has no fault, so it entered one of the ten commands, with its arguments.
+-- A parse that succeeds has no fault, so it entered one of the twelve commands, with its arguments.
 use Rattle.std.proofs.Common.{◌≡◌, ◌∙◌, [], ap, sym, subst}
 use Rattle.clap.specs.Words.{App, app_of, fault_of, found_of, is_simple_and_free, rows_of, subcommand_of}
 use Rattle.clap.specs.Walk.{texts}

@@ -45,7 +45,7 @@ returns-clause-simulation g c =
     let settings : opening.config ≡ config = c.in_ok-opening.ensures.config in
     let asks : opening.asks.now ≡ asks_of ts = c.in_ok-opening.ensures.asks ∙ (c.as_slice.ensures.value ∙ c.in_ok-asks.ensures) in
     let costs : c.as_slice-2.result.now ≡ costs_of ts = c.as_slice-2.ensures.value ∙ c.in_ok-costs.ensures in
-    let made = c.in_ok-simulation_of.ensures in
+    let made = c.in_ok-simulation_of.ensures.made in
     let same : r ≡ s.report = sym made.report in
     record {
       gate = opening.gate;

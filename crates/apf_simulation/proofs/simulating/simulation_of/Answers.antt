@@ -8,8 +8,8 @@ use Rattle.apf_simulation.proofs.Booked.{columns}
 use Rattle.apf_simulation.proofs.Timely.{waits_area, holdings_area}
 use Rattle.apf_simulation.proofs.simulating.simulation_of.Goals as goal
 
-pub returns : goal.returns
-returns c =
+pub returns-clause-made : goal.returns-clause-made
+returns-clause-made c =
     let limit = c.args.limit in
     let patience = c.args.patience in
     let ts = c.args.trace.now in

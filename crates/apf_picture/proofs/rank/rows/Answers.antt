@@ -13,5 +13,5 @@ loop-flow-preserved c =
 pub returns-clause-each : goal.returns-clause-each
 returns-clause-each c =
     let e : length c.loop-flow.rows.items ≡ c.loop-flow.flow =
-        ap (λ (xs : List ℕ). length xs) c.loop-flow.invariant ∙ length-map-range_with_len (row_of c.args.counts.now) 0 c.loop-flow.flow in
+    ap (λ (xs : List ℕ). length xs) c.loop-flow.invariant ∙ length-map-range_with_len (row_of c.args.counts.now) 0 c.loop-flow.flow in
     omega arith

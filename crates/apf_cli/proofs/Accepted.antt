@@ -184,39 +184,39 @@ unfolding apf_app hash_shape deal_shape replay_shape run_shape services_shape wa
 each_entered = (
   λ name words met stays e. is_hash refl (hash_given words e),
   (
-  λ name words met stays e. is_deal refl (deal_given words e),
-  (
-  λ name words met stays e. is_replay refl (replay_given words e),
-  (
-  λ name words met stays e. is_run refl (run_given words e),
-  (
-  λ name words met stays e. is_services refl (services_given words e),
-  (
-  λ name words met stays e. is_waits refl (waits_given words e),
-  (
-  λ name words met stays e. is_simulate refl (simulate_given words e),
-  (
-  λ name words met stays e. is_timeline refl (timeline_given words e),
-  (
-  λ name words met stays e. is_requests refl (requests_given words e),
-  (
-  λ name words met stays e. is_picture refl (picture_given words e),
-  (
-  λ name words met stays e. is_hands refl (hands_given words e),
-  (
-  λ name words met stays e. is_trace refl (trace_given words e),
-  (λ name words met stays e. absurd (help_stays name met stays), tt),
-),
-),
-),
-),
-),
-),
-),
-),
-),
-),
-),
+    λ name words met stays e. is_deal refl (deal_given words e),
+    (
+      λ name words met stays e. is_replay refl (replay_given words e),
+      (
+        λ name words met stays e. is_run refl (run_given words e),
+        (
+          λ name words met stays e. is_services refl (services_given words e),
+          (
+            λ name words met stays e. is_waits refl (waits_given words e),
+            (
+              λ name words met stays e. is_simulate refl (simulate_given words e),
+              (
+                λ name words met stays e. is_timeline refl (timeline_given words e),
+                (
+                  λ name words met stays e. is_requests refl (requests_given words e),
+                  (
+                    λ name words met stays e. is_picture refl (picture_given words e),
+                    (
+                      λ name words met stays e. is_hands refl (hands_given words e),
+                      (
+                        λ name words met stays e. is_trace refl (trace_given words e),
+                        (λ name words met stays e. absurd (help_stays name met stays), tt),
+                      ),
+                    ),
+                  ),
+                ),
+              ),
+            ),
+          ),
+        ),
+      ),
+    ),
+  ),
 )
 
 top_rules : list_all is_plain_rule (built apf_app).top.rules ≡ true

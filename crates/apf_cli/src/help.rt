@@ -66,6 +66,19 @@ SCRIPT has one command a line, each line ended by LF, and at most 100000 lines:
   close                          the level
   limit N                        the level's seats become N, 1 to 10000
 
+apf replay prints what became of each line, and then four lines, the book:
+  execute         the request has its seats, and runs
+  queued Q        it waits in queue Q
+  queue-full Q, closed, concurrency-limit   it is rejected: its queue was full, the level was
+                  closed, or it found no room on a level that rejects
+  dispatch N queue Q   a request that waited was given its seats
+  strike N queue Q     a cancelled request was taken out of its queue
+  level ..        whether the level is open, its seats in use, and how many requests wait
+  executed ..     requests by decision; the executed include those that still run
+  queue-full ..   the rejected by reason
+  entered ..      requests that entered a queue, were dispatched, and were struck
+apf services prints for each queue how many entered it, and the seats that they were given.
+
 Example:
   $ cat config.json requests.json script.txt
   {\"limit\":1}

@@ -14,11 +14,7 @@ use std::io::Write;
 use std::sync::Wait;
 
 // The queue that each of so many requests entered, if it entered one.
-fn queues_of(
-    alloc: Global,
-    log: &[Event],
-    requests: usize,
-) -> Result<Vec<Option<u32>>, AllocError>
+fn queues_of(alloc: Global, log: &[Event], requests: usize) -> Result<Vec<Option<u32>>, AllocError>
     ensures { IfOk result (λ queues. vec_len queues ≡ requests) }
 {
     let mut queues = vec![in alloc; None; requests]?;

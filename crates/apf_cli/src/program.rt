@@ -4,9 +4,9 @@ ghost use Rattle.std.specs.Prelude.{◌<◌, ◌≤◌, length, IfOk};
 ghost use Rattle.apf_run.specs.Limits.{max_requests};
 ghost use Rattle.apf_cli.specs.Meaning.{HasPatience, HasWorkers};
 
+use crate::audits::print_trace;
 use crate::faults::{Fault, Sizes};
 use crate::files::{Files, Input, judge_names, read_input};
-use crate::audits::print_trace;
 use crate::pictures::print_picture;
 use crate::traces::{print_hands, print_requests, print_simulation, print_timeline};
 use crate::words::{Action, read_words};

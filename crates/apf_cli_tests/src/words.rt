@@ -79,6 +79,23 @@ fn reads_texts(rt: HostRuntime) -> Result<(), Fail> {
     );
     let requests = read_words(alloc, &["apf", "requests", "t"])?;
     assert_eq!(rt; requests, Action::Requests { trace: "t" });
+    let trace = read_words(alloc, &["apf", "trace", "l", "s"])?;
+    assert_eq!(rt;
+        trace,
+        Action::Trace {
+            log: "l",
+            schema: "s"
+        }
+    );
+    let picture = read_words(alloc, &["apf", "picture", "c", "t", "7"])?;
+    assert_eq!(rt;
+        picture,
+        Action::Picture {
+            config: "c",
+            trace: "t",
+            patience: 7
+        }
+    );
     let hands = read_words(alloc, &["apf", "hands", "c", "t"])?;
     assert_eq!(rt;
         hands,

@@ -95,7 +95,8 @@ for name in wanted:
 for example in sorted(os.listdir(os.path.join(TOP, "examples"))):
     if os.path.isdir(os.path.join(TOP, "examples", example)):
         names = sorted(os.listdir(os.path.join(TOP, "examples", example)))
-        wanted = ["audit.log", "trace.jsonl"] if example == "audit" else ["config.json", "requests.json", "script.txt"]
+        level = ["config.json", "requests.json", "script.txt"]
+        wanted = {"audit": ["audit.log", "trace.jsonl"], "noisy-client": ["config.json", "picture.svg", *level[1:], "trace.jsonl"]}.get(example, level)
         tally.check(f"examples/{example}", names, wanted)
         shown = [it for it in ("README.md", os.path.join("docs", "FORMATS.md")) if f"examples/{example}/{wanted[0]}" in open(os.path.join(TOP, it)).read()]
         tally.check(f"examples/{example} is shown", len(shown) > 0, True)

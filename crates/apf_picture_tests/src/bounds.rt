@@ -1,13 +1,14 @@
-use crate::scenes::{all_executed, drawn, executed, request, times};
-use apf_flows::flows_of;
-use apf_picture::{Outcome, Picture, Scene};
+ghost use Rattle.std.specs.Prelude.{◌<◌};
+
+use crate::scenes::{all_executed, drawn, executed, picture_of, request, times};
+use apf_picture::Outcome;
 use apf_traces::TraceRequest;
 use std::alloc::Global;
 use std::test::Fail;
 
 #[test]
 fn no_request(rt: HostRuntime) -> Result<(), Fail> {
-    let text = drawn(rt.alloc(), &[], &[], 0)?;
+    let text = drawn(&rt, rt.alloc(), &[], &[], 0)?;
     let title = ">0 requests of 0 flows on 2 seats</title>";
     let axis = "<path class=\"line\" d=\"M0 0v230\"/>";
     assert_eq!(rt; times(text.as_slice(), title), 1);
@@ -28,7 +29,13 @@ fn late_times(rt: HostRuntime) -> Result<(), Fail> {
         executed(u64::MAX, Some(u32::MAX)),
         executed(u64::MAX, Some(0)),
     ];
-    let text = drawn(rt.alloc(), trace.as_slice(), outcomes.as_slice(), u64::MAX)?;
+    let text = drawn(
+        &rt,
+        rt.alloc(),
+        trace.as_slice(),
+        outcomes.as_slice(),
+        u64::MAX,
+    )?;
     assert_eq!(rt; times(text.as_slice(), "213503982 d 8 h in all"), 2);
     assert_eq!(rt; times(text.as_slice(), "d=\"M0 1h880M880 3h1\"/>"), 1);
     Ok(())
@@ -57,7 +64,13 @@ fn many(
 #[test]
 fn a_thousand_requests(rt: HostRuntime) -> Result<(), Fail> {
     let (trace, outcomes) = many(rt.alloc(), 1_000, 30, 64)?;
-    let text = drawn(rt.alloc(), trace.as_slice(), outcomes.as_slice(), 7_200)?;
+    let text = drawn(
+        &rt,
+        rt.alloc(),
+        trace.as_slice(),
+        outcomes.as_slice(),
+        7_200,
+    )?;
     assert_eq!(rt; times(text.as_slice(), ">18 other flows <tspan"), 1);
     assert!(rt; text.len() < 300_000);
     Ok(())
@@ -67,16 +80,8 @@ fn a_thousand_requests(rt: HostRuntime) -> Result<(), Fail> {
 fn a_writer_that_fails(rt: HostRuntime) -> Result<(), Fail> {
     let trace = [request(1, 0, 10)];
     let outcomes = all_executed(rt.alloc(), 1)?;
-    let whole = drawn(rt.alloc(), trace.as_slice(), outcomes.as_slice(), 10)?;
-    let flows = flows_of(rt.alloc(), trace.as_slice())?;
-    let scene = Scene {
-        limit: 2,
-        end: 10,
-        trace: trace.as_slice(),
-        flows: &flows,
-        outcomes: outcomes.as_slice(),
-    };
-    let picture = Picture::of(rt.alloc(), &scene)?;
+    let whole = drawn(&rt, rt.alloc(), trace.as_slice(), outcomes.as_slice(), 10)?;
+    let picture = picture_of(&rt, rt.alloc(), trace.as_slice(), outcomes.as_slice(), 10)?;
     let mut room: Vec<u8> = Vec::new(rt.alloc());
     for _ in 1..whole.len() {
         let mut out = room.as_mut_slice();

@@ -7,7 +7,7 @@ use std::test::Fail;
 fn escaped(rt: HostRuntime) -> Result<(), Fail> {
     let trace = [named(rt.alloc(), 3, "\0\u{1f}\u{fffe}\u{ffff}\u{7f}é'😀")?];
     let outcomes = all_executed(rt.alloc(), 1)?;
-    let text = drawn(rt.alloc(), trace.as_slice(), outcomes.as_slice(), 10)?;
+    let text = drawn(&rt, rt.alloc(), trace.as_slice(), outcomes.as_slice(), 10)?;
     let label = "a &quot;&lt;&amp;&gt;&quot; b / &#65533;&#65533;&#65533;&#65533;\u{7f}é'😀 <tspan";
     assert_eq!(rt; times(text.as_slice(), label), 1);
     Ok(())
@@ -20,7 +20,7 @@ fn cut(rt: HostRuntime) -> Result<(), Fail> {
         named(rt.alloc(), 4, "äbcdefghijklmnopqrstuvwxyzäbcde")?,
     ];
     let outcomes = all_executed(rt.alloc(), 2)?;
-    let text = drawn(rt.alloc(), trace.as_slice(), outcomes.as_slice(), 10)?;
+    let text = drawn(&rt, rt.alloc(), trace.as_slice(), outcomes.as_slice(), 10)?;
     assert_eq!(rt;
         times(text.as_slice(), "/ äbcdefghijklmnopqrstuvwxyzäbcd <tspan"),
         1
@@ -44,7 +44,7 @@ fn fourteen_flows(rt: HostRuntime) -> Result<(), Fail> {
     }
     trace.push(request(13, 0, 10))?;
     let outcomes = all_executed(rt.alloc(), trace.len())?;
-    let text = drawn(rt.alloc(), trace.as_slice(), outcomes.as_slice(), 10)?;
+    let text = drawn(&rt, rt.alloc(), trace.as_slice(), outcomes.as_slice(), 10)?;
     let first =
         "y=\"14\">000000000000000d <tspan class=\"note\">2 requests: 2 executed, 0 rejected, 0 gave up, longest wait 0 &#181;s<";
     let last_own = "y=\"14\">000000000000000a <tspan class=\"note\">1 request: 1 executed";

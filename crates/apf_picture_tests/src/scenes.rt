@@ -3,6 +3,7 @@ use apf_picture::{Outcome, Picture, Scene};
 use apf_traces::{FlowNames, TraceRequest};
 use apf_words::Decision;
 use std::alloc::Global;
+use std::process::Abort;
 use std::test::Fail;
 
 // A request of one seat.
@@ -47,12 +48,15 @@ pub(crate) fn all_executed(alloc: Global, requests: usize) -> Result<Vec<Outcome
 }
 
 // The picture of a run on a level of two seats.
-pub(crate) fn drawn(
+pub(crate) fn picture_of<R: Abort>(
+    rt: &R,
     alloc: Global,
     trace: &[TraceRequest],
     outcomes: &[Outcome],
     end: u64,
-) -> Result<Vec<u8>, Fail> {
+) -> Result<Picture, Fail> {
+    assert!(rt; trace.len() <= 10_000);
+    assert!(rt; outcomes.len() == trace.len());
     let flows = flows_of(alloc, trace)?;
     let scene = Scene {
         limit: 2,
@@ -61,8 +65,19 @@ pub(crate) fn drawn(
         flows: &flows,
         outcomes,
     };
+    Ok(Picture::of(alloc, &scene)?)
+}
+
+// Its text.
+pub(crate) fn drawn<R: Abort>(
+    rt: &R,
+    alloc: Global,
+    trace: &[TraceRequest],
+    outcomes: &[Outcome],
+    end: u64,
+) -> Result<Vec<u8>, Fail> {
     let mut out = Vec::new(alloc);
-    Picture::of(alloc, &scene)?.write(&mut out)?;
+    picture_of(rt, alloc, trace, outcomes, end)?.write(&mut out)?;
     Ok(out)
 }
 

@@ -3,11 +3,12 @@ use apf_picture::Outcome;
 use apf_traces::TraceRequest;
 use apf_words::Decision;
 use std::alloc::Global;
+use std::process::Abort;
 use std::test::Fail;
 
 // A crawler sends six requests at once: two execute, two wait in queue 1 and give up after 90, and two are rejected. Three
 // requests of another flow execute, after waits of 50, 60 and 0 in queue 0.
-fn small(alloc: Global) -> Result<Vec<u8>, Fail> {
+fn small<R: Abort>(rt: &R, alloc: Global) -> Result<Vec<u8>, Fail> {
     let trace = [
         request(9, 0, 100),
         request(9, 0, 100),
@@ -43,12 +44,12 @@ fn small(alloc: Global) -> Result<Vec<u8>, Fail> {
         executed(60, Some(0)),
         executed(0, None),
     ];
-    drawn(alloc, trace.as_slice(), outcomes.as_slice(), 420)
+    drawn(rt, alloc, trace.as_slice(), outcomes.as_slice(), 420)
 }
 
 #[test]
 fn in_words(rt: HostRuntime) -> Result<(), Fail> {
-    let text = small(rt.alloc())?;
+    let text = small(&rt, rt.alloc())?;
     let title = "<title id=\"title\">9 requests of 2 flows on 2 seats</title>";
     let whole = ">5 executed, 2 rejected, 2 gave up, longest wait 90 &#181;s, 420 &#181;s in all";
     let rest =
@@ -65,7 +66,7 @@ fn in_words(rt: HostRuntime) -> Result<(), Fail> {
 // A column is 420 / 880 of a microsecond. Two seats are in use up to 100, one up to 120, two up to 140, and one from 400 on.
 #[test]
 fn seats(rt: HostRuntime) -> Result<(), Fail> {
-    let text = small(rt.alloc())?;
+    let text = small(&rt, rt.alloc())?;
     let crawler = "<path class=\"f0\" d=\"M0 140H0V10H210V140H880V140z\"/>";
     let all = "<path class=\"f1\" d=\"M0 140H0V10H210V75H252V10H294V140H839V75H880V140z\"/>";
     assert_eq!(rt; times(text.as_slice(), crawler), 1);
@@ -80,7 +81,7 @@ fn seats(rt: HostRuntime) -> Result<(), Fail> {
 // Two wait in queue 1 up to 90, and in queue 0 one from 50, two from 60 and one from 100 to 120.
 #[test]
 fn queues(rt: HostRuntime) -> Result<(), Fail> {
-    let text = small(rt.alloc())?;
+    let text = small(&rt, rt.alloc())?;
     let one = "stroke-opacity=\".48\" d=\"M105 5h21M210 5h42\"/>";
     let two = "stroke-opacity=\".96\" d=\"M126 5h84M0 15h189\"/>";
     assert_eq!(rt; times(text.as_slice(), one), 1);
@@ -91,7 +92,7 @@ fn queues(rt: HostRuntime) -> Result<(), Fail> {
 
 #[test]
 fn requests(rt: HostRuntime) -> Result<(), Fail> {
-    let text = small(rt.alloc())?;
+    let text = small(&rt, rt.alloc())?;
     let crawler = "d=\"M0 1h1M0 3h1M0 5h188M0 7h188\"/>";
     let other = "d=\"M104 1h105M125 3h126M838 5h1\"/>";
     let rejected = "<path class=\"rejected\" d=\"M0 0v8M0 0v8\"/>";

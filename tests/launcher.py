@@ -90,7 +90,7 @@ class Checkout:
 # the tools that the launcher uses, and no other
 TOOLS = os.path.join(room.name, "tools")
 os.mkdir(TOOLS)
-for tool in ("bash", "sh", "env", "awk", "basename", "cat", "chmod", "cp", "dirname", "find", "mkdir", "mv", "readlink", "rm", "sha256sum", "sleep", "sort", "tr", "uname", "xargs"):
+for tool in ("bash", "sh", "env", "awk", "basename", "cat", "chmod", "cp", "dirname", "find", "mkdir", "mv", "nproc", "readlink", "rm", "seq", "sha256sum", "sleep", "sort", "tr", "uname", "xargs"):
     os.symlink(shutil.which(tool), os.path.join(TOOLS, tool))
 
 ALL = ["lib low", "lib middle", "lib apf_cli", "run apf"]
@@ -290,6 +290,66 @@ for name, number in (("interrupted", signal.SIGINT), ("ended", signal.SIGTERM), 
     tally.check(f"{name}: has not run", process.returncode != 7, True)
     os.remove(broken.notes + ".meanwhile")
     tally.check(f"{name}: built at the next call", broken.run(), (7, "first\n", [BEGIN, *PROGRESS], ALL))
+
+# crates that do not stand on one another are built side by side, where there are processors and memory
+SIDES = """low:
+left: low
+right: low
+apf: left right
+"""
+# each of the two waits for the other, and ends as a refusal where it waits in vain
+MEETS = r"""
+case $crate in left|right)
+  : >"$NOTES.$crate"
+  for _ in $(seq 200); do [ ! -f "$NOTES.left" ] || [ ! -f "$NOTES.right" ] || break; sleep 0.05; done
+  [ -f "$NOTES.left" ] && [ -f "$NOTES.right" ] || exit 1
+  mkdir -p out/incremental && echo $crate >out/incremental/work ;;
+esac
+"""
+
+
+def two_sides(name, meanwhile):
+    checkout = Checkout(name)
+    write(os.path.join(checkout.top, "HANDLES"), "Handles allowed: none.\n")
+    write(os.path.join(checkout.top, "crates.txt"), SIDES)
+    write(os.path.join(checkout.top, "bin", "nproc"), "#!/bin/sh\necho 4\n", 0o755)
+    for crate in ("left", "right"):
+        write(checkout.path(crate, "src", "lib.rt"), crate)
+    write(checkout.notes + ".meanwhile", meanwhile)
+    return checkout
+
+
+def in_rooms(checkout):
+    return os.path.exists(checkout.path("apf", "out", "rooms"))
+
+
+with open("/proc/meminfo", encoding="ascii") as file:
+    memory = int(next(line for line in file if line.startswith("MemAvailable")).split()[1])
+if memory < 8000000:
+    print("note: too little memory to build crates side by side")
+else:
+    sides = two_sides("sides", MEETS)
+    status, out, err, calls = sides.run("x")
+    tally.check("two crates side by side", (status, out, sorted(calls)), (7, "first x\n", ["lib left", "lib low", "lib right", "run apf"]))
+    tally.check("the lowest first, and the program last", (calls[0], calls[-1]), ("lib low", "run apf"))
+    tally.check("one line for each", err[1:], [f"apf: proving {it}, {3 - place} more to follow" for place, it in enumerate(("low", "left", "right", "apf"))])
+    tally.check("the work of both is kept", [os.path.exists(sides.path(it, "out", "incremental", "work")) for it in ("left", "right")], [True, True])
+    tally.check("no folder of it is left", in_rooms(sides), False)
+    for refused in ("left", "right"):
+        broken = two_sides("sides-" + refused, MEETS + f'[ $crate != {refused} ] || {{ echo "error: the goal is open"; exit 1; }}\n')
+        status, out, err, calls = broken.run()
+        tally.check(f"{refused} is refused beside the other", (status, out, err[-2:]), (1, "", ["error: the goal is open", f"apf: the program could not be built: {refused} was refused"]))
+        tally.check(f"{refused} is refused: its work is kept, and no folder is left", (os.path.exists(broken.path(refused, "out", "incremental", "work")), in_rooms(broken)), (True, False))
+    for name, number in (("interrupted", signal.SIGINT), ("ended", signal.SIGTERM)):
+        ended = two_sides("sides-" + name, '[ $crate = low ] || { echo $$ >"$NOTES.$crate"; exec sleep 60; }\n')
+        process = subprocess.Popen([os.path.join(ended.top, "apf")], stdout=subprocess.DEVNULL, stderr=subprocess.DEVNULL, **ended.how())
+        files = [f"{ended.notes}.{it}" for it in ("left", "right")]
+        while not all(os.path.exists(it) and open(it).read().endswith("\n") for it in files):
+            time.sleep(0.02)
+        process.send_signal(number)
+        tally.check(f"{name}: the launcher alone", process.wait(timeout=30), 130)
+        tally.check(f"{name}: what it had begun is ended", [os.path.exists(f"/proc/{open(it).read().strip()}") for it in files], [False, False])
+        tally.check(f"{name}: no folder is left", in_rooms(ended), False)
 
 # a test script where the program can't be built says so in the launcher's line, and counts
 unbuilt = Checkout("unbuilt")

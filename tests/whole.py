@@ -137,6 +137,18 @@ status, lines, calls = tested("in order", WELL, late, ("soon\n1 passed, 0 failed
 want = ["== python3 tests/0.py", "begins", "late", "1 passed, 0 failed", "== python3 tests/1.py", "soon", "1 passed, 0 failed", "5 passed, 0 failed"]
 tally.check("test: what each script says stands whole, in order", (status, lines[lines.index(want[0]):]), (0, want))
 
+# a script counts by its own status, also where the system has given its process's number to another since: here, where
+# that may be chosen, to the process that the shell starts next
+FIRST = "open('group.new', 'w').write(str(os.getpgrp()))\nos.rename('group.new', 'group')"
+LAST = """while not os.path.exists('group'): time.sleep(0.02)
+group = int(open('group').read())
+while os.path.exists(f'/proc/{group}'): time.sleep(0.02)
+try: open('/proc/sys/kernel/ns_last_pid', 'w').write(str(group - 1))
+except OSError: pass"""
+plain = ("1 passed, 0 failed", 0)
+status, lines, calls = tested("a number given again", WELL, (*plain, LAST), (*plain, FIRST))
+tally.check("test: a process's number given again", (status, lines[-1]), (0, "5 passed, 0 failed"))
+
 # no more at once than there are processors
 alone = ("1 passed, 0 failed", 0, "os.mkdir('busy')\ntime.sleep(0.3)\nos.rmdir('busy')")
 status, lines, calls = tested("one processor", WELL, alone, alone, alone, processors=1)

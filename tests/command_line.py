@@ -39,7 +39,7 @@ for words, line in [
     tally.check(" ".join(words), run(program, words), (2, b"", line))
 
 # help that is asked for goes to standard output, and has a line for each command, argument and file
-COMMANDS = ["  hash ", "  deal ", "  replay ", "  run ", "  services ", "  waits ", "  simulate ", "  timeline ", "  requests ", "  picture ", "  hands ", "  trace "]
+COMMANDS = ["  hash ", "  deal ", "  replay ", "  run ", "  services ", "  waits ", "  explain ", "  simulate ", "  timeline ", "  requests ", "  picture ", "  hands ", "  trace "]
 COMMANDS += ["apf hash workload-low alice", "  2 "]
 DEAL = ["<DECK>", "<HAND>", "<HASH>", "printf %u 0x", "not positive", "hand too large", "deck too large", "too much entropy"]
 SCRIPT = ["<CONFIG>", "<REQUESTS>", "<SCRIPT>"]
@@ -68,6 +68,7 @@ for words, says in [
     (["picture", "--help"], PATIENCE + ["SVG", "apf simulate --help"]),
     (["trace", "--help"], ["<AUDITLOG>", "<SCHEMA>", "user.username", "requestReceivedTimestamp", "microseconds", "4096 bytes"]),
     (["hands", "--help"], LEVEL + ["flow H hand Q1 Q2 .. of SCHEMA DISTINGUISHER", "shares Q .. with H SCHEMA DISTINGUISHER", "covered by H"]),
+    (["explain", "--help"], SCRIPT + ["prints one line", "prints nothing", "apf: config fault 5: bad value of limit"]),
     (["waits", "--help"], SCRIPT + ["request R queue Q ahead A most M all T", "twice the widest"]),
 ]:
     status, out, err = run(program, words)
@@ -117,6 +118,8 @@ for words in [
     ["replay", "a", "b"],
     ["services", "a", "b"],
     ["waits", "a", "b"],
+    ["explain", "a", "b"],
+    ["explain", "a", "b", "c", "d"],
     ["run", "a", "b"],
     ["run", "a", "b", "0"],
     ["run", "a", "b", "65"],

@@ -17,6 +17,10 @@ config = files("config", '{"limit":2,"queues":1,"handSize":1,"queueLengthLimit":
 requests = files("requests", '[{"hash":0,"width":5},{"schema":"a","distinguisher":"b","work":3,"cancels":0,"closes":true}]')
 script = files("script", "arrive 0\narrive 1\nfinish 0\nfinish 0\narrive 1\n")
 bad = files("bad", "[{]")
+# files of which `explain` has something to say: an unknown key, a hand that is too large, a width
+unknown = files("unknown", '{"limit":2,"color":"red"}')
+uneven = files("uneven", '{"limit":2,"queues":3}')
+wide = files("wide", '[{"hash":0},{"hash":0,"width":20001}]')
 marker = os.path.join(files.folder.name, "refused")
 WANT = (3, b"", b"apf: out of memory\n")
 # each request fits, so that the book comes out so in every schedule
@@ -54,6 +58,7 @@ for words, status in (
     (["replay", config, requests, script], 0),
     (["services", config, requests, script], 0),
     (["waits", config, requests, script], 0),
+    (["explain", config, requests, script], 0),
     (["run", config, requests, "1"], 0),
     (["simulate", tight, trace, "0"], 0),
     (["simulate", tight, trace, "3"], 0),
@@ -72,6 +77,12 @@ for words, status in (
     (["replay", config, bad, script], 1),
     (["replay", config, requests, bad], 1),
     (["replay", config, requests, "missing"], 1),
+    (["explain", unknown, requests, script], 1),
+    (["explain", uneven, requests, script], 1),
+    (["explain", config, bad, script], 1),
+    (["explain", config, wide, script], 1),
+    (["explain", config, requests, bad], 1),
+    (["explain", config, "missing", script], 1),
     (["simulate", tight, cut, "0"], 1),
     (["hands", tight, "missing"], 1),
 ):

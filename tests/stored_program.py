@@ -65,7 +65,7 @@ def printed(program):
     """What the program prints for each example that has a script."""
     examples = sorted(it for it in os.listdir(os.path.join(TOP, "examples")) if os.path.exists(os.path.join(TOP, "examples", it, "script.txt")))
     files = [[os.path.join(TOP, "examples", it, name) for name in ("config.json", "requests.json", "script.txt")] for it in examples]
-    calls = [[program, command, *names] for names in files for command in ("replay", "services", "waits")]
+    calls = [[program, command, *names] for names in files for command in ("replay", "services", "waits", "explain")]
     return [(it.returncode, it.stdout, it.stderr) for it in (subprocess.run(call, capture_output=True) for call in calls)]
 
 

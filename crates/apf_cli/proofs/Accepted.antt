@@ -8,18 +8,21 @@ use Rattle.clap.specs.Walk.{Row, Text, answers_to, nothing_held, rows_after, wal
 use Rattle.clap.specs.Simple.{Shape, argument_words, built, built_leaf, entered, inherited, is_simple, label_of, marked_built, names_of, rows_at, subcommand_of, with_leaf_noted}
 use Rattle.clap.specs.Faults.{entered_fault, fault_of, is_simple_and_free, level_fault}
 use Rattle.clap.proofs.OnLiterals.{clap_on_literals}
-use Rattle.apf_cli.specs.Commands.{apf_app, hash_shape, deal_shape, replay_shape, run_shape, services_shape, waits_shape, simulate_shape, timeline_shape, requests_shape, picture_shape, hands_shape, audit_shape}
-use Rattle.apf_cli.specs.Arguments.{HasAuditArguments, HasDealArguments, HasHandsArguments, HasHashArguments, HasRequestsArguments, HasRunArguments, HasScriptArguments, HasSimulationArguments, IsCommand, is_deal, is_hands, is_hash, is_picture, is_replay, is_requests, is_run, is_services, is_simulate, is_timeline, is_trace, is_waits}
+use Rattle.apf_cli.specs.Commands.{apf_app, command_shape, rules_of, script_rules, shape_for, simulation_rules}
+use Rattle.apf_cli.specs.Names.{text_of}
+use Rattle.apf_cli.specs.declared.names.CommandName.{CommandName}
+use Rattle.apf_cli.specs.declared.names.CommandName.TheVariants.{Hash, Deal, Replay, Run, Services, Waits, Explain, Simulate, Timeline, Requests, Picture, Hands, Trace}
+use Rattle.apf_cli.specs.Arguments.{HasArguments, HasAuditArguments, HasDealArguments, HasHandsArguments, HasHashArguments, HasRequestsArguments, HasRunArguments, HasScriptArguments, HasSimulationArguments, IsCommand}
 use Rattle.apf_cli.proofs.Taken.{Each, MayStop, found, is_plain_rule, walk_holds}
 use Rattle.apf_cli.proofs.Given.{all_given, level_parts, no_check, signed_reads, unsigned_reads}
 
 -- the program's commands have the form of which `clap` says what a parse gives, and when it fails
 pub apf_is_simple : is_simple apf_app ≡ true
-unfolding clap_on_literals apf_app hash_shape deal_shape replay_shape run_shape services_shape waits_shape simulate_shape timeline_shape requests_shape picture_shape hands_shape audit_shape
+unfolding clap_on_literals apf_app shape_for
 apf_is_simple = refl
 
 pub apf_is_free : is_simple_and_free apf_app ≡ true
-unfolding clap_on_literals apf_app hash_shape deal_shape replay_shape run_shape services_shape waits_shape simulate_shape timeline_shape requests_shape picture_shape hands_shape audit_shape
+unfolding clap_on_literals apf_app shape_for
 apf_is_free = refl
 
 -- the command as the parse has it
@@ -30,18 +33,18 @@ ready s = built_leaf (inherited (with_leaf_noted (marked_built apf_app.top)) s)
 abbrev IsFaultFree : Shape → List Text → Type 0
 IsFaultFree s words = level_fault s [] nothing_held words false [] ≡ []
 
-hash_given : (words : List Text) → IsFaultFree (ready hash_shape) words → HasHashArguments (rows_after (ready hash_shape).rules [] words)
-unfolding apf_app hash_shape
+hash_given : (words : List Text) → IsFaultFree (ready (shape_for Hash)) words → HasHashArguments (rows_after (ready (shape_for Hash)).rules [] words)
+unfolding apf_app shape_for
 hash_given words e =
-    let given = all_given (ready hash_shape) (record { rules = refl; defaults = refl; negates = refl }) words e in
+    let given = all_given (ready (shape_for Hash)) (record { rules = refl; defaults = refl; negates = refl }) words e in
     let schema = given.0 refl refl in
     let distinguisher = given.1.0 refl refl in
     record { schema = (schema.text, schema.first); distinguisher = (distinguisher.text, distinguisher.first) }
 
-deal_given : (words : List Text) → IsFaultFree (ready deal_shape) words → HasDealArguments (rows_after (ready deal_shape).rules [] words)
-unfolding apf_app deal_shape
+deal_given : (words : List Text) → IsFaultFree (ready (shape_for Deal)) words → HasDealArguments (rows_after (ready (shape_for Deal)).rules [] words)
+unfolding apf_app shape_for
 deal_given words e =
-    let given = all_given (ready deal_shape) (record { rules = refl; defaults = refl; negates = refl }) words e in
+    let given = all_given (ready (shape_for Deal)) (record { rules = refl; defaults = refl; negates = refl }) words e in
     let deck = given.0 refl refl in
     let hand = given.1.0 refl refl in
     let hash = given.1.1.0 refl refl in
@@ -54,19 +57,10 @@ deal_given words e =
       hash = (hash_reads.0, (_, hash.one, hash_reads.1));
     }
 
-replay_given : (words : List Text) → IsFaultFree (ready replay_shape) words → HasScriptArguments (rows_after (ready replay_shape).rules [] words)
-unfolding apf_app replay_shape
-replay_given words e =
-    let given = all_given (ready replay_shape) (record { rules = refl; defaults = refl; negates = refl }) words e in
-    let config = given.0 refl refl in
-    let requests = given.1.0 refl refl in
-    let script = given.1.1.0 refl refl in
-    record { config = (config.text, config.first); requests = (requests.text, requests.first); script = (script.text, script.first) }
-
-run_given : (words : List Text) → IsFaultFree (ready run_shape) words → HasRunArguments (rows_after (ready run_shape).rules [] words)
-unfolding apf_app run_shape
+run_given : (words : List Text) → IsFaultFree (ready (shape_for Run)) words → HasRunArguments (rows_after (ready (shape_for Run)).rules [] words)
+unfolding apf_app shape_for
 run_given words e =
-    let given = all_given (ready run_shape) (record { rules = refl; defaults = refl; negates = refl }) words e in
+    let given = all_given (ready (shape_for Run)) (record { rules = refl; defaults = refl; negates = refl }) words e in
     let config = given.0 refl refl in
     let requests = given.1.0 refl refl in
     let workers = given.1.1.0 refl refl in
@@ -77,71 +71,42 @@ run_given words e =
       workers = (reads.0, ((_, workers.one, reads.1), reads.2, reads.3));
     }
 
-services_given : (words : List Text) → IsFaultFree (ready services_shape) words → HasScriptArguments (rows_after (ready services_shape).rules [] words)
-unfolding apf_app services_shape
-services_given words e =
-    let given = all_given (ready services_shape) (record { rules = refl; defaults = refl; negates = refl }) words e in
-    let config = given.0 refl refl in
-    let requests = given.1.0 refl refl in
-    let script = given.1.1.0 refl refl in
-    record { config = (config.text, config.first); requests = (requests.text, requests.first); script = (script.text, script.first) }
-
-waits_given : (words : List Text) → IsFaultFree (ready waits_shape) words → HasScriptArguments (rows_after (ready waits_shape).rules [] words)
-unfolding apf_app waits_shape
-waits_given words e =
-    let given = all_given (ready waits_shape) (record { rules = refl; defaults = refl; negates = refl }) words e in
-    let config = given.0 refl refl in
-    let requests = given.1.0 refl refl in
-    let script = given.1.1.0 refl refl in
-    record { config = (config.text, config.first); requests = (requests.text, requests.first); script = (script.text, script.first) }
-
-simulate_given : (words : List Text) → IsFaultFree (ready simulate_shape) words → HasSimulationArguments (rows_after (ready simulate_shape).rules [] words)
-unfolding apf_app simulate_shape
-simulate_given words e =
-    let given = all_given (ready simulate_shape) (record { rules = refl; defaults = refl; negates = refl }) words e in
-    let config = given.0 refl refl in
-    let trace = given.1.0 refl refl in
-    let patience = given.1.1.0 refl refl in
-    let reads = signed_reads 32 0 1000000000 patience.text (lit< tt) patience.accepted in
-    record {
-      config = (config.text, config.first);
-      trace = (trace.text, trace.first);
-      patience = (reads.0, ((_, patience.one, reads.1), reads.3));
-    }
-
-timeline_given : (words : List Text) → IsFaultFree (ready timeline_shape) words → HasSimulationArguments (rows_after (ready timeline_shape).rules [] words)
-unfolding apf_app timeline_shape
-timeline_given words e =
-    let given = all_given (ready timeline_shape) (record { rules = refl; defaults = refl; negates = refl }) words e in
-    let config = given.0 refl refl in
-    let trace = given.1.0 refl refl in
-    let patience = given.1.1.0 refl refl in
-    let reads = signed_reads 32 0 1000000000 patience.text (lit< tt) patience.accepted in
-    record {
-      config = (config.text, config.first);
-      trace = (trace.text, trace.first);
-      patience = (reads.0, ((_, patience.one, reads.1), reads.3));
-    }
-
-requests_given : (words : List Text) → IsFaultFree (ready requests_shape) words → HasRequestsArguments (rows_after (ready requests_shape).rules [] words)
-unfolding apf_app requests_shape
+requests_given : (words : List Text) → IsFaultFree (ready (shape_for Requests)) words → HasRequestsArguments (rows_after (ready (shape_for Requests)).rules [] words)
+unfolding apf_app shape_for
 requests_given words e =
-    let given = all_given (ready requests_shape) (record { rules = refl; defaults = refl; negates = refl }) words e in
+    let given = all_given (ready (shape_for Requests)) (record { rules = refl; defaults = refl; negates = refl }) words e in
     let trace = given.0 refl refl in
     record { trace = (trace.text, trace.first) }
 
-hands_given : (words : List Text) → IsFaultFree (ready hands_shape) words → HasHandsArguments (rows_after (ready hands_shape).rules [] words)
-unfolding apf_app hands_shape
+hands_given : (words : List Text) → IsFaultFree (ready (shape_for Hands)) words → HasHandsArguments (rows_after (ready (shape_for Hands)).rules [] words)
+unfolding apf_app shape_for
 hands_given words e =
-    let given = all_given (ready hands_shape) (record { rules = refl; defaults = refl; negates = refl }) words e in
+    let given = all_given (ready (shape_for Hands)) (record { rules = refl; defaults = refl; negates = refl }) words e in
     let config = given.0 refl refl in
     let trace = given.1.0 refl refl in
     record { config = (config.text, config.first); trace = (trace.text, trace.first) }
 
-picture_given : (words : List Text) → IsFaultFree (ready picture_shape) words → HasSimulationArguments (rows_after (ready picture_shape).rules [] words)
-unfolding apf_app picture_shape
-picture_given words e =
-    let given = all_given (ready picture_shape) (record { rules = refl; defaults = refl; negates = refl }) words e in
+trace_given : (words : List Text) → IsFaultFree (ready (shape_for Trace)) words → HasAuditArguments (rows_after (ready (shape_for Trace)).rules [] words)
+unfolding apf_app shape_for
+trace_given words e =
+    let given = all_given (ready (shape_for Trace)) (record { rules = refl; defaults = refl; negates = refl }) words e in
+    let log = given.0 refl refl in
+    let schema = given.1.0 refl refl in
+    record { log = (log.text, log.first); schema = (schema.text, schema.first) }
+
+script_given : (name : Text) (words : List Text) → IsFaultFree (ready (command_shape name script_rules)) words → HasScriptArguments (rows_after (ready (command_shape name script_rules)).rules [] words)
+unfolding apf_app
+script_given name words e =
+    let given = all_given (ready (command_shape name script_rules)) (record { rules = refl; defaults = refl; negates = refl }) words e in
+    let config = given.0 refl refl in
+    let requests = given.1.0 refl refl in
+    let script = given.1.1.0 refl refl in
+    record { config = (config.text, config.first); requests = (requests.text, requests.first); script = (script.text, script.first) }
+
+simulation_given : (name : Text) (words : List Text) → IsFaultFree (ready (command_shape name simulation_rules)) words → HasSimulationArguments (rows_after (ready (command_shape name simulation_rules)).rules [] words)
+unfolding apf_app
+simulation_given name words e =
+    let given = all_given (ready (command_shape name simulation_rules)) (record { rules = refl; defaults = refl; negates = refl }) words e in
     let config = given.0 refl refl in
     let trace = given.1.0 refl refl in
     let patience = given.1.1.0 refl refl in
@@ -152,13 +117,23 @@ picture_given words e =
       patience = (reads.0, ((_, patience.one, reads.1), reads.3));
     }
 
-trace_given : (words : List Text) → IsFaultFree (ready audit_shape) words → HasAuditArguments (rows_after (ready audit_shape).rules [] words)
-unfolding apf_app audit_shape
-trace_given words e =
-    let given = all_given (ready audit_shape) (record { rules = refl; defaults = refl; negates = refl }) words e in
-    let log = given.0 refl refl in
-    let schema = given.1.0 refl refl in
-    record { log = (log.text, log.first); schema = (schema.text, schema.first) }
+-- a command whose words have no fault has its arguments
+arguments_given : (command : CommandName) (words : List Text) → IsFaultFree (ready (shape_for command)) words
+    → HasArguments command (rows_after (ready (shape_for command)).rules [] words)
+unfolding shape_for
+arguments_given Hash words e = hash_given words e
+arguments_given Deal words e = deal_given words e
+arguments_given Replay words e = script_given (text_of Replay) words e
+arguments_given Run words e = run_given words e
+arguments_given Services words e = script_given (text_of Services) words e
+arguments_given Waits words e = script_given (text_of Waits) words e
+arguments_given Explain words e = script_given (text_of Explain) words e
+arguments_given Simulate words e = simulation_given (text_of Simulate) words e
+arguments_given Timeline words e = simulation_given (text_of Timeline) words e
+arguments_given Requests words e = requests_given words e
+arguments_given Picture words e = simulation_given (text_of Picture) words e
+arguments_given Hands words e = hands_given words e
+arguments_given Trace words e = trace_given words e
 
 -- a walk that stops at a name of this command leaves it words with no fault only where they are those of one of the twelve
 abbrev IsEntered : Shape → Type 0
@@ -179,52 +154,24 @@ help_stays name met stays = true≢false (sym here ∙ stays)
     here : (bytes_eq name (codes "help") && true) ≡ true
     here = ap (λ n. bytes_eq n (codes "help") && true) (sym is)
 
+-- a walk that stops at the name of a command
+enters : (command : CommandName) → IsEntered (ready (shape_for command))
+unfolding apf_app shape_for
+enters command name words met stays e = record { command = command; named = refl; arguments = arguments_given command words e }
+
 each_entered : Each IsEntered (built apf_app).subs
-unfolding apf_app hash_shape deal_shape replay_shape run_shape services_shape waits_shape simulate_shape timeline_shape requests_shape picture_shape hands_shape audit_shape
+unfolding apf_app
 each_entered = (
-  λ name words met stays e. is_hash refl (hash_given words e),
-  (
-    λ name words met stays e. is_deal refl (deal_given words e),
-    (
-      λ name words met stays e. is_replay refl (replay_given words e),
-      (
-        λ name words met stays e. is_run refl (run_given words e),
-        (
-          λ name words met stays e. is_services refl (services_given words e),
-          (
-            λ name words met stays e. is_waits refl (waits_given words e),
-            (
-              λ name words met stays e. is_simulate refl (simulate_given words e),
-              (
-                λ name words met stays e. is_timeline refl (timeline_given words e),
-                (
-                  λ name words met stays e. is_requests refl (requests_given words e),
-                  (
-                    λ name words met stays e. is_picture refl (picture_given words e),
-                    (
-                      λ name words met stays e. is_hands refl (hands_given words e),
-                      (
-                        λ name words met stays e. is_trace refl (trace_given words e),
-                        (λ name words met stays e. absurd (help_stays name met stays), tt),
-                      ),
-                    ),
-                  ),
-                ),
-              ),
-            ),
-          ),
-        ),
-      ),
-    ),
-  ),
+  enters Hash,
+  (enters Deal, (enters Replay, (enters Run, (enters Services, (enters Waits, (enters Explain, (enters Simulate, (enters Timeline, (enters Requests, (enters Picture, (enters Hands, (enters Trace, ((λ name words met stays e. absurd (help_stays name met stays)), tt))))))))))))),
 )
 
 top_rules : list_all is_plain_rule (built apf_app).top.rules ≡ true
-unfolding apf_app hash_shape deal_shape replay_shape run_shape services_shape waits_shape simulate_shape timeline_shape requests_shape picture_shape hands_shape audit_shape
+unfolding apf_app shape_for
 top_rules = refl
 
 top_wants_command : (built apf_app).top.subcommand_required ≡ true
-unfolding apf_app hash_shape deal_shape replay_shape run_shape services_shape waits_shape simulate_shape timeline_shape requests_shape picture_shape hands_shape audit_shape
+unfolding apf_app shape_for
 top_wants_command = refl
 
 -- the command that the walk stopped at

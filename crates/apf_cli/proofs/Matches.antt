@@ -1,4 +1,4 @@
--- What the getters of `clap`'s matches answer, by the rows.
+-- What the getters of `clap`'s matches answer, by the rows, and which command they name.
 use Rattle.std.proofs.Common.{◌≡◌, ℕ, List, [], Option, Some, None, Result, Ok, Err, Box, refl, sym, ap, subst, true, is_some, option_map, unwrap_or, ◌∙◌}
 use Rattle.std.specs.Borrow.{Bor}
 use Rattle.std.specs.Prelude.{IsSome}
@@ -9,7 +9,11 @@ use Rattle.clap.specs.declared.parser.matches.ArgMatches.{ArgMatches}
 use Rattle.apf_cli.specs.Commands.{apf_app}
 use Rattle.clap.specs.declared.parser.matches.ArgMatches.TheViews.{out-SubCommand}
 use Rattle.clap.specs.declared.parser.matches.SubCommand.{SubCommand}
-use Rattle.apf_cli.specs.Arguments.{IsCommand}
+use Rattle.apf_cli.specs.Arguments.{HasArguments, IsCommand}
+use Rattle.apf_cli.specs.Names.{command_named, text_of}
+use Rattle.apf_cli.specs.declared.names.CommandName.{CommandName}
+use Rattle.apf_cli.specs.declared.names.CommandName.TheVariants.{Hash, Deal, Replay, Run, Services, Waits, Explain, Simulate, Timeline, Requests, Picture, Hands, Trace}
+use Rattle.clap.proofs.OnLiterals.{clap_on_literals}
 use Rattle.apf_cli.proofs.Accepted.{Entered, apf_is_free, apf_is_simple}
 
 pub text_there : (r : Option (Bor Text)) (t : Text) → option_map (λ s. s.now) r ≡ Some t → IsSome r
@@ -55,3 +59,30 @@ parse_of a words m is has faultless = record {
   faultless = subst (λ (x : App). fault_of x words ≡ []) is (faultless (ap is_simple_and_free is ∙ apf_is_free));
   met = (has (ap is_simple is ∙ apf_is_simple)).1 ∙ ap (λ x. subcommand_of x words) is;
 }
+
+of_its_name : (command : CommandName) → command_named (text_of command) ≡ Some command
+unfolding clap_on_literals command_named
+of_its_name Hash = refl
+of_its_name Deal = refl
+of_its_name Replay = refl
+of_its_name Run = refl
+of_its_name Services = refl
+of_its_name Waits = refl
+of_its_name Explain = refl
+of_its_name Simulate = refl
+of_its_name Timeline = refl
+of_its_name Requests = refl
+of_its_name Picture = refl
+of_its_name Hands = refl
+of_its_name Trace = refl
+
+-- the command that was found by the name of a command
+pub command_found : (name : Text) (rows : List Row) (found : Option CommandName) (is : IsCommand name rows) → found ≡ command_named name
+    → found ≡ Some is.command
+command_found name rows found is e = e ∙ (ap command_named is.named ∙ of_its_name is.command)
+
+pub command_as : (name : Text) (rows : List Row) (found : Option CommandName) (command : CommandName) → IsCommand name rows → found ≡ command_named name
+    → found ≡ Some command → (name ≡ text_of command) × HasArguments command rows
+command_as name rows found command is e some =
+    let same : is.command ≡ command = ap (λ o. unwrap_or o command) (sym (command_found name rows found is e) ∙ some) in
+    (is.named ∙ ap text_of same, subst (λ (it : CommandName). HasArguments it rows) same is.arguments)

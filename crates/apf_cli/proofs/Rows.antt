@@ -4,7 +4,7 @@ use Rattle.clap.specs.Words.{Text, fault_of, first_of, one_of, subcommand_of}
 use Rattle.clap.specs.Kinds.{Kinds}
 use Rattle.clap.specs.declared.error.kind.ErrorKind.TheVariants as kind
 use Rattle.clap.proofs.OnLiterals.{clap_on_literals}
-use Rattle.apf_cli.specs.Commands.{apf_app, hash_shape, deal_shape, replay_shape, run_shape, services_shape, waits_shape, simulate_shape, timeline_shape, requests_shape, picture_shape, hands_shape, audit_shape}
+use Rattle.apf_cli.specs.Commands.{apf_app, shape_for}
 
 -- the kinds of error of the words after the program's name
 abbrev fault : List Text → Kinds
@@ -34,7 +34,7 @@ record HasFaults : Type 0 where
   deal_help : fault (codes "deal" ∷ codes "--help" ∷ []) ≡ kind.DisplayHelp ∷ []
 
 refused_rows : HasFaults
-unfolding clap_on_literals apf_app hash_shape deal_shape replay_shape run_shape services_shape waits_shape simulate_shape timeline_shape requests_shape picture_shape hands_shape audit_shape
+unfolding clap_on_literals apf_app shape_for
 refused_rows = record {
   nothing = refl;
   short = refl;
@@ -66,7 +66,7 @@ record IsAccepted : Type 0 where
   hands_trace : text (codes "hands" ∷ codes "a" ∷ codes "b" ∷ []) (codes "TRACE") ≡ Some (codes "hands", Some (codes "b"))
 
 accepted_rows : IsAccepted
-unfolding clap_on_literals apf_app hash_shape deal_shape replay_shape run_shape services_shape waits_shape simulate_shape timeline_shape requests_shape picture_shape hands_shape audit_shape
+unfolding clap_on_literals apf_app shape_for
 accepted_rows = record {
   empty = refl;
   dashes = refl;

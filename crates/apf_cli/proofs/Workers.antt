@@ -2,7 +2,7 @@
 use Rattle.std.proofs.Common.{List, arith}
 use Rattle.clap.specs.Words.{Row, Text}
 use Rattle.apf_cli.specs.declared.words.Action.{Action}
-use Rattle.apf_cli.specs.declared.words.Action.TheVariants.{Hash, Deal, Replay, Run, Services, Waits, Simulate, Timeline, Requests, Picture, Hands, Trace}
+use Rattle.apf_cli.specs.declared.words.Action.TheVariants.{Hash, Deal, Replay, Run, Services, Waits, Explain, Simulate, Timeline, Requests, Picture, Hands, Trace}
 use Rattle.apf_cli.specs.Meaning.{AsksFor, IsActionOf, HasWorkers, HasPatience}
 
 some_workers : (name : Text) (rows : List Row) (action : Action) → AsksFor name rows action → HasWorkers action
@@ -12,6 +12,7 @@ some_workers name rows (Deal deck hand hash) is = tt
 some_workers name rows (Replay config requests script) is = tt
 some_workers name rows (Services config requests script) is = tt
 some_workers name rows (Waits config requests script) is = tt
+some_workers name rows (Explain config requests script) is = tt
 some_workers name rows (Simulate config trace patience) is = tt
 some_workers name rows (Timeline config trace patience) is = tt
 some_workers name rows (Requests trace) is = tt
@@ -29,6 +30,7 @@ some_patience name rows (Replay config requests script) is = tt
 some_patience name rows (Run config requests workers) is = tt
 some_patience name rows (Services config requests script) is = tt
 some_patience name rows (Waits config requests script) is = tt
+some_patience name rows (Explain config requests script) is = tt
 some_patience name rows (Requests trace) is = tt
 some_patience name rows (Hands config trace) is = tt
 some_patience name rows (Trace log schema) is = tt

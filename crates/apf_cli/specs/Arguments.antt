@@ -2,6 +2,9 @@
 use Rattle.std.specs.Prelude.{◌≡◌, ℕ, List, codes}
 use Rattle.clap.specs.Words.{Row, Text}
 use Rattle.apf_cli.specs.Meaning.{IsNumber, IsPatience, IsText, IsWorkerCount}
+use Rattle.apf_cli.specs.Names.{text_of}
+use Rattle.apf_cli.specs.declared.names.CommandName.{CommandName}
+use Rattle.apf_cli.specs.declared.names.CommandName.TheVariants.{Hash, Deal, Replay, Run, Services, Waits, Explain, Simulate, Timeline, Requests, Picture, Hands, Trace}
 
 -- the argument has a text
 abbrev pub HasText : List Row → Text → Type 0
@@ -22,7 +25,7 @@ pub record HasDealArguments (rows : List Row) : Type 0 where
   pub hand : HasNumber 32 rows (codes "HAND")
   pub hash : HasNumber 64 rows (codes "HASH")
 
--- the arguments of `replay`, `services` and `waits`
+-- the arguments of `replay`, `services`, `waits` and `explain`
 pub record HasScriptArguments (rows : List Row) : Type 0 where
   pub config : HasText rows (codes "CONFIG")
   pub requests : HasText rows (codes "REQUESTS")
@@ -54,17 +57,24 @@ pub record HasAuditArguments (rows : List Row) : Type 0 where
   pub log : HasText rows (codes "AUDITLOG")
   pub schema : HasText rows (codes "SCHEMA")
 
+-- the arguments of a command
+abbrev pub HasArguments : CommandName → List Row → Type 0
+HasArguments Hash rows = HasHashArguments rows
+HasArguments Deal rows = HasDealArguments rows
+HasArguments Replay rows = HasScriptArguments rows
+HasArguments Run rows = HasRunArguments rows
+HasArguments Services rows = HasScriptArguments rows
+HasArguments Waits rows = HasScriptArguments rows
+HasArguments Explain rows = HasScriptArguments rows
+HasArguments Simulate rows = HasSimulationArguments rows
+HasArguments Timeline rows = HasSimulationArguments rows
+HasArguments Requests rows = HasRequestsArguments rows
+HasArguments Picture rows = HasSimulationArguments rows
+HasArguments Hands rows = HasHandsArguments rows
+HasArguments Trace rows = HasAuditArguments rows
+
 -- the command is one of the program's, with its arguments
-pub data IsCommand (name : Text) (rows : List Row) : Type 0 where
-  is_hash : name ≡ codes "hash" → HasHashArguments rows → IsCommand name rows
-  is_deal : name ≡ codes "deal" → HasDealArguments rows → IsCommand name rows
-  is_replay : name ≡ codes "replay" → HasScriptArguments rows → IsCommand name rows
-  is_run : name ≡ codes "run" → HasRunArguments rows → IsCommand name rows
-  is_services : name ≡ codes "services" → HasScriptArguments rows → IsCommand name rows
-  is_waits : name ≡ codes "waits" → HasScriptArguments rows → IsCommand name rows
-  is_simulate : name ≡ codes "simulate" → HasSimulationArguments rows → IsCommand name rows
-  is_timeline : name ≡ codes "timeline" → HasSimulationArguments rows → IsCommand name rows
-  is_requests : name ≡ codes "requests" → HasRequestsArguments rows → IsCommand name rows
-  is_picture : name ≡ codes "picture" → HasSimulationArguments rows → IsCommand name rows
-  is_hands : name ≡ codes "hands" → HasHandsArguments rows → IsCommand name rows
-  is_trace : name ≡ codes "trace" → HasAuditArguments rows → IsCommand name rows
+pub record IsCommand (name : Text) (rows : List Row) : Type 0 where
+  pub command : CommandName
+  pub named : name ≡ text_of command
+  pub arguments : HasArguments command rows

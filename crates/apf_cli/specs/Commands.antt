@@ -1,8 +1,12 @@
 -- The program's commands, as `clap` declares them.
 use Rattle.std.specs.Prelude.{List, [], ◌∷◌, ◌++◌, Some, true, false, codes, pos}
 use Rattle.clap.specs.Words.{App, Rule, Shape, Text, new_app, new_rule}
+use Rattle.clap.specs.Simple.{with_subcommand}
 use Rattle.clap.specs.declared.builder.value_parser.ValueParser.{ValueParser}
 use Rattle.clap.specs.declared.builder.value_parser.ValueParser.TheVariants.{Signed, Unsigned}
+use Rattle.apf_cli.specs.Names.{text_of}
+use Rattle.apf_cli.specs.declared.names.CommandName.{CommandName}
+use Rattle.apf_cli.specs.declared.names.CommandName.TheVariants.{Hash, Deal, Replay, Run, Services, Waits, Explain, Simulate, Timeline, Requests, Picture, Hands, Trace}
 
 -- a text that must be given
 abbrev pub text_rule : Text → Rule
@@ -28,87 +32,73 @@ worker_count = Signed (pos 1) (pos 64)
 abbrev pub patience_range : ValueParser
 patience_range = Signed (pos 0) (pos 1000000000)
 
--- a command that takes these arguments, in this order
-abbrev pub command_shape : Text → List Rule → Shape
-command_shape name rules = record (new_app name).top { rules = rules }
-
--- `hash SCHEMA DISTINGUISHER`
-unfoldable pub hash_shape : Shape
-hash_shape = command_shape (codes "hash")
-    (text_rule (codes "SCHEMA") ∷ text_rule (codes "DISTINGUISHER") ∷ [])
-
--- `deal DECK HAND HASH`
-unfoldable pub deal_shape : Shape
-deal_shape = command_shape (codes "deal")
-    (number_rule (codes "DECK") any_u32 ∷ number_rule (codes "HAND") any_u32
-    ∷ number_rule (codes "HASH") any_u64 ∷ [])
-
 -- the arguments of a command that reads a configuration file and a requests file
 abbrev pub file_rules : List Rule
 file_rules = text_rule (codes "CONFIG") ∷ text_rule (codes "REQUESTS") ∷ []
 
--- a command that takes those two files so far
-abbrev pub files_app : Text → App
-files_app name = record { top = command_shape name file_rules; subs = [] }
-
--- `replay CONFIG REQUESTS SCRIPT`
-unfoldable pub replay_shape : Shape
-replay_shape = command_shape (codes "replay") (file_rules ++ text_rule (codes "SCRIPT") ∷ [])
-
--- `run CONFIG REQUESTS WORKERS`
-unfoldable pub run_shape : Shape
-run_shape = command_shape (codes "run")
-    (file_rules ++ number_rule (codes "WORKERS") worker_count ∷ [])
-
--- `services CONFIG REQUESTS SCRIPT`
-unfoldable pub services_shape : Shape
-services_shape = command_shape (codes "services") (file_rules ++ text_rule (codes "SCRIPT") ∷ [])
-
--- `waits CONFIG REQUESTS SCRIPT`
-unfoldable pub waits_shape : Shape
-waits_shape = command_shape (codes "waits") (file_rules ++ text_rule (codes "SCRIPT") ∷ [])
+-- the arguments of a command that reads a script
+abbrev pub script_rules : List Rule
+script_rules = file_rules ++ text_rule (codes "SCRIPT") ∷ []
 
 -- the arguments of a command that reads a configuration file and a trace
 abbrev pub trace_rules : List Rule
 trace_rules = text_rule (codes "CONFIG") ∷ text_rule (codes "TRACE") ∷ []
 
--- a command that takes those two files so far
-abbrev pub trace_app : Text → App
-trace_app name = record { top = command_shape name trace_rules; subs = [] }
-
 -- the arguments of a command that simulates a trace
 abbrev pub simulation_rules : List Rule
 simulation_rules = trace_rules ++ number_rule (codes "PATIENCE") patience_range ∷ []
 
--- `simulate CONFIG TRACE PATIENCE`
-unfoldable pub simulate_shape : Shape
-simulate_shape = command_shape (codes "simulate") simulation_rules
+-- the arguments of each command, in their order
+abbrev pub rules_of : CommandName → List Rule
+rules_of Hash = text_rule (codes "SCHEMA") ∷ text_rule (codes "DISTINGUISHER") ∷ []
+rules_of Deal =
+    number_rule (codes "DECK") any_u32 ∷ number_rule (codes "HAND") any_u32 ∷ number_rule (codes "HASH") any_u64 ∷ []
+rules_of Replay = script_rules
+rules_of Run = file_rules ++ number_rule (codes "WORKERS") worker_count ∷ []
+rules_of Services = script_rules
+rules_of Waits = script_rules
+rules_of Explain = script_rules
+rules_of Simulate = simulation_rules
+rules_of Timeline = simulation_rules
+rules_of Requests = text_rule (codes "TRACE") ∷ []
+rules_of Picture = simulation_rules
+rules_of Hands = trace_rules
+rules_of Trace = text_rule (codes "AUDITLOG") ∷ text_rule (codes "SCHEMA") ∷ []
 
--- `timeline CONFIG TRACE PATIENCE`
-unfoldable pub timeline_shape : Shape
-timeline_shape = command_shape (codes "timeline") simulation_rules
+-- a command that takes these arguments
+abbrev pub command_shape : Text → List Rule → Shape
+command_shape name rules = record (new_app name).top { rules = rules }
 
--- `requests TRACE`
-unfoldable pub requests_shape : Shape
-requests_shape = command_shape (codes "requests") (text_rule (codes "TRACE") ∷ [])
+-- the same, before it is part of the program
+abbrev pub app_with : Text → List Rule → App
+app_with name rules = record { top = command_shape name rules; subs = [] }
 
--- `picture CONFIG TRACE PATIENCE`
-unfoldable pub picture_shape : Shape
-picture_shape = command_shape (codes "picture") simulation_rules
+-- the command, as `clap` has it
+unfoldable pub shape_for : CommandName → Shape
+shape_for command = command_shape (text_of command) (rules_of command)
 
--- `hands CONFIG TRACE`
-unfoldable pub hands_shape : Shape
-hands_shape = command_shape (codes "hands") trace_rules
+-- the commands in their order: on flows, on configs and requests, on traces
+abbrev pub flow_commands : List CommandName
+flow_commands = Hash ∷ Deal ∷ []
 
--- `trace AUDITLOG SCHEMA`
-unfoldable pub audit_shape : Shape
-audit_shape = command_shape (codes "trace")
-    (text_rule (codes "AUDITLOG") ∷ text_rule (codes "SCHEMA") ∷ [])
+abbrev pub level_commands : List CommandName
+level_commands = Replay ∷ Run ∷ Services ∷ Waits ∷ Explain ∷ []
 
--- the program: one of its twelve commands must be named, and it has a version
-unfoldable pub apf_app : App
-apf_app = record {
-  top = record (command_shape (codes "apf") []) { is_leaf = false; subcommand_required = true; has_version = true };
-  subs = hash_shape ∷ deal_shape ∷ replay_shape ∷ run_shape ∷ services_shape ∷ waits_shape
-      ∷ simulate_shape ∷ timeline_shape ∷ requests_shape ∷ picture_shape ∷ hands_shape ∷ audit_shape ∷ [];
+abbrev pub trace_commands : List CommandName
+trace_commands = Simulate ∷ Timeline ∷ Requests ∷ Picture ∷ Hands ∷ Trace ∷ []
+
+-- the program with these commands behind its own
+abbrev pub with_commands : List CommandName → App → App
+with_commands [] app = app
+with_commands (command ∷ commands) app = with_commands commands (with_subcommand app (shape_for command))
+
+-- the program before it has a command: one must be named, and it has a version
+abbrev pub bare_app : App
+bare_app = record {
+  top = record (command_shape (codes "apf") []) { subcommand_required = true; has_version = true };
+  subs = [];
 }
+
+-- the program with its thirteen commands
+unfoldable pub apf_app : App
+apf_app = with_commands trace_commands (with_commands level_commands (with_commands flow_commands bare_app))

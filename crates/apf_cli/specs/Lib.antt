@@ -1,4 +1,5 @@
 pub mod Commands
 pub mod Meaning
+pub mod Names
 pub mod Arguments
 pub mod Sizes

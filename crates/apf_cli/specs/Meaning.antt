@@ -4,7 +4,7 @@ use Rattle.std.specs.Str.Parse.{ParsesUnsigned}
 use Rattle.clap.specs.Words.{Row, Text, first_of, one_of, subcommand_of}
 use Rattle.apf_cli.specs.Commands.{apf_app}
 use Rattle.apf_cli.specs.declared.words.Action.{Action}
-use Rattle.apf_cli.specs.declared.words.Action.TheVariants.{Hash, Deal, Replay, Run, Services, Waits, Simulate, Timeline, Requests, Picture, Hands, Trace}
+use Rattle.apf_cli.specs.declared.words.Action.TheVariants.{Hash, Deal, Replay, Run, Services, Waits, Explain, Simulate, Timeline, Requests, Picture, Hands, Trace}
 
 -- the argument's text
 abbrev pub IsText : List Row → Text → Text → Type 0
@@ -40,6 +40,9 @@ AsksFor name rows (Services config requests script) = (name ≡ codes "services"
     × IsText rows (codes "CONFIG") config.now × IsText rows (codes "REQUESTS") requests.now
     × IsText rows (codes "SCRIPT") script.now
 AsksFor name rows (Waits config requests script) = (name ≡ codes "waits")
+    × IsText rows (codes "CONFIG") config.now × IsText rows (codes "REQUESTS") requests.now
+    × IsText rows (codes "SCRIPT") script.now
+AsksFor name rows (Explain config requests script) = (name ≡ codes "explain")
     × IsText rows (codes "CONFIG") config.now × IsText rows (codes "REQUESTS") requests.now
     × IsText rows (codes "SCRIPT") script.now
 AsksFor name rows (Simulate config trace patience) = (name ≡ codes "simulate")

@@ -2,9 +2,8 @@
 ghost use Rattle.std.specs.Prelude.{◌≡◌, IfOk, false};
 ghost use Rattle.clap.specs.Words.{app_of, rule_of, shape_of};
 ghost use Rattle.clap.specs.declared.builder.command.Command.TheViews.{out-Command};
-ghost use Rattle.apf_cli.specs.Commands.{apf_app, command_shape, files_app, trace_app, simulation_rules, text_rule, number_rule};
-ghost use Rattle.apf_cli.specs.Commands.{hash_shape, deal_shape, replay_shape, run_shape, services_shape, waits_shape};
-ghost use Rattle.apf_cli.specs.Commands.{simulate_shape, timeline_shape, requests_shape, picture_shape, hands_shape, audit_shape};
+ghost use Rattle.apf_cli.specs.Commands.{apf_app, app_with, flow_commands, level_commands, trace_commands, with_commands, command_shape, file_rules, script_rules, trace_rules, simulation_rules, shape_for, text_rule, number_rule};
+ghost use Rattle.apf_cli.specs.declared.names.CommandName.TheVariants as named;
 
 use crate::help;
 use clap::builder::ValueParser;
@@ -31,7 +30,7 @@ fn number<'a>(alloc: Global, id: &'a str, parser: ValueParser<'a>, help: &'a str
 }
 
 fn hash_command<'a>(alloc: Global) -> Result<Command<'a>, AllocError>
-    ensures shape { IfOk result (λ c. shape_of c ≡ hash_shape) }
+    ensures shape { IfOk result (λ c. shape_of c ≡ shape_for named.Hash) }
     ensures local { IfOk result (λ c. (out-Command c).has_globals ≡ false) }
 {
     Command::new(alloc, "hash")
@@ -46,7 +45,7 @@ fn hash_command<'a>(alloc: Global) -> Result<Command<'a>, AllocError>
 }
 
 fn deal_command<'a>(alloc: Global) -> Result<Command<'a>, AllocError>
-    ensures shape { IfOk result (λ c. shape_of c ≡ deal_shape) }
+    ensures shape { IfOk result (λ c. shape_of c ≡ shape_for named.Deal) }
     ensures local { IfOk result (λ c. (out-Command c).has_globals ≡ false) }
 {
     Command::new(alloc, "deal")
@@ -74,7 +73,7 @@ fn files_command<'a>(
     about: &'a str,
     after_help: &'a str,
 ) -> Result<Command<'a>, AllocError>
-    ensures app { IfOk result (λ c. app_of c ≡ files_app name.entry.now) }
+    ensures app { IfOk result (λ c. app_of c ≡ app_with name.entry.now file_rules) }
     ensures local { IfOk result (λ c. (out-Command c).has_globals ≡ false) }
 {
     Command::new(alloc, name)
@@ -84,21 +83,33 @@ fn files_command<'a>(
         .arg(text(alloc, "REQUESTS", "Requests file"))
 }
 
-fn replay_command<'a>(alloc: Global) -> Result<Command<'a>, AllocError>
-    ensures shape { IfOk result (λ c. shape_of c ≡ replay_shape) }
+// A command that reads a script.
+fn script_command<'a>(
+    alloc: Global,
+    name: &'a str,
+    about: &'a str,
+    after_help: &'a str,
+) -> Result<Command<'a>, AllocError>
+    ensures shape { IfOk result (λ c. shape_of c ≡ command_shape name.entry.now script_rules) }
     ensures local { IfOk result (λ c. (out-Command c).has_globals ≡ false) }
 {
-    files_command(
+    files_command(alloc, name, about, after_help)?.arg(text(alloc, "SCRIPT", "Script file"))
+}
+
+fn replay_command<'a>(alloc: Global) -> Result<Command<'a>, AllocError>
+    ensures shape { IfOk result (λ c. shape_of c ≡ shape_for named.Replay) }
+    ensures local { IfOk result (λ c. (out-Command c).has_globals ≡ false) }
+{
+    script_command(
         alloc,
         "replay",
         "Run a script of requests and print each decision",
         help::SCRIPT,
-    )?
-    .arg(text(alloc, "SCRIPT", "Script file"))
+    )
 }
 
 fn run_command<'a>(alloc: Global) -> Result<Command<'a>, AllocError>
-    ensures shape { IfOk result (λ c. shape_of c ≡ run_shape) }
+    ensures shape { IfOk result (λ c. shape_of c ≡ shape_for named.Run) }
     ensures local { IfOk result (λ c. (out-Command c).has_globals ≡ false) }
 {
     let workers = value_parser!(u32).range(1..=64);
@@ -117,29 +128,39 @@ fn run_command<'a>(alloc: Global) -> Result<Command<'a>, AllocError>
 }
 
 fn services_command<'a>(alloc: Global) -> Result<Command<'a>, AllocError>
-    ensures shape { IfOk result (λ c. shape_of c ≡ services_shape) }
+    ensures shape { IfOk result (λ c. shape_of c ≡ shape_for named.Services) }
     ensures local { IfOk result (λ c. (out-Command c).has_globals ≡ false) }
 {
-    files_command(
+    script_command(
         alloc,
         "services",
         "Run a script of requests and print each queue's service",
         help::SCRIPT,
-    )?
-    .arg(text(alloc, "SCRIPT", "Script file"))
+    )
 }
 
 fn waits_command<'a>(alloc: Global) -> Result<Command<'a>, AllocError>
-    ensures shape { IfOk result (λ c. shape_of c ≡ waits_shape) }
+    ensures shape { IfOk result (λ c. shape_of c ≡ shape_for named.Waits) }
     ensures local { IfOk result (λ c. (out-Command c).has_globals ≡ false) }
 {
-    files_command(
+    script_command(
         alloc,
         "waits",
         "Run a script of requests and print what was granted while each request waited",
         help::WAITS,
-    )?
-    .arg(text(alloc, "SCRIPT", "Script file"))
+    )
+}
+
+fn explain_command<'a>(alloc: Global) -> Result<Command<'a>, AllocError>
+    ensures shape { IfOk result (λ c. shape_of c ≡ shape_for named.Explain) }
+    ensures local { IfOk result (λ c. (out-Command c).has_globals ≡ false) }
+{
+    script_command(
+        alloc,
+        "explain",
+        "Judge the files of a replay and print the first fault for a person",
+        help::EXPLAIN,
+    )
 }
 
 // A command whose first arguments are the configuration file and the trace.
@@ -149,7 +170,7 @@ fn trace_command<'a>(
     about: &'a str,
     after_help: &'a str,
 ) -> Result<Command<'a>, AllocError>
-    ensures app { IfOk result (λ c. app_of c ≡ trace_app name.entry.now) }
+    ensures app { IfOk result (λ c. app_of c ≡ app_with name.entry.now trace_rules) }
     ensures local { IfOk result (λ c. (out-Command c).has_globals ≡ false) }
 {
     Command::new(alloc, name)
@@ -179,7 +200,7 @@ fn simulation_command<'a>(
 }
 
 fn simulate_command<'a>(alloc: Global) -> Result<Command<'a>, AllocError>
-    ensures shape { IfOk result (λ c. shape_of c ≡ simulate_shape) }
+    ensures shape { IfOk result (λ c. shape_of c ≡ shape_for named.Simulate) }
     ensures local { IfOk result (λ c. (out-Command c).has_globals ≡ false) }
 {
     simulation_command(
@@ -191,7 +212,7 @@ fn simulate_command<'a>(alloc: Global) -> Result<Command<'a>, AllocError>
 }
 
 fn timeline_command<'a>(alloc: Global) -> Result<Command<'a>, AllocError>
-    ensures shape { IfOk result (λ c. shape_of c ≡ timeline_shape) }
+    ensures shape { IfOk result (λ c. shape_of c ≡ shape_for named.Timeline) }
     ensures local { IfOk result (λ c. (out-Command c).has_globals ≡ false) }
 {
     simulation_command(
@@ -203,7 +224,7 @@ fn timeline_command<'a>(alloc: Global) -> Result<Command<'a>, AllocError>
 }
 
 fn requests_command<'a>(alloc: Global) -> Result<Command<'a>, AllocError>
-    ensures shape { IfOk result (λ c. shape_of c ≡ requests_shape) }
+    ensures shape { IfOk result (λ c. shape_of c ≡ shape_for named.Requests) }
     ensures local { IfOk result (λ c. (out-Command c).has_globals ≡ false) }
 {
     Command::new(alloc, "requests")
@@ -213,7 +234,7 @@ fn requests_command<'a>(alloc: Global) -> Result<Command<'a>, AllocError>
 }
 
 fn picture_command<'a>(alloc: Global) -> Result<Command<'a>, AllocError>
-    ensures shape { IfOk result (λ c. shape_of c ≡ picture_shape) }
+    ensures shape { IfOk result (λ c. shape_of c ≡ shape_for named.Picture) }
     ensures local { IfOk result (λ c. (out-Command c).has_globals ≡ false) }
 {
     simulation_command(
@@ -225,7 +246,7 @@ fn picture_command<'a>(alloc: Global) -> Result<Command<'a>, AllocError>
 }
 
 fn hands_command<'a>(alloc: Global) -> Result<Command<'a>, AllocError>
-    ensures shape { IfOk result (λ c. shape_of c ≡ hands_shape) }
+    ensures shape { IfOk result (λ c. shape_of c ≡ shape_for named.Hands) }
     ensures local { IfOk result (λ c. (out-Command c).has_globals ≡ false) }
 {
     trace_command(
@@ -237,7 +258,7 @@ fn hands_command<'a>(alloc: Global) -> Result<Command<'a>, AllocError>
 }
 
 fn audit_command<'a>(alloc: Global) -> Result<Command<'a>, AllocError>
-    ensures shape { IfOk result (λ c. shape_of c ≡ audit_shape) }
+    ensures shape { IfOk result (λ c. shape_of c ≡ shape_for named.Trace) }
     ensures local { IfOk result (λ c. (out-Command c).has_globals ≡ false) }
 {
     Command::new(alloc, "trace")
@@ -247,7 +268,41 @@ fn audit_command<'a>(alloc: Global) -> Result<Command<'a>, AllocError>
         .arg(text(alloc, "SCHEMA", "Name of the flow schema of its requests"))
 }
 
-/// The program's command line, of which one of the twelve commands must be named.
+// The program with its commands on flows.
+fn with_flow_commands<'a>(alloc: Global, program: Command<'a>) -> Result<Command<'a>, AllocError>
+    ensures { IfOk result (λ c. app_of c ≡ with_commands flow_commands (app_of program.entry)) }
+{
+    program
+        .subcommand(hash_command(alloc)?)?
+        .subcommand(deal_command(alloc)?)
+}
+
+// The program with its commands on configs and requests.
+fn with_level_commands<'a>(alloc: Global, program: Command<'a>) -> Result<Command<'a>, AllocError>
+    ensures { IfOk result (λ c. app_of c ≡ with_commands level_commands (app_of program.entry)) }
+{
+    program
+        .subcommand(replay_command(alloc)?)?
+        .subcommand(run_command(alloc)?)?
+        .subcommand(services_command(alloc)?)?
+        .subcommand(waits_command(alloc)?)?
+        .subcommand(explain_command(alloc)?)
+}
+
+// The program with its commands on traces.
+fn with_trace_commands<'a>(alloc: Global, program: Command<'a>) -> Result<Command<'a>, AllocError>
+    ensures { IfOk result (λ c. app_of c ≡ with_commands trace_commands (app_of program.entry)) }
+{
+    program
+        .subcommand(simulate_command(alloc)?)?
+        .subcommand(timeline_command(alloc)?)?
+        .subcommand(requests_command(alloc)?)?
+        .subcommand(picture_command(alloc)?)?
+        .subcommand(hands_command(alloc)?)?
+        .subcommand(audit_command(alloc)?)
+}
+
+/// The program's command line, of which one of the thirteen commands must be named.
 ///
 /// # Errors
 ///
@@ -255,23 +310,14 @@ fn audit_command<'a>(alloc: Global) -> Result<Command<'a>, AllocError>
 pub(crate) fn apf_command<'a>(alloc: Global) -> Result<Command<'a>, AllocError>
     ensures app { IfOk result (λ c. app_of c ≡ apf_app) }
 {
-    Command::new(alloc, "apf")
+    let program = Command::new(alloc, "apf")
         .about(
             "Replay, run or simulate requests at one priority level of API Priority and Fairness",
         )
         .after_help(help::PROGRAM)
         .version(VERSION)
-        .subcommand_required(true)
-        .subcommand(hash_command(alloc)?)?
-        .subcommand(deal_command(alloc)?)?
-        .subcommand(replay_command(alloc)?)?
-        .subcommand(run_command(alloc)?)?
-        .subcommand(services_command(alloc)?)?
-        .subcommand(waits_command(alloc)?)?
-        .subcommand(simulate_command(alloc)?)?
-        .subcommand(timeline_command(alloc)?)?
-        .subcommand(requests_command(alloc)?)?
-        .subcommand(picture_command(alloc)?)?
-        .subcommand(hands_command(alloc)?)?
-        .subcommand(audit_command(alloc)?)
+        .subcommand_required(true);
+    let program = with_flow_commands(alloc, program)?;
+    let program = with_level_commands(alloc, program)?;
+    with_trace_commands(alloc, program)
 }

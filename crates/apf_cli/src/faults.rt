@@ -152,48 +152,69 @@ impl From<WriteFault> for Fault {
     }
 }
 
+// A fault of a file without its place.
+fn write_fault<W: fmt::Write, T: fmt::Display>(
+    f: &mut fmt::Formatter<W>,
+    file: &str,
+    number: u8,
+    fault: &T,
+) -> fmt::Result {
+    write!(f, "apf: {file} fault {number}: {fault}")
+}
+
+// A fault of a file with its line, where it has one.
+fn write_line_fault<W: fmt::Write, L: fmt::Display + Drop, T: fmt::Display>(
+    f: &mut fmt::Formatter<W>,
+    file: &str,
+    number: u8,
+    line: Option<L>,
+    fault: &T,
+) -> fmt::Result {
+    match line {
+        Some(line) => write!(f, "apf: {file} fault {number} at line {line}: {fault}"),
+        None => write_fault(f, file, number, fault),
+    }
+}
+
+// A fault of the requests with the number of its request, where it has one.
+fn write_request_fault<W: fmt::Write>(
+    f: &mut fmt::Formatter<W>,
+    fault: &RequestFault,
+) -> fmt::Result {
+    let number = fault.number();
+    match fault.request() {
+        Some(request) => write!(f, "apf: requests fault {number} at {request}: {fault}"),
+        None => write_fault(f, "requests", number, fault),
+    }
+}
+
 impl fmt::Display for Fault {
     fn fmt<W: fmt::Write>(&self, f: &mut fmt::Formatter<W>) -> fmt::Result {
         match self {
-            Fault::Dealer(fault, _) => {
-                let number = fault.number();
-                write!(f, "apf: dealer fault {number}: {fault}")
-            }
-            Fault::Config(fault) => {
-                let number = fault.number();
-                write!(f, "apf: config fault {number}: {fault}")
-            }
-            Fault::Requests(fault) => {
-                let number = fault.number();
-                match fault.request() {
-                    Some(request) => write!(
-                        f,
-                        "apf: requests fault {number} at {request}: {fault}"
-                    ),
-                    None => write!(f, "apf: requests fault {number}: {fault}"),
-                }
-            }
-            Fault::Script(fault) => {
-                let number = fault.number();
-                match fault.line() {
-                    Some(line) => write!(f, "apf: script fault {number} at line {line}: {fault}"),
-                    None => write!(f, "apf: script fault {number}: {fault}"),
-                }
-            }
-            Fault::Trace(fault) => {
-                let number = fault.number();
-                match fault.line() {
-                    Some(line) => write!(f, "apf: trace fault {number} at line {line}: {fault}"),
-                    None => write!(f, "apf: trace fault {number}: {fault}"),
-                }
-            }
-            Fault::Audit(fault) => {
-                let number = fault.number();
-                match fault.line() {
-                    Some(line) => write!(f, "apf: audit fault {number} at line {line}: {fault}"),
-                    None => write!(f, "apf: audit fault {number}: {fault}"),
-                }
-            }
+            Fault::Dealer(fault, _) => write_fault(f, "dealer", fault.number(), fault),
+            Fault::Config(fault) => write_fault(f, "config", fault.number(), fault),
+            Fault::Requests(fault) => write_request_fault(f, fault),
+            Fault::Script(fault) => write_line_fault(
+                f,
+                "script",
+                fault.number(),
+                fault.line(),
+                fault,
+            ),
+            Fault::Trace(fault) => write_line_fault(
+                f,
+                "trace",
+                fault.number(),
+                fault.line(),
+                fault,
+            ),
+            Fault::Audit(fault) => write_line_fault(
+                f,
+                "audit",
+                fault.number(),
+                fault.line(),
+                fault,
+            ),
             Fault::LongSchema => f.write_str("apf: SCHEMA is longer than 4096 bytes"),
             Fault::Level(fault) => write!(f, "apf: the level can't be opened: {fault}"),
             Fault::CannotRead(input) => write!(f, "apf: cannot read {input}"),

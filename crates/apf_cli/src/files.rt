@@ -76,6 +76,15 @@ pub trait Files {
         ensures within { IfOk result (λ bytes. vec_len bytes ≤ most) };
 }
 
+/// The name of a file as a person is told it.
+pub(crate) fn shown(name: &str) -> &str {
+    if name == STANDARD_INPUT {
+        "standard input"
+    } else {
+        name
+    }
+}
+
 /// At most one of the names stands for standard input.
 pub(crate) fn judge_names(names: &[&str]) -> Result<(), Fault> {
     let inputs = names.iter().filter(|name| **name == STANDARD_INPUT).count();

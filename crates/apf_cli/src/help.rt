@@ -7,7 +7,8 @@ Status:
   1  a file's fault, or output that can't be written
   2  a command line's fault
   3  no memory, or a worker that could not start
-Each fault is one line on standard error.
+Each fault is one line on standard error. apf explain says more of a fault of a config, of requests
+or of a script: its file, its place, what stands there and what may stand there.
 
 Examples:
   apf hash workload-low alice
@@ -78,6 +79,7 @@ apf replay prints what became of each line, and then four lines, the book:
   queue-full ..   the rejected by reason
   entered ..      requests that entered a queue, were dispatched, and were struck
 apf services prints for each queue how many entered it, and the seats that they were given.
+apf explain says what is wrong with the files where one has a fault.
 
 Example:
   $ cat config.json requests.json script.txt
@@ -100,9 +102,27 @@ cancel, or the script ended:
   T  seats that all queues were given, its own among them
 M is at most A and twice the widest request of the level.
 
-The files are those of apf replay; apf replay --help says what they hold.
+The files are those of apf replay; apf replay --help says what they hold. apf explain says what is
+wrong with them where one has a fault.
 
 Status: 0 done, 1 a file's fault or output that can't be written, 2 a command line's fault,
+3 no memory.";
+
+/// Of `explain`.
+pub(crate) const EXPLAIN: &str = "\
+Judges the three files as apf replay does. Of the first fault it prints one line: the file, the
+place in it, the key or the line, what stands there and what may stand there. It prints nothing
+where there is no fault. The fault as apf replay has it is on standard error. apf replay --help
+says what the files hold. - is standard input for one of them.
+
+Example:
+  $ cat config.json
+  {\"limit\":0}
+  $ apf explain config.json requests.json script.txt
+  config.json: limit is 0: it must be a whole number from 1 to 10000
+  apf: config fault 5: bad value of limit
+
+Status: 0 no fault, 1 a file's fault or output that can't be written, 2 a command line's fault,
 3 no memory.";
 
 /// Of `run`.
@@ -124,6 +144,8 @@ REQUESTS is one JSON array of at most 10000 objects, numbered from 0:
 Worker K of M brings the requests to their ends whose number leaves K when divided by M: it
 closes the level if the request says so, waits until it is decided, and if it executes does its
 work, cancels whom it names and gives the seats back. Then the book of the level is printed.
+
+Where a file has a fault, apf explain says what is wrong, with any script, as /dev/null.
 
 Example:
   apf run config.json requests.json 8

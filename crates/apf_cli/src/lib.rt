@@ -2,8 +2,9 @@
 //!
 //! In the order of the data's way:
 //!
-//! - `help`, `commands`, `words`: what a command line asks for, read by `clap`.
+//! - `names`, `help`, `commands`, `words`: what a command line asks for, read by `clap`.
 //! - `files`: where the files' bytes come from.
+//! - `explaining`: says what is wrong with files.
 //! - `traces`, `pictures`: do the commands on a trace. `audits`: does that on an audit log.
 //! - `program`: does the others, and answers the status.
 //! - `faults`: the lines on standard error.
@@ -11,9 +12,11 @@
 
 mod audits;
 mod commands;
+mod explaining;
 mod faults;
 mod files;
 mod help;
+mod names;
 mod pictures;
 mod program;
 mod traces;

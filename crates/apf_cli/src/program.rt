@@ -5,6 +5,7 @@ ghost use Rattle.apf_run.specs.Limits.{max_requests};
 ghost use Rattle.apf_cli.specs.Meaning.{HasPatience, HasWorkers};
 
 use crate::audits::print_trace;
+use crate::explaining::print_explanation;
 use crate::faults::{Fault, Sizes};
 use crate::files::{Files, Input, judge_names, read_input};
 use crate::pictures::print_picture;
@@ -137,6 +138,11 @@ fn perform<F: Files, O: Write, R: Wait + Threads + Sync>(
             requests,
             script,
         } => replayed(rt, alloc, files, (config, requests, script))?.write_waits(out)?,
+        Action::Explain {
+            config,
+            requests,
+            script,
+        } => print_explanation(rt, alloc, files, (config, requests, script), out)?,
         Action::Simulate {
             config,
             trace,

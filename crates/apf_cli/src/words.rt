@@ -3,12 +3,14 @@ ghost use Rattle.std.specs.Prelude.{IfOk, codes};
 ghost use Rattle.clap.specs.Words.{FailsBy, fault_of, found_of, rows_of};
 ghost use Rattle.clap.specs.Walk.{texts};
 ghost use Rattle.apf_cli.specs.Commands.{apf_app};
+ghost use Rattle.apf_cli.specs.Names.{text_of as name_text};
 ghost use Rattle.apf_cli.specs.Meaning.{AsksFor, IsActionOf, IsNumber, IsText};
 ghost use Rattle.apf_cli.specs.Arguments.{HasText, HasNumber, HasHashArguments, HasDealArguments};
-ghost use Rattle.apf_cli.specs.Arguments.{HasScriptArguments, HasRunArguments, IsCommand};
+ghost use Rattle.apf_cli.specs.Arguments.{HasScriptArguments, HasRunArguments, HasArguments};
 ghost use Rattle.apf_cli.specs.Arguments.{HasSimulationArguments, HasRequestsArguments, HasHandsArguments, HasAuditArguments};
 
 use crate::commands::apf_command;
+use crate::names::CommandName;
 use clap::{ArgMatches, Error};
 use std::alloc::Global;
 
@@ -46,6 +48,12 @@ pub enum Action<'a> {
     },
     /// Run a script and print what was granted while each request waited; the texts are file names.
     Waits {
+        config: &'a str,
+        requests: &'a str,
+        script: &'a str,
+    },
+    /// Judge the files of a replay and print the first fault for a person; the texts are file names.
+    Explain {
         config: &'a str,
         requests: &'a str,
         script: &'a str,
@@ -194,6 +202,19 @@ fn waits_action<'a>(matches: &ArgMatches<'a>) -> Action<'a>
     }
 }
 
+fn explain_action<'a>(matches: &ArgMatches<'a>) -> Action<'a>
+    requires { HasScriptArguments (rows_of (found_of matches.now)) }
+    ensures { AsksFor (codes "explain") (rows_of (found_of matches.now)) result }
+{
+    let (config, requests) = files_of(matches);
+    let script = text_of(matches, "SCRIPT");
+    Action::Explain {
+        config,
+        requests,
+        script,
+    }
+}
+
 fn simulate_action<'a>(matches: &ArgMatches<'a>) -> Action<'a>
     requires { HasSimulationArguments (rows_of (found_of matches.now)) }
     ensures { AsksFor (codes "simulate") (rows_of (found_of matches.now)) result }
@@ -256,35 +277,25 @@ fn trace_action<'a>(matches: &ArgMatches<'a>) -> Action<'a>
     }
 }
 
-// The action of the command of this name.
-fn action_of<'a>(name: &str, matches: &ArgMatches<'a>) -> Action<'a>
-    requires { IsCommand name.now (rows_of (found_of matches.now)) }
-    ensures { AsksFor name.now (rows_of (found_of matches.now)) result }
+// The action of the command.
+fn action_of<'a>(command: CommandName, matches: &ArgMatches<'a>) -> Action<'a>
+    requires { HasArguments command (rows_of (found_of matches.now)) }
+    ensures { AsksFor (name_text command) (rows_of (found_of matches.now)) result }
 {
-    if name == "hash" {
-        hash_action(matches)
-    } else if name == "deal" {
-        deal_action(matches)
-    } else if name == "replay" {
-        replay_action(matches)
-    } else if name == "run" {
-        run_action(matches)
-    } else if name == "services" {
-        services_action(matches)
-    } else if name == "waits" {
-        waits_action(matches)
-    } else if name == "simulate" {
-        simulate_action(matches)
-    } else if name == "timeline" {
-        timeline_action(matches)
-    } else if name == "requests" {
-        requests_action(matches)
-    } else if name == "picture" {
-        picture_action(matches)
-    } else if name == "hands" {
-        hands_action(matches)
-    } else {
-        trace_action(matches)
+    match command {
+        CommandName::Hash => hash_action(matches),
+        CommandName::Deal => deal_action(matches),
+        CommandName::Replay => replay_action(matches),
+        CommandName::Run => run_action(matches),
+        CommandName::Services => services_action(matches),
+        CommandName::Waits => waits_action(matches),
+        CommandName::Explain => explain_action(matches),
+        CommandName::Simulate => simulate_action(matches),
+        CommandName::Timeline => timeline_action(matches),
+        CommandName::Requests => requests_action(matches),
+        CommandName::Picture => picture_action(matches),
+        CommandName::Hands => hands_action(matches),
+        CommandName::Trace => trace_action(matches),
     }
 }
 
@@ -293,6 +304,7 @@ fn action_of<'a>(name: &str, matches: &ArgMatches<'a>) -> Action<'a>
 /// Its texts and numbers are those that `clap` reads of the words, for the commands
 /// `hash SCHEMA DISTINGUISHER`, `deal DECK HAND HASH`, `replay CONFIG REQUESTS SCRIPT`,
 /// `run CONFIG REQUESTS WORKERS`, `services CONFIG REQUESTS SCRIPT`, `waits CONFIG REQUESTS SCRIPT`,
+/// `explain CONFIG REQUESTS SCRIPT`,
 /// `simulate CONFIG TRACE PATIENCE`, `timeline CONFIG TRACE PATIENCE`, `requests TRACE`, `picture CONFIG TRACE PATIENCE`, `hands CONFIG TRACE`
 /// and `trace AUDITLOG SCHEMA`.
 /// `DECK` and `HAND` are whole decimal numbers of 32 bits, `HASH` is one of 64 bits, `WORKERS` is 1 to 64, and
@@ -308,5 +320,6 @@ pub fn read_words<'a>(alloc: Global, words: &'a [&'a str]) -> Result<Action<'a>,
 {
     let matches = apf_command(alloc)?.try_get_matches_from(words)?;
     let (name, inner) = matches.subcommand().unwrap();
-    Ok(action_of(name, inner))
+    let command = CommandName::named(name).unwrap();
+    Ok(action_of(command, inner))
 }

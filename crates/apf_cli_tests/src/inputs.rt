@@ -194,7 +194,7 @@ fn standard_input_twice(rt: HostRuntime) {
         script: "x",
     };
     let line = "apf: standard input is named twice\n";
-    for command in ["replay", "services", "waits"] {
+    for command in ["replay", "services", "waits", "explain"] {
         for (config, requests, script) in [
             ("-", "-", "script"),
             ("-", "requests", "-"),

@@ -4,12 +4,14 @@
 //!
 //! - `words`: what a command line asks for.
 //! - `examples`: worked examples of the whole program, with files in memory; `rows` those of `replay`, `workers`
-//!   those of `run`, `inputs` those of files by their size and of standard input, `traces` those of requests with
+//!   those of `run`, `explaining` those of `explain`, `inputs` those of files by their size and of standard input, `traces` those of requests with
 //!   times, `trace_faults` those of traces that are refused, `rooms` those of output that has no room.
 #![tactic(auto)]
 
 #[cfg(test)]
 mod examples;
+#[cfg(test)]
+mod explaining;
 #[cfg(test)]
 mod inputs;
 #[cfg(test)]

@@ -77,6 +77,15 @@ fn reads_texts(rt: HostRuntime) -> Result<(), Fail> {
             script: "s"
         }
     );
+    let explain = read_words(alloc, &["apf", "explain", "c", "r", "s"])?;
+    assert_eq!(rt;
+        explain,
+        Action::Explain {
+            config: "c",
+            requests: "r",
+            script: "s"
+        }
+    );
     let requests = read_words(alloc, &["apf", "requests", "t"])?;
     assert_eq!(rt; requests, Action::Requests { trace: "t" });
     let trace = read_words(alloc, &["apf", "trace", "l", "s"])?;
@@ -234,7 +243,7 @@ fn refuses_other_words_of_traces(rt: HostRuntime) {
 
 #[test]
 fn refuses_other_words(rt: HostRuntime) {
-    let rows: [(&[&str], ErrorKind); 16] = [
+    let rows: [(&[&str], ErrorKind); 17] = [
         (&[], ErrorKind::MissingSubcommand),
         (&["apf"], ErrorKind::MissingSubcommand),
         (&["apf", "nonsense"], ErrorKind::InvalidSubcommand),
@@ -270,6 +279,10 @@ fn refuses_other_words(rt: HostRuntime) {
         ),
         (
             &["apf", "waits", "a", "b"],
+            ErrorKind::MissingRequiredArgument,
+        ),
+        (
+            &["apf", "explain", "a", "b"],
             ErrorKind::MissingRequiredArgument,
         ),
     ];

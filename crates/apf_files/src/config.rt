@@ -97,8 +97,9 @@ impl ConfigFault {
     }
 }
 
+/// Whether a config file may have a key of this name.
 #[tactic(auto, unfolding(crate::specs::ConfigFile::is_key))]
-fn is_config_key(name: &str) -> bool
+pub fn is_config_key(name: &str) -> bool
     ensures { result ≡ is_key name.now }
 {
     name == "limit"

@@ -5,7 +5,8 @@
 //! - `requests`: the requests file.
 //! - `script`: the script file.
 //!
-//! `flow_of`, `number_or` and `line_end` are shared with the reader of traces.
+//! `flow_of`, `number_or` and `line_end` are shared with the reader of traces; `is_config_key`, `is_request_key` and
+//! `command_of_line` with what says a fault to a person.
 #![tactic(auto)]
 
 mod config;
@@ -14,6 +15,6 @@ mod requests;
 mod script;
 
 pub use apf_book::{Config, Response};
-pub use config::{ConfigFault, ConfigKey, read_config};
-pub use requests::{Request, RequestFault, flow_of, number_or, read_requests};
-pub use script::{Command, ScriptFault, line_end, read_script};
+pub use config::{ConfigFault, ConfigKey, is_config_key, read_config};
+pub use requests::{Request, RequestFault, flow_of, is_request_key, number_or, read_requests};
+pub use script::{Command, ScriptFault, command_of_line, line_end, read_script};

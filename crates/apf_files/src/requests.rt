@@ -7,7 +7,7 @@ ghost use Rattle.apf_files.specs.RequestsFile.{requests_of, requests_from, reque
 mod member;
 
 use crate::requests::member::request_of_value;
-pub use crate::requests::member::{flow_of, number_or};
+pub use crate::requests::member::{flow_of, is_request_key, number_or};
 use serde_json::Value;
 use std::alloc::Global;
 use thiserror::Error;

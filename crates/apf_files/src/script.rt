@@ -5,7 +5,7 @@ ghost use Rattle.apf_files.specs.ScriptFile.{script_of, judged_line, in_range as
 
 mod line;
 
-use crate::script::line::command_of_line;
+pub use crate::script::line::command_of_line;
 use apf_words::MAX_LIMIT;
 use std::alloc::Global;
 use thiserror::Error;

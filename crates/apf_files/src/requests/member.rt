@@ -18,8 +18,9 @@ const DEFAULT_WORK: u32 = 0;
 
 const MAX_WORK: u32 = 1_000_000;
 
+/// Whether a request of a requests file may have a key of this name.
 #[tactic(auto, unfolding(crate::specs::RequestsFile::is_key))]
-fn is_request_key(name: &str) -> bool
+pub fn is_request_key(name: &str) -> bool
     ensures { result ≡ is_key name.now }
 {
     name == "schema"

@@ -2,12 +2,12 @@
 use Rattle.std.proofs.Common.{◌∙◌, ap, codes}
 use Rattle.std.proofs.lemmas.Result.{IfOk-weaker}
 use Rattle.clap.specs.Simple.{App}
-use Rattle.apf_cli.specs.Commands.{deal_shape, number_rule}
+use Rattle.apf_cli.specs.Commands.{shape_for, number_rule}
 use Rattle.apf_cli.proofs.Chain.{added, with_texts}
 use Rattle.apf_cli.proofs.commands.deal_command.Goals as goal
 
 pub returns : goal.returns
-unfolding deal_shape
+unfolding shape_for
 returns c =
     let start = with_texts c.new.result c.about.result c.new.ensures.app c.new.ensures.local c.about.ensures c.after_help.ensures in
     let deck = c.number.ensures.rule ∙ ap (number_rule (codes "DECK")) c.value_parser.ensures in

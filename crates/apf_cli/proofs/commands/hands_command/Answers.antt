@@ -1,11 +1,11 @@
 use Rattle.std.proofs.Common.{ap}
 use Rattle.std.proofs.lemmas.Result.{IfOk-weaker}
 use Rattle.clap.specs.Simple.{App}
-use Rattle.apf_cli.specs.Commands.{hands_shape}
+use Rattle.apf_cli.specs.Commands.{shape_for}
 use Rattle.apf_cli.proofs.commands.hands_command.Goals as goal
 
 pub returns : goal.returns
-unfolding hands_shape
+unfolding shape_for
 returns c = record {
   shape = IfOk-weaker c.trace_command.result _ _ (λ r h. ap (λ (a : App). a.top) h) c.trace_command.ensures.app;
   local = c.trace_command.ensures.local;

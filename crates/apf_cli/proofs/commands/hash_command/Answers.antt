@@ -2,12 +2,12 @@
 use Rattle.std.proofs.Common.{ap}
 use Rattle.std.proofs.lemmas.Result.{IfOk-weaker}
 use Rattle.clap.specs.Simple.{App}
-use Rattle.apf_cli.specs.Commands.{hash_shape}
+use Rattle.apf_cli.specs.Commands.{shape_for}
 use Rattle.apf_cli.proofs.Chain.{added, with_texts}
 use Rattle.apf_cli.proofs.commands.hash_command.Goals as goal
 
 pub returns : goal.returns
-unfolding hash_shape
+unfolding shape_for
 returns c =
     let start = with_texts c.new.result c.about.result c.new.ensures.app c.new.ensures.local c.about.ensures c.after_help.ensures in
     let first = added start c.text.ensures.rule c.text.ensures.local c.in_ok-arg.ensures in

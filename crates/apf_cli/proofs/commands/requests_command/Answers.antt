@@ -2,12 +2,12 @@
 use Rattle.std.proofs.Common.{ap}
 use Rattle.std.proofs.lemmas.Result.{IfOk-weaker}
 use Rattle.clap.specs.Simple.{App}
-use Rattle.apf_cli.specs.Commands.{requests_shape}
+use Rattle.apf_cli.specs.Commands.{shape_for}
 use Rattle.apf_cli.proofs.Chain.{added, with_texts}
 use Rattle.apf_cli.proofs.commands.requests_command.Goals as goal
 
 pub returns : goal.returns
-unfolding requests_shape
+unfolding shape_for
 returns c =
     let start = with_texts c.new.result c.about.result c.new.ensures.app c.new.ensures.local c.about.ensures c.after_help.ensures in
     record {

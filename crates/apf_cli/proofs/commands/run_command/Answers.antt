@@ -2,15 +2,15 @@
 use Rattle.std.proofs.Common.{◌≡◌, ◌∙◌, ap, codes, pos}
 use Rattle.std.proofs.lemmas.Result.{IfOk-weaker}
 use Rattle.clap.specs.Simple.{App}
-use Rattle.apf_cli.specs.Commands.{run_shape, files_app, number_rule}
+use Rattle.apf_cli.specs.Commands.{shape_for, app_with, file_rules, number_rule}
 use Rattle.apf_cli.proofs.Chain.{IsMade, added}
 use Rattle.clap.specs.declared.builder.value_parser.ValueParser.TheVariants.{Signed}
 use Rattle.apf_cli.proofs.commands.run_command.Goals as goal
 
 pub returns : goal.returns
-unfolding run_shape
+unfolding shape_for
 returns c =
-    let files : IsMade c.in_ok-files_command.field-0 (files_app (codes "run")) = record { app_is = c.in_ok-files_command.ensures.app; local = c.in_ok-files_command.ensures.local } in
+    let files : IsMade c.in_ok-files_command.field-0 (app_with (codes "run") file_rules) = record { app_is = c.in_ok-files_command.ensures.app; local = c.in_ok-files_command.ensures.local } in
     let range : c.range-workers.result ≡ Signed (pos 1) (pos 64) = rw (c.value_parser.ensures, c.new.ensures.start, c.new.ensures.end) at c.range-workers.ensures in
     let workers = c.number.ensures.rule ∙ ap (number_rule (codes "WORKERS")) range in
     record {

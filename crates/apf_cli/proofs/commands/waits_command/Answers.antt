@@ -1,16 +1,6 @@
--- What the chain of builders makes.
-use Rattle.std.proofs.Common.{ap, codes}
-use Rattle.std.proofs.lemmas.Result.{IfOk-weaker}
-use Rattle.clap.specs.Simple.{App}
-use Rattle.apf_cli.specs.Commands.{waits_shape, files_app}
-use Rattle.apf_cli.proofs.Chain.{IsMade, added}
+use Rattle.apf_cli.specs.Commands.{shape_for}
 use Rattle.apf_cli.proofs.commands.waits_command.Goals as goal
 
 pub returns : goal.returns
-unfolding waits_shape
-returns c =
-    let files : IsMade c.in_ok-files_command.field-0 (files_app (codes "waits")) = record { app_is = c.in_ok-files_command.ensures.app; local = c.in_ok-files_command.ensures.local } in
-    record {
-      shape = IfOk-weaker c.arg.result _ _ (λ r h. ap (λ (a : App). a.top) (added files c.text.ensures.rule c.text.ensures.local h).app_is) c.arg.ensures;
-      local = IfOk-weaker c.arg.result _ _ (λ r h. (added files c.text.ensures.rule c.text.ensures.local h).local) c.arg.ensures;
-    }
+unfolding shape_for
+returns c = record { shape = c.script_command.ensures.shape; local = c.script_command.ensures.local }

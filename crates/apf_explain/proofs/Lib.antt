@@ -1,0 +1,5 @@
+pub mod Steps
+pub mod Unknown
+pub mod ConfigFaults
+pub mod RequestFaults
+pub mod ScriptFaults

@@ -1,0 +1,17 @@
+-- The keys of a file's objects.
+use Rattle.std.specs.Prelude.{ℕ, List, Bool, if◌then◌else◌, Option, Some, None}
+use Rattle.serde_json.specs.Data.{Members, no_members, member}
+use Rattle.apf_files.specs.ConfigFile.{is_key as is_config_key}
+use Rattle.apf_files.specs.RequestsFile.{is_key as is_request_key}
+use Rattle.apf_explain.specs.declared.keys.Keys.{Keys}
+use Rattle.apf_explain.specs.declared.keys.Keys.TheVariants.{OfConfig, OfRequest}
+
+-- the name is that of a key
+abbrev pub is_key_of : Keys → List ℕ → Bool
+is_key_of OfConfig name = is_config_key name
+is_key_of OfRequest name = is_request_key name
+
+-- the first member whose key is unknown
+abbrev pub unknown_in : (List ℕ → Bool) → Members → Option (List ℕ)
+unknown_in is_known no_members = None
+unknown_in is_known (member k d ms) = if is_known k then unknown_in is_known ms else Some k

@@ -1,0 +1,7 @@
+pub mod Found
+pub mod Wanted
+pub mod Keys
+pub mod FlowFaults
+pub mod ScriptLine
+pub mod Lines
+pub mod Shown

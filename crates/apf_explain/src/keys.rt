@@ -1,0 +1,75 @@
+//! The keys of an object, and the first one that is unknown.
+
+ghost use Rattle.std.specs.Prelude.{◌≡◌, option_map, option_and_then, string_bytes};
+ghost use Rattle.serde_json.specs.Find.{as_object};
+ghost use Rattle.serde_json.specs.View.{view, members_view};
+ghost use Rattle.apf_explain.specs.Keys.{is_key_of, unknown_in};
+
+use crate::found::Quoted;
+use apf_files::{is_config_key, is_request_key};
+use serde_json::{Map, Value};
+use std::io::Write;
+use std::{fmt, io};
+
+/// Whose keys an object has.
+#[derive(Clone, Copy, Debug, PartialEq, Eq)]
+pub(crate) enum Keys {
+    OfConfig,
+    OfRequest,
+}
+
+impl fmt::Display for Keys {
+    fn fmt<W: fmt::Write>(&self, f: &mut fmt::Formatter<W>) -> fmt::Result {
+        f.write_str(match self {
+            Keys::OfConfig =>
+                "a config has limit, queues, handSize, queueLengthLimit and limitResponse",
+            Keys::OfRequest =>
+                "a request has schema, distinguisher, hash, width, work, cancels and closes",
+        })
+    }
+}
+
+impl Keys {
+    /// Whether the name is that of a key.
+    pub(crate) fn has(self, name: &str) -> bool
+        ensures { result ≡ is_key_of self name.now }
+    {
+        match self {
+            Keys::OfConfig => is_config_key(name),
+            Keys::OfRequest => is_request_key(name),
+        }
+    }
+
+    // The first unknown key of these members, in the order of the keys' bytes.
+    fn unknown_of(self, members: &Map<String, Value>) -> Option<&String>
+        ensures { option_map (λ name. string_bytes name.now) result ≡ unknown_in (is_key_of self) (members_view members.now.entries) }
+    {
+        members.keys().find(|name| !self.has(name.as_str()))
+    }
+
+    /// The first unknown key of an object, in the order of the keys' bytes.
+    pub(crate) fn unknown(self, value: &Value) -> Option<&str>
+        ensures { option_map (λ name. name.now) result ≡ option_and_then (unknown_in (is_key_of self)) (as_object (view value.now)) }
+    {
+        Some(self.unknown_of(value.as_object()?)?.as_str())
+    }
+}
+
+/// Writes that an object has an unknown key.
+pub(crate) fn write_unknown_key<W: Write>(
+    out: &mut W,
+    keys: Keys,
+    value: Option<&Value>,
+) -> io::Result<()> {
+    match value.and_then(|value| keys.unknown(value)) {
+        Some(text) => {
+            let key = Quoted {
+                what: "a key",
+                text,
+            };
+            let the = if key.is_whole() { "the key " } else { "" };
+            writeln!(out, "{the}{key} is unknown: {keys}")
+        }
+        None => writeln!(out, "a key is unknown: {keys}"),
+    }
+}

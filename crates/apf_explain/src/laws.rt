@@ -1,0 +1,28 @@
+//! What the readers' faults say of the values that the lines name. The functions run no code: each contract is a law.
+
+ghost use Rattle.std.specs.Prelude.{◌≡◌, ℕ, List, Err};
+ghost use Rattle.serde_json.specs.Data.{Data};
+ghost use Rattle.apf_files.specs.ConfigFile.{config_of};
+ghost use Rattle.apf_files.specs.RequestsFile.{requests_of};
+ghost use Rattle.apf_files.specs.ScriptFile.{script_of};
+ghost use Rattle.apf_files.specs.declared.config.ConfigFault.{ConfigFault};
+ghost use Rattle.apf_files.specs.declared.requests.RequestFault.{RequestFault};
+ghost use Rattle.apf_files.specs.declared.script.ScriptFault.{ScriptFault};
+ghost use Rattle.apf_explain.specs.Shown.{IsConfigShown, IsRequestsShown, IsScriptShown};
+
+/// The law of a config's fault. Where it is a bad value, a value stands at that key, and is none that the line says may
+/// stand there. Where a key is unknown, the object has the one that the line names, and it is none of a config's keys.
+pub fn every_config_fault_is_shown()
+    ensures { (d : Data) (fault : ConfigFault) → config_of d ≡ Err fault → IsConfigShown d fault }
+{}
+
+/// The law of a requests file's fault: the same of the request that the fault names, which is there.
+pub fn every_request_fault_is_shown()
+    ensures { (d : Data) (fault : RequestFault) → requests_of d ≡ Err fault → IsRequestsShown d fault }
+{}
+
+/// The law of a script's fault. The line that it names is there. A bad line is no command. Else the line's command has
+/// a number: of a request that there is not, or of seats that are outside the range.
+pub fn every_script_fault_is_shown()
+    ensures { (requests : ℕ) (bytes : List ℕ) (fault : ScriptFault) → script_of requests bytes ≡ Err fault → IsScriptShown requests bytes fault }
+{}

@@ -142,7 +142,7 @@ for number in range(SPOILED):
     judged(f"{contents[number % 3]!r}", contents)
 tally.check(f"the files are of many kinds: {sorted(kinds)}", len(kinds) >= min(14, SPOILED // 100), True)
 
-# sizes: a want of memory that is none would show here
+# sizes: an out of memory that is none would show here
 blanks = b" " * 70_000
 judged("a config of 64 KiB", [b'{"limit":1' + blanks[:65_525] + b"}", b"[]", b""])
 judged("a config of over 64 KiB", [b'{"limit":1' + blanks + b"}", b"[]", b""])

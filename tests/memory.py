@@ -1,4 +1,4 @@
-"""Each allocation of a command refused in turn: the answer is the one with ample memory, or want of memory, and no other."""
+"""Each allocation of a command refused in turn: the answer is the one with ample memory, or out of memory, and no other."""
 
 import os
 import subprocess

@@ -29,7 +29,7 @@ opening_ledger c asks = opening_ledger_with c asks (map (λ (a : Ask). a.width) 
 abbrev pub AreSettings : Config → List Ask → Type 0
 AreSettings c asks = IsDealable c.queues c.hand_size × IsQueueShape c.queues c.queue_length_limit (length asks)
 
--- the first fault: the dealer's, the queues', want of memory
+-- the first fault: the dealer's, the queues', out of memory
 abbrev pub IsFaultOf : Config → List Ask → BookFault → Type 0
 IsFaultOf c asks (Dealer f) = fault_of c.queues c.hand_size ≡ Some f
 IsFaultOf c asks (Queues f) = IsDealable c.queues c.hand_size × (f ≡ queue.BadShape) × (¬ IsQueueShape c.queues c.queue_length_limit (length asks))

@@ -35,7 +35,7 @@ fn shaped(queues: u32, hand_size: u32, queue_length_limit: u32) -> Config {
     }
 }
 
-// The text is the dealer's, the queues', or of want of memory, with nothing beside it.
+// The text is the dealer's, the queues', or that of a call without memory, with nothing beside it.
 #[test]
 fn texts_of_faults(rt: HostRuntime) -> Result<(), Fail> {
     assert_eq!(rt; fault_of(&rt, rt.alloc(), shaped(1, 1, 1)), None);

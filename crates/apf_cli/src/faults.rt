@@ -45,7 +45,7 @@ pub enum Fault {
 
 impl Fault {
     /// The program's status: 1 a file's fault, or output that can't be written; 2 a command line's
-    /// fault; 3 want of memory, or a worker that could not be started.
+    /// fault; 3 out of memory, or a worker that could not be started.
     pub fn status(&self) -> u8 {
         match self {
             Fault::Dealer(_, Sizes::OfCommandLine) | Fault::TwoInputs | Fault::LongSchema => 2,

@@ -187,7 +187,7 @@ fn print_refusal<O: Write, E: Write>(
 /// The whole program: the first word is its name, and the answer is its status.
 ///
 /// 0 is done; 1 a file's fault, or output that can't be written; 2 a command line's fault, dealer
-/// faults of `deal` and standard input named twice among them; 3 want of memory or a worker that could not start. Before the
+/// faults of `deal` and standard input named twice among them; 3 out of memory or a worker that could not start. Before the
 /// status is 1, 2 or 3, one fault is printed on `err`, and a write to it that fails changes no
 /// status. A fault prints nothing on `out`, except that a failed write may have written a beginning.
 #[tactic(auto, using(crate::proofs::Workers::has_workers, crate::proofs::Workers::has_patience))]

@@ -6,7 +6,7 @@
 //! - `json`: the line of bytes that are no JSON.
 //! - `configs`, `requests`, `scripts`: the line of each fault, and of values of each kind.
 //! - `dealers`: the line of a config whose hands can't be dealt.
-//! - `ends`: a writer without room, want of memory, and faults that are not those of the bytes.
+//! - `ends`: a writer without room, a call without memory, and faults that are not those of the bytes.
 #![tactic(auto)]
 
 #[cfg(test)]

@@ -65,7 +65,7 @@ impl ScriptFault {
         }
     }
 
-    /// The line of the fault, counted from 1; want of memory has none.
+    /// The line of the fault, counted from 1. Out of memory has none.
     pub fn line(&self) -> Option<u32>
         ensures { result ≡ line_of self.now }
     {

@@ -11,8 +11,12 @@ pub mod JoinedSteps
 pub mod StationSteps
 pub mod Tokens
 pub mod PassCalls
+pub mod PassResults
 pub mod DeskCalls
+pub mod DeskResults
+pub mod JoinedResults
 pub mod StationCalls
+pub mod StationResults
 pub mod Opens
 pub mod Ends
 pub mod Hidden

@@ -23,7 +23,7 @@ new_stations gate (suc k) = new_stations gate k ++ record { table = gate.table; 
 abbrev pub IsWidth : ℕ → Type 0
 IsWidth k = (1 ≤ k) × (k ≤ max_width)
 
--- the first fault, in this order: the limit, the first bad width, too many requests or Stations, want of memory
+-- the first fault, in this order: the limit, the first bad width, too many requests or Stations, out of memory
 abbrev pub FaultOf : Shape → GateFault → Type 0
 FaultOf s fault.BadLimit = (s.limit < 1) ⊎ (max_limit < s.limit)
 FaultOf s (fault.BadWidth r) = (1 ≤ s.limit) × (s.limit ≤ max_limit) × (r < length s.widths) × (¬ IsWidth (width s.widths r)) × ((j : ℕ) → j < r → IsWidth (width s.widths j))

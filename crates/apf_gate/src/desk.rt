@@ -1,18 +1,19 @@
 //! The token of whoever holds the level's lock, and its steps.
 
-ghost use Rattle.std.specs.Prelude.{◌≡◌, ◌≢◌, ◌⊎◌, ◌∷◌, ℕ, ◌<◌, ◌≤◌, ◌==◌, length, not, true, false, MatchBool, Option, Some, None};
+ghost use Rattle.std.specs.Prelude.{◌≡◌, ◌≢◌, ℕ, ◌<◌, ◌≤◌, ◌==◌, length, MatchBool, Some, None};
 ghost use Rattle.apf_words.specs.Codes.{code_in};
 ghost use Rattle.apf_words.specs.Fits.{Fits};
 ghost use Rattle.apf_words.specs.Level.{Level};
-ghost use Rattle.apf_words.specs.declared.decision.Decision.TheVariants.{Execute, Cancelled};
+ghost use Rattle.apf_words.specs.declared.decision.Decision.TheVariants.{Cancelled};
 ghost use Rattle.apf_model.specs.World.{width};
-ghost use Rattle.apf_gate.specs.declared.record.Service.TheVariants.{Waiting, Held, Settled, Left};
-ghost use Rattle.apf_gate.specs.Records.{told_of, service, KnowsMore};
+ghost use Rattle.apf_gate.specs.declared.record.Service.TheVariants.{Waiting};
+ghost use Rattle.apf_gate.specs.Records.{told_of, service};
 ghost use Rattle.apf_gate.specs.Gauges.{IsShape};
 ghost use Rattle.apf_gate.specs.Steps.{IsInRange, OfDecision};
-ghost use Rattle.apf_gate.specs.DeskSteps.{CountsWaiting, DeskLoadsLevel, DeskLoadsDecision, DeskExchangesLevel, DeskExchangesDecision, DeskMissesDecision, DeskSubtractsSeats, DeskSubtractsWaiter};
+ghost use Rattle.apf_gate.specs.DeskSteps.{DeskLoadsLevel, DeskLoadsDecision, DeskExchangesLevel, DeskExchangesDecision, DeskMissesDecision, DeskSubtractsSeats, DeskSubtractsWaiter};
 ghost use Rattle.apf_gate.specs.Tokens.{desk_gate};
 ghost use Rattle.apf_gate.specs.DeskCalls.{TriesToGrant, SettlesTo};
+ghost use Rattle.apf_gate.specs.DeskResults.{SameDesk, AfterView, AfterSeen, AfterTryGrant, AfterSettle, AfterGiveBack, AfterLeave};
 
 use crate::answers::TryGrant;
 use crate::gate::{Gate, decision_in, level_in};
@@ -61,14 +62,9 @@ impl<A: Allocator> Gate<A> {
     /// Reads the level word, by one load.
     pub fn view(&self, desk: &mut Desk) -> LevelWord
         requires own { desk_gate desk.old ≡ self.now }
-        ensures gate { desk_gate desk.new ≡ desk_gate desk.old }
+        ensures same { SameDesk desk.old desk.new }
         ensures answer { DeskLoadsLevel desk.old.desk result desk.new.desk }
-        ensures same { (desk.new.desk.services ≡ desk.old.desk.services) × (desk.new.desk.held ≡ desk.old.desk.held) }
-        ensures in_range { IsInRange result }
-        ensures waits { CountsWaiting desk.old.desk result }
-        ensures closed { result.closed ≡ true → desk.new.desk.knows.saw_closed ≡ true }
-        ensures stays_closed { desk.old.desk.knows.saw_closed ≡ true → result.closed ≡ true }
-        ensures more { KnowsMore desk.old.desk.knows desk.new.desk.knows }
+        ensures after { AfterView desk.old.desk result desk.new.desk }
     {
         level_in(self.board.shared.load::<DeskLoadLevel>(&mut desk.seat, 0))
     }
@@ -77,13 +73,9 @@ impl<A: Allocator> Gate<A> {
     pub fn seen(&self, desk: &mut Desk, request: u32) -> Option<Decision>
         requires own { desk_gate desk.old ≡ self.now }
         requires is_request { request < length self.now.shape.widths }
-        ensures gate { desk_gate desk.new ≡ desk_gate desk.old }
+        ensures same { SameDesk desk.old desk.new }
         ensures answer { DeskLoadsDecision request desk.old.desk result desk.new.desk }
-        ensures same { (desk.new.desk.services ≡ desk.old.desk.services) × (desk.new.desk.held ≡ desk.old.desk.held) }
-        ensures waits { service desk.old.desk request ≡ Waiting → (result ≡ None) ⊎ (result ≡ Some Cancelled) }
-        ensures told { result ≢ None → told_of desk.new.desk.knows.told request ≡ result }
-        ensures stays { told_of desk.old.desk.knows.told request ≢ None → result ≡ told_of desk.old.desk.knows.told request }
-        ensures more { KnowsMore desk.old.desk.knows desk.new.desk.knows }
+        ensures after { AfterSeen desk.old.desk request result desk.new.desk }
     {
         decision_in(self.load_seen(desk, request))
     }
@@ -95,11 +87,9 @@ impl<A: Allocator> Gate<A> {
         requires is_request { request < length self.now.shape.widths }
         requires waits { service desk.old.desk request ≡ Waiting }
         requires holds_none { desk.old.desk.held ≡ None }
-        ensures gate { desk_gate desk.new ≡ desk_gate desk.old }
+        ensures same { SameDesk desk.old desk.new }
         ensures answer { TriesToGrant desk.old.desk request result desk.new.desk }
-        ensures held { result ≡ TryGrant.Granted → (desk.new.desk.held ≡ Some request) × (desk.new.desk.services ≡ (request, Held) ∷ desk.old.desk.services) }
-        ensures same { result ≢ TryGrant.Granted → (desk.new.desk.services ≡ desk.old.desk.services) × (desk.new.desk.held ≡ None) }
-        ensures more { KnowsMore desk.old.desk.knows desk.new.desk.knows }
+        ensures after { AfterTryGrant desk.old.desk request result desk.new.desk }
     {
         let level = self.view(desk);
         let width = self.gauge.widths[request as usize];
@@ -119,14 +109,9 @@ impl<A: Allocator> Gate<A> {
     pub fn settle(&self, desk: &mut Desk) -> Decision
         requires own { desk_gate desk.old ≡ self.now }
         requires holds { desk.old.desk.held ≢ None }
-        ensures gate { desk_gate desk.new ≡ desk_gate desk.old }
+        ensures same { SameDesk desk.old desk.new }
         ensures answer { SettlesTo desk.old.desk result desk.new.desk }
-        ensures answers { (result ≡ Execute) ⊎ (result ≡ Cancelled) }
-        ensures told { (r : ℕ) → desk.old.desk.held ≡ Some r → told_of desk.new.desk.knows.told r ≡ Some result }
-        ensures settled { result ≡ Execute → desk.new.desk.held ≡ None }
-        ensures services { (r : ℕ) → desk.old.desk.held ≡ Some r → result ≡ Execute → desk.new.desk.services ≡ (r, Settled) ∷ desk.old.desk.services }
-        ensures lost { result ≡ Cancelled → (desk.new.desk.held ≡ desk.old.desk.held) × (desk.new.desk.services ≡ desk.old.desk.services) }
-        ensures more { KnowsMore desk.old.desk.knows desk.new.desk.knows }
+        ensures after { AfterSettle desk.old.desk result desk.new.desk }
     {
         let Some(request) = desk.held else {
             unreachable!()
@@ -143,11 +128,9 @@ impl<A: Allocator> Gate<A> {
         requires own { desk_gate desk.old ≡ self.now }
         requires holds { desk.old.desk.held ≢ None }
         requires lost { (r : ℕ) → desk.old.desk.held ≡ Some r → told_of desk.old.desk.knows.told r ≢ None }
-        ensures gate { desk_gate desk.new ≡ desk_gate desk.old }
+        ensures same { SameDesk desk.old desk.new }
         ensures answer { (r : ℕ) × (desk.old.desk.held ≡ Some r) × ((level : Level) × DeskSubtractsSeats r desk.old.desk level desk.new.desk) }
-        ensures holds_none { desk.new.desk.held ≡ None }
-        ensures services { (r : ℕ) → desk.old.desk.held ≡ Some r → desk.new.desk.services ≡ (r, Left) ∷ desk.old.desk.services }
-        ensures more { KnowsMore desk.old.desk.knows desk.new.desk.knows }
+        ensures after { AfterGiveBack desk.old.desk desk.new.desk }
     {
         let Some(request) = desk.held else {
             unreachable!()
@@ -162,11 +145,9 @@ impl<A: Allocator> Gate<A> {
         requires is_request { request < length self.now.shape.widths }
         requires waits { service desk.old.desk request ≡ Waiting }
         requires seen_cancelled { told_of desk.old.desk.knows.told request ≡ Some Cancelled }
-        ensures gate { desk_gate desk.new ≡ desk_gate desk.old }
+        ensures same { SameDesk desk.old desk.new }
         ensures answer { (level : Level) × DeskSubtractsWaiter request desk.old.desk level desk.new.desk }
-        ensures more { KnowsMore desk.old.desk.knows desk.new.desk.knows }
-        ensures services { desk.new.desk.services ≡ (request, Left) ∷ desk.old.desk.services }
-        ensures held { desk.new.desk.held ≡ desk.old.desk.held }
+        ensures after { AfterLeave desk.old.desk request desk.new.desk }
     {
         self.leave_of::<Brand>(desk, request);
     }
@@ -175,9 +156,8 @@ impl<A: Allocator> Gate<A> {
     fn load_seen(&self, desk: &mut Desk, request: u32) -> u64
         requires own { desk_gate desk.old ≡ self.now }
         requires is_request { request < length self.now.shape.widths }
-        ensures gate { desk_gate desk.new ≡ desk_gate desk.old }
+        ensures same { SameDesk desk.old desk.new }
         ensures found { OfDecision (λ found. DeskLoadsDecision request desk.old.desk found desk.new.desk) result }
-        ensures more { KnowsMore desk.old.desk.knows desk.new.desk.knows }
     {
         let word = request as usize + 1;
         self.board
@@ -195,11 +175,10 @@ impl<A: Allocator> Gate<A> {
         requires in_range { IsInRange level }
         requires some_wait { 1 ≤ level.waiters }
         requires room { Fits level.seats level.limit (width self.now.shape.widths request) }
-        ensures gate { desk_gate desk.new ≡ desk_gate desk.old }
+        ensures same { SameDesk desk.old desk.new }
         ensures granted { MatchBool result
             (DeskExchangesLevel request desk.old.desk level desk.new.desk)
             ((other : Level) × (other ≢ level) × DeskLoadsLevel desk.old.desk other desk.new.desk) }
-        ensures more { KnowsMore desk.old.desk.knows desk.new.desk.knows }
     {
         let word = level.pack();
         let width = self.gauge.widths[request as usize];
@@ -219,9 +198,8 @@ impl<A: Allocator> Gate<A> {
     fn exchange_settled(&self, desk: &mut Desk, request: u32) -> u64
         requires own { desk_gate desk.old ≡ self.now }
         requires holds { desk.old.desk.held ≡ Some request }
-        ensures gate { desk_gate desk.new ≡ desk_gate desk.old }
+        ensures same { SameDesk desk.old desk.new }
         ensures found { OfDecision (λ found. MatchBool (result == code_in None) (DeskExchangesDecision request desk.old.desk desk.new.desk) (DeskMissesDecision request desk.old.desk found desk.new.desk)) result }
-        ensures more { KnowsMore desk.old.desk.knows desk.new.desk.knows }
     {
         let word = request as usize + 1;
         let code = Decision::Execute.code();
@@ -241,9 +219,8 @@ impl<A: Allocator> Gate<A> {
         requires chosen { request ≡ J.request }
         requires holds { desk.old.desk.held ≡ Some request }
         requires lost { told_of desk.old.desk.knows.told request ≢ None }
-        ensures gate { desk_gate desk.new ≡ desk_gate desk.old }
+        ensures same { SameDesk desk.old desk.new }
         ensures answer { (level : Level) × DeskSubtractsSeats request desk.old.desk level desk.new.desk }
-        ensures more { KnowsMore desk.old.desk.knows desk.new.desk.knows }
     {
         let seats = LevelWord::to_release(self.gauge.widths[request as usize]);
         self.board
@@ -258,9 +235,8 @@ impl<A: Allocator> Gate<A> {
         requires chosen { request ≡ J.request }
         requires waits { service desk.old.desk request ≡ Waiting }
         requires seen_cancelled { told_of desk.old.desk.knows.told request ≡ Some Cancelled }
-        ensures gate { desk_gate desk.new ≡ desk_gate desk.old }
+        ensures same { SameDesk desk.old desk.new }
         ensures answer { (level : Level) × DeskSubtractsWaiter request desk.old.desk level desk.new.desk }
-        ensures more { KnowsMore desk.old.desk.knows desk.new.desk.knows }
     {
         self.board
             .shared

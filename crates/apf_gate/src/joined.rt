@@ -1,20 +1,17 @@
 //! The steps of the Desk with a Pass joined to it.
 
-ghost use Rattle.std.specs.Prelude.{◌≡◌, ◌≢◌, ◌⊎◌, [], ◌∷◌, ◌+◌, ◌==◌, true, false, MatchBool, Option, Some, None};
+ghost use Rattle.std.specs.Prelude.{◌≡◌, ◌≢◌, [], ◌∷◌, ◌+◌, ◌==◌, true, false, MatchBool, None};
 ghost use Rattle.apf_words.specs.Codes.{code_in};
 ghost use Rattle.apf_words.specs.Level.{Level};
-ghost use Rattle.apf_words.specs.declared.decision.Decision.{Decision};
-ghost use Rattle.apf_words.specs.declared.decision.Decision.TheVariants.{QueueFull, Closed, Cancelled};
 ghost use Rattle.apf_model.specs.declared.response.Response.TheVariants.{Queue};
 ghost use Rattle.apf_gate.specs.declared.record.Record.TheVariants as records;
-ghost use Rattle.apf_gate.specs.declared.record.Service.TheVariants.{NotHanded, RefusedFull, RefusedClosed, Waiting};
-ghost use Rattle.apf_gate.specs.Records.{told_own, told_of, service, KnowsMore};
-ghost use Rattle.apf_gate.specs.Requests.{AreTied};
+ghost use Rattle.apf_gate.specs.Records.{KnowsMore};
 ghost use Rattle.apf_gate.specs.Rule.{pass_of, desk_of};
 ghost use Rattle.apf_gate.specs.Steps.{IsInRange, OfDecision};
 ghost use Rattle.apf_gate.specs.JoinedSteps.{JoinedLoadsLevel, JoinedExchangesLevel, JoinedLoadsDecision, JoinedExchangesDecision, JoinedMissesDecision};
 ghost use Rattle.apf_gate.specs.Tokens.{pass_gate, desk_gate, both_at, AreBoth, IsAlone};
 ghost use Rattle.apf_gate.specs.DeskCalls.{MayHand, MayRefuse, TriesToEnter, RefusesTo};
+ghost use Rattle.apf_gate.specs.JoinedResults.{SameBoth, AfterTryEnter, AfterRefuse, AfterHear};
 
 use crate::answers::TryEnter;
 use crate::desk::Desk;
@@ -37,21 +34,9 @@ impl<A: Allocator> Gate<A> {
         requires own_pass { pass_gate pass.old ≡ self.now }
         requires has_queues { self.now.shape.response ≡ Queue }
         requires may { MayHand (record { pass = pass.old.pass; desk = desk.old.desk }) }
-        ensures desk { desk_gate desk.new ≡ desk_gate desk.old }
-        ensures pass { pass_gate pass.new ≡ pass_gate pass.old }
+        ensures same { SameBoth desk.old pass.old desk.new pass.new }
         ensures answer { TriesToEnter (record { pass = pass.old.pass; desk = desk.old.desk }) result (record { pass = pass.new.pass; desk = desk.new.desk }) }
-        ensures tied { AreTied pass.old.pass.number pass.old.pass (service desk.old.desk pass.old.pass.number) }
-        ensures entered { result ≡ TryEnter.Entered → (pass.new.pass.entered ≡ true) × (service desk.new.desk pass.old.pass.number ≡ Waiting) }
-        ensures not_entered { result ≢ TryEnter.Entered → pass.new.pass.entered ≡ false }
-        ensures told { told_own pass.new.pass ≡ told_own pass.old.pass }
-        ensures follows { pass.new.pass.knows.trace ≡ desk.new.desk.knows.trace }
-        ensures number { pass.new.pass.number ≡ pass.old.pass.number }
-        ensures state { pass.new.pass.state ≡ pass.old.pass.state }
-        ensures held { desk.new.desk.held ≡ desk.old.desk.held }
-        ensures closed { result ≡ TryEnter.Closed → desk.new.desk.knows.saw_closed ≡ true }
-        ensures stays_closed { desk.old.desk.knows.saw_closed ≡ true → result ≡ TryEnter.Closed }
-        ensures more { KnowsMore desk.old.desk.knows desk.new.desk.knows }
-        ensures not_handed { pass.old.pass.handed ≡ false → service desk.old.desk pass.old.pass.number ≡ NotHanded }
+        ensures after { AfterTryEnter desk.old.desk pass.old.pass result desk.new.desk pass.new.pass }
     {
         self.join(&mut desk.seat, &mut pass.seat);
         let answer = self.enter_joined(&mut desk.seat);
@@ -68,22 +53,9 @@ impl<A: Allocator> Gate<A> {
         requires own_pass { pass_gate pass.old ≡ self.now }
         requires may { MayHand (record { pass = pass.old.pass; desk = desk.old.desk }) }
         requires refusal { MayRefuse desk.old.desk decision }
-        ensures desk { desk_gate desk.new ≡ desk_gate desk.old }
-        ensures pass { pass_gate pass.new ≡ pass_gate pass.old }
+        ensures same { SameBoth desk.old pass.old desk.new pass.new }
         ensures answer { RefusesTo (record { pass = pass.old.pass; desk = desk.old.desk }) decision result (record { pass = pass.new.pass; desk = desk.new.desk }) }
-        ensures answers { (result ≡ decision) ⊎ ((result ≡ Closed) ⊎ (result ≡ Cancelled)) }
-        ensures tied { AreTied pass.old.pass.number pass.old.pass (service desk.old.desk pass.old.pass.number) }
-        ensures full { result ≡ QueueFull → service desk.new.desk pass.old.pass.number ≡ RefusedFull }
-        ensures closed { result ≡ Closed → service desk.new.desk pass.old.pass.number ≡ RefusedClosed }
-        ensures told { told_of desk.new.desk.knows.told pass.old.pass.number ≡ Some result }
-        ensures told_pass { told_own pass.new.pass ≡ Some result }
-        ensures state { pass.new.pass.state ≡ pass.old.pass.state }
-        ensures entered { pass.new.pass.entered ≡ false }
-        ensures number { pass.new.pass.number ≡ pass.old.pass.number }
-        ensures follows { pass.new.pass.knows.trace ≡ desk.new.desk.knows.trace }
-        ensures held { desk.new.desk.held ≡ desk.old.desk.held }
-        ensures more { KnowsMore desk.old.desk.knows desk.new.desk.knows }
-        ensures not_handed { pass.old.pass.handed ≡ false → service desk.old.desk pass.old.pass.number ≡ NotHanded }
+        ensures after { AfterRefuse pass.old.pass decision result desk.new.desk pass.new.pass }
     {
         let word = pass.number as usize + 1;
         self.join(&mut desk.seat, &mut pass.seat);
@@ -100,20 +72,9 @@ impl<A: Allocator> Gate<A> {
     pub fn hear(&self, desk: &mut Desk, pass: &mut Pass) -> Option<Decision>
         requires own_desk { desk_gate desk.old ≡ self.now }
         requires own_pass { pass_gate pass.old ≡ self.now }
-        ensures desk { desk_gate desk.new ≡ desk_gate desk.old }
-        ensures pass { pass_gate pass.new ≡ pass_gate pass.old }
+        ensures same { SameBoth desk.old pass.old desk.new pass.new }
         ensures answer { JoinedLoadsDecision (record { pass = pass.old.pass; desk = desk.old.desk }) result (record { pass = pass.new.pass; desk = desk.new.desk }) }
-        ensures tied { AreTied pass.old.pass.number pass.old.pass (service desk.old.desk pass.old.pass.number) }
-        ensures stays { told_own pass.old.pass ≢ None → result ≡ told_own pass.old.pass }
-        ensures told { result ≢ None → told_of desk.new.desk.knows.told pass.old.pass.number ≡ result }
-        ensures told_pass { result ≢ None → told_own pass.new.pass ≡ result }
-        ensures state { pass.new.pass.state ≡ pass.old.pass.state }
-        ensures number { pass.new.pass.number ≡ pass.old.pass.number }
-        ensures entered { pass.new.pass.entered ≡ pass.old.pass.entered }
-        ensures follows { pass.new.pass.knows.trace ≡ desk.new.desk.knows.trace }
-        ensures served { (desk.new.desk.services ≡ desk.old.desk.services) × (desk.new.desk.held ≡ desk.old.desk.held) }
-        ensures more { KnowsMore desk.old.desk.knows desk.new.desk.knows }
-        ensures not_handed { pass.old.pass.handed ≡ false → service desk.old.desk pass.old.pass.number ≡ NotHanded }
+        ensures after { AfterHear desk.old.desk pass.old.pass result desk.new.desk pass.new.pass }
     {
         let word = pass.number as usize + 1;
         self.join(&mut desk.seat, &mut pass.seat);

@@ -1,17 +1,16 @@
 //! The token of a request, and its steps.
 
-ghost use Rattle.std.specs.Prelude.{◌≡◌, ◌≢◌, ◌⊎◌, ◌<◌, ◌==◌, length, not, true, false, MatchBool, Option, Some, None};
+ghost use Rattle.std.specs.Prelude.{◌≡◌, ◌≢◌, ◌<◌, ◌==◌, length, not, true, false, MatchBool};
 ghost use Rattle.apf_words.specs.Fits.{Fits};
 ghost use Rattle.apf_words.specs.Level.{Level};
-ghost use Rattle.apf_words.specs.declared.decision.Decision.{Decision};
-ghost use Rattle.apf_words.specs.declared.decision.Decision.TheVariants.{Execute, Cancelled};
 ghost use Rattle.apf_model.specs.declared.response.Response.TheVariants.{Reject};
-ghost use Rattle.apf_gate.specs.declared.record.State.TheVariants.{Fresh, Took, InLine, Over};
-ghost use Rattle.apf_gate.specs.Records.{told_own, own_width, KnowsMore};
+ghost use Rattle.apf_gate.specs.declared.record.State.TheVariants.{Fresh};
+ghost use Rattle.apf_gate.specs.Records.{own_width};
 ghost use Rattle.apf_gate.specs.Steps.{IsInRange};
-ghost use Rattle.apf_gate.specs.PassSteps.{deciding_state, PassLoadsLevel, PassMissesLevel, PassExchangesLevel, PassSubtractsLevel, PassLoadsDecision, PassAsksDecision};
+ghost use Rattle.apf_gate.specs.PassSteps.{PassLoadsLevel, PassMissesLevel, PassExchangesLevel, PassSubtractsLevel, PassLoadsDecision, PassAsksDecision};
 ghost use Rattle.apf_gate.specs.Tokens.{pass_gate};
 ghost use Rattle.apf_gate.specs.PassCalls.{TriesToTake, MayWrite, MayRelease, Decides};
+ghost use Rattle.apf_gate.specs.PassResults.{SamePass, AfterTryTake, AfterAsk, AfterTold, AfterDecide, AfterRelease};
 
 use crate::answers::TryTake;
 use crate::gate::{Gate, decision_in, level_in};
@@ -63,17 +62,9 @@ impl<A: Allocator> Gate<A> {
     pub fn try_take(&self, pass: &mut Pass) -> TryTake
         requires own { pass_gate pass.old ≡ self.now }
         requires fresh { pass.old.pass.state ≡ Fresh }
-        ensures gate { pass_gate pass.new ≡ pass_gate pass.old }
+        ensures same { SamePass pass.old pass.new }
         ensures answer { TriesToTake pass.old.pass result pass.new.pass }
-        ensures took { result ≡ TryTake.Taken → (pass.new.pass.state ≡ Took) × (pass.new.pass.wrote ≡ None) }
-        ensures fresh { result ≢ TryTake.Taken → pass.new.pass.state ≡ Fresh }
-        ensures number { pass.new.pass.number ≡ pass.old.pass.number }
-        ensures closed { result ≡ TryTake.Closed → pass.new.pass.knows.saw_closed ≡ true }
-        ensures no_room { result ≡ TryTake.NoRoom → pass.new.pass.no_room ≡ true }
-        ensures raced { result ≡ TryTake.Raced → pass.new.pass.no_room ≡ false }
-        ensures stays_closed { pass.old.pass.knows.saw_closed ≡ true → result ≡ TryTake.Closed }
-        ensures no_queues { self.now.shape.response ≡ Reject → result ≢ TryTake.Waiters }
-        ensures more { KnowsMore pass.old.pass.knows pass.new.pass.knows }
+        ensures after { AfterTryTake pass.old.pass result pass.new.pass }
     {
         let level = self.load_as_pass(pass);
         if level.closed() {
@@ -95,15 +86,9 @@ impl<A: Allocator> Gate<A> {
     /// makes one load of the request's decision word.
     pub fn ask(&self, pass: &mut Pass) -> Option<Decision>
         requires own { pass_gate pass.old ≡ self.now }
-        ensures gate { pass_gate pass.new ≡ pass_gate pass.old }
+        ensures same { SamePass pass.old pass.new }
         ensures answer { PassAsksDecision pass.old.pass result pass.new.pass }
-        ensures in_line { pass.old.pass.state ≡ Fresh → pass.new.pass.state ≡ InLine }
-        ensures number { pass.new.pass.number ≡ pass.old.pass.number }
-        ensures told { result ≢ None → told_own pass.new.pass ≡ result }
-        ensures fresh { pass.old.pass.state ≡ Fresh → (result ≡ None) ⊎ (result ≡ Some Cancelled) }
-        ensures not_handed { pass.old.pass.state ≡ Fresh → (pass.new.pass.handed ≡ false) × (pass.new.pass.entered ≡ false) }
-        ensures stays { told_own pass.old.pass ≢ None → result ≡ told_own pass.old.pass }
-        ensures more { KnowsMore pass.old.pass.knows pass.new.pass.knows }
+        ensures after { AfterAsk pass.old.pass result pass.new.pass }
     {
         let word = pass.number as usize + 1;
         let shared = &self.board.shared;
@@ -113,14 +98,9 @@ impl<A: Allocator> Gate<A> {
     /// Reads the request's decision, by one load of its word.
     pub fn told(&self, pass: &mut Pass) -> Option<Decision>
         requires own { pass_gate pass.old ≡ self.now }
-        ensures gate { pass_gate pass.new ≡ pass_gate pass.old }
+        ensures same { SamePass pass.old pass.new }
         ensures answer { PassLoadsDecision pass.old.pass result pass.new.pass }
-        ensures told { result ≢ None → told_own pass.new.pass ≡ result }
-        ensures fresh { pass.old.pass.state ≡ Fresh → (result ≡ None) ⊎ (result ≡ Some Cancelled) }
-        ensures stays { told_own pass.old.pass ≢ None → result ≡ told_own pass.old.pass }
-        ensures state { pass.new.pass.state ≡ pass.old.pass.state }
-        ensures number { pass.new.pass.number ≡ pass.old.pass.number }
-        ensures more { KnowsMore pass.old.pass.knows pass.new.pass.knows }
+        ensures after { AfterTold pass.old.pass result pass.new.pass }
     {
         let word = pass.number as usize + 1;
         let shared = &self.board.shared;
@@ -136,14 +116,9 @@ impl<A: Allocator> Gate<A> {
     pub fn decide(&self, pass: &mut Pass, decision: Decision) -> Decision
         requires own { pass_gate pass.old ≡ self.now }
         requires may { MayWrite pass.old.pass decision }
-        ensures gate { pass_gate pass.new ≡ pass_gate pass.old }
+        ensures same { SamePass pass.old pass.new }
         ensures answer { Decides pass.old.pass decision result pass.new.pass }
-        ensures answers { (result ≡ decision) ⊎ (result ≡ Cancelled) }
-        ensures told { told_own pass.new.pass ≡ Some result }
-        ensures stays { told_own pass.old.pass ≢ None → Some result ≡ told_own pass.old.pass }
-        ensures state { pass.new.pass.state ≡ deciding_state decision pass.old.pass.state }
-        ensures number { pass.new.pass.number ≡ pass.old.pass.number }
-        ensures more { KnowsMore pass.old.pass.knows pass.new.pass.knows }
+        ensures after { AfterDecide pass.old.pass decision result pass.new.pass }
     {
         let word = pass.number as usize + 1;
         let code = decision.code();
@@ -164,12 +139,9 @@ impl<A: Allocator> Gate<A> {
     pub fn release(&self, pass: &mut Pass) -> bool
         requires own { pass_gate pass.old ≡ self.now }
         requires stands { MayRelease pass.old.pass }
-        ensures gate { pass_gate pass.new ≡ pass_gate pass.old }
+        ensures same { SamePass pass.old pass.new }
         ensures answer { (level : Level) × PassSubtractsLevel pass.old.pass level pass.new.pass × (result ≡ not (level.waiters == 0)) }
-        ensures state { pass.new.pass.state ≡ Over }
-        ensures number { pass.new.pass.number ≡ pass.old.pass.number }
-        ensures told { told_own pass.new.pass ≡ told_own pass.old.pass }
-        ensures more { KnowsMore pass.old.pass.knows pass.new.pass.knows }
+        ensures after { AfterRelease pass.old.pass pass.new.pass }
     {
         let width = LevelWord::to_release(pass.width);
         let found = self
@@ -183,14 +155,13 @@ impl<A: Allocator> Gate<A> {
     fn load_as_pass(&self, pass: &mut Pass) -> LevelWord
         requires own { pass_gate pass.old ≡ self.now }
         requires fresh { pass.old.pass.state ≡ Fresh }
-        ensures gate { pass_gate pass.new ≡ pass_gate pass.old }
-        ensures same { (pass.new.pass.number ≡ pass.old.pass.number) × (pass.new.pass.state ≡ Fresh) × (pass.new.pass.knows.shape ≡ pass.old.pass.knows.shape) }
+        ensures same { SamePass pass.old pass.new }
+        ensures fresh { pass.new.pass.state ≡ Fresh }
         ensures looked { PassLoadsLevel pass.old.pass result pass.new.pass }
         ensures in_range { IsInRange result }
         ensures closed { result.closed ≡ true → pass.new.pass.knows.saw_closed ≡ true }
         ensures no_room { result.closed ≡ false → result.waiters ≡ 0 → ¬ Fits result.seats result.limit (own_width pass.old.pass) → pass.new.pass.no_room ≡ true }
-        ensures no_queues { self.now.shape.response ≡ Reject → result.waiters ≡ 0 }
-        ensures more { KnowsMore pass.old.pass.knows pass.new.pass.knows }
+        ensures no_queues { pass.old.pass.knows.shape.response ≡ Reject → result.waiters ≡ 0 }
     {
         level_in(self.board.shared.load::<PassLoadLevel>(&mut pass.seat, 0))
     }
@@ -204,11 +175,10 @@ impl<A: Allocator> Gate<A> {
         requires open_ { level.closed ≡ false }
         requires nobody { level.waiters ≡ 0 }
         requires room { Fits level.seats level.limit (own_width pass.old.pass) }
-        ensures gate { pass_gate pass.new ≡ pass_gate pass.old }
+        ensures same { SamePass pass.old pass.new }
         ensures took { MatchBool result
             (PassExchangesLevel pass.old.pass level pass.new.pass)
             ((other : Level) × (other ≢ level) × PassMissesLevel pass.old.pass other pass.new.pass) }
-        ensures more { KnowsMore pass.old.pass.knows pass.new.pass.knows }
     {
         let word = level.pack();
         let new = level.with_seats(pass.width).pack();

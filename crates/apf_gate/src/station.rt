@@ -1,15 +1,14 @@
 //! The token that cancels, closes, changes the limit and looks.
 
-ghost use Rattle.std.specs.Prelude.{◌≡◌, ◌≢◌, ◌⊎◌, ◌↔◌, ◌<◌, ◌≤◌, ◌==◌, length, not, true, false, MatchBool, Option, Some, None};
+ghost use Rattle.std.specs.Prelude.{◌≡◌, ◌≢◌, ◌<◌, ◌≤◌, ◌==◌, length, MatchBool, None};
 ghost use Rattle.apf_words.specs.Codes.{code_in};
 ghost use Rattle.apf_words.specs.Level.{Level};
-ghost use Rattle.apf_words.specs.declared.decision.Decision.TheVariants.{Cancelled};
-ghost use Rattle.apf_gate.specs.Records.{told_of, KnowsMore};
 ghost use Rattle.apf_words.specs.Limits.{max_limit};
 ghost use Rattle.apf_gate.specs.Steps.{IsInRange, OfDecision};
 ghost use Rattle.apf_gate.specs.StationSteps.{StationLoadsLevel, StationLoadsDecision, StationExchangesDecision, StationExchangesLevel};
 ghost use Rattle.apf_gate.specs.Tokens.{station_gate};
 ghost use Rattle.apf_gate.specs.StationCalls.{CancelsTo, ClosesTo, TriesToSet};
+ghost use Rattle.apf_gate.specs.StationResults.{SameStation, AfterLook, AfterRead, AfterCancel, AfterClose};
 
 use crate::answers::{Close, TrySetLimit};
 use crate::gate::{Gate, decision_in, level_in};
@@ -48,12 +47,9 @@ impl<A: Allocator> Gate<A> {
     /// Reads the level word, by one load.
     pub fn look(&self, station: &mut Station) -> LevelWord
         requires own { station_gate station.old ≡ self.now }
-        ensures gate { station_gate station.new ≡ station_gate station.old }
+        ensures same { SameStation station.old station.new }
         ensures answer { StationLoadsLevel station.old.station result station.new.station }
-        ensures in_range { IsInRange result }
-        ensures closed { result.closed ≡ true → station.new.station.knows.saw_closed ≡ true }
-        ensures stays_closed { station.old.station.knows.saw_closed ≡ true → result.closed ≡ true }
-        ensures more { KnowsMore station.old.station.knows station.new.station.knows }
+        ensures after { AfterLook station.old.station result station.new.station }
     {
         let shared = &self.board.shared;
         level_in(shared.load::<StationLoadLevel>(&mut station.seat, 0))
@@ -63,11 +59,9 @@ impl<A: Allocator> Gate<A> {
     pub fn read(&self, station: &mut Station, request: u32) -> Option<Decision>
         requires own { station_gate station.old ≡ self.now }
         requires is_request { request < length self.now.shape.widths }
-        ensures gate { station_gate station.new ≡ station_gate station.old }
+        ensures same { SameStation station.old station.new }
         ensures answer { StationLoadsDecision request station.old.station result station.new.station }
-        ensures told { result ≢ None → told_of station.new.station.knows.told request ≡ result }
-        ensures stays { told_of station.old.station.knows.told request ≢ None → result ≡ told_of station.old.station.knows.told request }
-        ensures more { KnowsMore station.old.station.knows station.new.station.knows }
+        ensures after { AfterRead station.old.station request result station.new.station }
     {
         decision_in(self.load_word(station, request))
     }
@@ -77,11 +71,9 @@ impl<A: Allocator> Gate<A> {
     pub fn cancel(&self, station: &mut Station, request: u32) -> Decision
         requires own { station_gate station.old ≡ self.now }
         requires is_request { request < length self.now.shape.widths }
-        ensures gate { station_gate station.new ≡ station_gate station.old }
+        ensures same { SameStation station.old station.new }
         ensures answer { CancelsTo station.old.station request result station.new.station }
-        ensures told { told_of station.new.station.knows.told request ≡ Some result }
-        ensures stays { told_of station.old.station.knows.told request ≢ None → Some result ≡ told_of station.old.station.knows.told request }
-        ensures more { KnowsMore station.old.station.knows station.new.station.knows }
+        ensures after { AfterCancel station.old.station request result station.new.station }
     {
         match decision_in(self.exchange_word(station, request)) {
             None => {
@@ -95,11 +87,9 @@ impl<A: Allocator> Gate<A> {
     /// Closes the level, by one step on the level word. Says whether this close was the first.
     pub fn close(&self, station: &mut Station) -> Close
         requires own { station_gate station.old ≡ self.now }
-        ensures gate { station_gate station.new ≡ station_gate station.old }
+        ensures same { SameStation station.old station.new }
         ensures answer { ClosesTo station.old.station result station.new.station }
-        ensures closed { station.new.station.knows.saw_closed ≡ true }
-        ensures stays_closed { station.old.station.knows.saw_closed ≡ true → result ≡ Close.Already }
-        ensures more { KnowsMore station.old.station.knows station.new.station.knows }
+        ensures after { AfterClose station.old.station result station.new.station }
     {
         let shared = &self.board.shared;
         let found = shared.fetch_or::<StationCloseLevel>(
@@ -119,9 +109,8 @@ impl<A: Allocator> Gate<A> {
         requires own { station_gate station.old ≡ self.now }
         requires some_limit { 1 ≤ limit }
         requires small_limit { limit ≤ max_limit }
-        ensures gate { station_gate station.new ≡ station_gate station.old }
+        ensures same { SameStation station.old station.new }
         ensures answer { TriesToSet station.old.station limit result station.new.station }
-        ensures more { KnowsMore station.old.station.knows station.new.station.knows }
     {
         let level = self.look(station);
         if !self.exchange_limit(station, level, limit) {
@@ -134,9 +123,8 @@ impl<A: Allocator> Gate<A> {
     fn load_word(&self, station: &mut Station, request: u32) -> u64
         requires own { station_gate station.old ≡ self.now }
         requires is_request { request < length self.now.shape.widths }
-        ensures gate { station_gate station.new ≡ station_gate station.old }
+        ensures same { SameStation station.old station.new }
         ensures found { OfDecision (λ found. StationLoadsDecision request station.old.station found station.new.station) result }
-        ensures more { KnowsMore station.old.station.knows station.new.station.knows }
     {
         let word = request as usize + 1;
         self.board
@@ -148,9 +136,8 @@ impl<A: Allocator> Gate<A> {
     fn exchange_word(&self, station: &mut Station, request: u32) -> u64
         requires own { station_gate station.old ≡ self.now }
         requires is_request { request < length self.now.shape.widths }
-        ensures gate { station_gate station.new ≡ station_gate station.old }
+        ensures same { SameStation station.old station.new }
         ensures found { OfDecision (λ found. MatchBool (result == code_in None) (StationExchangesDecision request station.old.station station.new.station) (StationLoadsDecision request station.old.station found station.new.station)) result }
-        ensures more { KnowsMore station.old.station.knows station.new.station.knows }
     {
         let word = request as usize + 1;
         let code = Decision::Cancelled.code();
@@ -165,11 +152,10 @@ impl<A: Allocator> Gate<A> {
         requires in_range { IsInRange level }
         requires some_limit { 1 ≤ limit }
         requires small_limit { limit ≤ max_limit }
-        ensures gate { station_gate station.new ≡ station_gate station.old }
+        ensures same { SameStation station.old station.new }
         ensures set { MatchBool result
             (StationExchangesLevel limit station.old.station level station.new.station)
             ((other : Level) × (other ≢ level) × StationLoadsLevel station.old.station other station.new.station) }
-        ensures more { KnowsMore station.old.station.knows station.new.station.knows }
     {
         let word = level.pack();
         let new = level.with_limit(limit).pack();

@@ -29,9 +29,9 @@ after_dispatch q k v = record { next = put v.next q (v.next q + k); virtual_time
 
 -- an event comes after a history
 abbrev pub after_event : List ℕ → List Event → Event → Numbers → Numbers
-after_event widths h (Enter r q) v = after_enter q (waiting h q) v
-after_event widths h (Dispatch r q) v = after_dispatch q (width widths r) v
-after_event widths h _ v = v
+after_event widths history (Enter request queue) before = after_enter queue (waiting history queue) before
+after_event widths history (Dispatch request queue) before = after_dispatch queue (width widths request) before
+after_event widths history _ before = before
 
 -- the numbers of a history
 abbrev pub numbers : ℕ → List ℕ → List Event → Numbers

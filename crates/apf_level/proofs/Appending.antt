@@ -1,5 +1,5 @@
 -- The event of an arrival stands in the log of a level, whatever is dispatched and struck after it.
-use Rattle.std.proofs.Common.{◌≡◌, ℕ, [], ◌∷◌, sym, ap, ◌∙◌, subst}
+use Rattle.std.proofs.Common.{◌≡◌, ℕ, [], ◌∷◌, ap, ◌∙◌, subst}
 use Rattle.apf_history.specs.declared.events.Event.{Event}
 use Rattle.apf_book.specs.LedgerView.{LedgerView, IsLogOf}
 use Rattle.apf_book.specs.Servings.{Serves, with}

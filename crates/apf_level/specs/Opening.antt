@@ -8,7 +8,7 @@ use Rattle.apf_book.specs.declared.fault.BookFault.{BookFault}
 use Rattle.apf_book.specs.declared.fault.BookFault.TheVariants.{NoMemory}
 use Rattle.apf_book.specs.Opening.{AreSettings, IsFaultOf}
 
--- the first fault: with queues the book's, without them want of memory alone
+-- the first fault: with queues the book's, without them out of memory alone
 abbrev pub FaultBy : Response → Config → List Ask → BookFault → Type 0
 FaultBy Queue c asks fault = IsFaultOf c asks fault
 FaultBy Reject c asks fault = fault ≡ NoMemory

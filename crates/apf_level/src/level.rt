@@ -23,7 +23,7 @@ use std::alloc::Global;
 use std::marker::{Model, PhantomData};
 use std::sync::Mutex;
 
-/// Why a level is not opened: the dealer's fault, the queues', or want of memory, the first of these.
+/// Why a level is not opened: the dealer's fault, the queues', or out of memory, the first of these.
 pub type LevelFault = BookFault;
 
 /// A priority level, which any number of threads may step on. K says which one it is.

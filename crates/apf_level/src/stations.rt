@@ -1,11 +1,10 @@
 //! The calls of a Station, outside the lock.
 
-ghost use Rattle.std.specs.Prelude.{◌≡◌, ◌≢◌, ◌<◌, ◌≤◌, length, true, Some, None};
+ghost use Rattle.std.specs.Prelude.{◌≡◌, ◌<◌, ◌≤◌, length};
 ghost use Rattle.apf_words.specs.Limits.{max_limit};
-ghost use Rattle.apf_gate.specs.Records.{told_of, KnowsMore};
-ghost use Rattle.apf_gate.specs.Steps.{IsInRange};
 ghost use Rattle.apf_gate.specs.StationSteps.{StationLoadsLevel};
 ghost use Rattle.apf_gate.specs.StationCalls.{CancelsTo, ClosesTo, TriesToSet};
+ghost use Rattle.apf_gate.specs.StationResults.{SameStation, AfterLook, AfterCancel, AfterClose};
 ghost use Rattle.apf_gate.specs.Tokens.{station_gate};
 
 use crate::level::Level;
@@ -19,11 +18,9 @@ impl<K: Naming> Level<K> {
     pub fn cancel(&self, station: &mut Station, request: u32) -> Decision
         requires own { station_gate station.old ≡ K.level.gate }
         requires is_request { request < length K.level.gate.shape.widths }
-        ensures gate { station_gate station.new ≡ station_gate station.old }
+        ensures same { SameStation station.old station.new }
         ensures answer { CancelsTo station.old.station request result station.new.station }
-        ensures told { told_of station.new.station.knows.told request ≡ Some result }
-        ensures stays { told_of station.old.station.knows.told request ≢ None → Some result ≡ told_of station.old.station.knows.told request }
-        ensures more { KnowsMore station.old.station.knows station.new.station.knows }
+        ensures after { AfterCancel station.old.station request result station.new.station }
     {
         self.gate.cancel(station, request)
     }
@@ -31,11 +28,9 @@ impl<K: Naming> Level<K> {
     /// Closes the level, by one step on the level word. Says whether this close was the first.
     pub fn close(&self, station: &mut Station) -> Close
         requires own { station_gate station.old ≡ K.level.gate }
-        ensures gate { station_gate station.new ≡ station_gate station.old }
+        ensures same { SameStation station.old station.new }
         ensures answer { ClosesTo station.old.station result station.new.station }
-        ensures closed { station.new.station.knows.saw_closed ≡ true }
-        ensures stays_closed { station.old.station.knows.saw_closed ≡ true → result ≡ Close.Already }
-        ensures more { KnowsMore station.old.station.knows station.new.station.knows }
+        ensures after { AfterClose station.old.station result station.new.station }
     {
         self.gate.close(station)
     }
@@ -43,12 +38,9 @@ impl<K: Naming> Level<K> {
     /// Reads the level word, by one load.
     pub fn look(&self, station: &mut Station) -> LevelWord
         requires own { station_gate station.old ≡ K.level.gate }
-        ensures gate { station_gate station.new ≡ station_gate station.old }
+        ensures same { SameStation station.old station.new }
         ensures answer { StationLoadsLevel station.old.station result station.new.station }
-        ensures in_range { IsInRange result }
-        ensures closed { result.closed ≡ true → station.new.station.knows.saw_closed ≡ true }
-        ensures stays_closed { station.old.station.knows.saw_closed ≡ true → result.closed ≡ true }
-        ensures more { KnowsMore station.old.station.knows station.new.station.knows }
+        ensures after { AfterLook station.old.station result station.new.station }
     {
         self.gate.look(station)
     }
@@ -59,9 +51,8 @@ impl<K: Naming> Level<K> {
         requires own { station_gate station.old ≡ K.level.gate }
         requires some_limit { 1 ≤ limit }
         requires small_limit { limit ≤ max_limit }
-        ensures gate { station_gate station.new ≡ station_gate station.old }
+        ensures same { SameStation station.old station.new }
         ensures answer { TriesToSet station.old.station limit result station.new.station }
-        ensures more { KnowsMore station.old.station.knows station.new.station.knows }
     {
         self.gate.try_set_limit(station, limit)
     }

@@ -18,7 +18,7 @@ pub enum QueueFault {
 }
 
 impl QueueFault {
-    /// The fault's number: 1 for a bad shape, 3 for want of memory. Number 2 is unused.
+    /// The fault's number: 1 for a bad shape, 3 for out of memory. Number 2 is unused.
     pub fn number(self) -> u8
         ensures { result ≡ queue_fault_number self }
     {

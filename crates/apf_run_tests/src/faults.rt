@@ -12,7 +12,7 @@ use std::sync::Wait;
 use std::test::Fail;
 use std::thread::Threads;
 
-// A refusal of the gate is told as the gate's, but want of memory as the call's own.
+// A refusal of the gate is told as the gate's, but out of memory as the call's own.
 #[test]
 fn faults_of_the_gate(rt: HostRuntime) {
     for (fault, replay, run) in [

@@ -36,11 +36,11 @@ shape_for config asks stations = shape_of config.limit config.limit_response (ma
 abbrev pub CanOpen : Config → List Ask → ℕ → Type 0
 CanOpen config asks stations = IsShape (shape_for config asks stations) × SettledBy config.limit_response config asks
 
--- the gate's fault that is told as such: its first, but want of memory
+-- the gate's fault that is told as such: its first, unless that is out of memory
 abbrev pub IsGateFault : Config → List Ask → ℕ → GateFault → Type 0
 IsGateFault config asks stations fault = (fault ≢ gate.NoMemory) × FaultOf (shape_for config asks stations) fault
 
--- the level's fault that is told as such: its first, but want of memory, where the gate has none
+-- the level's fault that is told as such: its first, unless that is out of memory, where the gate has none
 abbrev pub IsLevelFault : Config → List Ask → ℕ → BookFault → Type 0
 IsLevelFault config asks stations fault =
     (fault ≢ book.NoMemory) × IsShape (shape_for config asks stations) × FaultBy config.limit_response config asks fault
@@ -51,14 +51,14 @@ IsOpenFault config asks stations (faults.Gate fault) = IsGateFault config asks s
 IsOpenFault config asks stations (faults.Level fault) = IsLevelFault config asks stations fault
 IsOpenFault config asks stations faults.NoMemory = Unit {0}
 
--- what a fault of the gate is told as: want of memory as the call's own
+-- what a fault of the gate is told as: out of memory as the call's own
 abbrev pub told_of_gate : GateFault → OpenFault
 told_of_gate gate.NoMemory = faults.NoMemory
 told_of_gate gate.BadLimit = faults.Gate gate.BadLimit
 told_of_gate (gate.BadWidth request) = faults.Gate (gate.BadWidth request)
 told_of_gate gate.TooMany = faults.Gate gate.TooMany
 
--- what a fault of the level is told as: want of memory as the call's own
+-- what a fault of the level is told as: out of memory as the call's own
 abbrev pub told_of_level : BookFault → OpenFault
 told_of_level book.NoMemory = faults.NoMemory
 told_of_level (book.Dealer fault) = faults.Level (book.Dealer fault)

@@ -1,7 +1,7 @@
 //! An allocator for tests, which refuses one of its requests.
 //!
 //! A test makes a call once for each request of memory that the call makes, refuses that one, and
-//! sees that the call answers want of memory. Which request is refused stands in a `Cell`, of which
+//! sees that the call answers that it is out of memory. Which request is refused stands in a `Cell`, of which
 //! no contract can speak: what is proved is that each answer is a good allocator's answer, and the
 //! tests show which request is refused.
 #![tactic(auto)]

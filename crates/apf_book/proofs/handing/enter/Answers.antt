@@ -18,17 +18,17 @@ returns-in-Closed-clause-moves g c =
 pub loop-preserved : goal.loop-preserved
 loop-preserved g c = record {
   iterator = search;
-  desk = c.in-Raced.ensures.desk ∙ c.loop.invariant.desk;
-  pass = c.in-Raced.ensures.pass ∙ c.loop.invariant.pass;
-  number = c.in-Raced.ensures.number ∙ c.loop.invariant.number;
-  in_line = c.in-Raced.ensures.state ∙ c.loop.invariant.in_line;
-  not_entered = c.in-Raced.ensures.not_entered (λ e. cc);
-  told = c.in-Raced.ensures.told ∙ c.loop.invariant.told;
+  desk = c.in-Raced.ensures.same.gate_of_desk ∙ c.loop.invariant.desk;
+  pass = c.in-Raced.ensures.same.gate_of_pass ∙ c.loop.invariant.pass;
+  number = c.in-Raced.ensures.same.number ∙ c.loop.invariant.number;
+  in_line = c.in-Raced.ensures.same.state ∙ c.loop.invariant.in_line;
+  not_entered = c.in-Raced.ensures.after.not_entered (λ e. cc);
+  told = c.in-Raced.ensures.after.told ∙ c.loop.invariant.told;
   moves = tries_then c.args.desk.now.desk c.args.pass.now.pass.number (record { pass = c.loop.pass.pass; desk = c.loop.desk.desk }) (record { pass = c.try_enter.new.pass.pass; desk = c.try_enter.new.desk.desk })
       tried.Raced c.loop.invariant.moves c.loop.invariant.number c.in-Raced.ensures.answer;
   says = tries_say_then c.args.desk.now.desk c.args.pass.now.pass.number (record { pass = c.loop.pass.pass; desk = c.loop.desk.desk }) (record { pass = c.try_enter.new.pass.pass; desk = c.try_enter.new.desk.desk })
       tried.Raced c.loop.invariant.says c.loop.invariant.number c.in-Raced.ensures.answer;
-  held = c.in-Raced.ensures.held ∙ c.loop.invariant.held;
+  held = c.in-Raced.ensures.same.held ∙ c.loop.invariant.held;
 }
 
 pub returns-in-Entered-clause-says : goal.returns-in-Entered-clause-says

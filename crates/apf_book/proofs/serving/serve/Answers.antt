@@ -14,34 +14,34 @@ use Rattle.apf_book.proofs.serving.serve.Goals as goal
 pub returns-in-Some-Cancelled-clause-moves : goal.returns-in-Some-Cancelled-clause-moves
 returns-in-Some-Cancelled-clause-moves g c =
     moves_then c.args.desk.now.desk c.seen.new.desk.desk c.leave.new.desk.desk c.args.request (logged (service c.args.desk.now.desk c.args.request)) (logged Left)
-    (moves_same c.args.desk.now.desk c.seen.new.desk.desk c.args.request c.seen.ensures.same.0 c.seen.ensures.more)
-    (moves_to c.seen.new.desk.desk c.leave.new.desk.desk c.args.request Left c.leave.ensures.services c.leave.ensures.more)
+    (moves_same c.args.desk.now.desk c.seen.new.desk.desk c.args.request c.seen.ensures.after.served.0 c.seen.ensures.same.more)
+    (moves_to c.seen.new.desk.desk c.leave.new.desk.desk c.args.request Left c.leave.ensures.after.services c.leave.ensures.same.more)
 
 pub returns-in-NoRoom-clause-moves : goal.returns-in-NoRoom-clause-moves
 returns-in-NoRoom-clause-moves g c =
     let r = c.args.request in
-    let seen = moves_same c.args.desk.now.desk c.seen.new.desk.desk r c.seen.ensures.same.0 c.seen.ensures.more in
+    let seen = moves_same c.args.desk.now.desk c.seen.new.desk.desk r c.seen.ensures.after.served.0 c.seen.ensures.same.more in
     let waits = seen.here ∙ ap logged c.requires.waits in
     moves_then c.args.desk.now.desk c.seen.new.desk.desk c.try_grant.new.desk.desk r (logged (service c.args.desk.now.desk r)) (Some status_is.Waits) seen
     (moves_says c.seen.new.desk.desk c.try_grant.new.desk.desk r (logged (service c.seen.new.desk.desk r)) (Some status_is.Waits) waits
-    (moves_same c.seen.new.desk.desk c.try_grant.new.desk.desk r (c.in-NoRoom.ensures.same (λ e. cc)).0 c.in-NoRoom.ensures.more))
+    (moves_same c.seen.new.desk.desk c.try_grant.new.desk.desk r (c.in-NoRoom.ensures.after.not_granted (λ e. cc)).0 c.in-NoRoom.ensures.same.more))
 
 pub returns-in-Raced-clause-moves : goal.returns-in-Raced-clause-moves
 returns-in-Raced-clause-moves g c =
     let r = c.args.request in
-    let seen = moves_same c.args.desk.now.desk c.seen.new.desk.desk r c.seen.ensures.same.0 c.seen.ensures.more in
+    let seen = moves_same c.args.desk.now.desk c.seen.new.desk.desk r c.seen.ensures.after.served.0 c.seen.ensures.same.more in
     let waits = seen.here ∙ ap logged c.requires.waits in
     moves_then c.args.desk.now.desk c.seen.new.desk.desk c.try_grant.new.desk.desk r (logged (service c.args.desk.now.desk r)) (Some status_is.Waits) seen
     (moves_says c.seen.new.desk.desk c.try_grant.new.desk.desk r (logged (service c.seen.new.desk.desk r)) (Some status_is.Waits) waits
-    (moves_same c.seen.new.desk.desk c.try_grant.new.desk.desk r (c.in-Raced.ensures.same (λ e. cc)).0 c.in-Raced.ensures.more))
+    (moves_same c.seen.new.desk.desk c.try_grant.new.desk.desk r (c.in-Raced.ensures.after.not_granted (λ e. cc)).0 c.in-Raced.ensures.same.more))
 
 pub returns-in-Granted-clause-moves : goal.returns-in-Granted-clause-moves
 returns-in-Granted-clause-moves g c =
     let r = c.args.request in
-    let seen = moves_same c.args.desk.now.desk c.seen.new.desk.desk r c.seen.ensures.same.0 c.seen.ensures.more in
+    let seen = moves_same c.args.desk.now.desk c.seen.new.desk.desk r c.seen.ensures.after.served.0 c.seen.ensures.same.more in
     moves_then c.args.desk.now.desk c.try_grant.new.desk.desk c.settle.new.desk.desk r (logged Held) (after_serving c.settle.result)
     (moves_then c.args.desk.now.desk c.seen.new.desk.desk c.try_grant.new.desk.desk r (logged (service c.args.desk.now.desk r)) (logged Held) seen
-    (moves_to c.seen.new.desk.desk c.try_grant.new.desk.desk r Held (c.in-Granted.ensures.held refl).1 c.in-Granted.ensures.more))
+    (moves_to c.seen.new.desk.desk c.try_grant.new.desk.desk r Held (c.in-Granted.ensures.after.held refl).1 c.in-Granted.ensures.same.more))
     c.settle.ensures.moves
 
 pub returns-in-Some-Cancelled-clause-says : goal.returns-in-Some-Cancelled-clause-says

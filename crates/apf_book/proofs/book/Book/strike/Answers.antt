@@ -36,7 +36,7 @@ returns-clause-told g c = λ told q member.
 pub returns-clause-more : goal.returns-clause-more
 returns-clause-more g c =
     subst (λ (v : BookView). KnowsMore v.desk.desk.knows c.leave.new.desk.desk.knows) c.self.view_is
-    (more_then c.self.inside.desk.desk.knows c.seen.new.desk.desk.knows c.leave.new.desk.desk.knows c.seen.ensures.more c.leave.ensures.more)
+    (more_then c.self.inside.desk.desk.knows c.seen.new.desk.desk.knows c.leave.new.desk.desk.knows c.seen.ensures.same.more c.leave.ensures.same.more)
 
 pub returns-in_default-clause-nobody_new : goal.returns-in_default-clause-nobody_new
 returns-in_default-clause-nobody_new g c = λ q r member.
@@ -51,49 +51,49 @@ returns-clause-nobody_new g c = λ q r member.
 pub returns-then-ne-clause-told : goal.returns-then-ne-clause-told
 returns-then-ne-clause-told g c = λ told q member.
     let before = subst (λ (v : BookView). told_of v.desk.desk.knows.told c.args.request ≢ None) (sym c.self.view_is) told in
-    let cancelled = told_cancelled (opened c.legal_histories_are_in_order.ensures).statuses c.self.inside.desk.desk c.self.inside.ledger c.self.invariant q c.args.request c.seen.result member c.seen.ensures.waits (λ none. before (sym (c.seen.ensures.stays before) ∙ none)) in
+    let cancelled = told_cancelled (opened c.legal_histories_are_in_order.ensures).statuses c.self.inside.desk.desk c.self.inside.ledger c.self.invariant q c.args.request c.seen.result member c.seen.ensures.after.waits (λ none. before (sym (c.seen.ensures.after.stays before) ∙ none)) in
     absurd (let bad = rw cancelled at c.if-ne.ensures in cc)
 
 pub leave-requires-clause-waits : goal.leave-requires-clause-waits
 leave-requires-clause-waits g c =
-    ap (λ (services : List (ℕ × Service)). service_of services c.args.request) c.seen.ensures.same.0
+    ap (λ (services : List (ℕ × Service)). service_of services c.args.request) c.seen.ensures.after.served.0
     ∙ member_waits (opened c.legal_histories_are_in_order.ensures).statuses c.self.inside.desk.desk c.self.inside.ledger c.self.invariant c.in-Some._queue c.args.request c.in-Some.ensures.waited
 
 pub invariant_of-self : goal.invariant_of-self
-invariant_of-self g c = (kept_quiet c.self.inside.desk.desk c.seen.new.desk.desk c.self.inside.ledger c.self.invariant c.seen.ensures.same c.seen.ensures.more (loads_decision c.self.inside.desk.desk c.seen.new.desk.desk c.args.request c.seen.result c.seen.ensures.answer))
+invariant_of-self g c = (kept_quiet c.self.inside.desk.desk c.seen.new.desk.desk c.self.inside.ledger c.self.invariant c.seen.ensures.after.served c.seen.ensures.same.more (loads_decision c.self.inside.desk.desk c.seen.new.desk.desk c.args.request c.seen.result c.seen.ensures.answer))
 
 pub returns-then-ne-clause-kept : goal.returns-then-ne-clause-kept
-returns-then-ne-clause-kept g c = (kept_quiet c.self.inside.desk.desk c.seen.new.desk.desk c.self.inside.ledger c.self.invariant c.seen.ensures.same c.seen.ensures.more (loads_decision c.self.inside.desk.desk c.seen.new.desk.desk c.args.request c.seen.result c.seen.ensures.answer))
+returns-then-ne-clause-kept g c = (kept_quiet c.self.inside.desk.desk c.seen.new.desk.desk c.self.inside.ledger c.self.invariant c.seen.ensures.after.served c.seen.ensures.same.more (loads_decision c.self.inside.desk.desk c.seen.new.desk.desk c.args.request c.seen.result c.seen.ensures.answer))
 
 pub invariant_of-self-in_default : goal.invariant_of-self-in_default
-invariant_of-self-in_default g c = subst (λ (v : LedgerView). IsKept c.seen.new.desk.desk v) (sym c.in_default.ensures.none) (kept_quiet c.self.inside.desk.desk c.seen.new.desk.desk c.self.inside.ledger c.self.invariant c.seen.ensures.same c.seen.ensures.more (loads_decision c.self.inside.desk.desk c.seen.new.desk.desk c.args.request c.seen.result c.seen.ensures.answer))
+invariant_of-self-in_default g c = subst (λ (v : LedgerView). IsKept c.seen.new.desk.desk v) (sym c.in_default.ensures.none) (kept_quiet c.self.inside.desk.desk c.seen.new.desk.desk c.self.inside.ledger c.self.invariant c.seen.ensures.after.served c.seen.ensures.same.more (loads_decision c.self.inside.desk.desk c.seen.new.desk.desk c.args.request c.seen.result c.seen.ensures.answer))
 
 pub returns-in_default-clause-kept : goal.returns-in_default-clause-kept
-returns-in_default-clause-kept g c = subst (λ (v : LedgerView). IsKept c.seen.new.desk.desk v) (sym c.in_default.ensures.none) (kept_quiet c.self.inside.desk.desk c.seen.new.desk.desk c.self.inside.ledger c.self.invariant c.seen.ensures.same c.seen.ensures.more (loads_decision c.self.inside.desk.desk c.seen.new.desk.desk c.args.request c.seen.result c.seen.ensures.answer))
+returns-in_default-clause-kept g c = subst (λ (v : LedgerView). IsKept c.seen.new.desk.desk v) (sym c.in_default.ensures.none) (kept_quiet c.self.inside.desk.desk c.seen.new.desk.desk c.self.inside.ledger c.self.invariant c.seen.ensures.after.served c.seen.ensures.same.more (loads_decision c.self.inside.desk.desk c.seen.new.desk.desk c.args.request c.seen.result c.seen.ensures.answer))
 
 pub invariant_of-self-2 : goal.invariant_of-self-2
 invariant_of-self-2 g c =
     let r : ℕ = c.args.request in
     let told : told_of c.seen.new.desk.desk.knows.told r ≡ Some Cancelled = search rules in
     subst (λ (v : LedgerView). IsKept c.leave.new.desk.desk v) (sym c.in-Some.ensures.some)
-    (kept_after c.seen.new.desk.desk c.leave.new.desk.desk c.self.inside.ledger (Strike r c.in-Some._queue) (kept_quiet c.self.inside.desk.desk c.seen.new.desk.desk c.self.inside.ledger c.self.invariant c.seen.ensures.same c.seen.ensures.more (loads_decision c.self.inside.desk.desk c.seen.new.desk.desk c.args.request c.seen.result c.seen.ensures.answer))
+    (kept_after c.seen.new.desk.desk c.leave.new.desk.desk c.self.inside.ledger (Strike r c.in-Some._queue) (kept_quiet c.self.inside.desk.desk c.seen.new.desk.desk c.self.inside.ledger c.self.invariant c.seen.ensures.after.served c.seen.ensures.same.more (loads_decision c.self.inside.desk.desk c.seen.new.desk.desk c.args.request c.seen.result c.seen.ensures.answer))
     (subst IsLogOf c.in-Some.ensures.some c.in-Some.ensures.sound)
-    (moves_to c.seen.new.desk.desk c.leave.new.desk.desk r Left c.leave.ensures.services c.leave.ensures.more)
+    (moves_to c.seen.new.desk.desk c.leave.new.desk.desk r Left c.leave.ensures.after.services c.leave.ensures.same.more)
     (leaves c.seen.new.desk.desk c.leave.new.desk.desk r c.leave.ensures.answer.0 c.leave.ensures.answer.1)
-    (c.leave.ensures.held ∙ (c.seen.ensures.same.1 ∙ c.self.invariant.holds_none))
-    (λ is. told_still c.seen.new.desk.desk.knows c.leave.new.desk.desk.knows r Cancelled c.leave.ensures.more told))
+    (c.leave.ensures.after.held ∙ (c.seen.ensures.after.served.1 ∙ c.self.invariant.holds_none))
+    (λ is. told_still c.seen.new.desk.desk.knows c.leave.new.desk.desk.knows r Cancelled c.leave.ensures.same.more told))
 
 pub returns-clause-kept : goal.returns-clause-kept
 returns-clause-kept g c =
     let r : ℕ = c.args.request in
     let told : told_of c.seen.new.desk.desk.knows.told r ≡ Some Cancelled = search rules in
     subst (λ (v : LedgerView). IsKept c.leave.new.desk.desk v) (sym c.in-Some.ensures.some)
-    (kept_after c.seen.new.desk.desk c.leave.new.desk.desk c.self.inside.ledger (Strike r c.in-Some._queue) (kept_quiet c.self.inside.desk.desk c.seen.new.desk.desk c.self.inside.ledger c.self.invariant c.seen.ensures.same c.seen.ensures.more (loads_decision c.self.inside.desk.desk c.seen.new.desk.desk c.args.request c.seen.result c.seen.ensures.answer))
+    (kept_after c.seen.new.desk.desk c.leave.new.desk.desk c.self.inside.ledger (Strike r c.in-Some._queue) (kept_quiet c.self.inside.desk.desk c.seen.new.desk.desk c.self.inside.ledger c.self.invariant c.seen.ensures.after.served c.seen.ensures.same.more (loads_decision c.self.inside.desk.desk c.seen.new.desk.desk c.args.request c.seen.result c.seen.ensures.answer))
     (subst IsLogOf c.in-Some.ensures.some c.in-Some.ensures.sound)
-    (moves_to c.seen.new.desk.desk c.leave.new.desk.desk r Left c.leave.ensures.services c.leave.ensures.more)
+    (moves_to c.seen.new.desk.desk c.leave.new.desk.desk r Left c.leave.ensures.after.services c.leave.ensures.same.more)
     (leaves c.seen.new.desk.desk c.leave.new.desk.desk r c.leave.ensures.answer.0 c.leave.ensures.answer.1)
-    (c.leave.ensures.held ∙ (c.seen.ensures.same.1 ∙ c.self.invariant.holds_none))
-    (λ is. told_still c.seen.new.desk.desk.knows c.leave.new.desk.desk.knows r Cancelled c.leave.ensures.more told))
+    (c.leave.ensures.after.held ∙ (c.seen.ensures.after.served.1 ∙ c.self.invariant.holds_none))
+    (λ is. told_still c.seen.new.desk.desk.knows c.leave.new.desk.desk.knows r Cancelled c.leave.ensures.same.more told))
 
 pub returns-then-ne-clause-still_stopped : goal.returns-then-ne-clause-still_stopped
 returns-then-ne-clause-still_stopped g c = λ _ is.

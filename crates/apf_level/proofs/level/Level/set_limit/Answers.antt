@@ -10,8 +10,8 @@ loop-preserved g c =
     record {
       next = tt;
       ends = tt;
-      same = c.in_default.ensures.gate ∙ c.loop.invariant.same;
-      more = more_then c.args.station.now.station.knows c.loop.station.station.knows c.try_set_limit.new.station.station.knows c.loop.invariant.more c.in_default.ensures.more;
+      same = c.in_default.ensures.same.gate ∙ c.loop.invariant.same;
+      more = more_then c.args.station.now.station.knows c.loop.station.station.knows c.try_set_limit.new.station.station.knows c.loop.invariant.more c.in_default.ensures.same.more;
       number = raced.0;
       no_other = raced.1;
     }

@@ -45,13 +45,11 @@ has_queues Queue other = refl
 has_queues Reject other = absurd (other refl)
 
 pub returns-in-Waiters-clause-steps : goal.returns-in-Waiters-clause-steps
-returns-in-Waiters-clause-steps g c = λ pass same reads.
-    let own = c.requires.own in
-    let gate = c.self.invariant.same in record {
-      read = c.args.pass.pass;
-      reads = reads;
-      takes = inr (has_queues _ (λ rejects. c.in-Waiters.ensures.no_queues (ap (λ (x : GateId). x.shape.response) (gate ∙ sym own) ∙ (ap (λ (s : Shape). s.response) (sym same) ∙ rejects)) refl), inl c.in-Waiters.ensures.answer);
-    }
+returns-in-Waiters-clause-steps g c = λ pass same reads. record {
+  read = c.args.pass.pass;
+  reads = reads;
+  takes = inr (has_queues _ (λ rejects. c.in-Waiters.ensures.after.no_queues (ap (λ (s : Shape). s.response) (sym same) ∙ rejects) refl), inl c.in-Waiters.ensures.answer);
+}
 
 pub returns-in-Queued-clause-steps : goal.returns-in-Queued-clause-steps
 returns-in-Queued-clause-steps g c = λ pass same reads. record {

@@ -1,6 +1,7 @@
 -- The keys of a file's objects.
-use Rattle.std.specs.Prelude.{ℕ, List, Bool, if◌then◌else◌, Option, Some, None}
-use Rattle.serde_json.specs.Data.{Members, no_members, member}
+use Rattle.std.specs.Prelude.{ℕ, List, Bool, if◌then◌else◌, Option, Some, None, option_and_then, codes}
+use Rattle.serde_json.specs.Data.{Data, Members, no_members, member}
+use Rattle.serde_json.specs.Find.{as_object}
 use Rattle.apf_files.specs.ConfigFile.{is_key as is_config_key}
 use Rattle.apf_files.specs.RequestsFile.{is_key as is_request_key}
 use Rattle.apf_explain.specs.declared.keys.Keys.{Keys}
@@ -15,3 +16,12 @@ is_key_of OfRequest name = is_request_key name
 abbrev pub unknown_in : (List ℕ → Bool) → Members → Option (List ℕ)
 unknown_in is_known no_members = None
 unknown_in is_known (member k d ms) = if is_known k then unknown_in is_known ms else Some k
+
+-- the unknown key of a value that is an object, and has one
+abbrev pub unknown_of : Keys → Option Data → Option (List ℕ)
+unknown_of keys o = option_and_then (λ d. option_and_then (unknown_in (is_key_of keys)) (as_object d)) o
+
+-- which keys there are
+abbrev pub keys_text : Keys → List ℕ
+keys_text OfConfig = codes "a config has limit, queues, handSize, queueLengthLimit and limitResponse"
+keys_text OfRequest = codes "a request has schema, distinguisher, hash, width, work, cancels and closes"

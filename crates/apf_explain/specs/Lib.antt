@@ -4,4 +4,5 @@ pub mod Keys
 pub mod FlowFaults
 pub mod ScriptLine
 pub mod Lines
+pub mod ScriptTexts
 pub mod Shown

@@ -1,15 +1,16 @@
 //! The line of a config file.
 
-ghost use Rattle.std.specs.Prelude.{◌≡◌, OnOk, Err};
+ghost use Rattle.std.specs.Prelude.{◌≡◌, OnOk, IfSome, Err, option_map};
 ghost use Rattle.std.specs.Io.KnownBytes.{Appends};
-ghost use Rattle.apf_words.specs.Limits.{max_limit};
+ghost use Rattle.serde_json.specs.View.{view};
 ghost use Rattle.apf_explain.specs.Wanted.{wanted_at};
-ghost use Rattle.apf_explain.specs.Lines.{missing_text};
+ghost use Rattle.apf_explain.specs.Lines.{missing_text, place_text, config_text, IsConfigLine};
 
 use crate::fault::ExplainFault;
 use crate::found::Found;
 use crate::json::{explain_not_json, value_at, value_of, write_unwanted};
 use crate::keys::{Keys, write_unknown_key};
+use crate::place::{Part, Place};
 use crate::wanted::Wanted;
 use apf_files::{ConfigFault, ConfigKey};
 use apf_words::{MAX_LIMIT, MAX_QUEUE_LENGTH, MAX_QUEUES};
@@ -47,20 +48,22 @@ fn write_missing<W: Write>(out: &mut W, name: &str, most: u32) -> io::Result<()>
 // Writes the line of a config that is the value, which has this fault.
 fn write_config<W: Write>(
     out: &mut W,
-    name: &str,
+    place: Place<'_>,
     value: Option<&Value>,
     fault: ConfigFault,
-) -> io::Result<()> {
-    write!(out, "{name}: ")?;
+) -> io::Result<()>
+    ensures { OnOk result (IfSome (config_text (place_text place.entry.name.now place.entry.part) (option_map (λ value. view value.now) value.entry) fault)
+        (Appends (W.contents out.old) (W.contents out.new))) }
+{
     match fault {
-        ConfigFault::UnknownKey => write_unknown_key(out, Keys::OfConfig, value),
+        ConfigFault::UnknownKey => write_unknown_key(out, place, Keys::OfConfig, value),
         ConfigFault::BadValue(key) => {
             let found = value_at(value, key.name());
-            write_unwanted(out, key.name(), found, wanted_of(key))
+            write_unwanted(out, place, key.name(), found, wanted_of(key))
         }
         _ => {
             let found = Found(value);
-            writeln!(out, "a config is a JSON object, but this is {found}")
+            writeln!(out, "{place}a config is a JSON object, but this is {found}")
         }
     }
 }
@@ -84,7 +87,7 @@ pub fn explain_config<W: Write>(
     fault: ConfigFault,
     out: &mut W,
 ) -> Result<(), ExplainFault>
-    ensures missing { fault ≡ ConfigFault.Missing → OnOk result (Appends (W.contents out.old) (W.contents out.new) (missing_text name.now max_limit)) }
+    ensures line { OnOk result (IsConfigLine name.now bytes.now fault (W.contents out.old) (W.contents out.new)) }
     ensures refused { fault ≡ ConfigFault.NoMemory → (result ≡ Err ExplainFault.NoMemory) × (out.new ≡ out.old) }
     ensures memory { result ≡ Err ExplainFault.NoMemory → out.new ≡ out.old }
 {
@@ -94,7 +97,8 @@ pub fn explain_config<W: Write>(
         ConfigFault::NoMemory => Err(ExplainFault::NoMemory),
         ConfigFault::NotObject | ConfigFault::UnknownKey | ConfigFault::BadValue(_) => {
             let value = value_of(alloc, bytes)?;
-            Ok(write_config(out, name, value.as_ref(), fault)?)
+            let part = Part::Whole;
+            Ok(write_config(out, Place { name, part }, value.as_ref(), fault)?)
         }
     }
 }

@@ -1,12 +1,15 @@
 //! What is wrong with the flow of a request.
 
-ghost use Rattle.std.specs.Prelude.{◌≡◌, None, codes};
+ghost use Rattle.std.specs.Prelude.{◌≡◌, OnOk, IfSome, None, option_map, option_and_then, codes};
+ghost use Rattle.std.specs.Io.KnownBytes.{Appends};
 ghost use Rattle.serde_json.specs.Find.{get};
 ghost use Rattle.serde_json.specs.View.{view};
 ghost use Rattle.apf_explain.specs.FlowFaults.{flow_fault_of, unless_wanted};
+ghost use Rattle.apf_explain.specs.Lines.{place_text, fault_in, flow_text, bad_flow_text};
 
 use crate::json::{value_at, write_unwanted};
 use crate::members::RequestKey;
+use crate::place::Place;
 use serde_json::Value;
 use std::io;
 use std::io::Write;
@@ -72,29 +75,63 @@ pub(crate) fn flow_fault(value: &Value) -> Option<FlowFault>
 
 const RULE: &str = "a flow is either hash alone, or both schema and distinguisher";
 
-/// Writes what is wrong with the flow of a request.
-pub(crate) fn write_bad_flow<W: Write>(out: &mut W, value: Option<&Value>) -> io::Result<()> {
-    match value.and_then(flow_fault) {
+// What is wrong with the flow of a request, if it is there.
+fn fault_of(value: Option<&Value>) -> Option<FlowFault>
+    ensures { result ≡ option_and_then fault_in (option_map (λ value. view value.now) value.entry) }
+{
+    flow_fault(value?)
+}
+
+// Writes that this is wrong with the flow of a request.
+fn write_fault<W: Write>(
+    out: &mut W,
+    place: Place<'_>,
+    value: Option<&Value>,
+    fault: Option<FlowFault>,
+) -> io::Result<()>
+    ensures { OnOk result (IfSome (flow_text (place_text place.entry.name.now place.entry.part) (option_map (λ value. view value.now) value.entry) fault)
+        (Appends (W.contents out.old) (W.contents out.new))) }
+{
+    match fault {
         Some(FlowFault::BadValue(key)) => {
-            write_unwanted(out, key.name(), value_at(value, key.name()), key.wanted(0))
+            let found = value_at(value, key.name());
+            write_unwanted(out, place, key.name(), found, key.wanted(0))
         }
         Some(FlowFault::Missing) => writeln!(
             out,
-            "the flow is missing: it is either hash alone, or both schema and distinguisher"
+            "{place}the flow is missing: it is either hash alone, or both schema and distinguisher"
         ),
-        Some(FlowFault::HashBesideSchema) => writeln!(out, "hash stands beside schema: {RULE}"),
+        Some(FlowFault::HashBesideSchema) => writeln!(
+            out,
+            "{place}hash stands beside schema: {RULE}"
+        ),
         Some(FlowFault::HashBesideDistinguisher) => {
-            writeln!(out, "hash stands beside distinguisher: {RULE}")
+            writeln!(out, "{place}hash stands beside distinguisher: {RULE}")
         }
         Some(FlowFault::HashBesideBoth) => {
-            writeln!(out, "hash stands beside schema and distinguisher: {RULE}")
+            writeln!(
+                out,
+                "{place}hash stands beside schema and distinguisher: {RULE}"
+            )
         }
         Some(FlowFault::SchemaAlone) => {
-            writeln!(out, "schema stands without distinguisher: {RULE}")
+            writeln!(out, "{place}schema stands without distinguisher: {RULE}")
         }
         Some(FlowFault::DistinguisherAlone) => {
-            writeln!(out, "distinguisher stands without schema: {RULE}")
+            writeln!(out, "{place}distinguisher stands without schema: {RULE}")
         }
-        None => writeln!(out, "the flow is bad: {RULE}"),
+        None => writeln!(out, "{place}the flow is bad: {RULE}"),
     }
+}
+
+/// Writes what is wrong with the flow of a request.
+pub(crate) fn write_bad_flow<W: Write>(
+    out: &mut W,
+    place: Place<'_>,
+    value: Option<&Value>,
+) -> io::Result<()>
+    ensures { OnOk result (IfSome (bad_flow_text (place_text place.entry.name.now place.entry.part) (option_map (λ value. view value.now) value.entry))
+        (Appends (W.contents out.old) (W.contents out.new))) }
+{
+    write_fault(out, place, value, fault_of(value))
 }

@@ -1,5 +1,7 @@
 //! What stands in a file, as a person reads it.
 
+ghost use Rattle.std.specs.Prelude.{◌≡◌, nat_le, length};
+
 use serde_json::Value;
 use std::fmt;
 
@@ -17,7 +19,9 @@ pub(crate) struct Quoted<'a> {
 
 impl Quoted<'_> {
     /// Whether the text itself is shown.
-    pub(crate) fn is_whole(&self) -> bool {
+    pub(crate) fn is_whole(&self) -> bool
+        ensures { result ≡ nat_le (length self.now.text.now) 64 }
+    {
         self.text.len() <= LONGEST
     }
 }
@@ -27,6 +31,7 @@ impl fmt::Display for Quoted<'_> {
 
     ghost output = { λ quoted. quoted_text quoted.what.now quoted.text.now };
 
+    #[tactic(auto, unfolding(crate::specs::Found::quoted_text))]
     fn fmt<W: fmt::Write>(&self, f: &mut fmt::Formatter<W>) -> fmt::Result {
         let text = self.text;
         if text.len() <= LONGEST {
@@ -56,7 +61,10 @@ impl fmt::Display for Found<'_> {
         match value {
             Value::Null => f.write_str("null"),
             Value::Bool(is_so) => write!(f, "{is_so}"),
-            Value::Number(number) => write!(f, "{number}"),
+            Value::Number(number) => match number.as_i128() {
+                Some(whole) => write!(f, "{whole}"),
+                None => write!(f, "{number}"),
+            },
             Value::String(text) => {
                 let text = text.as_str();
                 let quoted = Quoted {

@@ -1,12 +1,15 @@
 //! What the files that are JSON share.
 
-ghost use Rattle.std.specs.Prelude.{◌≡◌, ◌<◌, IfOk, IfErr, Err, option_map, option_and_then, length};
-ghost use Rattle.serde_json.specs.Find.{get};
-ghost use Rattle.serde_json.specs.View.{view};
+ghost use Rattle.std.specs.Prelude.{◌≡◌, ℕ, ◌<◌, OnOk, IfOk, IfErr, IfSome, Err, option_map, option_and_then, length};
+ghost use Rattle.std.specs.Io.KnownBytes.{Appends};
+ghost use Rattle.serde_json.specs.Find.{get, as_array};
+ghost use Rattle.serde_json.specs.View.{view, items_view};
 ghost use Rattle.apf_files.specs.JsonFile.{IsReadOf};
+ghost use Rattle.apf_explain.specs.Lines.{place_text, unwanted_text, stop_text, IsNotJsonLine};
 
 use crate::fault::ExplainFault;
 use crate::found::Found;
+use crate::place::Place;
 use crate::wanted::Wanted;
 use serde_json::{Error, Value};
 use std::alloc::Global;
@@ -32,15 +35,26 @@ pub(crate) fn value_at<'a>(value: Option<&'a Value>, key: &str) -> Option<&'a Va
     value?.get(key)
 }
 
+/// The items of a value that is an array.
+pub(crate) fn items_of(value: Option<&Value>) -> Option<&Vec<Value>>
+    ensures { option_map (λ items. items_view items.now.items) result ≡ option_and_then as_array (option_map (λ whole. view whole.now) value.entry) }
+{
+    value?.as_array()
+}
+
 /// Writes that a key has a value that may not stand there.
 pub(crate) fn write_unwanted<W: Write>(
     out: &mut W,
+    place: Place<'_>,
     key: &str,
     found: Option<&Value>,
     wanted: Wanted,
-) -> io::Result<()> {
+) -> io::Result<()>
+    ensures { OnOk result (IfSome (unwanted_text (place_text place.entry.name.now place.entry.part) key.now (option_map (λ value. view value.now) found.entry) wanted)
+        (Appends (W.contents out.old) (W.contents out.new))) }
+{
     let found = Found(found);
-    writeln!(out, "{key} is {found}: it must be {wanted}")
+    writeln!(out, "{place}{key} is {found}: it must be {wanted}")
 }
 
 // What is known of why bytes are no JSON.
@@ -54,6 +68,14 @@ fn reason(bytes: &[u8], error: &Error) -> &'static str {
     }
 }
 
+// Writes where the reader stopped, and why.
+fn write_stop<W: Write>(out: &mut W, name: &str, error: &Error, why: &str) -> io::Result<()>
+    ensures { (line : ℕ) × ((column : ℕ) × OnOk result (Appends (W.contents out.old) (W.contents out.new) (stop_text name.now line column why.now))) }
+{
+    let (line, column) = (error.line(), error.column());
+    writeln!(out, "{name}:{line}:{column}: this is not JSON{why}")
+}
+
 /// Writes where bytes stop to be JSON.
 pub(crate) fn explain_not_json<W: Write>(
     alloc: Global,
@@ -61,16 +83,12 @@ pub(crate) fn explain_not_json<W: Write>(
     bytes: &[u8],
     out: &mut W,
 ) -> Result<(), ExplainFault>
+    ensures line { OnOk result (IsNotJsonLine name.now bytes.now (W.contents out.old) (W.contents out.new)) }
     ensures memory { result ≡ Err ExplainFault.NoMemory → out.new ≡ out.old }
 {
     match Value::from_slice(alloc, bytes) {
-        Ok(_) => writeln!(out, "{name}: this is not JSON")?,
-        Err(e) if e.is_memory() => return Err(ExplainFault::NoMemory),
-        Err(e) => {
-            let (line, column) = (e.line(), e.column());
-            let reason = reason(bytes, &e);
-            writeln!(out, "{name}:{line}:{column}: this is not JSON{reason}")?;
-        }
+        Ok(_) => Ok(writeln!(out, "{name}: this is not JSON")?),
+        Err(e) if e.is_memory() => Err(ExplainFault::NoMemory),
+        Err(e) => Ok(write_stop(out, name, &e, reason(bytes, &e))?),
     }
-    Ok(())
 }

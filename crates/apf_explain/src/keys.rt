@@ -1,11 +1,14 @@
 //! The keys of an object, and the first one that is unknown.
 
-ghost use Rattle.std.specs.Prelude.{◌≡◌, option_map, option_and_then, string_bytes};
+ghost use Rattle.std.specs.Prelude.{◌≡◌, OnOk, IfSome, option_map, option_and_then, string_bytes};
+ghost use Rattle.std.specs.Io.KnownBytes.{Appends};
 ghost use Rattle.serde_json.specs.Find.{as_object};
 ghost use Rattle.serde_json.specs.View.{view, members_view};
-ghost use Rattle.apf_explain.specs.Keys.{is_key_of, unknown_in};
+ghost use Rattle.apf_explain.specs.Keys.{is_key_of, unknown_in, unknown_of};
+ghost use Rattle.apf_explain.specs.Lines.{place_text, unknown_text};
 
 use crate::found::Quoted;
+use crate::place::Place;
 use apf_files::{is_config_key, is_request_key};
 use serde_json::{Map, Value};
 use std::io::Write;
@@ -19,6 +22,11 @@ pub(crate) enum Keys {
 }
 
 impl fmt::Display for Keys {
+    ghost use Rattle.std.specs.Prelude.{Some};
+    ghost use Rattle.apf_explain.specs.Keys.{keys_text};
+
+    ghost output = { λ keys. Some (keys_text keys) };
+
     fn fmt<W: fmt::Write>(&self, f: &mut fmt::Formatter<W>) -> fmt::Result {
         f.write_str(match self {
             Keys::OfConfig =>
@@ -47,29 +55,36 @@ impl Keys {
         members.keys().find(|name| !self.has(name.as_str()))
     }
 
-    /// The first unknown key of an object, in the order of the keys' bytes.
-    pub(crate) fn unknown(self, value: &Value) -> Option<&str>
-        ensures { option_map (λ name. name.now) result ≡ option_and_then (unknown_in (is_key_of self)) (as_object (view value.now)) }
+    /// The first unknown key of a value that is an object, in the order of the keys' bytes.
+    pub(crate) fn unknown(self, value: Option<&Value>) -> Option<&str>
+        ensures { option_map (λ name. name.now) result ≡ unknown_of self (option_map (λ whole. view whole.now) value.entry) }
     {
-        Some(self.unknown_of(value.as_object()?)?.as_str())
+        Some(self.unknown_of(value?.as_object()?)?.as_str())
     }
 }
 
 /// Writes that an object has an unknown key.
 pub(crate) fn write_unknown_key<W: Write>(
     out: &mut W,
+    place: Place<'_>,
     keys: Keys,
     value: Option<&Value>,
-) -> io::Result<()> {
-    match value.and_then(|value| keys.unknown(value)) {
+) -> io::Result<()>
+    ensures { OnOk result (IfSome (unknown_text (place_text place.entry.name.now place.entry.part) keys (unknown_of keys (option_map (λ value. view value.now) value.entry)))
+        (Appends (W.contents out.old) (W.contents out.new))) }
+{
+    match keys.unknown(value) {
         Some(text) => {
             let key = Quoted {
                 what: "a key",
                 text,
             };
-            let the = if key.is_whole() { "the key " } else { "" };
-            writeln!(out, "{the}{key} is unknown: {keys}")
+            if key.is_whole() {
+                writeln!(out, "{place}the key {key} is unknown: {keys}")
+            } else {
+                writeln!(out, "{place}{key} is unknown: {keys}")
+            }
         }
-        None => writeln!(out, "a key is unknown: {keys}"),
+        None => writeln!(out, "{place}a key is unknown: {keys}"),
     }
 }

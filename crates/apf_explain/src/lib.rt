@@ -2,6 +2,7 @@
 //! what has to stand there.
 //!
 //! - `fault`: why a line is not written.
+//! - `place`: where a fault is, which a line begins with.
 //! - `found`: what stands in a file, as a person reads it.
 //! - `wanted`: what has to stand there.
 //! - `keys`: the keys of an object, and the first one that is unknown.
@@ -26,6 +27,7 @@ mod keys;
 mod laws;
 mod line;
 mod members;
+mod place;
 mod requests;
 mod script;
 mod wanted;

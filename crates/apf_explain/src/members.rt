@@ -1,14 +1,17 @@
 //! The line of one request.
 
-ghost use Rattle.std.specs.Prelude.{◌≡◌, ◌-◌, option_map, option_and_then};
+ghost use Rattle.std.specs.Prelude.{◌≡◌, ◌-◌, OnOk, IfSome, option_map, option_and_then};
+ghost use Rattle.std.specs.Io.KnownBytes.{Appends};
 ghost use Rattle.serde_json.specs.Find.{at};
 ghost use Rattle.serde_json.specs.View.{view};
 ghost use Rattle.apf_explain.specs.Wanted.{request_key_name, request_wanted};
+ghost use Rattle.apf_explain.specs.Lines.{last_number, key_of_fault, place_text, request_text};
 
 use crate::flow::write_bad_flow;
 use crate::found::Found;
-use crate::json::{value_at, write_unwanted};
+use crate::json::{items_of, value_at, write_unwanted};
 use crate::keys::{Keys, write_unknown_key};
+use crate::place::Place;
 use crate::wanted::Wanted;
 use apf_files::RequestFault;
 use apf_words::MAX_WIDTH;
@@ -69,15 +72,19 @@ fn request_at(value: Option<&Value>, number: u32) -> Option<&Value>
 }
 
 // The number of the last request, where there is one.
-fn last_of(value: Option<&Value>) -> u64 {
-    match value.and_then(Value::as_array) {
+fn last_of(value: Option<&Value>) -> u64
+    ensures { result ≡ last_number (option_map (λ whole. view whole.now) value.entry) }
+{
+    match items_of(value) {
         Some(items) => (items.len() as u64).saturating_sub(1),
         None => 0,
     }
 }
 
 // The key whose value has the fault, where it is that of one key alone.
-fn key_of(fault: RequestFault) -> Option<RequestKey> {
+fn key_of(fault: RequestFault) -> Option<RequestKey>
+    ensures { result ≡ key_of_fault fault }
+{
     match fault {
         RequestFault::BadWidth(_) => Some(RequestKey::Width),
         RequestFault::BadWork(_) => Some(RequestKey::Work),
@@ -90,21 +97,28 @@ fn key_of(fault: RequestFault) -> Option<RequestKey> {
 /// Writes the fault of the request of this number, where `value` is that of the whole file.
 pub(crate) fn write_request<W: Write>(
     out: &mut W,
+    place: Place<'_>,
     value: Option<&Value>,
     number: u32,
     fault: RequestFault,
-) -> io::Result<()> {
+) -> io::Result<()>
+    ensures { OnOk result (IfSome (request_text (place_text place.entry.name.now place.entry.part) (option_map (λ value. view value.now) value.entry) number fault)
+        (Appends (W.contents out.old) (W.contents out.new))) }
+{
     let request = request_at(value, number);
     if let Some(key) = key_of(fault) {
         let found = value_at(request, key.name());
-        return write_unwanted(out, key.name(), found, key.wanted(last_of(value)));
+        return write_unwanted(out, place, key.name(), found, key.wanted(last_of(value)));
     }
     match fault {
-        RequestFault::UnknownKey(_) => write_unknown_key(out, Keys::OfRequest, request),
-        RequestFault::BadFlow(_) => write_bad_flow(out, request),
+        RequestFault::UnknownKey(_) => write_unknown_key(out, place, Keys::OfRequest, request),
+        RequestFault::BadFlow(_) => write_bad_flow(out, place, request),
         _ => {
             let found = Found(request);
-            writeln!(out, "a request is a JSON object, but this is {found}")
+            writeln!(
+                out,
+                "{place}a request is a JSON object, but this is {found}"
+            )
         }
     }
 }

@@ -1,11 +1,15 @@
 //! The line of a requests file.
 
-ghost use Rattle.std.specs.Prelude.{◌≡◌, Err};
+ghost use Rattle.std.specs.Prelude.{◌≡◌, OnOk, IfSome, Err, option_map};
+ghost use Rattle.std.specs.Io.KnownBytes.{Appends};
+ghost use Rattle.serde_json.specs.View.{view};
+ghost use Rattle.apf_explain.specs.Lines.{place_text, too_many_text, requests_text, IsRequestsLine};
 
 use crate::fault::ExplainFault;
 use crate::found::Found;
-use crate::json::{explain_not_json, value_of};
+use crate::json::{explain_not_json, items_of, value_of};
 use crate::members::write_request;
+use crate::place::{Part, Place};
 use apf_files::RequestFault;
 use apf_words::MAX_REQUESTS;
 use serde_json::Value;
@@ -14,18 +18,20 @@ use std::io;
 use std::io::Write;
 
 // Writes that there are too many requests.
-fn write_too_many<W: Write>(out: &mut W, value: Option<&Value>) -> io::Result<()> {
-    match value.and_then(Value::as_array) {
+fn write_too_many<W: Write>(out: &mut W, place: Place<'_>, value: Option<&Value>) -> io::Result<()>
+    ensures { OnOk result (Appends (W.contents out.old) (W.contents out.new) (too_many_text (place_text place.entry.name.now place.entry.part) (option_map (λ value. view value.now) value.entry))) }
+{
+    match items_of(value) {
         Some(items) => {
             let count = items.len();
             writeln!(
                 out,
-                "there are {count} requests: at most {MAX_REQUESTS} may be there"
+                "{place}there are {count} requests: at most {MAX_REQUESTS} may be there"
             )
         }
         None => writeln!(
             out,
-            "there are too many requests: at most {MAX_REQUESTS} may be there"
+            "{place}there are too many requests: at most {MAX_REQUESTS} may be there"
         ),
     }
 }
@@ -36,17 +42,20 @@ fn write_requests<W: Write>(
     name: &str,
     value: Option<&Value>,
     fault: RequestFault,
-) -> io::Result<()> {
+) -> io::Result<()>
+    ensures { OnOk result (IfSome (requests_text name.now (option_map (λ value. view value.now) value.entry) fault) (Appends (W.contents out.old) (W.contents out.new))) }
+{
     if let Some(number) = fault.request() {
-        write!(out, "{name}: request {number}: ")?;
-        return write_request(out, value, number, fault);
+        let part = Part::Request(number);
+        return write_request(out, Place { name, part }, value, number, fault);
     }
-    write!(out, "{name}: ")?;
+    let part = Part::Whole;
+    let place = Place { name, part };
     if fault == RequestFault::TooMany {
-        return write_too_many(out, value);
+        return write_too_many(out, place, value);
     }
     let found = Found(value);
-    writeln!(out, "requests are a JSON array, but this is {found}")
+    writeln!(out, "{place}requests are a JSON array, but this is {found}")
 }
 
 /// Writes the fault of a requests file as one line for a person.
@@ -67,15 +76,16 @@ pub fn explain_requests<W: Write>(
     fault: RequestFault,
     out: &mut W,
 ) -> Result<(), ExplainFault>
+    ensures line { OnOk result (IsRequestsLine name.now bytes.now fault (W.contents out.old) (W.contents out.new)) }
     ensures refused { fault ≡ RequestFault.NoMemory → (result ≡ Err ExplainFault.NoMemory) × (out.new ≡ out.old) }
     ensures memory { result ≡ Err ExplainFault.NoMemory → out.new ≡ out.old }
 {
-    match fault {
-        RequestFault::NotJson => explain_not_json(alloc, name, bytes, out),
-        RequestFault::NoMemory => Err(ExplainFault::NoMemory),
-        _ => {
-            let value = value_of(alloc, bytes)?;
-            Ok(write_requests(out, name, value.as_ref(), fault)?)
-        }
+    if fault == RequestFault::NoMemory {
+        return Err(ExplainFault::NoMemory);
     }
+    if fault == RequestFault::NotJson {
+        return explain_not_json(alloc, name, bytes, out);
+    }
+    let value = value_of(alloc, bytes)?;
+    Ok(write_requests(out, name, value.as_ref(), fault)?)
 }

@@ -1,13 +1,17 @@
 //! The line of a script file.
 
-ghost use Rattle.std.specs.Prelude.{◌≡◌, Err};
+ghost use Rattle.std.specs.Prelude.{◌≡◌, OnOk, IfSome, Err, option_map};
+ghost use Rattle.std.specs.Io.KnownBytes.{Appends};
+ghost use Rattle.apf_explain.specs.Lines.{place_text};
+ghost use Rattle.apf_explain.specs.ScriptTexts.{shown_of, unknown_request_text, bad_limit_text, no_command_text, line_fault_text, bad_line_text, line_text, IsScriptLine};
 
 use crate::fault::ExplainFault;
 use crate::line::{line_at, number_of};
+use crate::place::{Part, Place};
 use apf_files::ScriptFault;
 use apf_words::MAX_LIMIT;
-use std::io;
 use std::io::Write;
+use std::{fmt, io};
 
 const MAX_LINES: u32 = 100_000;
 
@@ -17,14 +21,25 @@ const LONGEST: usize = 64;
 const FORMS: &str =
     "a line is arrive N, finish N, cancel N, close or limit N, with one blank before N, which has one to five digits and no zero in front";
 
-// Writes which requests there are.
-fn write_known<W: Write>(out: &mut W, requests: u32) -> io::Result<()> {
-    match requests {
-        0 => writeln!(out, "there are no requests"),
-        1 => writeln!(out, "the only request is 0"),
-        _ => {
-            let last = requests - 1;
-            writeln!(out, "the requests are 0 to {last}")
+// So many requests, of which there are no others.
+#[derive(Clone, Copy)]
+struct Known(u32);
+
+impl fmt::Display for Known {
+    ghost use Rattle.std.specs.Prelude.{Some};
+    ghost use Rattle.apf_explain.specs.ScriptTexts.{known_text};
+
+    ghost output = { λ known. Some (known_text known.0) };
+
+    #[tactic(auto, unfolding(crate::specs::ScriptTexts::known_text))]
+    fn fmt<W: fmt::Write>(&self, f: &mut fmt::Formatter<W>) -> fmt::Result {
+        match self.0 {
+            0 => f.write_str("there are no requests"),
+            1 => f.write_str("the only request is 0"),
+            requests => {
+                let last = requests - 1;
+                write!(f, "the requests are 0 to {last}")
+            }
         }
     }
 }
@@ -32,81 +47,101 @@ fn write_known<W: Write>(out: &mut W, requests: u32) -> io::Result<()> {
 // Writes that there is no request of the number.
 fn write_unknown_request<W: Write>(
     out: &mut W,
+    place: Place<'_>,
     number: Option<u32>,
     requests: u32,
-) -> io::Result<()> {
+) -> io::Result<()>
+    ensures { OnOk result (Appends (W.contents out.old) (W.contents out.new) (unknown_request_text (place_text place.entry.name.now place.entry.part) number requests)) }
+{
+    let known = Known(requests);
     match number {
-        Some(number) => write!(out, "there is no request {number}: ")?,
-        None => write!(out, "there is no such request: ")?,
+        Some(number) => writeln!(out, "{place}there is no request {number}: {known}"),
+        None => writeln!(out, "{place}there is no such request: {known}"),
     }
-    write_known(out, requests)
 }
 
 // Writes that the limit may not be this number.
-fn write_bad_limit<W: Write>(out: &mut W, number: Option<u32>) -> io::Result<()> {
+fn write_bad_limit<W: Write>(out: &mut W, place: Place<'_>, number: Option<u32>) -> io::Result<()>
+    ensures { OnOk result (Appends (W.contents out.old) (W.contents out.new) (bad_limit_text (place_text place.entry.name.now place.entry.part) number)) }
+{
     match number {
         Some(number) => writeln!(
             out,
-            "the limit is {number}: it must be from 1 to {MAX_LIMIT}"
+            "{place}the limit is {number}: it must be from 1 to {MAX_LIMIT}"
         ),
-        None => writeln!(out, "the limit is bad: it must be from 1 to {MAX_LIMIT}"),
+        None => writeln!(
+            out,
+            "{place}the limit is bad: it must be from 1 to {MAX_LIMIT}"
+        ),
     }
 }
 
 // The text that a line is shown as, if it is shown.
-fn shown(line: &[u8]) -> Option<&str> {
+fn shown(line: &[u8]) -> Option<&str>
+    ensures { option_map (λ text. text.now) result ≡ shown_of line.now }
+{
     if line.len() > LONGEST {
         return None;
     }
     std::str::from_utf8(line).ok()
 }
 
-// Writes that a line is no command.
-fn write_bad_line<W: Write>(out: &mut W, line: Option<&[u8]>) -> io::Result<()> {
-    let Some(line) = line else {
-        return writeln!(out, "the line is no command: {FORMS}");
-    };
+// Writes that a line is no command, where it is shown so.
+fn write_no_command<W: Write>(out: &mut W, place: Place<'_>, shown: Option<&str>) -> io::Result<()>
+    ensures { OnOk result (IfSome (no_command_text (place_text place.entry.name.now place.entry.part) (option_map (λ text. text.now) shown.entry)) (Appends (W.contents out.old) (W.contents out.new))) }
+{
+    match shown {
+        Some(text) => writeln!(out, "{place}{text:?} is no command: {FORMS}"),
+        None => writeln!(out, "{place}the line is no command: {FORMS}"),
+    }
+}
+
+// Writes that this line is no command.
+fn write_line_fault<W: Write>(out: &mut W, place: Place<'_>, line: &[u8]) -> io::Result<()>
+    ensures { OnOk result (IfSome (line_fault_text (place_text place.entry.name.now place.entry.part) line.now) (Appends (W.contents out.old) (W.contents out.new))) }
+{
     if line.is_empty() {
-        return writeln!(out, "the line is empty: {FORMS}");
+        return writeln!(out, "{place}the line is empty: {FORMS}");
     }
     if line.ends_with(b"\r".as_slice()) {
-        return writeln!(out, "the line ends with CR: a line ends with LF alone");
+        return writeln!(
+            out,
+            "{place}the line ends with CR: a line ends with LF alone"
+        );
     }
-    match shown(line) {
-        Some(text) => writeln!(out, "{text:?} is no command: {FORMS}"),
-        None => writeln!(out, "the line is no command: {FORMS}"),
+    write_no_command(out, place, shown(line))
+}
+
+// Writes that a line is no command.
+fn write_bad_line<W: Write>(out: &mut W, place: Place<'_>, line: Option<&[u8]>) -> io::Result<()>
+    ensures { OnOk result (IfSome (bad_line_text (place_text place.entry.name.now place.entry.part) (option_map (λ line. line.now) line.entry)) (Appends (W.contents out.old) (W.contents out.new))) }
+{
+    match line {
+        Some(line) => write_line_fault(out, place, line),
+        None => write_no_command(out, place, None),
     }
 }
 
 // Writes what is wrong with this line.
 fn write_line<W: Write>(
     out: &mut W,
+    place: Place<'_>,
     line: Option<&[u8]>,
     requests: u32,
     fault: ScriptFault,
-) -> io::Result<()> {
+) -> io::Result<()>
+    ensures { OnOk result (IfSome (line_text (place_text place.entry.name.now place.entry.part) (option_map (λ line. line.now) line.entry) requests fault)
+        (Appends (W.contents out.old) (W.contents out.new))) }
+{
     match fault {
-        ScriptFault::TooLong(_) => writeln!(out, "there are more than {MAX_LINES} lines"),
-        ScriptFault::Truncated(_) => writeln!(out, "the last line has no LF at its end"),
+        ScriptFault::TooLong(_) => writeln!(out, "{place}there are more than {MAX_LINES} lines"),
+        ScriptFault::Truncated(_) => writeln!(out, "{place}the last line has no LF at its end"),
         ScriptFault::UnknownRequest(_) => {
-            write_unknown_request(out, line.and_then(number_of), requests)
+            write_unknown_request(out, place, line.and_then(number_of), requests)
         }
-        ScriptFault::BadLimit(_) => write_bad_limit(out, line.and_then(number_of)),
-        ScriptFault::BadLine(_) | ScriptFault::NoMemory => write_bad_line(out, line),
+        ScriptFault::BadLimit(_) => write_bad_limit(out, place, line.and_then(number_of)),
+        ScriptFault::BadLine(_) | ScriptFault::NoMemory => write_bad_line(out, place, line),
     }
-}
-
-// Writes the line's place, and what is wrong with it.
-fn write_script<W: Write>(
-    out: &mut W,
-    name: &str,
-    bytes: &[u8],
-    number: u32,
-    requests: u32,
-    fault: ScriptFault,
-) -> io::Result<()> {
-    write!(out, "{name}:{number}: ")?;
-    write_line(out, line_at(bytes, number), requests, fault)
 }
 
 /// Writes the fault of a script file as one line for a person.
@@ -125,6 +160,7 @@ pub fn explain_script<W: Write>(
     fault: ScriptFault,
     out: &mut W,
 ) -> Result<(), ExplainFault>
+    ensures line { OnOk result (IsScriptLine name.now bytes.now requests fault (W.contents out.old) (W.contents out.new)) }
     ensures refused { fault ≡ ScriptFault.NoMemory → (result ≡ Err ExplainFault.NoMemory) × (out.new ≡ out.old) }
     ensures memory { result ≡ Err ExplainFault.NoMemory → fault ≡ ScriptFault.NoMemory }
 {
@@ -135,7 +171,9 @@ pub fn explain_script<W: Write>(
         | ScriptFault::BadLine(number)
         | ScriptFault::UnknownRequest(number)
         | ScriptFault::BadLimit(number) => {
-            Ok(write_script(out, name, bytes, number, requests, fault)?)
+            let part = Part::Line(number);
+            let line = line_at(bytes, number);
+            Ok(write_line(out, Place { name, part }, line, requests, fault)?)
         }
     }
 }

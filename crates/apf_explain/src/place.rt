@@ -1,0 +1,36 @@
+//! Where a fault is: what a line begins with.
+
+use std::fmt;
+
+/// The part of a file that has the fault.
+#[derive(Clone, Copy, Debug, PartialEq, Eq)]
+pub(crate) enum Part {
+    Whole,
+    /// The request of this number.
+    Request(u32),
+    /// The line of this number, from 1.
+    Line(u32),
+}
+
+/// A part of the file of this name.
+#[derive(Clone, Copy)]
+pub(crate) struct Place<'a> {
+    pub(crate) name: &'a str,
+    pub(crate) part: Part,
+}
+
+impl fmt::Display for Place<'_> {
+    ghost use Rattle.std.specs.Prelude.{Some};
+    ghost use Rattle.apf_explain.specs.Lines.{place_text};
+
+    ghost output = { λ place. Some (place_text place.name.now place.part) };
+
+    fn fmt<W: fmt::Write>(&self, f: &mut fmt::Formatter<W>) -> fmt::Result {
+        let name = self.name;
+        match self.part {
+            Part::Whole => write!(f, "{name}: "),
+            Part::Request(number) => write!(f, "{name}: request {number}: "),
+            Part::Line(number) => write!(f, "{name}:{number}: "),
+        }
+    }
+}

@@ -1,7 +1,1 @@
-pub mod Taken
-pub mod Given
-pub mod Accepted
-pub mod Matches
-pub mod Chain
-mod Rows
 pub mod Workers

@@ -1,9 +1,9 @@
 -- Words that are accepted give a run some workers, and a simulation a patience in its range.
 use Rattle.std.proofs.Common.{List, arith}
 use Rattle.clap.specs.Words.{Row, Text}
-use Rattle.apf_cli.specs.declared.words.Action.{Action}
-use Rattle.apf_cli.specs.declared.words.Action.TheVariants.{Hash, Deal, Replay, Run, Services, Waits, Explain, Simulate, Timeline, Requests, Picture, Hands, Trace}
-use Rattle.apf_cli.specs.Meaning.{AsksFor, IsActionOf, HasWorkers, HasPatience}
+use Rattle.apf_commands.specs.declared.words.Action.{Action}
+use Rattle.apf_commands.specs.declared.words.Action.TheVariants.{Hash, Deal, Replay, Run, Services, Waits, Explain, Simulate, Timeline, Requests, Picture, Hands, Trace}
+use Rattle.apf_commands.specs.Meaning.{AsksFor, IsActionOf, HasWorkers, HasPatience}
 
 some_workers : (name : Text) (rows : List Row) (action : Action) → AsksFor name rows action → HasWorkers action
 some_workers name rows (Run config requests workers) is = (let some = is.3.1 in omega arith)

@@ -2,7 +2,7 @@
 
 ghost use Rattle.std.specs.Prelude.{◌<◌, ◌≤◌, length, IfOk};
 ghost use Rattle.apf_run.specs.Limits.{max_requests};
-ghost use Rattle.apf_cli.specs.Meaning.{HasPatience, HasWorkers};
+ghost use Rattle.apf_commands.specs.Meaning.{HasPatience, HasWorkers};
 
 use crate::audits::print_trace;
 use crate::explaining::print_explanation;
@@ -10,7 +10,7 @@ use crate::faults::{Fault, Sizes};
 use crate::files::{Files, Input, judge_names, read_input};
 use crate::pictures::print_picture;
 use crate::traces::{print_hands, print_requests, print_simulation, print_timeline};
-use crate::words::{Action, read_words};
+use apf_commands::{Action, read_words};
 use apf_flow::{Dealer, flow_hash};
 use apf_run::{
     Config, Report, Request, Running, Transcript, Work, read_config, read_requests, read_script,

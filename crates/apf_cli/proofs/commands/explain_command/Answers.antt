@@ -1,6 +1,0 @@
-use Rattle.apf_cli.specs.Commands.{shape_for}
-use Rattle.apf_cli.proofs.commands.explain_command.Goals as goal
-
-pub returns : goal.returns
-unfolding shape_for
-returns c = record { shape = c.script_command.ensures.shape; local = c.script_command.ensures.local }

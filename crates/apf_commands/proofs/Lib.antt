@@ -1,0 +1,6 @@
+pub mod Taken
+pub mod Given
+pub mod Accepted
+pub mod Matches
+pub mod Chain
+mod Rows

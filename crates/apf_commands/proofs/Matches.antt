@@ -1,0 +1,88 @@
+-- What the getters of `clap`'s matches answer, by the rows, and which command they name.
+use Rattle.std.proofs.Common.{◌≡◌, ℕ, List, [], Option, Some, None, Result, Ok, Err, Box, refl, sym, ap, subst, true, is_some, option_map, unwrap_or, ◌∙◌}
+use Rattle.std.specs.Borrow.{Bor}
+use Rattle.std.specs.Prelude.{IsSome}
+use Rattle.std.specs.Str.Parse.{ParsesUnsigned}
+use Rattle.std.specs.Box.{box_value}
+use Rattle.clap.specs.Words.{App, HasMatchesOf, ReadsOne, Row, Text, fault_of, is_simple, is_simple_and_free, subcommand_of, subcommand_rows, subcommand_rows_of}
+use Rattle.clap.specs.declared.parser.matches.ArgMatches.{ArgMatches}
+use Rattle.apf_commands.specs.Commands.{apf_app}
+use Rattle.clap.specs.declared.parser.matches.ArgMatches.TheViews.{out-SubCommand}
+use Rattle.clap.specs.declared.parser.matches.SubCommand.{SubCommand}
+use Rattle.apf_commands.specs.Arguments.{HasArguments, IsCommand}
+use Rattle.apf_commands.specs.Names.{command_named, text_of}
+use Rattle.apf_commands.specs.declared.names.CommandName.{CommandName}
+use Rattle.apf_commands.specs.declared.names.CommandName.TheVariants.{Hash, Deal, Replay, Run, Services, Waits, Explain, Simulate, Timeline, Requests, Picture, Hands, Trace}
+use Rattle.clap.proofs.OnLiterals.{clap_on_literals}
+use Rattle.apf_commands.proofs.Accepted.{Entered, apf_is_free, apf_is_simple}
+
+pub text_there : (r : Option (Bor Text)) (t : Text) → option_map (λ s. s.now) r ≡ Some t → IsSome r
+text_there None t e = cc
+text_there (Some b) t e = refl
+
+-- a text that is a number is read, as that number
+module _ {E : Type 0} (gives : Text → Result ℕ E → Type 0) (k : ℕ) (t : Text)
+    (only : (x : Result ℕ E) → gives t x → ParsesUnsigned k 10 t x) where
+  pub number_there : (n : ℕ) (r : Option ℕ) → ParsesUnsigned {E = Unit {0}} k 10 t (Ok n) → ReadsOne gives t r → IsSome r
+  number_there n (Some v) parses h = refl
+  number_there n None parses h = absurd (only (Err h.0) h.1 parses.0)
+
+  pub number_read : (v : ℕ) (r : Option ℕ) → r ≡ Some v → ReadsOne gives t r → ParsesUnsigned {E = Unit {0}} k 10 t (Ok v)
+  number_read v r is h = only (Ok v) (subst (ReadsOne gives t) is h)
+
+module _ {Z : Type 0} where
+  -- the name and the rows are those of one command
+  pub command_met : (o : Option (Box SubCommand Z)) (name : Text) (rows : List Row)
+      → Some name ≡ option_map (λ b. (out-SubCommand (box_value b)).name.now) o
+      → Some rows ≡ option_map (λ p. p.1) (subcommand_rows o) → subcommand_rows o ≡ Some (name, rows)
+  command_met None name rows e f = cc
+  command_met (Some b) name rows e f = cc
+
+  pub some_met : (o : Option (Box SubCommand Z)) (p : Text × List Row) → subcommand_rows o ≡ Some p → is_some o ≡ true
+  some_met None p e = cc
+  some_met (Some b) p e = refl
+
+-- the command that was entered is the one that the matches name
+pub entered_as : (o : Option (Text × List Row)) (name : Text) (rows : List Row) → Entered o → o ≡ Some (name, rows) → IsCommand name rows
+entered_as o name rows entered is =
+    let same : ◌≡◌ {A = Text × List Row} (entered.0, entered.1.0) (name, rows) = ap (λ p. unwrap_or p (name, rows)) (sym entered.1.1 ∙ is) in
+    subst (λ (p : Text × List Row). IsCommand p.0 p.1) same entered.1.2
+
+-- the matches of a parse of the program's commands that succeeds
+pub record IsParse (words : List Text) (m : ArgMatches) : Type 0 where
+  pub faultless : fault_of apf_app words ≡ []
+  pub met : subcommand_rows_of m ≡ subcommand_of apf_app words
+
+pub parse_of : (a : App) (words : List Text) (m : ArgMatches) → a ≡ apf_app → HasMatchesOf a words m
+    → (is_simple_and_free a ≡ true → fault_of a words ≡ []) → IsParse words m
+parse_of a words m is has faultless = record {
+  faultless = subst (λ (x : App). fault_of x words ≡ []) is (faultless (ap is_simple_and_free is ∙ apf_is_free));
+  met = (has (ap is_simple is ∙ apf_is_simple)).1 ∙ ap (λ x. subcommand_of x words) is;
+}
+
+of_its_name : (command : CommandName) → command_named (text_of command) ≡ Some command
+unfolding clap_on_literals command_named
+of_its_name Hash = refl
+of_its_name Deal = refl
+of_its_name Replay = refl
+of_its_name Run = refl
+of_its_name Services = refl
+of_its_name Waits = refl
+of_its_name Explain = refl
+of_its_name Simulate = refl
+of_its_name Timeline = refl
+of_its_name Requests = refl
+of_its_name Picture = refl
+of_its_name Hands = refl
+of_its_name Trace = refl
+
+-- the command that was found by the name of a command
+pub command_found : (name : Text) (rows : List Row) (found : Option CommandName) (is : IsCommand name rows) → found ≡ command_named name
+    → found ≡ Some is.command
+command_found name rows found is e = e ∙ (ap command_named is.named ∙ of_its_name is.command)
+
+pub command_as : (name : Text) (rows : List Row) (found : Option CommandName) (command : CommandName) → IsCommand name rows → found ≡ command_named name
+    → found ≡ Some command → (name ≡ text_of command) × HasArguments command rows
+command_as name rows found command is e some =
+    let same : is.command ≡ command = ap (λ o. unwrap_or o command) (sym (command_found name rows found is e) ∙ some) in
+    (is.named ∙ ap text_of same, subst (λ (it : CommandName). HasArguments it rows) same is.arguments)

@@ -1,0 +1,83 @@
+-- The definitions at words that are written out.
+use Rattle.std.proofs.Common.{◌≡◌, List, [], ◌∷◌, Option, Some, codes, option_map, refl}
+use Rattle.clap.specs.Words.{Text, fault_of, first_of, one_of, subcommand_of}
+use Rattle.clap.specs.Kinds.{Kinds}
+use Rattle.clap.specs.declared.error.kind.ErrorKind.TheVariants as kind
+use Rattle.clap.proofs.OnLiterals.{clap_on_literals}
+use Rattle.apf_commands.specs.Commands.{apf_app, shape_for}
+
+-- the kinds of error of the words after the program's name
+abbrev fault : List Text → Kinds
+fault words = fault_of apf_app (codes "apf" ∷ words)
+
+-- the name of the command, and the text of an argument
+abbrev text : List Text → Text → Option (Text × Option Text)
+text words id = option_map (λ p. (p.0, first_of id p.1)) (subcommand_of apf_app (codes "apf" ∷ words))
+
+-- the name of the command, and the text that an argument's number is read of
+abbrev number : List Text → Text → Option (Text × Option Text)
+number words id = option_map (λ p. (p.0, one_of id p.1)) (subcommand_of apf_app (codes "apf" ∷ words))
+
+record HasFaults : Type 0 where
+  nothing : fault [] ≡ kind.MissingSubcommand ∷ []
+  short : fault (codes "hash" ∷ codes "a" ∷ []) ≡ kind.MissingRequiredArgument ∷ []
+  letter : fault (codes "deal" ∷ codes "a" ∷ codes "1" ∷ codes "1" ∷ []) ≡ kind.ValueValidation ∷ []
+  deck : fault (codes "deal" ∷ codes "4294967296" ∷ codes "1" ∷ codes "0" ∷ []) ≡ kind.ValueValidation ∷ []
+  hash : fault (codes "deal" ∷ codes "1" ∷ codes "1" ∷ codes "18446744073709551616" ∷ []) ≡ kind.ValueValidation ∷ []
+  no_worker : fault (codes "run" ∷ codes "a" ∷ codes "b" ∷ codes "0" ∷ []) ≡ kind.ValueValidation ∷ []
+  many_workers : fault (codes "run" ∷ codes "a" ∷ codes "b" ∷ codes "65" ∷ []) ≡ kind.ValueValidation ∷ []
+  no_patience : fault (codes "simulate" ∷ codes "a" ∷ codes "b" ∷ []) ≡ kind.MissingRequiredArgument ∷ []
+  much_patience : fault (codes "timeline" ∷ codes "a" ∷ codes "b" ∷ codes "1000000001" ∷ []) ≡ kind.ValueValidation ∷ []
+  no_trace : fault (codes "requests" ∷ []) ≡ kind.MissingRequiredArgument ∷ []
+  hands_patience : fault (codes "hands" ∷ codes "a" ∷ codes "b" ∷ codes "0" ∷ []) ≡ kind.UnknownArgument ∷ []
+  help : fault (codes "--help" ∷ []) ≡ kind.DisplayHelp ∷ []
+  deal_help : fault (codes "deal" ∷ codes "--help" ∷ []) ≡ kind.DisplayHelp ∷ []
+
+refused_rows : HasFaults
+unfolding clap_on_literals apf_app shape_for
+refused_rows = record {
+  nothing = refl;
+  short = refl;
+  letter = refl;
+  deck = refl;
+  hash = refl;
+  no_worker = refl;
+  many_workers = refl;
+  no_patience = refl;
+  much_patience = refl;
+  no_trace = refl;
+  hands_patience = refl;
+  help = refl;
+  deal_help = refl;
+}
+
+record IsAccepted : Type 0 where
+  empty : fault (codes "hash" ∷ [] ∷ [] ∷ []) ≡ []
+  dashes : text (codes "hash" ∷ codes "--" ∷ codes "-a" ∷ codes "b" ∷ []) (codes "SCHEMA") ≡ Some (codes "hash", Some (codes "-a"))
+  deck : fault (codes "deal" ∷ codes "4294967295" ∷ codes "0" ∷ codes "18446744073709551615" ∷ []) ≡ []
+  hand : number (codes "deal" ∷ codes "8" ∷ codes "3" ∷ codes "335" ∷ []) (codes "HAND") ≡ Some (codes "deal", Some (codes "3"))
+  least : fault (codes "run" ∷ codes "a" ∷ codes "b" ∷ codes "1" ∷ []) ≡ []
+  most : fault (codes "run" ∷ codes "a" ∷ codes "b" ∷ codes "64" ∷ []) ≡ []
+  script : text (codes "services" ∷ codes "a" ∷ codes "b" ∷ codes "c" ∷ []) (codes "SCRIPT") ≡ Some (codes "services", Some (codes "c"))
+  least_patience : fault (codes "simulate" ∷ codes "a" ∷ codes "b" ∷ codes "0" ∷ []) ≡ []
+  most_patience : fault (codes "timeline" ∷ codes "a" ∷ codes "b" ∷ codes "1000000000" ∷ []) ≡ []
+  patience : number (codes "simulate" ∷ codes "a" ∷ codes "b" ∷ codes "90" ∷ []) (codes "PATIENCE") ≡ Some (codes "simulate", Some (codes "90"))
+  trace : text (codes "requests" ∷ codes "a" ∷ []) (codes "TRACE") ≡ Some (codes "requests", Some (codes "a"))
+  hands_trace : text (codes "hands" ∷ codes "a" ∷ codes "b" ∷ []) (codes "TRACE") ≡ Some (codes "hands", Some (codes "b"))
+
+accepted_rows : IsAccepted
+unfolding clap_on_literals apf_app shape_for
+accepted_rows = record {
+  empty = refl;
+  dashes = refl;
+  deck = refl;
+  hand = refl;
+  least = refl;
+  most = refl;
+  script = refl;
+  least_patience = refl;
+  most_patience = refl;
+  patience = refl;
+  trace = refl;
+  hands_trace = refl;
+}

@@ -1,0 +1,15 @@
+-- What the chain of builders makes.
+use Rattle.std.proofs.Common.{ap}
+use Rattle.std.proofs.lemmas.Result.{IfOk-weaker}
+use Rattle.clap.specs.Simple.{App}
+use Rattle.apf_commands.specs.Commands.{app_with, file_rules}
+use Rattle.apf_commands.proofs.Chain.{IsMade, added}
+use Rattle.apf_commands.proofs.commands.script_command.Goals as goal
+
+pub returns : goal.returns
+returns c =
+    let files : IsMade c.in_ok-files_command.field-0 (app_with c.args.name.now file_rules) = record { app_is = c.in_ok-files_command.ensures.app; local = c.in_ok-files_command.ensures.local } in
+    record {
+      shape = IfOk-weaker c.arg.result _ _ (λ r h. ap (λ (a : App). a.top) (added files c.text.ensures.rule c.text.ensures.local h).app_is) c.arg.ensures;
+      local = IfOk-weaker c.arg.result _ _ (λ r h. (added files c.text.ensures.rule c.text.ensures.local h).local) c.arg.ensures;
+    }

@@ -1,0 +1,80 @@
+-- The arguments that a command has once `clap` has accepted its words, which the readers require.
+use Rattle.std.specs.Prelude.{◌≡◌, ℕ, List, codes}
+use Rattle.clap.specs.Words.{Row, Text}
+use Rattle.apf_commands.specs.Meaning.{IsNumber, IsPatience, IsText, IsWorkerCount}
+use Rattle.apf_commands.specs.Names.{text_of}
+use Rattle.apf_commands.specs.declared.names.CommandName.{CommandName}
+use Rattle.apf_commands.specs.declared.names.CommandName.TheVariants.{Hash, Deal, Replay, Run, Services, Waits, Explain, Simulate, Timeline, Requests, Picture, Hands, Trace}
+
+-- the argument has a text
+abbrev pub HasText : List Row → Text → Type 0
+HasText rows id = (t : Text) × IsText rows id t
+
+-- the argument has a number of k bits
+abbrev pub HasNumber : ℕ → List Row → Text → Type 0
+HasNumber k rows id = (n : ℕ) × IsNumber k rows id n
+
+-- the arguments of `hash`
+pub record HasHashArguments (rows : List Row) : Type 0 where
+  pub schema : HasText rows (codes "SCHEMA")
+  pub distinguisher : HasText rows (codes "DISTINGUISHER")
+
+-- the arguments of `deal`
+pub record HasDealArguments (rows : List Row) : Type 0 where
+  pub deck : HasNumber 32 rows (codes "DECK")
+  pub hand : HasNumber 32 rows (codes "HAND")
+  pub hash : HasNumber 64 rows (codes "HASH")
+
+-- the arguments of `replay`, `services`, `waits` and `explain`
+pub record HasScriptArguments (rows : List Row) : Type 0 where
+  pub config : HasText rows (codes "CONFIG")
+  pub requests : HasText rows (codes "REQUESTS")
+  pub script : HasText rows (codes "SCRIPT")
+
+-- the arguments of `run`
+pub record HasRunArguments (rows : List Row) : Type 0 where
+  pub config : HasText rows (codes "CONFIG")
+  pub requests : HasText rows (codes "REQUESTS")
+  pub workers : (n : ℕ) × IsWorkerCount rows n
+
+-- the arguments of `simulate`, `timeline` and `picture`
+pub record HasSimulationArguments (rows : List Row) : Type 0 where
+  pub config : HasText rows (codes "CONFIG")
+  pub trace : HasText rows (codes "TRACE")
+  pub patience : (n : ℕ) × IsPatience rows n
+
+-- the argument of `requests`
+pub record HasRequestsArguments (rows : List Row) : Type 0 where
+  pub trace : HasText rows (codes "TRACE")
+
+-- the arguments of `hands`
+pub record HasHandsArguments (rows : List Row) : Type 0 where
+  pub config : HasText rows (codes "CONFIG")
+  pub trace : HasText rows (codes "TRACE")
+
+-- the arguments of `trace`
+pub record HasAuditArguments (rows : List Row) : Type 0 where
+  pub log : HasText rows (codes "AUDITLOG")
+  pub schema : HasText rows (codes "SCHEMA")
+
+-- the arguments of a command
+abbrev pub HasArguments : CommandName → List Row → Type 0
+HasArguments Hash rows = HasHashArguments rows
+HasArguments Deal rows = HasDealArguments rows
+HasArguments Replay rows = HasScriptArguments rows
+HasArguments Run rows = HasRunArguments rows
+HasArguments Services rows = HasScriptArguments rows
+HasArguments Waits rows = HasScriptArguments rows
+HasArguments Explain rows = HasScriptArguments rows
+HasArguments Simulate rows = HasSimulationArguments rows
+HasArguments Timeline rows = HasSimulationArguments rows
+HasArguments Requests rows = HasRequestsArguments rows
+HasArguments Picture rows = HasSimulationArguments rows
+HasArguments Hands rows = HasHandsArguments rows
+HasArguments Trace rows = HasAuditArguments rows
+
+-- the command is one of the program's, with its arguments
+pub record IsCommand (name : Text) (rows : List Row) : Type 0 where
+  pub command : CommandName
+  pub named : name ≡ text_of command
+  pub arguments : HasArguments command rows

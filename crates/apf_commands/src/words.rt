@@ -1,0 +1,325 @@
+//! What the words of a command line ask the program to do.
+ghost use Rattle.std.specs.Prelude.{IfOk, codes};
+ghost use Rattle.clap.specs.Words.{FailsBy, fault_of, found_of, rows_of};
+ghost use Rattle.clap.specs.Walk.{texts};
+ghost use Rattle.apf_commands.specs.Commands.{apf_app};
+ghost use Rattle.apf_commands.specs.Names.{text_of as name_text};
+ghost use Rattle.apf_commands.specs.Meaning.{AsksFor, IsActionOf, IsNumber, IsText};
+ghost use Rattle.apf_commands.specs.Arguments.{HasText, HasNumber, HasHashArguments, HasDealArguments};
+ghost use Rattle.apf_commands.specs.Arguments.{HasScriptArguments, HasRunArguments, HasArguments};
+ghost use Rattle.apf_commands.specs.Arguments.{HasSimulationArguments, HasRequestsArguments, HasHandsArguments, HasAuditArguments};
+
+use crate::commands::apf_command;
+use crate::names::CommandName;
+use clap::{ArgMatches, Error};
+use std::alloc::Global;
+
+/// A command of the program, with its texts and numbers.
+#[derive(Clone, Copy, Debug, PartialEq, Eq)]
+pub enum Action<'a> {
+    /// Print the hash of a flow.
+    Hash {
+        schema: &'a str,
+        distinguisher: &'a str,
+    },
+    /// Print the hand of `hand` queues out of `deck` that a hash is dealt.
+    Deal {
+        deck: u32,
+        hand: u32,
+        hash: u64,
+    },
+    /// Run a script and print its transcript; the texts are file names.
+    Replay {
+        config: &'a str,
+        requests: &'a str,
+        script: &'a str,
+    },
+    /// Run the requests on 1 to 64 worker threads and print the book.
+    Run {
+        config: &'a str,
+        requests: &'a str,
+        workers: u32,
+    },
+    /// Run a script and print the service of each queue; the texts are file names.
+    Services {
+        config: &'a str,
+        requests: &'a str,
+        script: &'a str,
+    },
+    /// Run a script and print what was granted while each request waited; the texts are file names.
+    Waits {
+        config: &'a str,
+        requests: &'a str,
+        script: &'a str,
+    },
+    /// Judge the files of a replay and print the first fault for a person; the texts are file names.
+    Explain {
+        config: &'a str,
+        requests: &'a str,
+        script: &'a str,
+    },
+    /// Simulate a trace and print what its flows met; the texts are file names, and the patience is 0 to
+    /// 1,000,000,000 microseconds.
+    Simulate {
+        config: &'a str,
+        trace: &'a str,
+        patience: u32,
+    },
+    /// Simulate a trace and print the simulation's script; the texts are file names, and the patience is 0 to
+    /// 1,000,000,000 microseconds.
+    Timeline {
+        config: &'a str,
+        trace: &'a str,
+        patience: u32,
+    },
+    /// Print the requests file of a trace; the text is a file name.
+    Requests {
+        trace: &'a str,
+    },
+    /// Simulate a trace and draw the run as an SVG; the texts are file names, and the patience is 0 to
+    /// 1,000,000,000 microseconds.
+    Picture {
+        config: &'a str,
+        trace: &'a str,
+        patience: u32,
+    },
+    /// Print the hand of each flow of a trace, and who shares it; the texts are file names.
+    Hands {
+        config: &'a str,
+        trace: &'a str,
+    },
+    /// Print the trace of an audit log; the first text is a file name.
+    Trace {
+        log: &'a str,
+        schema: &'a str,
+    },
+}
+
+// The text of an argument.
+fn text_of<'a>(matches: &ArgMatches<'a>, id: &str) -> &'a str
+    requires { HasText (rows_of (found_of matches.now)) id.now }
+    ensures { IsText (rows_of (found_of matches.now)) id.now result.now }
+{
+    matches.get_str(id).unwrap()
+}
+
+// The number of an argument.
+fn u32_of(matches: &ArgMatches<'_>, id: &str) -> u32
+    requires { HasNumber 32 (rows_of (found_of matches.now)) id.now }
+    ensures { IsNumber 32 (rows_of (found_of matches.now)) id.now result }
+{
+    matches.get_one::<u32>(id).unwrap()
+}
+
+// The number of an argument.
+fn u64_of(matches: &ArgMatches<'_>, id: &str) -> u64
+    requires { HasNumber 64 (rows_of (found_of matches.now)) id.now }
+    ensures { IsNumber 64 (rows_of (found_of matches.now)) id.now result }
+{
+    matches.get_one::<u64>(id).unwrap()
+}
+
+fn hash_action<'a>(matches: &ArgMatches<'a>) -> Action<'a>
+    requires { HasHashArguments (rows_of (found_of matches.now)) }
+    ensures { AsksFor (codes "hash") (rows_of (found_of matches.now)) result }
+{
+    Action::Hash {
+        schema: text_of(matches, "SCHEMA"),
+        distinguisher: text_of(matches, "DISTINGUISHER"),
+    }
+}
+
+fn deal_action<'a>(matches: &ArgMatches<'a>) -> Action<'a>
+    requires { HasDealArguments (rows_of (found_of matches.now)) }
+    ensures { AsksFor (codes "deal") (rows_of (found_of matches.now)) result }
+{
+    Action::Deal {
+        deck: u32_of(matches, "DECK"),
+        hand: u32_of(matches, "HAND"),
+        hash: u64_of(matches, "HASH"),
+    }
+}
+
+// The names of the configuration file and of the requests file.
+fn files_of<'a>(matches: &ArgMatches<'a>) -> (&'a str, &'a str)
+    requires config { HasText (rows_of (found_of matches.now)) (codes "CONFIG") }
+    requires requests { HasText (rows_of (found_of matches.now)) (codes "REQUESTS") }
+    ensures config { IsText (rows_of (found_of matches.now)) (codes "CONFIG") result.0.now }
+    ensures requests { IsText (rows_of (found_of matches.now)) (codes "REQUESTS") result.1.now }
+{
+    (text_of(matches, "CONFIG"), text_of(matches, "REQUESTS"))
+}
+
+fn replay_action<'a>(matches: &ArgMatches<'a>) -> Action<'a>
+    requires { HasScriptArguments (rows_of (found_of matches.now)) }
+    ensures { AsksFor (codes "replay") (rows_of (found_of matches.now)) result }
+{
+    let (config, requests) = files_of(matches);
+    let script = text_of(matches, "SCRIPT");
+    Action::Replay {
+        config,
+        requests,
+        script,
+    }
+}
+
+fn run_action<'a>(matches: &ArgMatches<'a>) -> Action<'a>
+    requires { HasRunArguments (rows_of (found_of matches.now)) }
+    ensures { AsksFor (codes "run") (rows_of (found_of matches.now)) result }
+{
+    let (config, requests) = files_of(matches);
+    let workers = u32_of(matches, "WORKERS");
+    Action::Run {
+        config,
+        requests,
+        workers,
+    }
+}
+
+fn services_action<'a>(matches: &ArgMatches<'a>) -> Action<'a>
+    requires { HasScriptArguments (rows_of (found_of matches.now)) }
+    ensures { AsksFor (codes "services") (rows_of (found_of matches.now)) result }
+{
+    let (config, requests) = files_of(matches);
+    let script = text_of(matches, "SCRIPT");
+    Action::Services {
+        config,
+        requests,
+        script,
+    }
+}
+
+fn waits_action<'a>(matches: &ArgMatches<'a>) -> Action<'a>
+    requires { HasScriptArguments (rows_of (found_of matches.now)) }
+    ensures { AsksFor (codes "waits") (rows_of (found_of matches.now)) result }
+{
+    let (config, requests) = files_of(matches);
+    let script = text_of(matches, "SCRIPT");
+    Action::Waits {
+        config,
+        requests,
+        script,
+    }
+}
+
+fn explain_action<'a>(matches: &ArgMatches<'a>) -> Action<'a>
+    requires { HasScriptArguments (rows_of (found_of matches.now)) }
+    ensures { AsksFor (codes "explain") (rows_of (found_of matches.now)) result }
+{
+    let (config, requests) = files_of(matches);
+    let script = text_of(matches, "SCRIPT");
+    Action::Explain {
+        config,
+        requests,
+        script,
+    }
+}
+
+fn simulate_action<'a>(matches: &ArgMatches<'a>) -> Action<'a>
+    requires { HasSimulationArguments (rows_of (found_of matches.now)) }
+    ensures { AsksFor (codes "simulate") (rows_of (found_of matches.now)) result }
+{
+    Action::Simulate {
+        config: text_of(matches, "CONFIG"),
+        trace: text_of(matches, "TRACE"),
+        patience: u32_of(matches, "PATIENCE"),
+    }
+}
+
+fn timeline_action<'a>(matches: &ArgMatches<'a>) -> Action<'a>
+    requires { HasSimulationArguments (rows_of (found_of matches.now)) }
+    ensures { AsksFor (codes "timeline") (rows_of (found_of matches.now)) result }
+{
+    Action::Timeline {
+        config: text_of(matches, "CONFIG"),
+        trace: text_of(matches, "TRACE"),
+        patience: u32_of(matches, "PATIENCE"),
+    }
+}
+
+fn requests_action<'a>(matches: &ArgMatches<'a>) -> Action<'a>
+    requires { HasRequestsArguments (rows_of (found_of matches.now)) }
+    ensures { AsksFor (codes "requests") (rows_of (found_of matches.now)) result }
+{
+    Action::Requests {
+        trace: text_of(matches, "TRACE"),
+    }
+}
+
+fn picture_action<'a>(matches: &ArgMatches<'a>) -> Action<'a>
+    requires { HasSimulationArguments (rows_of (found_of matches.now)) }
+    ensures { AsksFor (codes "picture") (rows_of (found_of matches.now)) result }
+{
+    Action::Picture {
+        config: text_of(matches, "CONFIG"),
+        trace: text_of(matches, "TRACE"),
+        patience: u32_of(matches, "PATIENCE"),
+    }
+}
+
+fn hands_action<'a>(matches: &ArgMatches<'a>) -> Action<'a>
+    requires { HasHandsArguments (rows_of (found_of matches.now)) }
+    ensures { AsksFor (codes "hands") (rows_of (found_of matches.now)) result }
+{
+    Action::Hands {
+        config: text_of(matches, "CONFIG"),
+        trace: text_of(matches, "TRACE"),
+    }
+}
+
+fn trace_action<'a>(matches: &ArgMatches<'a>) -> Action<'a>
+    requires { HasAuditArguments (rows_of (found_of matches.now)) }
+    ensures { AsksFor (codes "trace") (rows_of (found_of matches.now)) result }
+{
+    Action::Trace {
+        log: text_of(matches, "AUDITLOG"),
+        schema: text_of(matches, "SCHEMA"),
+    }
+}
+
+// The action of the command.
+fn action_of<'a>(command: CommandName, matches: &ArgMatches<'a>) -> Action<'a>
+    requires { HasArguments command (rows_of (found_of matches.now)) }
+    ensures { AsksFor (name_text command) (rows_of (found_of matches.now)) result }
+{
+    match command {
+        CommandName::Hash => hash_action(matches),
+        CommandName::Deal => deal_action(matches),
+        CommandName::Replay => replay_action(matches),
+        CommandName::Run => run_action(matches),
+        CommandName::Services => services_action(matches),
+        CommandName::Waits => waits_action(matches),
+        CommandName::Explain => explain_action(matches),
+        CommandName::Simulate => simulate_action(matches),
+        CommandName::Timeline => timeline_action(matches),
+        CommandName::Requests => requests_action(matches),
+        CommandName::Picture => picture_action(matches),
+        CommandName::Hands => hands_action(matches),
+        CommandName::Trace => trace_action(matches),
+    }
+}
+
+/// The action that the words of a command line ask for; the first word is the program's name.
+///
+/// Its texts and numbers are those that `clap` reads of the words, for the commands
+/// `hash SCHEMA DISTINGUISHER`, `deal DECK HAND HASH`, `replay CONFIG REQUESTS SCRIPT`,
+/// `run CONFIG REQUESTS WORKERS`, `services CONFIG REQUESTS SCRIPT`, `waits CONFIG REQUESTS SCRIPT`,
+/// `explain CONFIG REQUESTS SCRIPT`,
+/// `simulate CONFIG TRACE PATIENCE`, `timeline CONFIG TRACE PATIENCE`, `requests TRACE`, `picture CONFIG TRACE PATIENCE`, `hands CONFIG TRACE`
+/// and `trace AUDITLOG SCHEMA`.
+/// `DECK` and `HAND` are whole decimal numbers of 32 bits, `HASH` is one of 64 bits, `WORKERS` is 1 to 64, and
+/// `PATIENCE` is 0 to 1,000,000,000 microseconds.
+///
+/// # Errors
+///
+/// `clap`'s error where it refuses the words, or where they ask for help, and one of the kind
+/// `OutOfMemory` where memory is refused.
+pub fn read_words<'a>(alloc: Global, words: &'a [&'a str]) -> Result<Action<'a>, Error>
+    ensures read { IfOk result (IsActionOf (texts words.entry.now)) }
+    ensures refused { FailsBy (fault_of apf_app (texts words.entry.now)) result }
+{
+    let matches = apf_command(alloc)?.try_get_matches_from(words)?;
+    let (name, inner) = matches.subcommand().unwrap();
+    let command = CommandName::named(name).unwrap();
+    Ok(action_of(command, inner))
+}

@@ -1,45 +1,14 @@
 //! What is taken of all lines.
 
-ghost use Rattle.std.specs.Prelude.{◌≡◌, ◌≢◌, ◌<◌, ◌∷◌, ◌++◌, IfOk, IfErr, OnOk, Ok, Err, All, length, map, option_to_list};
-ghost use Rattle.apf_traces.specs.TraceFile.{lines_of};
+ghost use Rattle.std.specs.Prelude.{◌≡◌, ◌≢◌, ◌++◌, IfOk, IfErr, OnOk, Ok, Err, All, map, option_to_list};
 ghost use Rattle.apf_audit.specs.AuditEvent.{event, IsTakenInRange};
 ghost use Rattle.apf_audit.specs.AuditLog.{events_of};
 
 use crate::event::Taken;
 use crate::fault::AuditFault;
 use crate::line::taken_of_line;
-use apf_files::line_end;
+use apf_traces::first_line;
 use std::alloc::Global;
-
-// The first line of a log that is left, without its LF, and what is left after it.
-#[derive(Clone, Copy)]
-struct First<'a> {
-    line: &'a [u8],
-    is_ended: bool,
-    rest: &'a [u8],
-}
-
-fn first_line(bytes: &[u8]) -> First<'_>
-    requires { 0 < length bytes.now }
-    ensures first { lines_of bytes.now ≡ record {
-      bytes = result.line.now;
-      is_ended = result.is_ended;
-    } ∷ lines_of result.rest.now }
-    ensures shorter { length result.rest.now < length bytes.now }
-{
-    match line_end(bytes) {
-        Some(end) => First {
-            line: &bytes[..end],
-            is_ended: true,
-            rest: &bytes[end + 1..],
-        },
-        None => First {
-            line: bytes,
-            is_ended: false,
-            rest: b"",
-        },
-    }
-}
 
 // Puts what is taken of a line, if it is anything, behind the others.
 fn keep(all: &mut Vec<Taken>, taken: Option<Taken>) -> Result<(), AuditFault>

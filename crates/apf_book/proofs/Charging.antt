@@ -6,8 +6,8 @@ use Rattle.apf_history.specs.declared.events.Status.TheVariants as status_is
 use Rattle.apf_model.specs.Order.{status}
 use Rattle.apf_gate.specs.declared.record.DeskRecord.{DeskRecord}
 use Rattle.apf_gate.specs.Records.{new_desk, service}
-use Rattle.apf_book.specs.declared.config.Config.{Config}
-use Rattle.apf_book.specs.declared.config.Ask.{Ask}
+use Rattle.apf_model.specs.declared.config.Config.{Config}
+use Rattle.apf_model.specs.declared.config.Ask.{Ask}
 use Rattle.apf_book.specs.LedgerView.{LedgerView, IsLogOf}
 use Rattle.apf_book.specs.Opening.{opening_ledger_with}
 use Rattle.apf_book.specs.BookView.{logged, IsKept}

@@ -4,8 +4,8 @@ use Rattle.apf_flow.specs.Fault.{fault_of}
 use Rattle.apf_flow.specs.Sizes.{IsDealable}
 use Rattle.apf_queue.specs.View.{IsQueueShape}
 use Rattle.apf_queue.specs.declared.fault.QueueFault.TheVariants as queue
-use Rattle.apf_book.specs.declared.config.Config.{Config}
-use Rattle.apf_book.specs.declared.config.Ask.{Ask}
+use Rattle.apf_model.specs.declared.config.Config.{Config}
+use Rattle.apf_model.specs.declared.config.Ask.{Ask}
 use Rattle.apf_book.specs.declared.fault.BookFault.{BookFault}
 use Rattle.apf_book.specs.declared.fault.BookFault.TheVariants.{Dealer, Queues, NoMemory}
 use Rattle.apf_book.specs.LedgerView.{LedgerView}

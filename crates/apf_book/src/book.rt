@@ -22,7 +22,7 @@ ghost use Rattle.apf_book.specs.Servings.{with, Turns, Serves, Stops, Strikes};
 ghost use Rattle.apf_book.specs.Stopped.{IsStopped};
 
 use crate::arrived::Arrived;
-use crate::config::{Ask, Config};
+use apf_model::{Ask, Config};
 use crate::fault::BookFault;
 use crate::handing::{Handed, hand};
 use crate::histories::legal_histories_are_in_order;

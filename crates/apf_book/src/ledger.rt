@@ -12,7 +12,7 @@ ghost use Rattle.apf_book.specs.LedgerKept.{AreStats};
 ghost use Rattle.apf_book.specs.Stretch.{IsBacklogged, service_in, IsIsolated, AreWaitsBounded};
 ghost use Rattle.apf_model.specs.Fair.{widest, DifferAtMost};
 
-use crate::config::{Ask, Config};
+use apf_model::{Ask, Config};
 use crate::fault::BookFault;
 use crate::histories::{
     fair_histories_are_balanced, fair_histories_isolate, legal_histories_are_in_order,

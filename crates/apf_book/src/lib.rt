@@ -19,7 +19,6 @@
 
 mod arrived;
 mod book;
-mod config;
 mod fault;
 mod handing;
 mod histories;
@@ -30,10 +29,9 @@ mod serving;
 mod stats;
 mod stretch;
 
-pub use apf_model::Response;
+pub use apf_model::{Ask, Config, Response, are_costs};
 pub use arrived::Arrived;
 pub use book::Book;
-pub use config::{Ask, Config, are_costs};
 pub use fault::BookFault;
 pub use laws::{
     every_book_is_kept, every_dispatched_wait_is_bounded, every_ended_book_agrees,

@@ -3,7 +3,7 @@ use Rattle.std.specs.Prelude.{ℕ, ◌≤◌, List, Bool, ◌||◌, if◌then◌
 use Rattle.serde_json.specs.Data.{Data}
 use Rattle.serde_json.specs.Find.{get, as_str, as_object}
 use Rattle.apf_words.specs.Limits.{max_limit, max_queues, max_queue_length}
-use Rattle.apf_book.specs.declared.config.Config.{Config}
+use Rattle.apf_model.specs.declared.config.Config.{Config}
 use Rattle.apf_model.specs.declared.response.Response.{Response}
 use Rattle.apf_model.specs.declared.response.Response.TheVariants.{Queue, Reject}
 use Rattle.apf_files.specs.FirstFault.{◌>>=◌, or_fault}

@@ -7,7 +7,7 @@ ghost use Rattle.apf_files.specs.JsonFile.{all_known};
 ghost use Rattle.apf_files.specs.ConfigFile.{config_of, number_at as number_at_key, response_at as response_at_key, is_key, name_of, config_fault_number, response_named, IsConfigOf, IsConfigInRange};
 
 use crate::json::whole_number;
-use apf_book::{Config, Response};
+use apf_model::{Config, Response};
 use apf_words::{MAX_LIMIT, MAX_QUEUE_LENGTH, MAX_QUEUES};
 use serde_json::{Map, Value};
 use std::alloc::Global;

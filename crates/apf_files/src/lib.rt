@@ -14,7 +14,7 @@ mod json;
 mod requests;
 mod script;
 
-pub use apf_book::{Config, Response};
+pub use apf_model::{Config, Response};
 pub use config::{ConfigFault, ConfigKey, is_config_key, read_config};
 pub use requests::{Request, RequestFault, flow_of, is_request_key, number_or, read_requests};
 pub use script::{Command, ScriptFault, command_of_line, line_end, read_script};

@@ -3,7 +3,7 @@ use Rattle.std.specs.Prelude.{ℕ, List, [], ◌++◌, Bool, not, ◌&&◌, ◌=
 use Rattle.std.specs.List.{flat_map, filter_map, list_any, list_all}
 use Rattle.apf_model.specs.declared.response.Response.{Response}
 use Rattle.apf_model.specs.declared.response.Response.TheVariants.{Queue, Reject}
-use Rattle.apf_book.specs.declared.config.Config.{Config}
+use Rattle.apf_model.specs.declared.config.Config.{Config}
 use Rattle.apf_flow.specs.Sizes.{Sizes}
 use Rattle.apf_flow.specs.Deal.{hand_of}
 use Rattle.apf_flow.specs.Fault.{fault_of}

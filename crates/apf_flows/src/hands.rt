@@ -12,7 +12,7 @@ ghost use Rattle.apf_flows.specs.Hands.{sizes_of, fault_by, flows_in, hands_text
 use crate::dealt::{Dealt, deal_all, dealer_of};
 use crate::flows::flows_of;
 use crate::sharing::write_flow;
-use apf_book::Config;
+use apf_model::Config;
 use apf_flow::DealerFault;
 use apf_traces::TraceRequest;
 use std::alloc::{AllocError, Global};

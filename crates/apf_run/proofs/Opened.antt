@@ -2,8 +2,8 @@
 use Rattle.std.proofs.Common.{◌≡◌, List, length, map, sym, ap, ◌∙◌}
 use Rattle.std.proofs.lemmas.List.{length-map}
 use Rattle.apf_gate.specs.Tokens.{GateId}
-use Rattle.apf_book.specs.declared.config.Config.{Config}
-use Rattle.apf_book.specs.declared.config.Ask.{Ask}
+use Rattle.apf_model.specs.declared.config.Config.{Config}
+use Rattle.apf_model.specs.declared.config.Ask.{Ask}
 use Rattle.apf_files.specs.declared.requests.Request.{Request}
 use Rattle.apf_level.specs.Levels.{LevelId}
 use Rattle.apf_run.specs.Plans.{AreOrders}

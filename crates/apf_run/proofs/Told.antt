@@ -10,8 +10,8 @@ use Rattle.apf_gate.specs.declared.record.Actor.TheVariants.{OfStation}
 use Rattle.apf_gate.specs.Traces.{Made}
 use Rattle.apf_gate.specs.Tokens.{PassToken, StationToken}
 use Rattle.apf_gate.specs.Ends.{WroteCancelled, ClosedFirst}
-use Rattle.apf_book.specs.declared.config.Config.{Config}
-use Rattle.apf_book.specs.declared.config.Ask.{Ask}
+use Rattle.apf_model.specs.declared.config.Config.{Config}
+use Rattle.apf_model.specs.declared.config.Ask.{Ask}
 use Rattle.apf_book.specs.LedgerView.{LedgerView, IsLogOf, NothingWaits}
 use Rattle.apf_book.specs.Opening.{opening_ledger}
 use Rattle.apf_book.specs.LedgerKept.{AreStats}

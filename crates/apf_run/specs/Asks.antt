@@ -1,6 +1,6 @@
 -- What a level is opened with for the requests of a file.
 use Rattle.std.specs.Prelude.{List, map}
-use Rattle.apf_book.specs.declared.config.Ask.{Ask}
+use Rattle.apf_model.specs.declared.config.Ask.{Ask}
 use Rattle.apf_files.specs.declared.requests.Request.{Request}
 
 -- what a level asks of each request

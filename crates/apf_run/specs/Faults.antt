@@ -1,6 +1,6 @@
 -- Why a script is not replayed, and why requests are not run.
 use Rattle.std.specs.Prelude.{ℕ, ◌<◌, List}
-use Rattle.apf_book.specs.declared.config.Config.{Config}
+use Rattle.apf_model.specs.declared.config.Config.{Config}
 use Rattle.apf_files.specs.declared.requests.Request.{Request}
 use Rattle.apf_session.specs.declared.fault.OpenFault.{OpenFault}
 use Rattle.apf_session.specs.declared.fault.OpenFault.TheVariants as faults

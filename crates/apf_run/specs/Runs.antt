@@ -5,8 +5,8 @@ use Rattle.apf_model.specs.declared.response.Response.TheVariants.{Reject}
 use Rattle.apf_model.specs.Outcome.{Agrees, stats_of}
 use Rattle.apf_files.specs.declared.requests.Request.{Request}
 use Rattle.apf_gate.specs.Tokens.{GateId, PassToken, StationToken, pass_gate}
-use Rattle.apf_book.specs.declared.config.Config.{Config}
-use Rattle.apf_book.specs.declared.config.Ask.{Ask}
+use Rattle.apf_model.specs.declared.config.Config.{Config}
+use Rattle.apf_model.specs.declared.config.Ask.{Ask}
 use Rattle.apf_book.specs.LedgerView.{LedgerView, IsLogOf, NothingWaits}
 use Rattle.apf_book.specs.LedgerKept.{AreStats}
 use Rattle.apf_book.specs.Opening.{opening_ledger}

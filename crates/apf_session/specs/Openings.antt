@@ -6,8 +6,8 @@ use Rattle.apf_gate.specs.declared.fault.GateFault.TheVariants as gate
 use Rattle.apf_gate.specs.Gauges.{shape_of, IsShape}
 use Rattle.apf_gate.specs.Opens.{FaultOf}
 use Rattle.apf_gate.specs.Tokens.{GateId, StationToken, station_gate}
-use Rattle.apf_book.specs.declared.config.Config.{Config}
-use Rattle.apf_book.specs.declared.config.Ask.{Ask}
+use Rattle.apf_model.specs.declared.config.Config.{Config}
+use Rattle.apf_model.specs.declared.config.Ask.{Ask}
 use Rattle.apf_book.specs.declared.fault.BookFault.{BookFault}
 use Rattle.apf_book.specs.declared.fault.BookFault.TheVariants as book
 use Rattle.apf_book.specs.Opening.{opening_ledger, opening_ledger_with}

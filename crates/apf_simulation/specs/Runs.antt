@@ -1,7 +1,7 @@
 -- What a simulation is.
 use Rattle.std.specs.Prelude.{◌≡◌, ℕ, List, []}
 use Rattle.apf_gate.specs.Tokens.{GateId}
-use Rattle.apf_book.specs.declared.config.Config.{Config}
+use Rattle.apf_model.specs.declared.config.Config.{Config}
 use Rattle.apf_level.specs.declared.report.Report.{Report}
 use Rattle.apf_session.specs.Ends.{HasEnded}
 use Rattle.apf_session.specs.Openings.{level_with}

@@ -1,6 +1,6 @@
 -- What a level and a calendar are opened with for the requests of a trace.
 use Rattle.std.specs.Prelude.{ℕ, List, map}
-use Rattle.apf_book.specs.declared.config.Ask.{Ask}
+use Rattle.apf_model.specs.declared.config.Ask.{Ask}
 use Rattle.apf_times.specs.declared.course.Times.{Times}
 use Rattle.apf_traces.specs.declared.request.TraceRequest.{TraceRequest}
 

@@ -15,4 +15,4 @@ mod value;
 
 pub use fault::TraceFault;
 pub use request::{FlowNames, TraceRequest};
-pub use trace::read_trace;
+pub use trace::{First, first_line, read_trace};

@@ -10,15 +10,17 @@ use crate::request::TraceRequest;
 use apf_files::line_end;
 use std::alloc::Global;
 
-// The first line of a file that is left, without its LF, and what is left after it.
+/// The first line of what is left of a file, without its LF, and what is left after it.
 #[derive(Clone, Copy)]
-struct First<'a> {
-    line: &'a [u8],
-    is_ended: bool,
-    rest: &'a [u8],
+pub struct First<'a> {
+    pub line: &'a [u8],
+    /// Whether an LF ends the line.
+    pub is_ended: bool,
+    pub rest: &'a [u8],
 }
 
-fn first_line(bytes: &[u8]) -> First<'_>
+/// Cuts the first line off a file that is not empty.
+pub fn first_line(bytes: &[u8]) -> First<'_>
     requires { 0 < length bytes.now }
     ensures first { lines_of bytes.now ≡ record {
       bytes = result.line.now;

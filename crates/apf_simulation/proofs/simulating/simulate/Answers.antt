@@ -1,8 +1,8 @@
 -- The run, and what is made of it.
 use Rattle.std.proofs.Common.{◌≡◌, ℕ, List, length, sym, ap, ◌∙◌, subst}
 use Rattle.std.proofs.lemmas.List.{length-map}
-use Rattle.apf_book.specs.declared.config.Ask.{Ask}
-use Rattle.apf_book.specs.declared.config.Config.{Config}
+use Rattle.apf_model.specs.declared.config.Ask.{Ask}
+use Rattle.apf_model.specs.declared.config.Config.{Config}
 use Rattle.apf_model.specs.Schedule.{AreWidths}
 use Rattle.apf_session.specs.Ends.{HasEnded}
 use Rattle.apf_session.specs.Openings.{level_with}

@@ -1,6 +1,6 @@
 -- The ledger is the opening one, in which each request costs its width.
 use Rattle.std.proofs.Common.{ap, length, map, ℕ, List}
-use Rattle.apf_book.specs.declared.config.Ask.{Ask}
+use Rattle.apf_model.specs.declared.config.Ask.{Ask}
 use Rattle.apf_book.specs.LedgerView.{LedgerView}
 use Rattle.apf_book.specs.Opening.{opening_ledger_with}
 use Rattle.apf_book.proofs.Charging.{began_with, kept_new}

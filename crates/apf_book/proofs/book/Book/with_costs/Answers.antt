@@ -1,7 +1,7 @@
 -- The ledger is the opening one, in which each request costs what was given.
 use Rattle.std.proofs.Common.{◌∙◌, ap, length, sym, ℕ, List}
 use Rattle.std.proofs.lemmas.List.{length-map}
-use Rattle.apf_book.specs.declared.config.Ask.{Ask}
+use Rattle.apf_model.specs.declared.config.Ask.{Ask}
 use Rattle.apf_book.specs.LedgerView.{LedgerView}
 use Rattle.apf_book.specs.Opening.{opening_ledger_with}
 use Rattle.apf_book.proofs.Charging.{began_with, kept_new}

@@ -3,7 +3,7 @@ use Rattle.std.proofs.Common.{◌≡◌, ℕ, false, replicate, rules, length, r
 use Rattle.std.proofs.lemmas.List.{length-map}
 use Rattle.apf_model.specs.Fair.{opening_numbers}
 use Rattle.apf_queue.specs.View.{opening_view}
-use Rattle.apf_book.specs.declared.config.Ask.{Ask}
+use Rattle.apf_model.specs.declared.config.Ask.{Ask}
 use Rattle.apf_book.proofs.Ledgers.{sound_of}
 use Rattle.apf_book.proofs.Nexts.{opens}
 use Rattle.apf_book.proofs.ledger.Ledger.new.Goals as goal

@@ -1,4 +1,5 @@
-"""README.md and docs/FORMATS.md: each file that they show is written, each command is run, and its output compared.
+"""README.md and docs/FORMATS.md: each file that they show is written, each command is run, and its output compared. The other pages, where they name
+what the sources have; docs/AUDIT.md is made again.
 
 A block whose first line is ```LANGUAGE NAME is a file of that name. A block ```console has commands after `$ `, each
 followed by what it prints. A page is run in a folder of its own that has the examples and the program as ./apf.
@@ -13,11 +14,12 @@ import tempfile
 
 sys.path.insert(0, os.path.join(os.path.dirname(os.path.abspath(__file__)), "lib"))
 from harness import TOP, Tally, build
+from statements import page as audit_page
 
 tally = Tally()
 program = build()
-# what is shown and not run: the whole test, which runs this one
-SHOWN = {"./test"}
+# what is shown and not run: the tests, which run this one
+SHOWN = {"./test", "./test all"}
 
 
 def blocks(page):
@@ -149,4 +151,8 @@ for line in open(os.path.join(TOP, "crates.txt"), encoding="utf-8"):
     if head.strip():
         listed[head.split()[0]] = sorted(below.split())
 tally.check("docs/ARCHITECTURE.md: the crates", shown, listed)
+
+# docs/AUDIT.md is what its script makes of the sources
+with open(os.path.join(TOP, "docs", "AUDIT.md"), encoding="utf-8") as page:
+    tally.check("docs/AUDIT.md: as python3 tests/lib/statements.py makes it", page.read() == audit_page(), True)
 tally.end()

@@ -1,4 +1,4 @@
-"""The script `test`, with a stand-in for the toolchain's `rt` and for the scripts that it runs."""
+"""The script `test`, its two tiers, with a stand-in for the toolchain's `rt` and for the scripts that it runs."""
 
 import os
 import re
@@ -60,12 +60,12 @@ def test_of(name, *scripts, processors=2):
 KIT = re.search(r'^kit="(.*)"$', open(LAUNCHER).read(), re.M)[1]
 
 
-def begun(top, ci, does="builds", kit=KIT):
-    path = os.path.join(top, "bin") + os.pathsep + os.environ["PATH"]
+def begun(top, ci, does="builds", kit=KIT, words=("all",), tools=None):
+    path = tools or os.path.join(top, "bin") + os.pathsep + os.environ["PATH"]
     environment = {key: value for key, value in os.environ.items() if key != "APF_BUILD"}
     environment.update(PATH=path, NOTES=os.path.join(top, "notes"), SAYS=ci[0], STATUS=str(ci[1]), DOES=does, KIT=kit)
     return subprocess.Popen(
-        [os.path.join(top, "test")], stdin=subprocess.DEVNULL, stdout=subprocess.PIPE, stderr=subprocess.PIPE, env=environment, text=True
+        [os.path.join(top, "test"), *words], stdin=subprocess.DEVNULL, stdout=subprocess.PIPE, stderr=subprocess.PIPE, env=environment, text=True
     )
 
 
@@ -126,6 +126,46 @@ top = test_of("another release", WELL)
 lines = begun(top, WELL, kit=KIT.replace(KIT.split()[0], "rattle-kit-0")).communicate(timeout=60)[0].split("\n")[:-1]
 told = [it for it in lines if "another release" in it]
 tally.check("test: another release of the same logic", (lines[-1], len(told), open(os.path.join(top, "notes")).read().split()), ("6 passed, 0 failed", 1, ["ci"]))
+
+# the scripts of the folder `kit` run in the whole test alone
+top = test_of("scripts that need the kit", WELL)
+write(os.path.join(top, "tests", "kit", "0.py"), "print('7 passed, 0 failed')\n")
+lines = begun(top, WELL).communicate(timeout=60)[0].split("\n")[:-1]
+tally.check("test all: scripts that need the kit", (lines[-1], "== python3 tests/kit/0.py" in lines), ("13 passed, 0 failed", True))
+
+
+def without_kit(name, *scripts, stores=True):
+    """Runs `test` alone, where there is no rt; answers its status, its lines, and whether anybody called one."""
+    top = test_of(name, *scripts)
+    write(os.path.join(top, "tests", "kit", "0.py"), "print('7 passed, 0 failed')\n")
+    if stores:
+        write(os.path.join(top, "program", "x86_64-linux", "apf"), "#!/bin/sh\n", 0o755)
+        of = subprocess.run(["bash", "-c", '. "$1"; made_of', "", os.path.join(top, "apf")], capture_output=True, text=True).stdout
+        write(os.path.join(top, "program", "x86_64-linux", "made-of"), of)
+    running = begun(top, WELL, words=(), tools=TOOLS)
+    lines = running.communicate(timeout=60)[0].split("\n")[:-1]
+    return running.returncode, lines, os.path.exists(os.path.join(top, "notes"))
+
+
+# the tools that the first tier asks for; the kit is none of them
+TOOLS = os.path.join(room.name, "tools")
+os.mkdir(TOOLS)
+for tool in ("bash", "sh", "env", "awk", "cat", "cc", "cmp", "dirname", "find", "git", "mkdir", "mktemp", "mv", "nproc", "python3", "readlink", "rm", "sed", "sha256sum", "sort", "tail", "tee", "tr", "uname", "xargs"):
+    os.symlink(shutil.which(tool), os.path.join(TOOLS, tool))
+for name, scripts, want in [
+    ("alone", [("2 passed, 0 failed", 0), ("4 passed, 0 failed", 0)], (0, "6 passed, 0 failed", False)),
+    ("alone, a failed count", [("2 passed, 3 failed", 1), ("4 passed, 0 failed", 0)], (1, "6 passed, 3 failed", False)),
+    ("alone, a status without a count", [("Traceback", 1), ("4 passed, 0 failed", 0)], (1, "4 passed, 1 failed", False)),
+]:
+    status, lines, is_called = without_kit(name, *scripts)
+    tally.check(f"test: {name}", (status, lines[-1], is_called), want)
+    tally.check(f"test: {name}: says that it proves nothing", "proves nothing" in lines[0], True)
+status, lines, is_called = without_kit("alone, of other sources", ("2 passed, 0 failed", 0), stores=False)
+tally.check("test: no program of these sources, and no kit", (status, lines[-1], is_called), (1, "0 passed, 1 failed", False))
+for words in (("most",), ("all", "all"), ("",)):
+    running = begun(test_of("words" + "-".join(words), WELL), WELL, words=words)
+    out, err = running.communicate(timeout=60)
+    tally.check(f"test: the words {words}", (running.returncode, out, err), (2, "", "usage: ./test [all]\n"))
 
 # side by side: each of two scripts waits for the other one, and what each says stands whole, in the order of their names
 MEETS = "open('met-%d', 'w').close()\nfor _ in range(400): os.path.exists('met-%d') or time.sleep(0.05)\nmet = os.path.exists('met-%d')"

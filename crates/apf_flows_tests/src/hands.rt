@@ -1,5 +1,5 @@
 use crate::traces::{names, request, seven};
-use apf_book::{Config, Response};
+use apf_model::{Config, Response};
 use apf_flow::DealerFault;
 use apf_flows::{HandsFault, write_hands};
 use std::test::Fail;

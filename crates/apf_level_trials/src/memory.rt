@@ -1,4 +1,4 @@
-//! The calls of one level, one after another in one thread. `tests/level_memory.py` refuses this course each
+//! The calls of one level, one after another in one thread. `tests/kit/level_memory.py` refuses this course each
 //! allocation in turn: only the opening and the end of the level ask for memory.
 //!
 //! It writes nothing before all calls are made: then a line for each, and one for the end of the level. Where

@@ -1,5 +1,5 @@
 //! A level under load: eight threads step on it, with requests of mixed widths on a small limit, cancels, limits
-//! that change and a close. `tests/level_stress.py` runs this course by a seed and a number of requests, and judges
+//! that change and a close. `tests/kit/level_stress.py` runs this course by a seed and a number of requests, and judges
 //! all that it writes. With no seed it makes a short run, and writes what the plain program says of it alone.
 //!
 //! In the order of the data's way:

@@ -1,0 +1,253 @@
+"""The page docs/AUDIT.md: every definition that the statements of the headline rest on, each once, in reading order.
+
+usage: python3 tests/lib/statements.py >docs/AUDIT.md
+
+A statement is a contract in a crate's sources. What it cites is looked up in the `specs/` of the crates, and what these definitions cite in turn, to
+the end. So the page has nothing that was listed by hand, but for the names of the statements.
+"""
+
+import os
+import re
+import sys
+
+TOP = os.path.dirname(os.path.dirname(os.path.dirname(os.path.abspath(__file__))))
+CRATES = os.path.join(TOP, "crates")
+
+# the parts of the page: a heading, a sentence, and the statements, each a file and the line that its contract begins with
+PARTS = [
+    (
+        "The level: worlds, steps, schedules, safety",
+        "What a level is, which steps it may take, and what holds of every schedule, which is every order of such steps.",
+        [("apf_model/src/laws.rt", "pub fn every_schedule_is_safe()")],
+    ),
+    (
+        "The queues: histories, order",
+        "A history is a list of events of the queues, its newest event first. What a legal one says of each queue's order.",
+        [("apf_history/src/histories.rt", "pub fn every_legal_history_is_in_order()")],
+    ),
+    (
+        "Fairness and waits",
+        "How the next queue is chosen, and what follows for those that wait.",
+        [
+            ("apf_history/src/histories.rt", "pub fn every_fair_history_isolates()"),
+            ("apf_history/src/histories.rt", "pub fn every_fair_history_is_balanced()"),
+            ("apf_history/src/histories.rt", "pub fn every_wait_is_bounded()"),
+        ],
+    ),
+    (
+        "The gate: the words that threads step on",
+        "One trace of steps explains the words and what every token knows. This holds between any two atomic steps, and each step keeps it.",
+        [("apf_gate/src/rule.rt", "    ghost holds =")],
+    ),
+    (
+        "The level's end",
+        "What the report of a level says, when all of its tokens were handed in.",
+        [("apf_level/src/end.rt", "    pub fn end(")],
+    ),
+]
+
+USE = re.compile(r"^(?:pub )?(?:ghost )?use (Rattle\.[\w.]+?)(?:\.\{(.*)\}| as (\w+))?;?$")
+HEAD = re.compile(r"^(?:opaque |unfoldable )?(?:abbrev )?pub (?:unfoldable |record |data )*([\w'-]+|◌\S*◌)")
+WORD = re.compile(r"[A-Za-z_][\w']*")
+
+
+def text_of(path):
+    with open(path, encoding="utf-8") as file:
+        return file.read()
+
+
+def imported(line, names, modules):
+    """Notes what a line brings in: names, each with its module and its name there, and modules by another name."""
+    found = USE.match(line.strip())
+    if not found:
+        return False
+    module, inside, other = found.groups()
+    if other:
+        modules[other] = module
+    elif inside is not None:
+        for it in inside.split(","):
+            there, _, here = it.strip().partition(" as ")
+            names[here or there] = (module, there)
+    return True
+
+
+class Definition:
+    """One definition: where it stands, its comment and its text."""
+
+    def __init__(self, module, name, path, line, text):
+        self.module, self.name, self.path, self.line, self.text = module, name, path, line, text
+
+    def words(self):
+        return WORD.findall(re.sub(r"--.*", "", self.text))
+
+    def lines(self):
+        return sum(1 for it in self.text.split("\n") if it.strip() and not it.strip().startswith("--"))
+
+
+class Specs:
+    """All definitions of the crates' specs, with what each file brings in."""
+
+    def __init__(self):
+        self.definitions, self.names, self.modules, self.passed_on, self.order = {}, {}, {}, {}, []
+        for crate in sorted(os.listdir(CRATES)):
+            folder = os.path.join(CRATES, crate, "specs")
+            for file in sorted(os.listdir(folder)) if os.path.isdir(folder) else []:
+                if file.endswith(".antt"):
+                    self.read(f"Rattle.{crate}.specs.{file[:-5]}", os.path.join(folder, file))
+
+    def read(self, module, path):
+        names, modules = self.names.setdefault(module, {}), self.modules.setdefault(module, {})
+        self.order.append(module)
+        block = []
+        for number, line in enumerate([*text_of(path).split("\n"), ""], 1):
+            found = USE.match(line)
+            if found and line.startswith("pub use ") and found[2] is None:
+                # a whole module that is passed on under the crate's own name
+                self.passed_on[f"{module.rpartition('.')[0]}.{found[1].rpartition('.')[2]}"] = found[1]
+            elif imported(line, names, modules):
+                pass
+            elif line.strip():
+                block.append((number, line))
+            else:
+                self.take(module, path, block)
+                block = []
+
+    def take(self, module, path, block):
+        """A block of lines is a comment, a definition, or both; an equation or a field further down is no definition."""
+        heads = [at for at, (_, line) in enumerate(block) if HEAD.match(line)]
+        for place, at in enumerate(heads):
+            begin = at
+            while begin and block[begin - 1][1].startswith("--"):
+                begin -= 1
+            end = len(block) if place + 1 == len(heads) else heads[place + 1]
+            while end > at + 1 and place + 1 < len(heads) and block[end - 1][1].startswith("--"):
+                end -= 1
+            name = HEAD.match(block[at][1])[1]
+            text = "\n".join(line for _, line in block[begin:end])
+            self.definitions[module, name] = Definition(module, name, path, block[begin][0], text)
+
+    def found(self, module, name):
+        """The definition that a name means in a module, or None."""
+        module = self.passed_on.get(module, module)
+        if (module, name) in self.definitions:
+            return self.definitions[module, name]
+        there = self.names.get(module, {}).get(name)
+        return self.found(*there) if there else None
+
+    def cited(self, module, words, names=None):
+        """The definitions that these words mean, and the types of the sources."""
+        names = self.names.get(module, {}) if names is None else names
+        definitions, types = [], set()
+        for word in dict.fromkeys(words):
+            it = self.found(module, word) or (self.found(*names[word]) if word in names else None)
+            if it:
+                definitions.append(it)
+            elif word in names and ".declared." in names[word][0]:
+                types.add(names[word][0].partition(".TheVariants")[0])
+            elif word in names and names[word][0].startswith("Rattle.apf_"):
+                raise LookupError(f"{word} of {names[word][0]}, which {module or 'a statement'} cites, is not found")
+        return definitions, types
+
+    def closure(self, roots):
+        seen, types, rest = {}, set(), list(roots)
+        while rest:
+            it = rest.pop()
+            if (it.module, it.name) in seen:
+                continue
+            seen[it.module, it.name] = it
+            more, those = self.cited(it.module, it.words())
+            types |= those
+            rest += more
+        return seen, types
+
+
+def statement_of(file, head):
+    """A statement: the function's contract, or one line of a rule, and what its file brings in."""
+    lines = text_of(os.path.join(CRATES, file)).split("\n")
+    at = next(number for number, line in enumerate(lines) if line.startswith(head))
+    names = {}
+    for line in lines:
+        imported(line, names, {})
+    end = at + 1
+    while "fn " in head and lines[end - 1].strip() not in ("{}", "{"):
+        end += 1
+    text = lines[at : end - 1 if "fn " in head else end]
+    indent = len(text[0]) - len(text[0].lstrip())
+    return at + 1, "\n".join(it[indent:] for it in text), names
+
+
+def in_reading_order(specs, definitions):
+    """The files of these definitions, each after those that it cites where that can be, and in each the order of its text."""
+    files = {}
+    for it in definitions:
+        files.setdefault(it.module, []).append(it)
+    order = []
+
+    def visit(module, above):
+        if module in order or module in above:
+            return
+        for it in files[module]:
+            for other in specs.cited(module, it.words())[0]:
+                if other.module in files and other.module != module:
+                    visit(other.module, above | {module})
+        order.append(module)
+
+    for module in specs.order:
+        if module in files:
+            visit(module, frozenset())
+    return [(module, sorted(files[module], key=lambda it: it.line)) for module in order]
+
+
+def type_name(path):
+    """`Decision` of apf_words, from Rattle.apf_words.specs.declared.decision.Decision."""
+    crate = path.split(".")[1]
+    return crate, path.rpartition(".")[2]
+
+
+def page():
+    specs = Specs()
+    told, types, body, files = {}, set(), [], set()
+    for heading, sentence, statements in PARTS:
+        roots, shown = [], []
+        for file, head in statements:
+            line, text, names = statement_of(file, head)
+            cited, those = specs.cited("", WORD.findall(text), names)
+            types |= those
+            roots += cited
+            shown.append(f"`crates/{file}`, line {line}:\n\n```rust\n{text}\n```\n")
+        seen, those = specs.closure(roots)
+        types |= those
+        fresh = [it for key, it in seen.items() if key not in told]
+        told.update(seen)
+        body.append(f"## {heading}\n\n{sentence}\n\nThe statement{'s' if len(shown) > 1 else ''}:\n\n" + "\n".join(shown))
+        count = sum(it.lines() for it in fresh)
+        body.append(f"{len(fresh)} definitions that were not told above, {count} lines:\n")
+        for module, definitions in in_reading_order(specs, fresh):
+            path = os.path.relpath(definitions[0].path, TOP)
+            files.add(path)
+            body.append(f"### `{path}`\n\n```text\n" + "\n\n".join(it.text for it in definitions) + "\n```\n")
+    lines = sum(it.lines() for it in told.values())
+    kinds = {}
+    for it in sorted(types):
+        crate, name = type_name(it)
+        kinds.setdefault(crate, []).append(f"`{name}`")
+    rows = "\n".join(f"| `{crate}` | {', '.join(dict.fromkeys(names))} |" for crate, names in sorted(kinds.items()))
+    head = f"""# What a reader must trust
+
+The prover checks that the code keeps its contracts. It can't check that the contracts say what you want. For that a person reads the definitions that the statements cite. This page has them all, each once, with its comment: **{len(told)} definitions, {lines} lines without comments and blank lines, in {len(files)} files**. No proof stands here, and none need be read.
+
+`python3 tests/lib/statements.py >docs/AUDIT.md` makes this page from the sources. The tests make it again and compare. [DEFINITIONS.md](DEFINITIONS.md) has the same definitions, and those of the other crates, in words.
+
+How to read a definition: `→` is "implies" or "a function from .. to ..", `×` is "and", `⊎` is "or", `λ x. ..` is the function of x, `Σ` is "there is". A `record` is a list of named facts that all hold. `abbrev` gives a name to what stands behind it. A list is written `x ∷ xs`, its first element and the rest. `ℕ` are the whole numbers from 0. Words that are not defined here are those of the kit's library (`Rattle.std.specs.Prelude`).
+
+The definitions speak of these types of the sources:
+
+| Crate | Types |
+|---|---|
+{rows}
+"""
+    return head + "\n" + "\n".join(body)
+
+
+if __name__ == "__main__":
+    sys.stdout.write(page())

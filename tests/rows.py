@@ -1,39 +1,44 @@
-"""The worked rows of `crates/apf_cli_tests/src/rows.rt`, which run there with files in memory, on the built program with files of the machine."""
+"""The worked rows of tests/rows.txt: what the program prints of small files, each computed by hand from the rules.
 
-import json
+A row begins with `== NAME` and a sentence. Then come the texts of the config, the requests and the script, each behind a line `-- FILE`, and behind
+`-- COMMAND` what that command prints of these files, with status 0 and nothing on standard error.
+"""
+
 import os
-import re
 import sys
 
 sys.path.insert(0, os.path.join(os.path.dirname(os.path.abspath(__file__)), "lib"))
 from harness import TOP, Files, Tally, build, run
 
+FILES = ("config", "requests", "script")
+COMMANDS = ("replay", "services", "waits")
+
 tally = Tally()
 program = build()
 files = Files()
 
-with open(os.path.join(TOP, "crates", "apf_cli_tests", "src", "rows.rt")) as source:
-    SOURCE = source.read()
-TEXT = r'"((?:[^"\\]|\\.)*)"'
+
+def parts_of(row):
+    """A row's name, its sentence, and its texts by their heads, in order."""
+    name, sentence, *lines = row.split("\n")
+    texts = {}
+    for line in lines:
+        if line.startswith("-- "):
+            head = line[3:]
+            texts[head] = ""
+        else:
+            texts[head] += line + "\n"
+    return name, sentence, texts
 
 
-def text_of(literal):
-    """What a text of the source says: a backslash at a line's end leaves out the blanks that follow."""
-    return json.loads('"' + re.sub(r"\\\n\s*", "", literal) + '"', strict=False)
+with open(os.path.join(TOP, "tests", "rows.txt"), encoding="utf-8") as source:
+    ROWS = [parts_of(row.rstrip("\n")) for row in ("\n" + source.read()).split("\n== ")[1:]]
 
-
-rows = 0
-for name, body in re.findall(r"#\[test\]\nfn (\w+)\(.*?\{\n(.*?)\n\}", SOURCE, re.DOTALL):
-    found = [re.search(rf"\b{key}:? ?=? ?{TEXT}", body, re.DOTALL) for key in ("config", "requests", "script", "let out")]
-    if not all(found):
-        tally.check(f"the row {name} can be read", False, True)
-        continue
-    config, requests, script, out = (text_of(it[1]) for it in found)
-    command = next((it for it in ("services", "waits") if f'"{it}"' in body), "replay")
-    names = [files(kind, text) for kind, text in (("config", config), ("requests", requests), ("script", script))]
-    tally.check(name, run(program, [command, *names]), (0, out.encode(), b""))
-    rows += 1
-# each test of the source is a row
-tally.check("all rows", rows, SOURCE.count("#[test]"))
-tally.check("there are rows", rows >= 20, True)
+for name, sentence, texts in ROWS:
+    *given, command = texts
+    tally.check(f"the row {name} has its parts", (tuple(given), command in COMMANDS, sentence.endswith(".")), (FILES, True, True))
+    names = [files(kind, texts[kind]) for kind in FILES]
+    tally.check(name, run(program, [command, *names]), (0, texts[command].encode(), b""))
+tally.check("each name stands once", sorted({name for name, _, _ in ROWS}), sorted(name for name, _, _ in ROWS))
+tally.check("there are rows", len(ROWS) >= 20, True)
 tally.end()

@@ -21,8 +21,8 @@ began_with (Err e) items began v costs is same = absurd is
 
 -- a new Desk and a log in which nothing happened agree
 pub kept_new : (desk : DeskRecord) (v : LedgerView) (config : Config) (asks : List Ask) (costs : List ℕ) → v ≡ opening_ledger_with config asks costs → IsLogOf v → desk ≡ new_desk desk.knows.shape
-    → length costs ≡ length desk.knows.shape.widths → desk.knows.shape.response ≡ Queue → IsKept desk v
-kept_new desk v config asks costs is of_log fresh each has_queues = record {
+    → length costs ≡ length desk.knows.shape.widths → desk.knows.shape.response ≡ Queue → length desk.knows.shape.widths ≡ desk.knows.shape.slots → IsKept desk v
+kept_new desk v config asks costs is of_log fresh each has_queues batch = record {
   of_log = of_log;
   did = λ r. ap (λ (d : DeskRecord). logged (service d r)) fresh ∙ ap (λ (w : LedgerView). Some (status w.history r)) (sym is);
   holds_none = ap (λ (d : DeskRecord). d.held) fresh;
@@ -30,4 +30,5 @@ kept_new desk v config asks costs is of_log fresh each has_queues = record {
   struck = λ r struck. let bad : status_is.Away ≡ status_is.Struck = sym (ap (λ (w : LedgerView). status w.history r) is) ∙ struck in cc;
   one_cost_each = ap (λ (w : LedgerView). length w.costs) is ∙ each;
   has_queues = has_queues;
+  batch = batch;
 }

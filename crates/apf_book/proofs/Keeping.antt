@@ -39,6 +39,7 @@ kept_moves desk desk' v r kept moves says held = record {
   struck = λ j is. told_still desk.knows desk'.knows j Cancelled moves.more (kept.struck j is);
   one_cost_each = kept.one_cost_each ∙ ap (λ (s : Shape). length s.widths) (sym moves.more.shape);
   has_queues = ap (λ (s : Shape). s.response) moves.more.shape ∙ kept.has_queues;
+  batch = subst (λ (s : Shape). length s.widths ≡ s.slots) (sym moves.more.shape) kept.batch;
 }
 
 -- steps that did nothing and said nothing
@@ -62,6 +63,7 @@ kept_after desk desk' v e kept of_log moves says held told = record {
   ];
   one_cost_each = kept.one_cost_each ∙ ap (λ (s : Shape). length s.widths) (sym moves.more.shape);
   has_queues = ap (λ (s : Shape). s.response) moves.more.shape ∙ kept.has_queues;
+  batch = subst (λ (s : Shape). length s.widths ≡ s.slots) (sym moves.more.shape) kept.batch;
 }
 
 -- the same, of the log that the ledger has then

@@ -41,3 +41,5 @@ pub record IsKept (desk : DeskRecord) (v : LedgerView) : Type 0 where
   pub struck : (r : ℕ) → status v.history r ≡ status_is.Struck → told_of desk.knows.told r ≡ Some Cancelled
   pub one_cost_each : length v.costs ≡ length desk.knows.shape.widths
   pub has_queues : desk.knows.shape.response ≡ Queue
+  -- a batch: each request has a slot of its own
+  pub batch : length desk.knows.shape.widths ≡ desk.knows.shape.slots

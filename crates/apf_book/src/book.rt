@@ -69,6 +69,7 @@ impl<A: Allocator + Copy> Book<A> {
         requires fresh { desk.desk ≡ new_desk desk.desk.knows.shape }
         requires widths { map (λ a. a.width) asks.now ≡ desk.desk.knows.shape.widths }
         requires has_queues { desk.desk.knows.shape.response ≡ Queue }
+        requires batch { length desk.desk.knows.shape.widths ≡ desk.desk.knows.shape.slots }
         ensures desk { IfOk result (λ b. b.desk ≡ desk) }
         ensures ledger { IfOk result (λ b. b.ledger ≡ opening_ledger config.now asks.now) }
         ensures stopped { IfOk result (λ b. IsStopped b.ledger b.desk.desk.knows) }
@@ -101,6 +102,7 @@ impl<A: Allocator + Copy> Book<A> {
         requires one_cost_each { length costs.now ≡ length asks.now }
         requires costs { AreWidths costs.now }
         requires has_queues { desk.desk.knows.shape.response ≡ Queue }
+        requires batch { length desk.desk.knows.shape.widths ≡ desk.desk.knows.shape.slots }
         ensures desk { IfOk result (λ b. b.desk ≡ desk) }
         ensures ledger { IfOk result (λ b. b.ledger ≡ opening_ledger_with config.now asks.now costs.now) }
         ensures stopped { IfOk result (λ b. IsStopped b.ledger b.desk.desk.knows) }
@@ -145,7 +147,8 @@ impl<A: Allocator> Book<A> {
         ensures kept { IsKept self.new.desk.desk self.new.ledger }
     {
         legal_histories_are_in_order();
-        let request = pass.number();
+        self.desk.is_of_a_gate();
+        let request = pass.number() as u32;
         let found = gate.hear(&mut self.desk, pass);
         if self.ledger.has_arrived(request) {
             return Arrived::Again;
@@ -212,13 +215,14 @@ impl<A: Allocator> Book<A> {
         ensures kept { IsKept self.new.desk.desk self.new.ledger }
     {
         legal_histories_are_in_order();
-        if gate.seen(&mut self.desk, request) != Some(Decision::Cancelled) {
+        self.desk.is_of_a_gate();
+        if gate.seen(&mut self.desk, request as u128) != Some(Decision::Cancelled) {
             return false;
         }
         let Some(_queue) = self.ledger.strike(request) else {
             return false;
         };
-        gate.leave(&mut self.desk, request);
+        gate.leave(&mut self.desk, request as u128);
         true
     }
 
@@ -291,6 +295,7 @@ impl<A: Allocator> Book<A> {
         ensures kept { IsKept self.new.desk.desk self.new.ledger }
     {
         legal_histories_are_in_order();
+        self.desk.is_of_a_gate();
         let Some(chosen) = self.ledger.choose() else {
             return None;
         };

@@ -1,9 +1,10 @@
 //! The Desk serves the head of a queue.
 
-ghost use Rattle.std.specs.Prelude.{◌≡◌, ◌⊎◌, ◌<◌, length, Some, None};
+ghost use Rattle.std.specs.Prelude.{◌≡◌, ◌⊎◌, Some, None};
 ghost use Rattle.apf_words.specs.declared.decision.Decision.TheVariants as decisions;
 ghost use Rattle.apf_model.specs.World.{width};
 ghost use Rattle.apf_gate.specs.declared.record.Service.TheVariants as service_is;
+ghost use Rattle.apf_gate.specs.Slots.{IsTicket};
 ghost use Rattle.apf_gate.specs.Records.{told_of, service};
 ghost use Rattle.apf_gate.specs.Tokens.{desk_gate};
 ghost use Rattle.apf_book.specs.Moves.{Moves, LastFound};
@@ -30,7 +31,7 @@ pub enum Served {
 // Tries once to serve a request that waits.
 pub fn serve<A: Allocator>(gate: &Gate<A>, desk: &mut Desk, request: u32) -> Served
     requires own { desk_gate desk.old ≡ gate.now }
-    requires is_request { request < length gate.now.shape.widths }
+    requires is_request { IsTicket gate.now.shape request }
     requires waits { service desk.old.desk request ≡ service_is.Waiting }
     requires holds_none { desk.old.desk.held ≡ None }
     ensures gate { desk_gate desk.new ≡ desk_gate desk.old }
@@ -40,11 +41,11 @@ pub fn serve<A: Allocator>(gate: &Gate<A>, desk: &mut Desk, request: u32) -> Ser
     ensures struck { result ≡ Served.Struck → told_of desk.new.desk.knows.told request ≡ Some decisions.Cancelled }
     ensures no_room { result ≡ Served.NoRoom → LastFound desk.old.desk.knows gate.now.shape.widths request desk.new.desk.knows }
 {
-    if let Some(Decision::Cancelled) = gate.seen(desk, request) {
-        gate.leave(desk, request);
+    if let Some(Decision::Cancelled) = gate.seen(desk, request as u128) {
+        gate.leave(desk, request as u128);
         return Served::Struck;
     }
-    match gate.try_grant(desk, request) {
+    match gate.try_grant(desk, request as u128) {
         TryGrant::NoRoom => Served::NoRoom,
         TryGrant::Raced => Served::Raced,
         TryGrant::Granted => settle(gate, desk, request),

@@ -1,18 +1,18 @@
 -- The steps of the Desk keep the rule.
-use Rattle.std.proofs.Common.{◌≡◌, ◌≢◌, ℕ, ◌+◌, ◌-◌, ◌%◌, ◌^◌, ◌<◌, ◌≤◌, Bool, true, false, List, [], ◌∷◌, length, set, Option, Some, None, sym, refl, ap, ◌∙◌, subst, ⊎_elim, arith}
+use Rattle.std.proofs.Common.{◌≡◌, ◌≢◌, ◌⊎◌, ℕ, ◌+◌, ◌-◌, ◌%◌, ◌^◌, ◌<◌, ◌≤◌, Bool, true, false, List, [], ◌∷◌, length, set, Option, Some, None, sym, refl, ap, ◌∙◌, subst, ⊎_elim, arith}
 use Rattle.std.specs.Prelude.{slice_index, ◌==◌, MatchBool}
 use mathlib.Core.Option.{some}
 use lib.ListN.{get_elem?}
 use prog.Atomic.{either}
 use Rattle.atomic_table.specs.Table.{keeps, Allows}
-use Rattle.apf_words.specs.Codes.{code_of, code_in}
+use Rattle.apf_words.specs.Codes.{marked}
 use Rattle.apf_words.specs.Fits.{Fits}
 use Rattle.apf_words.specs.Level.{Level, packed, AllBelow20Bits}
 use Rattle.apf_words.specs.declared.decision.Decision.TheVariants.{Execute, Cancelled}
 use Rattle.apf_model.specs.declared.moves.Move.{Move}
 use Rattle.apf_model.specs.declared.moves.Move.TheVariants.{Grant, Leave, Decide, Release}
 use Rattle.apf_model.specs.declared.moves.Stage.{Stage}
-use Rattle.apf_model.specs.declared.moves.Stage.TheVariants.{Waits, Stands, Gone}
+use Rattle.apf_model.specs.declared.moves.Stage.TheVariants.{Away, Waits, Stands, Gone}
 use Rattle.apf_model.specs.World.{World, put, width, seats, waiters}
 use Rattle.apf_gate.specs.declared.record.Shape.{Shape}
 use Rattle.apf_gate.specs.declared.record.State.{State}
@@ -28,24 +28,26 @@ use Rattle.apf_gate.specs.declared.record.Record.TheVariants.{Desk}
 use Rattle.apf_gate.specs.Records.{level_of, told_of, told_own, service_of, service, saw_level, saw_decision}
 use Rattle.apf_gate.specs.Traces.{entry, world_of}
 use Rattle.apf_gate.specs.Requests.{IsRequest, stage_of, stage_of_settled, was_handed, has_entered, written}
-use Rattle.apf_gate.specs.Account.{IsKnown}
+use Rattle.apf_gate.specs.Account.{HoldsSlot, IsKnown}
 use Rattle.apf_gate.specs.Rule.{Packs, IsRuled}
 use Rattle.apf_gate.specs.Gauges.{IsShape, AreLaws}
-use Rattle.apf_gate.specs.Steps.{IsInRange, SawLevel, ByDesk, OfLevel, OfDecision, OnLevel, OnLevelIf, OnDecision, OnDecisionIf, request_at}
+use Rattle.apf_gate.specs.Steps.{IsInRange, SawLevel, ByDesk, OfLevel, OfDecision, OnLevel, OnLevelIf, OnDecision, OnDecisionIf}
 use Rattle.apf_gate.specs.DeskSteps.{served, DeskMayFind, DeskLoadsLevel, DeskExchangesLevel, DeskSubtractsSeats, DeskSubtractsWaiter, DeskLoadsDecision, DeskExchangesDecision, DeskMissesDecision}
 use Rattle.apf_gate.proofs.Puts.{put_here, put_else}
-use Rattle.apf_gate.proofs.WordNumbers.{packed_same, code_same, word_request}
+use Rattle.apf_gate.specs.Slots.{slot_of, mark_of}
+use Rattle.apf_gate.proofs.WordNumbers.{packed_same}
+use Rattle.apf_gate.proofs.Slots.{decision_same, apart_from, busy_holds}
 use Rattle.apf_gate.proofs.Later.{IsNext, next_load, next_move}
-use Rattle.apf_gate.proofs.Requests.{is_handed, desk_may_find, request_served}
+use Rattle.apf_gate.proofs.Requests.{IsSame, is_handed, desk_may_find, request_served}
 use Rattle.apf_gate.proofs.Views.{Table}
 use Rattle.apf_gate.proofs.Sound.{by_found, Exchanged, left, desk_step}
-use Rattle.apf_gate.proofs.Packing.{packs_same, packs_level, packs_decided, level_in_range, no_queues, is_small}
+use Rattle.apf_gate.proofs.Packing.{own_word, batch_holds, packs_same, packs_level, packs_decided, level_in_range, no_queues, is_small}
 use Rattle.apf_gate.proofs.Knowing.{level_known, level_told, decision_known, decision_told}
 use Rattle.apf_gate.proofs.DeskLines.{HoldsOne, holds_still, holds_now, holds_none, IsAt, is_at, requests_but, counts_waiting}
 
 module _ (s : Shape) where
   -- a load of the word of r: the rule afterwards, and what the step tells
-  reads : (t : Table) (h : IsRuled s t) (id r : ℕ) (d : DeskRecord) → r < length s.widths → get_elem? t.views id ≡ some (Desk d ∷ []) → (d' : DeskRecord) × IsRuled s (left t (r + 1) (slice_index t.words (r + 1)) id (Desk d' ∷ [])) × DeskLoadsDecision r d ((world_of s h.account.trace).decision r) d'
+  reads : (t : Table) (h : IsRuled s t) (id r : ℕ) (d : DeskRecord) → r < length s.widths → get_elem? t.views id ≡ some (Desk d ∷ []) → (d' : DeskRecord) × IsRuled s (left t (slot_of r + 1) (slice_index t.words (slot_of r + 1)) id (Desk d' ∷ [])) × DeskLoadsDecision r d ((world_of s h.account.trace).decision r) d'
   reads t h id r d inside at =
       let w = world_of s h.account.trace in
       let k = is_at s t h id d at in
@@ -54,15 +56,20 @@ module _ (s : Shape) where
       let u : Knowledge = saw_decision d.knows r x (entry OfDesk None ∷ h.account.trace) in
       let d' : DeskRecord = record d { knows = u } in (
         d',
-        desk_step s t h id (r + 1) (slice_index t.words (r + 1)) None d d' at next k.request (packs_same s t.words w w (r + 1) refl (λ _. refl) h.packs)
+        desk_step s t h id (slot_of r + 1) (slice_index t.words (slot_of r + 1)) None d d' at next (λ j l no. record { stage = refl; decision = refl; saw = refl }) k.request (packs_same s h.account.current t.words w w (slot_of r + 1) refl (λ _. refl) h.packs)
             (decision_known s OfDesk OfDesk d.knows h.account.trace None k.known next r x (λ _. refl)) k.holds.held_is k.holds.is_held,
         (u, decision_told s OfDesk d.knows h.account.trace None k.known next r x x refl (λ _. refl), desk_may_find s r (h.account.pass r) (service d r) w (k.request r inside), refl),
       )
 
-  pub desk_loads_decision : (id slots : ℕ) (d : DeskRecord) (r : ℕ) → r < length s.widths → Allows (IsRuled s) slots id (Desk d ∷ [], []) (r + 1) (λ n. n) (ByDesk (OnDecision (DeskLoadsDecision (request_at (r + 1)))) (Desk d ∷ [], []))
-  desk_loads_decision id slots d r inside t h deep at small =
+  -- a request that the Desk has waiting or holds has its slot
+  busy_is : (t : Table) (h : IsRuled s t) (d : DeskRecord) → IsAt s t h d → (r : ℕ) (a : Service) (b : Stage) → r < length s.widths → service d r ≡ a → stage_of (h.account.pass r) a ≡ b → b ≢ Away → b ≢ Gone → HoldsSlot h.account r
+  busy_is t h d k r a b l is stage away gone = busy_holds s h.account h.slots r b l ((k.request r l).stage ∙ (ap (stage_of (h.account.pass r)) is ∙ stage)) away gone
+
+  pub desk_loads_decision : (id slots : ℕ) (d : DeskRecord) (r : ℕ) → IsShape s → r < length s.widths → (service d r ≡ Waiting) ⊎ (length s.widths ≡ s.slots) → Allows (IsRuled s) slots id (Desk d ∷ [], []) (slot_of r + 1) (λ n. n) (ByDesk (OnDecision (λ _. mark_of r) (DeskLoadsDecision r)) (Desk d ∷ [], []))
+  desk_loads_decision id slots d r shape inside has_slot t h deep at small =
       let x = reads t h id r d inside at in
-      (Desk x.0 ∷ [], keeps, tt, x.1, (refl, (x.0, refl, subst (λ q. OfDecision (λ found. DeskLoadsDecision q d found x.0) (slice_index t.words (r + 1))) (sym (word_request r)) ((world_of s h.account.trace).decision r, h.packs.decisions r inside, x.2))))
+      let holds = ⊎_elim (λ (waits : service d r ≡ Waiting). busy_is t h d (is_at s t h id d at) r Waiting Waits inside waits refl (λ e. cc) (λ e. cc)) (λ (batch : length s.widths ≡ s.slots). batch_holds s shape t h batch r inside) has_slot in
+      (Desk x.0 ∷ [], keeps, tt, x.1, (refl, (x.0, refl, ((world_of s h.account.trace).decision r, own_word s t h r inside holds, x.2))))
 
   -- a Pass that asked stands until it is over
   settled_stands : (f : State) → (f ≡ Over → ⊥) → stage_of_settled f ≡ Stands
@@ -81,15 +88,15 @@ module _ (s : Shape) where
 
   -- what the exchange tells, by whether it was made
   abbrev SettlesOr : DeskRecord → ℕ → ℕ → Bool → List Record → Type 0
-  SettlesOr d r n made v = (d' : DeskRecord) × (v ≡ Desk d' ∷ []) × OfDecision (λ found. MatchBool made (DeskExchangesDecision (request_at (r + 1)) d d') (DeskMissesDecision (request_at (r + 1)) d found d')) n
+  SettlesOr d r n made v = (d' : DeskRecord) × (v ≡ Desk d' ∷ []) × OfDecision (mark_of r) (λ found. MatchBool made (DeskExchangesDecision r d d') (DeskMissesDecision r d found d')) n
 
   -- execute is written of the request that is held, where nothing was
   pub desk_exchanges_decision : (id slots : ℕ) (d : DeskRecord) (r : ℕ) → r < length s.widths → d.held ≡ Some r
-      → Allows (IsRuled s) slots id (Desk d ∷ [], []) (r + 1) (λ n. either (n == 0) (code_of Execute) n) (ByDesk (OnDecisionIf (DeskExchangesDecision (request_at (r + 1))) (DeskMissesDecision (request_at (r + 1)))) (Desk d ∷ [], []))
-  desk_exchanges_decision id slots d r inside held t h deep at small = by_found (Exchanged s t (r + 1) (code_of Execute) id (SettlesOr d r (slice_index t.words (r + 1)))) (slice_index t.words (r + 1)) 0 hit miss
+      → Allows (IsRuled s) slots id (Desk d ∷ [], []) (slot_of r + 1) (λ n. either (n == marked (mark_of r) None) (marked (mark_of r) (Some Execute)) n) (ByDesk (OnDecisionIf (λ _. mark_of r) (DeskExchangesDecision r) (DeskMissesDecision r)) (Desk d ∷ [], []))
+  desk_exchanges_decision id slots d r inside held t h deep at small = by_found (Exchanged s t (slot_of r + 1) (marked (mark_of r) (Some Execute)) id (SettlesOr d r (slice_index t.words (slot_of r + 1)))) (slice_index t.words (slot_of r + 1)) (marked (mark_of r) None) hit miss
     where
       n : ℕ
-      n = slice_index t.words (r + 1)
+      n = slice_index t.words (slot_of r + 1)
 
       w : World
       w = world_of s h.account.trace
@@ -100,19 +107,25 @@ module _ (s : Shape) where
       is : service d r ≡ Held
       is = k.holds.held_is r held
 
+      in_place : HoldsSlot h.account r
+      in_place = busy_is t h d k r Held Stands inside is refl (λ e. cc) (λ e. cc)
+
+      word : n ≡ marked (mark_of r) (w.decision r)
+      word = own_word s t h r inside in_place
+
       -- another decision of a request that is held is cancelled
-      miss : n ≢ 0 → Exchanged s t (r + 1) (code_of Execute) id (SettlesOr d r n) false
+      miss : n ≢ marked (mark_of r) None → Exchanged s t (slot_of r + 1) (marked (mark_of r) (Some Execute)) id (SettlesOr d r n) false
       miss ne =
           let finds = subst (λ a. DeskMayFind a (w.decision r)) is (desk_may_find s r (h.account.pass r) (service d r) w (k.request r inside)) in
-          let cancelled : w.decision r ≡ Some Cancelled = ⊎_elim (λ (e : w.decision r ≡ None). absurd (ne (h.packs.decisions r inside ∙ ap code_in e))) (λ (e : w.decision r ≡ Some Cancelled). e) finds in
+          let cancelled : w.decision r ≡ Some Cancelled = ⊎_elim (λ (e : w.decision r ≡ None). absurd (ne (word ∙ ap (marked (mark_of r)) e))) (λ (e : w.decision r ≡ Some Cancelled). e) finds in
           let x = reads t h id r d inside at in
-          (Desk x.0 ∷ [], keeps, tt, x.1, (refl, (x.0, refl, subst (λ q. OfDecision (λ found. DeskMissesDecision q d found x.0) n) (sym (word_request r)) (w.decision r, h.packs.decisions r inside, (cancelled, x.2)))))
+          (Desk x.0 ∷ [], keeps, tt, x.1, (refl, (x.0, refl, (w.decision r, word, (cancelled, x.2)))))
 
-      hit : n ≡ 0 → Exchanged s t (r + 1) (code_of Execute) id (SettlesOr d r n) true
+      hit : n ≡ marked (mark_of r) None → Exchanged s t (slot_of r + 1) (marked (mark_of r) (Some Execute)) id (SettlesOr d r n) true
       hit e =
           let p : PassRecord = h.account.pass r in
           let line = k.request r inside in
-          let none : w.decision r ≡ None = code_same (w.decision r) None (sym (h.packs.decisions r inside) ∙ e) in
+          let none : w.decision r ≡ None = decision_same (mark_of r) (w.decision r) None (sym word ∙ e) in
           let stage : w.stage r ≡ Stands = line.stage ∙ ap (stage_of p) is in
           let m : Option Move = Some (Decide r Execute) in
           let next = next_move s OfDesk (Decide r Execute) h.account.trace h.sound.schedule (record { is_request = inside; is_undecided = none; may_be = stage }) (λ x. cc) in
@@ -125,7 +138,8 @@ module _ (s : Shape) where
             Desk d' ∷ [],
             keeps,
             tt,
-            desk_step s t h id (r + 1) (code_of Execute) m d d' at next
+            desk_step s t h id (slot_of r + 1) (marked (mark_of r) (Some Execute)) m d d' at next
+                (λ j l no. record { stage = refl; decision = put_else w.decision r (Some Execute) j (apart_from h.account r j in_place no); saw = refl })
                 (requests_but s h.account.pass d.services w w' r Settled (λ j ne. record { stage = refl; decision = put_else w.decision r (Some Execute) j ne; saw = refl }) (λ x. x) k.request
                 (record {
                   own = line.own;
@@ -135,10 +149,10 @@ module _ (s : Shape) where
                   word = here;
                   closed = λ x. absurd (cc);
                 }))
-                (packs_decided s t.words w r Execute inside h.packs)
+                (packs_decided s h.account t.words w r Execute h.slots in_place (h.slots.inside r inside in_place) h.packs)
                 (decision_known s OfDesk OfDesk d.knows h.account.trace m k.known next r (Some Execute) (λ _. here))
                 holds.held_is holds.is_held,
-            (refl, (d', refl, subst (λ q. OfDecision (λ found. DeskExchangesDecision q d d') n) (sym (word_request r)) (None, e, (u, decision_told s OfDesk d.knows h.account.trace m k.known next r None (Some Execute) none (λ _. here), refl)))),
+            (refl, (d', refl, (None, e, (u, decision_told s OfDesk d.knows h.account.trace m k.known next r None (Some Execute) none (λ _. here), refl)))),
           )
 
   module _ (shape : IsShape s) (laws : AreLaws s) where
@@ -158,29 +172,30 @@ module _ (s : Shape) where
           Desk d' ∷ [],
           keeps,
           tt,
-          desk_step s t h id 0 (slice_index t.words 0) None d d' at next k.request (packs_same s t.words w w 0 refl (λ _. refl) h.packs)
+          desk_step s t h id 0 (slice_index t.words 0) None d d' at next (λ j l no. record { stage = refl; decision = refl; saw = refl }) k.request (packs_same s h.account.current t.words w w 0 refl (λ _. refl) h.packs)
               (level_known s OfDesk OfDesk d.knows h.account.trace None k.known next l refl) k.holds.held_is k.holds.is_held,
           (refl, (d', refl, (l, h.packs.level, (u, tells t h d k None l refl next, counts_waiting s laws t h d k, refl)))),
         )
 
     -- a move of r that takes it from one stage to another, as the Desk did this with it
     moves_one : (t : Table) (h : IsRuled s t) (id new : ℕ) (d d' : DeskRecord) (r : ℕ) (a b : Service) (to : Stage) (m : Move) (at : get_elem? t.views id ≡ some (Desk d ∷ [])) (l : Level) → level_of s.widths (world_of s h.account.trace) ≡ l
-        → r < length s.widths → service d r ≡ a → was_handed b ≡ was_handed a → has_entered b ≡ has_entered a → written (h.account.pass r) b ≡ written (h.account.pass r) a → stage_of (h.account.pass r) b ≡ to
+        → r < length s.widths → HoldsSlot h.account r → service d r ≡ a → was_handed b ≡ was_handed a → has_entered b ≡ has_entered a → written (h.account.pass r) b ≡ written (h.account.pass r) a → stage_of (h.account.pass r) b ≡ to
         → IsNext s OfDesk (Some m) h.account.trace
         → world_of s (entry OfDesk (Some m) ∷ h.account.trace) ≡ record (world_of s h.account.trace) { stage = put (world_of s h.account.trace).stage r to }
         → new ≡ packed (level_of s.widths (record (world_of s h.account.trace) { stage = put (world_of s h.account.trace).stage r to }))
         → d'.services ≡ (r, b) ∷ d.services → d'.knows ≡ saw_level d.knows l (entry OfDesk (Some m) ∷ h.account.trace) → HoldsOne d'.services d'.held
         → IsRuled s (left t 0 new id (Desk d' ∷ []))
-    moves_one t h id new d d' r a b to m at l is inside was handed entered wrote stage next moved level services knows holds =
+    moves_one t h id new d d' r a b to m at l is inside in_place was handed entered wrote stage next moved level services knows holds =
         let w = world_of s h.account.trace in
         let w' : World = record w { stage = put w.stage r to } in
         let k = is_at s t h id d at in
         let line = subst (λ x. IsRequest s r (h.account.pass r) x w) was (k.request r inside) in
         desk_step s t h id 0 new (Some m) d d' at next
+        (λ j l no. subst (λ x. IsSame w x j) (sym moved) (record { stage = put_else w.stage r to j (apart_from h.account r j in_place no); decision = refl; saw = refl }))
         (subst (λ (x : World × Rattle.apf_gate.proofs.DeskLines.Services). (j : ℕ) → j < length s.widths → IsRequest s j (h.account.pass j) (service_of x.1 j) x.0) (λ i. (sym moved i, sym services i))
         (requests_but s h.account.pass d.services w w' r b (λ j ne. record { stage = put_else w.stage r to j ne; decision = refl; saw = refl }) (λ x. x) k.request
         (request_served s r (h.account.pass r) a b w w' handed entered wrote (put_here w.stage r to ∙ sym stage) refl refl (λ x. x) line)))
-        (subst (λ x. Packs s (set t.words 0 new) x) (sym moved) (packs_level s t.words w w' new level (λ _. refl) h.packs))
+        (subst (λ x. Packs s h.account.current (set t.words 0 new) x) (sym moved) (packs_level s h.account.current t.words w w' new level (λ _. refl) h.packs))
         (subst (λ x. IsKnown s OfDesk x (entry OfDesk (Some m) ∷ h.account.trace)) (sym knows) (level_known s OfDesk OfDesk d.knows h.account.trace (Some m) k.known next l is))
         holds.held_is holds.is_held
 
@@ -224,7 +239,7 @@ module _ (s : Shape) where
               Desk d' ∷ [],
               keeps,
               tt,
-              moves_one t h id new d d' r Waiting Held Stands (Grant r) at l now inside waits refl refl refl refl next refl level refl refl (holds_now d.services r (subst (HoldsOne d.services) free k.holds)),
+              moves_one t h id new d d' r Waiting Held Stands (Grant r) at l now inside (busy_is t h d k r Waiting Waits inside waits refl (λ y. cc) (λ y. cc)) waits refl refl refl refl next refl level refl refl (holds_now d.services r (subst (HoldsOne d.services) free k.holds)),
               (refl, (d', refl, (l, e ∙ said, (u, tells t h d k (Some (Grant r)) l now next, refl)))),
             )
 
@@ -256,7 +271,7 @@ module _ (s : Shape) where
           Desk d' ∷ [],
           keeps,
           tt,
-          moves_one t h id new d d' r Held Left Gone (Release r) at l refl inside is refl refl refl refl next refl level refl refl (holds_none d.services r Left (λ x. cc) (subst (HoldsOne d.services) held k.holds)),
+          moves_one t h id new d d' r Held Left Gone (Release r) at l refl inside (busy_is t h d k r Held Stands inside is refl (λ y. cc) (λ y. cc)) is refl refl refl refl next refl level refl refl (holds_none d.services r Left (λ x. cc) (subst (HoldsOne d.services) held k.holds)),
           (refl, (d', refl, (l, h.packs.level, (u, tells t h d k (Some (Release r)) l refl next, refl)))),
         )
 
@@ -287,6 +302,6 @@ module _ (s : Shape) where
           Desk d' ∷ [],
           keeps,
           tt,
-          moves_one t h id new d d' r Waiting Left Gone (Leave r) at l refl inside waits refl refl refl refl next refl level refl refl (holds_still d.services d.held r Left (λ x. let z = sym waits ∙ x in cc) (λ x. cc) k.holds),
+          moves_one t h id new d d' r Waiting Left Gone (Leave r) at l refl inside (busy_is t h d k r Waiting Waits inside waits refl (λ y. cc) (λ y. cc)) waits refl refl refl refl next refl level refl refl (holds_still d.services d.held r Left (λ x. let z = sym waits ∙ x in cc) (λ x. cc) k.holds),
           (refl, (d', refl, (l, h.packs.level, (u, tells t h d k (Some (Leave r)) l refl next, refl)))),
         )

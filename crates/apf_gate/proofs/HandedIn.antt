@@ -11,7 +11,8 @@ use Rattle.apf_gate.specs.declared.record.Record.{Record}
 use Rattle.apf_gate.specs.declared.record.Record.TheVariants.{Pass, Desk, Station}
 use Rattle.apf_gate.specs.Records.{told_of}
 use Rattle.apf_gate.specs.Traces.{world_of}
-use Rattle.apf_gate.specs.Account.{IsKnown}
+use Rattle.apf_gate.specs.Slots.{slot_of}
+use Rattle.apf_gate.specs.Account.{HoldsSlot, IsKnown}
 use Rattle.apf_gate.specs.Rule.{Every, IsRecord, AreApart, token_of}
 use Rattle.apf_gate.specs.Tokens.{GateId, PassToken, StationToken}
 use Rattle.apf_gate.specs.Ends.{WordsView, EndsWith, passes_before, stations_before}
@@ -37,11 +38,11 @@ numbered_passes : (ps : List PassToken) (rest : List Record) → AreApart (passe
 numbered_passes [] rest k = (tt, k)
 numbered_passes (t ∷ ts) rest k =
     let h = numbered_passes ts rest k.1 in
-    ((every_map (λ (u : PassToken). 2 * u.pass.number + 1 ≢ 2 * t.pass.number + 1) (λ (u : PassToken). u.pass.number ≢ t.pass.number) ts (λ u ne e. ne (ap (λ n. 2 * n + 1) e)) (every_passes (λ y. token_of y ≢ 2 * t.pass.number + 1) ts rest k.0).0, h.0), h.1)
+    ((every_map (λ (u : PassToken). 2 * slot_of u.pass.number + 1 ≢ 2 * slot_of t.pass.number + 1) (λ (u : PassToken). u.pass.number ≢ t.pass.number) ts (λ u ne e. ne (ap (λ n. 2 * slot_of n + 1) e)) (every_passes (λ y. token_of y ≢ 2 * slot_of t.pass.number + 1) ts rest k.0).0, h.0), h.1)
 
 module _ (g : GateId) (d : DeskRecord) (ps : List PassToken) (ts : List StationToken) (w : WordsView) (e : EndsWith g d ps ts w) where
   abbrev pub IsPassHere : PassToken → Type 0
-  IsPassHere t = (t.pass.number < length g.shape.widths) × (e.account.pass t.pass.number ≡ t.pass)
+  IsPassHere t = (t.pass.number < length g.shape.widths) × (e.account.pass t.pass.number ≡ t.pass) × HoldsSlot e.account t.pass.number
 
   abbrev pub IsStationHere : StationToken → Type 0
   IsStationHere t = (t.station.number < g.shape.stations) × (e.account.station t.station.number ≡ t.station)

@@ -5,7 +5,7 @@ use mathlib.Core.Option.{some}
 use lib.ListN.{get_elem?}
 use prog.Atomic.{either}
 use Rattle.atomic_table.specs.Table.{keeps, Allows}
-use Rattle.apf_words.specs.Codes.{code_of}
+use Rattle.apf_words.specs.Codes.{marked}
 use Rattle.apf_words.specs.declared.decision.Decision.{Decision}
 use Rattle.apf_words.specs.declared.decision.Decision.TheVariants.{Execute, QueueFull, Closed, Cancelled, ConcurrencyLimit}
 use Rattle.apf_model.specs.declared.moves.Move.{Move}
@@ -26,10 +26,12 @@ use Rattle.apf_gate.specs.Requests.{IsRequest, stage_of_pass}
 use Rattle.apf_gate.specs.Rule.{IsRuled}
 use Rattle.apf_gate.specs.Steps.{Both, ByBoth, OfDecision, OnDecision, OnDecisionIf, Writing}
 use Rattle.apf_gate.specs.DeskSteps.{served}
-use Rattle.apf_gate.specs.JoinedSteps.{along_told, handed_over, handed_by, refusing, JoinedLoadsDecision, JoinedExchangesDecision, JoinedMissesDecision}
+use Rattle.apf_gate.specs.JoinedSteps.{both_mark, along_told, handed_over, handed_by, refusing, JoinedLoadsDecision, JoinedExchangesDecision, JoinedMissesDecision}
 use Rattle.apf_gate.specs.DeskCalls.{MayHand, MayRefuse}
 use Rattle.apf_gate.proofs.Puts.{put_here, put_else}
-use Rattle.apf_gate.proofs.WordNumbers.{code_same, some_same}
+use Rattle.apf_gate.specs.Slots.{slot_of, mark_of}
+use Rattle.apf_gate.proofs.WordNumbers.{some_same}
+use Rattle.apf_gate.proofs.Slots.{decision_same}
 use Rattle.apf_gate.proofs.Later.{next_load, next_move}
 use Rattle.apf_gate.proofs.Requests.{state_same, desk_may_find}
 use Rattle.apf_gate.proofs.Views.{Table}
@@ -49,7 +51,7 @@ module _ (s : Shape) where
 
   -- a load, or a failed exchange, of the decision word, with which the request is handed over
   pub joined_misses_decision : (t : Table) (h : IsRuled s t) (id : ℕ) (p : PassRecord) (d : DeskRecord) → get_elem? t.views id ≡ some (Pass p ∷ Desk d ∷ []) → MayHand (record { pass = p; desk = d })
-      → (q : PassRecord) × (d' : DeskRecord) × IsRuled s (left t (p.number + 1) (slice_index t.words (p.number + 1)) id (Pass q ∷ Desk d' ∷ [])) × JoinedMissesDecision (record { pass = p; desk = d }) ((world_of s h.account.trace).decision p.number) (record { pass = q; desk = d' })
+      → (q : PassRecord) × (d' : DeskRecord) × IsRuled s (left t (slot_of p.number + 1) (slice_index t.words (slot_of p.number + 1)) id (Pass q ∷ Desk d' ∷ [])) × JoinedMissesDecision (record { pass = p; desk = d }) ((world_of s h.account.trace).decision p.number) (record { pass = q; desk = d' })
   joined_misses_decision t h id p d at may =
       let w = world_of s h.account.trace in
       let r = p.number in
@@ -65,9 +67,9 @@ module _ (s : Shape) where
       let mine = request_handed s p a w (along_told p x u) k.request i in (
         q,
         d',
-        both_step s t h id (r + 1) (slice_index t.words (r + 1)) None p q d d' at next
+        both_step s t h id (slot_of r + 1) (slice_index t.words (slot_of r + 1)) None p q d d' at next
             (λ j ne. (record { stage = refl; decision = refl; saw = refl }, elsewhere s t h p d k (handed_over a) j ne))
-            (packs_same s t.words w w (r + 1) refl (λ _. refl) h.packs)
+            (packs_same s h.account.current t.words w w (slot_of r + 1) refl (λ _. refl) h.packs)
             (subst (λ b. IsRequest s r q b w) (sym (put_here (service_of d.services) r (handed_over a))) mine)
             (decision_known s (OfPass r) OfDesk p.knows h.account.trace None k.known next r x (λ _. refl))
             (decision_known s OfDesk OfDesk d.knows h.account.trace None k.desk.known next r x (λ _. refl))
@@ -120,17 +122,17 @@ module _ (s : Shape) where
 
   -- what the exchange tells, by whether it was made
   abbrev RefusesOr : PassRecord → DeskRecord → Decision → ℕ → Bool → List Record → Type 0
-  RefusesOr p d x n made v = (both' : Both) × (v ≡ Pass both'.pass ∷ Desk both'.desk ∷ []) × ((c : Decision) → code_of x ≡ code_of c
-      → OfDecision (λ found. MatchBool made (JoinedExchangesDecision c (record { pass = p; desk = d }) both') (JoinedMissesDecision (record { pass = p; desk = d }) found both')) n)
+  RefusesOr p d x n made v = (both' : Both) × (v ≡ Pass both'.pass ∷ Desk both'.desk ∷ []) × ((c : Decision) → marked (mark_of p.number) (Some x) ≡ marked (mark_of p.number) (Some c)
+      → OfDecision (mark_of p.number) (λ found. MatchBool made (JoinedExchangesDecision c (record { pass = p; desk = d }) both') (JoinedMissesDecision (record { pass = p; desk = d }) found both')) n)
 
   -- a refusal is written where nothing was
   pub joined_exchanges_decision : (id slots : ℕ) (p : PassRecord) (d : DeskRecord) (x : Decision) → MayHand (record { pass = p; desk = d }) → MayRefuse d x
-      → Allows (IsRuled s) slots id (Pass p ∷ Desk d ∷ [], []) (p.number + 1) (λ n. either (n == 0) (code_of x) n)
-      (ByBoth (Writing (code_of x) (λ decision. OnDecisionIf (JoinedExchangesDecision decision) JoinedMissesDecision)) (Pass p ∷ Desk d ∷ [], []))
-  joined_exchanges_decision id slots p d x hand may t h deep at small = by_found (Exchanged s t (p.number + 1) (code_of x) id (RefusesOr p d x (slice_index t.words (p.number + 1)))) (slice_index t.words (p.number + 1)) 0 hit miss
+      → Allows (IsRuled s) slots id (Pass p ∷ Desk d ∷ [], []) (slot_of p.number + 1) (λ n. either (n == marked (mark_of p.number) None) (marked (mark_of p.number) (Some x)) n)
+      (ByBoth (Writing both_mark (marked (mark_of p.number) (Some x)) (λ decision. OnDecisionIf both_mark (JoinedExchangesDecision decision) JoinedMissesDecision)) (Pass p ∷ Desk d ∷ [], []))
+  joined_exchanges_decision id slots p d x hand may t h deep at small = by_found (Exchanged s t (slot_of p.number + 1) (marked (mark_of p.number) (Some x)) id (RefusesOr p d x (slice_index t.words (slot_of p.number + 1)))) (slice_index t.words (slot_of p.number + 1)) (marked (mark_of p.number) None) hit miss
     where
       n : ℕ
-      n = slice_index t.words (p.number + 1)
+      n = slice_index t.words (slot_of p.number + 1)
 
       r : ℕ
       r = p.number
@@ -141,13 +143,13 @@ module _ (s : Shape) where
       k : AreAt s t h p d
       k = are_at s t h id p d at
 
-      miss : n ≢ 0 → Exchanged s t (p.number + 1) (code_of x) id (RefusesOr p d x n) false
-      miss ne = let y = joined_misses_decision t h id p d at hand in (Pass y.0 ∷ Desk y.1 ∷ [], keeps, tt, y.2, (refl, (record { pass = y.0; desk = y.1 }, refl, (λ c e. (w.decision r, h.packs.decisions r k.inside, y.3)))))
+      miss : n ≢ marked (mark_of p.number) None → Exchanged s t (slot_of p.number + 1) (marked (mark_of p.number) (Some x)) id (RefusesOr p d x n) false
+      miss ne = let y = joined_misses_decision t h id p d at hand in (Pass y.0 ∷ Desk y.1 ∷ [], keeps, tt, y.2, (refl, (record { pass = y.0; desk = y.1 }, refl, (λ c e. (w.decision r, k.word, y.3)))))
 
-      hit : n ≡ 0 → Exchanged s t (p.number + 1) (code_of x) id (RefusesOr p d x n) true
+      hit : n ≡ marked (mark_of p.number) None → Exchanged s t (slot_of p.number + 1) (marked (mark_of p.number) (Some x)) id (RefusesOr p d x n) true
       hit e =
           let i = is_early s p d w k.request hand in
-          let none : w.decision r ≡ None = code_same (w.decision r) None (sym (h.packs.decisions r k.inside) ∙ e) in
+          let none : w.decision r ≡ None = decision_same (mark_of r) (w.decision r) None (sym k.word ∙ e) in
           let y = refusal t h p d k hand x may none in
           let m : Option Move = Some (Decide r x) in
           let next = next_move s OfDesk (Decide r x) h.account.trace h.sound.schedule y.allowed y.other in
@@ -157,18 +159,18 @@ module _ (s : Shape) where
           let d' : DeskRecord = served d r (refusing x) u in
           let q : PassRecord = handed_by p (along_told p (Some x) u) in
           let holds = holds_still d.services d.held r (refusing x) i.not_held y.not_held k.desk.holds in
-          let ruled = both_step s t h id (r + 1) (code_of x) m p q d d' at next
+          let ruled = both_step s t h id (slot_of r + 1) (marked (mark_of r) (Some x)) m p q d d' at next
           (λ j ne. (record { stage = refl; decision = put_else w.decision r (Some x) j ne; saw = refl }, elsewhere s t h p d k (refusing x) j ne))
-          (packs_decided s t.words w r x k.inside h.packs)
+          (packs_decided s h.account t.words w r x h.slots k.holds k.in_slot h.packs)
           (subst (λ b. IsRequest s r q b w') (sym (put_here (service_of d.services) r (refusing x))) (y.request (along_told p (Some x) u)))
           (decision_known s (OfPass r) OfDesk p.knows h.account.trace m k.known next r (Some x) (λ _. here))
           (decision_known s OfDesk OfDesk d.knows h.account.trace m k.desk.known next r (Some x) (λ _. here))
           holds.held_is holds.is_held in
           let says : JoinedExchangesDecision x (record { pass = p; desk = d }) (record { pass = q; desk = d' }) = (u, decision_told s OfDesk d.knows h.account.trace m k.desk.known next r None (Some x) none (λ _. here), agree s t h p d k m u next refl, refl) in
-          (Pass q ∷ Desk d' ∷ [], keeps, tt, ruled, (refl, (record { pass = q; desk = d' }, refl, λ c same. (None, e, subst (λ c. JoinedExchangesDecision c (record { pass = p; desk = d }) (record { pass = q; desk = d' })) (some_same x c (code_same (Some x) (Some c) same)) says))))
+          (Pass q ∷ Desk d' ∷ [], keeps, tt, ruled, (refl, (record { pass = q; desk = d' }, refl, λ c same. (None, e, subst (λ c. JoinedExchangesDecision c (record { pass = p; desk = d }) (record { pass = q; desk = d' })) (some_same x c (decision_same (mark_of r) (Some x) (Some c) same)) says))))
 
   -- a load of the request's word, with which nothing is handed over
-  pub joined_loads_decision : (id slots : ℕ) (p : PassRecord) (d : DeskRecord) → Allows (IsRuled s) slots id (Pass p ∷ Desk d ∷ [], []) (p.number + 1) (λ n. n) (ByBoth (OnDecision JoinedLoadsDecision) (Pass p ∷ Desk d ∷ [], []))
+  pub joined_loads_decision : (id slots : ℕ) (p : PassRecord) (d : DeskRecord) → Allows (IsRuled s) slots id (Pass p ∷ Desk d ∷ [], []) (slot_of p.number + 1) (λ n. n) (ByBoth (OnDecision both_mark JoinedLoadsDecision) (Pass p ∷ Desk d ∷ [], []))
   joined_loads_decision id slots p d t h deep at small =
       let w = world_of s h.account.trace in
       let r = p.number in
@@ -183,9 +185,9 @@ module _ (s : Shape) where
         Pass q ∷ Desk d' ∷ [],
         keeps,
         tt,
-        both_step s t h id (r + 1) (slice_index t.words (r + 1)) None p q d d' at next
+        both_step s t h id (slot_of r + 1) (slice_index t.words (slot_of r + 1)) None p q d d' at next
             (λ j ne. (record { stage = refl; decision = refl; saw = refl }, ap (λ (o : DeskRecord). service o j) (sym k.desk.record_is)))
-            (packs_same s t.words w w (r + 1) refl (λ _. refl) h.packs)
+            (packs_same s h.account.current t.words w w (slot_of r + 1) refl (λ _. refl) h.packs)
             (record {
               own = record {
                 state = state_same p.state p q refl refl refl k.request.own.state;
@@ -203,5 +205,5 @@ module _ (s : Shape) where
             (decision_known s (OfPass r) OfDesk p.knows h.account.trace None k.known next r x (λ _. refl))
             (decision_known s OfDesk OfDesk d.knows h.account.trace None k.desk.known next r x (λ _. refl))
             k.desk.holds.held_is k.desk.holds.is_held,
-        (refl, (record { pass = q; desk = d' }, refl, (x, h.packs.decisions r k.inside, (u, decision_told s OfDesk d.knows h.account.trace None k.desk.known next r x x refl (λ _. refl), desk_may_find s r p a w k.request, agree s t h p d k None u next refl, k.known.told r, refl)))),
+        (refl, (record { pass = q; desk = d' }, refl, (x, k.word, (u, decision_told s OfDesk d.knows h.account.trace None k.desk.known next r x x refl (λ _. refl), desk_may_find s r p a w k.request, agree s t h p d k None u next refl, k.known.told r, refl)))),
       )

@@ -63,7 +63,7 @@ module _ (s : Shape) (shape : IsShape s) (laws : AreLaws s) where
         tt,
         both_step s t h id 0 (slice_index t.words 0) None p q d d' at next
             (λ j ne. (record { stage = refl; decision = refl; saw = refl }, elsewhere s t h p d k (handed_over a) j ne))
-            (packs_same s t.words w w 0 refl (λ _. refl) h.packs)
+            (packs_same s h.account.current t.words w w 0 refl (λ _. refl) h.packs)
             (subst (λ b. IsRequest s r q b w) (sym (put_here (service_of d.services) r (handed_over a))) (request_handed s p a w (along p u) k.request i))
             (follows s (OfPass r) OfDesk p.knows h.account.trace None k.known next)
             (level_known s OfDesk OfDesk d.knows h.account.trace None k.desk.known next l refl)
@@ -133,7 +133,7 @@ module _ (s : Shape) (shape : IsShape s) (laws : AreLaws s) where
             tt,
             both_step s t h id 0 new m p q d d' at next
                 (λ j ne. (record { stage = put_else w.stage r Waits j ne; decision = refl; saw = refl }, elsewhere s t h p d k Waiting j ne))
-                (packs_level s t.words w w' new level (λ _. refl) h.packs)
+                (packs_level s h.account.current t.words w w' new level (λ _. refl) h.packs)
                 (subst (λ b. IsRequest s r q b w') (sym (put_here (service_of d.services) r Waiting)) mine)
                 (follows s (OfPass r) OfDesk p.knows h.account.trace m k.known next)
                 (level_known s OfDesk OfDesk d.knows h.account.trace m k.desk.known next l now)

@@ -1,5 +1,5 @@
 -- A Pass and the Desk at one seat, and the lines on a request that is handed over.
-use Rattle.std.proofs.Common.{◌≡◌, ◌≢◌, ◌⊎◌, ℕ, ◌<◌, true, false, [], ◌∷◌, length, Option, Some, None, sym, refl, ap, ◌∙◌, subst, inl, inr, ⊎_elim}
+use Rattle.std.proofs.Common.{◌≡◌, ◌≢◌, ◌⊎◌, ℕ, ◌+◌, ◌<◌, true, false, [], ◌∷◌, length, Option, Some, None, sym, refl, ap, ◌∙◌, subst, inl, inr, ⊎_elim}
 use mathlib.Core.Option.{some}
 use lib.ListN.{get_elem?}
 use Rattle.apf_words.specs.declared.decision.Decision.TheVariants.{QueueFull, Closed}
@@ -17,7 +17,11 @@ use Rattle.apf_gate.specs.declared.record.Record.TheVariants.{Pass, Desk}
 use Rattle.apf_gate.specs.Records.{service, service_of}
 use Rattle.apf_gate.specs.Traces.{world_of, entry, GoesOn}
 use Rattle.apf_gate.specs.Requests.{IsRequest, IsPassRecord, IsHanded, IsState, MayHold, stage_of, stage_of_pass, was_handed, has_entered, written}
-use Rattle.apf_gate.specs.Account.{IsKnown}
+use Rattle.apf_words.specs.Codes.{marked}
+use Rattle.std.specs.Prelude.{slice_index}
+use Rattle.apf_gate.specs.Slots.{slot_of, mark_of}
+use Rattle.apf_gate.specs.Account.{HoldsSlot, IsKnown}
+use Rattle.apf_gate.proofs.Packing.{own_word}
 use Rattle.apf_gate.specs.Rule.{IsRuled}
 use Rattle.apf_gate.specs.JoinedSteps.{handed_over, handed_by, Agree}
 use Rattle.apf_gate.specs.DeskCalls.{MayHand}
@@ -44,6 +48,9 @@ module _ (s : Shape) where
   -- what the rule says of the Pass and the Desk at one seat
   pub record AreAt (t : Table) (h : IsRuled s t) (p : PassRecord) (d : DeskRecord) : Type 0 where
     pub inside : p.number < length s.widths
+    pub holds : HoldsSlot h.account p.number
+    pub in_slot : slot_of p.number < s.slots
+    pub word : slice_index t.words (slot_of p.number + 1) ≡ marked (mark_of p.number) ((world_of s h.account.trace).decision p.number)
     pub request : IsRequest s p.number p (service d p.number) (world_of s h.account.trace)
     pub known : IsKnown s (OfPass p.number) p.knows h.account.trace
     pub desk : IsAt s t h d
@@ -54,6 +61,9 @@ module _ (s : Shape) where
       let f = v.0.0.1 in
       let k = is_at_desk s t h d v.0.1.0.1 in record {
         inside = f.0;
+        holds = f.2;
+        in_slot = h.slots.inside p.number f.0 f.2;
+        word = own_word s t h p.number f.0 f.2;
         request = subst (λ (o : PassRecord). IsRequest s p.number o (service d p.number) (world_of s h.account.trace)) f.1 (k.request p.number f.0);
         known = subst (λ (o : PassRecord). IsKnown s (OfPass p.number) o.knows h.account.trace) f.1 (h.sound.pass_knows p.number f.0);
         desk = k;

@@ -1,6 +1,6 @@
 -- What a token knows after a step, and what the step tells it.
 use Rattle.std.specs.Prelude.{◌||◌}
-use Rattle.std.proofs.Common.{◌≡◌, ◌≢◌, ℕ, true, List, [], ◌∷◌, ◌++◌, Option, Some, None, refl, sym, ap, ◌∙◌, subst, ⊎_elim}
+use Rattle.std.proofs.Common.{◌≡◌, ◌≢◌, ℕ, true, List, [], ◌∷◌, ◌++◌, length, Option, Some, None, refl, sym, ap, ◌∙◌, subst, ⊎_elim}
 use Rattle.std.proofs.lemmas.Bool.{not-true, not_from_false, or_cases}
 use mathlib.Core.Logic.{dite}
 use native.Mathlib.Decide.{ℕ_discrete}
@@ -16,8 +16,8 @@ use Rattle.apf_gate.specs.declared.record.Entry.{Entry}
 use Rattle.apf_gate.specs.declared.record.Knowledge.{Knowledge}
 use Rattle.apf_gate.specs.Records.{level_of, told_of, told_more, saw_level, saw_decision}
 use Rattle.apf_gate.specs.Traces.{opening_of, entry, moves, world_of, GoesOn}
-use Rattle.apf_gate.specs.Account.{IsKnown}
-use Rattle.apf_gate.specs.Steps.{IsInRange, SawLevel, SawDecision}
+use Rattle.apf_gate.specs.Account.{IsIdle, IsKnown}
+use Rattle.apf_gate.specs.Steps.{IsInRange, SawLevel, SawDecision, FindsOther}
 use Rattle.apf_gate.proofs.Puts.{put_here, put_else}
 use Rattle.apf_gate.proofs.Later.{IsNext}
 
@@ -96,4 +96,16 @@ module _ (s : Shape) (who : Actor) (known : Knowledge) (es : List Entry) (m : Op
     is_schedule = legal_by_own;
     stays = λ some. sym was ∙ k.told r some;
     more = record { shape = refl; closed = λ e. e; told = told_stays r e becomes; trace = goes_on };
+  }
+
+  -- a load that tells no decision, of a word that another request has
+  pub other_found : m ≡ None → (r : ℕ) → IsIdle (world_of s es) r → length s.widths ≢ s.slots → FindsOther who known r (record known { trace = entry who None ∷ es })
+  other_found none r idle no_batch = record {
+    between = k.newer.0;
+    of_others = k.newer.2;
+    is_idle = subst (λ (x : Shape × List Entry). IsIdle (world_of x.0 x.1) r) (λ i. (sym k.shape_is i, sym k.newer.1 i)) idle;
+    no_batch = subst (λ (x : Shape). length x.widths ≢ x.slots) (sym k.shape_is) no_batch;
+    is_after = ap (λ x. record known { trace = entry who None ∷ x }) (sym k.newer.1);
+    is_schedule = subst (λ y. IsSchedule (opening_of known.shape) (moves (entry who y ∷ es))) none legal_by_own;
+    more = record { shape = refl; closed = λ e. e; told = λ r some. refl; trace = (entry who None ∷ k.newer.0, ap (λ l. entry who None ∷ l) (sym k.newer.1)) };
   }

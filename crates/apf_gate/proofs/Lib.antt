@@ -3,6 +3,9 @@ pub mod WordNumbers
 pub mod Later
 pub mod Traces
 pub mod Requests
+pub mod Slots
+pub mod Spreading
+pub mod Fewness
 pub mod Lists
 pub mod Views
 pub mod Sound
@@ -14,6 +17,7 @@ pub mod PassLines
 pub mod PassLevel
 pub mod PassRelease
 pub mod PassDecision
+pub mod Renewing
 pub mod StationSteps
 pub mod DeskLines
 pub mod DeskSteps
@@ -30,3 +34,4 @@ pub mod HandedIn
 pub mod Ending
 pub mod Determined
 pub mod Owing
+pub mod Same

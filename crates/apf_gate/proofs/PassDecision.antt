@@ -5,7 +5,7 @@ use mathlib.Core.Option.{some}
 use lib.ListN.{get_elem?}
 use prog.Atomic.{either}
 use Rattle.atomic_table.specs.Table.{keeps, Allows}
-use Rattle.apf_words.specs.Codes.{code_of}
+use Rattle.apf_words.specs.Codes.{marked}
 use Rattle.apf_words.specs.declared.decision.Decision.{Decision}
 use Rattle.apf_words.specs.declared.decision.Decision.TheVariants.{Execute, QueueFull, Closed, Cancelled, ConcurrencyLimit}
 use Rattle.apf_model.specs.declared.moves.Move.{Move}
@@ -29,10 +29,12 @@ use Rattle.apf_gate.specs.Requests.{IsRequest, IsPassRecord, IsState, MayHold, M
 use Rattle.apf_gate.specs.Account.{IsKnown}
 use Rattle.apf_gate.specs.Rule.{IsRuled}
 use Rattle.apf_gate.specs.Steps.{SawDecision, ByPass, OfDecision, OnDecision, OnDecisionIf, Writing}
-use Rattle.apf_gate.specs.PassSteps.{read_by, GrantStands, FreshIsNotHanded, asking_state, asking, deciding_state, PassLoadsDecision, PassAsksDecision, PassExchangesDecision, PassMissesDecision}
+use Rattle.apf_gate.specs.PassSteps.{own_mark, read_by, GrantStands, FreshIsNotHanded, asking_state, asking, deciding_state, PassLoadsDecision, PassAsksDecision, PassExchangesDecision, PassMissesDecision}
 use Rattle.apf_gate.specs.PassCalls.{MayWrite}
 use Rattle.apf_gate.proofs.Puts.{put_here, put_else}
-use Rattle.apf_gate.proofs.WordNumbers.{code_same, some_same}
+use Rattle.apf_gate.specs.Slots.{slot_of, mark_of}
+use Rattle.apf_gate.proofs.WordNumbers.{some_same}
+use Rattle.apf_gate.proofs.Slots.{decision_same}
 use Rattle.apf_gate.proofs.Later.{next_load, next_move, same_response}
 use Rattle.apf_gate.proofs.Requests.{in_state, not_handed, is_fresh, may_find, stands}
 use Rattle.apf_gate.proofs.Views.{Table}
@@ -52,14 +54,14 @@ module _ (s : Shape) where
   -- a load of the decision word, after which the record is q
   loads : (t : Table) (h : IsRuled s t) (id : ℕ) (p q : PassRecord) (at : get_elem? t.views id ≡ some (Pass p ∷ [])) → q.knows ≡ told_by t h p
       → IsRequest s p.number q (service h.account.desk p.number) (world_of s h.account.trace)
-      → IsRuled s (left t (p.number + 1) (slice_index t.words (p.number + 1)) id (Pass q ∷ [])) × SawDecision (OfPass p.number) p.knows p.number (word_of t h p) (word_of t h p) None (told_by t h p)
+      → IsRuled s (left t (slot_of p.number + 1) (slice_index t.words (slot_of p.number + 1)) id (Pass q ∷ [])) × SawDecision (OfPass p.number) p.knows p.number (word_of t h p) (word_of t h p) None (told_by t h p)
   loads t h id p q at knows mine =
       let w = world_of s h.account.trace in
       let r = p.number in
       let k = is_at s t h id p at in
       let es : List Entry = entry (OfPass r) None ∷ h.account.trace in
       let next = next_load s (OfPass r) h.account.trace h.sound.schedule in (
-        pass_step s t h id (r + 1) (slice_index t.words (r + 1)) None p q at next (λ j ne. record { stage = refl; decision = refl; saw = refl }) (packs_same s t.words w w (r + 1) refl (λ _. refl) h.packs) mine
+        pass_step s t h id (slot_of r + 1) (slice_index t.words (slot_of r + 1)) None p q at next (λ j ne. record { stage = refl; decision = refl; saw = refl }) (packs_same s h.account.current t.words w w (slot_of r + 1) refl (λ _. refl) h.packs) mine
             (subst (λ u. IsKnown s (OfPass r) u es) (sym knows) (decision_known s (OfPass r) (OfPass r) p.knows h.account.trace None k.known next r (w.decision r) (λ _. refl))),
         decision_told s (OfPass r) p.knows h.account.trace None k.known next r (w.decision r) (w.decision r) refl (λ _. refl),
       )
@@ -88,13 +90,13 @@ module _ (s : Shape) where
   never_handed t h id p k fresh = let f = is_fresh s p.number p (service h.account.desk p.number) (world_of s h.account.trace) k.request fresh in (f.not_handed_over, f.not_entered)
 
   -- a load of the decision word
-  pub pass_loads_decision : (id slots : ℕ) (p : PassRecord) → Allows (IsRuled s) slots id (Pass p ∷ [], []) (p.number + 1) (λ n. n) (ByPass (OnDecision PassLoadsDecision) (Pass p ∷ [], []))
+  pub pass_loads_decision : (id slots : ℕ) (p : PassRecord) → Allows (IsRuled s) slots id (Pass p ∷ [], []) (slot_of p.number + 1) (λ n. n) (ByPass (OnDecision own_mark PassLoadsDecision) (Pass p ∷ [], []))
   pass_loads_decision id slots p t h deep at small =
       let k = is_at s t h id p at in
       let u : Knowledge = told_by t h p in
       let q : PassRecord = read_by p u in
       let x = loads t h id p q at refl (request_read t h id p k) in
-      (Pass q ∷ [], keeps, tt, x.0, (refl, (q, refl, (word_of t h p, h.packs.decisions p.number k.inside, (u, x.1, may_find s p.number p (service h.account.desk p.number) (world_of s h.account.trace) k.request, grant_stands t h id p k, never_handed t h id p k, refl)))))
+      (Pass q ∷ [], keeps, tt, x.0, (refl, (q, refl, (word_of t h p, k.word, (u, x.1, may_find s p.number p (service h.account.desk p.number) (world_of s h.account.trace) k.request, grant_stands t h id p k, never_handed t h id p k, refl)))))
 
   fresh_or_not : (f : State) → (f ≡ Fresh) ⊎ ((asking_state f ≡ f) × ((b : Bool) → asking f b ≡ b))
   fresh_or_not Fresh = inl refl
@@ -122,7 +124,7 @@ module _ (s : Shape) where
       }
 
   -- a load of the decision word, with which a fresh Pass is in line
-  pub pass_asks_decision : (id slots : ℕ) (p : PassRecord) → Allows (IsRuled s) slots id (Pass p ∷ [], []) (p.number + 1) (λ n. n) (ByPass (OnDecision PassAsksDecision) (Pass p ∷ [], []))
+  pub pass_asks_decision : (id slots : ℕ) (p : PassRecord) → Allows (IsRuled s) slots id (Pass p ∷ [], []) (slot_of p.number + 1) (λ n. n) (ByPass (OnDecision own_mark PassAsksDecision) (Pass p ∷ [], []))
   pass_asks_decision id slots p t h deep at small =
       let k = is_at s t h id p at in
       let u : Knowledge = told_by t h p in
@@ -133,7 +135,7 @@ module _ (s : Shape) where
       (λ (e : (asking_state p.state ≡ p.state) × ((b : Bool) → asking p.state b ≡ b)). subst P (λ i. record p { state = sym e.0 i; asked = sym (e.1 p.asked) i; no_room = false; knows = u }) (request_read t h id p k))
       (fresh_or_not p.state) in
       let x = loads t h id p q at refl mine in
-      (Pass q ∷ [], keeps, tt, x.0, (refl, (q, refl, (word_of t h p, h.packs.decisions p.number k.inside, (u, x.1, may_find s p.number p (service h.account.desk p.number) (world_of s h.account.trace) k.request, grant_stands t h id p k, never_handed t h id p k, refl)))))
+      (Pass q ∷ [], keeps, tt, x.0, (refl, (q, refl, (word_of t h p, k.word, (u, x.1, may_find s p.number p (service h.account.desk p.number) (world_of s h.account.trace) k.request, grant_stands t h id p k, never_handed t h id p k, refl)))))
 
   -- the record of a Pass that wrote this decision
   abbrev decided : PassRecord → Decision → Knowledge → PassRecord
@@ -230,16 +232,16 @@ module _ (s : Shape) where
 
   -- what the exchange tells, by whether it was made
   abbrev Says : PassRecord → Decision → ℕ → Bool → List Record → Type 0
-  Says p d n made v = (q : PassRecord) × (v ≡ Pass q ∷ []) × ((c : Decision) → code_of d ≡ code_of c → OfDecision (λ found. MatchBool made (PassExchangesDecision c p q) (PassMissesDecision c p found q)) n)
+  Says p d n made v = (q : PassRecord) × (v ≡ Pass q ∷ []) × ((c : Decision) → marked (mark_of p.number) (Some d) ≡ marked (mark_of p.number) (Some c) → OfDecision (mark_of p.number) (λ found. MatchBool made (PassExchangesDecision c p q) (PassMissesDecision c p found q)) n)
 
   -- a decision is written where nothing was
   pub pass_exchanges_decision : (id slots : ℕ) (p : PassRecord) (d : Decision) → MayWrite p d
-      → Allows (IsRuled s) slots id (Pass p ∷ [], []) (p.number + 1) (λ n. either (n == 0) (code_of d) n)
-      (ByPass (Writing (code_of d) (λ decision. OnDecisionIf (PassExchangesDecision decision) (PassMissesDecision decision))) (Pass p ∷ [], []))
-  pass_exchanges_decision id slots p d may t h deep at small = by_found (Exchanged s t (p.number + 1) (code_of d) id (Says p d (slice_index t.words (p.number + 1)))) (slice_index t.words (p.number + 1)) 0 hit miss
+      → Allows (IsRuled s) slots id (Pass p ∷ [], []) (slot_of p.number + 1) (λ n. either (n == marked (mark_of p.number) None) (marked (mark_of p.number) (Some d)) n)
+      (ByPass (Writing own_mark (marked (mark_of p.number) (Some d)) (λ decision. OnDecisionIf own_mark (PassExchangesDecision decision) (PassMissesDecision decision))) (Pass p ∷ [], []))
+  pass_exchanges_decision id slots p d may t h deep at small = by_found (Exchanged s t (slot_of p.number + 1) (marked (mark_of p.number) (Some d)) id (Says p d (slice_index t.words (slot_of p.number + 1)))) (slice_index t.words (slot_of p.number + 1)) (marked (mark_of p.number) None) hit miss
     where
       n : ℕ
-      n = slice_index t.words (p.number + 1)
+      n = slice_index t.words (slot_of p.number + 1)
 
       r : ℕ
       r = p.number
@@ -250,26 +252,26 @@ module _ (s : Shape) where
       k : IsAt s t h id p
       k = is_at s t h id p at
 
-      same_decision : (P : Decision → Type 0) → P d → (c : Decision) → code_of d ≡ code_of c → P c
-      same_decision P x c e = subst P (some_same d c (code_same (Some d) (Some c) e)) x
+      same_decision : (P : Decision → Type 0) → P d → (c : Decision) → marked (mark_of p.number) (Some d) ≡ marked (mark_of p.number) (Some c) → P c
+      same_decision P x c e = subst P (some_same d c (decision_same (mark_of p.number) (Some d) (Some c) e)) x
 
-      miss : n ≢ 0 → Exchanged s t (p.number + 1) (code_of d) id (Says p d n) false
+      miss : n ≢ marked (mark_of p.number) None → Exchanged s t (slot_of p.number + 1) (marked (mark_of p.number) (Some d)) id (Says p d n) false
       miss ne =
           let u : Knowledge = told_by t h p in
           let q : PassRecord = record p { state = deciding_state d p.state; no_room = false; knows = u } in
           let x = loads t h id p q at refl (request_lost t h id p k d may) in
-          (Pass q ∷ [], keeps, tt, x.0, (refl, (q, refl, same_decision (λ c. OfDecision (λ found. PassMissesDecision c p found q) n) (w.decision r, h.packs.decisions r k.inside, (u, x.1, may_find s r p (service h.account.desk r) w k.request, refl)))))
+          (Pass q ∷ [], keeps, tt, x.0, (refl, (q, refl, same_decision (λ c. OfDecision (mark_of p.number) (λ found. PassMissesDecision c p found q) n) (w.decision r, k.word, (u, x.1, may_find s r p (service h.account.desk r) w k.request, refl)))))
 
-      hit : n ≡ 0 → Exchanged s t (p.number + 1) (code_of d) id (Says p d n) true
+      hit : n ≡ marked (mark_of p.number) None → Exchanged s t (slot_of p.number + 1) (marked (mark_of p.number) (Some d)) id (Says p d n) true
       hit e =
-          let none : w.decision r ≡ None = code_same (w.decision r) None (sym (h.packs.decisions r k.inside) ∙ e) in
+          let none : w.decision r ≡ None = decision_same (mark_of r) (w.decision r) None (sym k.word ∙ e) in
           let x = may_now t h id p k d may none in
           let m : Option Move = Some (Decide r d) in
           let next = next_move s (OfPass r) (Decide r d) h.account.trace h.sound.schedule x.allowed (refl, x.other) in
           let here : put w.decision r (Some d) r ≡ Some d = put_here w.decision r (Some d) in
           let u : Knowledge = saw_decision p.knows r (Some d) (entry (OfPass r) m ∷ h.account.trace) in
           let q : PassRecord = decided p d u in
-          let ruled = pass_step s t h id (r + 1) (code_of d) m p q at next (λ j ne. record { stage = refl; decision = put_else w.decision r (Some d) j ne; saw = refl }) (packs_decided s t.words w r d k.inside h.packs)
+          let ruled = pass_step s t h id (slot_of r + 1) (marked (mark_of r) (Some d)) m p q at next (λ j ne. record { stage = refl; decision = put_else w.decision r (Some d) j ne; saw = refl }) (packs_decided s h.account t.words w r d h.slots k.holds k.in_slot h.packs)
           (record {
             own = x.own u;
             tied = record { number = refl; handed = k.request.tied.handed; entered = k.request.tied.entered };
@@ -283,5 +285,5 @@ module _ (s : Shape) where
             keeps,
             tt,
             ruled,
-            (refl, (q, refl, same_decision (λ c. OfDecision (λ found. PassExchangesDecision c p q) n) (None, e, (u, decision_told s (OfPass r) p.knows h.account.trace m k.known next r None (Some d) none (λ _. here), refl)))),
+            (refl, (q, refl, same_decision (λ c. OfDecision (mark_of p.number) (λ found. PassExchangesDecision c p q) n) (None, e, (u, decision_told s (OfPass r) p.knows h.account.trace m k.known next r None (Some d) none (λ _. here), refl)))),
           )

@@ -46,7 +46,7 @@ module _ (s : Shape) (shape : IsShape s) (laws : AreLaws s) where
       → IsNext s (OfPass p.number) m h.account.trace
       → q.knows ≡ saw_level p.knows l (entry (OfPass p.number) m ∷ h.account.trace)
       → ((j : ℕ) → j ≢ p.number → IsSame (world_of s h.account.trace) (world_of s (entry (OfPass p.number) m ∷ h.account.trace)) j)
-      → Packs s (set t.words 0 n) (world_of s (entry (OfPass p.number) m ∷ h.account.trace))
+      → Packs s h.account.current (set t.words 0 n) (world_of s (entry (OfPass p.number) m ∷ h.account.trace))
       → IsRequest s p.number q (service h.account.desk p.number) (world_of s (entry (OfPass p.number) m ∷ h.account.trace))
       → IsRuled s (left t 0 n id (Pass q ∷ [])) × SawLevel (OfPass p.number) p.knows l m (saw_level p.knows l (entry (OfPass p.number) m ∷ h.account.trace))
   on_level t h id n m p q at l is next knows elsewhere packs mine =
@@ -111,7 +111,7 @@ module _ (s : Shape) (shape : IsShape s) (laws : AreLaws s) where
       let q : PassRecord = record p { saw_no_room = p.saw_no_room || true; no_room = true; knows = u } in
       on_level t h id (slice_index t.words 0) m p q at l refl (next_move s (OfPass p.number) (See p.number) h.account.trace h.sound.schedule (may_see t h id p k f.away is) refl) refl
       (λ j ne. record { stage = refl; decision = refl; saw = put_else w.saw_no_room p.number true j ne })
-      (packs_same s t.words w (world_of s (entry (OfPass p.number) m ∷ h.account.trace)) 0 refl (λ _. refl) h.packs)
+      (packs_same s h.account.current t.words w (world_of s (entry (OfPass p.number) m ∷ h.account.trace)) 0 refl (λ _. refl) h.packs)
       (record {
         own = own_looked p.number p (service h.account.desk p.number) w true u k.request fresh;
         tied = record { number = refl; handed = k.request.tied.handed; entered = k.request.tied.entered };
@@ -129,7 +129,7 @@ module _ (s : Shape) (shape : IsShape s) (laws : AreLaws s) where
       let q : PassRecord = record p { saw_no_room = p.saw_no_room || false; no_room = false; knows = u } in
       on_level t h id (slice_index t.words 0) None p q at l refl (next_load s (OfPass p.number) h.account.trace h.sound.schedule) refl
       (λ j ne. record { stage = refl; decision = refl; saw = refl })
-      (packs_same s t.words w w 0 refl (λ _. refl) h.packs)
+      (packs_same s h.account.current t.words w w 0 refl (λ _. refl) h.packs)
       (record {
         own = own_looked p.number p (service h.account.desk p.number) w false u k.request fresh;
         tied = record { number = refl; handed = k.request.tied.handed; entered = k.request.tied.entered };
@@ -156,7 +156,7 @@ module _ (s : Shape) (shape : IsShape s) (laws : AreLaws s) where
       let q : PassRecord = read_by p u in
       let x = on_level t h id (slice_index t.words 0) None p q at l refl (next_load s (OfPass p.number) h.account.trace h.sound.schedule) refl
       (λ j ne. record { stage = refl; decision = refl; saw = refl })
-      (packs_same s t.words w w 0 refl (λ _. refl) h.packs)
+      (packs_same s h.account.current t.words w w 0 refl (λ _. refl) h.packs)
       (record {
         own = own_read s p u (λ e. e) k.request.own;
         tied = record { number = refl; handed = k.request.tied.handed; entered = k.request.tied.entered };
@@ -213,7 +213,7 @@ module _ (s : Shape) (shape : IsShape s) (laws : AreLaws s) where
           let level : new ≡ packed (level_of s.widths w') = is_new ∙ (λ i. packed (record { closed = (sym now i).closed; waiters = ((ap (λ (x : Level). x.waiters) (sym now)) ∙ sym as_many) i; seats = (ap (λ (x : Level). x.seats + own_width p) (sym now) ∙ (ap (λ y. seats s.widths w + y) own ∙ sym more)) i; limit = (sym now i).limit })) in
           let x = on_level t h id new m p q at l now (next_move s (OfPass r) (Take r) h.account.trace h.sound.schedule may refl) refl
           (λ j ne. record { stage = put_else w.stage r Stands j ne; decision = refl; saw = refl })
-          (packs_level s t.words w w' new level (λ _. refl) h.packs)
+          (packs_level s h.account.current t.words w w' new level (λ _. refl) h.packs)
           (record {
             own = record {
               state = (refl, f.not_asked);

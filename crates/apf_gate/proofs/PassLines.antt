@@ -1,5 +1,5 @@
 -- The Pass at a seat, and its record after a step that only reads.
-use Rattle.std.proofs.Common.{◌≡◌, ℕ, ◌<◌, List, [], ◌∷◌, length, Option, Some, None, refl, ◌∙◌, subst}
+use Rattle.std.proofs.Common.{◌≡◌, ℕ, ◌+◌, ◌<◌, List, [], ◌∷◌, length, Option, Some, None, refl, ◌∙◌, subst}
 use mathlib.Core.Option.{some}
 use lib.ListN.{get_elem?}
 use Rattle.apf_words.specs.declared.decision.Decision.{Decision}
@@ -12,7 +12,11 @@ use Rattle.apf_gate.specs.declared.record.Record.TheVariants.{Pass}
 use Rattle.apf_gate.specs.Records.{told_of, told_own, told_more, service}
 use Rattle.apf_gate.specs.Traces.{world_of}
 use Rattle.apf_gate.specs.Requests.{IsRequest, IsPassRecord, IsHanded}
-use Rattle.apf_gate.specs.Account.{IsKnown}
+use Rattle.apf_words.specs.Codes.{marked}
+use Rattle.std.specs.Prelude.{slice_index}
+use Rattle.apf_gate.specs.Slots.{slot_of, mark_of}
+use Rattle.apf_gate.specs.Account.{HoldsSlot, IsKnown}
+use Rattle.apf_gate.proofs.Packing.{own_word}
 use Rattle.apf_gate.specs.Rule.{IsRuled}
 use Rattle.apf_gate.specs.PassSteps.{read_by}
 use Rattle.apf_gate.proofs.Puts.{put_here}
@@ -28,12 +32,18 @@ module _ (s : Shape) where
   -- what the rule says of the Pass at a seat
   pub record IsAt (t : Table) (h : IsRuled s t) (id : ℕ) (p : PassRecord) : Type 0 where
     pub inside : p.number < length s.widths
+    pub holds : HoldsSlot h.account p.number
+    pub in_slot : slot_of p.number < s.slots
+    pub word : slice_index t.words (slot_of p.number + 1) ≡ marked (mark_of p.number) ((world_of s h.account.trace).decision p.number)
     pub request : IsRequest s p.number p (service h.account.desk p.number) (world_of s h.account.trace)
     pub known : IsKnown s (OfPass p.number) p.knows h.account.trace
 
   pub is_at : (t : Table) (h : IsRuled s t) (id : ℕ) (p : PassRecord) → get_elem? t.views id ≡ some (Pass p ∷ []) → IsAt t h id p
   is_at t h id p at = let f = (h.views id (Pass p ∷ []) at).0.0.1 in record {
     inside = f.0;
+    holds = f.2;
+    in_slot = h.slots.inside p.number f.0 f.2;
+    word = own_word s t h p.number f.0 f.2;
     request = subst (λ (o : PassRecord). IsRequest s p.number o (service h.account.desk p.number) (world_of s h.account.trace)) f.1 (h.sound.request p.number f.0);
     known = subst (λ (o : PassRecord). IsKnown s (OfPass p.number) o.knows h.account.trace) f.1 (h.sound.pass_knows p.number f.0);
   }

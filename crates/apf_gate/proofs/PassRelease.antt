@@ -108,7 +108,7 @@ module _ (s : Shape) (shape : IsShape s) (laws : AreLaws s) where
       let q : PassRecord = record p { state = Over; no_room = false; knows = u } in
       let y = on_level s shape laws t h id new m p q at l refl (next_move s (OfPass r) (Release r) h.account.trace h.sound.schedule (record { is_request = k.inside; is_standing = x.stands; is_decided = x.decided }) refl) refl
       (λ j ne. record { stage = put_else w.stage r Gone j ne; decision = refl; saw = refl })
-      (packs_level s t.words w w' new level (λ _. refl) h.packs)
+      (packs_level s h.account.current t.words w w' new level (λ _. refl) h.packs)
       (record {
         own = record {
           state = took_not_asked p p.state k.request.own.state;

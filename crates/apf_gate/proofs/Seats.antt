@@ -8,7 +8,7 @@ use Rattle.apf_model.specs.World.{put}
 use Rattle.apf_gate.specs.declared.record.Shape.{Shape}
 use Rattle.apf_gate.specs.declared.record.Record.{Record}
 use Rattle.apf_gate.specs.declared.record.Record.TheVariants.{Pass, Desk, Station}
-use Rattle.apf_gate.specs.Account.{Account, IsSound}
+use Rattle.apf_gate.specs.Account.{Account, IsSound, AreSlots}
 use Rattle.apf_gate.specs.Rule.{token_of, IsRecord, IsKeptAt, IsView, IsRuled, without_first, first_alone}
 use Rattle.apf_gate.proofs.Puts.{put_here, put_else}
 use Rattle.apf_gate.proofs.Lists.{every_map, every_both}
@@ -41,6 +41,9 @@ module _ (s : Shape) where
     is_held = k.is_held;
   }
 
+  same_slots : (g : Account) (x i : ℕ) → AreSlots s g → AreSlots s (moved g x i)
+  same_slots g x i k = record { current = k.current; inside = k.inside; idle = k.idle; later = k.later; past = k.past }
+
   -- a record that another token has stays where it was
   stays : (g : Account) (x i j : ℕ) (y : Record) → token_of y ≢ x → IsKeptAt s g j y → IsKeptAt s (moved g x i) j y
   stays g x i j y other k = (put_else g.seat x i (token_of y) other ∙ k.0, same_record g x i y k.1)
@@ -63,6 +66,7 @@ module _ (s : Shape) where
       let g' = moved g (token_of x) new in record {
         account = g';
         sound = still_sound g (token_of x) new h.sound;
+        slots = same_slots g (token_of x) new h.slots;
         packs = h.packs;
         views = λ j u e. ⊎_elim
             (λ (y : get_elem? (set t.views id (without_first v)) j ≡ some u). ⊎_elim
@@ -86,6 +90,7 @@ module _ (s : Shape) where
       let others = λ (o : Record) (e : IsKeptAt s g id o) (same : token_of o ≡ token_of x). apart (sym seat ∙ (ap g.seat (sym same) ∙ e.0)) in record {
         account = g';
         sound = still_sound g (token_of x) id h.sound;
+        slots = same_slots g (token_of x) id h.slots;
         packs = h.packs;
         views = λ j u e. ⊎_elim
             (λ (y : (j ≡ other) × ([] ≡ u)). subst (IsView s g' j) y.1 (tt, tt))

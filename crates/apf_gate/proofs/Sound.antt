@@ -21,7 +21,9 @@ use Rattle.apf_gate.specs.declared.record.Entry.{Entry}
 use Rattle.apf_gate.specs.Records.{service}
 use Rattle.apf_gate.specs.Traces.{entry, world_of}
 use Rattle.apf_gate.specs.Requests.{IsRequest}
-use Rattle.apf_gate.specs.Account.{Account, IsKnown}
+use Rattle.apf_gate.specs.Slots.{slot_of}
+use Rattle.apf_gate.specs.Account.{Account, HoldsSlot, IsKnown}
+use Rattle.apf_gate.proofs.Slots.{apart_from, slots_after}
 use Rattle.apf_gate.specs.Rule.{Packs, IsRuled}
 use Rattle.apf_gate.proofs.Puts.{put_here, put_else}
 use Rattle.apf_gate.proofs.Later.{IsNext, known_later, other_pass, other_station}
@@ -57,7 +59,7 @@ module _ (s : Shape) where
     -- a step of a Pass, after which its record is q
     pub pass_step : (p q : PassRecord) → get_elem? t.views id ≡ some (Pass p ∷ []) → IsNext s (OfPass p.number) m h.account.trace
         → ((j : ℕ) → j ≢ p.number → IsSame (world_of s h.account.trace) (world_of s (entry (OfPass p.number) m ∷ h.account.trace)) j)
-        → Packs s (set t.words i n) (world_of s (entry (OfPass p.number) m ∷ h.account.trace))
+        → Packs s h.account.current (set t.words i n) (world_of s (entry (OfPass p.number) m ∷ h.account.trace))
         → IsRequest s p.number q (service h.account.desk p.number) (world_of s (entry (OfPass p.number) m ∷ h.account.trace))
         → IsKnown s (OfPass p.number) q.knows (entry (OfPass p.number) m ∷ h.account.trace)
         → IsRuled s (left t i n id (Pass q ∷ []))
@@ -71,11 +73,12 @@ module _ (s : Shape) where
         kept s t h id i n (Pass q ∷ []) g'
         (record {
           seat = λ x. refl;
-          pass = λ j away. put_else g.pass r q j (λ e. away (ap (λ x. g.seat (2 * x + 1)) e ∙ was.0));
+          pass = λ j away. put_else g.pass r q j (λ e. away (ap (λ x. g.seat (2 * slot_of x + 1)) e ∙ was.0));
+          current = λ _ _. refl;
           desk = λ _. refl;
           station = λ _ _. refl;
         })
-        (((ap (λ x. g.seat (2 * x + 1)) number ∙ was.0, (subst (λ x. x < length s.widths) (sym number) was.1.0, ap (put g.pass r q) number ∙ put_here g.pass r q)), tt), (tt, tt))
+        (((ap (λ x. g.seat (2 * slot_of x + 1)) number ∙ was.0, (subst (λ x. x < length s.widths) (sym number) was.1.0, ap (put g.pass r q) number ∙ put_here g.pass r q, subst (HoldsSlot g) (sym number) was.1.2)), tt), (tt, tt))
         (record {
           schedule = next.schedule;
           made = (was.1.0, next.made, h.sound.made);
@@ -87,16 +90,18 @@ module _ (s : Shape) where
           held = h.sound.held;
           is_held = h.sound.is_held;
         })
+        (slots_after s g g' h.slots (λ _. refl) (λ j l no. let ne = apart_from g r j was.1.2 no in (elsewhere j ne, put_else g.pass r q j ne)))
         packs
 
     -- a step of a Station, after which its record is c'
     pub station_step : (c c' : StationRecord) → get_elem? t.views id ≡ some (Station c ∷ []) → IsNext s (OfStation c.number) m h.account.trace
+        → ((j : ℕ) → j < length s.widths → ¬ HoldsSlot h.account j → IsSame (world_of s h.account.trace) (world_of s (entry (OfStation c.number) m ∷ h.account.trace)) j)
         → ((r : ℕ) → r < length s.widths → IsRequest s r (h.account.pass r) (service h.account.desk r) (world_of s (entry (OfStation c.number) m ∷ h.account.trace)))
-        → Packs s (set t.words i n) (world_of s (entry (OfStation c.number) m ∷ h.account.trace))
+        → Packs s h.account.current (set t.words i n) (world_of s (entry (OfStation c.number) m ∷ h.account.trace))
         → c'.number ≡ c.number
         → IsKnown s (OfStation c.number) c'.knows (entry (OfStation c.number) m ∷ h.account.trace)
         → IsRuled s (left t i n id (Station c' ∷ []))
-    station_step c c' at next requests packs number known =
+    station_step c c' at next elsewhere requests packs number known =
         let k = c.number in
         let es : List Entry = entry (OfStation k) m ∷ g.trace in
         let was = (h.views id (Station c ∷ []) at).0.0 in
@@ -105,6 +110,7 @@ module _ (s : Shape) where
         (record {
           seat = λ x. refl;
           pass = λ _ _. refl;
+          current = λ _ _. refl;
           desk = λ _. refl;
           station = λ j away. put_else g.station k c' j (λ e. away (ap (λ x. g.seat (2 * x + 2)) e ∙ was.0));
         })
@@ -119,21 +125,23 @@ module _ (s : Shape) where
           held = h.sound.held;
           is_held = h.sound.is_held;
         })
+        (slots_after s g g' h.slots (λ _. refl) (λ j l no. (elsewhere j l no, refl)))
         packs
 
     -- a step of the Desk, after which its record is d'
     pub desk_step : (d d' : DeskRecord) → get_elem? t.views id ≡ some (Desk d ∷ []) → IsNext s OfDesk m h.account.trace
+        → ((j : ℕ) → j < length s.widths → ¬ HoldsSlot h.account j → IsSame (world_of s h.account.trace) (world_of s (entry OfDesk m ∷ h.account.trace)) j)
         → ((r : ℕ) → r < length s.widths → IsRequest s r (h.account.pass r) (service d' r) (world_of s (entry OfDesk m ∷ h.account.trace)))
-        → Packs s (set t.words i n) (world_of s (entry OfDesk m ∷ h.account.trace))
+        → Packs s h.account.current (set t.words i n) (world_of s (entry OfDesk m ∷ h.account.trace))
         → IsKnown s OfDesk d'.knows (entry OfDesk m ∷ h.account.trace)
         → ((r : ℕ) → d'.held ≡ Some r → service d' r ≡ Held) → ((r : ℕ) → service d' r ≡ Held → d'.held ≡ Some r)
         → IsRuled s (left t i n id (Desk d' ∷ []))
-    desk_step d d' at next requests packs known held is_held =
+    desk_step d d' at next elsewhere requests packs known held is_held =
         let es : List Entry = entry OfDesk m ∷ g.trace in
         let was = (h.views id (Desk d ∷ []) at).0.0 in
         let g' : Account = record g { trace = es; desk = d' } in
         kept s t h id i n (Desk d' ∷ []) g'
-        (record { seat = λ x. refl; pass = λ _ _. refl; desk = λ away. absurd (away was.0); station = λ _ _. refl })
+        (record { seat = λ x. refl; pass = λ _ _. refl; current = λ _ _. refl; desk = λ away. absurd (away was.0); station = λ _ _. refl })
         (((was.0, refl), tt), (tt, tt))
         (record {
           schedule = next.schedule;
@@ -145,12 +153,13 @@ module _ (s : Shape) where
           held = held;
           is_held = is_held;
         })
+        (slots_after s g g' h.slots (λ _. refl) (λ j l no. (elsewhere j l no, refl)))
         packs
 
     -- a step of the Desk that a Pass is joined to, after which their records are q and d'
     pub both_step : (p q : PassRecord) (d d' : DeskRecord) → get_elem? t.views id ≡ some (Pass p ∷ Desk d ∷ []) → IsNext s OfDesk m h.account.trace
         → ((j : ℕ) → j ≢ p.number → IsSame (world_of s h.account.trace) (world_of s (entry OfDesk m ∷ h.account.trace)) j × (service d' j ≡ service h.account.desk j))
-        → Packs s (set t.words i n) (world_of s (entry OfDesk m ∷ h.account.trace))
+        → Packs s h.account.current (set t.words i n) (world_of s (entry OfDesk m ∷ h.account.trace))
         → IsRequest s p.number q (service d' p.number) (world_of s (entry OfDesk m ∷ h.account.trace))
         → IsKnown s (OfPass p.number) q.knows (entry OfDesk m ∷ h.account.trace) → IsKnown s OfDesk d'.knows (entry OfDesk m ∷ h.account.trace)
         → ((r : ℕ) → d'.held ≡ Some r → service d' r ≡ Held) → ((r : ℕ) → service d' r ≡ Held → d'.held ≡ Some r)
@@ -166,11 +175,12 @@ module _ (s : Shape) where
         kept s t h id i n (Pass q ∷ Desk d' ∷ []) g'
         (record {
           seat = λ x. refl;
-          pass = λ j away. put_else g.pass r q j (λ y. away (ap (λ x. g.seat (2 * x + 1)) y ∙ was.0));
+          pass = λ j away. put_else g.pass r q j (λ y. away (ap (λ x. g.seat (2 * slot_of x + 1)) y ∙ was.0));
+          current = λ _ _. refl;
           desk = λ away. absurd (away v.0.1.0.0);
           station = λ _ _. refl;
         })
-        (((ap (λ x. g.seat (2 * x + 1)) number ∙ was.0, (subst (λ x. x < length s.widths) (sym number) was.1.0, ap (put g.pass r q) number ∙ put_here g.pass r q)), ((v.0.1.0.0, refl), tt)), (((λ y. omega arith), tt), (tt, tt)))
+        (((ap (λ x. g.seat (2 * slot_of x + 1)) number ∙ was.0, (subst (λ x. x < length s.widths) (sym number) was.1.0, ap (put g.pass r q) number ∙ put_here g.pass r q, subst (HoldsSlot g) (sym number) was.1.2)), ((v.0.1.0.0, refl), tt)), (((λ y. omega arith), tt), (tt, tt)))
         (record {
           schedule = next.schedule;
           made = (tt, next.made, h.sound.made);
@@ -182,4 +192,5 @@ module _ (s : Shape) where
           held = held;
           is_held = is_held;
         })
+        (slots_after s g g' h.slots (λ _. refl) (λ j l no. let ne = apart_from g r j was.1.2 no in ((elsewhere j ne).0, put_else g.pass r q j ne)))
         packs

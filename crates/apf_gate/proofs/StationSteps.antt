@@ -1,5 +1,5 @@
 -- The steps of a Station keep the rule.
-use Rattle.std.proofs.Common.{◌≡◌, ◌≢◌, ℕ, ◌+◌, ◌<◌, ◌≤◌, Bool, true, false, List, [], ◌∷◌, length, Option, Some, None, sym, refl, ap, ◌∙◌, subst, inr}
+use Rattle.std.proofs.Common.{◌≡◌, ◌≢◌, ℕ, ◌⊎◌, ◌+◌, ◌/◌, ◌<◌, ◌≤◌, Bool, true, false, List, [], ◌∷◌, length, set, Option, Some, None, sym, refl, ap, ◌∙◌, subst, inl, inr, arith}
 use Rattle.std.specs.Prelude.{slice_index, bit_or, ◌==◌, MatchBool}
 use mathlib.Core.Logic.{dite}
 use mathlib.Core.Option.{some}
@@ -7,7 +7,7 @@ use lib.ListN.{get_elem?}
 use native.Mathlib.Decide.{ℕ_discrete}
 use prog.Atomic.{either}
 use Rattle.atomic_table.specs.Table.{keeps, Allows}
-use Rattle.apf_words.specs.Codes.{code_of}
+use Rattle.apf_words.specs.Codes.{marked}
 use Rattle.apf_words.specs.Level.{Level, packed, AllBelow20Bits}
 use Rattle.apf_words.specs.Limits.{max_limit}
 use Rattle.apf_words.specs.declared.decision.Decision.TheVariants.{Cancelled}
@@ -25,19 +25,21 @@ use Rattle.apf_gate.specs.declared.record.Record.TheVariants.{Station}
 use Rattle.apf_gate.specs.Records.{level_of, service, saw_level, saw_decision}
 use Rattle.apf_gate.specs.Traces.{entry, world_of}
 use Rattle.apf_gate.specs.Requests.{IsRequest, MayHold, written}
-use Rattle.apf_gate.specs.Account.{IsKnown}
+use Rattle.apf_gate.specs.Account.{HoldsSlot, IsIdle, IsKnown}
 use Rattle.apf_gate.specs.Rule.{IsRuled}
 use Rattle.apf_gate.specs.Gauges.{IsShape, AreLaws}
-use Rattle.apf_gate.specs.Steps.{IsInRange, SawLevel, ByStation, OfLevel, OfDecision, OnLevel, OnLevelIf, OnDecision, OnDecisionIf, Setting, request_at}
-use Rattle.apf_gate.specs.StationSteps.{StationLoadsLevel, StationExchangesLevel, StationClosesLevel, StationLoadsDecision, StationExchangesDecision}
+use Rattle.apf_gate.specs.Steps.{IsInRange, SawLevel, ByStation, OfLevel, OfDecision, OnLevel, OnLevelIf, OnTicket, OnTicketIf, Setting, FindsOther}
+use Rattle.apf_gate.specs.StationSteps.{StationLoadsLevel, StationExchangesLevel, StationClosesLevel, StationLoadsDecision, StationExchangesDecision, StationFindsOther}
 use Rattle.apf_gate.proofs.Puts.{put_here, put_else}
-use Rattle.apf_gate.proofs.WordNumbers.{packed_same, code_same, word_request}
+use Rattle.apf_gate.specs.Slots.{slot_of, mark_of}
+use Rattle.apf_gate.proofs.WordNumbers.{packed_same}
+use Rattle.apf_gate.proofs.Slots.{decision_same, mark_is, mark_apart, apart_from}
 use Rattle.apf_gate.proofs.Later.{IsNext, next_load, next_move}
 use Rattle.apf_gate.proofs.Requests.{IsSame, none_written, request_elsewhere}
 use Rattle.apf_gate.proofs.Views.{Table}
 use Rattle.apf_gate.proofs.Sound.{by_found, Exchanged, station_step}
-use Rattle.apf_gate.proofs.Packing.{packs_same, packs_level, packs_decided, level_in_range, no_queues, is_small}
-use Rattle.apf_gate.proofs.Knowing.{level_known, level_told, decision_known, decision_told}
+use Rattle.apf_gate.proofs.Packing.{own_word, packs_same, packs_level, packs_decided, level_in_range, no_queues, is_small}
+use Rattle.apf_gate.proofs.Knowing.{follows, other_found, level_known, level_told, decision_known, decision_told}
 
 module _ (s : Shape) where
   -- what the rule says of the Station at a seat
@@ -74,7 +76,7 @@ module _ (s : Shape) where
           Station c' ∷ [],
           keeps,
           tt,
-          station_step s t h id 0 (slice_index t.words 0) None c c' at next h.sound.request (packs_same s t.words w w 0 refl (λ _. refl) h.packs) refl
+          station_step s t h id 0 (slice_index t.words 0) None c c' at next (λ j l no. record { stage = refl; decision = refl; saw = refl }) h.sound.request (packs_same s h.account.current t.words w w 0 refl (λ _. refl) h.packs) refl
               (level_known s (OfStation c.number) (OfStation c.number) c.knows h.account.trace None k.known next l refl),
           (refl, (c', refl, (l, h.packs.level, (u, tells t h id c k None l refl next, refl)))),
         )
@@ -97,7 +99,7 @@ module _ (s : Shape) where
           Station c' ∷ [],
           keeps,
           tt,
-          station_step s t h id 0 new m c c' at next (untouched t h w' (λ r. record { stage = refl; decision = refl; saw = refl }) (λ _. refl)) (packs_level s t.words w w' new level (λ _. refl) h.packs) refl
+          station_step s t h id 0 new m c c' at next (λ j l no. record { stage = refl; decision = refl; saw = refl }) (untouched t h w' (λ r. record { stage = refl; decision = refl; saw = refl }) (λ _. refl)) (packs_level s h.account.current t.words w w' new level (λ _. refl) h.packs) refl
               (record { shape_is = known.shape_is; closed = λ _. refl; told = known.told; newer = known.newer }),
           (refl, (c', refl, (l, h.packs.level, (u, tells t h id c k m l refl next, refl)))),
         )
@@ -136,7 +138,7 @@ module _ (s : Shape) where
               Station c' ∷ [],
               keeps,
               tt,
-              station_step s t h id 0 new m c c' at next (untouched t h w' (λ r. record { stage = refl; decision = refl; saw = refl }) (λ x. x)) (packs_level s t.words w w' new level (λ _. refl) h.packs) refl
+              station_step s t h id 0 new m c c' at next (λ j l no. record { stage = refl; decision = refl; saw = refl }) (untouched t h w' (λ r. record { stage = refl; decision = refl; saw = refl }) (λ x. x)) (packs_level s h.account.current t.words w w' new level (λ _. refl) h.packs) refl
                   (level_known s (OfStation c.number) (OfStation c.number) c.knows h.account.trace m k.known next l now),
               (
                 refl,
@@ -153,22 +155,61 @@ module _ (s : Shape) where
               ),
             )
 
-  -- a load of the word of r
-  pub station_loads_decision : (id slots : ℕ) (c : StationRecord) (r : ℕ) → r < length s.widths → Allows (IsRuled s) slots id (Station c ∷ [], []) (r + 1) (λ n. n) (ByStation (OnDecision (StationLoadsDecision (request_at (r + 1)))) (Station c ∷ [], []))
-  station_loads_decision id slots c r inside t h deep at small =
+  -- a load of the word of the slot of r, after which the Station knows u
+  loads : (t : Table) (h : IsRuled s t) (id r : ℕ) (c : StationRecord) (u : Knowledge) → get_elem? t.views id ≡ some (Station c ∷ []) → IsKnown s (OfStation c.number) u (entry (OfStation c.number) None ∷ h.account.trace)
+      → IsRuled s record { words = set t.words (slot_of r + 1) (slice_index t.words (slot_of r + 1)); homes = t.homes; views = set t.views id (Station (record c { knows = u }) ∷ []) }
+  loads t h id r c u at known =
+      let w = world_of s h.account.trace in
+      station_step s t h id (slot_of r + 1) (slice_index t.words (slot_of r + 1)) None c (record c { knows = u }) at (next_load s (OfStation c.number) h.account.trace h.sound.schedule)
+      (λ j l no. record { stage = refl; decision = refl; saw = refl }) h.sound.request (packs_same s h.account.current t.words w w (slot_of r + 1) refl (λ _. refl) h.packs) refl known
+
+  -- what it knows where another request holds the slot, and what that tells
+  other_known : (t : Table) (h : IsRuled s t) (c : StationRecord) → IsAt t h c → IsKnown s (OfStation c.number) (record c.knows { trace = entry (OfStation c.number) None ∷ h.account.trace }) (entry (OfStation c.number) None ∷ h.account.trace)
+  other_known t h c k = follows s (OfStation c.number) (OfStation c.number) c.knows h.account.trace None k.known (next_load s (OfStation c.number) h.account.trace h.sound.schedule)
+
+  other_told : (t : Table) (h : IsRuled s t) (c : StationRecord) → IsAt t h c → (r : ℕ) → IsIdle (world_of s h.account.trace) r → length s.widths ≢ s.slots → FindsOther (OfStation c.number) c.knows r (record c.knows { trace = entry (OfStation c.number) None ∷ h.account.trace })
+  other_told t h c k r idle no_batch = other_found s (OfStation c.number) c.knows h.account.trace None k.known (next_load s (OfStation c.number) h.account.trace h.sound.schedule) refl r idle no_batch
+
+  -- where another request holds the slot of r, its word has another mark
+  other_mark : (t : Table) (h : IsRuled s t) (r : ℕ) → slot_of r < s.slots → ¬ HoldsSlot h.account r → slice_index t.words (slot_of r + 1) / 8 ≢ mark_of r
+  other_mark t h r inside not e =
+      let c = h.account.current (slot_of r) in
+      let same = (h.slots.current (slot_of r) inside).1 in
+      mark_apart r c same not (sym (ap (λ n. n / 8) (h.packs.decisions (slot_of r) inside) ∙ mark_is (mark_of c) ((world_of s h.account.trace).decision c)) ∙ e)
+
+  -- in a batch each request holds its slot
+  all_hold : (t : Table) (h : IsRuled s t) → IsShape s → (r : ℕ) → r < length s.widths → slot_of r < s.slots → ¬ HoldsSlot h.account r → length s.widths ≢ s.slots
+  all_hold t h shape r inside in_slot not batch =
+      let few = shape.few_slots in
+      let own = h.slots.current (slot_of r) in_slot in
+      let below = own.0 in
+      let same = own.1 in not (omega arith)
+
+  -- a load of the word of the slot of r
+  pub station_loads_decision : (id slots : ℕ) (c : StationRecord) (r : ℕ) → IsShape s → r < length s.widths → slot_of r < s.slots → Allows (IsRuled s) slots id (Station c ∷ [], []) (slot_of r + 1) (λ n. n) (ByStation (OnTicket r (StationLoadsDecision r) (StationFindsOther r)) (Station c ∷ [], []))
+  station_loads_decision id slots c r shape inside in_slot t h deep at small =
       let w = world_of s h.account.trace in
       let k = is_at t h id c at in
-      let next = next_load s (OfStation c.number) h.account.trace h.sound.schedule in
+      let next = next_load s (OfStation c.number) h.account.trace h.sound.schedule in dite (ℕ_discrete (h.account.current (slot_of r)) r)
+      (λ holds.
       let x = w.decision r in
       let u : Knowledge = saw_decision c.knows r x (entry (OfStation c.number) None ∷ h.account.trace) in
       let c' : StationRecord = record c { knows = u } in (
         Station c' ∷ [],
         keeps,
         tt,
-        station_step s t h id (r + 1) (slice_index t.words (r + 1)) None c c' at next h.sound.request (packs_same s t.words w w (r + 1) refl (λ _. refl) h.packs) refl
-            (decision_known s (OfStation c.number) (OfStation c.number) c.knows h.account.trace None k.known next r x (λ _. refl)),
-        (refl, (c', refl, subst (λ q. OfDecision (λ found. StationLoadsDecision q c found c') (slice_index t.words (r + 1))) (sym (word_request r)) (x, h.packs.decisions r inside, (u, decision_told s (OfStation c.number) c.knows h.account.trace None k.known next r x x refl (λ _. refl), refl)))),
-      )
+        loads t h id r c u at (decision_known s (OfStation c.number) (OfStation c.number) c.knows h.account.trace None k.known next r x (λ _. refl)),
+        (refl, (c', refl, inl (x, own_word s t h r inside holds, (u, decision_told s (OfStation c.number) c.knows h.account.trace None k.known next r x x refl (λ _. refl), refl)))),
+      ))
+      (λ not.
+      let u : Knowledge = record c.knows { trace = entry (OfStation c.number) None ∷ h.account.trace } in
+      let c' : StationRecord = record c { knows = u } in (
+        Station c' ∷ [],
+        keeps,
+        tt,
+        loads t h id r c u at (other_known t h c k),
+        (refl, (c', refl, inr (other_mark t h r in_slot not, (u, other_told t h c k r (h.slots.idle r inside not) (all_hold t h shape r inside in_slot not), refl)))),
+      ))
 
   -- the lines on a request that is cancelled now
   request_cancelled : (r : ℕ) (p : PassRecord) (a : Service) (w : World) → w.decision r ≡ None → IsRequest s r p a w → IsRequest s r p a (record w { decision = put w.decision r (Some Cancelled) })
@@ -183,28 +224,33 @@ module _ (s : Shape) where
 
   -- what the exchange tells, by whether it was made
   abbrev CancelsOr : StationRecord → ℕ → ℕ → Bool → List Record → Type 0
-  CancelsOr c r n made v = (c' : StationRecord) × (v ≡ Station c' ∷ []) × OfDecision (λ found. MatchBool made (StationExchangesDecision (request_at (r + 1)) c c') (StationLoadsDecision (request_at (r + 1)) c found c')) n
+  CancelsOr c r n made v = (c' : StationRecord) × (v ≡ Station c' ∷ []) × (OfDecision (mark_of r) (λ found. MatchBool made (StationExchangesDecision r c c') (StationLoadsDecision r c found c')) n ⊎ ((n / 8 ≢ mark_of r) × StationFindsOther r c c'))
 
-  -- cancelled is written where nothing was
-  pub station_exchanges_decision : (id slots : ℕ) (c : StationRecord) (r : ℕ) → r < length s.widths
-      → Allows (IsRuled s) slots id (Station c ∷ [], []) (r + 1) (λ n. either (n == 0) (code_of Cancelled) n)
-      (ByStation (OnDecisionIf (StationExchangesDecision (request_at (r + 1))) (StationLoadsDecision (request_at (r + 1)))) (Station c ∷ [], []))
-  station_exchanges_decision id slots c r inside t h deep at small = by_found (Exchanged s t (r + 1) (code_of Cancelled) id (CancelsOr c r (slice_index t.words (r + 1)))) (slice_index t.words (r + 1)) 0 hit miss
+  -- cancelled is written where r holds its slot and nothing was written
+  pub station_exchanges_decision : (id slots : ℕ) (c : StationRecord) (r : ℕ) → IsShape s → r < length s.widths → slot_of r < s.slots
+      → Allows (IsRuled s) slots id (Station c ∷ [], []) (slot_of r + 1) (λ n. either (n == marked (mark_of r) None) (marked (mark_of r) (Some Cancelled)) n)
+      (ByStation (OnTicketIf r (StationExchangesDecision r) (StationLoadsDecision r) (StationFindsOther r)) (Station c ∷ [], []))
+  station_exchanges_decision id slots c r shape inside in_slot t h deep at small = by_found (Exchanged s t (slot_of r + 1) (marked (mark_of r) (Some Cancelled)) id (CancelsOr c r (slice_index t.words (slot_of r + 1)))) (slice_index t.words (slot_of r + 1)) (marked (mark_of r) None) hit miss
     where
       n : ℕ
-      n = slice_index t.words (r + 1)
+      n = slice_index t.words (slot_of r + 1)
 
       w : World
       w = world_of s h.account.trace
 
-      miss : n ≢ 0 → Exchanged s t (r + 1) (code_of Cancelled) id (CancelsOr c r n) false
-      miss ne = station_loads_decision id slots c r inside t h deep at small
+      miss : n ≢ marked (mark_of r) None → Exchanged s t (slot_of r + 1) (marked (mark_of r) (Some Cancelled)) id (CancelsOr c r n) false
+      miss ne = station_loads_decision id slots c r shape inside in_slot t h deep at small
 
-      hit : n ≡ 0 → Exchanged s t (r + 1) (code_of Cancelled) id (CancelsOr c r n) true
+      -- the mark is that of r alone
+      holds_it : n ≡ marked (mark_of r) None → HoldsSlot h.account r
+      holds_it e = dite (ℕ_discrete (h.account.current (slot_of r)) r) (λ y. y) (λ not. absurd (other_mark t h r in_slot not (ap (λ x. x / 8) e ∙ mark_is (mark_of r) None)))
+
+      hit : n ≡ marked (mark_of r) None → Exchanged s t (slot_of r + 1) (marked (mark_of r) (Some Cancelled)) id (CancelsOr c r n) true
       hit e =
           let g = h.account in
           let k = is_at t h id c at in
-          let none : w.decision r ≡ None = code_same (w.decision r) None (sym (h.packs.decisions r inside) ∙ e) in
+          let holds = holds_it e in
+          let none : w.decision r ≡ None = decision_same (mark_of r) (w.decision r) None (sym (own_word s t h r inside holds) ∙ e) in
           let m : Option Move = Some (Decide r Cancelled) in
           let next = next_move s (OfStation c.number) (Decide r Cancelled) h.account.trace h.sound.schedule (record { is_request = inside; is_undecided = none; may_be = tt }) refl in
           let w' = world_of s (entry (OfStation c.number) m ∷ h.account.trace) in
@@ -213,11 +259,12 @@ module _ (s : Shape) where
             Station c' ∷ [],
             keeps,
             tt,
-            station_step s t h id (r + 1) (code_of Cancelled) m c c' at next
+            station_step s t h id (slot_of r + 1) (marked (mark_of r) (Some Cancelled)) m c c' at next
+                (λ j l no. record { stage = refl; decision = put_else w.decision r (Some Cancelled) j (apart_from g r j holds no); saw = refl })
                 (λ j l. dite (ℕ_discrete j r)
                 (λ y. subst (λ z. IsRequest s z (g.pass z) (service g.desk z) w') (sym y) (request_cancelled r (g.pass r) (service g.desk r) w none (h.sound.request r inside)))
                 (λ ne. request_elsewhere s j (g.pass j) (service g.desk j) w w' (record { stage = refl; decision = put_else w.decision r (Some Cancelled) j ne; saw = refl }) (λ x. x) (h.sound.request j l)))
-                (packs_decided s t.words w r Cancelled inside h.packs) refl
+                (packs_decided s g t.words w r Cancelled h.slots holds in_slot h.packs) refl
                 (decision_known s (OfStation c.number) (OfStation c.number) c.knows h.account.trace m k.known next r (Some Cancelled) (λ _. put_here w.decision r (Some Cancelled))),
-            (refl, (c', refl, subst (λ q. OfDecision (λ found. StationExchangesDecision q c c') n) (sym (word_request r)) (None, e, (u, decision_told s (OfStation c.number) c.knows h.account.trace m k.known next r None (Some Cancelled) none (λ _. put_here w.decision r (Some Cancelled)), refl)))),
+            (refl, (c', refl, inl (None, e, (u, decision_told s (OfStation c.number) c.knows h.account.trace m k.known next r None (Some Cancelled) none (λ _. put_here w.decision r (Some Cancelled)), refl)))),
           )

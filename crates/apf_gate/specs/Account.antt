@@ -1,16 +1,20 @@
 -- One trace and one record for each token, which explain the words: the lines of the rule.
-use Rattle.std.specs.Prelude.{◌≡◌, ◌≢◌, ℕ, ◌<◌, true, false, List, length, Some, None}
+use Rattle.std.specs.Prelude.{◌≡◌, ◌≢◌, ◌⊎◌, ℕ, ◌<◌, true, false, List, length, Some, None}
+use Rattle.apf_model.specs.declared.moves.Stage.TheVariants.{Away, Gone}
+use Rattle.apf_model.specs.World.{World}
 use Rattle.apf_model.specs.Schedule.{IsSchedule}
 use Rattle.apf_gate.specs.declared.record.Shape.{Shape}
 use Rattle.apf_gate.specs.declared.record.Actor.{Actor}
 use Rattle.apf_gate.specs.declared.record.Actor.TheVariants.{OfPass, OfDesk, OfStation}
 use Rattle.apf_gate.specs.declared.record.Entry.{Entry}
 use Rattle.apf_gate.specs.declared.record.Knowledge.{Knowledge}
+use Rattle.apf_gate.specs.declared.record.State.TheVariants.{Fresh}
 use Rattle.apf_gate.specs.declared.record.PassRecord.{PassRecord}
 use Rattle.apf_gate.specs.declared.record.Service.TheVariants.{Held}
 use Rattle.apf_gate.specs.declared.record.DeskRecord.{DeskRecord}
 use Rattle.apf_gate.specs.declared.record.StationRecord.{StationRecord}
-use Rattle.apf_gate.specs.Records.{told_of, service}
+use Rattle.apf_gate.specs.Slots.{slot_of}
+use Rattle.apf_gate.specs.Records.{told_of, service, new_pass}
 use Rattle.apf_gate.specs.Traces.{opening_of, moves, world_of, AreMade, GoesOn}
 use Rattle.apf_gate.specs.Requests.{IsRequest}
 
@@ -22,6 +26,8 @@ pub record Account : Type 0 where
   pub station : ℕ → StationRecord
   -- the seat at which each token's record is kept, by the token's number
   pub seat : ℕ → ℕ
+  -- the request that holds each slot
+  pub current : ℕ → ℕ
 
 -- what a token knows is so, and no step after its last one is its own
 pub record IsKnown (shape : Shape) (who : Actor) (known : Knowledge) (trace : List Entry) : Type 0 where
@@ -42,3 +48,22 @@ pub record IsSound (shape : Shape) (account : Account) : Type 0 where
   -- the Desk holds just the request whose grant is to be settled
   pub held : (r : ℕ) → account.desk.held ≡ Some r → service account.desk r ≡ Held
   pub is_held : (r : ℕ) → service account.desk r ≡ Held → account.desk.held ≡ Some r
+
+-- the request holds its slot
+abbrev pub HoldsSlot : Account → ℕ → Type 0
+HoldsSlot account r = account.current (slot_of r) ≡ r
+
+-- the request neither waits nor stands
+abbrev pub IsIdle : World → ℕ → Type 0
+IsIdle w r = (w.stage r ≡ Away) ⊎ (w.stage r ≡ Gone)
+
+-- the lines on slots: which requests hold them, held them, and will
+pub record AreSlots (shape : Shape) (account : Account) : Type 0 where
+  pub current : (i : ℕ) → i < shape.slots → (account.current i < length shape.widths) × (slot_of (account.current i) ≡ i)
+  pub inside : (r : ℕ) → r < length shape.widths → HoldsSlot account r → slot_of r < shape.slots
+  -- who holds no slot neither waits nor stands
+  pub idle : (r : ℕ) → r < length shape.widths → ¬ HoldsSlot account r → IsIdle (world_of shape account.trace) r
+  -- of who did not hold it yet nothing was done
+  pub later : (r : ℕ) → r < length shape.widths → account.current (slot_of r) < r → (account.pass r ≡ new_pass shape r) × ((world_of shape account.trace).decision r ≡ None)
+  -- who held it before is decided, or its Pass never began
+  pub past : (r : ℕ) → r < length shape.widths → r < account.current (slot_of r) → ((world_of shape account.trace).decision r ≢ None) ⊎ ((account.pass r).state ≡ Fresh)

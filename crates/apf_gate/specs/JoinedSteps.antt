@@ -1,5 +1,5 @@
 -- The steps of the Desk with a Pass joined to it, each by its operation and its word.
-use Rattle.std.specs.Prelude.{◌≡◌, ◌≢◌, true, false, Option, Some, None}
+use Rattle.std.specs.Prelude.{◌≡◌, ◌≢◌, ℕ, true, false, Option, Some, None}
 use Rattle.apf_words.specs.Level.{Level}
 use Rattle.apf_words.specs.declared.decision.Decision.{Decision}
 use Rattle.apf_words.specs.declared.decision.Decision.TheVariants.{Execute, QueueFull, Closed, Cancelled, ConcurrencyLimit}
@@ -13,7 +13,12 @@ use Rattle.apf_gate.specs.Records.{told_own, saw_decision, service}
 use Rattle.apf_gate.specs.Traces.{GoesOn}
 use Rattle.apf_gate.specs.Requests.{AreTied}
 use Rattle.apf_gate.specs.Steps.{Both, SawLevel, SawDecision}
+use Rattle.apf_gate.specs.PassSteps.{own_mark}
 use Rattle.apf_gate.specs.DeskSteps.{served, DeskMayFind}
+
+-- the mark of the joined Pass's request
+abbrev pub both_mark : Both → ℕ
+both_mark both = own_mark both.pass
 
 -- what the Pass knows after the Desk's step: the Desk's trace
 abbrev pub along : PassRecord → Knowledge → Knowledge

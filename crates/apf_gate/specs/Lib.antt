@@ -1,3 +1,4 @@
+pub mod Slots
 pub mod Records
 pub mod Traces
 pub mod Requests
@@ -21,3 +22,4 @@ pub mod Opens
 pub mod Ends
 pub mod Hidden
 pub mod Owing
+pub mod Same

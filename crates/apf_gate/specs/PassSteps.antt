@@ -1,5 +1,5 @@
 -- The steps of a Pass, each by its token, its operation and its word.
-use Rattle.std.specs.Prelude.{◌≡◌, ◌≢◌, ℕ, ◌+◌, ◌==◌, ◌||◌, ◌&&◌, not, nat_le, Bool, true, false, if◌then◌else◌, Option, Some, None}
+use Rattle.std.specs.Prelude.{◌≡◌, ◌≢◌, ◌⊎◌, ℕ, ◌+◌, ◌<◌, ◌==◌, ◌||◌, ◌&&◌, not, nat_le, Bool, true, false, if◌then◌else◌, List, ◌∷◌, ◌++◌, Option, Some, None}
 use Rattle.apf_words.specs.Level.{Level}
 use Rattle.apf_words.specs.declared.decision.Decision.{Decision}
 use Rattle.apf_words.specs.declared.decision.Decision.TheVariants.{Execute, QueueFull, Closed, Cancelled, ConcurrencyLimit}
@@ -11,10 +11,17 @@ use Rattle.apf_gate.specs.declared.record.Knowledge.{Knowledge}
 use Rattle.apf_gate.specs.declared.record.State.{State}
 use Rattle.apf_gate.specs.declared.record.State.TheVariants.{Fresh, Took, InLine, Over}
 use Rattle.apf_gate.specs.declared.record.PassRecord.{PassRecord}
-use Rattle.apf_gate.specs.Records.{own_width}
-use Rattle.apf_gate.specs.Traces.{world_of}
+use Rattle.apf_gate.specs.declared.record.Entry.{Entry}
+use Rattle.apf_gate.specs.Slots.{slot_of, mark_of}
+use Rattle.apf_gate.specs.Records.{told_own, told_of, own_width, saw_decision, new_pass, KnowsMore}
+use Rattle.apf_model.specs.Schedule.{IsSchedule}
+use Rattle.apf_gate.specs.Traces.{opening_of, entry, moves, NoneOf, world_of}
 use Rattle.apf_gate.specs.Requests.{MayHold}
 use Rattle.apf_gate.specs.Steps.{SawLevel, SawDecision}
+
+-- the mark of a Pass's request
+abbrev pub own_mark : PassRecord → ℕ
+own_mark pass = mark_of pass.number
 
 -- the width has room in the level, by the rule of fitting
 abbrev pub has_room : Level → ℕ → Bool
@@ -106,3 +113,30 @@ PassExchangesDecision decision pass pass' = (known' : Knowledge) × SawDecision 
 abbrev pub PassMissesDecision : Decision → PassRecord → Option Decision → PassRecord → Type 0
 PassMissesDecision decision pass found pass' = (known' : Knowledge) × SawDecision (OfPass pass.number) pass.knows pass.number found found None known' × MayFind pass.state pass.wrote found
     × (pass' ≡ record pass { state = deciding_state decision pass.state; no_room = false; knows = known' })
+
+-- the request that a Pass may begin after its own: of the same slot, and later
+pub record IsNextRequest (pass : PassRecord) (next : ℕ) : Type 0 where
+  pub same_slot : slot_of next ≡ slot_of pass.number
+  pub later : pass.number < next
+
+-- a Pass may leave its request for another: it never began with it, or it was told its decision and neither waits nor stands
+abbrev pub MayRenew : PassRecord → Type 0
+MayRenew pass = (pass.state ≡ Fresh) ⊎ ((told_own pass ≢ None) × ((pass.state ≡ Over) ⊎ ((pass.state ≡ InLine) × (pass.entered ≡ false))))
+
+-- what a Pass knows after it left its request, whose word held this, and the first step of the next one, which is this
+pub record SawRenewal (known : Knowledge) (r next : ℕ) (found : Option Decision) (known' : Knowledge) : Type 0 where
+  pub between : List Entry
+  pub of_others : NoneOf (OfPass r) between
+  pub found_is : (world_of known.shape (between ++ known.trace)).decision r ≡ found
+  -- the next one is new: it is undecided, and none of all steps is its own
+  pub is_new : NoneOf (OfPass next) (between ++ known.trace)
+  pub is_undecided : (world_of known.shape (between ++ known.trace)).decision next ≡ None
+  pub is_after : known' ≡ saw_decision known r found (entry (OfPass next) None ∷ (between ++ known.trace))
+  pub is_schedule : IsSchedule (opening_of known.shape) (moves known'.trace)
+  -- what was told of the old one is found again, for the last time
+  pub stays : told_of known.told r ≢ None → found ≡ told_of known.told r
+  pub more : KnowsMore known known'
+
+-- it leaves its request, and begins the next one of its slot
+abbrev pub PassRenews : ℕ → PassRecord → Option Decision → PassRecord → Type 0
+PassRenews next pass found pass' = (known' : Knowledge) × SawRenewal pass.knows pass.number next found known' × (pass' ≡ record (new_pass pass.knows.shape next) { knows = known' })

@@ -11,10 +11,11 @@ use Rattle.apf_gate.specs.declared.record.DeskRecord.{DeskRecord}
 use Rattle.apf_gate.specs.declared.record.StationRecord.{StationRecord}
 use Rattle.apf_gate.specs.declared.record.Record.{Record}
 use Rattle.apf_gate.specs.declared.record.Record.TheVariants.{Pass, Desk, Station}
-use Rattle.apf_words.specs.Codes.{code_in}
+use Rattle.apf_words.specs.Codes.{marked}
+use Rattle.apf_gate.specs.Slots.{slot_of, mark_of}
 use Rattle.apf_gate.specs.Records.{level_of, new_pass, new_desk, new_station}
 use Rattle.apf_gate.specs.Traces.{world_of}
-use Rattle.apf_gate.specs.Account.{Account, IsSound}
+use Rattle.apf_gate.specs.Account.{Account, IsSound, AreSlots, HoldsSlot}
 use Rattle.atomic_table.specs.Table.{State}
 
 -- P holds of each
@@ -22,22 +23,22 @@ abbrev pub Every : {A : Type 0} → (A → Type 0) → List A → Type 0
 Every P [] = Unit {0}
 Every P (x ∷ xs) = P x × Every P xs
 
--- the words: the level word, then the decision word of each request
-pub record Packs (s : Shape) (words : List ℕ) (w : World) : Type 0 where
-  pub count : length words ≡ length s.widths + 1
+-- the words: the level word, then the word of each slot, which has the mark and the decision of the request that holds it
+pub record Packs (s : Shape) (current : ℕ → ℕ) (words : List ℕ) (w : World) : Type 0 where
+  pub count : length words ≡ s.slots + 1
   pub level : slice_index words 0 ≡ packed (level_of s.widths w)
-  pub decisions : (r : ℕ) → r < length s.widths → slice_index words (r + 1) ≡ code_in (w.decision r)
+  pub decisions : (i : ℕ) → i < s.slots → slice_index words (i + 1) ≡ marked (mark_of (current i)) (w.decision (current i))
 
--- each token has a number of its own
+-- each token has a number of its own, a Pass by its slot
 abbrev pub token_of : Record → ℕ
 token_of (Desk d) = 0
-token_of (Pass p) = 2 * p.number + 1
+token_of (Pass p) = 2 * slot_of p.number + 1
 token_of (Station t) = 2 * t.number + 2
 
 -- the record of a token is that of the account
 abbrev pub IsRecord : Shape → Account → Record → Type 0
 IsRecord s g (Desk d) = g.desk ≡ d
-IsRecord s g (Pass p) = (p.number < length s.widths) × (g.pass p.number ≡ p)
+IsRecord s g (Pass p) = (p.number < length s.widths) × (g.pass p.number ≡ p) × HoldsSlot g p.number
 IsRecord s g (Station t) = (t.number < s.stations) × (g.station t.number ≡ t)
 
 -- the record is kept at this seat
@@ -56,7 +57,8 @@ IsView s g i v = Every (IsKeptAt s g i) v × AreApart v
 pub record IsRuled (s : Shape) (t : State (Unit {0}) (List Record)) : Type 0 where
   pub account : Account
   pub sound : IsSound s account
-  pub packs : Packs s t.words (world_of s account.trace)
+  pub slots : AreSlots s account
+  pub packs : Packs s account.current t.words (world_of s account.trace)
   pub views : (i : ℕ) (v : List Record) → get_elem? t.views i ≡ some v → IsView s account i v
 
 -- k new Passes, from the request r on, and then the records of these
@@ -74,7 +76,7 @@ opening_stations s k = stations_from s (s.stations - k) k (Desk (new_desk s) ∷
 
 -- the first seat keeps the records of all tokens: the Passes from the request r on, the Stations, and the Desk
 abbrev pub opening_records : Shape → ℕ → List Record
-opening_records s r = passes_from s (length s.widths - r) r (opening_stations s 0)
+opening_records s r = passes_from s (s.slots - r) r (opening_stations s 0)
 
 -- a view's first record goes to a seat of its own, and a record is joined in front
 abbrev pub without_first : List Record → List Record
@@ -87,7 +89,7 @@ first_alone (x ∷ xs) = x ∷ []
 
 -- the records of a seat that has one token's
 abbrev pub no_shape : Shape
-no_shape = record { limit = 0; response = Queue; widths = []; stations = 0 }
+no_shape = record { limit = 0; response = Queue; widths = []; slots = 0; stations = 0 }
 
 abbrev pub pass_of : List Record → PassRecord
 pass_of (Pass p ∷ xs) = p

@@ -7,7 +7,7 @@ use Rattle.apf_model.specs.declared.moves.Move.TheVariants.{Decide, Close, SetLi
 use Rattle.apf_gate.specs.declared.record.Actor.TheVariants.{OfStation}
 use Rattle.apf_gate.specs.declared.record.Knowledge.{Knowledge}
 use Rattle.apf_gate.specs.declared.record.StationRecord.{StationRecord}
-use Rattle.apf_gate.specs.Steps.{SawLevel, SawDecision}
+use Rattle.apf_gate.specs.Steps.{SawLevel, SawDecision, FindsOther}
 
 -- a Station loads the level word
 abbrev pub StationLoadsLevel : StationRecord → Level → StationRecord → Type 0
@@ -28,3 +28,7 @@ StationLoadsDecision r station found station' = (known' : Knowledge) × SawDecis
 -- its exchange wrote cancelled of r
 abbrev pub StationExchangesDecision : ℕ → StationRecord → StationRecord → Type 0
 StationExchangesDecision r station station' = (known' : Knowledge) × SawDecision (OfStation station.number) station.knows r None (Some Cancelled) (Some (Decide r Cancelled)) known' × (station' ≡ record station { knows = known' })
+
+-- it finds that another request holds the slot of r: a load
+abbrev pub StationFindsOther : ℕ → StationRecord → StationRecord → Type 0
+StationFindsOther r station station' = (known' : Knowledge) × FindsOther (OfStation station.number) station.knows r known' × (station' ≡ record station { knows = known' })

@@ -1,6 +1,6 @@
 -- What a step tells the token that makes it.
-use Rattle.std.specs.Prelude.{◌≡◌, ◌≢◌, ℕ, ◌≤◌, ◌-◌, ◌==◌, MatchBool, true, List, [], ◌∷◌, ◌++◌, Option, None}
-use Rattle.apf_words.specs.Codes.{code_of, code_in}
+use Rattle.std.specs.Prelude.{◌≡◌, ◌≢◌, ◌⊎◌, ℕ, ◌≤◌, ◌/◌, ◌==◌, MatchBool, true, List, [], ◌∷◌, ◌++◌, length, Option, Some, None}
+use Rattle.apf_words.specs.Codes.{marked}
 use Rattle.apf_words.specs.Level.{Level, packed}
 use Rattle.apf_words.specs.Limits.{max_limit, max_requests, max_width}
 use Rattle.apf_words.specs.declared.decision.Decision.{Decision}
@@ -16,7 +16,9 @@ use Rattle.apf_gate.specs.declared.record.StationRecord.{StationRecord}
 use Rattle.apf_gate.specs.declared.record.Record.{Record}
 use Rattle.apf_gate.specs.declared.record.Record.TheVariants.{Pass, Desk, Station}
 use Rattle.apf_gate.specs.Records.{level_of, told_of, saw_level, saw_decision, KnowsMore}
+use Rattle.apf_gate.specs.Slots.{mark_of}
 use Rattle.apf_gate.specs.Traces.{opening_of, entry, moves, NoneOf, world_of}
+use Rattle.apf_gate.specs.Account.{IsIdle}
 use Rattle.apf_gate.specs.Rule.{pass_of, desk_of, station_of, without_first}
 use Rattle.atomic_table.specs.Table.{Me}
 
@@ -52,6 +54,16 @@ pub record SawDecision (who : Actor) (known : Knowledge) (r : ℕ) (found left :
   pub stays : told_of known.told r ≢ None → found ≡ told_of known.told r
   pub more : KnowsMore known known'
 
+-- a step of this token on the word of the slot of r, which another request holds: a load, which tells no decision. The request r neither waits nor stands. In a batch no other request holds it
+pub record FindsOther (who : Actor) (known : Knowledge) (r : ℕ) (known' : Knowledge) : Type 0 where
+  pub between : List Entry
+  pub of_others : NoneOf who between
+  pub is_idle : IsIdle (world_of known.shape (between ++ known.trace)) r
+  pub no_batch : length known.shape.widths ≢ known.shape.slots
+  pub is_after : known' ≡ record known { trace = entry who None ∷ (between ++ known.trace) }
+  pub is_schedule : IsSchedule (opening_of known.shape) (moves known'.trace)
+  pub more : KnowsMore known known'
+
 -- while a Pass is joined to the Desk, the step is the Desk's, and both records stand for it
 pub record Both : Type 0 where
   pub pass : PassRecord
@@ -81,9 +93,9 @@ ByBoth Does me number me' = (me'.1 ≡ me.1) × ((both' : Both) × (me'.0 ≡ Pa
 abbrev pub OfLevel : (Level → Type 0) → ℕ → Type 0
 OfLevel Says number = (level : Level) × (number ≡ packed level) × Says level
 
--- the number of a decision word, and what the step says of what that said
-abbrev pub OfDecision : (Option Decision → Type 0) → ℕ → Type 0
-OfDecision Says number = (found : Option Decision) × (number ≡ code_in found) × Says found
+-- the number of a word that has this mark, and what the step says of the decision in it
+abbrev pub OfDecision : ℕ → (Option Decision → Type 0) → ℕ → Type 0
+OfDecision mark Says number = (found : Option Decision) × (number ≡ marked mark found) × Says found
 
 -- a step that finds the level word so
 abbrev pub OnLevel : {Token : Type 0} → (Token → Level → Token → Type 0) → Tells Token
@@ -93,22 +105,26 @@ OnLevel {Token} Does token number token' = OfLevel (λ level. Does token level t
 abbrev pub OnLevelIf : {Token : Type 0} → ℕ → (Token → Level → Token → Type 0) → (Token → Level → Token → Type 0) → Tells Token
 OnLevelIf {Token} expected Exchanges Misses token number token' = OfLevel (λ level. MatchBool (number == expected) (Exchanges token level token') (Misses token level token')) number
 
--- a step that finds a decision word so
-abbrev pub OnDecision : {Token : Type 0} → (Token → Option Decision → Token → Type 0) → Tells Token
-OnDecision {Token} Does token number token' = OfDecision (λ found. Does token found token') number
+-- a step that finds the word of its request so, whose mark is this
+abbrev pub OnDecision : {Token : Type 0} → (Token → ℕ) → (Token → Option Decision → Token → Type 0) → Tells Token
+OnDecision {Token} mark Does token number token' = OfDecision (mark token) (λ found. Does token found token') number
 
--- an exchange of a decision word, which is made if it finds that of an undecided request
-abbrev pub OnDecisionIf : {Token : Type 0} → (Token → Token → Type 0) → (Token → Option Decision → Token → Type 0) → Tells Token
-OnDecisionIf {Token} Exchanges Misses token number token' = OfDecision (λ found. MatchBool (number == code_in None) (Exchanges token token') (Misses token found token')) number
+-- an exchange of the word of its request, which is made if it finds that undecided
+abbrev pub OnDecisionIf : {Token : Type 0} → (Token → ℕ) → (Token → Token → Type 0) → (Token → Option Decision → Token → Type 0) → Tells Token
+OnDecisionIf {Token} mark Exchanges Misses token number token' = OfDecision (mark token) (λ found. MatchBool (number == marked (mark token) None) (Exchanges token token') (Misses token found token')) number
 
--- an exchange that writes the code of some decision
-abbrev pub Writing : {Token : Type 0} → ℕ → (Decision → Tells Token) → Tells Token
-Writing {Token} code Does token number token' = (decision : Decision) → code ≡ code_of decision → Does decision token number token'
+-- an exchange that writes some decision
+abbrev pub Writing : {Token : Type 0} → (Token → ℕ) → ℕ → (Decision → Tells Token) → Tells Token
+Writing {Token} mark word Does token number token' = (decision : Decision) → word ≡ marked (mark token) (Some decision) → Does decision token number token'
+
+-- a step on the word of the slot of r: it finds the decision of r where r holds the slot, and else that another does
+abbrev pub OnTicket : {Token : Type 0} → ℕ → (Token → Option Decision → Token → Type 0) → (Token → Token → Type 0) → Tells Token
+OnTicket {Token} r Does Passes token number token' = OfDecision (mark_of r) (λ found. Does token found token') number ⊎ ((number / 8 ≢ mark_of r) × Passes token token')
+
+-- an exchange of that word, which is made if it finds r undecided
+abbrev pub OnTicketIf : {Token : Type 0} → ℕ → (Token → Token → Type 0) → (Token → Option Decision → Token → Type 0) → (Token → Token → Type 0) → Tells Token
+OnTicketIf {Token} r Exchanges Misses Passes token number token' = OfDecision (mark_of r) (λ found. MatchBool (number == marked (mark_of r) None) (Exchanges token token') (Misses token found token')) number ⊎ ((number / 8 ≢ mark_of r) × Passes token token')
 
 -- an exchange that sets some limit in the level word
 abbrev pub Setting : {Token : Type 0} → ℕ → (ℕ → Tells Token) → Tells Token
 Setting {Token} new Does token number token' = (level : Level) → new ≡ packed level → IsInRange level → Does level.limit token number token'
-
--- the request of a decision word
-abbrev pub request_at : ℕ → ℕ
-request_at word = word - 1

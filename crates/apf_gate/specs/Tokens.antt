@@ -1,5 +1,5 @@
 -- The tokens as callers see them, and what their fields keep.
-use Rattle.std.specs.Prelude.{◌≡◌, ℕ, ◌<◌, ◌≤◌, List, [], ◌∷◌, length, Option, Some}
+use Rattle.std.specs.Prelude.{◌≡◌, ℕ, ◌^◌, ◌<◌, ◌≤◌, List, [], ◌∷◌, length, Option, Some}
 use Rattle.apf_words.specs.Limits.{max_width}
 use Rattle.apf_gate.specs.declared.record.Shape.{Shape}
 use Rattle.apf_gate.specs.declared.record.PassRecord.{PassRecord}
@@ -7,6 +7,7 @@ use Rattle.apf_gate.specs.declared.record.DeskRecord.{DeskRecord}
 use Rattle.apf_gate.specs.declared.record.StationRecord.{StationRecord}
 use Rattle.apf_gate.specs.declared.record.Record.{Record}
 use Rattle.apf_gate.specs.declared.record.Record.TheVariants.{Pass, Desk}
+use Rattle.apf_gate.specs.Slots.{slot_of}
 use Rattle.apf_gate.specs.Records.{own_width}
 use Rattle.apf_gate.specs.Gauges.{IsShape}
 use Rattle.apf_gate.specs.Rule.{pass_of, desk_of}
@@ -48,6 +49,8 @@ pub record IsPass (me : Me (Unit {0}) (List Record)) (number width : ℕ) : Type
   pub same_number : number ≡ (pass_of me.0).number
   pub same_width : width ≡ own_width (pass_of me.0)
   pub inside : (pass_of me.0).number < length (pass_of me.0).knows.shape.widths
+  pub in_slot : slot_of (pass_of me.0).number < (pass_of me.0).knows.shape.slots
+  pub small : number < 2 ^ 75
   pub narrow : width ≤ max_width
 
 -- the Desk's seat has its record alone, which has the request that it holds, and the shape of a gate
@@ -55,6 +58,8 @@ pub record IsDesk (me : Me (Unit {0}) (List Record)) (held : Option ℕ) : Type 
   pub alone : me ≡ (Desk (desk_of me.0) ∷ [], [])
   pub same_held : held ≡ (desk_of me.0).held
   pub inside : (r : ℕ) → held ≡ Some r → r < length (desk_of me.0).knows.shape.widths
+  pub in_slot : (r : ℕ) → held ≡ Some r → slot_of r < (desk_of me.0).knows.shape.slots
+  pub small : (r : ℕ) → held ≡ Some r → r < 2 ^ 75
   pub shape : IsShape (desk_of me.0).knows.shape
 
 -- a seat has one record alone
@@ -73,3 +78,5 @@ pub record AreBoth (gate : GateId) (table : TableId) (me : Me (Unit {0}) (List R
   pub pass_shape : (both_at me).pass.knows.shape ≡ gate.shape
   pub desk_shape : (both_at me).desk.knows.shape ≡ gate.shape
   pub inside : (both_at me).pass.number < length (both_at me).pass.knows.shape.widths
+  pub in_slot : slot_of (both_at me).pass.number < (both_at me).pass.knows.shape.slots
+  pub small : (both_at me).pass.number < 2 ^ 75

@@ -1,5 +1,7 @@
 //! What calls answer.
 
+use apf_words::Decision;
+
 /// What became of an attempt to take seats.
 #[derive(Clone, Copy, Debug, PartialEq, Eq)]
 pub enum TryTake {
@@ -13,6 +15,33 @@ pub enum TryTake {
     Closed,
     /// The level word changed before the exchange.
     Raced,
+}
+
+/// What became of an attempt to use a slot again.
+#[derive(Clone, Copy, Debug, PartialEq, Eq)]
+pub enum Renew {
+    /// The next request of the slot began. Tells how the old one was decided.
+    Began(Option<Decision>),
+    /// The slot can't be used again. Nothing changed.
+    Spent,
+}
+
+/// What a read of a request's decision found.
+#[derive(Clone, Copy, Debug, PartialEq, Eq)]
+pub enum Read {
+    /// This decision, or none.
+    Is(Option<Decision>),
+    /// Another request holds the slot.
+    Other,
+}
+
+/// What became of a cancel.
+#[derive(Clone, Copy, Debug, PartialEq, Eq)]
+pub enum Cancel {
+    /// The request is decided so.
+    Is(Decision),
+    /// Another request holds the slot. Nothing was written.
+    Other,
 }
 
 /// What a close found.

@@ -1,7 +1,8 @@
 //! The token of whoever holds the level's lock, and its steps.
 
-ghost use Rattle.std.specs.Prelude.{◌≡◌, ◌≢◌, ℕ, ◌<◌, ◌≤◌, ◌==◌, length, MatchBool, Some, None};
-ghost use Rattle.apf_words.specs.Codes.{code_in};
+ghost use Rattle.std.specs.Prelude.{◌≡◌, ◌≢◌, ◌⊎◌, ℕ, ◌<◌, ◌≤◌, ◌==◌, length, MatchBool, Some, None};
+ghost use Rattle.apf_words.specs.Codes.{marked};
+ghost use Rattle.apf_gate.specs.Slots.{mark_of, IsTicket};
 ghost use Rattle.apf_words.specs.Fits.{Fits};
 ghost use Rattle.apf_words.specs.Level.{Level};
 ghost use Rattle.apf_words.specs.declared.decision.Decision.TheVariants.{Cancelled};
@@ -16,13 +17,13 @@ ghost use Rattle.apf_gate.specs.DeskCalls.{TriesToGrant, SettlesTo};
 ghost use Rattle.apf_gate.specs.DeskResults.{SameDesk, AfterView, AfterSeen, AfterTryGrant, AfterSettle, AfterGiveBack, AfterLeave};
 
 use crate::answers::TryGrant;
-use crate::gate::{Gate, decision_in, level_in};
+use crate::gate::{Gate, level_in, mark, word_of};
 use crate::plays::{
     Chosen, DeskExchangeDecision, DeskExchangeLevel, DeskLoadDecision, DeskLoadLevel,
     DeskSubtractSeats, DeskSubtractWaiter,
 };
 use crate::rule::Place;
-use apf_words::{Decision, LevelWord, UNDECIDED, fits};
+use apf_words::{Decision, LevelWord, decided, decision_in, fits, undecided};
 use std::alloc::Allocator;
 use std::marker::{Brand, Model};
 
@@ -30,7 +31,7 @@ use std::marker::{Brand, Model};
 #[derive(Drop)]
 pub struct Desk {
     pub(crate) seat: Place,
-    pub(crate) held: Option<u32>,
+    pub(crate) held: Option<u128>,
 }
 
 impl Model for Desk {
@@ -53,6 +54,7 @@ impl Desk {
     /// It makes no step: the contract is the law.
     pub fn is_of_a_gate(&self)
         ensures shape { IsShape self.now.desk.knows.shape }
+        ensures tickets { length self.now.desk.knows.shape.widths ≡ self.now.desk.knows.shape.slots → (r : ℕ) → r < length self.now.desk.knows.shape.widths → IsTicket self.now.desk.knows.shape r }
     {
         let _ = &self.seat;
     }
@@ -69,22 +71,23 @@ impl<A: Allocator> Gate<A> {
         level_in(self.board.shared.load::<DeskLoadLevel>(&mut desk.seat, 0))
     }
 
-    /// Reads a request's decision, by one load of its word.
-    pub fn seen(&self, desk: &mut Desk, request: u32) -> Option<Decision>
+    /// Reads the decision of a request that waits, or of a batch, by one load of its word.
+    pub fn seen(&self, desk: &mut Desk, request: u128) -> Option<Decision>
         requires own { desk_gate desk.old ≡ self.now }
-        requires is_request { request < length self.now.shape.widths }
+        requires is_request { IsTicket self.now.shape request }
+        requires has_slot { (service desk.old.desk request ≡ Waiting) ⊎ (length self.now.shape.widths ≡ self.now.shape.slots) }
         ensures same { SameDesk desk.old desk.new }
         ensures answer { DeskLoadsDecision request desk.old.desk result desk.new.desk }
         ensures after { AfterSeen desk.old.desk request result desk.new.desk }
     {
-        decision_in(self.load_seen(desk, request))
+        decision_in(self.load_seen::<Brand>(desk, request))
     }
 
     /// Grants a waiting request its seats, where they fit: the Desk holds them then. It makes one load of
     /// the level word, and an exchange where that showed room.
-    pub fn try_grant(&self, desk: &mut Desk, request: u32) -> TryGrant
+    pub fn try_grant(&self, desk: &mut Desk, request: u128) -> TryGrant
         requires own { desk_gate desk.old ≡ self.now }
-        requires is_request { request < length self.now.shape.widths }
+        requires is_request { IsTicket self.now.shape request }
         requires waits { service desk.old.desk request ≡ Waiting }
         requires holds_none { desk.old.desk.held ≡ None }
         ensures same { SameDesk desk.old desk.new }
@@ -92,7 +95,7 @@ impl<A: Allocator> Gate<A> {
         ensures after { AfterTryGrant desk.old.desk request result desk.new.desk }
     {
         let level = self.view(desk);
-        let width = self.gauge.widths[request as usize];
+        let width = self.width_of(request);
         if !fits(level.seats(), level.limit(), width) {
             return TryGrant::NoRoom;
         }
@@ -116,7 +119,7 @@ impl<A: Allocator> Gate<A> {
         let Some(request) = desk.held else {
             unreachable!()
         };
-        match decision_in(self.exchange_settled(desk, request)) {
+        match decision_in(self.exchange_settled::<Brand>(desk, request)) {
             None => Decision::Execute,
             Some(decision) => decision,
         }
@@ -140,9 +143,9 @@ impl<A: Allocator> Gate<A> {
 
     /// Takes a waiting request that was seen cancelled out of the count of those that wait, by one step on
     /// the level word.
-    pub fn leave(&self, desk: &mut Desk, request: u32)
+    pub fn leave(&self, desk: &mut Desk, request: u128)
         requires own { desk_gate desk.old ≡ self.now }
-        requires is_request { request < length self.now.shape.widths }
+        requires is_request { IsTicket self.now.shape request }
         requires waits { service desk.old.desk request ≡ Waiting }
         requires seen_cancelled { told_of desk.old.desk.knows.told request ≡ Some Cancelled }
         ensures same { SameDesk desk.old desk.new }
@@ -153,22 +156,24 @@ impl<A: Allocator> Gate<A> {
     }
 
     // One load of a decision word.
-    fn load_seen(&self, desk: &mut Desk, request: u32) -> u64
+    fn load_seen<J: Chosen>(&self, desk: &mut Desk, request: u128) -> u64
         requires own { desk_gate desk.old ≡ self.now }
-        requires is_request { request < length self.now.shape.widths }
+        requires is_request { IsTicket self.now.shape request }
+        requires chosen { request ≡ J.request }
+        requires has_slot { (service desk.old.desk request ≡ Waiting) ⊎ (length self.now.shape.widths ≡ self.now.shape.slots) }
         ensures same { SameDesk desk.old desk.new }
-        ensures found { OfDecision (λ found. DeskLoadsDecision request desk.old.desk found desk.new.desk) result }
+        ensures found { OfDecision (mark_of request) (λ found. DeskLoadsDecision request desk.old.desk found desk.new.desk) result }
     {
-        let word = request as usize + 1;
+        let word = word_of(request);
         self.board
             .shared
-            .load::<DeskLoadDecision>(&mut desk.seat, word)
+            .load::<DeskLoadDecision<J>>(&mut desk.seat, word)
     }
 
     // One exchange, of the word that says this for one with the request granted. Says whether it was made.
-    fn exchange_grant<J: Chosen>(&self, desk: &mut Desk, level: LevelWord, request: u32) -> bool
+    fn exchange_grant<J: Chosen>(&self, desk: &mut Desk, level: LevelWord, request: u128) -> bool
         requires own { desk_gate desk.old ≡ self.now }
-        requires is_request { request < length self.now.shape.widths }
+        requires is_request { IsTicket self.now.shape request }
         requires chosen { request ≡ J.request }
         requires waits { service desk.old.desk request ≡ Waiting }
         requires holds_none { desk.old.desk.held ≡ None }
@@ -181,7 +186,7 @@ impl<A: Allocator> Gate<A> {
             ((other : Level) × (other ≢ level) × DeskLoadsLevel desk.old.desk other desk.new.desk) }
     {
         let word = level.pack();
-        let width = self.gauge.widths[request as usize];
+        let width = self.width_of(request);
         let new = level.with_grant(width).pack();
         let found = self
             .board
@@ -195,43 +200,47 @@ impl<A: Allocator> Gate<A> {
     }
 
     // One exchange of the decision word of the request that is held, for the code of execute where it is 0.
-    fn exchange_settled(&self, desk: &mut Desk, request: u32) -> u64
+    fn exchange_settled<J: Chosen>(&self, desk: &mut Desk, request: u128) -> u64
         requires own { desk_gate desk.old ≡ self.now }
+        requires chosen { request ≡ J.request }
         requires holds { desk.old.desk.held ≡ Some request }
         ensures same { SameDesk desk.old desk.new }
-        ensures found { OfDecision (λ found. MatchBool (result == code_in None) (DeskExchangesDecision request desk.old.desk desk.new.desk) (DeskMissesDecision request desk.old.desk found desk.new.desk)) result }
+        ensures found { OfDecision (mark_of request) (λ found. MatchBool (result == marked (mark_of request) None) (DeskExchangesDecision request desk.old.desk desk.new.desk) (DeskMissesDecision request desk.old.desk found desk.new.desk)) result }
     {
-        let word = request as usize + 1;
-        let code = Decision::Execute.code();
+        let _ = &desk.seat;
+        let word = word_of(request);
+        let own = mark(request);
+        let old = undecided(own);
+        let new = decided(own, Decision::Execute);
         let found = self
             .board
             .shared
-            .compare_exchange::<DeskExchangeDecision>(&mut desk.seat, word, UNDECIDED, code);
-        if found == UNDECIDED {
+            .compare_exchange::<DeskExchangeDecision<J>>(&mut desk.seat, word, old, new);
+        if found == old {
             desk.held = None;
         }
         found
     }
 
-    fn give_back_of<J: Chosen>(&self, desk: &mut Desk, request: u32)
+    fn give_back_of<J: Chosen>(&self, desk: &mut Desk, request: u128)
         requires own { desk_gate desk.old ≡ self.now }
-        requires is_request { request < length self.now.shape.widths }
+        requires is_request { IsTicket self.now.shape request }
         requires chosen { request ≡ J.request }
         requires holds { desk.old.desk.held ≡ Some request }
         requires lost { told_of desk.old.desk.knows.told request ≢ None }
         ensures same { SameDesk desk.old desk.new }
         ensures answer { (level : Level) × DeskSubtractsSeats request desk.old.desk level desk.new.desk }
     {
-        let seats = LevelWord::to_release(self.gauge.widths[request as usize]);
+        let seats = LevelWord::to_release(self.width_of(request));
         self.board
             .shared
             .fetch_sub::<DeskSubtractSeats<J>>(&mut desk.seat, 0, seats);
         desk.held = None;
     }
 
-    fn leave_of<J: Chosen>(&self, desk: &mut Desk, request: u32)
+    fn leave_of<J: Chosen>(&self, desk: &mut Desk, request: u128)
         requires own { desk_gate desk.old ≡ self.now }
-        requires is_request { request < length self.now.shape.widths }
+        requires is_request { IsTicket self.now.shape request }
         requires chosen { request ≡ J.request }
         requires waits { service desk.old.desk request ≡ Waiting }
         requires seen_cancelled { told_of desk.old.desk.knows.told request ≡ Some Cancelled }

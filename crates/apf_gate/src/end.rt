@@ -7,7 +7,7 @@ ghost use Rattle.apf_words.specs.declared.decision.Decision.{Decision};
 ghost use Rattle.apf_model.specs.World.{World};
 ghost use Rattle.apf_gate.specs.declared.record.Record.TheVariants as records;
 ghost use Rattle.apf_gate.specs.declared.record.Shape.{Shape};
-ghost use Rattle.apf_words.specs.Codes.{code_in};
+ghost use Rattle.apf_words.specs.Codes.{marked};
 ghost use Rattle.apf_gate.specs.Records.{level_of};
 ghost use Rattle.apf_gate.specs.Rule.{Packs, desk_of};
 ghost use Rattle.apf_gate.specs.Steps.{IsInRange};
@@ -15,12 +15,12 @@ ghost use Rattle.apf_gate.specs.Tokens.{pass_gate, desk_gate, station_gate};
 ghost use Rattle.apf_gate.specs.Ends.{EndsWith, passes_before, stations_before};
 
 use crate::desk::Desk;
-use crate::gate::{Gate, decision_in, level_in};
+use crate::gate::{Gate, level_in};
 use crate::pass::Pass;
 use crate::plays::First;
 use crate::rule::Place;
 use crate::station::Station;
-use apf_words::{Decision, LevelWord};
+use apf_words::{Decision, LevelWord, decision_in};
 use atomic_table::Closed;
 use std::alloc::{AllocError, Allocator};
 use std::marker::Model;
@@ -76,6 +76,7 @@ impl<A: Allocator> Gate<A> {
         requires own_stations { All (λ t. station_gate t ≡ self) stations.items }
         requires all_passes { length passes.items ≡ length self.shape.widths }
         requires all_stations { length stations.items ≡ self.shape.stations }
+        requires batch { length self.shape.widths ≡ self.shape.slots }
         ensures { IfOk result (EndsWith self desk.desk passes.items stations.items) }
     {
         let count = self.gauge.widths.len();
@@ -131,10 +132,9 @@ fn read<A: Allocator, B: Allocator>(
     requires full { IsFull closed.words × (slots_len closed.words ≡ count + 1) × (slots_len closed.slots ≡ 0) }
     requires room { (decisions.items ≡ []) × (count ≤ vec_capacity decisions) }
     requires level { (l : Level) × (slice_index (slots_items closed.words) 0 ≡ packed l) × IsInRange l }
-    requires codes { (r : ℕ) → r < count → (d : Option Decision) × (slice_index (slots_items closed.words) (r + 1) ≡ code_in d) }
     ensures level { (l : Level) → slice_index (slots_items closed.words) 0 ≡ packed l → IsInRange l → result.level ≡ l }
     ensures count { length result.decisions ≡ count }
-    ensures decisions { (r : ℕ) (d : Option Decision) → r < count → slice_index (slots_items closed.words) (r + 1) ≡ code_in d → slice_get result.decisions r ≡ Some d }
+    ensures decisions { (r m : ℕ) (d : Option Decision) → r < count → slice_index (slots_items closed.words) (r + 1) ≡ marked m d → slice_get result.decisions r ≡ Some d }
 {
     let level = level_in(closed.word(0));
     for r in 0..count {

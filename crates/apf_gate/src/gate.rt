@@ -1,13 +1,14 @@
 //! The gate: the words of a level.
 
-ghost use Rattle.std.specs.Prelude.{◌≡◌, Option};
+ghost use Rattle.std.specs.Prelude.{◌≡◌, ◌+◌, ◌<◌, ◌≤◌, ◌^◌};
 ghost use Rattle.apf_words.specs.Level.{Level, packed};
-ghost use Rattle.apf_words.specs.declared.decision.Decision.{Decision};
-ghost use Rattle.apf_words.specs.Codes.{code_in};
+ghost use Rattle.apf_words.specs.Limits.{max_width};
+ghost use Rattle.apf_model.specs.World.{width};
+ghost use Rattle.apf_gate.specs.Slots.{slot_of, mark_of, coded_width, IsTicket};
 ghost use Rattle.apf_gate.specs.Steps.{IsInRange};
 
 use crate::rule::{Board, Gauge};
-use apf_words::{Decision, LevelWord};
+use apf_words::LevelWord;
 use std::alloc::Allocator;
 use std::marker::Model;
 
@@ -22,26 +23,61 @@ pub struct Gate<A: Allocator> {
 
 impl<A: Allocator> Model for Gate<A> {
     ghost use Rattle.apf_gate.specs.Tokens.{GateId};
-    ghost use Rattle.apf_gate.specs.Gauges.{shape_of, IsGate};
+    ghost use Rattle.apf_gate.specs.Gauges.{shape_in, IsGate};
 
     ghost Value = { GateId };
 
     ghost view = { λ g. record {
       table = g.board.shared.table_id;
-      shape = shape_of g.gauge.limit g.gauge.response g.gauge.widths.items g.gauge.stations;
+      shape = shape_in g.gauge.lives g.gauge.numbers g.gauge.limit g.gauge.response g.gauge.widths.items g.gauge.stations;
     } };
 
     ghost invariant = { λ g. IsGate g.board.shared.table_id.words g.board.shared.table_id.slots
-        (shape_of g.board.shared.key.value.limit g.board.shared.key.value.response g.board.shared.key.value.widths.items g.board.shared.key.value.stations)
-        (shape_of g.gauge.limit g.gauge.response g.gauge.widths.items g.gauge.stations) };
+        (shape_in g.board.shared.key.value.lives g.board.shared.key.value.numbers g.board.shared.key.value.limit g.board.shared.key.value.response g.board.shared.key.value.widths.items g.board.shared.key.value.stations)
+        (shape_in g.gauge.lives g.gauge.numbers g.gauge.limit g.gauge.response g.gauge.widths.items g.gauge.stations) };
 }
 
-/// What a decision word says.
-pub(crate) fn decision_in(word: u64) -> Option<Decision>
-    requires { (d : Option Decision) × (word ≡ code_in d) }
-    ensures { (d : Option Decision) → word ≡ code_in d → result ≡ d }
+impl<A: Allocator> Gate<A> {
+    /// The width of a request, by its number.
+    pub(crate) fn width_of(&self, request: u128) -> u32
+        requires { IsTicket self.now.shape request }
+        ensures value { result ≡ width self.now.shape.widths request }
+        ensures small { result ≤ max_width }
+    {
+        if request < self.gauge.widths.len() as u128 {
+            return self.gauge.widths[request as usize];
+        }
+        coded(request)
+    }
+}
+
+// The width that a number says.
+fn coded(request: u128) -> u32
+    ensures value { result ≡ coded_width request }
+    ensures small { result ≤ max_width }
 {
-    Decision::of_code(word)
+    let code = request / 16384 % 32768;
+    if code <= 20_000 {
+        code.max(1) as u32
+    } else {
+        20_000
+    }
+}
+
+/// The word of the slot of a request, by its number.
+pub(crate) fn word_of(request: u128) -> usize
+    ensures { result ≡ slot_of request + 1 }
+{
+    (request % 16384) as usize + 1
+}
+
+/// The mark of a request, by its number.
+pub(crate) fn mark(request: u128) -> u64
+    requires { request < 2 ^ 75 }
+    ensures value { result ≡ mark_of request }
+    ensures small { result < 2 ^ 61 }
+{
+    (request / 16384) as u64
 }
 
 /// What a level word says.

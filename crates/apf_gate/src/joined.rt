@@ -1,27 +1,27 @@
 //! The steps of the Desk with a Pass joined to it.
 
 ghost use Rattle.std.specs.Prelude.{◌≡◌, ◌≢◌, [], ◌∷◌, ◌+◌, ◌==◌, true, false, MatchBool, None};
-ghost use Rattle.apf_words.specs.Codes.{code_in};
+ghost use Rattle.apf_words.specs.Codes.{marked};
 ghost use Rattle.apf_words.specs.Level.{Level};
 ghost use Rattle.apf_model.specs.declared.response.Response.TheVariants.{Queue};
 ghost use Rattle.apf_gate.specs.declared.record.Record.TheVariants as records;
 ghost use Rattle.apf_gate.specs.Records.{KnowsMore};
 ghost use Rattle.apf_gate.specs.Rule.{pass_of, desk_of};
 ghost use Rattle.apf_gate.specs.Steps.{IsInRange, OfDecision};
-ghost use Rattle.apf_gate.specs.JoinedSteps.{JoinedLoadsLevel, JoinedExchangesLevel, JoinedLoadsDecision, JoinedExchangesDecision, JoinedMissesDecision};
+ghost use Rattle.apf_gate.specs.JoinedSteps.{both_mark, JoinedLoadsLevel, JoinedExchangesLevel, JoinedLoadsDecision, JoinedExchangesDecision, JoinedMissesDecision};
 ghost use Rattle.apf_gate.specs.Tokens.{pass_gate, desk_gate, both_at, AreBoth, IsAlone};
 ghost use Rattle.apf_gate.specs.DeskCalls.{MayHand, MayRefuse, TriesToEnter, RefusesTo};
 ghost use Rattle.apf_gate.specs.JoinedResults.{SameBoth, AfterTryEnter, AfterRefuse, AfterHear};
 
 use crate::answers::TryEnter;
 use crate::desk::Desk;
-use crate::gate::{Gate, decision_in, level_in};
+use crate::gate::{Gate, level_in, mark, word_of};
 use crate::pass::Pass;
 use crate::plays::{
     First, JoinedExchangeDecision, JoinedExchangeLevel, JoinedLoadDecision, JoinedLoadLevel,
 };
 use crate::rule::Place;
-use apf_words::{Decision, LevelWord, UNDECIDED};
+use apf_words::{Decision, LevelWord, decided, decision_in, undecided};
 use std::alloc::Allocator;
 
 impl<A: Allocator> Gate<A> {
@@ -57,9 +57,9 @@ impl<A: Allocator> Gate<A> {
         ensures answer { RefusesTo (record { pass = pass.old.pass; desk = desk.old.desk }) decision result (record { pass = pass.new.pass; desk = desk.new.desk }) }
         ensures after { AfterRefuse pass.old.pass decision result desk.new.desk pass.new.pass }
     {
-        let word = pass.number as usize + 1;
+        let number = pass.number;
         self.join(&mut desk.seat, &mut pass.seat);
-        let found = self.exchange_refusal(&mut desk.seat, word, decision);
+        let found = self.exchange_refusal(&mut desk.seat, number, decision);
         self.part(&mut desk.seat, &mut pass.seat);
         match decision_in(found) {
             None => decision,
@@ -76,9 +76,9 @@ impl<A: Allocator> Gate<A> {
         ensures answer { JoinedLoadsDecision (record { pass = pass.old.pass; desk = desk.old.desk }) result (record { pass = pass.new.pass; desk = desk.new.desk }) }
         ensures after { AfterHear desk.old.desk pass.old.pass result desk.new.desk pass.new.pass }
     {
-        let word = pass.number as usize + 1;
+        let number = pass.number;
         self.join(&mut desk.seat, &mut pass.seat);
-        let found = self.load_joined_decision(&mut desk.seat, word);
+        let found = self.load_joined_decision(&mut desk.seat, number);
         self.part(&mut desk.seat, &mut pass.seat);
         decision_in(found)
     }
@@ -166,31 +166,35 @@ impl<A: Allocator> Gate<A> {
     }
 
     // One exchange of the decision word, for the code of a refusal where it is undecided.
-    fn exchange_refusal(&self, seat: &mut Place, word: usize, decision: Decision) -> u64
+    fn exchange_refusal(&self, seat: &mut Place, number: u128, decision: Decision) -> u64
         requires own { AreBoth self.now seat.old.table_id seat.old.me }
-        requires word { word ≡ (both_at seat.old.me).pass.number + 1 }
+        requires number { number ≡ (both_at seat.old.me).pass.number }
         requires may { MayHand (both_at seat.old.me) }
         requires refusal { MayRefuse (both_at seat.old.me).desk decision }
         ensures own { AreBoth self.now seat.new.table_id seat.new.me }
-        ensures found { OfDecision (λ found. MatchBool (result == code_in None)
+        ensures found { OfDecision (both_mark (both_at seat.old.me)) (λ found. MatchBool (result == marked (both_mark (both_at seat.old.me)) None)
             (JoinedExchangesDecision decision (both_at seat.old.me) (both_at seat.new.me))
             (JoinedMissesDecision (both_at seat.old.me) found (both_at seat.new.me))) result }
         ensures more { KnowsMore (both_at seat.old.me).desk.knows (both_at seat.new.me).desk.knows }
     {
-        let code = decision.code();
+        let word = word_of(number);
+        let own = mark(number);
+        let old = undecided(own);
+        let new = decided(own, decision);
         self.board
             .shared
-            .compare_exchange::<JoinedExchangeDecision>(seat, word, UNDECIDED, code)
+            .compare_exchange::<JoinedExchangeDecision>(seat, word, old, new)
     }
 
     // One load of the decision word.
-    fn load_joined_decision(&self, seat: &mut Place, word: usize) -> u64
+    fn load_joined_decision(&self, seat: &mut Place, number: u128) -> u64
         requires own { AreBoth self.now seat.old.table_id seat.old.me }
-        requires word { word ≡ (both_at seat.old.me).pass.number + 1 }
+        requires number { number ≡ (both_at seat.old.me).pass.number }
         ensures own { AreBoth self.now seat.new.table_id seat.new.me }
-        ensures found { OfDecision (λ found. JoinedLoadsDecision (both_at seat.old.me) found (both_at seat.new.me)) result }
+        ensures found { OfDecision (both_mark (both_at seat.old.me)) (λ found. JoinedLoadsDecision (both_at seat.old.me) found (both_at seat.new.me)) result }
         ensures more { KnowsMore (both_at seat.old.me).desk.knows (both_at seat.new.me).desk.knows }
     {
+        let word = word_of(number);
         self.board.shared.load::<JoinedLoadDecision>(seat, word)
     }
 }

@@ -6,6 +6,7 @@ ghost use Rattle.apf_gate.specs.Tokens.{GateId, PassToken, StationToken};
 ghost use Rattle.apf_gate.specs.Ends.{WordsView, EndsWith, EndAgrees};
 ghost use Rattle.apf_gate.specs.Hidden.{NothingIsHidden};
 ghost use Rattle.apf_gate.specs.Owing.{NoDispatchIsLost};
+ghost use Rattle.apf_gate.specs.Same.{AllAreToldTheSame};
 
 use apf_model::every_world_adds_up;
 
@@ -38,3 +39,11 @@ pub fn no_dispatch_is_lost()
 {
     every_world_adds_up();
 }
+
+/// All are told the same: of every request that ever held a slot, any two tokens that were told its decision were
+/// told one.
+///
+/// It runs no code: the contract is the law.
+pub fn all_are_told_the_same()
+    ensures { AllAreToldTheSame }
+{}

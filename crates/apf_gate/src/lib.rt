@@ -30,12 +30,12 @@ mod rule;
 mod sleep;
 mod station;
 
-pub use answers::{Close, TryEnter, TryGrant, TrySetLimit, TryTake};
+pub use answers::{Cancel, Close, Read, Renew, TryEnter, TryGrant, TrySetLimit, TryTake};
 pub use desk::Desk;
 pub use end::Words;
 pub use fault::GateFault;
 pub use gate::Gate;
-pub use laws::{every_end_agrees, no_dispatch_is_lost, no_step_is_hidden};
+pub use laws::{all_are_told_the_same, every_end_agrees, no_dispatch_is_lost, no_step_is_hidden};
 pub use open::Opened;
 pub use pass::Pass;
 pub use station::Station;

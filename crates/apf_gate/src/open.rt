@@ -1,11 +1,11 @@
 //! How a gate begins.
 
-ghost use Rattle.std.specs.Prelude.{◌≡◌, ◌≢◌, ◌⊎◌, ℕ, ◌<◌, ◌≤◌, [], length, slice_get, Some, All, IfOk, IfErr, OnOk, MatchOption};
+ghost use Rattle.std.specs.Prelude.{true, ◌≡◌, ◌≢◌, ◌⊎◌, ℕ, ◌<◌, ◌≤◌, [], length, slice_get, Some, All, IfOk, IfErr, OnOk, MatchOption};
 ghost use Rattle.apf_model.specs.World.{width};
 ghost use Rattle.apf_model.specs.Schedule.{AreWidths};
 ghost use Rattle.apf_gate.specs.declared.record.Record.TheVariants as records;
 ghost use Rattle.apf_gate.specs.Records.{new_desk, new_pass, new_station};
-ghost use Rattle.apf_gate.specs.Gauges.{shape_of, IsShape};
+ghost use Rattle.apf_gate.specs.Gauges.{shape_of, shape_in, max_numbers, IsShape};
 ghost use Rattle.apf_gate.specs.Rule.{opening_records, opening_stations};
 ghost use Rattle.apf_gate.specs.declared.record.State.TheVariants.{Fresh};
 ghost use Rattle.apf_gate.specs.Tokens.{pass_gate, station_gate};
@@ -23,6 +23,9 @@ use apf_model::{Response, every_schedule_is_safe, every_world_adds_up};
 use apf_words::{LevelWord, MAX_LIMIT, MAX_REQUESTS, MAX_STATIONS, MAX_WIDTH};
 use std::alloc::{AllocError, Allocator};
 use std::snapshot::Snapshot;
+
+/// How many numbers of requests a gate has whose slots are used again.
+const MAX_NUMBERS: u128 = 37_778_931_862_957_161_709_567;
 
 /// A gate that was opened, with its tokens: the Desk, a Pass for each request, in their order, and the
 /// Stations.
@@ -69,24 +72,59 @@ impl<A: Allocator + Copy> Gate<A> {
         if widths.len() > MAX_REQUESTS as usize || stations > MAX_STATIONS {
             return Err(GateFault::TooMany);
         }
-        Gate::laid(alloc, limit, widths, stations, response)
+        Gate::laid(alloc, false, 0, limit, widths, stations, response)
     }
 
-    fn laid(
+    /// Opens a gate whose slots are used again, one for each width, which is that of the slot's first request. It
+    /// hands out the tokens of the first requests, whose numbers are those of the slots.
+    ///
+    /// # Errors
+    ///
+    /// As of `open`.
+    pub fn open_for_life(
         alloc: A,
         limit: u32,
         widths: &[u32],
         stations: u32,
         response: Response,
     ) -> Result<Opened<A>, GateFault>
-        requires { IsShape (shape_of limit response widths.now stations) }
-        ensures shape { IfOk result (λ o. o.0.shape ≡ shape_of limit response widths.now stations) }
+        ensures shape { IfOk result (λ o. o.0.shape ≡ shape_in true max_numbers limit response widths.now stations) }
+        ensures desk { IfOk result (λ o. o.1 ≡ record { table = o.0.table; desk = new_desk o.0.shape }) }
+        ensures passes { IfOk result (λ o. o.2.items ≡ new_passes o.0 (length widths.now)) }
+        ensures stations { IfOk result (λ o. o.3.items ≡ new_stations o.0 stations) }
+        ensures fault { IfErr result (FaultOf (shape_of limit response widths.now stations)) }
+    {
+        if limit < 1 || limit > MAX_LIMIT {
+            return Err(GateFault::BadLimit);
+        }
+        if let Some(request) = first_bad(widths) {
+            return Err(GateFault::BadWidth(request));
+        }
+        if widths.len() > MAX_REQUESTS as usize || stations > MAX_STATIONS {
+            return Err(GateFault::TooMany);
+        }
+        Gate::laid(alloc, true, MAX_NUMBERS, limit, widths, stations, response)
+    }
+
+    fn laid(
+        alloc: A,
+        lives: bool,
+        numbers: u128,
+        limit: u32,
+        widths: &[u32],
+        stations: u32,
+        response: Response,
+    ) -> Result<Opened<A>, GateFault>
+        requires { IsShape (shape_in lives numbers limit response widths.now stations) }
+        ensures shape { IfOk result (λ o. o.0.shape ≡ shape_in lives numbers limit response widths.now stations) }
         ensures desk { IfOk result (λ o. o.1 ≡ record { table = o.0.table; desk = new_desk o.0.shape }) }
         ensures passes { IfOk result (λ o. o.2.items ≡ new_passes o.0 (length widths.now)) }
         ensures stations { IfOk result (λ o. o.3.items ≡ new_stations o.0 stations) }
         ensures fault { IfErr result (λ e. e ≡ NoMemory) }
     {
-        let (gate, mut seat) = Gate::empty(alloc, limit, widths, stations, response)?;
+        let (gate, mut seat) = Gate::empty(
+            alloc, lives, numbers, limit, widths, stations, response,
+        )?;
         let passes = gate.deal_passes(alloc, &mut seat)?;
         let dealt = gate.deal_stations(alloc, &mut seat)?;
         Ok((gate, Desk { seat, held: None }, passes, dealt))
@@ -95,13 +133,15 @@ impl<A: Allocator + Copy> Gate<A> {
     // The words as they begin, with the first seat, which has every token's part.
     fn empty(
         alloc: A,
+        lives: bool,
+        numbers: u128,
         limit: u32,
         widths: &[u32],
         stations: u32,
         response: Response,
     ) -> Result<(Gate<A>, Place), AllocError>
-        requires { IsShape (shape_of limit response widths.now stations) }
-        ensures shape { IfOk result (λ o. o.0.shape ≡ shape_of limit response widths.now stations) }
+        requires { IsShape (shape_in lives numbers limit response widths.now stations) }
+        ensures shape { IfOk result (λ o. o.0.shape ≡ shape_in lives numbers limit response widths.now stations) }
         ensures table { IfOk result (λ o. o.1.table_id ≡ o.0.table) }
         ensures seat { IfOk result (λ o. o.1.me ≡ (opening_records o.0.shape 0, [])) }
     {
@@ -110,6 +150,8 @@ impl<A: Allocator + Copy> Gate<A> {
         let mut words = vec![in alloc; 0u64; widths.len() + 1]?;
         words[0] = LevelWord::opening(limit).pack();
         let gauge = Gauge {
+            lives,
+            numbers,
             limit,
             response,
             widths: Vec::from_slice(alloc, widths)?,
@@ -125,13 +167,13 @@ impl<A: Allocator + Copy> Gate<A> {
         requires first { seat.old.me ≡ (opening_records self.now.shape 0, []) }
         ensures table { OnOk result (seat.new.table_id ≡ self.now.table) }
         ensures rest { OnOk result (seat.new.me ≡ (opening_stations self.now.shape 0, [])) }
-        ensures passes { IfOk result (λ v. v.items ≡ new_passes self.now (length self.now.shape.widths)) }
+        ensures passes { IfOk result (λ v. v.items ≡ new_passes self.now self.now.shape.slots) }
     {
         let mut passes = Vec::new(alloc);
         for r in 0..self.gauge.widths.len() {
             let pass = Pass {
                 seat: self.board.shared.split_seat::<First>(seat),
-                number: r as u32,
+                number: r as u128,
                 width: self.gauge.widths[r],
             };
             passes.push(pass)?;

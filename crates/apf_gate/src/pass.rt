@@ -1,33 +1,40 @@
 //! The token of a request, and its steps.
 
-ghost use Rattle.std.specs.Prelude.{◌≡◌, ◌≢◌, ◌<◌, ◌==◌, length, not, true, false, MatchBool};
+ghost use Rattle.std.specs.Prelude.{◌≡◌, ◌≢◌, ◌⊎◌, ◌+◌, ◌^◌, ◌<◌, ◌≤◌, ◌==◌, length, not, true, false, MatchBool, Option};
 ghost use Rattle.apf_words.specs.Fits.{Fits};
+ghost use Rattle.apf_words.specs.declared.decision.Decision.{Decision};
 ghost use Rattle.apf_words.specs.Level.{Level};
 ghost use Rattle.apf_model.specs.declared.response.Response.TheVariants.{Reject};
 ghost use Rattle.apf_gate.specs.declared.record.State.TheVariants.{Fresh};
-ghost use Rattle.apf_gate.specs.Records.{own_width};
-ghost use Rattle.apf_gate.specs.Steps.{IsInRange};
-ghost use Rattle.apf_gate.specs.PassSteps.{PassLoadsLevel, PassMissesLevel, PassExchangesLevel, PassSubtractsLevel, PassLoadsDecision, PassAsksDecision};
+ghost use Rattle.apf_words.specs.Limits.{max_width};
+ghost use Rattle.apf_model.specs.World.{width as width_in};
+ghost use Rattle.apf_gate.specs.Slots.{next_of};
+ghost use Rattle.apf_gate.specs.Records.{own_width, KnowsMore};
+ghost use Rattle.apf_gate.specs.Steps.{IsInRange, OfDecision};
+ghost use Rattle.apf_gate.specs.PassSteps.{PassLoadsLevel, PassMissesLevel, PassExchangesLevel, PassSubtractsLevel, PassLoadsDecision, PassAsksDecision, own_mark, IsNextRequest, MayRenew, PassRenews};
 ghost use Rattle.apf_gate.specs.Tokens.{pass_gate};
 ghost use Rattle.apf_gate.specs.PassCalls.{TriesToTake, MayWrite, MayRelease, Decides};
 ghost use Rattle.apf_gate.specs.PassResults.{SamePass, AfterTryTake, AfterAsk, AfterTold, AfterDecide, AfterRelease};
 
-use crate::answers::TryTake;
-use crate::gate::{Gate, decision_in, level_in};
+use crate::answers::{Renew, TryTake};
+use crate::gate::{Gate, level_in, mark, word_of};
 use crate::plays::{
-    PassAskDecision, PassExchangeDecision, PassExchangeLevel, PassLoadDecision, PassLoadLevel,
-    PassSubtractLevel,
+    Chosen, PassAskDecision, PassExchangeDecision, PassExchangeLevel, PassLoadDecision,
+    PassLoadLevel, PassRenew, PassSubtractLevel,
 };
 use crate::rule::Place;
-use apf_words::{Decision, LevelWord, UNDECIDED, fits};
+use apf_words::{Decision, LevelWord, decided, decision_in, fits, undecided};
 use std::alloc::Allocator;
-use std::marker::Model;
+use std::marker::{Brand, Model};
+
+// A number says its slot in its lowest 14 bits, and its width in the 15 above: this is the first bit past both.
+const ROUND: u128 = 536_870_912;
 
 /// The token of one request.
 #[derive(Drop)]
 pub struct Pass {
     pub(crate) seat: Place,
-    pub(crate) number: u32,
+    pub(crate) number: u128,
     pub(crate) width: u32,
 }
 
@@ -46,8 +53,8 @@ impl Model for Pass {
 }
 
 impl Pass {
-    /// The request's number, from 0.
-    pub fn number(&self) -> u32
+    /// The request's number: its place in a batch, from 0. No two requests that ever hold a slot have one number.
+    pub fn number(&self) -> u128
         ensures number { result ≡ self.now.pass.number }
         ensures inside { result < length self.now.pass.knows.shape.widths }
     {
@@ -90,7 +97,7 @@ impl<A: Allocator> Gate<A> {
         ensures answer { PassAsksDecision pass.old.pass result pass.new.pass }
         ensures after { AfterAsk pass.old.pass result pass.new.pass }
     {
-        let word = pass.number as usize + 1;
+        let word = word_of(pass.number);
         let shared = &self.board.shared;
         decision_in(shared.load::<PassAskDecision>(&mut pass.seat, word))
     }
@@ -102,7 +109,7 @@ impl<A: Allocator> Gate<A> {
         ensures answer { PassLoadsDecision pass.old.pass result pass.new.pass }
         ensures after { AfterTold pass.old.pass result pass.new.pass }
     {
-        let word = pass.number as usize + 1;
+        let word = word_of(pass.number);
         let shared = &self.board.shared;
         decision_in(shared.load::<PassLoadDecision>(&mut pass.seat, word))
     }
@@ -120,12 +127,14 @@ impl<A: Allocator> Gate<A> {
         ensures answer { Decides pass.old.pass decision result pass.new.pass }
         ensures after { AfterDecide pass.old.pass decision result pass.new.pass }
     {
-        let word = pass.number as usize + 1;
-        let code = decision.code();
+        let word = word_of(pass.number);
+        let own = mark(pass.number);
+        let old = undecided(own);
+        let new = decided(own, decision);
         let found = self
             .board
             .shared
-            .compare_exchange::<PassExchangeDecision>(&mut pass.seat, word, UNDECIDED, code);
+            .compare_exchange::<PassExchangeDecision>(&mut pass.seat, word, old, new);
         match decision_in(found) {
             None => decision,
             Some(other) => other,
@@ -149,6 +158,84 @@ impl<A: Allocator> Gate<A> {
             .shared
             .fetch_sub::<PassSubtractLevel>(&mut pass.seat, 0, width);
         level_in(found).waiters() != 0
+    }
+
+    /// Leaves the request, and begins the next one of the slot, which is fresh and has this width. Tells how the
+    /// old one was decided: it is undecided only if it never began. `Spent` if the slot can't be used again: in a
+    /// batch, or where its numbers ran out. Then nothing changes.
+    ///
+    /// It makes one swap of the slot's word. The old request is fresh, or its Pass was told its decision and it
+    /// neither waits nor stands.
+    pub fn renew(&self, pass: &mut Pass, width: u32) -> Renew
+        requires own { pass_gate pass.old ≡ self.now }
+        requires may { MayRenew pass.old.pass }
+        requires some_width { 1 ≤ width }
+        requires narrow { width ≤ max_width }
+        ensures gate { pass_gate pass.new ≡ pass_gate pass.old }
+        ensures spent { result ≡ Renew.Spent → pass.new ≡ pass.old }
+        ensures spent_only { result ≡ Renew.Spent → (length self.now.shape.widths ≡ self.now.shape.slots) ⊎ (length self.now.shape.widths ≤ pass.old.pass.number + 2 ^ 30) }
+        ensures answer { (found : Option Decision) → result ≡ Renew.Began found → PassRenews (next_of pass.old.pass.number width) pass.old.pass found pass.new.pass }
+        ensures wide { (found : Option Decision) → result ≡ Renew.Began found → own_width pass.new.pass ≡ width }
+    {
+        if !self.gauge.lives {
+            return Renew::Spent;
+        }
+        if pass.number / ROUND + 1 >= self.gauge.numbers / ROUND {
+            return Renew::Spent;
+        }
+        Renew::Began(self.renew_wide(pass, width))
+    }
+
+    // The renewal, where the slot has a number left.
+    fn renew_wide(&self, pass: &mut Pass, width: u32) -> Option<Decision>
+        requires own { pass_gate pass.old ≡ self.now }
+        requires may { MayRenew pass.old.pass }
+        requires narrow { width ≤ max_width }
+        requires next { next_of pass.old.pass.number width < length self.now.shape.widths }
+        requires is_wide { width_in self.now.shape.widths (next_of pass.old.pass.number width) ≡ width }
+        ensures gate { pass_gate pass.new ≡ pass_gate pass.old }
+        ensures answer { PassRenews (next_of pass.old.pass.number width) pass.old.pass result pass.new.pass }
+        ensures wide { own_width pass.new.pass ≡ width }
+    {
+        let next = self.next_number(pass, width);
+        decision_in(self.swap_for_next::<Brand>(pass, next, width))
+    }
+
+    // The number of the next request of the slot, of this width.
+    fn next_number(&self, pass: &Pass, width: u32) -> u128
+        requires own { pass_gate pass.now ≡ self.now }
+        requires narrow { width ≤ max_width }
+        requires next { next_of pass.now.pass.number width < length self.now.shape.widths }
+        ensures value { result ≡ next_of pass.now.pass.number width }
+        ensures is_next { IsNextRequest pass.now.pass result }
+        ensures small { result < 2 ^ 75 }
+    {
+        let _ = &self.gauge;
+        let round = pass.number / 16384 / 32768 + 1;
+        (round * 32768 + width as u128) * 16384 + pass.number % 16384
+    }
+
+    // One swap of the slot's word, for that of the next request, undecided.
+    fn swap_for_next<J: Chosen>(&self, pass: &mut Pass, next: u128, width: u32) -> u64
+        requires own { pass_gate pass.old ≡ self.now }
+        requires may { MayRenew pass.old.pass }
+        requires chosen { next ≡ J.request }
+        requires is_next { IsNextRequest pass.old.pass next }
+        requires inside { next < length self.now.shape.widths }
+        requires small { next < 2 ^ 75 }
+        requires narrow { width ≤ max_width }
+        requires is_wide { width_in self.now.shape.widths next ≡ width }
+        ensures gate { pass_gate pass.new ≡ pass_gate pass.old }
+        ensures answer { OfDecision (own_mark pass.old.pass) (λ found. PassRenews next pass.old.pass found pass.new.pass) result }
+    {
+        let word = word_of(next);
+        let own = mark(next);
+        let new = undecided(own);
+        let shared = &self.board.shared;
+        let found = shared.swap::<PassRenew<J>>(&mut pass.seat, word, new);
+        pass.number = next;
+        pass.width = width;
+        found
     }
 
     // One load of the level word.

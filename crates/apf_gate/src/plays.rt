@@ -41,9 +41,9 @@ pub(crate) struct PassLoadDecision;
 
 impl Play<(), LinkedList<Record>> for PassLoadDecision {
     ghost use Rattle.apf_gate.specs.Steps.{ByPass, OnDecision};
-    ghost use Rattle.apf_gate.specs.PassSteps.{PassLoadsDecision};
+    ghost use Rattle.apf_gate.specs.PassSteps.{own_mark, PassLoadsDecision};
 
-    ghost then = { λ _. ByPass (OnDecision PassLoadsDecision) };
+    ghost then = { λ _. ByPass (OnDecision own_mark PassLoadsDecision) };
 }
 
 /// A Pass loads its decision word, and is in line if it was fresh.
@@ -51,9 +51,9 @@ pub(crate) struct PassAskDecision;
 
 impl Play<(), LinkedList<Record>> for PassAskDecision {
     ghost use Rattle.apf_gate.specs.Steps.{ByPass, OnDecision};
-    ghost use Rattle.apf_gate.specs.PassSteps.{PassAsksDecision};
+    ghost use Rattle.apf_gate.specs.PassSteps.{own_mark, PassAsksDecision};
 
-    ghost then = { λ _. ByPass (OnDecision PassAsksDecision) };
+    ghost then = { λ _. ByPass (OnDecision own_mark PassAsksDecision) };
 }
 
 /// A Pass exchanges its decision word, where it is undecided, for the code of a decision.
@@ -61,9 +61,30 @@ pub(crate) struct PassExchangeDecision;
 
 impl Play<(), LinkedList<Record>> for PassExchangeDecision {
     ghost use Rattle.apf_gate.specs.Steps.{ByPass, OnDecisionIf, Writing};
-    ghost use Rattle.apf_gate.specs.PassSteps.{PassExchangesDecision, PassMissesDecision};
+    ghost use Rattle.apf_gate.specs.PassSteps.{own_mark, PassExchangesDecision, PassMissesDecision};
 
-    ghost then = { λ s. ByPass (Writing s.second (λ decision. OnDecisionIf (PassExchangesDecision decision) (PassMissesDecision decision))) };
+    ghost then = { λ s. ByPass (Writing own_mark s.second (λ decision. OnDecisionIf own_mark (PassExchangesDecision decision) (PassMissesDecision decision))) };
+}
+
+/// Names the request that a step is about, where its word does not. A call picks it.
+pub(crate) trait Chosen {
+    ghost use Rattle.std.specs.Prelude.{ℕ};
+
+    ghost request: { ℕ };
+}
+
+impl Chosen for Brand {
+    ghost request = { 0 };
+}
+
+/// A Pass leaves its request, and begins the chosen one of its slot.
+pub(crate) struct PassRenew<J: Chosen>(PhantomData<J>);
+
+impl<J: Chosen> Play<(), LinkedList<Record>> for PassRenew<J> {
+    ghost use Rattle.apf_gate.specs.Steps.{ByPass, OnDecision};
+    ghost use Rattle.apf_gate.specs.PassSteps.{own_mark, PassRenews};
+
+    ghost then = { λ _. ByPass (OnDecision own_mark (PassRenews J.request)) };
 }
 
 /// A Station loads the level word.
@@ -97,34 +118,23 @@ impl Play<(), LinkedList<Record>> for StationCloseLevel {
 }
 
 /// A Station loads a decision word.
-pub(crate) struct StationLoadDecision;
+pub(crate) struct StationLoadDecision<J: Chosen>(PhantomData<J>);
 
-impl Play<(), LinkedList<Record>> for StationLoadDecision {
-    ghost use Rattle.apf_gate.specs.Steps.{ByStation, OnDecision, request_at};
-    ghost use Rattle.apf_gate.specs.StationSteps.{StationLoadsDecision};
+impl<J: Chosen> Play<(), LinkedList<Record>> for StationLoadDecision<J> {
+    ghost use Rattle.apf_gate.specs.Steps.{ByStation, OnTicket};
+    ghost use Rattle.apf_gate.specs.StationSteps.{StationLoadsDecision, StationFindsOther};
 
-    ghost then = { λ s. ByStation (OnDecision (StationLoadsDecision (request_at s.word))) };
+    ghost then = { λ _. ByStation (OnTicket J.request (StationLoadsDecision J.request) (StationFindsOther J.request)) };
 }
 
 /// A Station exchanges a decision word, where it is undecided, for the code of cancelled.
-pub(crate) struct StationExchangeDecision;
+pub(crate) struct StationExchangeDecision<J: Chosen>(PhantomData<J>);
 
-impl Play<(), LinkedList<Record>> for StationExchangeDecision {
-    ghost use Rattle.apf_gate.specs.Steps.{ByStation, OnDecisionIf, request_at};
-    ghost use Rattle.apf_gate.specs.StationSteps.{StationExchangesDecision, StationLoadsDecision};
+impl<J: Chosen> Play<(), LinkedList<Record>> for StationExchangeDecision<J> {
+    ghost use Rattle.apf_gate.specs.Steps.{ByStation, OnTicketIf};
+    ghost use Rattle.apf_gate.specs.StationSteps.{StationExchangesDecision, StationLoadsDecision, StationFindsOther};
 
-    ghost then = { λ s. ByStation (OnDecisionIf (StationExchangesDecision (request_at s.word)) (StationLoadsDecision (request_at s.word))) };
-}
-
-/// Names the request that a step of the Desk is about, where its word does not. A call picks it.
-pub(crate) trait Chosen {
-    ghost use Rattle.std.specs.Prelude.{ℕ};
-
-    ghost request: { ℕ };
-}
-
-impl Chosen for Brand {
-    ghost request = { 0 };
+    ghost then = { λ _. ByStation (OnTicketIf J.request (StationExchangesDecision J.request) (StationLoadsDecision J.request) (StationFindsOther J.request)) };
 }
 
 /// The Desk loads the level word.
@@ -168,23 +178,25 @@ impl<J: Chosen> Play<(), LinkedList<Record>> for DeskSubtractWaiter<J> {
 }
 
 /// The Desk loads a decision word.
-pub(crate) struct DeskLoadDecision;
+pub(crate) struct DeskLoadDecision<J: Chosen>(PhantomData<J>);
 
-impl Play<(), LinkedList<Record>> for DeskLoadDecision {
-    ghost use Rattle.apf_gate.specs.Steps.{ByDesk, OnDecision, request_at};
+impl<J: Chosen> Play<(), LinkedList<Record>> for DeskLoadDecision<J> {
+    ghost use Rattle.apf_gate.specs.Slots.{mark_of};
+    ghost use Rattle.apf_gate.specs.Steps.{ByDesk, OnDecision};
     ghost use Rattle.apf_gate.specs.DeskSteps.{DeskLoadsDecision};
 
-    ghost then = { λ s. ByDesk (OnDecision (DeskLoadsDecision (request_at s.word))) };
+    ghost then = { λ _. ByDesk (OnDecision (λ _. mark_of J.request) (DeskLoadsDecision J.request)) };
 }
 
 /// The Desk exchanges a decision word, where it is undecided, for the code of execute.
-pub(crate) struct DeskExchangeDecision;
+pub(crate) struct DeskExchangeDecision<J: Chosen>(PhantomData<J>);
 
-impl Play<(), LinkedList<Record>> for DeskExchangeDecision {
-    ghost use Rattle.apf_gate.specs.Steps.{ByDesk, OnDecisionIf, request_at};
+impl<J: Chosen> Play<(), LinkedList<Record>> for DeskExchangeDecision<J> {
+    ghost use Rattle.apf_gate.specs.Slots.{mark_of};
+    ghost use Rattle.apf_gate.specs.Steps.{ByDesk, OnDecisionIf};
     ghost use Rattle.apf_gate.specs.DeskSteps.{DeskExchangesDecision, DeskMissesDecision};
 
-    ghost then = { λ s. ByDesk (OnDecisionIf (DeskExchangesDecision (request_at s.word)) (DeskMissesDecision (request_at s.word))) };
+    ghost then = { λ _. ByDesk (OnDecisionIf (λ _. mark_of J.request) (DeskExchangesDecision J.request) (DeskMissesDecision J.request)) };
 }
 
 /// The Desk, with a Pass joined, loads the level word.
@@ -212,9 +224,9 @@ pub(crate) struct JoinedLoadDecision;
 
 impl Play<(), LinkedList<Record>> for JoinedLoadDecision {
     ghost use Rattle.apf_gate.specs.Steps.{ByBoth, OnDecision};
-    ghost use Rattle.apf_gate.specs.JoinedSteps.{JoinedLoadsDecision};
+    ghost use Rattle.apf_gate.specs.JoinedSteps.{both_mark, JoinedLoadsDecision};
 
-    ghost then = { λ _. ByBoth (OnDecision JoinedLoadsDecision) };
+    ghost then = { λ _. ByBoth (OnDecision both_mark JoinedLoadsDecision) };
 }
 
 /// The Desk, with a Pass joined, exchanges the decision word, where it is undecided, for the code of a
@@ -223,9 +235,9 @@ pub(crate) struct JoinedExchangeDecision;
 
 impl Play<(), LinkedList<Record>> for JoinedExchangeDecision {
     ghost use Rattle.apf_gate.specs.Steps.{ByBoth, OnDecisionIf, Writing};
-    ghost use Rattle.apf_gate.specs.JoinedSteps.{JoinedExchangesDecision, JoinedMissesDecision};
+    ghost use Rattle.apf_gate.specs.JoinedSteps.{both_mark, JoinedExchangesDecision, JoinedMissesDecision};
 
-    ghost then = { λ s. ByBoth (Writing s.second (λ decision. OnDecisionIf (JoinedExchangesDecision decision) JoinedMissesDecision)) };
+    ghost then = { λ s. ByBoth (Writing both_mark s.second (λ decision. OnDecisionIf both_mark (JoinedExchangesDecision decision) JoinedMissesDecision)) };
 }
 
 /// The first token's part of a seat goes to a seat of its own, or is joined in front of another's.

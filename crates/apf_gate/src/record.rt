@@ -12,8 +12,10 @@ pub struct Shape {
     pub limit: u32,
     /// What the level does with an arrival that does not fit.
     pub response: Response,
-    /// The width of each request, in seats.
+    /// The width of each request that there may ever be, in seats.
     pub widths: LinkedList<u32>,
+    /// How many requests the level has at once. Each holds a slot.
+    pub slots: u32,
     /// How many Stations there are.
     pub stations: u32,
 }
@@ -21,7 +23,7 @@ pub struct Shape {
 /// Who makes a step.
 pub enum Actor {
     /// The Pass of a request.
-    OfPass(u32),
+    OfPass(u128),
     /// The Desk.
     OfDesk,
     /// A Station.
@@ -43,7 +45,7 @@ pub struct Knowledge {
     /// Whether it saw the level closed.
     pub saw_closed: bool,
     /// The decisions that it was told, each with its request. The latest stands first.
-    pub told: LinkedList<(u32, Decision)>,
+    pub told: LinkedList<(u128, Decision)>,
     /// Every step of every token up to its own last one. The newest stands first.
     pub trace: LinkedList<Entry>,
 }
@@ -63,7 +65,7 @@ pub enum State {
 /// What a Pass knows.
 pub struct PassRecord {
     /// The request's number.
-    pub number: u32,
+    pub number: u128,
     /// What the Pass may do next.
     pub state: State,
     /// Whether it asked.
@@ -108,9 +110,9 @@ pub enum Service {
 /// What the Desk knows.
 pub struct DeskRecord {
     /// What it did with requests. The latest stands first.
-    pub services: LinkedList<(u32, Service)>,
+    pub services: LinkedList<(u128, Service)>,
     /// The request whose seats it holds.
-    pub held: Option<u32>,
+    pub held: Option<u128>,
     /// What its steps found.
     pub knows: Knowledge,
 }

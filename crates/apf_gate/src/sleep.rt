@@ -1,8 +1,9 @@
 //! Sleeping until a request is decided.
 
-ghost use Rattle.std.specs.Prelude.{◌<◌, length};
+ghost use Rattle.apf_gate.specs.Slots.{IsTicket};
 
-use crate::gate::Gate;
+use crate::gate::{Gate, mark, word_of};
+use apf_words::undecided;
 use std::alloc::Allocator;
 use std::sync::Wait;
 
@@ -13,17 +14,18 @@ impl<A: Allocator> Gate<A> {
     /// may also return for no reason, so read the decision again.
     ///
     /// It is no step: the kernel compares the decision word and sleeps in one.
-    pub fn park<R: Wait>(&self, rt: &R, request: u32)
-        requires is_request { request < length self.now.shape.widths }
+    pub fn park<R: Wait>(&self, rt: &R, request: u128)
+        requires is_request { IsTicket self.now.shape request }
     {
-        self.board.shared.park(rt, request as usize + 1, 0);
+        let low = undecided(mark(request)) % 4_294_967_296;
+        self.board.shared.park(rt, word_of(request), low as u32);
     }
 
     /// Wakes all who sleep until the request is decided: after `settle` wrote it. It is no step, and a call of
     /// the kernel: whoever knows that nobody sleeps spares it.
-    pub fn wake(&self, request: u32)
-        requires is_request { request < length self.now.shape.widths }
+    pub fn wake(&self, request: u128)
+        requires is_request { IsTicket self.now.shape request }
     {
-        self.board.shared.wake_all(request as usize + 1);
+        self.board.shared.wake_all(word_of(request));
     }
 }

@@ -1,25 +1,25 @@
 //! The token that cancels, closes, changes the limit and looks.
 
 ghost use Rattle.std.specs.Prelude.{◌≡◌, ◌≢◌, ◌<◌, ◌≤◌, ◌==◌, length, MatchBool, None};
-ghost use Rattle.apf_words.specs.Codes.{code_in};
+ghost use Rattle.apf_gate.specs.Slots.{IsTicket};
 ghost use Rattle.apf_words.specs.Level.{Level};
 ghost use Rattle.apf_words.specs.Limits.{max_limit};
-ghost use Rattle.apf_gate.specs.Steps.{IsInRange, OfDecision};
-ghost use Rattle.apf_gate.specs.StationSteps.{StationLoadsLevel, StationLoadsDecision, StationExchangesDecision, StationExchangesLevel};
+ghost use Rattle.apf_gate.specs.Steps.{IsInRange, OnTicket, OnTicketIf};
+ghost use Rattle.apf_gate.specs.StationSteps.{StationLoadsLevel, StationLoadsDecision, StationExchangesDecision, StationExchangesLevel, StationFindsOther};
 ghost use Rattle.apf_gate.specs.Tokens.{station_gate};
-ghost use Rattle.apf_gate.specs.StationCalls.{CancelsTo, ClosesTo, TriesToSet};
-ghost use Rattle.apf_gate.specs.StationResults.{SameStation, AfterLook, AfterRead, AfterCancel, AfterClose};
+ghost use Rattle.apf_gate.specs.StationCalls.{TriesToRead, TriesToCancel, ClosesTo, TriesToSet};
+ghost use Rattle.apf_gate.specs.StationResults.{SameStation, AfterLook, AfterTryRead, AfterTryCancel, AfterClose};
 
-use crate::answers::{Close, TrySetLimit};
-use crate::gate::{Gate, decision_in, level_in};
+use crate::answers::{Cancel, Close, Read, TrySetLimit};
+use crate::gate::{Gate, level_in, mark, word_of};
 use crate::plays::{
-    StationCloseLevel, StationExchangeDecision, StationExchangeLevel, StationLoadDecision,
+    Chosen, StationCloseLevel, StationExchangeDecision, StationExchangeLevel, StationLoadDecision,
     StationLoadLevel,
 };
 use crate::rule::Place;
-use apf_words::{Decision, LevelWord, UNDECIDED};
+use apf_words::{Decision, LevelWord, decided, decision_in, mark_in, undecided};
 use std::alloc::Allocator;
-use std::marker::Model;
+use std::marker::{Brand, Model};
 
 /// A token that cancels requests, closes the level, changes the limit and looks.
 #[derive(Drop)]
@@ -55,32 +55,40 @@ impl<A: Allocator> Gate<A> {
         level_in(shared.load::<StationLoadLevel>(&mut station.seat, 0))
     }
 
-    /// Reads a request's decision, by one load of its word.
-    pub fn read(&self, station: &mut Station, request: u32) -> Option<Decision>
+    /// Reads a request's decision, by one load of the word of its slot, if it holds that still.
+    pub fn read(&self, station: &mut Station, request: u128) -> Read
         requires own { station_gate station.old ≡ self.now }
-        requires is_request { request < length self.now.shape.widths }
+        requires is_request { IsTicket self.now.shape request }
         ensures same { SameStation station.old station.new }
-        ensures answer { StationLoadsDecision request station.old.station result station.new.station }
-        ensures after { AfterRead station.old.station request result station.new.station }
+        ensures answer { TriesToRead station.old.station request result station.new.station }
+        ensures after { AfterTryRead station.old.station request result station.new.station }
     {
-        decision_in(self.load_word(station, request))
+        let found = self.load_word::<Brand>(station, request);
+        if mark_in(found) != mark(request) {
+            return Read::Other;
+        }
+        Read::Is(decision_in(found))
     }
 
-    /// Cancels a request, if it is undecided. Answers its decision. It makes one exchange of the request's
-    /// decision word.
-    pub fn cancel(&self, station: &mut Station, request: u32) -> Decision
+    /// Cancels a request, if it is undecided and holds its slot. Answers its decision, or that another request
+    /// holds the slot. It makes one exchange of the word of the request's slot.
+    pub fn cancel(&self, station: &mut Station, request: u128) -> Cancel
         requires own { station_gate station.old ≡ self.now }
-        requires is_request { request < length self.now.shape.widths }
+        requires is_request { IsTicket self.now.shape request }
         ensures same { SameStation station.old station.new }
-        ensures answer { CancelsTo station.old.station request result station.new.station }
-        ensures after { AfterCancel station.old.station request result station.new.station }
+        ensures answer { TriesToCancel station.old.station request result station.new.station }
+        ensures after { AfterTryCancel station.old.station request result station.new.station }
     {
-        match decision_in(self.exchange_word(station, request)) {
+        let found = self.exchange_word::<Brand>(station, request);
+        if mark_in(found) != mark(request) {
+            return Cancel::Other;
+        }
+        match decision_in(found) {
             None => {
                 self.wake(request);
-                Decision::Cancelled
+                Cancel::Is(Decision::Cancelled)
             }
-            Some(decision) => decision,
+            Some(decision) => Cancel::Is(decision),
         }
     }
 
@@ -120,30 +128,34 @@ impl<A: Allocator> Gate<A> {
     }
 
     // One load of a decision word.
-    fn load_word(&self, station: &mut Station, request: u32) -> u64
+    fn load_word<J: Chosen>(&self, station: &mut Station, request: u128) -> u64
         requires own { station_gate station.old ≡ self.now }
-        requires is_request { request < length self.now.shape.widths }
+        requires chosen { request ≡ J.request }
+        requires is_request { IsTicket self.now.shape request }
         ensures same { SameStation station.old station.new }
-        ensures found { OfDecision (λ found. StationLoadsDecision request station.old.station found station.new.station) result }
+        ensures found { OnTicket request (StationLoadsDecision request) (StationFindsOther request) station.old.station result station.new.station }
     {
-        let word = request as usize + 1;
+        let word = word_of(request);
         self.board
             .shared
-            .load::<StationLoadDecision>(&mut station.seat, word)
+            .load::<StationLoadDecision<J>>(&mut station.seat, word)
     }
 
     // One exchange of a decision word, for the code of cancelled where it is 0.
-    fn exchange_word(&self, station: &mut Station, request: u32) -> u64
+    fn exchange_word<J: Chosen>(&self, station: &mut Station, request: u128) -> u64
         requires own { station_gate station.old ≡ self.now }
-        requires is_request { request < length self.now.shape.widths }
+        requires chosen { request ≡ J.request }
+        requires is_request { IsTicket self.now.shape request }
         ensures same { SameStation station.old station.new }
-        ensures found { OfDecision (λ found. MatchBool (result == code_in None) (StationExchangesDecision request station.old.station station.new.station) (StationLoadsDecision request station.old.station found station.new.station)) result }
+        ensures found { OnTicketIf request (StationExchangesDecision request) (StationLoadsDecision request) (StationFindsOther request) station.old.station result station.new.station }
     {
-        let word = request as usize + 1;
-        let code = Decision::Cancelled.code();
+        let word = word_of(request);
+        let own = mark(request);
+        let old = undecided(own);
+        let new = decided(own, Decision::Cancelled);
         self.board
             .shared
-            .compare_exchange::<StationExchangeDecision>(&mut station.seat, word, UNDECIDED, code)
+            .compare_exchange::<StationExchangeDecision<J>>(&mut station.seat, word, old, new)
     }
 
     // One exchange, of the word that says this for one with the limit. Says whether it was made.

@@ -6,3 +6,4 @@ pub mod Numbers
 pub mod QueueOrder
 pub mod Balance
 pub mod Waits
+pub mod Standing

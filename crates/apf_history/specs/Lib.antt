@@ -5,3 +5,4 @@ pub mod Fair
 pub mod Waits
 pub mod Outcome
 pub mod Order
+pub mod Standing

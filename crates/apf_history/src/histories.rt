@@ -1,11 +1,13 @@
 //! What every legal history keeps, and every fair one.
 
-ghost use Rattle.std.specs.Prelude.{ℕ, ◌+◌, ◌-◌, ◌*◌, ◌<◌, ◌≤◌, List, ◌∷◌, ◌++◌, length, Contains};
+ghost use Rattle.std.specs.Prelude.{ℕ, ◌≡◌, ◌+◌, ◌-◌, ◌*◌, ◌<◌, ◌≤◌, List, ◌∷◌, ◌++◌, length, Contains};
 ghost use Rattle.apf_history.specs.declared.events.Event.{Event};
 ghost use Rattle.apf_history.specs.declared.events.Event.TheVariants.{Enter};
 ghost use Rattle.apf_history.specs.History.{waiting, MayFollow, IsLegal};
 ghost use Rattle.apf_history.specs.Fair.{IsFair, service, IsNeverEmpty, widest, DifferAtMost};
 ghost use Rattle.apf_history.specs.Waits.{total_width, granted};
+ghost use Rattle.apf_history.specs.Numbered.{width};
+ghost use Rattle.apf_history.specs.Standing.{EachNames};
 ghost use Rattle.apf_history.specs.Order.{AreInOrder, AreStatuses, AreCounted, Follows};
 
 /// Every legal history is in order: for any hands of the requests, any length limit, and events that
@@ -90,4 +92,14 @@ pub fn every_wait_is_bounded()
         → q < queues
         → granted queues widths stretch ≤ total_width widths (waiting earlier q)
         + (queues - 1) * (total_width widths (waiting earlier q) + 2 * widest widths) }
+{}
+
+/// A fair history stays fair if the hand or the width of a request changes that no event of it names.
+///
+/// So what is known of a request only when it arrives changes nothing of what happened before. It runs no
+/// code: the contract is the law.
+pub fn every_fair_history_stands()
+    ensures { (queues : ℕ) (widths widths' : List ℕ) (hands hands' : ℕ → List ℕ) (limit : ℕ) (h : List Event)
+        → EachNames (λ r. hands' r ≡ hands r) h → EachNames (λ r. width widths' r ≡ width widths r) h
+        → IsFair queues widths hands limit h → IsFair queues widths' hands' limit h }
 {}

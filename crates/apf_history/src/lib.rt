@@ -14,6 +14,6 @@ mod histories;
 
 pub use events::{Event, Status};
 pub use histories::{
-    every_fair_history_is_balanced, every_fair_history_isolates, every_legal_history_is_in_order,
-    every_wait_is_bounded,
+    every_fair_history_is_balanced, every_fair_history_isolates, every_fair_history_stands,
+    every_legal_history_is_in_order, every_wait_is_bounded,
 };

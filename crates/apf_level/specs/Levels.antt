@@ -1,5 +1,5 @@
 -- Which level it is.
-use Rattle.std.specs.Prelude.{◌≡◌, List, [], None}
+use Rattle.std.specs.Prelude.{◌≡◌, List, [], None, length}
 use Rattle.atomic_table.specs.Seated.{TableId}
 use Rattle.apf_history.specs.declared.events.Event.{Event}
 use Rattle.apf_model.specs.declared.response.Response.TheVariants.{Reject}
@@ -26,6 +26,8 @@ logged_as k h = record k.opening { history = h }
 pub record IsGateOf (k : LevelId) (gate : GateId) : Type 0 where
   pub same : gate ≡ k.gate
   pub shape : IsShape gate.shape
+  -- a batch: each request has a slot of its own
+  pub batch : length gate.shape.widths ≡ gate.shape.slots
 
 -- the book is this level's: its Desk is of the level's gate, and its ledger began as the level's
 pub record IsBookOf (k : LevelId) (b : BookView) : Type 0 where

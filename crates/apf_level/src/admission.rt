@@ -1,7 +1,8 @@
 //! The steps of a request outside the lock.
 
-ghost use Rattle.std.specs.Prelude.{◌≡◌, ◌==◌, not, true, false, Some};
+ghost use Rattle.std.specs.Prelude.{◌≡◌, ◌<◌, ◌==◌, length, not, true, false, Some};
 ghost use Rattle.apf_words.specs.Level.{Level as Word};
+ghost use Rattle.apf_words.specs.Limits.{max_requests};
 ghost use Rattle.apf_words.specs.declared.decision.Decision.TheVariants.{Execute};
 ghost use Rattle.apf_gate.specs.declared.record.State.TheVariants.{Fresh};
 ghost use Rattle.apf_gate.specs.Records.{told_own};
@@ -41,6 +42,17 @@ impl<K: Naming> Level<K> {
         }
     }
 
+    // The number of a request of this level.
+    pub(crate) fn number(&self, pass: &Pass) -> u32
+        requires own { pass_gate pass.now ≡ K.level.gate }
+        ensures number { result ≡ pass.now.pass.number }
+        ensures inside { result < length K.level.gate.shape.widths }
+        ensures small { pass.now.pass.number < max_requests }
+    {
+        let _ = &self.gate;
+        pass.number() as u32
+    }
+
     // As `try_admit`, but it says why it is busy.
     pub(crate) fn attempt(&self, mut pass: Pass) -> Attempt
         requires own { pass_gate pass ≡ K.level.gate }
@@ -52,6 +64,7 @@ impl<K: Naming> Level<K> {
         ensures outside { StaysOut pass.pass result }
         ensures never_entered { pass.pass.entered ≡ false }
     {
+        let _request = self.number(&pass);
         if let Some(decision) = self.gate.told(&mut pass) {
             return Attempt::Over(Done { pass }, decision, false);
         }
@@ -69,6 +82,7 @@ impl<K: Naming> Level<K> {
         ensures stays_closed { pass.pass.knows.saw_closed ≡ true → ¬ SaysOpen (tried_of result) }
         ensures outside { StaysOut pass.pass result }
     {
+        let _request = self.number(&pass);
         match self.gate.try_take(&mut pass) {
             TryTake::Taken => {
                 let decision = self.gate.decide(&mut pass, Decision::Execute);

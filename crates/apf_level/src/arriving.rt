@@ -68,7 +68,8 @@ impl<K: Naming> Level<K> {
             None => Poll::Still(Waiting { pass }),
             Some(Decision::Execute) => Poll::Run(Running { pass }),
             Some(Decision::Cancelled) => {
-                self.strike(rt, pass.number());
+                let request = self.number(&pass);
+                self.strike(rt, request);
                 Poll::Over(Done { pass }, Decision::Cancelled)
             }
             Some(decision) => Poll::Over(Done { pass }, decision),
@@ -100,7 +101,7 @@ impl<K: Naming> Level<K> {
                 readings += 1;
                 hint::spin_loop();
             } else {
-                self.gate.park(rt, waiting.number());
+                self.gate.park(rt, waiting.number() as u128);
             }
         }
         unreachable!()
@@ -155,7 +156,7 @@ impl<K: Naming> Level<K> {
         ensures queues { self.now.gate.shape.response ≡ Queue }
     {
         self.gate.ask(&mut pass);
-        let request = pass.number();
+        let request = self.number(&pass);
         let stood = queued
             .lock
             .lock(rt)

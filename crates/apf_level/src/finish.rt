@@ -25,6 +25,7 @@ fn finish_book<K: Naming>(
     stations: Vec<Station>,
 ) -> Result<(Words<Global>, Vec<Event>), AllocError>
     requires own { gate ≡ K.level.gate }
+    requires batch { length K.level.gate.shape.widths ≡ K.level.gate.shape.slots }
     requires own_book { IsBookOf K.level book }
     requires own_passes { All (λ t. pass_gate t ≡ K.level.gate) passes.items }
     requires own_stations { All (λ t. station_gate t ≡ K.level.gate) stations.items }
@@ -54,6 +55,7 @@ fn finish_alone<K: Naming>(
     stations: Vec<Station>,
 ) -> Result<(Words<Global>, Vec<Event>), AllocError>
     requires own { gate ≡ K.level.gate }
+    requires batch { length K.level.gate.shape.widths ≡ K.level.gate.shape.slots }
     requires own_desk { IsIdleOf K.level desk }
     requires own_passes { All (λ t. pass_gate t ≡ K.level.gate) passes.items }
     requires own_stations { All (λ t. station_gate t ≡ K.level.gate) stations.items }
@@ -79,6 +81,7 @@ pub fn finish<K: Naming>(
     stations: Vec<Station>,
 ) -> Result<(Words<Global>, Vec<Event>), AllocError>
     requires own { gate ≡ K.level.gate }
+    requires batch { length K.level.gate.shape.widths ≡ K.level.gate.shape.slots }
     requires own_keeper { IsKeeperOf K.level keeper }
     requires own_passes { All (λ t. pass_gate t ≡ K.level.gate) passes.items }
     requires own_stations { All (λ t. station_gate t ≡ K.level.gate) stations.items }

@@ -34,7 +34,7 @@ fn hear_in_book<K: Naming>(gate: &Gate<Global>, book: &mut Book<Global>, pass: &
 {
     every_book_is_kept();
     book.hear(gate, pass);
-    let _struck = book.strike(gate, pass.number());
+    let _struck = book.strike(gate, pass.number() as u32);
 }
 
 // The Desk, which served nobody, hears the decision of a Pass's request.

@@ -1,6 +1,7 @@
 //! The gate beside the lock, and how a level begins.
 
-ghost use Rattle.std.specs.Prelude.{◌≡◌, [], length, map, IfOk, IfErr, OnOk};
+ghost use Rattle.std.specs.Prelude.{◌≡◌, ◌≤◌, [], length, map, IfOk, IfErr, OnOk};
+ghost use Rattle.apf_words.specs.Limits.{max_requests};
 ghost use Rattle.apf_model.specs.declared.response.Response.TheVariants.{Queue, Reject};
 ghost use Rattle.apf_model.specs.Schedule.{AreWidths};
 ghost use Rattle.apf_gate.specs.Records.{new_desk};
@@ -54,6 +55,16 @@ pub struct Opened<K: Naming> {
 }
 
 impl<K: Naming> Level<K> {
+    /// All requests of a level are given when it opens, 10,000 at most, and each has a slot of its own.
+    ///
+    /// It makes no step: the contract is the law.
+    pub fn is_a_batch(&self)
+        ensures batch { length K.level.gate.shape.widths ≡ K.level.gate.shape.slots }
+        ensures few { length K.level.gate.shape.widths ≤ max_requests }
+    {
+        let _ = &self.gate;
+    }
+
     /// A level over the parts of K's gate, as `Gate::open` gave them for the config's limit and response and
     /// the asks' widths. A dispatch is charged the request's width. All memory is taken here.
     ///
@@ -75,6 +86,7 @@ impl<K: Naming> Level<K> {
         requires own { gate ≡ K.level.gate }
         requires opening { K.level.opening ≡ opening_ledger config.now asks.now }
         requires desk { desk ≡ record { table = gate.table; desk = new_desk gate.shape } }
+        requires batch { length gate.shape.widths ≡ gate.shape.slots }
         requires limit { gate.shape.limit ≡ config.now.limit }
         requires widths { map (λ a. a.width) asks.now ≡ gate.shape.widths }
         requires response { gate.shape.response ≡ config.now.limit_response }
@@ -121,6 +133,7 @@ impl<K: Naming> Level<K> {
         requires own { gate ≡ K.level.gate }
         requires opening { K.level.opening ≡ opening_ledger_with config.now asks.now costs.now }
         requires desk { desk ≡ record { table = gate.table; desk = new_desk gate.shape } }
+        requires batch { length gate.shape.widths ≡ gate.shape.slots }
         requires limit { gate.shape.limit ≡ config.now.limit }
         requires widths { map (λ a. a.width) asks.now ≡ gate.shape.widths }
         requires one_cost_each { length costs.now ≡ length asks.now }
@@ -155,6 +168,7 @@ fn assembled<K: Naming>(
     stations: Vec<Station>,
 ) -> Opened<K>
     requires own { gate ≡ K.level.gate }
+    requires batch { length gate.shape.widths ≡ gate.shape.slots }
     requires stats { (under.2.cell ≡ under.1) × (under.2.trace ≡ []) }
     ensures gate { result.level.gate ≡ gate }
     ensures passes { result.passes ≡ passes }
@@ -211,6 +225,7 @@ fn queued<K: Naming>(
 // What stands under the lock of a level without queues, whose statistics nobody writes.
 fn alone<K: Naming>(alloc: Global, desk: Desk) -> Result<Under<K>, LevelFault>
     requires own { desk_gate desk ≡ K.level.gate }
+    requires batch { length K.level.gate.shape.widths ≡ K.level.gate.shape.slots }
     requires fresh { desk.desk ≡ new_desk desk.desk.knows.shape }
     requires nothing { K.level.opening.history ≡ [] }
     requires one_cost_each { length K.level.opening.costs ≡ length K.level.gate.shape.widths }

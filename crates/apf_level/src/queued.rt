@@ -53,6 +53,7 @@ pub struct QueuedLock<K: Naming> {
 
 // Wakes those who may sleep until a request is decided that was dispatched since the log had this length.
 fn wake(gate: &Gate<Global>, book: &Book<Global>, sleeps: &[bool], before: usize)
+    requires own { desk_gate book.now.desk ≡ gate.now }
     requires one_flag_each { length sleeps.now ≡ length gate.now.shape.widths }
 {
     let Some(newer) = book.log().get(before..) else {
@@ -61,7 +62,7 @@ fn wake(gate: &Gate<Global>, book: &Book<Global>, sleeps: &[bool], before: usize
     for event in newer {
         if let Event::Dispatch(request, _queue) = *event {
             if let Some(true) = sleeps.get(request as usize) {
-                gate.wake(request);
+                gate.wake(request as u128);
             }
         }
     }

@@ -9,7 +9,7 @@ ghost use Rattle.apf_gate.specs.Tokens.{station_gate};
 
 use crate::level::Level;
 use crate::naming::Naming;
-use apf_gate::{Close, Station, TrySetLimit};
+use apf_gate::{Cancel, Close, Station, TrySetLimit};
 use apf_words::{Decision, LevelWord};
 
 impl<K: Naming> Level<K> {
@@ -22,7 +22,11 @@ impl<K: Naming> Level<K> {
         ensures answer { CancelsTo station.old.station request result station.new.station }
         ensures after { AfterCancel station.old.station request result station.new.station }
     {
-        self.gate.cancel(station, request)
+        match self.gate.cancel(station, request as u128) {
+            Cancel::Is(decision) => decision,
+            // in a batch a request keeps its slot
+            Cancel::Other => unreachable!(),
+        }
     }
 
     /// Closes the level, by one step on the level word. Says whether this close was the first.

@@ -61,7 +61,7 @@ impl Waiting {
         ensures number { result ≡ self.now.pass.number }
         ensures waits { IsInLine self.now }
     {
-        self.pass.number()
+        self.pass.number() as u32
     }
 }
 
@@ -71,7 +71,7 @@ impl Running {
         ensures number { result ≡ self.now.pass.number }
         ensures runs { IsRunning self.now }
     {
-        self.pass.number()
+        self.pass.number() as u32
     }
 }
 
@@ -81,7 +81,7 @@ impl Done {
         ensures number { result ≡ self.now.pass.number }
         ensures done { IsDone self.now }
     {
-        self.pass.number()
+        self.pass.number() as u32
     }
 
     pub(crate) fn into_pass(self) -> Pass

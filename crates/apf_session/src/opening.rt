@@ -24,6 +24,7 @@ pub struct Opening<'a> {
     pub passes: Vec<Pass>,
     pub stations: Vec<Station>,
     pub ghost desk_is: { desk ≡ record { table = gate.table; desk = new_desk gate.shape } },
+    pub ghost is_a_batch: { length gate.shape.widths ≡ gate.shape.slots },
     pub ghost limit_is: { gate.shape.limit ≡ config.limit },
     pub ghost widths_are: { map (λ a. a.width) asks.now ≡ gate.shape.widths },
     pub ghost response_is: { gate.shape.response ≡ config.limit_response },

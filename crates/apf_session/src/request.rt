@@ -1,6 +1,7 @@
 //! One request of a level, from its arrival to its end.
 
-ghost use Rattle.std.specs.Prelude.{◌≡◌, ◌<◌, length};
+ghost use Rattle.std.specs.Prelude.{◌≡◌, ◌<◌, ◌≤◌, length};
+ghost use Rattle.apf_words.specs.Limits.{max_requests};
 ghost use Rattle.apf_gate.specs.declared.record.State.TheVariants as states;
 ghost use Rattle.apf_gate.specs.Tokens.{pass_gate};
 ghost use Rattle.apf_session.specs.declared.answer.Place.TheVariants as places;
@@ -99,10 +100,11 @@ impl<K: Naming> Request<K> {
     pub fn new(pass: Pass) -> Request<K>
         requires own { pass_gate pass ≡ K.level.gate }
         requires fresh { pass.pass.state ≡ states.Fresh }
+        requires few { length K.level.gate.shape.widths ≤ max_requests }
         ensures number { result.number ≡ pass.pass.number }
         ensures away { place_of result.token ≡ places.Away }
     {
-        let number = pass.number();
+        let number = pass.number() as u32;
         Request {
             token: Token::Fresh(pass),
             number,

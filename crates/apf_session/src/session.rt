@@ -56,6 +56,7 @@ fn requests_of<K: Naming, R: Wait>(
     ensures numbered { IfOk result (λ v. AreNumbered v.items) }
     ensures away { IfOk result (λ v. AreAway v.items) }
 {
+    level.is_a_batch();
     let mut requests = Vec::with_capacity(alloc, passes.len())?;
     while let Some(pass) = passes.pop() {
         if let Err(refused) = requests.push(Request::new(pass)) {

@@ -1,5 +1,5 @@
 -- The codes of a decision word.
-use Rattle.std.specs.Prelude.{ℕ, Option, Some, None}
+use Rattle.std.specs.Prelude.{ℕ, ◌+◌, ◌*◌, Option, Some, None}
 use Rattle.apf_words.specs.declared.decision.Decision.{Decision}
 use Rattle.apf_words.specs.declared.decision.Decision.TheVariants.{Execute, QueueFull, Closed, Cancelled, ConcurrencyLimit}
 
@@ -15,3 +15,7 @@ code_of ConcurrencyLimit = 5
 abbrev pub code_in : Option Decision → ℕ
 code_in None = 0
 code_in (Some d) = code_of d
+
+-- the word of a request: its mark, which no other request of its slot has, and in the three lowest bits the code of its decision
+unfoldable pub marked : ℕ → Option Decision → ℕ
+marked mark d = 8 * mark + code_in d

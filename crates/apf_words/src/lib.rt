@@ -14,9 +14,11 @@ mod changes;
 mod decision;
 mod level_word;
 mod limits;
+mod marks;
 mod seats;
 
 pub use decision::{Decision, UNDECIDED};
 pub use level_word::LevelWord;
 pub use limits::{MAX_LIMIT, MAX_QUEUE_LENGTH, MAX_QUEUES, MAX_REQUESTS, MAX_STATIONS, MAX_WIDTH};
+pub use marks::{decided, decision_in, mark_in, undecided};
 pub use seats::fits;

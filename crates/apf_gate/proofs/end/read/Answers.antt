@@ -6,11 +6,6 @@ use native.Mathlib.Decide.{ℕ_discrete}
 use Rattle.apf_gate.proofs.Gathering.{found_at, snoc_front, snoc_last}
 use Rattle.apf_gate.proofs.end.read.Goals as goal
 
-pub decision_in-requires : goal.decision_in-requires
-decision_in-requires g c =
-    let code = c.requires.codes c.loop-r.r (search rules) in
-    (code.0, sym (found_at (slots_items c.args.closed.words) _ c.word-in-loop-r.result 0 c.word-in-loop-r.ensures) ∙ code.1)
-
 pub loop-r-preserved : goal.loop-r-preserved
 loop-r-preserved g c =
     let i = c.loop-r.invariant in
@@ -19,11 +14,11 @@ loop-r-preserved g c =
     let word = found_at (slots_items c.args.closed.words) (c.loop-r.r + 1) c.word-in-loop-r.result 0 c.word-in-loop-r.ensures in record {
       same = refl;
       count = search rules;
-      decided = λ r d l e. ap (λ ys. slice_get ys r) c.push_reserved.ensures.items ∙ dite (ℕ_discrete r c.loop-r.r)
-          (λ y. ap (λ k. slice_get (xs ++ x ∷ []) k) (y ∙ sym i.count) ∙ (snoc_last xs x ∙ ap Some (c.decision_in.ensures d (sym word ∙ (ap (λ k. slice_index (slots_items c.args.closed.words) (k + 1)) (sym y) ∙ e)))))
-          (λ ne. let below : r < c.loop-r.r = omega arith in snoc_front xs x r (subst (λ k. r < k) (sym i.count) below) ∙ i.decided r d below e);
+      decided = λ r m d l e. ap (λ ys. slice_get ys r) c.push_reserved.ensures.items ∙ dite (ℕ_discrete r c.loop-r.r)
+          (λ y. ap (λ k. slice_get (xs ++ x ∷ []) k) (y ∙ sym i.count) ∙ (snoc_last xs x ∙ ap Some (c.decision_in.ensures m d (sym word ∙ (ap (λ k. slice_index (slots_items c.args.closed.words) (k + 1)) (sym y) ∙ e)))))
+          (λ ne. let below : r < c.loop-r.r = omega arith in snoc_front xs x r (subst (λ k. r < k) (sym i.count) below) ∙ i.decided r m d below e);
       room = search rules;
     }
 
 pub returns-clause-decisions : goal.returns-clause-decisions
-returns-clause-decisions g c = λ r d l e. c.loop-r.invariant.decided r d (let z = c.loop-r-test.false in omega arith) e
+returns-clause-decisions g c = λ r m d l e. c.loop-r.invariant.decided r m d (let z = c.loop-r-test.false in omega arith) e

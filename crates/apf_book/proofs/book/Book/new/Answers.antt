@@ -16,4 +16,4 @@ returns-clause-stopped g c = begins_stopped c.in_ok-ledger.ledger c.args.desk.de
 pub invariant_of-result : goal.invariant_of-result
 invariant_of-result g c =
     kept_new c.args.desk.desk c.in_ok-ledger.ledger c.args.config.now c.args.asks.now (map (λ (a : Ask). a.width) c.args.asks.now) (returns-clause-ledger g c) c.in_ok-ledger.ensures.sound c.requires.fresh
-    (ap (λ (l : List ℕ). length l) c.requires.widths) c.requires.has_queues
+    (ap (λ (l : List ℕ). length l) c.requires.widths) c.requires.has_queues c.requires.batch

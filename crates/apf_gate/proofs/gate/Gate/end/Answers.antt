@@ -5,34 +5,31 @@ use Rattle.apf_gate.specs.declared.record.Shape.{Shape}
 use Rattle.apf_gate.specs.Records.{level_of}
 use Rattle.apf_gate.specs.Traces.{world_of}
 use Rattle.apf_gate.specs.Rule.{IsRuled, IsRecord, IsKeptAt, desk_of}
-use Rattle.apf_gate.specs.Gauges.{shape_of}
+use Rattle.apf_gate.specs.Gauges.{shape_in}
 use Rattle.apf_gate.specs.Tokens.{GateId, DeskToken}
 use Rattle.apf_gate.specs.Ends.{EndsWith, stations_before, handed_in}
 use Rattle.apf_gate.proofs.Packing.{level_in_range}
 use Rattle.apf_gate.proofs.Lists.{every_map}
+use Rattle.apf_gate.specs.Slots.{mark_of}
+use Rattle.apf_gate.proofs.Packing.{batch_word}
+use Rattle.apf_gate.proofs.Spreading.{slots_in}
 use Rattle.apf_gate.proofs.gate.Gate.end.Goals as goal
 
 pub read-requires-clause-level : goal.read-requires-clause-level
 read-requires-clause-level g c =
     let i = c.self.invariant in
-    let own : Shape = shape_of c.self.inside.gauge.limit c.self.inside.gauge.response c.self.inside.gauge.widths.items c.self.inside.gauge.stations in
+    let own : Shape = shape_in c.self.inside.gauge.lives c.self.inside.gauge.numbers c.self.inside.gauge.limit c.self.inside.gauge.response c.self.inside.gauge.widths.items c.self.inside.gauge.stations in
     let f = c.close_with.ensures.values.2 in
     let h : IsRuled own f.0 = subst (λ (s : Shape). IsRuled s f.0) i.same_key f.1.0 in
     (level_of own.widths (world_of own h.account.trace), ap (λ (ws : List ℕ). slice_index ws 0) (sym f.2) ∙ h.packs.level, level_in_range own i.shape i.laws f.0 h)
 
-pub read-requires-clause-codes : goal.read-requires-clause-codes
-read-requires-clause-codes g c =
-    let i = c.self.invariant in
-    let own : Shape = shape_of c.self.inside.gauge.limit c.self.inside.gauge.response c.self.inside.gauge.widths.items c.self.inside.gauge.stations in
-    let f = c.close_with.ensures.values.2 in
-    let h : IsRuled own f.0 = subst (λ (s : Shape). IsRuled s f.0) i.same_key f.1.0 in
-    λ r l. ((world_of own h.account.trace).decision r, ap (λ (ws : List ℕ). slice_index ws (r + 1)) (sym f.2) ∙ h.packs.decisions r (let n : length own.widths ≡ c.len-count.result = search rules in subst (λ k. r < k) (sym n) l))
-
 pub returns : goal.returns
 returns g c =
     let i = c.self.invariant in
-    let own : Shape = shape_of c.self.inside.gauge.limit c.self.inside.gauge.response c.self.inside.gauge.widths.items c.self.inside.gauge.stations in
-    let n : length own.widths ≡ c.len-count.result = search rules in
+    let own : Shape = shape_in c.self.inside.gauge.lives c.self.inside.gauge.numbers c.self.inside.gauge.limit c.self.inside.gauge.response c.self.inside.gauge.widths.items c.self.inside.gauge.stations in
+    let batch : length own.widths ≡ own.slots = subst (λ (x : GateId). length x.shape.widths ≡ x.shape.slots) (sym c.self.view_is) c.requires.batch in
+    let count : length c.self.inside.gauge.widths.items ≡ c.len-count.result = search rules in
+    let n : length own.widths ≡ c.len-count.result = batch ∙ (slots_in c.self.inside.gauge.lives c.self.inside.gauge.numbers c.self.inside.gauge.limit c.self.inside.gauge.response c.self.inside.gauge.widths.items c.self.inside.gauge.stations ∙ count) in
     let f = c.close_with.ensures.values.2 in
     let h : IsRuled own f.0 = subst (λ (s : Shape). IsRuled s f.0) i.same_key f.1.0 in
     let all = handed_in (desk_of c.desk.inside.seat.me.0) c.args.passes.items c.args.stations.items in
@@ -44,7 +41,7 @@ returns g c =
       laws = i.laws;
       level = c.read.ensures.level (level_of own.widths (world_of own h.account.trace)) (ap (λ (ws : List ℕ). slice_index ws 0) (sym f.2) ∙ h.packs.level) (level_in_range own i.shape i.laws f.0 h);
       count = c.read.ensures.count ∙ sym n;
-      decided = λ r l. c.read.ensures.decisions r ((world_of own h.account.trace).decision r) (subst (λ k. r < k) n l) (ap (λ (ws : List ℕ). slice_index ws (r + 1)) (sym f.2) ∙ h.packs.decisions r l);
+      decided = λ r l. c.read.ensures.decisions r (mark_of r) ((world_of own h.account.trace).decision r) (subst (λ k. r < k) n l) (ap (λ (ws : List ℕ). slice_index ws (r + 1)) (sym f.2) ∙ batch_word own i.shape f.0 h batch r l);
       stand = every_map (IsKeptAt own h.account c.gather_stations-seat.result.id) (IsRecord own h.account) all (λ x k. k.1) kept.0;
       apart = kept.1;
       all_passes = c.requires.all_passes ∙ sym (ap (λ (x : GateId). length x.shape.widths) c.self.view_is);

@@ -22,7 +22,8 @@ counted : (k : LevelId) (gate : GateId) (n : ℕ) (ps ds : List PassToken) → I
     → (n ≡ length k.gate.shape.widths) × (n ≤ max_requests)
 counted k gate n ps ds own is same all =
     let whole : n ≡ length k.gate.shape.widths = is ∙ as_many ps ds (length k.gate.shape.widths) same all in
-    let few = own.shape.few_requests in
+    let few = own.shape.few_slots in
+    let batch = own.batch in
     let gates = ap (λ (x : GateId). length x.shape.widths) own.same in
     (whole, omega arith)
 

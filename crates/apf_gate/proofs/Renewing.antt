@@ -1,0 +1,244 @@
+-- A Pass leaves its request and begins the next one of its slot: the step keeps the rule.
+use Rattle.std.proofs.Common.{◌≡◌, ◌≢◌, ◌⊎◌, ℕ, ◌+◌, ◌*◌, ◌<◌, Bool, true, false, List, [], ◌∷◌, ◌++◌, length, Some, None, sym, refl, ap, ◌∙◌, subst, inl, inr, ⊎_elim, arith}
+use Rattle.std.specs.Prelude.{slice_index}
+use mathlib.Core.Logic.{dite}
+use native.Mathlib.Decide.{ℕ_discrete}
+use Rattle.std.proofs.Math.Decide.{dec_lt}
+use Rattle.atomic_table.specs.Table.{keeps, Allows}
+use Rattle.apf_words.specs.Codes.{marked}
+use Rattle.apf_model.specs.declared.moves.Stage.TheVariants.{Away, Gone}
+use Rattle.apf_model.specs.World.{World, put}
+use Rattle.apf_model.specs.Schedule.{IsSchedule}
+use Rattle.apf_gate.specs.declared.record.Shape.{Shape}
+use Rattle.apf_gate.specs.declared.record.Actor.{Actor}
+use Rattle.apf_gate.specs.declared.record.Actor.TheVariants.{OfPass, OfDesk, OfStation}
+use Rattle.apf_gate.specs.declared.record.Entry.{Entry}
+use Rattle.apf_gate.specs.declared.record.Knowledge.{Knowledge}
+use Rattle.apf_gate.specs.declared.record.State.TheVariants.{Fresh, InLine, Over}
+use Rattle.apf_gate.specs.declared.record.Service.{Service}
+use Rattle.apf_gate.specs.declared.record.Service.TheVariants.{NotHanded, Handed, RefusedFull, RefusedClosed, Waiting, Held, Settled, Left}
+use Rattle.apf_gate.specs.declared.record.PassRecord.{PassRecord}
+use Rattle.apf_gate.specs.declared.record.Record.TheVariants.{Pass}
+use Rattle.apf_gate.specs.Slots.{slot_of, mark_of}
+use Rattle.apf_gate.specs.Records.{told_own, service, saw_decision, new_pass}
+use Rattle.apf_gate.specs.Traces.{opening_of, entry, moves, world_of, NoneOf, GoesOn}
+use Rattle.apf_words.specs.declared.decision.Decision.TheVariants.{Execute, Cancelled}
+use Rattle.apf_gate.specs.Requests.{IsRequest, MayHold, written, stage_of, stage_of_pass, stage_of_settled, was_handed, has_entered}
+use Rattle.apf_gate.specs.Account.{Account, HoldsSlot, IsIdle, AreSlots, IsKnown}
+use Rattle.apf_gate.specs.Rule.{IsRuled}
+use Rattle.apf_gate.specs.Steps.{ByPass, OnDecision}
+use Rattle.apf_gate.specs.PassSteps.{own_mark, IsNextRequest, MayRenew, PassRenews}
+use Rattle.apf_gate.proofs.Puts.{put_here, put_else}
+use Rattle.apf_gate.proofs.Later.{next_load, known_later, other_pass}
+use Rattle.apf_gate.proofs.Requests.{is_fresh, is_handed}
+use Rattle.apf_gate.proofs.Views.{kept}
+use Rattle.apf_gate.proofs.Sound.{put_each}
+use Rattle.apf_gate.proofs.Packing.{packs_renewed}
+use Rattle.apf_gate.proofs.Knowing.{decision_known, decision_told}
+use Rattle.apf_gate.proofs.PassLines.{is_at}
+use Rattle.std.proofs.lemmas.List.{append-nil}
+
+-- where a request is that its Pass may leave
+idle_over : (took : Bool) → (stage_of_pass Over took ≡ Away) ⊎ (stage_of_pass Over took ≡ Gone)
+idle_over true = inr refl
+idle_over false = inl refl
+
+none_before : (who : Actor) (newer older : List Entry) → NoneOf who (newer ++ older) → NoneOf who newer
+none_before who [] older k = tt
+none_before who (x ∷ newer) older k = (k.0, none_before who newer older k.1)
+
+module _ (s : Shape) where
+  -- a Pass that may leave its request neither waits nor stands
+  may_leave : (p : PassRecord) (a : Service) (w : World) → IsRequest s p.number p a w → (told_own p ≢ None → w.decision p.number ≡ told_own p) → MayRenew p → IsIdle w p.number
+  may_leave p a w k known may = ⊎_elim
+      (λ (e : p.state ≡ Fresh). inl (is_fresh s p.number p a w k e).away)
+      (λ (m : (told_own p ≢ None) × ((p.state ≡ Over) ⊎ ((p.state ≡ InLine) × (p.entered ≡ false)))). ⊎_elim
+      (λ (e : p.state ≡ Over). over a refl e)
+      (λ (e : (p.state ≡ InLine) × (p.entered ≡ false)). line a refl e.0 (sym k.tied.entered ∙ e.1)) m.1)
+      may
+    where
+      -- a request that is over and was handed to the Desk is executed, so that its word says
+      busy_over : (b : Service) → a ≡ b → was_handed b ≡ true → written p b ≡ None → p.state ≡ Over → ⊥
+      busy_over b is handed wrote e =
+          let told = (is_handed s p.number p a w k (ap was_handed is ∙ handed)).over e in
+          let says : w.decision p.number ≡ Some Execute = known (λ none. let z = sym told ∙ none in cc) ∙ told in
+          let word : MayHold None (w.decision p.number) = subst (λ x. MayHold x (w.decision p.number)) (ap (written p) is ∙ wrote) k.word in
+          ⊎_elim (λ (x : w.decision p.number ≡ None). let z = sym x ∙ says in cc) (λ (x : w.decision p.number ≡ Some Cancelled). let z = sym x ∙ says in cc) word
+
+      by_pass : (b : Service) → a ≡ b → stage_of p b ≡ stage_of_pass p.state p.took → p.state ≡ Over → IsIdle w p.number
+      by_pass b is same over = ⊎_elim
+          (λ (e : stage_of_pass Over p.took ≡ Away). inl (k.stage ∙ (ap (stage_of p) is ∙ (same ∙ (ap (λ x. stage_of_pass x p.took) over ∙ e)))))
+          (λ (e : stage_of_pass Over p.took ≡ Gone). inr (k.stage ∙ (ap (stage_of p) is ∙ (same ∙ (ap (λ x. stage_of_pass x p.took) over ∙ e)))))
+          (idle_over p.took)
+
+      over : (b : Service) → a ≡ b → p.state ≡ Over → IsIdle w p.number
+      over NotHanded is e = by_pass NotHanded is refl e
+      over Handed is e = by_pass Handed is refl e
+      over RefusedFull is e = by_pass RefusedFull is refl e
+      over RefusedClosed is e = by_pass RefusedClosed is refl e
+      over Settled is e = inr (k.stage ∙ (ap (stage_of p) is ∙ ap stage_of_settled e))
+      over Left is e = inr (k.stage ∙ ap (stage_of p) is)
+      over Waiting is e = absurd (busy_over Waiting is refl refl e)
+      over Held is e = absurd (busy_over Held is refl refl e)
+
+      line : (b : Service) → a ≡ b → p.state ≡ InLine → has_entered a ≡ false → IsIdle w p.number
+      line NotHanded is e n = inl (k.stage ∙ (ap (stage_of p) is ∙ ap (λ x. stage_of_pass x p.took) e))
+      line Handed is e n = inl (k.stage ∙ (ap (stage_of p) is ∙ ap (λ x. stage_of_pass x p.took) e))
+      line RefusedFull is e n = inl (k.stage ∙ (ap (stage_of p) is ∙ ap (λ x. stage_of_pass x p.took) e))
+      line RefusedClosed is e n = inl (k.stage ∙ (ap (stage_of p) is ∙ ap (λ x. stage_of_pass x p.took) e))
+      line Waiting is e n = absurd (let z = sym (ap has_entered is) ∙ n in cc)
+      line Held is e n = absurd (let z = sym (ap has_entered is) ∙ n in cc)
+      line Settled is e n = absurd (let z = sym (ap has_entered is) ∙ n in cc)
+      line Left is e n = absurd (let z = sym (ap has_entered is) ∙ n in cc)
+
+  -- the account after the step: the old record stays as it is, and the new one is kept at the same seat
+  abbrev renewed : Account → ℕ → PassRecord → Account
+  renewed g next q = record g { trace = entry (OfPass next) None ∷ g.trace; pass = put g.pass next q; current = put g.current (slot_of next) next }
+
+  -- the lines on slots as one is handed on
+  slots_renewed : (g : Account) (r next : ℕ) (q : PassRecord) → AreSlots s g → HoldsSlot g r → slot_of next ≡ slot_of r → r < next → next < length s.widths → slot_of r < s.slots
+      → IsIdle (world_of s g.trace) r → ((world_of s g.trace).decision r ≢ None) ⊎ ((g.pass r).state ≡ Fresh) → AreSlots s (renewed g next q)
+  slots_renewed g r next q k holds same below inside in_slot idle over = record {
+    current = λ i l. dite (ℕ_discrete i (slot_of next))
+        (λ e. subst (λ j. (put g.current (slot_of next) next j < length s.widths) × (slot_of (put g.current (slot_of next) next j) ≡ j)) (sym e)
+        (subst (λ c. (c < length s.widths) × (slot_of c ≡ slot_of next)) (sym (put_here g.current (slot_of next) next)) (inside, refl)))
+        (λ ne. subst (λ c. (c < length s.widths) × (slot_of c ≡ i)) (sym (put_else g.current (slot_of next) next i ne)) (k.current i l));
+    inside = λ j l e. dite (ℕ_discrete (slot_of j) (slot_of next))
+        (λ y. subst (λ x. x < s.slots) (sym (y ∙ same)) in_slot)
+        (λ ne. k.inside j l (sym (elsewhere j ne) ∙ e));
+    idle = λ j l not. dite (ℕ_discrete j r)
+        (λ y. subst (IsIdle (world_of s g.trace)) (sym y) idle)
+        (λ other. k.idle j l (λ e. dite (ℕ_discrete (slot_of j) (slot_of next))
+        (λ y. other (sym e ∙ (ap g.current (y ∙ same) ∙ holds)))
+        (λ ne. not (elsewhere j ne ∙ e))));
+    later = λ j l before. dite (ℕ_discrete (slot_of j) (slot_of next))
+        (λ y. let at : put g.current (slot_of next) next (slot_of j) ≡ next = here j y in
+        let above : next < j = omega arith in
+        let was : g.current (slot_of j) ≡ r = ap g.current (y ∙ same) ∙ holds in
+        let h = k.later j l (omega arith) in
+        (put_else g.pass next q j (λ e. omega arith) ∙ h.0, h.1))
+        (λ ne. let at = elsewhere j ne in
+        let h = k.later j l (omega arith) in
+        (put_else g.pass next q j (λ e. ne (ap slot_of e)) ∙ h.0, h.1));
+    past = λ j l after. dite (ℕ_discrete (slot_of j) (slot_of next))
+        (λ y. let at : put g.current (slot_of next) next (slot_of j) ≡ next = here j y in
+        let lower : j < next = omega arith in
+        let was : g.current (slot_of j) ≡ r = ap g.current (y ∙ same) ∙ holds in
+        let unmoved : put g.pass next q j ≡ g.pass j = put_else g.pass next q j (λ e. omega arith) in
+        dite (ℕ_discrete j r)
+        (λ e. ended j unmoved (subst (λ x. ((world_of s g.trace).decision x ≢ None) ⊎ ((g.pass x).state ≡ Fresh)) (sym e) over))
+        (λ other. dite (dec_lt j r)
+        (λ m. ended j unmoved (k.past j l (omega arith)))
+        (λ m. let h = k.later j l (omega arith) in inr (ap (λ (p : PassRecord). p.state) (unmoved ∙ h.0)))))
+        (λ ne. let at = elsewhere j ne in ended j (put_else g.pass next q j (λ e. ne (ap slot_of e))) (k.past j l (omega arith)));
+  }
+    where
+      elsewhere : (j : ℕ) → slot_of j ≢ slot_of next → put g.current (slot_of next) next (slot_of j) ≡ g.current (slot_of j)
+      elsewhere j ne = put_else g.current (slot_of next) next (slot_of j) ne
+
+      here : (j : ℕ) → slot_of j ≡ slot_of next → put g.current (slot_of next) next (slot_of j) ≡ next
+      here j y = ap (put g.current (slot_of next) next) y ∙ put_here g.current (slot_of next) next
+
+      ended : (j : ℕ) → put g.pass next q j ≡ g.pass j → ((world_of s g.trace).decision j ≢ None) ⊎ ((g.pass j).state ≡ Fresh) → ((world_of s g.trace).decision j ≢ None) ⊎ ((put g.pass next q j).state ≡ Fresh)
+      ended j same x = ⊎_elim (λ (e : (world_of s g.trace).decision j ≢ None). inl e) (λ (e : (g.pass j).state ≡ Fresh). inr (ap (λ (p : PassRecord). p.state) same ∙ e)) x
+
+  -- the lines on the new request are those on one that nobody did anything with
+  request_new : (next : ℕ) (a : Service) (w : World) (u : Knowledge) → IsRequest s next (new_pass s next) a w → IsRequest s next (record (new_pass s next) { knows = u }) a w
+  request_new next a w u k =
+      let q : PassRecord = record (new_pass s next) { knows = u } in
+      let f = is_fresh s next (new_pass s next) a w k refl in record {
+        own = record { state = (refl, refl, refl); wrote = tt; handed = λ e. absurd (cc); queues = λ e. absurd (cc); no_room = λ e. absurd (cc) };
+        tied = record { number = refl; handed = k.tied.handed; entered = k.tied.entered };
+        stage = f.away ∙ sym (ap (stage_of q) f.free);
+        saw = k.saw;
+        word = subst (λ b. MayHold (written q b) (w.decision next)) (sym f.free) (subst (λ b. MayHold (written (new_pass s next) b) (w.decision next)) f.free k.word);
+        closed = λ e. absurd (let z = sym (ap (written q) f.free) ∙ e in cc);
+      }
+
+  -- a swap of the slot's word
+  pub pass_renews : (id slots : ℕ) (p : PassRecord) (next : ℕ) → MayRenew p → IsNextRequest p next → next < length s.widths
+      → Allows (IsRuled s) slots id (Pass p ∷ [], []) (slot_of next + 1) (λ _. marked (mark_of next) None) (ByPass (OnDecision own_mark (PassRenews next)) (Pass p ∷ [], []))
+  pass_renews id slots p next may is_next inside t h deep at small =
+      let g = h.account in
+      let r = p.number in
+      let w = world_of s g.trace in
+      let k = is_at s t h id p at in
+      let es : List Entry = entry (OfPass next) None ∷ g.trace in
+      let found = w.decision r in
+      let u : Knowledge = saw_decision p.knows r found es in
+      let q : PassRecord = record (new_pass s next) { knows = u } in
+      let q' : PassRecord = record (new_pass p.knows.shape next) { knows = u } in
+      let same_q : q ≡ q' = ap (λ x. record (new_pass x next) { knows = u }) (sym k.known.shape_is) in
+      let g' = renewed g next q in
+      let was = (h.views id (Pass p ∷ []) at).0.0 in
+      let idle = may_leave p (service g.desk r) w k.request (λ some. k.known.told r some) may in
+      let below : g.current (slot_of next) < next = (let e = ap g.current is_next.same_slot ∙ k.holds in let l = is_next.later in omega arith) in
+      let fresh = h.slots.later next inside below in
+      let next_is = next_load s (OfPass next) g.trace h.sound.schedule in
+      let new_known = subst (λ (o : PassRecord). IsKnown s (OfPass next) o.knows g.trace) fresh.0 (h.sound.pass_knows next inside) in
+      let none_own : NoneOf (OfPass next) g.trace = all_others new_known.newer in
+      let over : (w.decision r ≢ None) ⊎ ((g.pass r).state ≡ Fresh) = ⊎_elim
+      (λ (e : p.state ≡ Fresh). inr (ap (λ (o : PassRecord). o.state) was.1.1 ∙ e))
+      (λ (m : (told_own p ≢ None) × ((p.state ≡ Over) ⊎ ((p.state ≡ InLine) × (p.entered ≡ false)))). inl (λ none. m.0 (sym (k.known.told r m.0) ∙ none)))
+      may in
+      let slots_now = slots_renewed g r next q h.slots k.holds is_next.same_slot is_next.later inside k.in_slot idle over in
+      let learnt = decision_known s (OfPass r) (OfPass next) p.knows g.trace None k.known next_is r found (λ _. refl) in
+      let known_now : IsKnown s (OfPass next) u es = record { shape_is = learnt.shape_is; closed = learnt.closed; told = learnt.told; newer = ([], refl, tt) } in
+      let saw = decision_told s (OfPass r) p.knows g.trace None k.known (next_load s (OfPass r) g.trace h.sound.schedule) r found found refl (λ _. refl) in
+      let ruled = kept s t h id (slot_of next + 1) (marked (mark_of next) None) (Pass q ∷ []) g'
+      (record {
+        seat = λ x. refl;
+        pass = λ j away. put_else g.pass next q j (λ e. away (ap (λ x. g.seat (2 * slot_of x + 1)) e ∙ (ap (λ x. g.seat (2 * x + 1)) is_next.same_slot ∙ was.0)));
+        current = λ i away. put_else g.current (slot_of next) next i (λ e. away (ap (λ x. g.seat (2 * x + 1)) (e ∙ is_next.same_slot) ∙ was.0));
+        desk = λ _. refl;
+        station = λ _ _. refl;
+      })
+      (((ap (λ x. g.seat (2 * x + 1)) is_next.same_slot ∙ was.0, (inside, put_here g.pass next q, put_here g.current (slot_of next) next)), tt), (tt, tt))
+      (record {
+        schedule = next_is.schedule;
+        made = (inside, next_is.made, h.sound.made);
+        request = λ j l. put_each s (λ i o. IsRequest s i o (service g.desk i) w) g.pass next q
+            (request_new next (service g.desk next) w u (subst (λ (o : PassRecord). IsRequest s next o (service g.desk next) w) fresh.0 (h.sound.request next inside))) j
+            (λ ne. h.sound.request j l);
+        pass_knows = λ j l. put_each s (λ i o. IsKnown s (OfPass i) o.knows es) g.pass next q known_now j (λ ne. known_later s (g.pass j).knows (OfPass j) (OfPass next) None g.trace (other_pass j next ne) next_is.later (h.sound.pass_knows j l));
+        desk_knows = known_later s g.desk.knows OfDesk (OfPass next) None g.trace (λ x. cc) next_is.later h.sound.desk_knows;
+        station_knows = λ i. known_later s (g.station i).knows (OfStation i) (OfPass next) None g.trace (λ x. cc) next_is.later (h.sound.station_knows i);
+        held = h.sound.held;
+        is_held = h.sound.is_held;
+      })
+      slots_now
+      (packs_renewed s g.current t.words w next (subst (λ x. x < s.slots) (sym is_next.same_slot) k.in_slot) fresh.1 h.packs) in (
+        Pass q ∷ [],
+        keeps,
+        tt,
+        ruled,
+        (
+          refl,
+          (
+            q,
+            refl,
+            (
+              found,
+              ap (λ x. slice_index t.words (x + 1)) is_next.same_slot ∙ k.word,
+              (
+                u,
+                record {
+                  between = k.known.newer.0;
+                  of_others = k.known.newer.2;
+                  found_is = (λ i. (world_of (k.known.shape_is i) (k.known.newer.1 i)).decision r);
+                  is_new = subst (NoneOf (OfPass next)) (sym k.known.newer.1) none_own;
+                  is_undecided = (λ i. (world_of (k.known.shape_is i) (k.known.newer.1 i)).decision next) ∙ fresh.1;
+                  is_after = ap (λ x. saw_decision p.knows r found (entry (OfPass next) None ∷ x)) (sym k.known.newer.1);
+                  is_schedule = subst (λ x. IsSchedule (opening_of x) (moves es)) (sym k.known.shape_is) next_is.schedule;
+                  stays = λ some. k.known.told r some;
+                  more = record { shape = refl; closed = λ e. e; told = saw.more.told; trace = (entry (OfPass next) None ∷ k.known.newer.0, ap (λ l. entry (OfPass next) None ∷ l) (sym k.known.newer.1)) };
+                },
+                same_q,
+              ),
+            ),
+          ),
+        ),
+      )
+    where
+      all_others : GoesOn h.account.trace (OfPass next) [] → NoneOf (OfPass next) h.account.trace
+      all_others n = subst (NoneOf (OfPass next)) (sym (append-nil n.0) ∙ n.1) n.2

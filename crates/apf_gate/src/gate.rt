@@ -1,6 +1,6 @@
 //! The gate: the words of a level.
 
-ghost use Rattle.std.specs.Prelude.{◌≡◌, ◌+◌, ◌<◌, ◌≤◌, ◌^◌};
+ghost use Rattle.std.specs.Prelude.{◌≡◌, ◌+◌, ◌<◌, ◌≤◌, ◌^◌, length};
 ghost use Rattle.apf_words.specs.Level.{Level, packed};
 ghost use Rattle.apf_words.specs.Limits.{max_width};
 ghost use Rattle.apf_model.specs.World.{width};
@@ -38,6 +38,17 @@ impl<A: Allocator> Model for Gate<A> {
 }
 
 impl<A: Allocator> Gate<A> {
+    /// The number of a request of a batch names it, as each request has a slot of its own.
+    ///
+    /// It makes no step: the contract is the law.
+    pub fn is_ticket(&self, request: u32)
+        requires batch { length self.now.shape.widths ≡ self.now.shape.slots }
+        requires is_request { request < length self.now.shape.widths }
+        ensures { IsTicket self.now.shape request }
+    {
+        let _ = &self.gauge;
+    }
+
     /// The width of a request, by its number.
     pub(crate) fn width_of(&self, request: u128) -> u32
         requires { IsTicket self.now.shape request }

@@ -8,7 +8,7 @@ ghost use Rattle.apf_model.specs.declared.response.Response.TheVariants.{Reject}
 ghost use Rattle.apf_gate.specs.declared.record.State.TheVariants.{Fresh};
 ghost use Rattle.apf_words.specs.Limits.{max_width};
 ghost use Rattle.apf_model.specs.World.{width as width_in};
-ghost use Rattle.apf_gate.specs.Slots.{next_of};
+ghost use Rattle.apf_gate.specs.Slots.{next_of, IsTicket};
 ghost use Rattle.apf_gate.specs.Records.{own_width, KnowsMore};
 ghost use Rattle.apf_gate.specs.Steps.{IsInRange, OfDecision};
 ghost use Rattle.apf_gate.specs.PassSteps.{PassLoadsLevel, PassMissesLevel, PassExchangesLevel, PassSubtractsLevel, PassLoadsDecision, PassAsksDecision, own_mark, IsNextRequest, MayRenew, PassRenews};
@@ -57,6 +57,7 @@ impl Pass {
     pub fn number(&self) -> u128
         ensures number { result ≡ self.now.pass.number }
         ensures inside { result < length self.now.pass.knows.shape.widths }
+        ensures is_ticket { IsTicket self.now.pass.knows.shape result }
     {
         self.number
     }

@@ -62,6 +62,7 @@ impl<A: Allocator> Gate<A> {
         ensures same { SameStation station.old station.new }
         ensures answer { TriesToRead station.old.station request result station.new.station }
         ensures after { AfterTryRead station.old.station request result station.new.station }
+        ensures in_a_batch { length self.now.shape.widths ≡ self.now.shape.slots → result ≢ Read.Other }
     {
         let found = self.load_word::<Brand>(station, request);
         if mark_in(found) != mark(request) {
@@ -78,6 +79,7 @@ impl<A: Allocator> Gate<A> {
         ensures same { SameStation station.old station.new }
         ensures answer { TriesToCancel station.old.station request result station.new.station }
         ensures after { AfterTryCancel station.old.station request result station.new.station }
+        ensures in_a_batch { length self.now.shape.widths ≡ self.now.shape.slots → result ≢ Cancel.Other }
     {
         let found = self.exchange_word::<Brand>(station, request);
         if mark_in(found) != mark(request) {

@@ -1,0 +1,210 @@
+#!/usr/bin/env python3
+"""A live level, as `apf serve` answers: an independent computation, written from the rules and slow on purpose.
+
+usage: python3 tests/lib/serve.py serve CONFIG [--slots S] [--name NAME]
+
+By itself it is a co-process with that protocol, for the tests of what talks to one.
+"""
+
+import argparse
+import os
+import re
+import sys
+
+sys.path.insert(0, os.path.dirname(os.path.abspath(__file__)))
+from judge import NotJson, Refused, config_of, dealer_fault, flow_of, whole_in
+from level import Level
+from trace import SEATS, TEXTS, UNKNOWN_KEY, BAD_FLOW, value_of
+
+MOST = 65_536
+KEYS = ("schema", "distinguisher", "hash", "width", "cost")
+# the lines that are no more than words: a form, and whether a request's number stands in it
+PLAIN = [("finish", True), ("cancel", True), ("close", False), ("book", False), ("queues", False), ("metrics", False)]
+
+
+class Service:
+    """One level, and who is there under which number."""
+
+    def __init__(self, config, slots=10_000, name="level"):
+        fault = config["limitResponse"] == "Queue" and dealer_fault(config["queues"], config["handSize"])
+        if fault:
+            raise Refused(fault)
+        self.config, self.slots, self.name = config, slots, name
+        # the model's requests are all that ever arrived; each has a number of the protocol while it is there
+        self.requests, self.there, self.number = [], {}, {}
+        self.level = Level(config, self.requests)
+        self.line, self.is_broken = 0, False
+
+    def first(self):
+        it = self.config
+        how = f"queues {it['queues']} hand {it['handSize']} length {it['queueLengthLimit']} queue" if it["limitResponse"] == "Queue" else "reject"
+        return f"serve 1 slots {self.slots} limit {it['limit']} {how}"
+
+    def answer(self, line):
+        """What is written for one line, which is its bytes without the LF."""
+        self.line += 1
+        try:
+            return self.carried_out(line)
+        except Refused as why:
+            return [f"fault {self.line} {why}"]
+
+    def carried_out(self, line):
+        if len(line) > MOST:
+            raise Refused("line too long")
+        try:
+            text = line.decode()
+        except UnicodeDecodeError:
+            raise Refused("bad line") from None
+        if arrival := re.fullmatch(r"(arrive|try) (0|[1-9][0-9]*) (\{.*)", text, re.DOTALL):
+            return self.arrival(arrival[1], int(arrival[2]), arrival[3])
+        if change := re.fullmatch(r"limit (0|[1-9][0-9]*)", text):
+            return self.change(int(change[1]))
+        for word, is_numbered in PLAIN:
+            if found := re.fullmatch(rf"{word} (0|[1-9][0-9]*)" if is_numbered else word, text):
+                return getattr(self, word)(*([self.known(int(found[1]))] if is_numbered else []))
+        raise Refused("bad line")
+
+    def judged(self, number):
+        if number >= self.slots:
+            raise Refused("bad number")
+
+    def known(self, number):
+        self.judged(number)
+        if number not in self.there:
+            raise Refused(f"{number} is not there")
+        return self.there[number]
+
+    def said(self, before):
+        """The level's lines since then, with the numbers of the protocol for its own; whose end they say is there no more."""
+        lines = []
+        for line in self.level.lines[before:]:
+            words = line.split()
+            if words[0] in ("arrive", "finish", "cancel", "dispatch", "strike"):
+                words[1] = str(self.number[int(words[1])])
+            lines.append(" ".join(words))
+        for request in [it for it in self.there.values() if self.is_over(it)]:
+            del self.there[self.number[request]]
+        return lines
+
+    def is_over(self, request):
+        decided = self.level.decided.get(request)
+        return decided is not None and (decided != "execute" or request not in self.level.running)
+
+    def arrival(self, word, number, text):
+        self.judged(number)
+        if number in self.there:
+            raise Refused(f"{number} is there")
+        asked = asked_of(text)
+        request, before = len(self.requests), len(self.level.lines)
+        self.requests.append(asked)
+        self.there[number], self.number[request] = request, number
+        if word == "try" and self.config["limitResponse"] == "Queue" and not self.level.closed:
+            if self.level.waiting() or not self.level.fits(request):
+                del self.requests[request], self.there[number]
+                return [f"try {number} busy"]
+        self.level.arrive(request)
+        first, *rest = self.said(before)
+        return [first.replace("arrive", word), *rest]
+
+    def change(self, limit):
+        if not 1 <= limit <= 10_000:
+            raise Refused("bad limit")
+        before = len(self.level.lines)
+        self.level.set_limit(limit)
+        return self.said(before)
+
+    def made(self, call, request):
+        before = len(self.level.lines)
+        call(request)
+        return self.said(before)
+
+    def finish(self, request):
+        return self.made(self.level.finish, request)
+
+    def cancel(self, request):
+        return self.made(self.level.cancel, request)
+
+    def close(self):
+        return self.made(self.level.close, None)
+
+    def book(self):
+        return self.level.transcript().splitlines()[-4:]
+
+    def queues(self):
+        lines = []
+        for queue, waiting in enumerate(self.level.queues):
+            entered = [request for kind, request, at in self.level.log if (kind, at) == ("enter", queue)]
+            served = sum(self.level.width(request) for kind, request, at in self.level.log if (kind, at) == ("dispatch", queue))
+            if entered:
+                lines.append(f"queue {queue} waiting {len(waiting)} entered {len(entered)} service {served}")
+        return [*lines, "end"]
+
+    def numbers(self):
+        """The samples of `metrics`: each by its name and its labels."""
+        level = f'priority_level="{self.name}"'
+        decided = list(self.level.decided.values())
+        samples = {
+            ("current_inqueue_requests", level): self.level.waiting(),
+            ("current_executing_requests", level): len(self.level.running),
+            ("current_executing_seats", level): self.level.seats(),
+            ("current_limit_seats", level): self.level.limit,
+            ("dispatched_requests_total", level): decided.count("execute"),
+        }
+        for reason in ("queue-full", "concurrency-limit", "closed", "cancelled"):
+            samples["rejected_requests_total", f'{level},reason="{reason}"'] = decided.count(reason)
+        return samples
+
+    def metrics(self):
+        return [*(f"apiserver_flowcontrol_{name}{{{labels}}} {value}" for (name, labels), value in self.numbers().items()), "# EOF"]
+
+
+def asked_of(text):
+    """What an arrival's object asks: a line of a trace without its times, with the first of its faults."""
+    try:
+        value = value_of(text.encode())
+    except NotJson:
+        raise Refused("not JSON") from None
+    if any(key not in KEYS for key in value):
+        raise Refused(TEXTS[UNKNOWN_KEY])
+    if flow_of(value) is None:
+        raise Refused(TEXTS[BAD_FLOW])
+    for key, (low, high, fault) in SEATS.items():
+        if key in value and not whole_in(value[key], low, high):
+            raise Refused(TEXTS[fault])
+    width = value.get("width", 1)
+    return {"flow": flow_of(value), "width": width, "cost": value.get("cost", width)}
+
+
+def session(service, content):
+    """What `apf serve` prints for this input, from the first line to the book at its end."""
+    lines = [service.first()]
+    *whole, rest = content.split(b"\n")
+    for line in whole:
+        lines += service.answer(line)
+    if rest:
+        service.line += 1
+        lines.append(f"fault {service.line} truncated")
+    return "".join(f"{line}\n" for line in [*lines, *service.book()])
+
+
+def main():
+    ask = argparse.ArgumentParser(usage=__doc__)
+    ask.add_argument("command", choices=["serve"])
+    ask.add_argument("config")
+    ask.add_argument("--slots", type=int, default=10_000)
+    ask.add_argument("--name", default="level")
+    asked = ask.parse_args()
+    try:
+        with open(asked.config, "rb") as file:
+            service = Service(config_of(file.read()), asked.slots, asked.name)
+    except Refused as line:
+        sys.exit(f"{line}")
+    print(service.first(), flush=True)
+    for line in sys.stdin.buffer:
+        answers = service.answer(line[:-1]) if line.endswith(b"\n") else [f"fault {service.line + 1} truncated"]
+        print("".join(f"{it}\n" for it in answers), end="", flush=True)
+    print("\n".join(service.book()))
+
+
+if __name__ == "__main__":
+    main()

@@ -93,12 +93,12 @@ tally.check("the files whose faults are listed", sorted(listed), sorted(wanted))
 for name in wanted:
     tally.check(f"the faults of the {name} that are listed", sorted(listed.get(name, [])), sorted(wanted[name]))
 
-# each example is shown, and has its three files; the one of an audit log has the log and its trace
+# each example is shown, and has its three files; the one of an audit log has the log and its trace, and the gateway is a program
 for example in sorted(os.listdir(os.path.join(TOP, "examples"))):
     if os.path.isdir(os.path.join(TOP, "examples", example)):
-        names = sorted(os.listdir(os.path.join(TOP, "examples", example)))
+        names = sorted(it for it in os.listdir(os.path.join(TOP, "examples", example)) if it != "__pycache__")
         level = ["config.json", "requests.json", "script.txt"]
-        wanted = {"audit": ["audit.log", "trace.jsonl"], "noisy-client": ["config.json", "picture.svg", *level[1:], "trace.jsonl"]}.get(example, level)
+        wanted = {"audit": ["audit.log", "trace.jsonl"], "gateway": ["gateway.py"], "noisy-client": ["config.json", "picture.svg", *level[1:], "trace.jsonl"]}.get(example, level)
         tally.check(f"examples/{example}", names, wanted)
         shown = [it for it in ("README.md", os.path.join("docs", "FORMATS.md")) if f"examples/{example}/{wanted[0]}" in open(os.path.join(TOP, it)).read()]
         tally.check(f"examples/{example} is shown", len(shown) > 0, True)

@@ -13,6 +13,20 @@ use std::marker::Brand;
 use std::process::ExitCode;
 use std::sync::Wait;
 
+// One seat, one queue, and two requests of one seat each, of one flow.
+fn serve<R: Wait>(rt: &R, alloc: Global) -> Result<Report, OpenFault> {
+    let config = Config {
+        limit: 1,
+        queues: 1,
+        hand_size: 1,
+        queue_length_limit: 10,
+        limit_response: Response::Queue,
+    };
+    let asks = [Ask { width: 1, hash: 7 }; 2];
+    let opening = Opening::new(alloc, &config, &asks, 1)?;
+    serve_named::<Brand, R>(rt, alloc, opening)
+}
+
 // K names the level of this opening, so no call can mix it up with another level.
 fn serve_named<K: Naming, R: Wait>(
     rt: &R,
@@ -31,20 +45,6 @@ fn serve_named<K: Naming, R: Wait>(
     session.poll(rt, 1);
     session.finish(rt, 1);
     Ok(session.end(rt, alloc)?)
-}
-
-// One seat, one queue, and two requests of one seat each, of one flow.
-fn serve<R: Wait>(rt: &R, alloc: Global) -> Result<Report, OpenFault> {
-    let config = Config {
-        limit: 1,
-        queues: 1,
-        hand_size: 1,
-        queue_length_limit: 10,
-        limit_response: Response::Queue,
-    };
-    let asks = [Ask { width: 1, hash: 7 }; 2];
-    let opening = Opening::new(alloc, &config, &asks, 1)?;
-    serve_named::<Brand, R>(rt, alloc, opening)
 }
 
 fn main(rt: HostRuntime) -> ExitCode {

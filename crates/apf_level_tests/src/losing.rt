@@ -14,6 +14,7 @@ use apf_level::{Level, Naming};
 use apf_rounds::{MOST_TURNS, Start};
 use apf_session::{Answer, OpenFault, Operator, Request, Session};
 use apf_words::Decision;
+use std::alloc::Global;
 use std::process::Abort;
 use std::sync::atomic::{AtomicU64, Ordering};
 use std::sync::{Mutex, Wait};
@@ -36,9 +37,19 @@ const LOST: u64 = 3;
 // Once so many were cancelled, one of them lost its decision.
 const CANCELS: u64 = 2000;
 
+// How a taker arrives.
+#[derive(Clone, Copy)]
+enum Arrival {
+    // By the call that answers where it would have to wait.
+    Begin,
+    // By the call that sleeps until the request is decided.
+    Admit,
+}
+
 /// What the two threads of one round share.
 #[derive(Drop)]
 pub struct Losers {
+    arrival: Arrival,
     start: Start,
     // How many of the takers began to arrive.
     begun: AtomicU64,
@@ -55,8 +66,9 @@ pub struct Losers {
 }
 
 impl Losers {
-    fn new() -> Losers {
+    fn new(arrival: Arrival) -> Losers {
         Losers {
+            arrival,
             start: Start::new(),
             begun: AtomicU64::new(0),
             over: AtomicU64::new(0),
@@ -158,7 +170,10 @@ fn take<K: Naming, R: Wait + Clock>(
 ) {
     losers.wait_for_comer(rt);
     losers.begun.fetch_add(1, Ordering::SeqCst);
-    let answer = request.begin(rt, level);
+    let answer = match losers.arrival {
+        Arrival::Begin => request.begin(rt, level),
+        Arrival::Admit => request.admit(rt, level),
+    };
     if answer == Answer::Over(Decision::Cancelled) {
         losers.lost.fetch_add(1, Ordering::SeqCst);
         if caller.lock(rt).look(level).waiters() > 0 {
@@ -234,16 +249,19 @@ fn serve_all<K: Naming, R: Threads + Wait + Clock + Sync>(
 // Some takers lose their decisions while another request waits for their seat, and none of them leaves it waiting. The
 // rounds end once three did. Where a busy machine lets too few be cancelled by the last round, nothing is asked of
 // their number.
-#[test]
-fn a_lost_decision_dispatches(rt: HostRuntime) -> Result<(), OpenFault> {
-    let asks = vec![in rt.alloc(); ask(1); 2 * HALF]?;
+fn none_is_left_waiting<R: Threads + Wait + Abort + Clock + Sync>(
+    rt: &R,
+    alloc: Global,
+    arrival: Arrival,
+) -> Result<(), OpenFault> {
+    let asks = vec![in alloc; ask(1); 2 * HALF]?;
     let mut lost = 0u64;
     let mut cancels = 0u64;
     for _round in 0..ROUNDS {
-        let losers = Losers::new();
+        let losers = Losers::new(arrival);
         let ended = run(
-            &rt,
-            rt.alloc(),
+            rt,
+            alloc,
             settings(1),
             asks.as_slice(),
             1,
@@ -264,4 +282,14 @@ fn a_lost_decision_dispatches(rt: HostRuntime) -> Result<(), OpenFault> {
     }
     assert!(rt; lost > 0 || cancels < CANCELS, "none lost of {cancels}");
     Ok(())
+}
+
+#[test]
+fn a_lost_decision_dispatches(rt: HostRuntime) -> Result<(), OpenFault> {
+    none_is_left_waiting(&rt, rt.alloc(), Arrival::Begin)
+}
+
+#[test]
+fn a_lost_decision_of_admit_dispatches(rt: HostRuntime) -> Result<(), OpenFault> {
+    none_is_left_waiting(&rt, rt.alloc(), Arrival::Admit)
 }

@@ -1,4 +1,5 @@
-//! A caller that sleeps until its request is decided is woken by a dispatch and by a cancel of another thread.
+//! A caller that sleeps until its request is decided is woken by a dispatch and by a cancel of another thread. One
+//! dispatch wakes all whom it let in.
 
 ghost use Rattle.std.specs.Prelude.{◌≡◌, ◌<◌, length};
 
@@ -28,26 +29,29 @@ enum Call {
     Cancel,
 }
 
-/// What the two threads of one round share.
+/// What the threads of one round share.
 #[derive(Drop)]
 pub struct Sleepers {
     call: Call,
-    // What the sleeper is told.
+    // How many sleep.
+    count: u32,
+    // What each sleeper is told.
     told: Answer,
     // How many woke.
     woken: AtomicU64,
 }
 
 impl Sleepers {
-    fn new(call: Call, told: Answer) -> Sleepers {
+    fn new(call: Call, count: u32, told: Answer) -> Sleepers {
         Sleepers {
             call,
+            count,
             told,
             woken: AtomicU64::new(0),
         }
     }
 
-    /// The second request sleeps until the thread of the first one wakes it.
+    /// All requests but the first sleep until the thread of the first one wakes them.
     pub fn play<K: Naming, R: Threads + Wait + Abort + Sync>(
         &self,
         rt: &R,
@@ -58,7 +62,7 @@ impl Sleepers {
             panic!(rt; "a Station")
         };
         let caller = Mutex::new(caller);
-        serve_both(
+        serve_all(
             rt,
             &session.level,
             self,
@@ -70,10 +74,10 @@ impl Sleepers {
         };
     }
 
-    // Waits until the sleeper woke, in at most so many turns. Says whether it did.
+    // Waits until all sleepers woke, in at most so many turns. Says whether they did.
     fn wait_for_waking(&self) -> bool {
         for _turn in 0..MOST_TURNS / 10 {
-            if self.woken.load(Ordering::SeqCst) > 0 {
+            if self.woken.load(Ordering::SeqCst) >= u64::from(self.count) {
                 return true;
             }
             thread::yield_now();
@@ -82,10 +86,10 @@ impl Sleepers {
     }
 }
 
-// Lets one request sleep: waits until it stands in a queue, in at most so many turns, and gives it time.
-fn let_sleep<K: Naming>(level: &Level<K>, operator: &mut Operator<K>) {
+// Lets so many requests sleep: waits until they stand in queues, in at most so many turns, and gives them time.
+fn let_sleep<K: Naming>(level: &Level<K>, operator: &mut Operator<K>, count: u32) {
     for _turn in 0..MOST_TURNS {
-        if operator.look(level).waiters() == 1 {
+        if operator.look(level).waiters() == count {
             break;
         }
         thread::yield_now();
@@ -95,7 +99,7 @@ fn let_sleep<K: Naming>(level: &Level<K>, operator: &mut Operator<K>) {
     }
 }
 
-// The first request runs. Its thread lets the other one sleep, and then wakes it.
+// The first request runs. Its thread lets the others sleep, and then wakes them.
 fn wake<K: Naming, R: Wait + Abort>(
     rt: &R,
     level: &Level<K>,
@@ -105,12 +109,12 @@ fn wake<K: Naming, R: Wait + Abort>(
 )
     requires { 1 < length K.level.gate.shape.widths }
 {
-    let_sleep(level, &mut caller.lock(rt));
+    let_sleep(level, &mut caller.lock(rt), sleepers.count);
     assert_eq!(rt; sleepers.woken.load(Ordering::SeqCst), 0);
     match sleepers.call {
         Call::Dispatch => {
             assert_eq!(rt; request.release(level), Answer::Released(true));
-            assert_eq!(rt; level.dispatch(rt), 1);
+            assert_eq!(rt; level.dispatch(rt), sleepers.count);
         }
         Call::Cancel => {
             let decision = caller.lock(rt).cancel(level, 1);
@@ -120,7 +124,7 @@ fn wake<K: Naming, R: Wait + Abort>(
     assert!(rt; sleepers.wait_for_waking(), "it sleeps on");
 }
 
-// The second request sleeps until it is decided.
+// Another request sleeps until it is decided.
 fn sleep<K: Naming, R: Wait + Abort>(
     rt: &R,
     level: &Level<K>,
@@ -131,8 +135,8 @@ fn sleep<K: Naming, R: Wait + Abort>(
     sleepers.woken.fetch_add(1, Ordering::SeqCst);
 }
 
-// The first request wakes the second one, each in a thread of its own.
-fn serve_both<K: Naming, R: Threads + Wait + Abort + Sync>(
+// The first request wakes the others, each in a thread of its own.
+fn serve_all<K: Naming, R: Threads + Wait + Abort + Sync>(
     rt: &R,
     level: &Level<K>,
     sleepers: &Sleepers,
@@ -145,7 +149,7 @@ fn serve_both<K: Naming, R: Threads + Wait + Abort + Sync>(
     thread::for_each_mut(
         rt,
         requests,
-        2,
+        requests.len(),
         &|place: usize, request: &mut Request<K>|
             requires { 1 < length K.level.gate.shape.widths }
         { serve(rt, level, sleepers, caller, place, request) },
@@ -173,7 +177,7 @@ fn serve<K: Naming, R: Wait + Abort>(
 #[test]
 fn a_dispatch_wakes(rt: HostRuntime) -> Result<(), OpenFault> {
     for _round in 0..20u32 {
-        let sleepers = Sleepers::new(Call::Dispatch, Run);
+        let sleepers = Sleepers::new(Call::Dispatch, 1, Run);
         let before = Script::of(&[Begin(0, Run)]);
         let after = Script::of(&[Look(false, [1, 0, 1]), Release(1, Released(false))]);
         let ended = run(
@@ -204,11 +208,41 @@ fn a_dispatch_wakes(rt: HostRuntime) -> Result<(), OpenFault> {
     Ok(())
 }
 
+// The first request gave two seats back, and both sleepers run by the one dispatch.
+#[test]
+fn a_dispatch_wakes_two(rt: HostRuntime) -> Result<(), OpenFault> {
+    for _round in 0..20u32 {
+        let sleepers = Sleepers::new(Call::Dispatch, 2, Run);
+        let before = Script::of(&[Begin(0, Run)]);
+        let after = Script::of(&[
+            Look(false, [2, 0, 2]),
+            Release(1, Released(false)),
+            Release(2, Released(false)),
+        ]);
+        let ended = run(
+            &rt,
+            rt.alloc(),
+            settings(2),
+            &[ask(2), ask(1), ask(1)],
+            2,
+            &[
+                Scene::Script(before),
+                Scene::Sleep(&sleepers),
+                Scene::Script(after),
+            ],
+        )?;
+        assert_eq!(rt; sleepers.woken.load(Ordering::SeqCst), 2);
+        assert_eq!(rt; ended.report.counts.executed, 3);
+        assert_eq!(rt; ended.report.stats, numbers(2, 2, 0, 0, 0));
+    }
+    Ok(())
+}
+
 // The first request still runs, and the sleeper is cancelled.
 #[test]
 fn a_cancel_wakes(rt: HostRuntime) -> Result<(), OpenFault> {
     for _round in 0..20u32 {
-        let sleepers = Sleepers::new(Call::Cancel, Over(Decision::Cancelled));
+        let sleepers = Sleepers::new(Call::Cancel, 1, Over(Decision::Cancelled));
         let before = Script::of(&[Begin(0, Run)]);
         let after = Script::of(&[Look(false, [1, 0, 1]), Release(0, Released(false))]);
         let ended = run(

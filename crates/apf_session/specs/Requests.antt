@@ -1,5 +1,6 @@
 -- What a request of a level holds, and what the answer of a call says of it.
-use Rattle.std.specs.Prelude.{◌≡◌, ◌≢◌, ℕ, ◌<◌, List, length, slice_index_or, All, Option, Some, None}
+use Rattle.std.specs.Prelude.{◌≡◌, ◌≢◌, ◌==◌, not, ℕ, ◌<◌, List, length, slice_index_or, All, Option, Some, None}
+use Rattle.apf_words.specs.Level.{Level}
 use Rattle.apf_words.specs.declared.decision.Decision.{Decision}
 use Rattle.apf_words.specs.declared.decision.Decision.TheVariants.{Execute, QueueFull}
 use Rattle.apf_history.specs.declared.events.Event.{Event}
@@ -7,6 +8,10 @@ use Rattle.apf_history.specs.declared.events.Event.TheVariants as events
 use Rattle.apf_gate.specs.declared.record.State.TheVariants.{Fresh}
 use Rattle.apf_gate.specs.Records.{told_own}
 use Rattle.apf_gate.specs.Tokens.{PassToken, pass_gate}
+use Rattle.apf_gate.specs.PassSteps.{PassSubtractsLevel}
+use Rattle.apf_level.specs.declared.answers.TryAdmit.{TryAdmit}
+use Rattle.apf_level.specs.declared.answers.TryAdmit.TheVariants as tried
+use Rattle.apf_level.specs.Admission.{TriesToAdmit}
 use Rattle.apf_level.specs.declared.answers.Begin.{Begin}
 use Rattle.apf_level.specs.declared.answers.Begin.TheVariants as begun
 use Rattle.apf_level.specs.Levels.{LevelId}
@@ -80,6 +85,41 @@ pub record Answers (place : Place) (old : RequestView) (answer : Answer) (new : 
   pub says : Says answer new.token
   pub right : place_of old.token ≡ place → answer ≢ answers.Wrong
   pub wrong : place_of old.token ≢ place → (answer ≡ answers.Wrong) × (new ≡ old)
+
+-- what is answered of an attempt, and the token that is kept of it
+abbrev pub KeepsTried : TryAdmit → Answer → Token → Type 0
+KeepsTried (tried.Run pass) answer token = (answer ≡ answers.Run) × (token ≡ tokens.Running pass)
+KeepsTried (tried.Over pass decision waiting) answer token = (answer ≡ answers.Tried decision waiting) × (token ≡ tokens.Done pass)
+KeepsTried (tried.Busy pass) answer token = (answer ≡ answers.Busy) × (token ≡ tokens.Fresh pass)
+
+-- what an attempt of a request that did not arrive answers is what its steps found: that requests waited when seats were given back, too
+abbrev pub TriesAs : Token → Answer → Token → Type 0
+TriesAs (tokens.Fresh pass) answer token' = (attempt : TryAdmit) × TriesToAdmit pass.pass attempt × KeepsTried attempt answer token'
+TriesAs (tokens.Waiting pass) answer token' = Unit {0}
+TriesAs (tokens.Running pass) answer token' = Unit {0}
+TriesAs (tokens.Done pass) answer token' = Unit {0}
+TriesAs tokens.Gone answer token' = Unit {0}
+
+-- what is answered where a request that executes gives its seats back is what its one step found: whether requests waited then
+abbrev pub ReleasesAs : Token → Answer → Token → Type 0
+ReleasesAs (tokens.Fresh pass) answer token' = Unit {0}
+ReleasesAs (tokens.Waiting pass) answer token' = Unit {0}
+ReleasesAs (tokens.Running pass) answer token' = (done : PassToken) × (level : Level) × PassSubtractsLevel pass.pass level done.pass
+    × (answer ≡ answers.Released (not (level.waiters == 0))) × (token' ≡ tokens.Done done)
+ReleasesAs (tokens.Done pass) answer token' = Unit {0}
+ReleasesAs tokens.Gone answer token' = Unit {0}
+
+-- the decision that a request was told, once it executes or is over
+abbrev pub told_by : Token → Option Decision
+told_by (tokens.Fresh pass) = None
+told_by (tokens.Waiting pass) = None
+told_by (tokens.Running pass) = Some Execute
+told_by (tokens.Done pass) = told_own pass.pass
+told_by tokens.Gone = None
+
+-- a request that was told a decision was told no other one since
+abbrev pub StaysTold : Token → Token → Type 0
+StaysTold token token' = told_by token ≢ None → told_by token' ≡ told_by token
 
 -- what is answered of an arrival, and the token that is kept of it
 abbrev pub KeepsBegun : Begin → Answer → Token → Type 0

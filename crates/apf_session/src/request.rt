@@ -6,7 +6,7 @@ ghost use Rattle.apf_gate.specs.declared.record.State.TheVariants as states;
 ghost use Rattle.apf_gate.specs.Tokens.{pass_gate};
 ghost use Rattle.apf_session.specs.declared.answer.Place.TheVariants as places;
 ghost use Rattle.apf_session.specs.declared.token.Token.TheVariants as tokens;
-ghost use Rattle.apf_session.specs.Requests.{place_of, Answers, KeepsBegun, LogsFor};
+ghost use Rattle.apf_session.specs.Requests.{place_of, told_by, Answers, KeepsBegun, LogsFor, TriesAs, ReleasesAs};
 
 use crate::answer::{Answer, Place};
 use crate::token::Token;
@@ -134,7 +134,8 @@ impl<K: Naming> Request<K> {
 
     /// Admits it, if nobody waits and it fits. It takes no lock. Answers `Run`, `Tried` or `Busy`.
     pub fn try_admit(&mut self, level: &Level<K>) -> Answer
-        ensures { Answers places.Away self.old result self.new }
+        ensures answers { Answers places.Away self.old result self.new }
+        ensures steps { TriesAs self.old.token result self.new.token }
     {
         match take(&mut self.token) {
             Token::Fresh(pass) => match level.try_admit(pass) {
@@ -220,7 +221,8 @@ impl<K: Naming> Request<K> {
 
     /// A request that executes gives its seats back, by one step. Answers `Released`.
     pub fn release(&mut self, level: &Level<K>) -> Answer
-        ensures { Answers places.Runs self.old result self.new }
+        ensures answers { Answers places.Runs self.old result self.new }
+        ensures steps { ReleasesAs self.old.token result self.new.token }
     {
         match take(&mut self.token) {
             Token::Running(running) => {
@@ -237,7 +239,8 @@ impl<K: Naming> Request<K> {
 
     /// A request that executes gives its seats back. Then requests that wait are dispatched. Answers `Released`.
     pub fn finish<R: Wait>(&mut self, rt: &R, level: &Level<K>) -> Answer
-        ensures { Answers places.Runs self.old result self.new }
+        ensures answers { Answers places.Runs self.old result self.new }
+        ensures steps { ReleasesAs self.old.token result self.new.token }
     {
         let answer = self.release(level);
         if answer == Answer::Released(true) {

@@ -1,2 +1,6 @@
 pub mod Opened
 pub mod Numbered
+pub mod Staying
+pub mod Finishing
+pub mod Leaving
+pub mod Concluding

@@ -1,11 +1,12 @@
 -- What the end of a session tells.
-use Rattle.std.specs.Prelude.{◌≡◌, List, length, reverse, slice_get}
+use Rattle.std.specs.Prelude.{◌≡◌, ◌≢◌, ℕ, ◌<◌, List, length, reverse, slice_get, slice_index_or, None}
 use Rattle.apf_model.specs.Outcome.{stats_of}
 use Rattle.apf_gate.specs.Tokens.{PassToken, StationToken}
 use Rattle.apf_book.specs.LedgerKept.{AreStats}
 use Rattle.apf_level.specs.declared.report.Report.{Report}
 use Rattle.apf_level.specs.Levels.{LevelId}
 use Rattle.apf_level.specs.Reports.{AreSums, Ended}
+use Rattle.apf_session.specs.Requests.{RequestView, told_by}
 
 -- the report is that of this level, whose Passes and Stations were all handed in
 pub record HasEnded (k : LevelId) (r : Report) : Type 0 where
@@ -15,3 +16,20 @@ pub record HasEnded (k : LevelId) (r : Report) : Type 0 where
   pub all_decided : length r.decisions.items ≡ length k.gate.shape.widths
   pub sums : AreSums r.counts (slice_get r.decisions.items) (length r.decisions.items)
   pub stats : AreStats r.stats (stats_of k.opening.sizes.deck (reverse r.log.items))
+
+-- the report's decision of each of these requests that was told one is that one
+abbrev pub TellsTheSame : List RequestView → Report → Type 0
+TellsTheSame requests r = (i : ℕ) (d : RequestView) → i < length requests → told_by (slice_index_or requests i d).token ≢ None
+    → slice_get r.decisions.items (slice_index_or requests i d).number ≡ told_by (slice_index_or requests i d).token
+
+-- the Stations that were handed in are these operators', in their order; the first may have made steps since
+pub record KeepsOrder (operators stations : List StationToken) : Type 0 where
+  pub count : length stations ≡ length operators
+  pub numbers : (i : ℕ) (d : StationToken) → (slice_index_or stations i d).station.number ≡ (slice_index_or operators i d).station.number
+  pub others : (i : ℕ) (d : StationToken) → i ≢ 0 → slice_index_or stations i d ≡ slice_index_or operators i d
+
+-- the end of a session with these requests and operators
+pub record SessionEnds (k : LevelId) (requests : List RequestView) (operators : List StationToken) (r : Report) : Type 0 where
+  pub ended : HasEnded k r
+  pub told : TellsTheSame requests r
+  pub order : KeepsOrder operators ended.stations

@@ -1,5 +1,5 @@
 -- What a request of a level holds, and what the answer of a call says of it.
-use Rattle.std.specs.Prelude.{◌≡◌, ◌≢◌, ◌==◌, not, ℕ, ◌<◌, List, length, slice_index_or, All, Option, Some, None}
+use Rattle.std.specs.Prelude.{◌≡◌, ◌≢◌, ◌==◌, not, ℕ, ◌-◌, ◌<◌, List, length, slice_index_or, All, Option, Some, None}
 use Rattle.apf_words.specs.Level.{Level}
 use Rattle.apf_words.specs.declared.decision.Decision.{Decision}
 use Rattle.apf_words.specs.declared.decision.Decision.TheVariants.{Execute, QueueFull}
@@ -120,6 +120,20 @@ told_by tokens.Gone = None
 -- a request that was told a decision was told no other one since
 abbrev pub StaysTold : Token → Token → Type 0
 StaysTold token token' = told_by token ≢ None → told_by token' ≡ told_by token
+
+-- the same of each of these requests
+abbrev pub StayTold : List RequestView → List RequestView → Type 0
+StayTold old new = (i : ℕ) (d : RequestView) → StaysTold (slice_index_or old i d).token (slice_index_or new i d).token
+
+-- the Pass that is left of a request: it is the request's, and was told what that was told
+pub record IsLeftOf (request : RequestView) (pass : PassToken) : Type 0 where
+  pub number : pass.pass.number ≡ request.number
+  pub told : told_by request.token ≢ None → told_own pass.pass ≡ told_by request.token
+
+-- the Passes that are left of these requests, the last one first
+abbrev pub AreLeftOf : List RequestView → List PassToken → Type 0
+AreLeftOf requests passes = (i : ℕ) (d : RequestView) (e : PassToken) → i < length requests
+    → IsLeftOf (slice_index_or requests i d) (slice_index_or passes (length requests - 1 - i) e)
 
 -- what is answered of an arrival, and the token that is kept of it
 abbrev pub KeepsBegun : Begin → Answer → Token → Type 0

@@ -48,6 +48,7 @@ impl<K: Naming> Operator<K> {
     /// `Level::strike` takes it out.
     pub fn cancel(&mut self, level: &Level<K>, request: u32) -> Decision
         requires { request < length K.level.gate.shape.widths }
+        ensures number { self.new.station.number ≡ self.old.station.number }
         ensures answer { CancelsTo self.old.station request result self.new.station }
         ensures told { told_of self.new.station.knows.told request ≡ Some result }
     {

@@ -1,8 +1,10 @@
 //! One request of a level, from its arrival to its end.
 
-ghost use Rattle.std.specs.Prelude.{◌≡◌, ◌<◌, ◌≤◌, length};
+ghost use Rattle.std.specs.Prelude.{◌≡◌, ◌≢◌, ◌<◌, ◌≤◌, length, Some, None};
 ghost use Rattle.apf_words.specs.Limits.{max_requests};
+ghost use Rattle.apf_words.specs.declared.decision.Decision.TheVariants.{Execute};
 ghost use Rattle.apf_gate.specs.declared.record.State.TheVariants as states;
+ghost use Rattle.apf_gate.specs.Records.{told_own};
 ghost use Rattle.apf_gate.specs.Tokens.{pass_gate};
 ghost use Rattle.apf_session.specs.declared.answer.Place.TheVariants as places;
 ghost use Rattle.apf_session.specs.declared.token.Token.TheVariants as tokens;
@@ -71,6 +73,7 @@ pub fn release<K: Naming, R: Wait>(rt: &R, level: &Level<K>, running: Running) -
     requires { pass_gate running ≡ K.level.gate }
     ensures own { pass_gate result ≡ K.level.gate }
     ensures same { result.pass.number ≡ running.pass.number }
+    ensures told { told_own result.pass ≡ Some Execute }
 {
     let (done, waiting) = level.release(running);
     if waiting {
@@ -254,6 +257,7 @@ impl<K: Naming> Request<K> {
     pub fn end<R: Wait>(self, rt: &R, level: &Level<K>) -> Done
         ensures own { pass_gate result ≡ K.level.gate }
         ensures number { result.pass.number ≡ self.number }
+        ensures told { told_by self.token ≢ None → told_own result.pass ≡ told_by self.token }
     {
         let Request {
             token,

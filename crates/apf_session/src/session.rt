@@ -1,6 +1,6 @@
 //! A level with its requests, its operators and the reader of its statistics.
 
-ghost use Rattle.std.specs.Prelude.{◌≡◌, ◌+◌, ◌<◌, ◌≤◌, [], length, slice_index_or, All, IfOk, IfErr, OnOk};
+ghost use Rattle.std.specs.Prelude.{◌≡◌, ◌+◌, ◌<◌, ◌≤◌, ℕ, [], length, slice_index_or, All, IfOk, IfErr, OnOk};
 ghost use Rattle.apf_words.specs.Limits.{max_limit};
 ghost use Rattle.apf_model.specs.Schedule.{AreWidths};
 ghost use Rattle.apf_gate.specs.declared.record.State.TheVariants.{Fresh};
@@ -13,8 +13,8 @@ ghost use Rattle.apf_level.specs.Limits.{LastSet};
 ghost use Rattle.apf_level.specs.Opening.{SettledBy};
 ghost use Rattle.apf_session.specs.declared.answer.Place.TheVariants as places;
 ghost use Rattle.apf_session.specs.Openings.{level_of, level_with, IsOpenFault};
-ghost use Rattle.apf_session.specs.Requests.{RequestView, AreNumbered, ArePassesNumbered, AreAway, CallsOne, LogsFor};
-ghost use Rattle.apf_session.specs.Ends.{HasEnded};
+ghost use Rattle.apf_session.specs.Requests.{RequestView, AreNumbered, ArePassesNumbered, AreAway, CallsOne, LogsFor, AreLeftOf, ReleasesAs, StaysTold, StayTold};
+ghost use Rattle.apf_session.specs.Ends.{KeepsOrder, SessionEnds};
 
 use crate::answer::{Answer, Place};
 use crate::fault::OpenFault;
@@ -87,10 +87,10 @@ fn dones_of<K: Naming, R: Wait>(
     requires { dones.items ≡ [] }
     ensures count { IfOk result (λ v. length v.items ≡ length requests.items) }
     ensures own { IfOk result (λ v. All (λ t. pass_gate t ≡ K.level.gate) v.items) }
+    ensures left { IfOk result (λ v. AreLeftOf requests.items v.items) }
 {
     while let Some(request) = requests.pop() {
-        let done = request.end(rt, level);
-        if dones.push(done).is_err() {
+        if let Err(_refused) = dones.push(request.end(rt, level)) {
             give_up(rt, level, requests);
             return Err(AllocError);
         }
@@ -104,7 +104,9 @@ fn cancel_undecided<K: Naming>(
     level: &Level<K>,
     operator: &mut Operator<K>,
     requests: &[Request<K>],
-) {
+)
+    ensures number { operator.new.station.number ≡ operator.old.station.number }
+{
     for request in requests {
         if matches!(request.place(), Place::Away | Place::Waits) {
             operator.cancel(level, request.number());
@@ -112,13 +114,42 @@ fn cancel_undecided<K: Naming>(
     }
 }
 
+// A request that waits reads its decision, and one that executes gives its seats back.
+fn finish_one<K: Naming, R: Wait>(rt: &R, level: &Level<K>, request: &mut Request<K>)
+    ensures number { request.new.number ≡ request.old.number }
+    ensures told { StaysTold request.old.token request.new.token }
+{
+    request.poll(rt, level);
+    request.finish(rt, level);
+}
+
 // Each request that waits reads its decision, and each that executes gives its seats back.
 fn finish_all<K: Naming, R: Wait>(rt: &R, level: &Level<K>, requests: &mut [Request<K>])
-    ensures { length requests.new ≡ length requests.old }
+    ensures count { length requests.new ≡ length requests.old }
+    ensures numbers { (i : ℕ) (d : RequestView) → (slice_index_or requests.new i d).number ≡ (slice_index_or requests.old i d).number }
+    ensures told { StayTold requests.old requests.new }
 {
-    for request in requests {
-        request.poll(rt, level);
-        request.finish(rt, level);
+    for place in 0..requests.len() {
+        finish_one(rt, level, &mut requests[place]);
+    }
+}
+
+// With an operator, the first one cancels each request that is undecided. Then each that waits reads that, and each that
+// executes gives its seats back.
+fn settle_all<K: Naming, R: Wait>(
+    rt: &R,
+    level: &Level<K>,
+    operators: &mut Vec<Operator<K>>,
+    requests: &mut Vec<Request<K>>,
+)
+    ensures operators { KeepsOrder operators.old.items operators.new.items }
+    ensures count { length requests.new.items ≡ length requests.old.items }
+    ensures numbers { (i : ℕ) (d : RequestView) → (slice_index_or requests.new.items i d).number ≡ (slice_index_or requests.old.items i d).number }
+    ensures told { StayTold requests.old.items requests.new.items }
+{
+    if !operators.is_empty() {
+        cancel_undecided(level, &mut operators[0], requests.as_slice());
+        finish_all(rt, level, requests.as_mut_slice());
     }
 }
 
@@ -143,7 +174,7 @@ fn stations_of<K: Naming>(
     alloc: Global,
     operators: Vec<Operator<K>>,
 ) -> Result<Vec<Station>, AllocError>
-    ensures count { IfOk result (λ v. length v.items ≡ length operators.items) }
+    ensures same { IfOk result (λ v. v.items ≡ operators.items) }
     ensures own { IfOk result (λ v. All (λ t. station_gate t ≡ K.level.gate) v.items) }
 {
     let mut stations = Vec::with_capacity(alloc, operators.len())?;
@@ -273,7 +304,8 @@ impl<K: Naming> Session<K> {
     /// A request that executes gives its seats back. Then requests that wait are dispatched. Answers `Released`.
     pub fn finish<R: Wait>(&mut self, rt: &R, request: u32) -> Answer
         requires { request < length K.level.gate.shape.widths }
-        ensures { CallsOne places.Runs request self.old.requests.items result self.new.requests.items }
+        ensures calls { CallsOne places.Runs request self.old.requests.items result self.new.requests.items }
+        ensures steps { (d : RequestView) → ReleasesAs (slice_index_or self.old.requests.items request d).token result (slice_index_or self.new.requests.items request d).token }
     {
         self.requests[request as usize].finish(rt, &self.level)
     }
@@ -339,7 +371,7 @@ impl<K: Naming> Session<K> {
     ///
     /// `AllocError` if memory was refused. Then everything is given up.
     pub fn end<R: Wait>(self, rt: &R, alloc: Global) -> Result<Report, AllocError>
-        ensures { IfOk result (HasEnded K.level) }
+        ensures { IfOk result (SessionEnds K.level self.requests.items self.operators.items) }
     {
         let Session {
             level,
@@ -347,10 +379,7 @@ impl<K: Naming> Session<K> {
             mut operators,
             stats,
         } = self;
-        if let Some(operator) = operators.first_mut() {
-            cancel_undecided(&level, operator, requests.as_slice());
-            finish_all(rt, &level, requests.as_mut_slice());
-        }
+        settle_all(rt, &level, &mut operators, &mut requests);
         let dones = match Vec::with_capacity(alloc, requests.len()) {
             Ok(dones) => dones_of(rt, &level, requests, dones)?,
             Err(refused) => {

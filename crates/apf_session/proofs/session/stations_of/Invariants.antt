@@ -1,5 +1,5 @@
--- There are as many Stations as operators that are gone, each of the level.
-use Rattle.std.proofs.Common.{◌≡◌, ◌+◌, length, All}
+-- The Stations are those of the operators that are gone, each of the level.
+use Rattle.std.proofs.Common.{◌≡◌, ◌++◌, All}
 use Rattle.std.specs.Vec.Iter.{into_iter_items}
 use Rattle.apf_gate.specs.Tokens.{station_gate}
 use Rattle.apf_session.proofs.session.stations_of.Given as goal
@@ -9,6 +9,6 @@ invariant-loop-operator g l =
     record {
       next : (goal.iterator-loop-operator g).can_next l.operator-iterator;
       ends : (goal.iterator-loop-operator g).is_finite l.operator-iterator;
-      count : length l.stations.items + length (into_iter_items l.operator-iterator) ≡ length l.fn.operators.items;
+      same : l.stations.items ++ into_iter_items l.operator-iterator ≡ l.fn.operators.items;
       own : All (λ t. station_gate t ≡ g.K.Naming.level.gate) l.stations.items;
     }

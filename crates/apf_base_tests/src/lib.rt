@@ -3,7 +3,7 @@
 //!
 //! They stand in a crate of their own, as a crate with tests is proved twice.
 //!
-//! - `words`: level words, decisions and the limits. `flow`: flow hashes and hands.
+//! - `words`: level words, decisions, marks and the limits. `flow`: flow hashes and hands.
 //! - `short`: which request of memory is refused.
 //! - `histories`: worked histories. `judges`: which histories are legal, fair and agree.
 //! - `worlds`: the worlds of a level after worked steps.

@@ -1,7 +1,8 @@
-//! Level words, decisions and the limits, with values worked out by hand.
+//! Level words, decisions, marks and the limits, with values worked out by hand.
 
 use apf_words::{
-    Decision, LevelWord, MAX_LIMIT, MAX_REQUESTS, MAX_STATIONS, MAX_WIDTH, UNDECIDED, fits,
+    Decision, LevelWord, MAX_LIMIT, MAX_REQUESTS, MAX_STATIONS, MAX_WIDTH, UNDECIDED, decided,
+    decision_in, fits, mark_in, undecided,
 };
 use std::test::Fail;
 
@@ -54,6 +55,19 @@ fn codes(rt: HostRuntime) {
     assert_eq!(rt; UNDECIDED, 0);
     assert_eq!(rt; Decision::Execute.code(), 1);
     assert_eq!(rt; Decision::Cancelled.code(), 4);
+}
+
+// The greatest mark has 61 bits.
+#[test]
+fn marks(rt: HostRuntime) {
+    assert_eq!(rt; undecided(0), 0);
+    assert_eq!(rt; undecided(5), 40);
+    assert_eq!(rt; decided(5, Decision::Cancelled), 44);
+    assert_eq!(rt; decided(2305843009213693951, Decision::Closed), 18446744073709551611);
+    assert_eq!(rt; mark_in(18446744073709551611), 2305843009213693951);
+    assert_eq!(rt; decision_in(18446744073709551611), Some(Decision::Closed));
+    assert_eq!(rt; mark_in(40), 5);
+    assert_eq!(rt; decision_in(40), None);
 }
 
 #[test]

@@ -11,6 +11,7 @@ use crate::marks::Mark;
 use crate::opening::{Fault, ask, open_gate, requests_of};
 use crate::requests::Request;
 use crate::scripts::settings;
+use crate::stations;
 use apf_book::{Ask, Book, Config, Stats};
 use apf_gate::{Gate, Opened, Station};
 use apf_model::Event::{self, Dispatch, Enter, Full, Strike};
@@ -50,6 +51,7 @@ struct OneSeat<K: Mark> {
     requests: Vec<Request<K>, Global>,
     station: Station,
     ghost gate_is: { gate ≡ K.gate },
+    ghost is_a_batch: { length K.gate.shape.widths ≡ K.gate.shape.slots },
     ghost desk_is: { desk_gate book.desk ≡ K.gate },
     ghost station_is: { station_gate station ≡ K.gate },
     ghost requests_are: { length requests.items ≡ length K.gate.shape.widths },
@@ -65,7 +67,7 @@ impl<K: Mark> OneSeat<K> {
     ) -> Result<Self, Fault>
         requires gate { opened.0 ≡ K.gate }
         requires desk { (desk_gate opened.1 ≡ opened.0) × (opened.1.desk ≡ new_desk opened.1.desk.knows.shape) }
-        requires shape { IsShape opened.0.shape × (opened.0.shape.response ≡ Queue) }
+        requires shape { IsShape opened.0.shape × (length opened.0.shape.widths ≡ opened.0.shape.slots) × (opened.0.shape.response ≡ Queue) }
         requires widths { map (λ a. a.width) asks.now ≡ opened.0.shape.widths }
         requires passes { All (λ t. (pass_gate t ≡ opened.0) × (t.pass.state ≡ Fresh)) opened.2.items }
         requires stations { All (λ t. station_gate t ≡ opened.0) opened.3.items }
@@ -109,7 +111,7 @@ impl<K: Mark> OneSeat<K> {
 
     fn strike<R: Wait + Abort>(&mut self, rt: &R, request: u32) {
         assert!(rt; (request as usize) < self.requests.len());
-        self.gate.cancel(&mut self.station, request);
+        stations::cancel(&self.gate, &mut self.station, request);
         self.book.strike(&self.gate, request);
     }
 
@@ -140,7 +142,7 @@ fn play<K: Mark, R: Wait + Abort>(
 ) -> Result<(), Fault>
     requires gate { opened.0 ≡ K.gate }
     requires desk { (desk_gate opened.1 ≡ opened.0) × (opened.1.desk ≡ new_desk opened.1.desk.knows.shape) }
-    requires shape { IsShape opened.0.shape × (opened.0.shape.response ≡ Queue) }
+    requires shape { IsShape opened.0.shape × (length opened.0.shape.widths ≡ opened.0.shape.slots) × (opened.0.shape.response ≡ Queue) }
     requires widths { map (λ a. a.width) row.now.asks.now ≡ opened.0.shape.widths }
     requires passes { All (λ t. (pass_gate t ≡ opened.0) × (t.pass.state ≡ Fresh)) opened.2.items }
     requires stations { All (λ t. station_gate t ≡ opened.0) opened.3.items }

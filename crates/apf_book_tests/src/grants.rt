@@ -7,6 +7,7 @@ ghost use Rattle.apf_gate.specs.declared.record.State.TheVariants.{Fresh};
 ghost use Rattle.apf_gate.specs.Gauges.{IsShape};
 ghost use Rattle.apf_gate.specs.Records.{new_desk};
 ghost use Rattle.apf_gate.specs.Tokens.{pass_gate, desk_gate, station_gate};
+ghost use Rattle.apf_book_tests.specs.Batches.{HasRequests};
 
 use crate::judging::{Ended, judge};
 use crate::marks::Mark;
@@ -14,6 +15,7 @@ use crate::opening::{Fault, ask, open_gate, passes_of, requests_of};
 use crate::requests::{Request, Tried};
 use crate::scripts::settings;
 use crate::shared::Round;
+use crate::stations;
 use apf_book::{Ask, Book, Config, Stats};
 use apf_gate::{Gate, Opened, Station};
 use apf_rounds::{ENOUGH, MOST_ROUNDS, pass_time, turns};
@@ -80,14 +82,14 @@ fn cancel<K: Mark>(
     station: &mut Station,
 )
     requires own { station_gate station.old ≡ gate.now }
-    requires requests { 33 ≤ length gate.now.shape.widths }
+    requires requests { HasRequests gate.now.shape 33 }
     ensures { station_gate station.new ≡ gate.now }
 {
     round.start.wait_for(round.threads);
     pass_time(turns(round.number, place) / 16);
     let mut seats = 0;
     for back in 0..32u32 {
-        gate.cancel(station, 32 - back);
+        stations::cancel(gate, station, 32 - back);
         let found = gate.look(station).seats();
         if found < seats {
             lost.fetch_add(1, Ordering::SeqCst);
@@ -104,7 +106,7 @@ fn cancel_all<K: Mark + Send + Sync, R: Threads + Sync>(
     lost: &AtomicU64,
     stations: &mut [Station],
 )
-    requires requests { 33 ≤ length gate.now.shape.widths }
+    requires requests { HasRequests gate.now.shape 33 }
     requires own { All (λ t. station_gate t ≡ gate.now) stations.old }
     ensures count { length stations.new ≡ length stations.old }
     ensures own { All (λ t. station_gate t ≡ gate.now) stations.new }
@@ -126,7 +128,7 @@ fn dispatch_beside_cancels<K: Mark + Send + Sync, R: Threads + Wait + Sync>(
     stations: &mut [Station],
 )
     requires gate { gate.now ≡ K.gate }
-    requires requests { 33 ≤ length gate.now.shape.widths }
+    requires requests { HasRequests gate.now.shape 33 }
     requires own { All (λ t. station_gate t ≡ gate.now) stations.old }
     ensures count { length stations.new ≡ length stations.old }
     ensures own { All (λ t. station_gate t ≡ gate.now) stations.new }
@@ -137,7 +139,7 @@ fn dispatch_beside_cancels<K: Mark + Send + Sync, R: Threads + Wait + Sync>(
             requires { gate.now ≡ K.gate }
         { dispatch(rt, gate, round) },
         &mut ||
-            requires { IsSync R.row × (33 ≤ length gate.now.shape.widths) × All (λ t. station_gate t ≡ gate.now) stations.now }
+            requires { IsSync R.row × HasRequests gate.now.shape 33 × All (λ t. station_gate t ≡ gate.now) stations.now }
             ensures { (length stations.exit.now ≡ length stations.entry.now) × All (λ t. station_gate t ≡ gate.entry.now) stations.exit.now }
         { cancel_all(rt, gate, round, lost, stations) },
     );
@@ -154,7 +156,7 @@ fn round<K: Mark + Send + Sync, R: Threads + Wait + Abort + Sync>(
 ) -> Result<(Stats, u64), Fault>
     requires gate { opened.0 ≡ K.gate }
     requires desk { (desk_gate opened.1 ≡ opened.0) × (opened.1.desk ≡ new_desk opened.1.desk.knows.shape) }
-    requires shape { IsShape opened.0.shape × (opened.0.shape.response ≡ Queue) }
+    requires shape { IsShape opened.0.shape × (length opened.0.shape.widths ≡ opened.0.shape.slots) × (opened.0.shape.response ≡ Queue) }
     requires widths { map (λ a. a.width) asks.now ≡ opened.0.shape.widths }
     requires passes { All (λ t. (pass_gate t ≡ opened.0) × (t.pass.state ≡ Fresh)) opened.2.items }
     requires stations { All (λ t. station_gate t ≡ opened.0) opened.3.items }

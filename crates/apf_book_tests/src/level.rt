@@ -10,6 +10,7 @@ ghost use Rattle.apf_gate.specs.Tokens.{pass_gate, desk_gate, station_gate};
 use crate::marks::Mark;
 use crate::opening::{Fault, requests_of};
 use crate::requests::{Request, Stage, Tried};
+use crate::stations;
 use apf_book::{Arrived, Ask, Book, Config};
 use apf_gate::{Close, Desk, Gate, Opened, Pass, Station, TrySetLimit};
 use apf_model::Event;
@@ -92,6 +93,7 @@ pub struct Level<A: Allocator, K: Mark> {
     requests: Vec<Request<K>, A>,
     station: Station,
     ghost gate_is: { gate ≡ K.gate },
+    ghost is_a_batch: { length K.gate.shape.widths ≡ K.gate.shape.slots },
     ghost desk_is: { desk_gate book.desk ≡ K.gate },
     ghost station_is: { station_gate station ≡ K.gate },
     ghost requests_are: { length requests.items ≡ length K.gate.shape.widths },
@@ -102,7 +104,7 @@ impl<A: Allocator + Copy, K: Mark> Level<A, K> {
     pub fn new(alloc: A, config: &Config, asks: &[Ask], opened: Opened<A>) -> Result<Self, Fault>
         requires gate { opened.0 ≡ K.gate }
         requires desk { (desk_gate opened.1 ≡ opened.0) × (opened.1.desk ≡ new_desk opened.1.desk.knows.shape) }
-        requires shape { IsShape opened.0.shape × (opened.0.shape.response ≡ Queue) }
+        requires shape { IsShape opened.0.shape × (length opened.0.shape.widths ≡ opened.0.shape.slots) × (opened.0.shape.response ≡ Queue) }
         requires widths { map (λ a. a.width) asks.now ≡ opened.0.shape.widths }
         requires passes { All (λ t. (pass_gate t ≡ opened.0) × (t.pass.state ≡ Fresh)) opened.2.items }
         requires stations { All (λ t. station_gate t ≡ opened.0) opened.3.items }
@@ -210,7 +212,7 @@ impl<A: Allocator, K: Mark> Level<A, K> {
         if request as usize >= self.requests.len() {
             return Answer::Unknown;
         }
-        let decision = self.gate.cancel(&mut self.station, request);
+        let decision = stations::cancel(&self.gate, &mut self.station, request);
         if decision == Decision::Cancelled && self.book.strike(&self.gate, request) {
             self.book.dispatch(rt, &self.gate);
         }
@@ -222,7 +224,7 @@ impl<A: Allocator, K: Mark> Level<A, K> {
         if request as usize >= self.requests.len() {
             return Answer::Unknown;
         }
-        Answer::Cancel(self.gate.cancel(&mut self.station, request))
+        Answer::Cancel(stations::cancel(&self.gate, &mut self.station, request))
     }
 
     // The level gets this limit, and where requests wait the heads that fit are dispatched.
@@ -259,7 +261,7 @@ impl<A: Allocator, K: Mark> Level<A, K> {
         let mut decided = [0u32; 6];
         for place in 0..self.requests.len() {
             let request = self.requests[place].number();
-            let kind = match self.gate.read(&mut self.station, request) {
+            let kind = match stations::read(&self.gate, &mut self.station, request) {
                 None => 0,
                 Some(Decision::Execute) => 1,
                 Some(Decision::QueueFull) => 2,

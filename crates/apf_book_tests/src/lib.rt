@@ -3,7 +3,7 @@
 //! They stand in a crate of their own, as a crate with tests is proved twice. What they share:
 //!
 //! - `marks`: the gate that the parts of a level are of, in their types.
-//! - `requests`: a Pass with how far its request is.
+//! - `requests`: a Pass with how far its request is. `stations`: the calls of a Station that name a request.
 //! - `opening`: opens the gate and the book of a level.
 //! - `level`: a level that is driven by commands, in one thread.
 //! - `scripts`: a script with the answers and events that it is to have.
@@ -53,5 +53,7 @@ mod scripts;
 mod serving;
 #[cfg(test)]
 mod shared;
+#[cfg(test)]
+mod stations;
 #[cfg(test)]
 mod stretches;

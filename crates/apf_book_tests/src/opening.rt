@@ -1,6 +1,7 @@
 //! Opens the gate and the book of a level.
 
-ghost use Rattle.std.specs.Prelude.{◌≡◌, length, map, IfOk, All};
+ghost use Rattle.std.specs.Prelude.{◌≡◌, ◌≤◌, length, map, IfOk, All};
+ghost use Rattle.apf_words.specs.Limits.{max_requests};
 ghost use Rattle.apf_model.specs.declared.response.Response.TheVariants.{Queue};
 ghost use Rattle.apf_gate.specs.declared.record.State.TheVariants.{Fresh};
 ghost use Rattle.apf_gate.specs.Gauges.{IsShape};
@@ -56,7 +57,7 @@ pub fn open_gate<A: Allocator + Copy>(
     stations: u32,
 ) -> Result<Opened<A>, Fault>
     ensures desk { IfOk result (λ o. (desk_gate o.1 ≡ o.0) × (o.1.desk ≡ new_desk o.1.desk.knows.shape)) }
-    ensures shape { IfOk result (λ o. IsShape o.0.shape × (o.0.shape.response ≡ Queue) × (o.0.shape.stations ≡ stations)) }
+    ensures shape { IfOk result (λ o. IsShape o.0.shape × (length o.0.shape.widths ≡ o.0.shape.slots) × (o.0.shape.response ≡ Queue) × (o.0.shape.stations ≡ stations)) }
     ensures widths { IfOk result (λ o. map (λ a. a.width) asks.now ≡ o.0.shape.widths) }
     ensures passes { IfOk result (λ o. All (λ t. (pass_gate t ≡ o.0) × (t.pass.state ≡ Fresh)) o.2.items) }
     ensures stations { IfOk result (λ o. All (λ t. station_gate t ≡ o.0) o.3.items) }
@@ -77,7 +78,8 @@ pub fn requests_of<A: Allocator, K: Mark>(
     alloc: A,
     mut passes: Vec<Pass, A>,
 ) -> Result<Vec<Request<K>, A>, AllocError>
-    requires { All (λ t. (pass_gate t ≡ K.gate) × (t.pass.state ≡ Fresh)) passes.items }
+    requires passes { All (λ t. (pass_gate t ≡ K.gate) × (t.pass.state ≡ Fresh)) passes.items }
+    requires few { length K.gate.shape.widths ≤ max_requests }
     ensures { IfOk result (λ v. length v.items ≡ length passes.items) }
 {
     let mut requests = Vec::with_capacity(alloc, passes.len())?;

@@ -1,6 +1,7 @@
 //! A request with its Pass, and how far it is.
 
-ghost use Rattle.std.specs.Prelude.{◌≡◌, ◌≢◌, ◌<◌, length, Some, None};
+ghost use Rattle.std.specs.Prelude.{◌≡◌, ◌≢◌, ◌<◌, ◌≤◌, length, Some, None};
+ghost use Rattle.apf_words.specs.Limits.{max_requests};
 ghost use Rattle.apf_words.specs.declared.decision.Decision.TheVariants.{Execute};
 ghost use Rattle.apf_gate.specs.declared.record.State.TheVariants as states;
 ghost use Rattle.apf_book_tests.specs.declared.requests.Stage.TheVariants as stages;
@@ -54,6 +55,7 @@ pub struct Request<K: Mark> {
     took: bool,
     of: PhantomData<K>,
     ghost own: { pass_gate pass ≡ K.gate },
+    ghost few: { length K.gate.shape.widths ≤ max_requests },
     ghost fresh: { stage ≡ stages.Fresh → pass.pass.state ≡ states.Fresh },
     ghost in_line: { stage ≡ stages.InLine → pass.pass.state ≡ states.InLine },
     ghost took_is: { stage ≡ stages.Took → (pass.pass.state ≡ states.Took) × (told_own pass.pass ≢ None) },
@@ -65,6 +67,7 @@ impl<K: Mark> Request<K> {
     pub fn new(pass: Pass) -> Request<K>
         requires own { pass_gate pass ≡ K.gate }
         requires fresh { pass.pass.state ≡ states.Fresh }
+        requires few { length K.gate.shape.widths ≤ max_requests }
     {
         Request {
             pass,
@@ -78,7 +81,7 @@ impl<K: Mark> Request<K> {
     pub fn number(&self) -> u32
         ensures { result < length K.gate.shape.widths }
     {
-        self.pass.number()
+        self.pass.number() as u32
     }
 
     /// Whether it executed with the seats that it took on arrival.

@@ -93,7 +93,7 @@ fn play<A: Allocator + Copy, K: Mark, R: Wait + Abort>(
 ) -> Result<(), Fault>
     requires gate { opened.0 ≡ K.gate }
     requires desk { (desk_gate opened.1 ≡ opened.0) × (opened.1.desk ≡ new_desk opened.1.desk.knows.shape) }
-    requires shape { IsShape opened.0.shape × (opened.0.shape.response ≡ Queue) }
+    requires shape { IsShape opened.0.shape × (length opened.0.shape.widths ≡ opened.0.shape.slots) × (opened.0.shape.response ≡ Queue) }
     requires widths { map (λ a. a.width) row.now.asks.now ≡ opened.0.shape.widths }
     requires passes { All (λ t. (pass_gate t ≡ opened.0) × (t.pass.state ≡ Fresh)) opened.2.items }
     requires stations { All (λ t. station_gate t ≡ opened.0) opened.3.items }

@@ -7,6 +7,7 @@ ghost use Rattle.apf_gate.specs.declared.record.State.TheVariants.{Fresh};
 ghost use Rattle.apf_gate.specs.Gauges.{IsShape};
 ghost use Rattle.apf_gate.specs.Records.{new_desk};
 ghost use Rattle.apf_gate.specs.Tokens.{pass_gate, desk_gate, station_gate};
+ghost use Rattle.apf_book_tests.specs.Batches.{HasRequests};
 
 use crate::judging::{Ended, judge};
 use crate::marks::Mark;
@@ -14,6 +15,7 @@ use crate::opening::{Fault, ask, open_gate, passes_of, requests_of};
 use crate::requests::Request;
 use crate::scripts::settings;
 use crate::shared::Round;
+use crate::stations;
 use apf_book::{Ask, Book, Config, Stats};
 use apf_gate::{Gate, Opened, Station};
 use apf_rounds::{ENOUGH, MOST_ROUNDS, pass_time, turns};
@@ -70,7 +72,7 @@ fn cancel<K: Mark, R: Wait>(
 )
     requires gate { gate.now ≡ K.gate }
     requires own { station_gate station.old ≡ gate.now }
-    requires requests { 12 ≤ length gate.now.shape.widths }
+    requires requests { HasRequests gate.now.shape 12 }
     ensures { station_gate station.new ≡ gate.now }
 {
     round.start.wait_for(round.threads);
@@ -78,7 +80,7 @@ fn cancel<K: Mark, R: Wait>(
     for request in 0..12u32 {
         if request % 4 == own {
             pass_time(turns(round.number, 20 + request as usize));
-            if gate.cancel(station, request) == Decision::Cancelled {
+            if stations::cancel(gate, station, request) == Decision::Cancelled {
                 round.book.lock(rt).strike(rt, gate, request);
             }
         }
@@ -93,7 +95,7 @@ fn cancel_all<K: Mark + Send + Sync, R: Threads + Wait + Sync>(
     stations: &mut [Station],
 )
     requires gate { gate.now ≡ K.gate }
-    requires requests { 12 ≤ length gate.now.shape.widths }
+    requires requests { HasRequests gate.now.shape 12 }
     requires own { All (λ t. station_gate t ≡ gate.now) stations.old }
     ensures count { length stations.new ≡ length stations.old }
     ensures own { All (λ t. station_gate t ≡ gate.now) stations.new }
@@ -115,7 +117,7 @@ fn serve_beside_cancels<K: Mark + Send + Sync, R: Threads + Wait + Sync>(
     stations: &mut [Station],
 )
     requires gate { gate.now ≡ K.gate }
-    requires requests { 12 ≤ length gate.now.shape.widths }
+    requires requests { HasRequests gate.now.shape 12 }
     requires own { All (λ t. station_gate t ≡ gate.now) stations.old }
     ensures count { (length requests.new ≡ length requests.old) × (length stations.new ≡ length stations.old) }
     ensures own { All (λ t. station_gate t ≡ gate.now) stations.new }
@@ -127,7 +129,7 @@ fn serve_beside_cancels<K: Mark + Send + Sync, R: Threads + Wait + Sync>(
             ensures { length requests.exit.now ≡ length requests.entry.now }
         { serve_all(rt, gate, round, requests) },
         &mut ||
-            requires { IsSync R.row × (gate.now ≡ K.gate) × (12 ≤ length gate.now.shape.widths) × All (λ t. station_gate t ≡ gate.now) stations.now }
+            requires { IsSync R.row × (gate.now ≡ K.gate) × HasRequests gate.now.shape 12 × All (λ t. station_gate t ≡ gate.now) stations.now }
             ensures { (length stations.exit.now ≡ length stations.entry.now) × All (λ t. station_gate t ≡ gate.entry.now) stations.exit.now }
         { cancel_all(rt, gate, round, stations) },
     );
@@ -152,7 +154,7 @@ fn round<K: Mark + Send + Sync, R: Threads + Wait + Abort + Sync>(
 ) -> Result<(Stats, u32), Fault>
     requires gate { opened.0 ≡ K.gate }
     requires desk { (desk_gate opened.1 ≡ opened.0) × (opened.1.desk ≡ new_desk opened.1.desk.knows.shape) }
-    requires shape { IsShape opened.0.shape × (opened.0.shape.response ≡ Queue) }
+    requires shape { IsShape opened.0.shape × (length opened.0.shape.widths ≡ opened.0.shape.slots) × (opened.0.shape.response ≡ Queue) }
     requires widths { map (λ a. a.width) setting.now.asks.now ≡ opened.0.shape.widths }
     requires passes { All (λ t. (pass_gate t ≡ opened.0) × (t.pass.state ≡ Fresh)) opened.2.items }
     requires stations { All (λ t. station_gate t ≡ opened.0) opened.3.items }

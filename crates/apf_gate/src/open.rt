@@ -92,6 +92,14 @@ impl<A: Allocator + Copy> Gate<A> {
         ensures desk { IfOk result (λ o. o.1 ≡ record { table = o.0.table; desk = new_desk o.0.shape }) }
         ensures passes { IfOk result (λ o. o.2.items ≡ new_passes o.0 (length widths.now)) }
         ensures stations { IfOk result (λ o. o.3.items ≡ new_stations o.0 stations) }
+        ensures is_shape { OnOk result (IsShape (shape_in true max_numbers limit response widths.now stations)) }
+        ensures each_pass { IfOk result (λ o. (r : ℕ) → r < length widths.now
+            → slice_get o.2.items r ≡ Some (record { table = o.0.table; pass = new_pass o.0.shape r })) }
+        ensures each_station { IfOk result (λ o. (k : ℕ) → k < stations
+            → slice_get o.3.items k ≡ Some (record { table = o.0.table; station = new_station o.0.shape k })) }
+        ensures fresh { IfOk result (λ o. All (λ t. (pass_gate t ≡ o.0) × (t.pass.state ≡ Fresh)) o.2.items) }
+        ensures own { IfOk result (λ o. All (λ t. station_gate t ≡ o.0) o.3.items) }
+        ensures counts { IfOk result (λ o. (length o.2.items ≡ length widths.now) × (length o.3.items ≡ stations)) }
         ensures fault { IfErr result (FaultOf (shape_of limit response widths.now stations)) }
     {
         if limit < 1 || limit > MAX_LIMIT {

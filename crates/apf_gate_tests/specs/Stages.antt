@@ -1,18 +1,25 @@
 -- What is known of a token by how far it is. Where nothing is known of a part, it is what it is.
-use Rattle.std.specs.Prelude.{◌≡◌, ℕ, Bool, true, false, List, [], Option, Some, None}
+use Rattle.std.specs.Prelude.{◌≡◌, ℕ, Bool, true, false, List, [], length, Option, Some, None}
 use Rattle.apf_words.specs.declared.decision.Decision.{Decision}
 use Rattle.apf_words.specs.declared.decision.Decision.TheVariants.{Execute, Cancelled}
 use Rattle.apf_gate.specs.declared.record.State.{State}
-use Rattle.apf_gate.specs.declared.record.State.TheVariants.{Fresh, Took, InLine}
+use Rattle.apf_gate.specs.declared.record.State.TheVariants.{Fresh, Took, InLine, Over}
 use Rattle.apf_gate.specs.declared.record.Service.{Service}
 use Rattle.apf_gate.specs.declared.record.Service.TheVariants.{Waiting}
 use Rattle.apf_gate.specs.declared.record.PassRecord.{PassRecord}
 use Rattle.apf_gate.specs.declared.record.DeskRecord.{DeskRecord}
+use Rattle.apf_gate.specs.declared.record.Shape.{Shape}
+use Rattle.apf_gate.specs.Slots.{IsTicket}
 use Rattle.apf_gate.specs.Records.{told_of, told_own, service}
 use Rattle.apf_gate_tests.specs.declared.stage.Stage.{Stage}
 use Rattle.apf_gate_tests.specs.declared.stage.Stage.TheVariants as stages
 use Rattle.apf_gate_tests.specs.declared.stage.Serving.{Serving}
 use Rattle.apf_gate_tests.specs.declared.stage.Serving.TheVariants as servings
+
+-- the request is one of a batch
+pub record IsNamed (s : Shape) (r : ℕ) : Type 0 where
+  pub ticket : IsTicket s r
+  pub batch : length s.widths ≡ s.slots
 
 -- the state of a Pass
 abbrev pub state_at : Stage → PassRecord → State
@@ -24,6 +31,7 @@ state_at stages.InLine pass = InLine
 state_at stages.Entered pass = InLine
 state_at (stages.Told decision) pass = Took
 state_at stages.Granted pass = InLine
+state_at (stages.Back decision) pass = Over
 state_at stages.Over pass = pass.state
 
 -- what it was told of its request
@@ -36,6 +44,7 @@ told_at stages.InLine pass = told_own pass
 told_at stages.Entered pass = told_own pass
 told_at (stages.Told decision) pass = Some decision
 told_at stages.Granted pass = Some Execute
+told_at (stages.Back decision) pass = Some decision
 told_at stages.Over pass = told_own pass
 
 -- what it wrote
@@ -48,6 +57,7 @@ wrote_at stages.InLine pass = pass.wrote
 wrote_at stages.Entered pass = pass.wrote
 wrote_at (stages.Told decision) pass = pass.wrote
 wrote_at stages.Granted pass = pass.wrote
+wrote_at (stages.Back decision) pass = pass.wrote
 wrote_at stages.Over pass = pass.wrote
 
 -- these, and what it saw of the level and of the Desk

@@ -1,7 +1,8 @@
 //! Eight Stations cancel one request, in threads of their own: all are told the same.
 
-ghost use Rattle.std.specs.Prelude.{◌≡◌, ◌<◌, length};
+ghost use Rattle.std.specs.Prelude.{◌≡◌};
 ghost use Rattle.apf_gate.specs.Tokens.{desk_gate, station_gate};
+ghost use Rattle.apf_gate_tests.specs.Stages.{IsNamed};
 
 use crate::crews::{DeskWork, StationWork};
 use crate::desks::Keeper;
@@ -55,7 +56,7 @@ pub enum Served {
 
 /// A Station reads the first request's decision and cancels it, each at its own time.
 pub fn cancel(gate: &Gate<Global>, round: &Round, thread: usize, station: &mut Station)
-    requires some { 0 < length gate.now.shape.widths }
+    requires some { IsNamed gate.now.shape 0 }
     requires own { station_gate station.old ≡ gate.now }
     ensures { station_gate station.new ≡ gate.now }
 {
@@ -74,7 +75,7 @@ pub fn cancel(gate: &Gate<Global>, round: &Round, thread: usize, station: &mut S
 /// writes execute. It is early to read, so that some rounds find the request undecided, and at its own time to
 /// write.
 pub fn serve(gate: &Gate<Global>, round: &Round, desk: &mut Keeper) -> Served
-    requires some { 0 < length gate.now.shape.widths }
+    requires some { IsNamed gate.now.shape 0 }
     requires own { desk_gate desk.old.desk ≡ gate.now }
     ensures { desk_gate desk.new.desk ≡ gate.now }
 {
@@ -92,7 +93,7 @@ pub fn serve(gate: &Gate<Global>, round: &Round, desk: &mut Keeper) -> Served
 
 // The Desk lets the first request leave, which it saw cancelled.
 fn leave(gate: &Gate<Global>, desk: &mut Keeper) -> Served
-    requires some { 0 < length gate.now.shape.widths }
+    requires some { IsNamed gate.now.shape 0 }
     requires own { desk_gate desk.old.desk ≡ gate.now }
     ensures { desk_gate desk.new.desk ≡ gate.now }
 {

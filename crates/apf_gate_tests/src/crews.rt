@@ -1,8 +1,9 @@
 //! The threads of a test, each with tokens of its own.
 
 ghost use denote.Param.Send.{IsSync};
-ghost use Rattle.std.specs.Prelude.{◌≡◌, ◌<◌, length, All};
+ghost use Rattle.std.specs.Prelude.{◌≡◌, length, All};
 ghost use Rattle.apf_gate.specs.Tokens.{pass_gate, desk_gate, station_gate};
+ghost use Rattle.apf_gate_tests.specs.Stages.{IsNamed};
 
 use crate::cancelling::{Round, Served, cancel, serve as serve_waiting};
 use crate::closing::{Closes, close};
@@ -68,7 +69,7 @@ fn station_works<R: Wait>(
     thread: usize,
     station: &mut Station,
 )
-    requires some { 0 < length gate.now.shape.widths }
+    requires some { IsNamed gate.now.shape 0 }
     requires own { station_gate station.old ≡ gate.now }
     ensures { station_gate station.new ≡ gate.now }
 {
@@ -82,7 +83,7 @@ fn station_works<R: Wait>(
 }
 
 fn desk_works(gate: &Gate<Global>, work: DeskWork<'_>, desk: &mut Keeper) -> Served
-    requires some { 0 < length gate.now.shape.widths }
+    requires some { IsNamed gate.now.shape 0 }
     requires own { desk_gate desk.old.desk ≡ gate.now }
     ensures { desk_gate desk.new.desk ≡ gate.now }
 {
@@ -118,7 +119,7 @@ fn stations_work<R: Threads + Wait + Sync>(
     work: StationWork<'_>,
     stations: &mut [Station],
 )
-    requires some { 0 < length gate.now.shape.widths }
+    requires some { IsNamed gate.now.shape 0 }
     requires own { All (λ t. station_gate t ≡ gate.now) stations.old }
     ensures count { length stations.new ≡ length stations.old }
     ensures own { All (λ t. station_gate t ≡ gate.now) stations.new }
@@ -139,7 +140,7 @@ fn both_work<R: Threads + Wait + Sync>(
     requests: &mut [Request],
     stations: &mut [Station],
 )
-    requires some { 0 < length gate.now.shape.widths }
+    requires some { IsNamed gate.now.shape 0 }
     requires requests { All (λ r. pass_gate r.pass ≡ gate.now) requests.old }
     requires stations { All (λ t. station_gate t ≡ gate.now) stations.old }
     ensures count { (length requests.new ≡ length requests.old) × (length stations.new ≡ length stations.old) }
@@ -154,7 +155,7 @@ fn both_work<R: Threads + Wait + Sync>(
             ensures { (length requests.exit.now ≡ length requests.entry.now) × All (λ r. pass_gate r.pass ≡ gate.entry.now) requests.exit.now }
         { requests_work(rt, gate, request_work, requests) },
         &mut ||
-            requires { IsSync R.row × (0 < length gate.now.shape.widths) × All (λ t. station_gate t ≡ gate.now) stations.now }
+            requires { IsSync R.row × IsNamed gate.now.shape 0 × All (λ t. station_gate t ≡ gate.now) stations.now }
             ensures { (length stations.exit.now ≡ length stations.entry.now) × All (λ t. station_gate t ≡ gate.entry.now) stations.exit.now }
         { stations_work(rt, gate, station_work, stations) },
     );
@@ -168,7 +169,7 @@ fn desk_beside_stations<R: Threads + Wait + Sync>(
     desk: &mut Keeper,
     stations: &mut [Station],
 ) -> Served
-    requires some { 0 < length gate.now.shape.widths }
+    requires some { IsNamed gate.now.shape 0 }
     requires desk { desk_gate desk.old.desk ≡ gate.now }
     requires stations { All (λ t. station_gate t ≡ gate.now) stations.old }
     ensures desk { desk_gate desk.new.desk ≡ gate.now }
@@ -180,7 +181,7 @@ fn desk_beside_stations<R: Threads + Wait + Sync>(
         rt,
         &mut || desk_works(gate, desk_work, desk),
         &mut ||
-            requires { IsSync R.row × (0 < length gate.now.shape.widths) × All (λ t. station_gate t ≡ gate.now) stations.now }
+            requires { IsSync R.row × IsNamed gate.now.shape 0 × All (λ t. station_gate t ≡ gate.now) stations.now }
             ensures { (length stations.exit.now ≡ length stations.entry.now) × All (λ t. station_gate t ≡ gate.entry.now) stations.exit.now }
         { stations_work(rt, gate, station_work, stations) },
     );
@@ -195,7 +196,7 @@ fn desk_beside_request<R: Threads + Wait + Sync>(
     desk: &mut Keeper,
     request: &mut Request,
 )
-    requires some { 0 < length gate.now.shape.widths }
+    requires some { IsNamed gate.now.shape 0 }
     requires desk { desk_gate desk.old.desk ≡ gate.now }
     requires request { pass_gate request.old.pass ≡ gate.now }
     ensures desk { desk_gate desk.new.desk ≡ gate.now }
@@ -222,6 +223,7 @@ impl Stand {
         work: StationWork<'_>,
     ) {
         assert!(rt; !self.requests.is_empty());
+        self.gate.is_ticket(0);
         stations_work(rt, &self.gate, work, self.stations.as_mut_slice());
     }
 
@@ -232,6 +234,7 @@ impl Stand {
         work: (RequestWork<'_>, StationWork<'_>),
     ) {
         assert!(rt; !self.requests.is_empty());
+        self.gate.is_ticket(0);
         both_work(
             rt,
             &self.gate,
@@ -248,6 +251,7 @@ impl Stand {
         work: (DeskWork<'_>, StationWork<'_>),
     ) -> Served {
         assert!(rt; !self.requests.is_empty());
+        self.gate.is_ticket(0);
         desk_beside_stations(
             rt,
             &self.gate,
@@ -264,6 +268,7 @@ impl Stand {
         work: (DeskWork<'_>, RequestWork<'_>),
     ) {
         assert!(rt; !self.requests.is_empty());
+        self.gate.is_ticket(0);
         desk_beside_request(rt, &self.gate, work, &mut self.desk, &mut self.requests[0]);
     }
 }

@@ -1,11 +1,11 @@
 //! The Desk of a gate, by how far it is with the one request that it serves. A call that is not for it yet, or not
 //! any more, answers `None`.
 
-ghost use Rattle.std.specs.Prelude.{◌≡◌, ◌<◌, length, true, [], None};
+ghost use Rattle.std.specs.Prelude.{◌≡◌, true, [], None};
 ghost use Rattle.apf_model.specs.declared.response.Response.TheVariants.{Queue};
 ghost use Rattle.apf_gate.specs.DeskCalls.{MayHand, MayRefuse};
 ghost use Rattle.apf_gate.specs.Tokens.{pass_gate, desk_gate};
-ghost use Rattle.apf_gate_tests.specs.Stages.{Serves};
+ghost use Rattle.apf_gate_tests.specs.Stages.{IsNamed, Serves};
 
 use crate::requests::Request;
 use crate::stage::{Serving, Stage};
@@ -152,9 +152,9 @@ impl Keeper {
     }
 
     /// Reads a request's decision.
-    pub fn seen(&mut self, gate: &Gate<Global>, request: u32) -> Option<Decision>
+    pub fn seen(&mut self, gate: &Gate<Global>, request: u128) -> Option<Decision>
         requires own { desk_gate self.old.desk ≡ gate.now }
-        requires is_request { request < length gate.now.shape.widths }
+        requires is_request { IsNamed gate.now.shape request }
         ensures { desk_gate self.new.desk ≡ gate.now }
     {
         let decision = gate.seen(&mut self.desk, request);
@@ -173,9 +173,9 @@ impl Keeper {
     }
 
     /// Grants the request that waits.
-    pub fn grant(&mut self, gate: &Gate<Global>, request: u32) -> Option<TryGrant>
+    pub fn grant(&mut self, gate: &Gate<Global>, request: u128) -> Option<TryGrant>
         requires own { desk_gate self.old.desk ≡ gate.now }
-        requires is_request { request < length gate.now.shape.widths }
+        requires is_request { IsNamed gate.now.shape request }
         ensures { desk_gate self.new.desk ≡ gate.now }
     {
         let Serving::Waits(waits) = self.serving else {
@@ -225,9 +225,9 @@ impl Keeper {
     }
 
     /// Takes the request that it saw cancelled out of the count of those that wait.
-    pub fn leave(&mut self, gate: &Gate<Global>, request: u32) -> Option<()>
+    pub fn leave(&mut self, gate: &Gate<Global>, request: u128) -> Option<()>
         requires own { desk_gate self.old.desk ≡ gate.now }
-        requires is_request { request < length gate.now.shape.widths }
+        requires is_request { IsNamed gate.now.shape request }
         ensures { desk_gate self.new.desk ≡ gate.now }
     {
         let Serving::Seen(seen) = self.serving else {

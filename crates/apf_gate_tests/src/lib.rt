@@ -11,6 +11,7 @@
 //!
 //! - `rows`: worked examples, from a gate's opening to its end, `cancels` those of cancelled requests.
 //! - `levels`: over-wide requests, levels without queues, limits. `refusals`: closing and refusing.
+//! - `renewals`: slots that are used again.
 //! - `faults`: why a gate is not opened. `sizes`: the smallest gate and the largest.
 //! - `memory`: each allocation refused in turn.
 //! - `parking`: nobody sleeps on a request that is decided.
@@ -46,6 +47,8 @@ mod memory;
 mod parking;
 #[cfg(test)]
 mod refusals;
+#[cfg(test)]
+mod renewals;
 #[cfg(test)]
 mod requests;
 #[cfg(test)]

@@ -1,14 +1,17 @@
 //! A request of a gate, by how far it is. A call that is not for it yet, or not any more, answers `None`.
 
-ghost use Rattle.std.specs.Prelude.{◌≡◌, ◌<◌, length};
+ghost use Rattle.std.specs.Prelude.{◌≡◌, ◌≤◌, Some};
+ghost use Rattle.apf_words.specs.Limits.{max_width};
 ghost use Rattle.apf_model.specs.declared.response.Response.TheVariants.{Reject};
 ghost use Rattle.apf_gate.specs.declared.record.State.TheVariants as states;
+ghost use Rattle.apf_gate.specs.Records.{told_own};
 ghost use Rattle.apf_gate.specs.PassCalls.{MayWrite, MayRelease};
+ghost use Rattle.apf_gate.specs.PassSteps.{MayRenew};
 ghost use Rattle.apf_gate.specs.Tokens.{pass_gate};
 ghost use Rattle.apf_gate_tests.specs.Stages.{IsAt};
 
 use crate::stage::Stage;
-use apf_gate::{Gate, Pass, TryTake};
+use apf_gate::{Gate, Pass, Renew, TryTake};
 use apf_words::Decision;
 use std::alloc::Global;
 
@@ -146,27 +149,49 @@ impl Request {
         ensures { pass_gate self.new.pass ≡ gate.now }
     {
         match self.stage {
-            Stage::Told(_) | Stage::Granted => Some(self.give_back(gate)),
+            Stage::Told(decision) => Some(self.give_back(gate, decision)),
+            Stage::Granted => Some(self.give_back(gate, Decision::Execute)),
             _ => None,
         }
     }
 
-    fn give_back(&mut self, gate: &Gate<Global>) -> bool
+    fn give_back(&mut self, gate: &Gate<Global>, told: Decision) -> bool
         requires own { pass_gate self.old.pass ≡ gate.now }
         requires stands { MayRelease self.old.pass.pass }
+        requires told { told_own self.old.pass.pass ≡ Some told }
         ensures { pass_gate self.new.pass ≡ gate.now }
     {
         let waiting = gate.release(&mut self.pass);
-        self.stage = Stage::Over;
+        self.stage = Stage::Back(told);
         waiting
     }
 
-    /// Its number, which is that of a width of its gate.
-    pub fn number(&self, gate: &Gate<Global>) -> u32
-        requires { pass_gate self.now.pass ≡ gate.now }
-        ensures { result < length gate.now.shape.widths }
+    /// Leaves the request for the next one of its slot, of this width.
+    pub fn renew(&mut self, gate: &Gate<Global>, width: u32) -> Option<Renew>
+        requires own { pass_gate self.old.pass ≡ gate.now }
+        requires some { 1 ≤ width }
+        requires narrow { width ≤ max_width }
+        ensures { pass_gate self.new.pass ≡ gate.now }
     {
-        self.pass.number()
+        match self.stage {
+            Stage::Fresh => Some(self.leave(gate, width)),
+            Stage::Back(_) => Some(self.leave(gate, width)),
+            _ => None,
+        }
+    }
+
+    fn leave(&mut self, gate: &Gate<Global>, width: u32) -> Renew
+        requires own { pass_gate self.old.pass ≡ gate.now }
+        requires may { MayRenew self.old.pass.pass }
+        requires some { 1 ≤ width }
+        requires narrow { width ≤ max_width }
+        ensures { pass_gate self.new.pass ≡ gate.now }
+    {
+        let answer = gate.renew(&mut self.pass, width);
+        if let Renew::Began(_) = answer {
+            self.stage = Stage::Fresh;
+        }
+        answer
     }
 
     /// The Pass.

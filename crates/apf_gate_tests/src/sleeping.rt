@@ -1,7 +1,9 @@
 //! Those who sleep until a request is decided: they sleep until then, and are woken.
 
-ghost use Rattle.std.specs.Prelude.{◌≡◌, ◌<◌, length};
+ghost use Rattle.std.specs.Prelude.{◌≡◌, length};
+ghost use Rattle.apf_gate.specs.Slots.{IsTicket};
 ghost use Rattle.apf_gate.specs.Tokens.{pass_gate, desk_gate, station_gate};
+ghost use Rattle.apf_gate_tests.specs.Stages.{IsNamed};
 
 use crate::cancelling::Served;
 use crate::crews::{DeskWork, RequestWork, StationWork};
@@ -47,8 +49,8 @@ impl Sleeps {
     }
 
     // Sleeps once.
-    fn park<R: Wait>(&self, rt: &R, gate: &Gate<Global>, request: u32, is_first: bool)
-        requires { request < length gate.now.shape.widths }
+    fn park<R: Wait>(&self, rt: &R, gate: &Gate<Global>, request: u128, is_first: bool)
+        requires { IsTicket gate.now.shape request }
     {
         self.slept.fetch_add(1, Ordering::SeqCst);
         if is_first {
@@ -102,13 +104,14 @@ pub fn sleep<R: Wait>(rt: &R, gate: &Gate<Global>, sleeps: &Sleeps, request: &mu
         if sleeps.wakes(told) {
             break;
         }
-        sleeps.park(rt, gate, request.number(gate), turn == 0);
+        let number = request.pass.number();
+        sleeps.park(rt, gate, number, turn == 0);
     }
 }
 
 /// Sleeps until the Station reads that the first request is decided, in at most so many turns.
 pub fn sleep_beside<R: Wait>(rt: &R, gate: &Gate<Global>, sleeps: &Sleeps, station: &mut Station)
-    requires some { 0 < length gate.now.shape.widths }
+    requires some { IsNamed gate.now.shape 0 }
     requires own { station_gate station.old ≡ gate.now }
     ensures { station_gate station.new ≡ gate.now }
 {
@@ -123,7 +126,7 @@ pub fn sleep_beside<R: Wait>(rt: &R, gate: &Gate<Global>, sleeps: &Sleeps, stati
 
 /// Lets one other sleep, and cancels the first request.
 pub fn cancel_later(gate: &Gate<Global>, sleeps: &Sleeps, station: &mut Station)
-    requires some { 0 < length gate.now.shape.widths }
+    requires some { IsNamed gate.now.shape 0 }
     requires own { station_gate station.old ≡ gate.now }
     ensures { station_gate station.new ≡ gate.now }
 {
@@ -134,7 +137,7 @@ pub fn cancel_later(gate: &Gate<Global>, sleeps: &Sleeps, station: &mut Station)
 /// Lets so many others sleep, grants the first request, which waits, settles it and wakes who sleeps. Gives
 /// its seats back if it was decided otherwise.
 pub fn grant_later(gate: &Gate<Global>, sleeps: &Sleeps, others: u64, desk: &mut Keeper) -> Served
-    requires some { 0 < length gate.now.shape.widths }
+    requires some { IsNamed gate.now.shape 0 }
     requires own { desk_gate desk.old.desk ≡ gate.now }
     ensures { desk_gate desk.new.desk ≡ gate.now }
 {
@@ -222,8 +225,8 @@ fn eight_sleepers_are_woken_by_one_settle(rt: HostRuntime) {
 }
 
 // Lets one other sleep, and cancels the request. If nobody wakes then, it wakes the sleeper itself, and counts it.
-fn cancel_named(gate: &Gate<Global>, sleeps: &Sleeps, named: u32, station: &mut Station)
-    requires is_request { named < length gate.now.shape.widths }
+fn cancel_named(gate: &Gate<Global>, sleeps: &Sleeps, named: u128, station: &mut Station)
+    requires is_request { IsNamed gate.now.shape named }
     requires own { station_gate station.old ≡ gate.now }
     ensures { station_gate station.new ≡ gate.now }
 {
@@ -243,12 +246,13 @@ fn sleep_until_cancelled<R: Threads + Wait + Sync>(
     request: &mut Request,
     station: &mut Station,
 )
+    requires batch { length gate.now.shape.widths ≡ gate.now.shape.slots }
     requires request { pass_gate request.old.pass ≡ gate.now }
     requires station { station_gate station.old ≡ gate.now }
     ensures request { pass_gate request.new.pass ≡ gate.now }
     ensures station { station_gate station.new ≡ gate.now }
 {
-    let named = request.number(gate);
+    let named = request.pass.number();
     join_mut(
         rt,
         &mut || sleep(rt, gate, sleeps, request),

@@ -21,6 +21,8 @@ pub enum Stage {
     Told(Decision),
     /// The Desk took its seats, and it was told that it executes.
     Granted,
+    /// It gave its seats back, and was told this decision.
+    Back(Decision),
     /// It makes no call any more that depends on how far it is.
     Over,
 }
@@ -31,13 +33,13 @@ pub enum Serving {
     /// It served nobody.
     Idle,
     /// The request waits.
-    Waits(u32),
+    Waits(u128),
     /// The request waits, and was seen cancelled.
-    Seen(u32),
+    Seen(u128),
     /// It holds the request's seats.
-    Holds(u32),
+    Holds(u128),
     /// It holds the request's seats, and was told that it is cancelled.
-    Lost(u32),
+    Lost(u128),
     /// It serves nobody any more.
     Over,
 }

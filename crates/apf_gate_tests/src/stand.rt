@@ -23,6 +23,7 @@ pub struct Stand {
     pub requests: Vec<Request>,
     pub stations: Vec<Station>,
     response: Response,
+    pub ghost is_a_batch: { length gate.shape.widths ≡ gate.shape.slots },
     pub ghost desk_is: { desk_gate desk.desk ≡ gate },
     pub ghost requests_are: { All (λ r. pass_gate r.pass ≡ gate) requests.items },
     pub ghost stations_are: { All (λ t. station_gate t ≡ gate) stations.items },
@@ -133,7 +134,7 @@ impl Stand {
         if place >= self.requests.len() {
             return None;
         }
-        Some(self.requests[place].number(&self.gate))
+        u32::try_from(self.requests[place].pass.number()).ok()
     }
 
     fn try_take(&mut self, request: usize) -> Option<TryTake> {
@@ -215,7 +216,8 @@ impl Stand {
         if request as usize >= self.requests.len() {
             return None;
         }
-        self.desk.seen(&self.gate, request)
+        self.gate.is_ticket(request);
+        self.desk.seen(&self.gate, request as u128)
     }
 
     fn view(&mut self) -> LevelWord {
@@ -226,7 +228,8 @@ impl Stand {
         if request as usize >= self.requests.len() {
             return None;
         }
-        self.desk.grant(&self.gate, request)
+        self.gate.is_ticket(request);
+        self.desk.grant(&self.gate, request as u128)
     }
 
     fn try_settle(&mut self) -> Option<Decision> {
@@ -241,14 +244,16 @@ impl Stand {
         if request as usize >= self.requests.len() {
             return None;
         }
-        self.desk.leave(&self.gate, request)
+        self.gate.is_ticket(request);
+        self.desk.leave(&self.gate, request as u128)
     }
 
     fn try_cancel(&mut self, station: usize, request: u32) -> Option<Decision> {
         if station >= self.stations.len() || request as usize >= self.requests.len() {
             return None;
         }
-        Some(stations::cancel(&self.gate, &mut self.stations[station], request))
+        self.gate.is_ticket(request);
+        Some(stations::cancel(&self.gate, &mut self.stations[station], request as u128))
     }
 
     fn try_close(&mut self, station: usize) -> Option<Close> {
@@ -298,7 +303,8 @@ impl Stand {
     /// Sleeps while the request is undecided.
     pub fn park<R: Wait + Abort>(&self, rt: &R, request: u32) {
         assert!(rt; (request as usize) < self.requests.len());
-        self.gate.park(rt, request);
+        self.gate.is_ticket(request);
+        self.gate.park(rt, request as u128);
     }
 }
 

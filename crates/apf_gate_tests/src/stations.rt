@@ -1,10 +1,11 @@
 //! The calls of a Station, of which tests need to know no more than that the token stays its gate's.
 
-ghost use Rattle.std.specs.Prelude.{◌≡◌, ◌<◌, ◌≤◌, length};
+ghost use Rattle.std.specs.Prelude.{◌≡◌, ◌≤◌};
 ghost use Rattle.apf_words.specs.Limits.{max_limit};
 ghost use Rattle.apf_gate.specs.Tokens.{station_gate};
+ghost use Rattle.apf_gate_tests.specs.Stages.{IsNamed};
 
-use apf_gate::{Close, Gate, Station, TrySetLimit};
+use apf_gate::{Cancel, Close, Gate, Read, Station, TrySetLimit};
 use apf_words::{Decision, LevelWord};
 use std::alloc::Global;
 
@@ -17,21 +18,27 @@ pub fn look(gate: &Gate<Global>, station: &mut Station) -> LevelWord
 }
 
 /// Reads a request's decision.
-pub fn read(gate: &Gate<Global>, station: &mut Station, request: u32) -> Option<Decision>
+pub fn read(gate: &Gate<Global>, station: &mut Station, request: u128) -> Option<Decision>
     requires own { station_gate station.old ≡ gate.now }
-    requires is_request { request < length gate.now.shape.widths }
+    requires is_request { IsNamed gate.now.shape request }
     ensures { station_gate station.new ≡ gate.now }
 {
-    gate.read(station, request)
+    match gate.read(station, request) {
+        Read::Is(found) => found,
+        Read::Other => unreachable!(),
+    }
 }
 
 /// Cancels a request.
-pub fn cancel(gate: &Gate<Global>, station: &mut Station, request: u32) -> Decision
+pub fn cancel(gate: &Gate<Global>, station: &mut Station, request: u128) -> Decision
     requires own { station_gate station.old ≡ gate.now }
-    requires is_request { request < length gate.now.shape.widths }
+    requires is_request { IsNamed gate.now.shape request }
     ensures { station_gate station.new ≡ gate.now }
 {
-    gate.cancel(station, request)
+    match gate.cancel(station, request) {
+        Cancel::Is(decision) => decision,
+        Cancel::Other => unreachable!(),
+    }
 }
 
 /// Closes the level.

@@ -70,7 +70,7 @@ pub fn deal_out<K: Plan>(
 {
     let mut workers = idle::<K>(alloc, passes.len(), stations)?;
     while let Some(pass) = passes.pop() {
-        let at = pass.number() as usize % workers.len();
+        let at = (pass.number() % workers.len() as u128) as usize;
         workers[at].add(pass)?;
     }
     Ok(workers)

@@ -98,6 +98,7 @@ fn handle<K: Plan, W: Work, R: Wait>(
     ensures closed { SawClosed K.requests operator.new result }
     ensures stays_closed { operator.old.station.knows.saw_closed ≡ true → operator.new.station.knows.saw_closed ≡ true }
 {
+    job.level.is_a_batch();
     let request = job.requests[pass.number() as usize];
     if request.closes {
         operator.close(job.level);

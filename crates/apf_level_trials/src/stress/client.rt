@@ -1,6 +1,7 @@
 //! A request with what its caller was told.
 
-ghost use Rattle.std.specs.Prelude.{◌≡◌, ◌<◌, length};
+ghost use Rattle.std.specs.Prelude.{◌≡◌, ◌<◌, ◌≤◌, length};
+ghost use Rattle.apf_words.specs.Limits.{max_requests};
 ghost use Rattle.apf_gate.specs.declared.record.State.TheVariants.{Fresh};
 ghost use Rattle.apf_gate.specs.Tokens.{pass_gate};
 
@@ -22,6 +23,7 @@ impl<K: Naming> Client<K> {
     pub fn new(pass: Pass) -> Client<K>
         requires own { pass_gate pass ≡ K.level.gate }
         requires fresh { pass.pass.state ≡ Fresh }
+        requires few { length K.level.gate.shape.widths ≤ max_requests }
     {
         Client {
             request: Request::new(pass),

@@ -41,8 +41,8 @@ pub fn closing(seed: u64, requests: u64) -> Option<u64> {
 }
 
 // Whose request it is: the first two threads, which serve one at once, have one in fifty each.
-fn thread_of(request: u32) -> u32 {
-    match request % 50 {
+fn thread_of(request: u128) -> u32 {
+    match (request % 50) as u32 {
         place @ (0 | 1) => place,
         place => 2 + place % (THREADS - 2),
     }

@@ -171,6 +171,7 @@ impl<K: Naming> Worker<K> {
     ) -> Option<Client<K>> {
         let pass = self.passes.pop()?;
         self.act(rt, stage, window);
+        stage.level.is_a_batch();
         let mut request = Client::new(pass);
         if stage.is_closed() {
             request.be_late();

@@ -1,5 +1,6 @@
-use Rattle.std.proofs.Common.{rules, All, sym, ap, subst, arith}
+use Rattle.std.proofs.Common.{rules, ◌≡◌, length, refl, All, sym, ap, subst, arith}
 use Rattle.std.proofs.lemmas.Option.{get_or_from_slice_get}
+use Rattle.apf_gate.specs.declared.record.Shape.{Shape}
 use Rattle.apf_gate.specs.Tokens.{PassToken}
 use Rattle.apf_session.specs.Openings.{IsNew}
 use Rattle.apf_session.proofs.Opened.{are_new}
@@ -9,6 +10,7 @@ pub invariant_of-result : goal.invariant_of-result
 invariant_of-result c =
     record {
       desk_is = search rules;
+      is_a_batch = subst (λ (s : Shape). length s.widths ≡ s.slots) (sym c.in_ok-gate.ensures.shape) refl;
       limit_is = search rules;
       widths_are = search rules;
       response_is = search rules;

@@ -144,6 +144,14 @@ module _ (laws : Laws) (lost : NoDispatchIsLost) (shape : Shape) (account : Acco
             (subst (λ n. Fits n waits.level.limit (width shape.widths r)) same_seats
             (subst (λ n. Fits (seats shape.widths (world_of shape (later ++ waits.last.trace))) n (width shape.widths r)) same_limit in_trace)));
         owes = owed.owes;
+        before = waits.before;
+        level = waits.level;
+        last = waits.last;
+        found = waits.found;
+        found_no_room = subst (λ (s : Shape). ¬ Fits waits.level.seats waits.level.limit (width s.widths r)) same_shape waits.no_room;
+        saw_is = refl;
+        count = waits.loads;
+        decisions_alone = waits.since;
       }
 
 pub forgotten : Laws → NoDispatchIsLost → NoRequestIsForgotten

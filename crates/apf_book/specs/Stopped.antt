@@ -52,6 +52,15 @@ pub record IsRemembered (shape : Shape) (account : Account) (v : LedgerView) : T
   pub loads : DeskLoads later
   pub no_room : NoneMakesRoom later → ¬ FitsIn shape.widths (world_of shape account.trace) head.request
   pub owes : EachFindsWaiters shape later saw
+  -- saw is the trace as the Desk left it when it found that the head does not fit; since then it loaded decision words alone
+  pub before : Knowledge
+  pub level : Level
+  pub last : Knowledge
+  pub found : SawLevel OfDesk before level None last
+  pub found_no_room : ¬ Fits level.seats level.limit (width shape.widths head.request)
+  pub saw_is : saw ≡ last.trace
+  pub count : ℕ
+  pub decisions_alone : LoadedDecisions count last account.desk.knows
 
 -- in every state of a gate whose Desk's book is stopped
 abbrev pub NoRequestIsForgotten : Type 0

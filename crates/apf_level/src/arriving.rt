@@ -37,7 +37,7 @@ impl<K: Naming> Level<K> {
         ensures entered { EnteredNow pass.pass result }
         ensures queues { SaysWaiting result → self.now.gate.shape.response ≡ Queue }
     {
-        let (begun, _event) = self.arrive(rt, pass, false);
+        let (begun, _event) = self.arrive(rt, pass);
         begun
     }
 
@@ -52,7 +52,7 @@ impl<K: Naming> Level<K> {
         ensures queues { SaysWaiting result.0 → self.now.gate.shape.response ≡ Queue }
         ensures logs { Logs K.level pass.pass.number result.0 result.1 }
     {
-        self.arrive(rt, pass, false)
+        self.arrive(rt, pass)
     }
 
     /// Reads the decision of a request that waits, by one load. One that is cancelled is struck, and then
@@ -84,7 +84,7 @@ impl<K: Naming> Level<K> {
         ensures same { IsOf pass (admitted_pass result) }
         ensures told { IsAdmittedTold result }
     {
-        let (begun, _event) = self.arrive(rt, pass, true);
+        let (begun, _event) = self.arrive(rt, pass);
         let mut waiting = match begun {
             Begin::Run(running) => return Admit::Run(running),
             Begin::Over(done, decision) => return Admit::Over(done, decision),
@@ -99,6 +99,9 @@ impl<K: Naming> Level<K> {
             };
             if readings < READINGS_AWAKE {
                 readings += 1;
+                if readings == READINGS_AWAKE {
+                    self.shared.will_sleep(rt, waiting.number());
+                }
                 hint::spin_loop();
             } else {
                 self.gate.park(rt, waiting.number() as u128);
@@ -107,8 +110,8 @@ impl<K: Naming> Level<K> {
         unreachable!()
     }
 
-    // The request arrives. If it waits, somebody may sleep until it is decided, if this says so.
-    fn arrive<R: Wait>(&self, rt: &R, pass: Pass, sleeps: bool) -> (Begin, Option<Event>)
+    // The request arrives.
+    fn arrive<R: Wait>(&self, rt: &R, pass: Pass) -> (Begin, Option<Event>)
         requires own { pass_gate pass ≡ K.level.gate }
         requires fresh { pass.pass.state ≡ Fresh }
         ensures same { IsOf pass (begun_pass result.0) }
@@ -128,7 +131,7 @@ impl<K: Naming> Level<K> {
                     return (Begin::Over(done, decision), None);
                 }
                 Attempt::Blocked(pass) => match &self.shared {
-                    Shared::Queued(queued) => return self.stand(rt, queued, pass, sleeps),
+                    Shared::Queued(queued) => return self.stand(rt, queued, pass),
                     // without queues a request is busy after a lost exchange alone
                     Shared::Alone(_alone) => pass,
                 },
@@ -145,7 +148,6 @@ impl<K: Naming> Level<K> {
         rt: &R,
         queued: &QueuedLock<K>,
         mut pass: Pass,
-        sleeps: bool,
     ) -> (Begin, Option<Event>)
         requires own { pass_gate pass ≡ K.level.gate }
         requires fresh { pass.pass.state ≡ Fresh }
@@ -157,10 +159,7 @@ impl<K: Naming> Level<K> {
     {
         self.gate.ask(&mut pass);
         let request = self.number(&pass);
-        let stood = queued
-            .lock
-            .lock(rt)
-            .arrive(rt, &self.gate, &mut pass, sleeps);
+        let stood = queued.lock.lock(rt).arrive(rt, &self.gate, &mut pass);
         match stood {
             Stood::Entered(queue) => {
                 let begun = self.look_again(rt, Waiting { pass });

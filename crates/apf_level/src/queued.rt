@@ -150,14 +150,8 @@ pub fn copy(log: &[Event], from: u32, into: &mut [Event]) -> u32
 
 impl<K: Naming> Queued<K> {
     /// The request arrives, and whoever waits is dispatched while the chosen head fits, also where the request does
-    /// not enter. If it enters, somebody may sleep until it is decided, if this says so.
-    pub fn arrive<R: Wait>(
-        &mut self,
-        rt: &R,
-        gate: &Gate<Global>,
-        pass: &mut Pass,
-        sleeps: bool,
-    ) -> Stood
+    /// not enter.
+    pub fn arrive<R: Wait>(&mut self, rt: &R, gate: &Gate<Global>, pass: &mut Pass) -> Stood
         requires own { gate.now ≡ K.level.gate }
         requires own_pass { pass_gate pass.old ≡ K.level.gate }
         requires in_line { pass.old.pass.state ≡ InLine }
@@ -177,12 +171,7 @@ impl<K: Naming> Queued<K> {
             before,
         );
         match arrived {
-            Arrived::Queued(queue) => {
-                if let Some(flag) = self.sleeps.get_mut(pass.number() as usize) {
-                    *flag = sleeps;
-                }
-                Stood::Entered(queue)
-            }
+            Arrived::Queued(queue) => Stood::Entered(queue),
             Arrived::Full(queue) => Stood::Full(queue),
             Arrived::Closed => Stood::Over(Decision::Closed),
             Arrived::Cancelled => Stood::Over(Decision::Cancelled),
@@ -220,6 +209,13 @@ impl<K: Naming> Queued<K> {
             self.sleeps.as_slice(),
             request,
         )
+    }
+
+    /// Somebody may sleep from now on until the request is decided.
+    pub fn will_sleep(&mut self, request: u32) {
+        if let Some(flag) = self.sleeps.get_mut(request as usize) {
+            *flag = true;
+        }
     }
 
     /// Copies as much of the log from this place on as there is room for. Tells how many events.

@@ -43,6 +43,14 @@ impl<K: Naming> Shared<K> {
         }
     }
 
+    /// Somebody may sleep from now on until the request is decided.
+    pub fn will_sleep<R: Wait>(&self, rt: &R, request: u32) {
+        match self {
+            Shared::Queued(queued) => queued.lock.lock(rt).will_sleep(request),
+            Shared::Alone(_alone) => {}
+        }
+    }
+
     /// Copies as much of the log from this place on as there is room for. Tells how many events.
     pub fn copy_events<R: Wait>(&self, rt: &R, from: u32, into: &mut [Event]) -> u32
         ensures { IsCopied K.level from into.old result into.new }

@@ -8,8 +8,8 @@ use Rattle.apf_level.proofs.Appending.{appended}
 use Rattle.apf_level.proofs.Entered.{never}
 use Rattle.apf_level.proofs.queued.Queued.arrive.Goals as goal
 
-pub returns-in-Some-clause-stands : goal.returns-in-Some-clause-stands
-returns-in-Some-clause-stands g c =
+pub returns-in-Queued-clause-stands : goal.returns-in-Queued-clause-stands
+returns-in-Queued-clause-stands g c =
     let e : Event = Enter c.args.pass.now.pass.number c.in-Queued.queue in (
       c.in-Queued.ensures.entered.1 (c.in-Queued.queue, subst (λ (v : LedgerView). Contains v.history e) (sym c.in-Queued.ensures.log) (0, omega arith, refl)),
       subst (λ (n : ℕ). Appended g.K.Naming.level (Enter n c.in-Queued.queue)) (sym c.in-Queued.ensures.number)

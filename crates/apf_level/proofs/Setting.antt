@@ -1,5 +1,5 @@
 -- A Station's tries to set a limit.
-use Rattle.std.proofs.Common.{◌≡◌, ℕ, Bool, List, [], ◌∷◌, ◌++◌, Option, Some, None, refl, sym, ap, ◌∙◌, subst}
+use Rattle.std.proofs.Common.{◌≡◌, ◌⊎◌, inl, inr, ℕ, Bool, List, [], ◌∷◌, ◌++◌, Option, Some, None, refl, sym, ap, ◌∙◌, subst}
 use Rattle.std.proofs.lemmas.List.{append_assoc}
 use Rattle.apf_words.specs.Level.{Level}
 use Rattle.apf_model.specs.declared.moves.Move.{Move}
@@ -18,7 +18,7 @@ use Rattle.apf_level.specs.Limits.{SetsOnly, SetsSince}
 
 none_sets : (number limit : ℕ) (later : List Entry) → NoneOf (OfStation number) later → SetsOnly number limit later
 none_sets number limit [] none = tt
-none_sets number limit (newest ∷ later) none = ((λ other own is. absurd (none.0 own)), none_sets number limit later none.1)
+none_sets number limit (newest ∷ later) none = ((λ own. absurd (none.0 own)), none_sets number limit later none.1)
 
 sets_both : (number limit : ℕ) (later newer : List Entry) → SetsOnly number limit later → SetsOnly number limit newer → SetsOnly number limit (later ++ newer)
 sets_both number limit [] newer first then = then
@@ -30,14 +30,14 @@ sets_nothing station limit = record { newer = []; trace = refl; only = tt }
 -- one more step of the Station, which sets no other limit
 sets_step :
     (station : StationRecord) (limit : ℕ) (before after : StationRecord) (level : Level) (own : Option Move)
-    → before.number ≡ station.number → SetsSince station limit before → ((other : ℕ) → own ≡ Some (SetLimit other) → other ≡ limit)
+    → before.number ≡ station.number → SetsSince station limit before → (own ≡ None) ⊎ (own ≡ Some (SetLimit limit))
     → (known' : Knowledge) → SawLevel (OfStation before.number) before.knows level own known' → after ≡ record before { knows = known' }
     → SetsSince station limit after
 sets_step station limit before after level own same since sets known' saw is =
     let who : Actor = OfStation before.number in
     let later : List Entry = entry who own ∷ saw.between in
     let own_is : SetsOnly station.number limit later = (
-      (λ other by step. sets other step),
+      (λ by. sets),
       none_sets station.number limit saw.between (subst (λ (n : ℕ). NoneOf (OfStation n) saw.between) same saw.of_others),
     ) in
     record {
@@ -48,18 +48,12 @@ sets_step station limit before after level own same since sets known' saw is =
       only = sets_both station.number limit later since.newer own_is since.only;
     }
 
-loads_nothing : (other limit : ℕ) → ◌≡◌ {A = Option Move} None (Some (SetLimit other)) → other ≡ limit
-loads_nothing other limit e = absurd (cc)
-
-sets_it : (other limit : ℕ) → ◌≡◌ {A = Option Move} (Some (SetLimit limit)) (Some (SetLimit other)) → other ≡ limit
-sets_it other limit e = sym (cc)
-
 module _ (station : StationRecord) (limit : ℕ) (before after : StationRecord) (same : before.number ≡ station.number) (since : SetsSince station limit before) where
   loads : (level : Level) → StationLoadsLevel before level after → SetsSince station limit after
-  loads level step = sets_step station limit before after level None same since (λ other. loads_nothing other limit) step.0 step.1 step.2
+  loads level step = sets_step station limit before after level None same since (inl refl) step.0 step.1 step.2
 
   exchanges : (level : Level) → StationExchangesLevel limit before level after → SetsSince station limit after
-  exchanges level step = sets_step station limit before after level (Some (SetLimit limit)) same since (λ other. sets_it other limit) step.0 step.1 step.2
+  exchanges level step = sets_step station limit before after level (Some (SetLimit limit)) same since (inr refl) step.0 step.1 step.2
 
 loads_same : (before after : StationRecord) (level : Level) → StationLoadsLevel before level after → after.number ≡ before.number
 loads_same before after level step = ap (λ (s : StationRecord). s.number) step.2

@@ -1,5 +1,5 @@
 -- How a limit is set.
-use Rattle.std.specs.Prelude.{◌≡◌, ℕ, ◌++◌, Bool, List, [], ◌∷◌, Some}
+use Rattle.std.specs.Prelude.{◌≡◌, ◌⊎◌, ℕ, ◌++◌, Bool, List, [], ◌∷◌, Some, None}
 use Rattle.apf_model.specs.declared.moves.Move.TheVariants.{SetLimit}
 use Rattle.apf_gate.specs.declared.record.Actor.TheVariants.{OfStation}
 use Rattle.apf_gate.specs.declared.record.Entry.{Entry}
@@ -8,10 +8,10 @@ use Rattle.apf_gate.specs.declared.answers.TrySetLimit.TheVariants.{Set}
 use Rattle.apf_gate.specs.Records.{KnowsMore}
 use Rattle.apf_gate.specs.StationCalls.{TriesToSet}
 
--- among these steps the Station's own set no other limit than this one
+-- among these steps the Station's own are loads, and settings of this limit
 abbrev pub SetsOnly : ℕ → ℕ → List Entry → Type 0
 SetsOnly number limit [] = Unit {0}
-SetsOnly number limit (newest ∷ trace) = ((other : ℕ) → newest.by ≡ OfStation number → newest.step ≡ Some (SetLimit other) → other ≡ limit) × SetsOnly number limit trace
+SetsOnly number limit (newest ∷ trace) = (newest.by ≡ OfStation number → (newest.step ≡ None) ⊎ (newest.step ≡ Some (SetLimit limit))) × SetsOnly number limit trace
 
 -- all steps that the trace has more, since the Station had this record: its own set no other limit than this one
 pub record SetsSince (station : StationRecord) (limit : ℕ) (station' : StationRecord) : Type 0 where

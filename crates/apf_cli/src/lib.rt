@@ -3,7 +3,7 @@
 //! In the order of the data's way:
 //!
 //! - `files`: where the files' bytes come from.
-//! - `explaining`: says what is wrong with files.
+//! - `explaining`: says what is wrong with files. `telling` does that for one line on standard error.
 //! - `traces`, `pictures`: do the commands on a trace. `audits`: does that on an audit log.
 //! - `program`: does the others, and answers the status.
 //! - `faults`: the lines on standard error.
@@ -15,8 +15,9 @@ mod faults;
 mod files;
 mod pictures;
 mod program;
+mod telling;
 mod traces;
 
 pub use apf_commands::{Action, read_words};
-pub use files::{FileFault, Files};
+pub use files::{Cause, FileFault, Files};
 pub use program::act;

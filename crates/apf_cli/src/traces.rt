@@ -6,6 +6,7 @@ ghost use Rattle.apf_traces.specs.TraceValue.{IsRequestInRange};
 
 use crate::faults::Fault;
 use crate::files::{Files, Input, judge_names, read_input};
+use crate::telling::{named, trace_fault};
 use apf_flows::{write_hands, write_requests};
 use apf_run::{Config, read_config, write_book};
 use apf_simulation::{Simulation, simulate};
@@ -23,8 +24,14 @@ fn read_requests<F: Files>(
     ensures few { IfOk result (λ trace. vec_len trace ≤ max_lines) }
     ensures ranges { IfOk result (λ trace. All IsRequestInRange trace.items) }
 {
-    let bytes = read_input(files, Input::Trace, trace)?;
-    Ok(read_trace(alloc, bytes.as_slice())?)
+    let bytes = match read_input(files, Input::Trace, trace) {
+        Ok(bytes) => bytes,
+        Err(fault) => return Err(named(alloc, trace, fault)),
+    };
+    match read_trace(alloc, bytes.as_slice()) {
+        Ok(requests) => Ok(requests),
+        Err(fault) => Err(trace_fault(alloc, bytes.as_slice(), fault)),
+    }
 }
 
 // Reads the config and the trace of these names, the config judged before the trace is read.

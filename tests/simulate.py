@@ -331,6 +331,26 @@ def check_reading(command):
     tally.check(f"{command} on a level that rejects, no hand", printed(command, *taken), foreseen(command, *taken))
 
 
+def trace_for_requests(size):
+    """A trace whose requests file has so many bytes: 10,000 requests, of which the last has the name that is left."""
+    count, plain = 10_000, len('{"schema":"","distinguisher":""}')
+    left = size - len("[\n\n]\n") - count * plain - 2 * (count - 1)
+    each, rest = divmod(left, count)
+    lines = [f'{{"schema":"{"x" * (each + (rest if number == 0 else 0))}","distinguisher":"","arrivesAt":0,"runsFor":0}}\n' for number in range(count)]
+    return "".join(lines).encode()
+
+
+def check_size_of_requests():
+    """What `requests` prints is a file that `replay` takes, or is refused."""
+    most = 16_777_216
+    status, out, err = run(program, ["requests", files("trace", trace_for_requests(most))])
+    tally.check("requests of the most bytes", (status, len(out), err), (0, most, b""))
+    taken = run(program, ["replay", files("config", CONFIG), files("requests", out), files("script", b"")])
+    tally.check("replay takes requests of the most bytes", taken[0], 0)
+    refused = run(program, ["requests", files("trace", trace_for_requests(most + 1))])
+    tally.check("requests of one byte more", refused, (1, b"", f"apf: the requests would be too large: more than {most} bytes\n".encode()))
+
+
 def check_words(command):
     """Words that the command line does not take, and output that can't be written."""
     paths = [files(name, content) for name, content in zip(("config", "trace"), (CONFIG, LINE))]
@@ -397,6 +417,7 @@ for command in COMMANDS:
     check_largest(command)
 if "requests" in COMMANDS:
     check_sizes()
+    check_size_of_requests()
 if len(COMMANDS) == 4:
     check_circle()
 tally.end()

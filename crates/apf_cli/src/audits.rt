@@ -2,6 +2,7 @@
 
 use crate::faults::Fault;
 use crate::files::{Files, Input, read_input};
+use crate::measuring::Measure;
 use crate::telling::{audit_fault, named};
 use apf_audit::{ends_early, read_audit_log, write_trace};
 use std::alloc::Global;
@@ -26,7 +27,8 @@ fn note_cut<E: Write>(alloc: Global, bytes: &[u8], err: &mut E) -> Result<(), Fa
 ///
 /// # Errors
 ///
-/// `LongSchema` if its name has more than 4096 bytes; then the faults of the log, then those of the output.
+/// `LongSchema` if its name has more than 4096 bytes; then the faults of the log; `Unreadable` if the trace has more bytes
+/// than the commands on a trace read; then those of the output.
 pub(crate) fn print_trace<F: Files, O: Write, E: Write>(
     alloc: Global,
     files: &mut F,
@@ -46,6 +48,9 @@ pub(crate) fn print_trace<F: Files, O: Write, E: Write>(
         Ok(requests) => requests,
         Err(fault) => return Err(audit_fault(alloc, bytes.as_slice(), fault)),
     };
+    let mut size = Measure::new();
+    write_trace(schema, requests.as_slice(), &mut size).map_err(|_| Fault::CannotWrite)?;
+    size.judge(Input::Trace)?;
     note_cut(alloc, bytes.as_slice(), err)?;
     write_trace(schema, requests.as_slice(), out).map_err(|_| Fault::CannotWrite)
 }

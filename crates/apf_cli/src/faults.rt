@@ -34,6 +34,8 @@ pub enum Fault {
     CannotRead(Input, Cause),
     /// The file has more bytes than it may have.
     TooLarge(Input),
+    /// The output would have more bytes than the program reads of such a file.
+    Unreadable(Input),
     /// Two files are to be read from standard input.
     TwoInputs,
     CannotWrite,
@@ -57,6 +59,7 @@ impl Fault {
             | Fault::Level(_)
             | Fault::CannotRead(_, _)
             | Fault::TooLarge(_)
+            | Fault::Unreadable(_)
             | Fault::CannotWrite => 1,
         }
     }
@@ -197,6 +200,13 @@ impl fmt::Display for Fault {
             Fault::TooLarge(input) => {
                 let most = input.most();
                 write!(f, "apf: {input} too large: more than {most} bytes")
+            }
+            Fault::Unreadable(input) => {
+                let most = input.most();
+                write!(
+                    f,
+                    "apf: the {input} would be too large: more than {most} bytes"
+                )
             }
             Fault::TwoInputs => f.write_str("apf: standard input is named twice"),
             Fault::CannotWrite => f.write_str("apf: cannot write"),

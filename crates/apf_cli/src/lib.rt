@@ -5,6 +5,7 @@
 //! - `files`: where the files' bytes come from.
 //! - `explaining`: says what is wrong with files. `telling` does that for one line on standard error.
 //! - `traces`, `pictures`: do the commands on a trace. `audits`: does that on an audit log.
+//! - `measuring`: how large an output will be, before its first byte.
 //! - `program`: does the others, and answers the status.
 //! - `faults`: the lines on standard error.
 #![tactic(auto)]
@@ -13,6 +14,7 @@ mod audits;
 mod explaining;
 mod faults;
 mod files;
+mod measuring;
 mod pictures;
 mod program;
 mod telling;

@@ -6,6 +6,7 @@ ghost use Rattle.apf_traces.specs.TraceValue.{IsRequestInRange};
 
 use crate::faults::Fault;
 use crate::files::{Files, Input, judge_names, read_input};
+use crate::measuring::Measure;
 use crate::telling::{named, trace_fault};
 use apf_flows::{write_hands, write_requests};
 use apf_run::{Config, read_config, write_book};
@@ -124,7 +125,7 @@ pub(crate) fn print_timeline<F: Files, O: Write, R: Wait>(
 ///
 /// # Errors
 ///
-/// The faults of the trace, then those of the output.
+/// The faults of the trace; `Unreadable` if the file has more bytes than `replay` reads; then those of the output.
 pub(crate) fn print_requests<F: Files, O: Write>(
     alloc: Global,
     files: &mut F,
@@ -132,6 +133,9 @@ pub(crate) fn print_requests<F: Files, O: Write>(
     out: &mut O,
 ) -> Result<(), Fault> {
     let trace = read_requests(alloc, files, trace)?;
+    let mut size = Measure::new();
+    write_requests(trace.as_slice(), &mut size).map_err(|_| Fault::CannotWrite)?;
+    size.judge(Input::Requests)?;
     write_requests(trace.as_slice(), out).map_err(|_| Fault::CannotWrite)
 }
 

@@ -9,6 +9,7 @@ import re
 from fractions import Fraction
 
 from explain import found, line_not_json
+from jsontext import json_text
 from judge import Json, NotJson, Refused
 from trace import needed
 
@@ -206,8 +207,3 @@ def trace_of(content, schema):
     schema = json_text(schema)
     form = '{{"schema":{},"distinguisher":{},"arrivesAt":{},"runsFor":{}}}\n'
     return "".join(form.format(schema, json_text(user), received - start, run) for received, _, run, user in sorted(taken, key=lambda it: it[:2]))
-
-
-def json_text(text):
-    """The text as JSON has it, escaped only where JSON must."""
-    return json.dumps(text, ensure_ascii=False)

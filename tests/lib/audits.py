@@ -5,7 +5,7 @@ import json
 
 from audit import BAD_ARRIVAL, BAD_RECEIVED, BAD_RUN, BAD_STAGE, BAD_USER, BAD_WAIT, LASTING, NOT_EVENT, NOT_JSON, QUEUE_WAIT, TOO_MANY
 
-USERS = ["system:serviceaccount:kube-system:job-controller", "system:node:node-7", "alice@example.com", "kubernetes-admin", "", 'o"\\\u20ac\U0001f600\u0001\u007f\u2028']
+USERS = ["system:serviceaccount:kube-system:job-controller", "system:node:node-7", "alice@example.com", "kubernetes-admin", "", 'o"\\\u20ac\U0001f600\u0001\u007f\u0085\u200f\u202e\u2028\u2067']
 VERBS = ["get", "list", "create", "update", "patch", "delete", "deletecollection"]
 STAGES = ["RequestReceived", "ResponseStarted", "Panic", "responsecomplete", ""]
 # of subresources that are taken: none is a connection that lasts

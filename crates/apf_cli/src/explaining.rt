@@ -40,7 +40,7 @@ fn explain_input<O: Write>(name: &str, fault: &Fault, out: &mut O) -> Result<(),
         Fault::CannotRead(_, cause) => writeln!(out, "{name}: can't be read: {cause}"),
         Fault::TooLarge(input) => {
             let most = input.most();
-            let rule = at_most(input);
+            let rule = at_most(*input);
             writeln!(out, "{name}: more than {most} bytes: {rule}")
         }
         _ => Ok(()),

@@ -41,7 +41,7 @@ fn lines_that_are_no_json(rt: HostRuntime) -> Result<(), Fail> {
         (b"[{},\n", "4: an array begins here: write one object on each line"),
         (b"{\"a\":1e999}\n", "11: the number here is too large"),
         (b"{\n", "1: the text ends too early"),
-        (b"{\"\xe2\x82\n", "2: the text ends too early"),
+        (b"{\"\xe2\x82\n", "3: the text ends too early"),
         (b"{\"\xff\"}\n", "3: the bytes here are not UTF-8"),
         (b"{\"a\" 1}\n", "6"),
     ];

@@ -8,7 +8,7 @@ import sys
 
 sys.path.insert(0, os.path.join(os.path.dirname(os.path.abspath(__file__)), "lib"))
 import trace
-from audit import ARRIVAL, NAME, TEXTS, TOO_MANY, AuditFault, json_text, trace_of
+from audit import ARRIVAL, BYTES, CUT, NAME, TOO_MANY, AuditFault, json_text, trace_of
 from audits import NOON, Logs
 from harness import TOP, Files, Tally, build, run
 
@@ -45,30 +45,47 @@ def meant(requests, schema):
     return text
 
 
-def fault_line(fault, line):
-    at = f"9: {TEXTS[fault]}: {line}" if fault == TOO_MANY else f"{fault} at line {line}: {TEXTS[fault]}"
-    return f"apf: audit fault {at}"
+def fault_front(fault, line):
+    """How the line of a fault begins, by how the log was made."""
+    return f"apf: audit fault 9: there are {line} requests" if fault == TOO_MANY else f"apf: audit fault {fault} at line {line}: "
 
 
 def drawn():
-    """The drawn logs, with the schema and the trace of each, and that of the widest name."""
-    for _ in range(GOOD):
-        content, requests = logs.good()
+    """The drawn logs, with the schema and the trace of each, and whether its last line is left out; and that of the widest name."""
+    for number in range(GOOD):
+        content, requests, is_cut = logs.cut() if number % 3 == 2 else (*logs.good(), False)
         schema = draw.choice(["global-default", "workload-low", "", 'a"\u20ac\n'])
-        yield content, schema, meant(requests, schema)
+        yield content, schema, meant(requests, schema), is_cut
     widest = [(NOON + ARRIVAL, 10**10, "\x01" * NAME, None), (NOON, 0, "\u20ac" * 1365, None)]
-    yield b"".join(logs.line(logs.event(it)) + b"\n" for it in widest), "\x01" * NAME, meant(widest, "\x01" * NAME)
+    yield b"".join(logs.line(logs.event(it)) + b"\n" for it in widest), "\x01" * NAME, meant(widest, "\x01" * NAME), False
 
 
 def check_judge():
-    for content, schema, text in drawn():
+    for content, schema, text, _ in drawn():
         tally.check(f"the judge of {content[-300:]!r}", read(content, schema), text)
         tally.check(f"a good trace of {content[-300:]!r}", len(trace.trace_of(text.encode())), text.count("\n"))
     kinds = set()
     for content, fault, line in logs.all_faulty(FAULTY):
-        tally.check(f"the judge of {content[-300:]!r}", read(content, "a"), fault_line(fault, line))
+        got = read(content, "a")
+        tally.check(f"the judge of {content[-300:]!r}: {got}", got.startswith(fault_front(fault, line)), True)
         kinds.add(fault)
-    tally.check("the faulty logs have each fault", sorted(kinds), [*range(1, 11)])
+    for content in long_lines():
+        tally.check(f"the judge of a line of {len(content)} bytes", read(content, "a"), read_long(content))
+    tally.check("the faulty logs have each fault", sorted(kinds), [*range(2, 11)])
+
+
+def long_lines():
+    """Logs of one line of the most bytes, and of one byte more, with and without an end."""
+    front, back = b'{"stage":"Panic","verb":"', b'"}'
+    for count in (BYTES, BYTES + 1):
+        line = front + b"x" * (count - len(front) - len(back)) + back
+        yield line + b"\n"
+        yield line
+
+
+def read_long(content):
+    count = len(content.rstrip(b"\n"))
+    return "" if count == BYTES else f"apf: audit fault 1 at line 1: the line has {count} bytes: at most {BYTES} may be there"
 
 
 def example(name):
@@ -88,16 +105,19 @@ def printed(content, schema):
 
 
 def check_command():
-    for content, schema, text in drawn():
-        tally.check(f"{COMMAND} of {content[-300:]!r}", printed(content, schema), (0, text.encode(), b""))
+    for content, schema, text, is_cut in drawn():
+        tally.check(f"{COMMAND} of {content[-300:]!r}", printed(content, schema), (0, text.encode(), f"{CUT}\n".encode() if is_cut else b""))
     for content, fault, line in logs.all_faulty(FAULTY):
-        tally.check(f"{COMMAND} of {content[-300:]!r}", printed(content, "a"), (1, b"", f"{fault_line(fault, line)}\n".encode()))
+        tally.check(f"{COMMAND} of {content[-300:]!r}", printed(content, "a"), (1, b"", f"{read(content, 'a')}\n".encode()))
     tally.check(f"{COMMAND} of the example", printed(example("audit.log"), "global-default"), (0, example("trace.jsonl"), b""))
     content = example("audit.log")
     with open("/dev/full", "wb") as full:
         words = [program, COMMAND, files("audit.log", content), "a"]
         done = subprocess.run(words, stdin=subprocess.DEVNULL, stdout=full, stderr=subprocess.PIPE)
     tally.check(f"{COMMAND} on a full disk", (done.returncode, done.stderr), (1, b"apf: cannot write\n"))
+    for content in long_lines():
+        line = read_long(content)
+        tally.check(f"{COMMAND} of a line of {len(content)} bytes", printed(content, "a"), (1 if line else 0, b"", f"{line}\n".encode() if line else b""))
     many = b"".join(logs.line(logs.event(logs.request(draw.randrange(10**9)))) + b"\n" for _ in range(10_000))
     tally.check(f"{COMMAND} of 10,000 requests", printed(many, "a"), (0, read(many, "a").encode(), b""))
 

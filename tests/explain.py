@@ -9,7 +9,7 @@ import sys
 
 HERE = os.path.dirname(os.path.abspath(__file__))
 sys.path.insert(0, os.path.join(HERE, "lib"))
-from explain import FORMS, answer, cant_read, found, float_text, quoted, too_large
+from explain import ABSENT, FOLDER, FORMS, answer, cant_read, found, float_text, quoted, too_large
 from harness import Files, Tally, build, run
 from judge import MOST
 from maker import CONFIG, REQUESTS, SCRIPT, WHOLE, with_spoiled
@@ -57,6 +57,10 @@ ROWS = [
     (0, b"{'limit':1}", "config.json:1:2: this is not JSON", "config fault 1: not JSON"),
     (0, b'\xef\xbb\xbf{"limit":1}', "config.json:1:1: this is not JSON", "config fault 1: not JSON"),
     (0, b'{"\xff":1}', "config.json:1:3: this is not JSON: the bytes here are not UTF-8", "config fault 1: not JSON"),
+    (0, b'{"\xe2\x82', "config.json:1:3: this is not JSON: the text ends too early", "config fault 1: not JSON"),
+    (0, b"[1,\xe2\x82", "config.json:1:4: this is not JSON: the bytes here are not UTF-8", "config fault 1: not JSON"),
+    (0, b'{"limit":1e999}', "config.json:1:15: this is not JSON: the number here is too large", "config fault 1: not JSON"),
+    (0, 128 * b"[" + 128 * b"]", "config.json:1:129: this is not JSON: more than 127 arrays and objects stand in one another", "config fault 1: not JSON"),
     (0, b"[]", "config.json: a config is a JSON object, but this is an array", "config fault 2: not an object"),
     (0, b'"limit"', 'config.json: a config is a JSON object, but this is "limit"', "config fault 2: not an object"),
     (0, b'{"limits":1}', f'config.json: the key "limits" is unknown: {UNKNOWN}', "config fault 3: unknown key"),
@@ -290,13 +294,13 @@ for name in ("./config.json", "a: b", "\u00e4.json", "../" + os.path.basename(fi
 KINDS = ["config", "requests", "script"]
 os.mkdir(os.path.join(files.folder.name, "folder"))
 for place, kind in enumerate(KINDS):
-    for name in ("missing", "folder"):
+    for name, cause in (("missing", ABSENT), ("folder", FOLDER)):
         names = [*NAMES]
         names[place] = name
         for other, content in zip(NAMES, WHOLE):
             files(other, content)
         got = run(program, ["explain", *names], cwd=files.folder.name)
-        tally.check(f"{kind}: {name}", got, (1, f"{cant_read(name)}\n".encode(), f"apf: cannot read {kind}\n".encode()))
+        tally.check(f"{kind}: {name}", got, (1, f"{cant_read(name, cause)}\n".encode(), f"apf: cannot read {kind}\n".encode()))
     for size in (MOST[kind], MOST[kind] + 1):
         contents = with_file(place, b" " * size)
         got = explain(contents)

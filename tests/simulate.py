@@ -220,13 +220,9 @@ def meant(objects):
     return requests
 
 
-# the texts of the faults, by their numbers
-TEXTS = ["too many lines", "line too long", "not JSON", "not an object", "unknown key", "bad arrivesAt", "bad runsFor", "bad flow"]
-TEXTS += ["bad width", "bad cost", "truncated"]
-
-
-def fault_line(number, line):
-    return f"apf: trace fault {number} at line {line}: {TEXTS[number - 1]}"
+def fault_line(content):
+    """The line of a faulty trace, whose first fault is known by how it was made."""
+    return read(content)[2]
 
 
 def all_faulty():
@@ -239,7 +235,8 @@ def check_judge():
     """The judge of traces, by files that were made faulty in a known place, and by good ones."""
     kinds = set()
     for content, number, line in all_faulty():
-        tally.check(f"the judge of {content[-300:]!r}", read(content), (number, line, fault_line(number, line)))
+        got = read(content)
+        tally.check(f"the judge of {content[-300:]!r}", (got[:2], got[2].startswith(f"apf: trace fault {number} at line {line}: ")), ((number, line), True))
         kinds.add(number)
     tally.check("the faulty files have each fault", sorted(kinds), [*range(1, 12)])
     for name, content, objects in good_ends():
@@ -300,9 +297,9 @@ def check_circle():
 
 def check_traces(command):
     """Each faulty trace, and those at the ends of what is allowed."""
-    for content, number, line in FAULTY_ENDS if command != "simulate" else all_faulty():
+    for content, *_ in FAULTY_ENDS if command != "simulate" else all_faulty():
         got = printed(command, *inputs(command, CONFIG, content, 0))
-        tally.check(f"{command} of {content[-300:]!r}", got, (1, b"", f"{fault_line(number, line)}\n".encode()))
+        tally.check(f"{command} of {content[-300:]!r}", got, (1, b"", f"{fault_line(content)}\n".encode()))
     for name, content, _ in good_ends():
         taken = inputs(command, CONFIG, content, 0)
         tally.check(f"{command} of {name}", printed(command, *taken), foreseen(command, *taken))
@@ -312,24 +309,46 @@ def check_reading(command):
     """Files that can't be read, and the order in which the files are read and judged, and the level is opened."""
     missing, good = os.path.join(files.folder.name, "missing"), [files("config", CONFIG), files("trace", LINE)]
     patience = ["0"] if command in PATIENT else []
+    absent = f"cannot read trace: {missing}: there is no such file"
+    folder = f"cannot read trace: {files.folder.name}: it is a folder"
     if command == "requests":
-        for path in (missing, files.folder.name):
-            tally.check(f"{command} {path}", run(program, [command, path]), (1, b"", b"apf: cannot read trace\n"))
+        for path, line in ((missing, absent), (files.folder.name, folder)):
+            tally.check(f"{command} {path}", run(program, [command, path]), (1, b"", f"apf: {line}\n".encode()))
         return
     narrow, zero, cut = files("narrow", b'{"limit":1,"queues":3}'), files("zero", b'{"limit":0}'), files("cut", LINE[:-1])
     for words, line in [
         ((missing, missing), "cannot read config"),
         ((zero, missing), "config fault 5: bad value of limit"),
-        ((good[0], missing), "cannot read trace"),
-        ((good[0], files.folder.name), "cannot read trace"),
-        ((narrow, missing), "cannot read trace"),
-        ((narrow, cut), "trace fault 11 at line 1: truncated"),
+        ((good[0], missing), absent),
+        ((good[0], files.folder.name), folder),
+        ((narrow, missing), absent),
+        ((narrow, cut), "trace fault 11 at line 1: the last line has no LF at its end"),
         ((narrow, good[1]), "dealer fault 2: hand too large"),
     ]:
         tally.check(f"{command} {words}", run(program, [command, *words, *patience]), (1, b"", f"apf: {line}\n".encode()))
     rejects = b'{"limit":1,"queues":3,"limitResponse":"Reject"}'
     taken = inputs(command, rejects, LINE, 0)
     tally.check(f"{command} on a level that rejects, no hand", printed(command, *taken), foreseen(command, *taken))
+
+
+def trace_for_requests(size):
+    """A trace whose requests file has so many bytes: 10,000 requests, of which the last has the name that is left."""
+    count, plain = 10_000, len('{"schema":"","distinguisher":""}')
+    left = size - len("[\n\n]\n") - count * plain - 2 * (count - 1)
+    each, rest = divmod(left, count)
+    lines = [f'{{"schema":"{"x" * (each + (rest if number == 0 else 0))}","distinguisher":"","arrivesAt":0,"runsFor":0}}\n' for number in range(count)]
+    return "".join(lines).encode()
+
+
+def check_size_of_requests():
+    """What `requests` prints is a file that `replay` takes, or is refused."""
+    most = 16_777_216
+    status, out, err = run(program, ["requests", files("trace", trace_for_requests(most))])
+    tally.check("requests of the most bytes", (status, len(out), err), (0, most, b""))
+    taken = run(program, ["replay", files("config", CONFIG), files("requests", out), files("script", b"")])
+    tally.check("replay takes requests of the most bytes", taken[0], 0)
+    refused = run(program, ["requests", files("trace", trace_for_requests(most + 1))])
+    tally.check("requests of one byte more", refused, (1, b"", f"apf: the requests would be too large: more than {most} bytes\n".encode()))
 
 
 def check_words(command):
@@ -398,6 +417,7 @@ for command in COMMANDS:
     check_largest(command)
 if "requests" in COMMANDS:
     check_sizes()
+    check_size_of_requests()
 if len(COMMANDS) == 4:
     check_circle()
 tally.end()

@@ -8,7 +8,10 @@ import json
 import re
 from fractions import Fraction
 
-from judge import NotJson, Refused
+from explain import found, line_not_json
+from jsontext import json_text
+from judge import Json, NotJson, Refused
+from trace import needed
 
 REQUESTS = 10_000
 # bytes of the name of a user
@@ -20,19 +23,10 @@ RUN = 10_000_000_000
 WAIT = 10_000_000_000
 
 # each fault's number is its place in the order in which a line is judged; the last two are judged once no line has a fault
-TRUNCATED, NOT_JSON, NOT_EVENT, BAD_USER, BAD_RECEIVED, BAD_STAGE, BAD_WAIT, BAD_RUN, TOO_MANY, BAD_ARRIVAL = range(1, 11)
-TEXTS = {
-    TRUNCATED: "truncated",
-    NOT_JSON: "not JSON",
-    NOT_EVENT: "not an audit event",
-    BAD_USER: "bad username",
-    BAD_RECEIVED: "bad requestReceivedTimestamp",
-    BAD_STAGE: "bad stageTimestamp",
-    BAD_WAIT: "bad apf-queue-wait",
-    BAD_RUN: "bad run",
-    TOO_MANY: "too many requests",
-    BAD_ARRIVAL: "arrives too late",
-}
+TOO_LONG, NOT_JSON, NOT_EVENT, BAD_USER, BAD_RECEIVED, BAD_STAGE, BAD_WAIT, BAD_RUN, TOO_MANY, BAD_ARRIVAL = range(1, 11)
+# bytes of a line, without its LF
+BYTES = 8_388_608
+CUT = "apf: the last line is left out: it has no LF at its end, and is not whole JSON"
 LASTING = ("exec", "attach", "portforward", "proxy", "log")
 QUEUE_WAIT = "apiserver.latency.k8s.io/apf-queue-wait"
 RFC_3339 = re.compile(r"(\d{4}-\d\d-\d\dT\d\d:\d\d:\d\d)(?:\.(\d{1,9}))?(Z|[+-]\d\d:\d\d)", re.ASCII)
@@ -44,12 +38,49 @@ EPOCH = datetime.datetime(1970, 1, 1, tzinfo=datetime.timezone.utc)
 
 
 class AuditFault(Refused):
-    """A fault of an audit log: its number, its line from 1 (of TOO_MANY how many requests there are), and its text."""
+    """A fault of an audit log: its number, its line from 1 (of TOO_MANY how many requests there are), and what is wrong."""
 
-    def __init__(self, number, line):
-        self.number, self.line, self.text = number, line, TEXTS[number]
-        said = f"audit fault 9: {self.text}: {line}" if number == TOO_MANY else f"audit fault {number} at line {line}: {self.text}"
-        super().__init__(f"apf: {said}")
+    def __init__(self, number, line, content=None):
+        self.number, self.line = number, line
+        at = f" at line {line}" if number != TOO_MANY else ""
+        super().__init__(f"apf: audit fault {number}{at}: {told(number, content, line)}")
+
+
+def shown(value):
+    return "absent" if value is None else found(value[0])
+
+
+def told(number, content, line):
+    """What is wrong with a line of these bytes."""
+    if number == TOO_MANY:
+        return f"there are {line} requests: at most {REQUESTS} may be there"
+    if number == TOO_LONG:
+        return f"the line has {len(content)} bytes: at most {BYTES} may be there"
+    if number == NOT_JSON:
+        return line_not_json(content)
+    value = Json(content).whole()
+    if number == NOT_EVENT:
+        if not isinstance(value, dict):
+            return f"an audit event is a JSON object, but this is {found(value)}"
+        return needed(value, "verb" if isinstance(value.get("stage"), str) else "stage", "a text")
+    times = {key: [value[key]] if key in value else None for key in ("stageTimestamp", "requestReceivedTimestamp")}
+    annotations = value.get("annotations") if isinstance(value.get("annotations"), dict) else {}
+    wait = [annotations[QUEUE_WAIT]] if QUEUE_WAIT in annotations else None
+    if number == BAD_USER:
+        who = "impersonatedUser" if "impersonatedUser" in value else "user"
+        user = value.get(who) if isinstance(value.get(who), dict) else {}
+        name = {f"{who}.username": user["username"]} if "username" in user else {}
+        return needed(name, f"{who}.username", f"a text of at most {NAME} bytes")
+    if number in (BAD_RECEIVED, BAD_STAGE):
+        key = "requestReceivedTimestamp" if number == BAD_RECEIVED else "stageTimestamp"
+        return needed(value, key, 'an instant from 1970 on, as "2026-01-31T12:00:00.000000Z"')
+    if number == BAD_WAIT:
+        return f'apf-queue-wait is {found(wait[0])}: it must be a duration from 0 to 10000 s, as "1.5s"'
+    if number == BAD_RUN:
+        run = f"the run, which is the first less the others, must be from 0 to {RUN} microseconds"
+        stage, received = (shown(times[key]) for key in ("stageTimestamp", "requestReceivedTimestamp"))
+        return f"stageTimestamp is {stage}, requestReceivedTimestamp is {received} and apf-queue-wait is {shown(wait)}: {run}"
+    return f"requestReceivedTimestamp is {shown(times['requestReceivedTimestamp'])}: it must be at most {ARRIVAL} microseconds after the earliest one"
 
 
 def no_constant(word):
@@ -118,38 +149,51 @@ def is_taken(event):
     return event["stage"] == "ResponseComplete" and event["verb"] != "watch" and at(event, "objectRef", "subresource") not in LASTING
 
 
-def request_of(event, line):
-    """The arrival from 1970 on, the line, the run and the user of an event that is taken."""
-    user = text_at(event, "user", "username")
+def request_of(event, line, text):
+    """The arrival from 1970 on, the line, the run and the user of an event that is taken. A user who is impersonated is the one."""
+    user = text_at(event, "impersonatedUser" if "impersonatedUser" in event else "user", "username")
     if user is None or len(user.encode()) > NAME:
-        raise AuditFault(BAD_USER, line)
+        raise AuditFault(BAD_USER, line, text)
     times = [instant(text_at(event, key)) for key in ("requestReceivedTimestamp", "stageTimestamp")]
     for time, fault in zip(times, (BAD_RECEIVED, BAD_STAGE)):
         if time is None:
-            raise AuditFault(fault, line)
+            raise AuditFault(fault, line, text)
     wait = wait_of(event)
     if wait is None:
-        raise AuditFault(BAD_WAIT, line)
+        raise AuditFault(BAD_WAIT, line, text)
     run = times[1] - times[0] - wait
     if not 0 <= run <= RUN:
-        raise AuditFault(BAD_RUN, line)
+        raise AuditFault(BAD_RUN, line, text)
     return times[0], line, run, user
+
+
+def lines_of(content):
+    """The lines, without a last one that no LF ends and that is no JSON; and whether there is such a one."""
+    *lines, rest = content.split(b"\n")
+    if not rest:
+        return lines, False
+    if len(rest) > BYTES:
+        return [*lines, rest], False
+    try:
+        value_of(rest)
+    except NotJson:
+        return lines, True
+    return [*lines, rest], False
 
 
 def taken_of(content):
     """What is taken of the lines, in their order."""
-    *lines, rest = content.split(b"\n")
-    for line, text in enumerate(lines, 1):
+    for line, text in enumerate(lines_of(content)[0], 1):
+        if len(text) > BYTES:
+            raise AuditFault(TOO_LONG, line, text)
         try:
             event = value_of(text)
         except NotJson:
-            raise AuditFault(NOT_JSON, line) from None
+            raise AuditFault(NOT_JSON, line, text) from None
         if text_at(event, "stage") is None or text_at(event, "verb") is None:
-            raise AuditFault(NOT_EVENT, line)
+            raise AuditFault(NOT_EVENT, line, text)
         if is_taken(event):
-            yield request_of(event, line)
-    if rest:
-        raise AuditFault(TRUNCATED, len(lines) + 1)
+            yield request_of(event, line, text)
 
 
 def trace_of(content, schema):
@@ -159,12 +203,7 @@ def trace_of(content, schema):
     start = min((received for received, *_ in taken), default=0)
     for received, line, _, _ in taken:
         if received - start > ARRIVAL:
-            raise AuditFault(BAD_ARRIVAL, line)
+            raise AuditFault(BAD_ARRIVAL, line, content.split(b"\n")[line - 1])
     schema = json_text(schema)
     form = '{{"schema":{},"distinguisher":{},"arrivesAt":{},"runsFor":{}}}\n'
     return "".join(form.format(schema, json_text(user), received - start, run) for received, _, run, user in sorted(taken, key=lambda it: it[:2]))
-
-
-def json_text(text):
-    """The text as JSON has it, escaped only where JSON must."""
-    return json.dumps(text, ensure_ascii=False)

@@ -3,9 +3,9 @@
 import datetime
 import json
 
-from audit import BAD_ARRIVAL, BAD_RECEIVED, BAD_RUN, BAD_STAGE, BAD_USER, BAD_WAIT, LASTING, NOT_EVENT, NOT_JSON, QUEUE_WAIT, TOO_MANY, TRUNCATED
+from audit import BAD_ARRIVAL, BAD_RECEIVED, BAD_RUN, BAD_STAGE, BAD_USER, BAD_WAIT, LASTING, NOT_EVENT, NOT_JSON, QUEUE_WAIT, TOO_MANY
 
-USERS = ["system:serviceaccount:kube-system:job-controller", "system:node:node-7", "alice@example.com", "kubernetes-admin", "", 'o"\\\u20ac\U0001f600\u0001\u007f\u2028']
+USERS = ["system:serviceaccount:kube-system:job-controller", "system:node:node-7", "alice@example.com", "kubernetes-admin", "", 'o"\\\u20ac\U0001f600\u0001\u007f\u0085\u200f\u202e\u2028\u2067']
 VERBS = ["get", "list", "create", "update", "patch", "delete", "deletecollection"]
 STAGES = ["RequestReceived", "ResponseStarted", "Panic", "responsecomplete", ""]
 # of subresources that are taken: none is a connection that lasts
@@ -74,6 +74,9 @@ class Logs:
             "requestReceivedTimestamp": time_text(received, self.draw),
             "stageTimestamp": time_text(received + run + (wait or 0) // 1000, self.draw),
         }
+        if self.draw.random() < 0.2:
+            event["impersonatedUser"] = event["user"]
+            event["user"] = {"username": self.draw.choice(USERS)}
         if self.draw.random() < 0.7:
             event["objectRef"] = {"resource": "pods", "namespace": "default", "apiVersion": "v1"}
             if self.draw.random() < 0.4:
@@ -123,6 +126,15 @@ class Logs:
             lines = [self.line(self.event(it)) for it in requests]
         return b"".join(it + b"\n" for it in lines), requests
 
+    def cut(self):
+        """A log that is still written, and the requests of its lines: the last one has no LF, and is whole or not."""
+        content, requests = self.good()
+        last = self.request(requests[0][0] - NOON if requests else None)
+        line = self.line(self.event(last)).strip()
+        if self.draw.random() < 0.4:
+            return content + line, [*requests, last], False
+        return content + self.draw.choice([line[: self.draw.randrange(1, len(line))], b"{", b"x", b" ", b"\xe2"]), requests, True
+
     # what is not allowed
 
     def spoiled(self, fault):
@@ -139,7 +151,8 @@ class Logs:
             key = self.draw.choice(["stage", "verb"])
             event[key] = self.draw.choice([None, 7, ["get"], {}])
         elif fault == BAD_USER:
-            event["user"] = self.draw.choice([None, "alice", {}, {"username": None}, {"username": 7}, {"username": "x" * 4097}, {"username": "\u20ac" * 1366}])
+            bad = self.draw.choice([None, "alice", {}, {"username": None}, {"username": 7}, {"username": "x" * 4097}, {"username": "\u20ac" * 1366}])
+            event[self.draw.choice(["user", "impersonatedUser"]) if "impersonatedUser" not in event else "impersonatedUser"] = bad
         elif fault in (BAD_RECEIVED, BAD_STAGE):
             key = "requestReceivedTimestamp" if fault == BAD_RECEIVED else "stageTimestamp"
             event[key] = self.draw.choice(NO_TIMES)
@@ -175,9 +188,6 @@ class Logs:
             return b"".join(it + b"\n" for it in lines), 1 if front else len(lines) - 1
         lines = self.before()
         place = len(lines) + 1
-        if fault == TRUNCATED:
-            cut = self.draw.choice([self.line(self.event(self.request())), b"{", b"x", b" ", b"{}"])
-            return b"".join(it + b"\n" for it in lines) + cut, place
         lines.append(self.faulty_line(fault))
         lines += [self.faulty_line(self.draw.randint(NOT_JSON, BAD_RUN)) for _ in range(self.draw.choice([0, 0, 1, 3]))]
         return b"".join(it + b"\n" for it in lines) + self.draw.choice([b"", b"", b"{"]), place
@@ -185,7 +195,7 @@ class Logs:
     def all_faulty(self, count):
         """So many logs with their faults' numbers and lines. Of too many requests, which make large files, there are few."""
         for number in range(count):
-            fault = TOO_MANY if number % 100 == 99 else (*range(TRUNCATED, TOO_MANY), BAD_ARRIVAL)[number % 9]
+            fault = TOO_MANY if number % 100 == 99 else (*range(NOT_JSON, TOO_MANY), BAD_ARRIVAL)[number % 8]
             content, line = self.faulty(fault)
             yield content, fault, line
 

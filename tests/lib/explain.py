@@ -77,10 +77,13 @@ TEXT_FRONT = re.compile(r'"(?:[^"\\\x00-\x1f]|\\["\\/bfnrt]|\\u[0-9a-fA-F]{4})*(
 NUMBER = re.compile(r"-?(?:0|[1-9][0-9]*)(?:\.[0-9]+)?(?:[eE][+-]?[0-9]+)?")
 NUMBER_FRONT = re.compile(r"-|-?(?:0|[1-9][0-9]*)\.|-?(?:0|[1-9][0-9]*)(?:\.[0-9]+)?[eE][+-]?")
 WORDS = ("true", "false", "null")
+DEEP = ": more than 127 arrays and objects stand in one another"
+LARGE = ": the number here is too large"
+EARLY = ": the text ends too early"
 
 
 class Stop(Exception):
-    """Where the reader stopped, as a place in the text."""
+    """Where the reader stopped, as a place in the text, and why, where that is a size."""
 
 
 class Reader:
@@ -111,8 +114,8 @@ class Reader:
             self.passes(1)
             self.came = "comma"
 
-    def stop(self):
-        raise Stop(self.at)
+    def stop(self, why=""):
+        raise Stop(self.at, why)
 
     def scalar(self):
         """The length of the word or number here."""
@@ -169,10 +172,12 @@ class Reader:
 
     def value(self, depth):
         kind, text = self.mark() or self.stop()
-        if kind in ("key", "}", "]") or (kind in "{[" and depth == Json.DEPTH):
+        if kind in ("key", "}", "]"):
             self.stop()
+        if kind in "{[" and depth == Json.DEPTH:
+            self.stop(DEEP)
         if kind == "scalar" and (text[0] == "-" or text[0].isdigit()) and abs(float(text)) == float("inf"):
-            self.stop()
+            self.stop(LARGE)
         if kind == "[":
             while not (self.here() == "]" and self.came != "comma"):
                 self.value(depth + 1)
@@ -236,19 +241,43 @@ def place(content, at):
     return before.count(b"\n") + 1, len(before) - (before.rfind(b"\n") + 1) + (at < len(content))
 
 
-def not_json(name, content):
-    """The line of bytes that are no JSON."""
+def stop_of(content):
+    """Where bytes stop to be JSON, by line and column, and what is known of why."""
     try:
         text = content.decode()
     except UnicodeDecodeError as fault:
-        line, column = place(content, fault.start)
-        return f"{name}:{line}:{column}: this is not JSON: the bytes here are not UTF-8"
+        # cut inside a character, where some other character would go on with a JSON text
+        is_cut = fault.reason == "unexpected end of data" and is_front(content[: fault.start].decode() + "\u00e9")
+        return *place(content, fault.start), EARLY if is_cut else ": the bytes here are not UTF-8"
     try:
         Reader(text).whole()
         raise AssertionError(f"{content!r} is JSON")
     except Stop as stop:
-        line, column = place(content, len(text[: stop.args[0]].encode()))
-    return f"{name}:{line}:{column}: this is not JSON" + (": the text ends too early" if is_front(text) else "")
+        at, why = stop.args
+    return *place(content, len(text[:at].encode())), why or (EARLY if is_front(text) else "")
+
+
+def not_json(name, content):
+    """The line of bytes that are no JSON."""
+    line, column, why = stop_of(content)
+    return f"{name}:{line}:{column}: this is not JSON{why}"
+
+
+# how a line that is no JSON may begin, and what is said of that
+BEGINNINGS = [
+    (b"\xef\xbb\xbf", "the bytes begin with a mark of byte order (BOM): take it away"),
+    (b"\xff\xfe", "the bytes begin as UTF-16 does: they must be UTF-8"),
+    (b"\xfe\xff", "the bytes begin as UTF-16 does: they must be UTF-8"),
+    (b"\x1f\x8b", "the bytes begin as gzip does: unpack them first"),
+    (b"[", "an array begins here: write one object on each line"),
+]
+
+
+def line_not_json(line):
+    """What is said of a line that is no JSON."""
+    _, column, why = stop_of(line)
+    hints = [f": {said}" for bytes, said in BEGINNINGS if line.startswith(bytes)]
+    return f"this is not JSON at column {column}{hints[0] if hints else why}"
 
 
 # ---- the files
@@ -392,8 +421,11 @@ def too_large(name, kind):
     return f"{name}: more than {MOST[kind]} bytes: {plural}"
 
 
-def cant_read(name):
-    return f"{name}: can't be read: there is no such file, or it is a folder, or reading it is not allowed"
+ABSENT, FOLDER, NOT_ALLOWED = "there is no such file", "it is a folder", "reading it is not allowed"
+
+
+def cant_read(name, cause):
+    return f"{name}: can't be read: {cause}"
 
 
 def answer(names, contents):

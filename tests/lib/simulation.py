@@ -3,10 +3,10 @@
 A run looks at each step for what is due, and makes the calls of the independent level (level.py).
 """
 
-import json
 
 from judge import Refused, config_of, dealer_fault
 from level import Level, hand_of
+from jsontext import json_text
 from trace import trace_of
 
 # what is due at one time comes in this order, and by number among equals
@@ -68,8 +68,8 @@ def flows_of(trace):
 
 
 def names_of(trace, members):
-    """The names of a flow as JSON texts, escaped only where JSON must: those of its first request, none where that one gives a hash."""
-    return [json.dumps(it, ensure_ascii=False) for it in trace[members[0]]["names"] or ()]
+    """The names of a flow as JSON texts, escaped where JSON must or a terminal would obey: those of its first request, none where that one gives a hash."""
+    return [json_text(it) for it in trace[members[0]]["names"] or ()]
 
 
 def of_names(trace, members):
@@ -114,7 +114,7 @@ def requests(trace):
     for request in trace:
         flow = dict(zip(("schema", "distinguisher"), request["names"])) if request["names"] else {"hash": request["hash"]}
         width = {"width": request["width"]} if request["width"] != 1 else {}
-        lines.append(json.dumps({**flow, **width}, ensure_ascii=False, separators=(",", ":")))
+        lines.append(json_text({**flow, **width}))
     return ["[", *(f"{line}," for line in lines[:-1]), *lines[-1:], "]"]
 
 

@@ -5,6 +5,7 @@ A trace is one JSON object a line, for a request each. `trace_of` answers the re
 
 import functools
 
+from explain import flow_line, found, line_not_json, unknown
 from judge import Json, NotJson, Refused, flow_of, whole_in
 from level import hash_of
 
@@ -14,19 +15,6 @@ BYTES = 65_536
 
 # each fault's number is its place in the order in which a line is judged
 TOO_MANY, TOO_LONG, NOT_JSON, NOT_OBJECT, UNKNOWN_KEY, BAD_ARRIVAL, BAD_RUN, BAD_FLOW, BAD_WIDTH, BAD_COST, TRUNCATED = range(1, 12)
-TEXTS = {
-    TOO_MANY: "too many lines",
-    TOO_LONG: "line too long",
-    NOT_JSON: "not JSON",
-    NOT_OBJECT: "not an object",
-    UNKNOWN_KEY: "unknown key",
-    BAD_ARRIVAL: "bad arrivesAt",
-    BAD_RUN: "bad runsFor",
-    BAD_FLOW: "bad flow",
-    BAD_WIDTH: "bad width",
-    BAD_COST: "bad cost",
-    TRUNCATED: "truncated",
-}
 KEYS = ("arrivesAt", "runsFor", "schema", "distinguisher", "hash", "width", "cost")
 # key: lowest, highest, and the fault of another value; the two times must be there
 TIMES = {"arrivesAt": (0, 1_000_000_000_000, BAD_ARRIVAL), "runsFor": (0, 10_000_000_000, BAD_RUN)}
@@ -34,11 +22,41 @@ SEATS = {"width": (1, 20_000, BAD_WIDTH), "cost": (1, 20_000, BAD_COST)}
 
 
 class TraceFault(Refused):
-    """The first fault of a trace: its number, its line from 1, and its text."""
+    """The first fault of a trace: its number, its line from 1, and what is wrong."""
 
-    def __init__(self, number, line):
-        self.number, self.line, self.text = number, line, TEXTS[number]
-        super().__init__(f"apf: trace fault {number} at line {line}: {self.text}")
+    def __init__(self, number, line, said):
+        self.number, self.line = number, line
+        super().__init__(f"apf: trace fault {number} at line {line}: {said}")
+
+
+def needed(value, key, wanted):
+    """What is wrong with the value at a key, which has to be there."""
+    return f"{key} is {found(value[key])}: it must be {wanted}" if key in value else f"the key {key} is missing: it must be {wanted}"
+
+
+def told(number, line, value=None):
+    """What is wrong with a line that has this fault."""
+    if number == TOO_MANY:
+        return f"there are more than {LINES} lines"
+    if number == TOO_LONG:
+        return f"the line has {len(line)} bytes: at most {BYTES} may be there"
+    if number == NOT_JSON:
+        return line_not_json(line)
+    if number == NOT_OBJECT:
+        return f"a request is a JSON object, but this is {found(value)}"
+    if number == UNKNOWN_KEY:
+        return f"{unknown(value, KEYS)}: a request of a trace has {', '.join(KEYS[:-1])} and {KEYS[-1]}"
+    if number == BAD_FLOW:
+        return flow_line(value)
+    if number == TRUNCATED:
+        return "the last line has no LF at its end"
+    for key, (low, high, fault) in TIMES.items():
+        if fault == number:
+            return needed(value, key, f"a whole number of microseconds from {low} to {high}")
+    for key, (low, high, fault) in SEATS.items():
+        if fault == number:
+            return needed(value, key, f"a whole number from {low} to {high}")
+    raise AssertionError(number)
 
 
 def lines_of(content):
@@ -89,15 +107,15 @@ def trace_of(content):
     requests = []
     for number, (line, is_ended) in enumerate(lines_of(content), 1):
         if number > LINES:
-            raise TraceFault(TOO_MANY, number)
+            raise TraceFault(TOO_MANY, number, told(TOO_MANY, line))
         if len(line) > BYTES:
-            raise TraceFault(TOO_LONG, number)
+            raise TraceFault(TOO_LONG, number, told(TOO_LONG, line))
         try:
             value = value_of(line)
         except NotJson:
-            raise TraceFault(NOT_JSON, number) from None
+            raise TraceFault(NOT_JSON, number, told(NOT_JSON, line)) from None
         fault = value_fault(value) or (None if is_ended else TRUNCATED)
         if fault:
-            raise TraceFault(fault, number)
+            raise TraceFault(fault, number, told(fault, line, value))
         requests.append(request_of(value))
     return requests

@@ -4,7 +4,7 @@
 
 ghost use Rattle.std.specs.Prelude.{◌≤◌, IfOk, vec_len};
 
-use apf_cli::{FileFault, Files, act};
+use apf_cli::{Cause, FileFault, Files, act};
 use std::alloc::{AllocError, Global};
 use std::fs::File;
 use std::io;
@@ -37,7 +37,10 @@ impl Files for Disk<'_> {
 fn fault_of(error: io::Error) -> FileFault {
     match error.kind() {
         io::ErrorKind::OutOfMemory => FileFault::NoMemory,
-        _ => FileFault::CannotRead,
+        io::ErrorKind::NotFound => FileFault::CannotRead(Cause::Absent),
+        io::ErrorKind::PermissionDenied => FileFault::CannotRead(Cause::NotAllowed),
+        io::ErrorKind::IsADirectory => FileFault::CannotRead(Cause::Folder),
+        _ => FileFault::CannotRead(Cause::Other),
     }
 }
 

@@ -1,8 +1,8 @@
 -- How long a line of a trace can be.
-use Rattle.std.proofs.Common.{ℕ, ◌+◌, ◌*◌, ◌≤◌, ◌<◌, ◌^◌, List, [], ◌∷◌, ◌++◌, length, length-append, Bool, true, false, Option, None, Some, string_bytes, arith, lit≤}
+use Rattle.std.proofs.Common.{ℕ, zero, suc, ◌+◌, ◌*◌, ◌≤◌, ◌<◌, ◌^◌, List, [], ◌∷◌, ◌++◌, get_or, length, length-append, Bool, true, false, Option, None, Some, string_bytes, arith, lit≤}
 use Rattle.std.specs.Prelude.{codes, decimal, nat_lt, if◌then◌else◌}
 use Rattle.std.proofs.lemmas.Fmt.{length-decimal-le}
-use Rattle.apf_flows.specs.Json.{escape_by, escape_of, escapes_of, letter_of, json_text}
+use Rattle.apf_flows.specs.Json.{escape_by, escapes_from, escapes_of, letter_of, more_of, obeyed_by, shown_by, json_text}
 use Rattle.apf_audit.specs.AuditEvent.{max_name}
 use Rattle.apf_audit.specs.Arrivals.{IsRequestInRange}
 use Rattle.apf_audit.specs.TraceText.{member_text, times_text, line_text}
@@ -16,13 +16,24 @@ by_letter : (o : Option ℕ) (b : ℕ) → length (escape_by o b) ≤ 6
 by_letter (Some letter) b = lit≤ tt
 by_letter None b = by_test _ _ b (nat_lt b 32)
 
+by_obeyed : (o : Option (ℕ × ℕ)) (b : ℕ) → length (shown_by o b) ≤ 6
+by_obeyed (Some obeyed) b = lit≤ tt
+by_obeyed None b = by_letter (letter_of b) b
+
+from_length : (passed : ℕ) (text : List ℕ) → length (escapes_from passed text) ≤ 6 * length text
+from_length passed [] = lit≤ tt
+from_length (suc passed) (b ∷ text) =
+    let others : length (escapes_from passed text) ≤ 6 * length text = from_length passed text in
+    omega arith
+from_length zero (b ∷ text) =
+    let o = obeyed_by b (get_or text 0 0) (get_or text 1 0) in
+    let one : length (shown_by o b) ≤ 6 = by_obeyed o b in
+    let others : length (escapes_from (more_of o) text) ≤ 6 * length text = from_length (more_of o) text in
+    omega (arith, length-append (shown_by o b) (escapes_from (more_of o) text))
+
 -- a text becomes at most six times as long between the quotes
 escapes_length : (text : List ℕ) → length (escapes_of text) ≤ 6 * length text
-escapes_length [] = lit≤ tt
-escapes_length (b ∷ text) =
-    let one : length (escape_of b) ≤ 6 = by_letter (letter_of b) b in
-    let others : length (escapes_of text) ≤ 6 * length text = escapes_length text in
-    omega (arith, length-append (escape_of b) (escapes_of text))
+escapes_length text = from_length 0 text
 
 json_length : (text : List ℕ) → length (json_text text) ≤ 6 * length text + 2
 unfolding json_text

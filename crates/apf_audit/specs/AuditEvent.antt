@@ -61,9 +61,14 @@ is_taken d = taken_by (text_at (codes "stage") d) (text_at (codes "verb") d) (te
 abbrev pub short : List ℕ → Option (List ℕ)
 short name = if nat_le (length name) max_name then Some name else None
 
+-- the name of whose request it is: of the user who is impersonated, if the event has one
+abbrev pub name_by : Data → Option Data → Option (List ℕ)
+name_by d None = text_within (codes "user") (codes "username") d
+name_by d (Some impersonated) = text_at (codes "username") impersonated
+
 -- the name of the user, where a trace can have it
 unfoldable pub user_of : Data → Option (List ℕ)
-user_of d = option_and_then short (text_within (codes "user") (codes "username") d)
+user_of d = option_and_then short (name_by d (get (codes "impersonatedUser") d))
 
 -- the instant at a key
 unfoldable pub instant_at : List ℕ → Data → Option ℕ

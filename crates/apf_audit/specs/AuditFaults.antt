@@ -1,11 +1,11 @@
 -- The faults of an audit log: their numbers and lines.
 use Rattle.std.specs.Prelude.{ℕ, Option, Some, None}
 use Rattle.apf_audit.specs.declared.fault.AuditFault.{AuditFault}
-use Rattle.apf_audit.specs.declared.fault.AuditFault.TheVariants.{Truncated, NotUtf8Json, NotEvent, BadUser, BadReceived, BadStage, BadWait, BadRun, TooMany, BadArrival, NoMemory}
+use Rattle.apf_audit.specs.declared.fault.AuditFault.TheVariants.{TooLong, NotUtf8Json, NotEvent, BadUser, BadReceived, BadStage, BadWait, BadRun, TooMany, BadArrival, NoMemory}
 
 -- the fault's number
 abbrev pub audit_fault_number : AuditFault → ℕ
-audit_fault_number (Truncated line) = 1
+audit_fault_number (TooLong line) = 1
 audit_fault_number (NotUtf8Json line) = 2
 audit_fault_number (NotEvent line) = 3
 audit_fault_number (BadUser line) = 4
@@ -19,7 +19,7 @@ audit_fault_number NoMemory = 11
 
 -- the fault's line
 abbrev pub line_of : AuditFault → Option ℕ
-line_of (Truncated line) = Some line
+line_of (TooLong line) = Some line
 line_of (NotUtf8Json line) = Some line
 line_of (NotEvent line) = Some line
 line_of (BadUser line) = Some line

@@ -1,20 +1,37 @@
 -- What an audit log says.
-use Rattle.std.specs.Prelude.{◌≡◌, ℕ, ◌+◌, List, [], ◌∷◌, length, Bool, true, false, nat_le, Option, Some, None, Result, Ok, Err}
+use Rattle.std.specs.Prelude.{◌≡◌, ℕ, ◌+◌, List, [], ◌∷◌, length, Bool, true, false, nat_le, if◌then◌else◌, Option, Some, None, is_none, Result, Ok, Err}
 use Rattle.std.specs.List.Sorted.{IsPermutation}
-use Rattle.apf_files.specs.FirstFault.{◌>>=◌, or_fault, before}
+use Rattle.serde_json.specs.Data.{Data}
+use Rattle.apf_files.specs.FirstFault.{◌>>=◌, before}
 use Rattle.apf_traces.specs.TraceFile.{Line, lines_of, value_of}
 use Rattle.apf_audit.specs.AuditEvent.{Event, event_of}
 use Rattle.apf_audit.specs.Arrivals.{Entry, entries_from, earliest, max_requests}
 use Rattle.apf_audit.specs.declared.fault.AuditFault.{AuditFault}
-use Rattle.apf_audit.specs.declared.fault.AuditFault.TheVariants.{Truncated, NotUtf8Json, TooMany}
+use Rattle.apf_audit.specs.declared.fault.AuditFault.TheVariants.{TooLong, NotUtf8Json, TooMany}
+
+-- a line has at most this many bytes, without its LF
+abbrev pub max_line : ℕ
+max_line = 8388608
 
 -- what is taken of the line of this number, none where its event is not taken, or its first fault
-abbrev pub judged_by : ℕ → List ℕ → Bool → Result (Option Event) AuditFault
-judged_by number bytes false = Err (Truncated number)
-judged_by number bytes true = or_fault (NotUtf8Json number) (value_of bytes) >>= event_of number
+abbrev pub judged_by : ℕ → Bool → Option Data → Result (Option Event) AuditFault
+judged_by number is_ended (Some d) = event_of number d
+judged_by number true None = Err (NotUtf8Json number)
+judged_by number false None = Ok None
 
+-- of a line that no LF ends, and that is no JSON text, nothing is taken: it is still written
 unfoldable pub judged_line : ℕ → Line → Result (Option Event) AuditFault
-judged_line number line = judged_by number line.bytes line.is_ended
+judged_line number line =
+    if nat_le (length line.bytes) max_line then judged_by number line.is_ended (value_of line.bytes) else Err (TooLong number)
+
+-- the first of the lines that no LF ends is no JSON text
+abbrev pub is_cut_from : List Line → Bool
+is_cut_from [] = false
+is_cut_from (line ∷ lines) = if line.is_ended then is_cut_from lines else is_none (value_of line.bytes)
+
+-- the last line is left out
+unfoldable pub is_cut : List ℕ → Bool
+is_cut bytes = is_cut_from (lines_of bytes)
 
 -- what is taken of a line before the others, or the first fault
 abbrev pub before_taken : {A F : Type 0} → Result (Option A) F → Result (List A) F → Result (List A) F

@@ -1,6 +1,7 @@
 //! Which events are taken, and what is taken of one.
 
-ghost use Rattle.std.specs.Prelude.{◌≡◌, ◌≢◌, ◌≤◌, IfOk, IfErr, IfSome, Ok, Err, option_map, length};
+ghost use Rattle.std.specs.Prelude.{◌≡◌, ◌≢◌, ◌≤◌, IfOk, IfErr, IfSome, Ok, Err, option_map, codes, length};
+ghost use Rattle.serde_json.specs.Find.{get};
 ghost use Rattle.serde_json.specs.View.{view};
 ghost use Rattle.apf_audit.specs.AuditEvent as spec;
 
@@ -66,13 +67,23 @@ fn is_taken(value: &Value) -> Option<bool>
     Some(stage == "ResponseComplete" && verb != "watch" && !lasts)
 }
 
+// The name of whose request it is: of the user who is impersonated, if the event has one.
+fn name_of(value: &Value) -> Option<&str>
+    ensures { option_map (λ text. text.now) result ≡ spec.name_by (view value.now) (get (codes "impersonatedUser") (view value.now)) }
+{
+    match value.get("impersonatedUser") {
+        Some(impersonated) => text_at(impersonated, "username"),
+        None => text_within(value, "user", "username"),
+    }
+}
+
 // The name of the user, where a trace can have it.
 #[tactic(auto, unfolding(crate::specs::AuditEvent::user_of))]
 fn user_of(value: &Value) -> Option<&str>
     ensures value { option_map (λ text. text.now) result ≡ spec.user_of (view value.now) }
     ensures short { IfSome result (λ user. length user.now ≤ spec.max_name) }
 {
-    let user = text_within(value, "user", "username")?;
+    let user = name_of(value)?;
     if user.len() > MAX_NAME {
         return None;
     }

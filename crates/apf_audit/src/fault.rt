@@ -11,16 +11,17 @@ use thiserror::Error;
 /// fault is answered. Where no line has one, the whole log is judged by the faults 9 and 10.
 #[derive(Clone, Copy, Debug, PartialEq, Eq, Error)]
 pub enum AuditFault {
-    /// 1: the line is not ended by LF.
-    #[error("truncated")]
-    Truncated(usize),
-    /// 2: the line is no JSON text in UTF-8.
+    /// 1: the line has more than 8,388,608 bytes. Its LF does not count.
+    #[error("line too long")]
+    TooLong(usize),
+    /// 2: the line is no JSON text in UTF-8, and an LF ends it.
     #[error("not JSON")]
     NotUtf8Json(usize),
     /// 3: the value is no object with the texts `stage` and `verb`.
     #[error("not an audit event")]
     NotEvent(usize),
-    /// 4: `user.username` is not a text of at most 4,096 bytes, or it is absent.
+    /// 4: `user.username`, or `impersonatedUser.username` where there is such a user, is not a text of at most 4,096
+    /// bytes, or it is absent.
     #[error("bad username")]
     BadUser(usize),
     /// 5: `requestReceivedTimestamp` is not the text of an instant from 1970 on, or it is absent.
@@ -52,7 +53,7 @@ impl AuditFault {
         ensures { result ≡ audit_fault_number self.now }
     {
         match self {
-            AuditFault::Truncated(_) => 1,
+            AuditFault::TooLong(_) => 1,
             AuditFault::NotUtf8Json(_) => 2,
             AuditFault::NotEvent(_) => 3,
             AuditFault::BadUser(_) => 4,
@@ -71,7 +72,7 @@ impl AuditFault {
         ensures { result ≡ line_of self.now }
     {
         match *self {
-            AuditFault::Truncated(line)
+            AuditFault::TooLong(line)
             | AuditFault::NotUtf8Json(line)
             | AuditFault::NotEvent(line)
             | AuditFault::BadUser(line)

@@ -25,6 +25,7 @@ mod trace;
 
 pub use fault::AuditFault;
 pub use laws::every_trace_fits;
+pub use line::{MAX_LINE, ends_early};
 pub use log::read_audit_log;
 pub use request::AuditRequest;
 pub use trace::write_trace;

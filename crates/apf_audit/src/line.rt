@@ -1,15 +1,19 @@
 //! What is taken of the bytes of a line.
 
-ghost use Rattle.std.specs.Prelude.{◌≡◌, ◌≢◌, IfOk, IfErr, Ok, Err, Some, None, option_map};
+ghost use Rattle.std.specs.Prelude.{◌≡◌, ◌≢◌, IfOk, IfErr, Ok, Err, Some, None, is_none, option_map};
 ghost use Rattle.serde_json.specs.View.{view};
 ghost use Rattle.apf_traces.specs.TraceFile.{value_of as value_of_bytes};
 ghost use Rattle.apf_audit.specs.AuditEvent.{event, IsInRangeIfTaken};
-ghost use Rattle.apf_audit.specs.AuditLog.{judged_line};
+ghost use Rattle.apf_audit.specs.AuditLog.{judged_line, is_cut};
 
 use crate::event::{Taken, event_of_value};
 use crate::fault::AuditFault;
+use apf_traces::first_line;
 use serde_json::Value;
-use std::alloc::Global;
+use std::alloc::{AllocError, Global};
+
+/// The most bytes of a line, without its LF. It bounds what the value of a line takes of memory.
+pub const MAX_LINE: usize = 8_388_608;
 
 // The JSON value that the bytes of line `line` are.
 fn value_of(alloc: Global, bytes: &[u8], line: usize) -> Result<Value, AuditFault>
@@ -26,7 +30,7 @@ fn value_of(alloc: Global, bytes: &[u8], line: usize) -> Result<Value, AuditFaul
 
 /// What is taken of line `line`, whose bytes come without their LF, or none where its event is not taken.
 ///
-/// `is_ended` says whether an LF ends the line.
+/// `is_ended` says whether an LF ends the line. Where none does, and the line is no JSON text, nothing is taken of it.
 #[tactic(auto, unfolding(crate::specs::AuditLog::judged_line))]
 pub(crate) fn taken_of_line(
     alloc: Global,
@@ -39,9 +43,43 @@ pub(crate) fn taken_of_line(
     ensures err { IfErr result (λ fault. fault ≢ AuditFault.NoMemory
         → judged_line line (record { bytes = bytes.now; is_ended = is_ended }) ≡ Err fault) }
 {
-    if !is_ended {
-        return Err(AuditFault::Truncated(line));
+    if bytes.len() > MAX_LINE {
+        return Err(AuditFault::TooLong(line));
     }
-    let value = value_of(alloc, bytes, line)?;
-    event_of_value(alloc, &value, line)
+    match value_of(alloc, bytes, line) {
+        Ok(value) => event_of_value(alloc, &value, line),
+        Err(AuditFault::NotUtf8Json(_)) if !is_ended => Ok(None),
+        Err(fault) => Err(fault),
+    }
+}
+
+// Whether bytes are no JSON text.
+fn is_no_json(alloc: Global, bytes: &[u8]) -> Result<bool, AllocError>
+    ensures { IfOk result (λ is_none_there. is_none_there ≡ is_none (value_of_bytes bytes.now)) }
+{
+    match value_of(alloc, bytes, 0) {
+        Ok(_) => Ok(false),
+        Err(AuditFault::NoMemory) => Err(AllocError),
+        Err(_) => Ok(true),
+    }
+}
+
+/// Whether the last line of a log is left out, as one that is still written: no LF ends it, and it is no JSON text.
+///
+/// # Errors
+///
+/// Only where memory was refused.
+#[tactic(auto, unfolding(crate::specs::AuditLog::is_cut))]
+pub fn ends_early(alloc: Global, bytes: &[u8]) -> Result<bool, AllocError>
+    ensures { IfOk result (λ is_left_out. is_left_out ≡ is_cut bytes.now) }
+{
+    let mut rest = bytes;
+    while !rest.is_empty() {
+        let first = first_line(rest);
+        if !first.is_ended {
+            return is_no_json(alloc, first.line);
+        }
+        rest = first.rest;
+    }
+    Ok(false)
 }

@@ -37,13 +37,15 @@ fn put_in_order(requests: &mut Vec<AuditRequest>)
     requests.sort_unstable_by_key(|request| (request.arrives_at, request.line));
 }
 
-/// Reads an audit log of `audit.k8s.io/v1`: one event a line, as JSON, each line ended by LF.
+/// Reads an audit log of `audit.k8s.io/v1`: one event a line, as JSON, each line ended by LF. Of a last line that no LF
+/// ends, and that is no JSON text, nothing is taken, as it is still written: see `ends_early`. A line has at most
+/// 8,388,608 bytes.
 ///
 /// An event is an object with the texts `stage` and `verb`. It is taken where `stage` is `ResponseComplete`, `verb`
 /// is not `watch`, and `objectRef.subresource` is none of `exec`, `attach`, `portforward`, `proxy` and `log`. Of an
 /// event that is not taken nothing else is judged.
 ///
-/// The distinguisher is `user.username`. The request arrives at `requestReceivedTimestamp` less the earliest of the
+/// The distinguisher is `user.username`, or `impersonatedUser.username` where there is such a user. The request arrives at `requestReceivedTimestamp` less the earliest of the
 /// taken events. It runs from there to `stageTimestamp`, less the annotation
 /// `apiserver.latency.k8s.io/apf-queue-wait` where it stands. Each of the three is cut to whole microseconds first.
 ///

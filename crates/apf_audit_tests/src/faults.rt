@@ -1,11 +1,11 @@
 use crate::logs::{ALICE, PLAIN, line};
-use apf_audit::{AuditFault, read_audit_log};
+use apf_audit::{AuditFault, ends_early, read_audit_log};
 use std::test::Fail;
 
 #[test]
 fn numbers_and_texts(rt: HostRuntime) -> Result<(), Fail> {
     for (fault, number, said) in [
-        (AuditFault::Truncated(7), 1, "truncated"),
+        (AuditFault::TooLong(7), 1, "line too long"),
         (AuditFault::NotUtf8Json(7), 2, "not JSON"),
         (AuditFault::NotEvent(7), 3, "not an audit event"),
         (AuditFault::BadUser(7), 4, "bad username"),
@@ -39,21 +39,32 @@ fn faults_without_a_line(rt: HostRuntime) -> Result<(), Fail> {
     Ok(())
 }
 
-// Without an LF a line is not judged further.
+// A last line without an LF is left out where it is no JSON, and judged where it is.
 #[test]
-fn truncated(rt: HostRuntime) -> Result<(), Fail> {
-    for last in [
-        "{",
-        " ",
-        "\r",
-        "{}",
-        "{\"stage\":\"Panic\",\"verb\":\"get\"}",
+fn last_line_without_an_end(rt: HostRuntime) -> Result<(), Fail> {
+    let alloc = rt.alloc();
+    for (last, is_left_out, fault) in [
+        ("", false, None),
+        ("{", true, None),
+        (" ", true, None),
+        ("{\"stage\":\"Panic\",\"verb\":\"g", true, None),
+        ("{}", false, Some(AuditFault::NotEvent(2))),
+        ("{\"stage\":\"Panic\",\"verb\":\"get\"}", false, None),
     ] {
-        let mut text = String::from_str(rt.alloc(), PLAIN)?;
+        let mut text = String::from_str(alloc, PLAIN)?;
         text.push_str(last)?;
-        let fault = read_audit_log(rt.alloc(), text.as_bytes()).err();
-        assert_eq!(rt; fault, Some(AuditFault::Truncated(2)), "at {last}");
+        assert_eq!(rt; ends_early(alloc, text.as_bytes())?, is_left_out, "at {last}");
+        assert_eq!(rt; read_audit_log(alloc, text.as_bytes()).err(), fault, "at {last}");
     }
+    Ok(())
+}
+
+// A line that is no JSON is a fault where an LF ends it, and only the last one may have none.
+#[test]
+fn no_json_before_the_last_line(rt: HostRuntime) -> Result<(), Fail> {
+    let bytes = b"{\n{";
+    assert_eq!(rt; ends_early(rt.alloc(), bytes.as_slice())?, true);
+    assert_eq!(rt; read_audit_log(rt.alloc(), bytes.as_slice()).err(), Some(AuditFault::NotUtf8Json(1)));
     Ok(())
 }
 

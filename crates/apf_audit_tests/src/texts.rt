@@ -5,7 +5,7 @@ use std::alloc::Global;
 use std::test::Fail;
 
 const TEXT: &str =
-    "{\"schema\":\"a\\\"b\\\\\\n\\u0001é\",\"distinguisher\":\"alice\",\"arrivesAt\":0,\"runsFor\":10000000000}\n{\"schema\":\"a\\\"b\\\\\\n\\u0001é\",\"distinguisher\":\"\\t/\u{7f}\",\"arrivesAt\":1000000000000,\"runsFor\":7}\n";
+    "{\"schema\":\"a\\\"b\\\\\\n\\u0001é\",\"distinguisher\":\"alice\",\"arrivesAt\":0,\"runsFor\":10000000000}\n{\"schema\":\"a\\\"b\\\\\\n\\u0001é\",\"distinguisher\":\"\\t/\\u007f\",\"arrivesAt\":1000000000000,\"runsFor\":7}\n";
 
 const SCHEMA: &str = "a\"b\\\n\u{1}é";
 

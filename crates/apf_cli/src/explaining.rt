@@ -35,15 +35,12 @@ fn at_most(input: Input) -> &'static str {
 }
 
 // Says why a file was not read.
-fn explain_input<O: Write>(name: &str, fault: Fault, out: &mut O) -> Result<(), ExplainFault> {
+fn explain_input<O: Write>(name: &str, fault: &Fault, out: &mut O) -> Result<(), ExplainFault> {
     let written = match fault {
-        Fault::CannotRead(_) => writeln!(
-            out,
-            "{name}: can't be read: there is no such file, or it is a folder, or reading it is not allowed"
-        ),
+        Fault::CannotRead(_, cause) => writeln!(out, "{name}: can't be read: {cause}"),
         Fault::TooLarge(input) => {
             let most = input.most();
-            let rule = at_most(input);
+            let rule = at_most(*input);
             writeln!(out, "{name}: more than {most} bytes: {rule}")
         }
         _ => Ok(()),
@@ -62,7 +59,10 @@ fn bytes_of<F: Files, O: Write>(
 {
     match read_input(files, input, name) {
         Ok(bytes) => Ok(bytes),
-        Err(fault) => Err(after(fault, explain_input(shown(name), fault, out), out)),
+        Err(fault) => {
+            let explained = explain_input(shown(name), &fault, out);
+            Err(after(fault, explained, out))
+        }
     }
 }
 

@@ -1,15 +1,14 @@
 //! Why the program ends with another status than 0, and the line that says so.
 
-use crate::files::Input;
-use apf_audit::AuditFault;
+use crate::files::{Cause, Input};
 use apf_flow::DealerFault;
 use apf_flows::HandsFault;
 use apf_run::{
     ConfigFault, LevelFault, ReplayFault, RequestFault, RunFault, ScriptFault, WriteFault,
 };
-use apf_traces::TraceFault;
 use std::alloc::AllocError;
-use std::fmt;
+use std::io::Write;
+use std::{fmt, io};
 
 /// Where a dealer's sizes come from.
 #[derive(Clone, Copy, Debug, PartialEq, Eq)]
@@ -18,23 +17,25 @@ pub enum Sizes {
     OfConfig,
 }
 
-/// Why a command did not end well. Its `Display` is the line on standard error.
-#[derive(Clone, Copy, Debug, PartialEq, Eq)]
+/// Why a command did not end well.
+#[derive(Debug, PartialEq, Eq, Drop)]
 pub enum Fault {
     /// A deck and a hand that can't be dealt, and who gave them.
     Dealer(DealerFault, Sizes),
     Config(ConfigFault),
     Requests(RequestFault),
     Script(ScriptFault),
-    Trace(TraceFault),
-    Audit(AuditFault),
+    /// A file's fault, with the whole line that says it.
+    Told(Vec<u8>),
     /// The name of the flow schema is longer than a trace can hold.
     LongSchema,
     /// The level was not opened, for another cause than the dealer's. What the readers accept has none.
     Level(ReplayFault),
-    CannotRead(Input),
+    CannotRead(Input, Cause),
     /// The file has more bytes than it may have.
     TooLarge(Input),
+    /// The output would have more bytes than the program reads of such a file.
+    Unreadable(Input),
     /// Two files are to be read from standard input.
     TwoInputs,
     CannotWrite,
@@ -54,12 +55,20 @@ impl Fault {
             | Fault::Config(_)
             | Fault::Requests(_)
             | Fault::Script(_)
-            | Fault::Trace(_)
-            | Fault::Audit(_)
+            | Fault::Told(_)
             | Fault::Level(_)
-            | Fault::CannotRead(_)
+            | Fault::CannotRead(_, _)
             | Fault::TooLarge(_)
+            | Fault::Unreadable(_)
             | Fault::CannotWrite => 1,
+        }
+    }
+
+    /// Writes the line of the fault.
+    pub fn write<E: Write>(&self, err: &mut E) -> io::Result<()> {
+        match self {
+            Fault::Told(line) => err.write_all(line.as_slice()),
+            _ => writeln!(err, "{self}"),
         }
     }
 }
@@ -87,24 +96,6 @@ impl From<ScriptFault> for Fault {
         match fault {
             ScriptFault::NoMemory => Fault::NoMemory,
             _ => Fault::Script(fault),
-        }
-    }
-}
-
-impl From<TraceFault> for Fault {
-    fn from(fault: TraceFault) -> Fault {
-        match fault {
-            TraceFault::NoMemory => Fault::NoMemory,
-            _ => Fault::Trace(fault),
-        }
-    }
-}
-
-impl From<AuditFault> for Fault {
-    fn from(fault: AuditFault) -> Fault {
-        match fault {
-            AuditFault::NoMemory => Fault::NoMemory,
-            _ => Fault::Audit(fault),
         }
     }
 }
@@ -201,26 +192,21 @@ impl fmt::Display for Fault {
                 fault.line(),
                 fault,
             ),
-            Fault::Trace(fault) => write_line_fault(
-                f,
-                "trace",
-                fault.number(),
-                fault.line(),
-                fault,
-            ),
-            Fault::Audit(fault) => write_line_fault(
-                f,
-                "audit",
-                fault.number(),
-                fault.line(),
-                fault,
-            ),
+            // its line stands already
+            Fault::Told(_) => Ok(()),
             Fault::LongSchema => f.write_str("apf: SCHEMA is longer than 4096 bytes"),
             Fault::Level(fault) => write!(f, "apf: the level can't be opened: {fault}"),
-            Fault::CannotRead(input) => write!(f, "apf: cannot read {input}"),
+            Fault::CannotRead(input, _) => write!(f, "apf: cannot read {input}"),
             Fault::TooLarge(input) => {
                 let most = input.most();
                 write!(f, "apf: {input} too large: more than {most} bytes")
+            }
+            Fault::Unreadable(input) => {
+                let most = input.most();
+                write!(
+                    f,
+                    "apf: the {input} would be too large: more than {most} bytes"
+                )
             }
             Fault::TwoInputs => f.write_str("apf: standard input is named twice"),
             Fault::CannotWrite => f.write_str("apf: cannot write"),

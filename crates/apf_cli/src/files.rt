@@ -46,11 +46,32 @@ impl fmt::Display for Input {
     }
 }
 
+/// Why the system does not let a file be read.
+#[derive(Clone, Copy, Debug, PartialEq, Eq)]
+pub enum Cause {
+    Absent,
+    NotAllowed,
+    Folder,
+    /// Another one.
+    Other,
+}
+
+impl fmt::Display for Cause {
+    fn fmt<W: fmt::Write>(&self, f: &mut fmt::Formatter<W>) -> fmt::Result {
+        f.write_str(match self {
+            Cause::Absent => "there is no such file",
+            Cause::NotAllowed => "reading it is not allowed",
+            Cause::Folder => "it is a folder",
+            Cause::Other => "the system can't read it",
+        })
+    }
+}
+
 /// Why a file was not read.
 #[derive(Clone, Copy, Debug, PartialEq, Eq)]
 pub enum FileFault {
-    /// There is no such file, or it is a folder, or the right to read it is missing.
-    CannotRead,
+    /// The system does not let it be read.
+    CannotRead(Cause),
     /// The file has more bytes than were asked for.
     TooLarge,
     /// Memory was refused.
@@ -110,7 +131,7 @@ pub(crate) fn read_input<F: Files>(
     };
     match read {
         Ok(bytes) => Ok(bytes),
-        Err(FileFault::CannotRead) => Err(Fault::CannotRead(input)),
+        Err(FileFault::CannotRead(cause)) => Err(Fault::CannotRead(input, cause)),
         Err(FileFault::TooLarge) => Err(Fault::TooLarge(input)),
         Err(FileFault::NoMemory) => Err(Fault::NoMemory),
     }

@@ -3,8 +3,9 @@
 //! In the order of the data's way:
 //!
 //! - `files`: where the files' bytes come from.
-//! - `explaining`: says what is wrong with files.
+//! - `explaining`: says what is wrong with files. `telling` does that for one line on standard error.
 //! - `traces`, `pictures`: do the commands on a trace. `audits`: does that on an audit log.
+//! - `measuring`: how large an output will be, before its first byte.
 //! - `program`: does the others, and answers the status.
 //! - `faults`: the lines on standard error.
 #![tactic(auto)]
@@ -13,10 +14,12 @@ mod audits;
 mod explaining;
 mod faults;
 mod files;
+mod measuring;
 mod pictures;
 mod program;
+mod telling;
 mod traces;
 
 pub use apf_commands::{Action, read_words};
-pub use files::{FileFault, Files};
+pub use files::{Cause, FileFault, Files};
 pub use program::act;

@@ -102,12 +102,13 @@ fn replayed<F: Files, R: Wait>(
     Ok(replay(rt, alloc, &config, requests.as_slice(), commands.as_slice())?)
 }
 
-fn perform<F: Files, O: Write, R: Wait + Threads + Sync>(
+fn perform<F: Files, O: Write, E: Write, R: Wait + Threads + Sync>(
     rt: &R,
     alloc: Global,
     action: Action<'_>,
     files: &mut F,
     out: &mut O,
+    err: &mut E,
 ) -> Result<(), Fault>
     requires workers { HasWorkers action }
     requires patience { HasPatience action }
@@ -160,7 +161,7 @@ fn perform<F: Files, O: Write, R: Wait + Threads + Sync>(
             patience,
         } => print_picture(rt, alloc, files, (config, trace), patience, out)?,
         Action::Hands { config, trace } => print_hands(alloc, files, (config, trace), out)?,
-        Action::Trace { log, schema } => print_trace(alloc, files, log, schema, out)?,
+        Action::Trace { log, schema } => print_trace(alloc, files, log, schema, out, err)?,
     }
     out.flush().map_err(|_| Fault::CannotWrite)
 }
@@ -200,13 +201,13 @@ pub fn act<F: Files, O: Write, E: Write, R: Wait + Threads + Sync>(
     err: &mut E,
 ) -> u8 {
     let ended = match read_words(alloc, words) {
-        Ok(action) => perform(rt, alloc, action, files, out).map(|()| 0),
+        Ok(action) => perform(rt, alloc, action, files, out, err).map(|()| 0),
         Err(error) => print_refusal(&error, out, err),
     };
     match ended {
         Ok(status) => status,
         Err(fault) => {
-            let _ = writeln!(err, "{fault}");
+            let _ = fault.write(err);
             fault.status()
         }
     }

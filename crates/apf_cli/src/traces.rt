@@ -6,6 +6,8 @@ ghost use Rattle.apf_traces.specs.TraceValue.{IsRequestInRange};
 
 use crate::faults::Fault;
 use crate::files::{Files, Input, judge_names, read_input};
+use crate::measuring::Measure;
+use crate::telling::{named, trace_fault};
 use apf_flows::{write_hands, write_requests};
 use apf_run::{Config, read_config, write_book};
 use apf_simulation::{Simulation, simulate};
@@ -23,8 +25,14 @@ fn read_requests<F: Files>(
     ensures few { IfOk result (λ trace. vec_len trace ≤ max_lines) }
     ensures ranges { IfOk result (λ trace. All IsRequestInRange trace.items) }
 {
-    let bytes = read_input(files, Input::Trace, trace)?;
-    Ok(read_trace(alloc, bytes.as_slice())?)
+    let bytes = match read_input(files, Input::Trace, trace) {
+        Ok(bytes) => bytes,
+        Err(fault) => return Err(named(alloc, trace, fault)),
+    };
+    match read_trace(alloc, bytes.as_slice()) {
+        Ok(requests) => Ok(requests),
+        Err(fault) => Err(trace_fault(alloc, bytes.as_slice(), fault)),
+    }
 }
 
 // Reads the config and the trace of these names, the config judged before the trace is read.
@@ -117,7 +125,7 @@ pub(crate) fn print_timeline<F: Files, O: Write, R: Wait>(
 ///
 /// # Errors
 ///
-/// The faults of the trace, then those of the output.
+/// The faults of the trace; `Unreadable` if the file has more bytes than `replay` reads; then those of the output.
 pub(crate) fn print_requests<F: Files, O: Write>(
     alloc: Global,
     files: &mut F,
@@ -125,6 +133,9 @@ pub(crate) fn print_requests<F: Files, O: Write>(
     out: &mut O,
 ) -> Result<(), Fault> {
     let trace = read_requests(alloc, files, trace)?;
+    let mut size = Measure::new();
+    write_requests(trace.as_slice(), &mut size).map_err(|_| Fault::CannotWrite)?;
+    size.judge(Input::Requests)?;
     write_requests(trace.as_slice(), out).map_err(|_| Fault::CannotWrite)
 }
 

@@ -2,7 +2,7 @@
 
 ghost use Rattle.std.specs.Prelude.{◌≤◌, IfOk, vec_len};
 
-use apf_cli::{FileFault, Files, act};
+use apf_cli::{Cause, FileFault, Files, act};
 use std::alloc::Global;
 use std::process::Abort;
 use std::sync::Wait;
@@ -42,7 +42,7 @@ impl Files for Memory<'_> {
             "config" => self.config,
             "requests" | "trace" => self.requests,
             "script" => self.script,
-            _ => return Err(FileFault::CannotRead),
+            _ => return Err(FileFault::CannotRead(Cause::Absent)),
         };
         bytes_of(self.alloc, text, most)
     }

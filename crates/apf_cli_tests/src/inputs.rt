@@ -115,7 +115,7 @@ fn largest_trace(rt: HostRuntime) -> Result<(), AllocError> {
         requests: largest.as_str(),
         script: "",
     };
-    let line = "apf: trace fault 3 at line 1: not JSON\n";
+    let line = "apf: trace fault 3 at line 1: this is not JSON at column 1\n";
     check(&rt, files, &words, 1, "", line);
     let larger = padded(alloc, "x\n", 67_108_863, "")?;
     let files = Memory {

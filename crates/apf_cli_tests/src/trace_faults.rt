@@ -23,35 +23,35 @@ fn refuses<R: Abort + Wait + Threads + Sync>(rt: &R, alloc: Global, trace: &str,
 #[test]
 fn faults_of_a_trace(rt: HostRuntime) {
     for (trace, line) in [
-        ("\n", "apf: trace fault 3 at line 1: not JSON\n"),
-        ("[]\n", "apf: trace fault 4 at line 1: not an object\n"),
+        ("\n", "apf: trace fault 3 at line 1: this is not JSON at column 0: the text ends too early\n"),
+        ("[]\n", "apf: trace fault 4 at line 1: a request is a JSON object, but this is an array\n"),
         (
             "{\"work\":0}\n",
-            "apf: trace fault 5 at line 1: unknown key\n",
+            "apf: trace fault 5 at line 1: the key \"work\" is unknown: a request of a trace has arrivesAt, runsFor, schema, distinguisher, hash, width and cost\n",
         ),
         (
             "{\"hash\":0,\"arrivesAt\":0,\"runsFor\":0}\n{}\n",
-            "apf: trace fault 6 at line 2: bad arrivesAt\n",
+            "apf: trace fault 6 at line 2: the key arrivesAt is missing: it must be a whole number of microseconds from 0 to 1000000000000\n",
         ),
         (
             "{\"arrivesAt\":0,\"runsFor\":10000000001}\n",
-            "apf: trace fault 7 at line 1: bad runsFor\n",
+            "apf: trace fault 7 at line 1: runsFor is 10000000001: it must be a whole number of microseconds from 0 to 10000000000\n",
         ),
         (
             "{\"arrivesAt\":0,\"runsFor\":0}\n",
-            "apf: trace fault 8 at line 1: bad flow\n",
+            "apf: trace fault 8 at line 1: the flow is missing: it is either hash alone, or both schema and distinguisher\n",
         ),
         (
             "{\"hash\":0,\"arrivesAt\":0,\"runsFor\":0,\"width\":0}\n",
-            "apf: trace fault 9 at line 1: bad width\n",
+            "apf: trace fault 9 at line 1: width is 0: it must be a whole number from 1 to 20000\n",
         ),
         (
             "{\"hash\":0,\"arrivesAt\":0,\"runsFor\":0,\"cost\":20001}\n",
-            "apf: trace fault 10 at line 1: bad cost\n",
+            "apf: trace fault 10 at line 1: cost is 20001: it must be a whole number from 1 to 20000\n",
         ),
         (
             "{\"hash\":0,\"arrivesAt\":0,\"runsFor\":0}",
-            "apf: trace fault 11 at line 1: truncated\n",
+            "apf: trace fault 11 at line 1: the last line has no LF at its end\n",
         ),
     ] {
         refuses(&rt, rt.alloc(), trace, line);
@@ -72,7 +72,7 @@ fn order_of_the_files(rt: HostRuntime) {
             (
                 "{\"limit\":1}",
                 "x",
-                "apf: trace fault 3 at line 1: not JSON\n",
+                "apf: trace fault 3 at line 1: this is not JSON at column 1\n",
             ),
         ] {
             let files = Memory {
@@ -95,10 +95,10 @@ fn files_that_are_not_read(rt: HostRuntime) {
         requests: "x",
         script: "x",
     };
-    let missing = "apf: cannot read trace\n";
+    let missing = "apf: cannot read trace: none: there is no such file\n";
     let config = "apf: cannot read config\n";
     let twice = "apf: standard input is named twice\n";
-    let judged = "apf: trace fault 3 at line 1: not JSON\n";
+    let judged = "apf: trace fault 3 at line 1: this is not JSON at column 1\n";
     let rows: [(&[&str], u8, &str); 13] = [
         (&["apf", "simulate", "config", "none", "0"], 1, missing),
         (&["apf", "timeline", "config", "none", "0"], 1, missing),

@@ -158,7 +158,7 @@ fn dealer_fault_after_the_trace(rt: HostRuntime) {
     for words in rows {
         let line = "apf: dealer fault 2: hand too large\n";
         check(&rt, of(rt.alloc(), config, TRACE), words, 1, "", line);
-        let line = "apf: trace fault 3 at line 1: not JSON\n";
+        let line = "apf: trace fault 3 at line 1: this is not JSON at column 1\n";
         check(&rt, of(rt.alloc(), config, "x"), words, 1, "", line);
     }
 }
@@ -173,9 +173,17 @@ fn trace_of_an_audit_log(rt: HostRuntime) {
     let out = "{\"schema\":\"users\",\"distinguisher\":\"alice\",\"arrivesAt\":0,\"runsFor\":7}\n";
     let words = ["apf", "trace", "trace", "users"];
     check(&rt, of(rt.alloc(), CONFIG, log), &words, 0, out, "");
-    let line = "apf: audit fault 3 at line 1: not an audit event\n";
+    let line = "apf: audit fault 3 at line 1: the key stage is missing: it must be a text\n";
     check(&rt, of(rt.alloc(), CONFIG, "{}\n"), &words, 1, "", line);
-    let line = "apf: cannot read audit log\n";
+    let line = "apf: cannot read audit log: absent: there is no such file\n";
     let words = ["apf", "trace", "absent", "users"];
     check(&rt, of(rt.alloc(), CONFIG, log), &words, 1, "", line);
+}
+
+// A last line that is still written is left out, and said.
+#[test]
+fn log_that_is_still_written(rt: HostRuntime) {
+    let words = ["apf", "trace", "trace", "users"];
+    let line = "apf: the last line is left out: it has no LF at its end, and is not whole JSON\n";
+    check(&rt, of(rt.alloc(), CONFIG, "{\"stage\":"), &words, 0, "", line);
 }

@@ -3,3 +3,5 @@ pub mod Unknown
 pub mod ConfigFaults
 pub mod RequestFaults
 pub mod ScriptFaults
+pub mod Lined
+pub mod TraceFaults

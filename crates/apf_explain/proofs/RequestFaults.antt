@@ -52,7 +52,7 @@ flow_told None None (Some distinguisher) h = (flow.DistinguisherAlone, refl)
 flow_told (Some hash) None None h = (flow.BadValue Hash, rw h refl)
 flow_told None (Some schema) (Some distinguisher) h = texts_told schema distinguisher (as_str schema) (as_str distinguisher) refl refl h
 
-number_by : (low high default : ℕ) (key : List ℕ) (d : Data) (o : Option Data) → get key d ≡ o → number_or low high default o ≡ None
+pub number_by : (low high default : ℕ) (key : List ℕ) (d : Data) (o : Option Data) → get key d ≡ o → number_or low high default o ≡ None
     → IsUnwanted key (Whole low high) d
 number_by low high default key d None at h = absurd cc
 number_by low high default key d (Some v) at h = (v, at, rw h refl)

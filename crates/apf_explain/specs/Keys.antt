@@ -4,13 +4,15 @@ use Rattle.serde_json.specs.Data.{Data, Members, no_members, member}
 use Rattle.serde_json.specs.Find.{as_object}
 use Rattle.apf_files.specs.ConfigFile.{is_key as is_config_key}
 use Rattle.apf_files.specs.RequestsFile.{is_key as is_request_key}
+use Rattle.apf_traces.specs.TraceValue.{is_key as is_trace_key}
 use Rattle.apf_explain.specs.declared.keys.Keys.{Keys}
-use Rattle.apf_explain.specs.declared.keys.Keys.TheVariants.{OfConfig, OfRequest}
+use Rattle.apf_explain.specs.declared.keys.Keys.TheVariants.{OfConfig, OfRequest, OfTrace}
 
 -- the name is that of a key
 abbrev pub is_key_of : Keys → List ℕ → Bool
 is_key_of OfConfig name = is_config_key name
 is_key_of OfRequest name = is_request_key name
+is_key_of OfTrace name = is_trace_key name
 
 -- the first member whose key is unknown
 abbrev pub unknown_in : (List ℕ → Bool) → Members → Option (List ℕ)
@@ -25,3 +27,4 @@ unknown_of keys o = option_and_then (λ d. option_and_then (unknown_in (is_key_o
 abbrev pub keys_text : Keys → List ℕ
 keys_text OfConfig = codes "a config has limit, queues, handSize, queueLengthLimit and limitResponse"
 keys_text OfRequest = codes "a request has schema, distinguisher, hash, width, work, cancels and closes"
+keys_text OfTrace = codes "a request of a trace has arrivesAt, runsFor, schema, distinguisher, hash, width and cost"

@@ -6,3 +6,6 @@ pub mod ScriptLine
 pub mod Lines
 pub mod ScriptTexts
 pub mod Shown
+pub mod TraceLines
+pub mod TraceShown
+pub mod AuditLines

@@ -10,6 +10,7 @@ ghost use Rattle.apf_explain.specs.Lines.{place_text, unwanted_text, stop_text, 
 use crate::fault::ExplainFault;
 use crate::found::Found;
 use crate::place::Place;
+use crate::reason::reason;
 use crate::wanted::Wanted;
 use serde_json::{Error, Value};
 use std::alloc::Global;
@@ -57,17 +58,6 @@ pub(crate) fn write_unwanted<W: Write>(
     writeln!(out, "{place}{key} is {found}: it must be {wanted}")
 }
 
-// What is known of why bytes are no JSON.
-fn reason(bytes: &[u8], error: &Error) -> &'static str {
-    if std::str::from_utf8(bytes).is_err() {
-        ": the bytes here are not UTF-8"
-    } else if error.is_eof() {
-        ": the text ends too early"
-    } else {
-        ""
-    }
-}
-
 // Writes where the reader stopped, and why.
 fn write_stop<W: Write>(out: &mut W, name: &str, error: &Error, why: &str) -> io::Result<()>
     ensures { (line : ℕ) × ((column : ℕ) × OnOk result (Appends (W.contents out.old) (W.contents out.new) (stop_text name.now line column why.now))) }
@@ -89,6 +79,9 @@ pub(crate) fn explain_not_json<W: Write>(
     match Value::from_slice(alloc, bytes) {
         Ok(_) => Ok(writeln!(out, "{name}: this is not JSON")?),
         Err(e) if e.is_memory() => Err(ExplainFault::NoMemory),
-        Err(e) => Ok(write_stop(out, name, &e, reason(bytes, &e))?),
+        Err(e) => {
+            let why = reason(alloc, bytes, &e)?;
+            Ok(write_stop(out, name, &e, why)?)
+        }
     }
 }

@@ -10,6 +10,7 @@ ghost use Rattle.apf_explain.specs.Lines.{place_text, unknown_text};
 use crate::found::Quoted;
 use crate::place::Place;
 use apf_files::{is_config_key, is_request_key};
+use apf_traces::is_trace_key;
 use serde_json::{Map, Value};
 use std::io::Write;
 use std::{fmt, io};
@@ -19,6 +20,8 @@ use std::{fmt, io};
 pub(crate) enum Keys {
     OfConfig,
     OfRequest,
+    /// Of a request of a trace.
+    OfTrace,
 }
 
 impl fmt::Display for Keys {
@@ -33,6 +36,8 @@ impl fmt::Display for Keys {
                 "a config has limit, queues, handSize, queueLengthLimit and limitResponse",
             Keys::OfRequest =>
                 "a request has schema, distinguisher, hash, width, work, cancels and closes",
+            Keys::OfTrace =>
+                "a request of a trace has arrivesAt, runsFor, schema, distinguisher, hash, width and cost",
         })
     }
 }
@@ -45,6 +50,7 @@ impl Keys {
         match self {
             Keys::OfConfig => is_config_key(name),
             Keys::OfRequest => is_request_key(name),
+            Keys::OfTrace => is_trace_key(name),
         }
     }
 

@@ -8,7 +8,10 @@ ghost use Rattle.apf_files.specs.ScriptFile.{script_of};
 ghost use Rattle.apf_files.specs.declared.config.ConfigFault.{ConfigFault};
 ghost use Rattle.apf_files.specs.declared.requests.RequestFault.{RequestFault};
 ghost use Rattle.apf_files.specs.declared.script.ScriptFault.{ScriptFault};
+ghost use Rattle.apf_traces.specs.TraceFile.{trace_of};
+ghost use Rattle.apf_traces.specs.declared.fault.TraceFault.{TraceFault};
 ghost use Rattle.apf_explain.specs.Shown.{IsConfigShown, IsRequestsShown, IsScriptShown};
+ghost use Rattle.apf_explain.specs.TraceShown.{IsTraceShown};
 
 /// The law of a config's fault. Where it is a bad value, a value stands at that key, and is none that the line says may
 /// stand there. Where a key is unknown, the object has the one that the line names, and it is none of a config's keys.
@@ -25,4 +28,10 @@ pub fn every_request_fault_is_shown()
 /// a number: of a request that there is not, or of seats that are outside the range.
 pub fn every_script_fault_is_shown()
     ensures { (requests : ℕ) (bytes : List ℕ) (fault : ScriptFault) → script_of requests bytes ≡ Err fault → IsScriptShown requests bytes fault }
+{}
+
+/// The law of a trace's fault. The line that it names is there, and has the fault: of a bad value, none of those that
+/// the line says may stand at its key stands there; of an unknown key, the object has the one that is named.
+pub fn every_trace_fault_is_shown()
+    ensures { (bytes : List ℕ) (fault : TraceFault) → trace_of bytes ≡ Err fault → IsTraceShown bytes fault }
 {}

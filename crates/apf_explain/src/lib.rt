@@ -1,4 +1,4 @@
-//! Says the first fault of a level's files to a person: one line with the file, the place, the key, the value and
+//! Says the first fault of a level's files, of a trace or of an audit log to a person: one line with the file, the place, the key, the value and
 //! what has to stand there.
 //!
 //! - `fault`: why a line is not written.
@@ -14,9 +14,14 @@
 //! - `requests`: the line of a requests file.
 //! - `line`: one line of a script.
 //! - `script`: the line of a script file.
+//! - `reason`: why bytes are no JSON.
+//! - `lines`: the lines of a file that has a JSON value on each.
+//! - `traces`: the line of a trace's fault.
+//! - `audits`: the line of an audit log's fault.
 //! - `laws`: what the readers' faults say of the values that the lines name.
 #![tactic(auto)]
 
+mod audits;
 mod config;
 mod dealer;
 mod fault;
@@ -26,17 +31,23 @@ mod json;
 mod keys;
 mod laws;
 mod line;
+mod lines;
 mod members;
 mod place;
+mod reason;
 mod requests;
 mod script;
+mod traces;
 mod wanted;
 
+pub use audits::explain_audit_log;
 pub use config::explain_config;
 pub use dealer::explain_dealer;
 pub use fault::ExplainFault;
 pub use laws::{
     every_config_fault_is_shown, every_request_fault_is_shown, every_script_fault_is_shown,
+    every_trace_fault_is_shown,
 };
 pub use requests::explain_requests;
 pub use script::explain_script;
+pub use traces::explain_trace;

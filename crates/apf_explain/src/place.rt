@@ -10,6 +10,8 @@ pub(crate) enum Part {
     Request(u32),
     /// The line of this number, from 1.
     Line(u32),
+    /// The line of the second number, from 1, which has the fault of the first number.
+    Fault(u8, u64),
 }
 
 /// A part of the file of this name.
@@ -31,6 +33,7 @@ impl fmt::Display for Place<'_> {
             Part::Whole => write!(f, "{name}: "),
             Part::Request(number) => write!(f, "{name}: request {number}: "),
             Part::Line(number) => write!(f, "{name}:{number}: "),
+            Part::Fault(number, line) => write!(f, "{name} fault {number} at line {line}: "),
         }
     }
 }

@@ -102,7 +102,7 @@ fn bad_limits(rt: HostRuntime) -> Result<(), Fail> {
         line.push_str(": it must be a whole number from 1 to 10000\n")?;
         if found.is_empty() {
             line.clear();
-            line.push_str("level.json:1:33: this is not JSON\n")?;
+            line.push_str("level.json:1:33: this is not JSON: the number here is too large\n")?;
         }
         assert_eq!(rt; out.as_slice(), line.as_bytes(), "at {value}");
     }

@@ -6,6 +6,7 @@
 //! - `json`: the line of bytes that are no JSON.
 //! - `configs`, `requests`, `scripts`: the line of each fault, and of values of each kind.
 //! - `dealers`: the line of a config whose hands can't be dealt.
+//! - `traces`: the lines of traces and audit logs.
 //! - `ends`: a writer without room, a call without memory, and faults that are not those of the bytes.
 #![tactic(auto)]
 
@@ -23,3 +24,5 @@ mod lines;
 mod requests;
 #[cfg(test)]
 mod scripts;
+#[cfg(test)]
+mod traces;

@@ -1,5 +1,5 @@
 use crate::traces::{ODD, names, seven};
-use apf_flows::{write_hash, write_names, write_of_names, write_requests};
+use apf_flows::{write_hash, write_names, write_of_names, write_requests, write_text};
 use std::test::Fail;
 
 #[test]
@@ -18,7 +18,7 @@ fn a_hash(rt: HostRuntime) -> Result<(), Fail> {
 fn two_names(rt: HostRuntime) -> Result<(), Fail> {
     let mut out = Vec::new(rt.alloc());
     write_names(&mut out, &names(rt.alloc(), "", ODD)?)?;
-    let text = " \"\" \"a\\\"b\\\\c\\n\\r\\t\\b\\f\\u0000\\u001f\u{7f}é/\"";
+    let text = " \"\" \"a\\\"b\\\\c\\n\\r\\t\\b\\f\\u0000\\u001f\\u007fé/\"";
     assert_eq!(rt; out.as_slice(), text.as_bytes());
     Ok(())
 }
@@ -56,7 +56,7 @@ fn seven_requests(rt: HostRuntime) -> Result<(), Fail> {
         {\"schema\":\"batch\",\"distinguisher\":\"crawler\",\"width\":3},\n\
         {\"schema\":\"users\",\"distinguisher\":\"alice\",\"width\":2},\n\
         {\"hash\":7},\n\
-        {\"schema\":\"\",\"distinguisher\":\"a\\\"b\\\\c\\n\\r\\t\\b\\f\\u0000\\u001f\u{7f}é/\"},\n\
+        {\"schema\":\"\",\"distinguisher\":\"a\\\"b\\\\c\\n\\r\\t\\b\\f\\u0000\\u001f\\u007fé/\"},\n\
         {\"hash\":18446744073709551615,\"width\":20000},\n\
         {\"hash\":7}\n]\n";
     assert_eq!(rt; out.as_slice(), text.as_bytes());
@@ -69,5 +69,16 @@ fn a_writer_that_fails(rt: HostRuntime) -> Result<(), Fail> {
     let mut room = [0u8; 20];
     let mut out = room.as_mut_slice();
     assert!(rt; write_requests(seven(rt.alloc())?.as_slice(), &mut out).is_err());
+    Ok(())
+}
+
+// Characters that a terminal obeys, each with its neighbours.
+#[test]
+fn characters_that_a_terminal_obeys(rt: HostRuntime) -> Result<(), Fail> {
+    let mut out = Vec::new(rt.alloc());
+    let text = "~\u{7f}\u{80}\u{9f}\u{a0}\u{61b}\u{61c}\u{61d}\u{200d}\u{200e}\u{200f}\u{2010}\u{2029}\u{202a}\u{202e}\u{202f}\u{2065}\u{2066}\u{2069}\u{206a}\u{1f600}";
+    write_text(&mut out, text)?;
+    let line = "\"~\\u007f\\u0080\\u009f\u{a0}\u{61b}\\u061c\u{61d}\u{200d}\\u200e\\u200f\u{2010}\u{2029}\\u202a\\u202e\u{202f}\u{2065}\\u2066\\u2069\u{206a}\u{1f600}\"";
+    assert_eq!(rt; out.as_slice(), line.as_bytes());
     Ok(())
 }

@@ -11,10 +11,11 @@ use crate::value::request_of_value;
 use serde_json::Value;
 use std::alloc::Global;
 
-const MAX_LINES: u32 = 10_000;
+/// The most lines of a trace.
+pub const MAX_LINES: u32 = 10_000;
 
-// Of one line, without its LF.
-const MAX_BYTES: usize = 65_536;
+/// The most bytes of one line, without its LF.
+pub const MAX_BYTES: usize = 65_536;
 
 // The JSON value that the bytes of line `line` are.
 fn value_of(alloc: Global, bytes: &[u8], line: u32) -> Result<Value, TraceFault>

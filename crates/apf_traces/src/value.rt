@@ -12,17 +12,20 @@ use apf_words::MAX_WIDTH;
 use serde_json::{Map, Value};
 use std::alloc::{AllocError, Global};
 
-const MAX_ARRIVAL: u64 = 1_000_000_000_000;
+/// The latest arrival, in microseconds.
+pub const MAX_ARRIVAL: u64 = 1_000_000_000_000;
 
-const MAX_RUN: u64 = 10_000_000_000;
+/// The longest run, in microseconds.
+pub const MAX_RUN: u64 = 10_000_000_000;
 
 const DEFAULT_WIDTH: u32 = 1;
 
-// The largest cost is the largest width.
-const MAX_COST: u32 = MAX_WIDTH;
+/// The largest cost, which is the largest width.
+pub const MAX_COST: u32 = MAX_WIDTH;
 
+/// Whether the name is that of a key of a trace's requests.
 #[tactic(auto, unfolding(crate::specs::TraceValue::is_key))]
-fn is_trace_key(name: &str) -> bool
+pub fn is_trace_key(name: &str) -> bool
     ensures { result ≡ is_key name.now }
 {
     name == "arrivesAt"

@@ -15,5 +15,5 @@ pub returns-clause-line : goal.returns-clause-line
 returns-clause-line g c =
     let read : IsReadOf c.args.bytes.now None = search rules in
     let stop = c.write_stop.ensures in
-    let appends : Appends (g.W.Write.contents c.args.out.now) (g.W.Write.contents c.write_stop.new.out) (stop_text c.args.name.now stop.0 stop.1.0 c.reason.result.now) = search rules in
-    (None, read, (stop.0, (stop.1.0, (c.reason.result.now, appends))))
+    let appends : Appends (g.W.Write.contents c.args.out.now) (g.W.Write.contents c.write_stop.new.out) (stop_text c.args.name.now stop.0 stop.1.0 c.in_ok-why-in-Err-2.why.now) = search rules in
+    (None, read, (stop.0, (stop.1.0, (c.in_ok-why-in-Err-2.why.now, appends))))

@@ -1,0 +1,10 @@
+-- The line of the number that the fault has.
+use Rattle.std.proofs.Common.{◌≡◌, Some, rules}
+use Rattle.apf_audit.specs.AuditFaults.{line_of}
+use Rattle.apf_explain.proofs.audits.explain_audit_log.Goals as goal
+
+pub returns-clause-line : goal.returns-clause-line
+returns-clause-line g c =
+    let is : line_of c.args.fault ≡ Some c.in-Some.number = search rules in
+    let written = rw (c.numbered.ensures, c.number.ensures) at c.write_line.ensures.line in
+    rw is written

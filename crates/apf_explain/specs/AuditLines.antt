@@ -1,0 +1,102 @@
+-- The lines that are written of an audit log's faults. None where nothing is stated of the text of a value that the line names.
+use Rattle.std.specs.Prelude.{ℕ, List, ◌++◌, length, Bool, if◌then◌else◌, Option, Some, None, IfSome, is_some, option_and_then, codes, decimal}
+use Rattle.std.specs.Fmt.{◌++?◌}
+use Rattle.std.specs.Io.KnownBytes.{Appends}
+use Rattle.serde_json.specs.Data.{Data}
+use Rattle.serde_json.specs.Find.{get, as_object, as_str}
+use Rattle.apf_traces.specs.TraceFile.{value_of}
+use Rattle.apf_audit.specs.AuditEvent.{max_name}
+use Rattle.apf_audit.specs.Arrivals.{max_arrival, max_requests}
+use Rattle.apf_audit.specs.AuditLog.{max_line}
+use Rattle.apf_audit.specs.AuditFaults.{audit_fault_number, line_of}
+use Rattle.apf_audit.specs.Times.{max_run}
+use Rattle.apf_audit.specs.declared.fault.AuditFault.{AuditFault}
+use Rattle.apf_audit.specs.declared.fault.AuditFault.TheVariants as audit
+use Rattle.apf_explain.specs.declared.place.Part.TheVariants.{Fault}
+use Rattle.apf_explain.specs.declared.wanted.Wanted.TheVariants.{Text, Name, Instant, Wait}
+use Rattle.apf_explain.specs.Found.{found_text}
+use Rattle.apf_explain.specs.Lines.{place_text, unwanted_text, misplaced_text}
+use Rattle.apf_explain.specs.TraceLines.{numbered_line, required_text, too_long_text, IsColumnLine}
+
+-- the value at a key, if there is one
+abbrev pub found_at : List ℕ → Option Data → Option Data
+found_at key o = option_and_then (get key) o
+
+-- the value at a key is a text
+abbrev pub is_text_at : List ℕ → Option Data → Bool
+is_text_at key o = is_some (option_and_then as_str (found_at key o))
+
+-- the value is an object
+abbrev pub is_object : Option Data → Bool
+is_object o = is_some (option_and_then as_object o)
+
+-- a value that is no event
+abbrev pub not_event_text : List ℕ → Option Data → Option (List ℕ)
+not_event_text place o =
+    if is_object o
+    then (if is_text_at (codes "stage") o
+    then required_text place (codes "verb") (found_at (codes "verb") o) Text
+    else required_text place (codes "stage") (found_at (codes "stage") o) Text)
+    else misplaced_text place (codes "an audit event is a JSON object, but this is ") o
+
+-- the name of a user, who is impersonated if the event has such a one
+abbrev pub user_text : List ℕ → Option Data → Option Data → Option (List ℕ)
+user_text place o None =
+    required_text place (codes "user.username") (found_at (codes "username") (found_at (codes "user") o)) (Name max_name)
+user_text place o (Some impersonated) =
+    required_text place (codes "impersonatedUser.username") (found_at (codes "username") (Some impersonated)) (Name max_name)
+
+-- the wait in the queue that an event says
+abbrev pub wait_found : Option Data → Option Data
+wait_found o = found_at (codes "apiserver.latency.k8s.io/apf-queue-wait") (found_at (codes "annotations") o)
+
+-- a value, or that it is absent
+abbrev pub value_text : Option Data → Option (List ℕ)
+value_text None = Some (codes "absent")
+value_text (Some d) = found_text (Some d)
+
+-- a run that no trace can have, and what it is made of
+abbrev pub bad_run_text : List ℕ → Option Data → Option (List ℕ)
+bad_run_text place o =
+    Some place ++? Some (codes "stageTimestamp is ") ++? value_text (found_at (codes "stageTimestamp") o)
+    ++? Some (codes ", requestReceivedTimestamp is ") ++? value_text (found_at (codes "requestReceivedTimestamp") o)
+    ++? Some (codes " and apf-queue-wait is ") ++? value_text (wait_found o)
+    ++? Some (codes ": the run, which is the first less the others, must be from 0 to ") ++? Some (decimal max_run) ++? Some (codes " microseconds\n")
+
+-- a request that arrives too late
+abbrev pub late_text : List ℕ → Option Data → Option (List ℕ)
+late_text place o =
+    Some place ++? Some (codes "requestReceivedTimestamp is ") ++? value_text (found_at (codes "requestReceivedTimestamp") o)
+    ++? Some (codes ": it must be at most ") ++? Some (decimal max_arrival) ++? Some (codes " microseconds after the earliest one\n")
+
+-- the fault of an event that is this value
+abbrev pub event_text : List ℕ → Option Data → AuditFault → Option (List ℕ)
+event_text place o (audit.BadUser n) = user_text place o (found_at (codes "impersonatedUser") o)
+event_text place o (audit.BadReceived n) =
+    required_text place (codes "requestReceivedTimestamp") (found_at (codes "requestReceivedTimestamp") o) Instant
+event_text place o (audit.BadStage n) = required_text place (codes "stageTimestamp") (found_at (codes "stageTimestamp") o) Instant
+event_text place o (audit.BadWait n) = unwanted_text place (codes "apf-queue-wait") (wait_found o) Wait
+event_text place o (audit.BadRun n) = bad_run_text place o
+event_text place o (audit.BadArrival n) = late_text place o
+event_text place o fault = not_event_text place o
+
+-- the fault of this line was written, behind its place
+abbrev pub IsAuditLineAt : List ℕ → Option (List ℕ) → AuditFault → Option (List ℕ) → Option (List ℕ) → Type 0
+IsAuditLineAt place line (audit.NotUtf8Json n) before after = IsColumnLine place (option_and_then value_of line) before after
+IsAuditLineAt place line (audit.TooLong n) before after = Appends before after (too_long_text place max_line line)
+IsAuditLineAt place line fault before after = IfSome (event_text place (option_and_then value_of line) fault) (Appends before after)
+
+-- so many requests are too many
+abbrev pub too_many_events : ℕ → List ℕ
+too_many_events count = codes "apf: audit fault 9: there are " ++ (decimal count ++ (codes " requests: at most " ++ (decimal max_requests ++ codes " may be there\n")))
+
+-- the fault of the line of this number was written, or that there are too many requests
+abbrev pub IsNumberedEvent : List ℕ → Option ℕ → AuditFault → Option (List ℕ) → Option (List ℕ) → Type 0
+IsNumberedEvent bytes None (audit.TooMany count) before after = Appends before after (too_many_events count)
+IsNumberedEvent bytes None fault before after = ⊥
+IsNumberedEvent bytes (Some number) fault before after =
+    IsAuditLineAt (place_text (codes "apf: audit") (Fault (audit_fault_number fault) number)) (numbered_line number bytes) fault before after
+
+-- the line of an audit log's fault was written
+abbrev pub IsAuditLine : List ℕ → AuditFault → Option (List ℕ) → Option (List ℕ) → Type 0
+IsAuditLine bytes fault before after = IsNumberedEvent bytes (line_of fault) fault before after

@@ -1,0 +1,267 @@
+//! The line of an audit log's fault.
+
+ghost use Rattle.std.specs.Prelude.{◌≡◌, OnOk, IfSome, Err, option_map};
+ghost use Rattle.std.specs.Io.KnownBytes.{Appends};
+ghost use Rattle.serde_json.specs.View.{view};
+ghost use Rattle.apf_explain.specs.Lines.{place_text};
+ghost use Rattle.apf_explain.specs.AuditLines.{found_at, is_text_at, is_object, not_event_text, user_text, wait_found, bad_run_text, late_text, event_text, too_many_events, IsAuditLineAt, IsAuditLine};
+
+use crate::fault::ExplainFault;
+use crate::found::Found;
+use crate::json::{value_at, write_unwanted};
+use crate::lines::{line_value, numbered, write_not_json, write_required, write_too_long};
+use crate::place::{Part, Place};
+use crate::wanted::Wanted;
+use apf_audit::{AuditFault, MAX_LINE};
+use serde_json::Value;
+use std::alloc::Global;
+use std::io::Write;
+use std::{fmt, io};
+
+// In bytes.
+const MAX_NAME: u64 = 4096;
+
+// In microseconds.
+const MAX_RUN: u64 = 10_000_000_000;
+
+// In microseconds after the earliest one.
+const MAX_ARRIVAL: u64 = 1_000_000_000_000;
+
+const MAX_REQUESTS: u32 = 10_000;
+
+// A value that may be absent.
+#[derive(Clone, Copy)]
+struct Perhaps<'a>(Option<&'a Value>);
+
+impl fmt::Display for Perhaps<'_> {
+    ghost use Rattle.std.specs.Prelude.{option_map};
+    ghost use Rattle.serde_json.specs.View.{view};
+    ghost use Rattle.apf_explain.specs.AuditLines.{value_text};
+
+    ghost output = { λ perhaps. value_text (option_map (λ value. view value.now) perhaps.0) };
+
+    fn fmt<W: fmt::Write>(&self, f: &mut fmt::Formatter<W>) -> fmt::Result {
+        match self.0 {
+            Some(_) => {
+                let found = Found(self.0);
+                write!(f, "{found}")
+            }
+            None => f.write_str("absent"),
+        }
+    }
+}
+
+// Whether the value at a key is a text.
+fn is_text(value: Option<&Value>, key: &str) -> bool
+    ensures { result ≡ is_text_at key.now (option_map (λ whole. view whole.now) value.entry) }
+{
+    match value_at(value, key) {
+        Some(found) => found.is_string(),
+        None => false,
+    }
+}
+
+// Whether the value is an object.
+fn is_an_object(value: Option<&Value>) -> bool
+    ensures { result ≡ is_object (option_map (λ whole. view whole.now) value.entry) }
+{
+    match value {
+        Some(value) => value.is_object(),
+        None => false,
+    }
+}
+
+// Writes that a value is no event.
+fn write_not_event<W: Write>(
+    out: &mut W,
+    place: Place<'_>,
+    value: Option<&Value>,
+) -> io::Result<()>
+    ensures { OnOk result (IfSome (not_event_text (place_text place.entry.name.now place.entry.part) (option_map (λ value. view value.now) value.entry))
+        (Appends (W.contents out.old) (W.contents out.new))) }
+{
+    if !is_an_object(value) {
+        let found = Found(value);
+        return writeln!(
+            out,
+            "{place}an audit event is a JSON object, but this is {found}"
+        );
+    }
+    let key = if is_text(value, "stage") {
+        "verb"
+    } else {
+        "stage"
+    };
+    write_required(out, place, key, value_at(value, key), Wanted::Text)
+}
+
+// Writes that the name of a user is bad.
+fn write_user<W: Write>(out: &mut W, place: Place<'_>, value: Option<&Value>) -> io::Result<()>
+    ensures { OnOk result (IfSome (event_text (place_text place.entry.name.now place.entry.part) (option_map (λ value. view value.now) value.entry) (AuditFault.BadUser 0))
+        (Appends (W.contents out.old) (W.contents out.new))) }
+{
+    let wanted = Wanted::Name(MAX_NAME);
+    match value_at(value, "impersonatedUser") {
+        Some(impersonated) => write_required(
+            out,
+            place,
+            "impersonatedUser.username",
+            value_at(Some(impersonated), "username"),
+            wanted,
+        ),
+        None => write_required(
+            out,
+            place,
+            "user.username",
+            value_at(value_at(value, "user"), "username"),
+            wanted,
+        ),
+    }
+}
+
+// The wait in the queue that an event says.
+fn wait_of(value: Option<&Value>) -> Option<&Value>
+    ensures { option_map (λ found. view found.now) result ≡ wait_found (option_map (λ whole. view whole.now) value.entry) }
+{
+    value_at(value_at(value, "annotations"), "apiserver.latency.k8s.io/apf-queue-wait")
+}
+
+// Writes that the run is none that a trace can have.
+fn write_run<W: Write>(out: &mut W, place: Place<'_>, value: Option<&Value>) -> io::Result<()>
+    ensures { OnOk result (IfSome (bad_run_text (place_text place.entry.name.now place.entry.part) (option_map (λ value. view value.now) value.entry))
+        (Appends (W.contents out.old) (W.contents out.new))) }
+{
+    let completed = Perhaps(value_at(value, "stageTimestamp"));
+    let received = Perhaps(value_at(value, "requestReceivedTimestamp"));
+    let wait = Perhaps(wait_of(value));
+    writeln!(
+        out,
+        "{place}stageTimestamp is {completed}, requestReceivedTimestamp is {received} and apf-queue-wait is {wait}: the run, which is the first less the others, must be from 0 to {MAX_RUN} microseconds"
+    )
+}
+
+// Writes that a request arrives too late.
+fn write_late<W: Write>(out: &mut W, place: Place<'_>, value: Option<&Value>) -> io::Result<()>
+    ensures { OnOk result (IfSome (late_text (place_text place.entry.name.now place.entry.part) (option_map (λ value. view value.now) value.entry))
+        (Appends (W.contents out.old) (W.contents out.new))) }
+{
+    let received = Perhaps(value_at(value, "requestReceivedTimestamp"));
+    writeln!(
+        out,
+        "{place}requestReceivedTimestamp is {received}: it must be at most {MAX_ARRIVAL} microseconds after the earliest one"
+    )
+}
+
+// Writes the fault of an event that is the value.
+fn write_event<W: Write>(
+    out: &mut W,
+    place: Place<'_>,
+    value: Option<&Value>,
+    fault: AuditFault,
+) -> io::Result<()>
+    ensures { OnOk result (IfSome (event_text (place_text place.entry.name.now place.entry.part) (option_map (λ value. view value.now) value.entry) fault)
+        (Appends (W.contents out.old) (W.contents out.new))) }
+{
+    match fault {
+        AuditFault::BadUser(_) => write_user(out, place, value),
+        AuditFault::BadReceived(_) => write_required(
+            out,
+            place,
+            "requestReceivedTimestamp",
+            value_at(value, "requestReceivedTimestamp"),
+            Wanted::Instant,
+        ),
+        AuditFault::BadStage(_) => write_required(
+            out,
+            place,
+            "stageTimestamp",
+            value_at(value, "stageTimestamp"),
+            Wanted::Instant,
+        ),
+        AuditFault::BadWait(_) => {
+            write_unwanted(out, place, "apf-queue-wait", wait_of(value), Wanted::Wait)
+        }
+        AuditFault::BadRun(_) => write_run(out, place, value),
+        AuditFault::BadArrival(_) => write_late(out, place, value),
+        AuditFault::TooLong(_)
+        | AuditFault::NotUtf8Json(_)
+        | AuditFault::NotEvent(_)
+        | AuditFault::TooMany(_)
+        | AuditFault::NoMemory => write_not_event(out, place, value),
+    }
+}
+
+// Writes the fault of this line.
+fn write_line<W: Write>(
+    alloc: Global,
+    out: &mut W,
+    place: Place<'_>,
+    line: Option<&[u8]>,
+    fault: AuditFault,
+) -> Result<(), ExplainFault>
+    ensures line { OnOk result (IsAuditLineAt (place_text place.entry.name.now place.entry.part) (option_map (λ line. line.now) line.entry) fault
+        (W.contents out.old) (W.contents out.new)) }
+    ensures memory { result ≡ Err ExplainFault.NoMemory → out.new ≡ out.old }
+{
+    match fault {
+        AuditFault::TooLong(_) => Ok(write_too_long(out, place, MAX_LINE, line)?),
+        AuditFault::NotUtf8Json(_) => write_not_json(alloc, out, place, line),
+        AuditFault::NotEvent(_)
+        | AuditFault::BadUser(_)
+        | AuditFault::BadReceived(_)
+        | AuditFault::BadStage(_)
+        | AuditFault::BadWait(_)
+        | AuditFault::BadRun(_)
+        | AuditFault::TooMany(_)
+        | AuditFault::BadArrival(_)
+        | AuditFault::NoMemory => {
+            let value = line_value(alloc, line)?;
+            Ok(write_event(out, place, value.as_ref(), fault)?)
+        }
+    }
+}
+
+// Writes that there are too many requests.
+fn write_too_many<W: Write>(out: &mut W, count: usize) -> io::Result<()>
+    ensures { OnOk result (Appends (W.contents out.old) (W.contents out.new) (too_many_events count)) }
+{
+    writeln!(
+        out,
+        "apf: audit fault 9: there are {count} requests: at most {MAX_REQUESTS} may be there"
+    )
+}
+
+/// Writes the fault of an audit log as the one line of standard error.
+///
+/// `fault` is what `read_audit_log` answers for these bytes. The line names the key and the value that stands there in
+/// the line of the fault, and what has to stand there.
+///
+/// Of a line that is no JSON the column is told at which the reader stopped. Columns count bytes from 1.
+///
+/// # Errors
+///
+/// [`ExplainFault::NoMemory`] if memory was refused, here or, by the fault, to the reader, and then nothing is written.
+/// [`ExplainFault::CannotWrite`] if the writer failed.
+pub fn explain_audit_log<W: Write>(
+    alloc: Global,
+    bytes: &[u8],
+    fault: AuditFault,
+    out: &mut W,
+) -> Result<(), ExplainFault>
+    ensures line { OnOk result (IsAuditLine bytes.now fault (W.contents out.old) (W.contents out.new)) }
+    ensures refused { fault ≡ AuditFault.NoMemory → (result ≡ Err ExplainFault.NoMemory) × (out.new ≡ out.old) }
+    ensures memory { result ≡ Err ExplainFault.NoMemory → out.new ≡ out.old }
+{
+    if let AuditFault::TooMany(count) = fault {
+        return Ok(write_too_many(out, count)?);
+    }
+    let Some(number) = fault.line() else {
+        return Err(ExplainFault::NoMemory);
+    };
+    let part = Part::Fault(fault.number(), number as u64);
+    let place = Place {
+        name: "apf: audit",
+        part,
+    };
+    write_line(alloc, out, place, numbered(bytes, number as u64), fault)
+}

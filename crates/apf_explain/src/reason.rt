@@ -1,0 +1,123 @@
+//! Why bytes are no JSON.
+
+ghost use Rattle.std.specs.Prelude.{◌≡◌, IfErr};
+
+use crate::fault::ExplainFault;
+use serde_json::{Error, Value};
+use std::alloc::Global;
+
+// So many arrays and objects may stand in one another.
+const DEEPEST: u32 = 127;
+
+// Where the first array or object stands that is too deep: its line and column, both from 1.
+fn too_deep(bytes: &[u8]) -> Option<(usize, usize)> {
+    let mut place = (1usize, 0usize);
+    let mut deep = 0u32;
+    let mut in_text = false;
+    let mut is_escaped = false;
+    for byte in bytes {
+        if *byte == b'\n' {
+            place = (place.0.saturating_add(1), 0);
+        } else {
+            place = (place.0, place.1.saturating_add(1));
+        }
+        match *byte {
+            _ if is_escaped => is_escaped = false,
+            b'\\' if in_text => is_escaped = true,
+            b'"' => in_text = !in_text,
+            b'[' | b'{' if !in_text && deep == DEEPEST => return Some(place),
+            b'[' | b'{' if !in_text => deep = deep.saturating_add(1),
+            b']' | b'}' if !in_text => deep = deep.saturating_sub(1),
+            _ => {}
+        }
+    }
+    None
+}
+
+// Whether the reader stopped at an array or object that is too deep, and not before it.
+fn is_too_deep(bytes: &[u8], error: &Error) -> bool {
+    match too_deep(bytes) {
+        Some((line, column)) => {
+            error.line() > line || (error.line() == line && error.column() >= column)
+        }
+        None => false,
+    }
+}
+
+// Whether the bytes, which are no UTF-8, are the front of a JSON text that is cut inside a character.
+fn is_cut_inside(alloc: Global, bytes: &[u8], whole: usize) -> Result<bool, ExplainFault>
+    ensures { IfErr result (λ fault. fault ≡ ExplainFault.NoMemory) }
+{
+    let Ok(mut front) = Vec::from_slice(alloc, bytes.get(..whole).unwrap_or(b"")) else {
+        return Err(ExplainFault::NoMemory);
+    };
+    // some character in the place of the one that is cut
+    if front.push(0xc3).is_err() || front.push(0xa9).is_err() {
+        return Err(ExplainFault::NoMemory);
+    }
+    match Value::from_slice(alloc, front.as_slice()) {
+        Ok(_) => Ok(false),
+        Err(e) if e.is_memory() => Err(ExplainFault::NoMemory),
+        Err(e) => Ok(e.is_eof()),
+    }
+}
+
+const BEGINNINGS: [(&[u8], &str); 5] = [
+    (b"\xef\xbb\xbf", ": the bytes begin with a mark of byte order (BOM): take it away"),
+    (b"\xff\xfe", ": the bytes begin as UTF-16 does: they must be UTF-8"),
+    (b"\xfe\xff", ": the bytes begin as UTF-16 does: they must be UTF-8"),
+    (b"\x1f\x8b", ": the bytes begin as gzip does: unpack them first"),
+    (b"[", ": an array begins here: write one object on each line"),
+];
+
+// What is known of why the bytes of a line are no JSON, by how they begin.
+fn beginning(bytes: &[u8]) -> Option<&'static str> {
+    BEGINNINGS
+        .iter()
+        .find(|row| bytes.starts_with(row.0))
+        .map(|row| row.1)
+}
+
+/// What is known of why bytes are no JSON, where this is what their reader says.
+pub(crate) fn reason(
+    alloc: Global,
+    bytes: &[u8],
+    error: &Error,
+) -> Result<&'static str, ExplainFault>
+    ensures { IfErr result (λ fault. fault ≡ ExplainFault.NoMemory) }
+{
+    const EARLY: &str = ": the text ends too early";
+    if let Err(e) = std::str::from_utf8(bytes) {
+        if e.error_len().is_none() && is_cut_inside(alloc, bytes, e.valid_up_to())? {
+            return Ok(EARLY);
+        }
+        return Ok(": the bytes here are not UTF-8");
+    }
+    if is_too_deep(bytes, error) {
+        return Ok(": more than 127 arrays and objects stand in one another");
+    }
+    if error.is_eof() {
+        return Ok(EARLY);
+    }
+    let Ok(said) = format!(in alloc; "{error}") else {
+        return Err(ExplainFault::NoMemory);
+    };
+    if said.starts_with("number out of range") {
+        return Ok(": the number here is too large");
+    }
+    Ok("")
+}
+
+/// What is known of why the bytes of a line are no JSON: by how they begin, or else by what their reader says.
+pub(crate) fn line_reason(
+    alloc: Global,
+    bytes: &[u8],
+    error: &Error,
+) -> Result<&'static str, ExplainFault>
+    ensures { IfErr result (λ fault. fault ≡ ExplainFault.NoMemory) }
+{
+    match beginning(bytes) {
+        Some(why) => Ok(why),
+        None => reason(alloc, bytes, error),
+    }
+}

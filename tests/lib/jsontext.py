@@ -1,0 +1,13 @@
+"""A text as the program writes it between quotes: as JSON has it, escaped where JSON must, and where a terminal would obey a character."""
+
+import json
+import re
+
+# U+007F to U+009F, and the characters that turn the direction of writing
+OBEYED = re.compile("[\x7f-\x9f\u061c\u200e\u200f\u202a-\u202e\u2066-\u2069]")
+
+
+def json_text(value):
+    """A text, or an object of texts and numbers, as JSON."""
+    text = json.dumps(value, ensure_ascii=False, separators=(",", ":"))
+    return OBEYED.sub(lambda it: f"\\u{ord(it[0]):04x}", text)

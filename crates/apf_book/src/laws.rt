@@ -37,10 +37,11 @@ pub fn every_ended_book_agrees()
     every_end_agrees();
 }
 
-/// No request is forgotten: of every state of a gate whose Desk's book is stopped.
+/// No chosen request is forgotten: of every state of a gate whose Desk's book is stopped.
 ///
 /// Nothing waits; or the chosen head does not fit the level word; or others gave seats back or set the limit since
-/// the Desk found that it does not fit. Each of them found requests waiting, and so owes a dispatch.
+/// the Desk found that it does not fit. Each of them found requests waiting, and so owes a dispatch. It says nothing of a
+/// request behind the chosen one, which may fit and wait.
 ///
 /// It runs no code: the contract is the law.
 pub fn no_request_is_forgotten()

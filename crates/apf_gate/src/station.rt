@@ -72,7 +72,8 @@ impl<A: Allocator> Gate<A> {
     }
 
     /// Cancels a request, if it is undecided and holds its slot. Answers its decision, or that another request
-    /// holds the slot. It makes one exchange of the word of the request's slot.
+    /// holds the slot. It makes one exchange of the word of the request's slot. Where that wrote, it wakes whoever
+    /// sleeps until the request is decided.
     pub fn cancel(&self, station: &mut Station, request: u128) -> Cancel
         requires own { station_gate station.old ≡ self.now }
         requires is_request { IsTicket self.now.shape request }

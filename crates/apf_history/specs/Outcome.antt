@@ -1,5 +1,5 @@
 -- What is reported: decisions, their sums, and the numbers of a history.
-use Rattle.std.specs.Prelude.{◌≡◌, ℕ, ◌+◌, ◌↔◌, Bool, true, false, List, length, count_by, Contains, Option, Some}
+use Rattle.std.specs.Prelude.{◌≡◌, ℕ, ◌↔◌, Bool, true, false, List, length, count_by, Contains, Option, Some}
 use Rattle.apf_words.specs.declared.decision.Decision.{Decision}
 use Rattle.apf_words.specs.declared.decision.Decision.TheVariants.{Execute, QueueFull, Closed, Cancelled, ConcurrencyLimit}
 use Rattle.apf_history.specs.declared.events.Event.{Event}
@@ -20,10 +20,6 @@ pub record Agrees (h : List Event) (decision : ℕ → Option Decision) : Type 0
 abbrev pub ExecutesArrivals : List Event → (ℕ → Option Decision) → (ℕ → Bool) → Type 0
 ExecutesArrivals h decision took = (r : ℕ) → decision r ≡ Some Execute → took r ≡ false → (q : ℕ) × Contains h (Dispatch r q)
 
--- a call that answers this decision for r told what the map has
-abbrev pub IsTold : (ℕ → Option Decision) → ℕ → Decision → Type 0
-IsTold decision r d = decision r ≡ Some d
-
 -- 1 where a request is decided so
 abbrev pub decided_at : Decision → Option Decision → ℕ
 decided_at Execute (Some Execute) = 1
@@ -36,10 +32,6 @@ decided_at _ _ = 0
 -- how many of the first n requests are decided so
 abbrev pub decided : Decision → (ℕ → Option Decision) → ℕ → ℕ
 decided d decision n = tally (λ r. decided_at d (decision r)) n
-
--- how many of the first n requests are rejected
-abbrev pub rejected : (ℕ → Option Decision) → ℕ → ℕ
-rejected decision n = decided QueueFull decision n + decided Closed decision n + decided ConcurrencyLimit decision n
 
 -- the kinds of event
 abbrev pub is_enter : Event → Bool

@@ -1,11 +1,9 @@
-//! The tests of a level, by the public calls of `apf_level` alone.
+//! The tests of a level, by the public calls of `apf_session` and `apf_level` alone.
 //!
-//! They session in a crate of their own, as a crate with tests is proved twice. What they share:
+//! They stand in a crate of their own, as a crate with tests is proved twice. What they share:
 //!
-//! - `opening`: opens the gate of a level.
-//! - `token`: what a request holds. It is no test itself, as `specs/` name it.
-//! - `requests`: a request with its token, and `callers` a Station, of the level that a type names.
-//! - `session`: a level with all its tokens. `scenes`: what is played on it. `endings`: what it tells at its end.
+//! - `opening`: the settings and the requests of a level.
+//! - `scenes`: what is played on a level. `endings`: what it tells at its end.
 //! - `scripts`: a script with the answers that it is to have.
 //! - `crowds`: the requests that run at once.
 //!
@@ -18,7 +16,7 @@
 //!
 //! - `taking`: requests take seats outside the lock. `reading`: the statistics are read while requests run.
 //! - `closing`, `cancelling`: eight Stations close a level, and cancel a request.
-//! - `sleeping`: who sleeps is woken. `admitting`: many sleep and wake each other.
+//! - `sleeping`: who sleeps is woken, and two by one dispatch. `admitting`: many sleep and wake each other.
 //! - `losing`: who loses its decision to a cancel dispatches.
 #![tactic(auto)]
 

@@ -154,7 +154,3 @@ after (Release r) w = record w { stage = put w.stage r Gone }
 after Close w = record w { is_open = false }
 after (SetLimit n) w = record w { limit = n; largest = max w.largest n }
 after (See r) w = record w { saw_no_room = put w.saw_no_room r true }
-
--- a step of this kind between two worlds
-abbrev pub IsStep : List ℕ → Move → World → World → Type 0
-IsStep widths m w w' = Allowed widths m w × (w' ≡ after m w)

@@ -1,5 +1,5 @@
 -- The seats in use and the lengths of the queues, at the time of each column.
-use Rattle.std.specs.Prelude.{◌≡◌, ℕ, ◌+◌, ◌-◌, max, List, [], ◌∷◌, Bool, false, ◌&&◌, nat_le, nat_lt, nat_eq, ◌==◌, if◌then◌else◌, map, sum_by, count_by, Option, Some, None, IsPermutation, IsSorted}
+use Rattle.std.specs.Prelude.{◌≡◌, ℕ, ◌+◌, max, List, [], ◌∷◌, Bool, false, ◌&&◌, nat_le, nat_lt, nat_eq, ◌==◌, if◌then◌else◌, map, sum_by, count_by, Option, Some, None, IsPermutation, IsSorted}
 use Rattle.std.specs.List.{range_with_len, dedup}
 use Rattle.std.specs.Ordering.{nat_cmp}
 use Rattle.apf_picture.specs.declared.life.Life.{Life}
@@ -26,10 +26,6 @@ seats_held row time life = if has_seats row time life then life.seats else 0
 -- the seats in use at the time by the row and those below it
 abbrev pub seats_at : List Life → (row time : ℕ) → ℕ
 seats_at lives row time = sum_by (seats_held row time) lives
-
--- the rows from the last to the first
-abbrev pub row_from_last : (rows place : ℕ) → ℕ
-row_from_last rows place = rows - 1 - place
 
 -- the request stands in the queue at the time
 abbrev pub is_in : (queue : ℕ) → Option ℕ → Bool

@@ -64,11 +64,6 @@ impl Record {
         }
     }
 
-    /// Whether the request was told no decision.
-    pub fn is_undecided(&self, request: u32) -> bool {
-        self.decisions.get(request as usize) == Some(&None)
-    }
-
     /// How many events were read.
     pub fn read(&self) -> u32 {
         self.read as u32

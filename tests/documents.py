@@ -78,18 +78,21 @@ for name, path in (
     ("config", ("apf_files", "src", "config.rt")),
     ("requests", ("apf_files", "src", "requests.rt")),
     ("script", ("apf_files", "src", "script.rt")),
-    ("trace", ("apf_traces", "src", "fault.rt")),
-    ("audit", ("apf_audit", "src", "fault.rt")),
 ):
     text = open(os.path.join(TOP, "crates", *path), encoding="utf-8").read()
     found = re.findall(r"/// (\d+): .*\n\s*#\[error\(\"(.*)\"\)\]\n\s*\w+(\((?:u32|usize)\)|)", text)
     # what the text itself says is no place
-    said = {"audit": "COUNT"}.get(name, "KEY")
-    wanted[name] = [(number, place != "" and "{0}" not in line, line.replace("{0}", said)) for number, line, place in found if line != "out of memory"]
+    wanted[name] = [(number, place != "" and "{0}" not in line, line.replace("{0}", "KEY")) for number, line, place in found if line != "out of memory"]
 text = open(os.path.join(TOP, "crates", "apf_flow", "src", "fault.rt"), encoding="utf-8").read()
 numbers = dict(re.findall(r"^    (\w+) = (\d+),", text, re.M))
 wanted["dealer"] = [(numbers[name], False, line) for name, line in re.findall(r"DealerFault::(\w+) => \"(.*)\"", text)]
 tally.check("the files whose faults are listed", sorted(listed), sorted(wanted))
+# the lines of a trace's and an audit log's faults say more than their texts, so their tables have the numbers, in order; the last is out of memory
+for name in ("trace", "audit"):
+    rows = re.search(rf"^Of .*\(`apf: {name} fault N at line L: \.\.`\).*\n\n((?:\|.*\n)+)", page, re.M)[1]
+    text = open(os.path.join(TOP, "crates", {"trace": "apf_traces", "audit": "apf_audit"}[name], "src", "fault.rt"), encoding="utf-8").read()
+    *numbered, _ = re.findall(r"=> (\d+),", text)
+    tally.check(f"the faults of the {name} that are listed", re.findall(r"^\| (\d+) \|", rows, re.M), numbered)
 for name in wanted:
     tally.check(f"the faults of the {name} that are listed", sorted(listed.get(name, [])), sorted(wanted[name]))
 

@@ -63,7 +63,10 @@ fn marks(rt: HostRuntime) {
     assert_eq!(rt; undecided(0), 0);
     assert_eq!(rt; undecided(5), 40);
     assert_eq!(rt; decided(5, Decision::Cancelled), 44);
-    assert_eq!(rt; decided(2305843009213693951, Decision::Closed), 18446744073709551611);
+    assert_eq!(rt;
+        decided(2305843009213693951, Decision::Closed),
+        18446744073709551611
+    );
     assert_eq!(rt; mark_in(18446744073709551611), 2305843009213693951);
     assert_eq!(rt; decision_in(18446744073709551611), Some(Decision::Closed));
     assert_eq!(rt; mark_in(40), 5);

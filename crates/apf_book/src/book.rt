@@ -22,7 +22,6 @@ ghost use Rattle.apf_book.specs.Servings.{with, Turns, Serves, Stops, Strikes};
 ghost use Rattle.apf_book.specs.Stopped.{IsStopped};
 
 use crate::arrived::Arrived;
-use apf_model::{Ask, Config};
 use crate::fault::BookFault;
 use crate::handing::{Handed, hand};
 use crate::histories::legal_histories_are_in_order;
@@ -30,7 +29,7 @@ use crate::ledger::{Ledger, widths_of};
 use crate::serving::{Served, serve};
 use crate::stats::Stats;
 use apf_gate::{Desk, Gate, Pass};
-use apf_model::Event;
+use apf_model::{Ask, Config, Event};
 use apf_words::Decision;
 use std::alloc::Allocator;
 use std::marker::Model;

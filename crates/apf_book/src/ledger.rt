@@ -12,7 +12,6 @@ ghost use Rattle.apf_book.specs.LedgerKept.{AreStats};
 ghost use Rattle.apf_book.specs.Stretch.{IsBacklogged, service_in, IsIsolated, AreWaitsBounded};
 ghost use Rattle.apf_model.specs.Fair.{widest, DifferAtMost};
 
-use apf_model::{Ask, Config};
 use crate::fault::BookFault;
 use crate::histories::{
     fair_histories_are_balanced, fair_histories_isolate, legal_histories_are_in_order,
@@ -20,7 +19,7 @@ use crate::histories::{
 };
 use crate::stats::Stats;
 use apf_flow::Dealer;
-use apf_model::Event;
+use apf_model::{Ask, Config, Event};
 use apf_queue::{Chosen, QueueFault, Queues};
 use std::alloc::{AllocError, Allocator};
 use std::marker::Model;

@@ -145,7 +145,11 @@ fn a_slot_is_renewed_often(rt: HostRuntime) {
 #[test]
 fn a_batch_is_spent(rt: HostRuntime) {
     let Ok((gate, _desk, mut passes, _stations)) = Gate::open(
-        rt.alloc(), 4, &[1, 2], 0, Response::Queue,
+        rt.alloc(),
+        4,
+        &[1, 2],
+        0,
+        Response::Queue,
     ) else {
         panic!(rt; "opens")
     };

@@ -67,7 +67,7 @@ for words, says in [
     (["requests", "--help"], TIMES + ["apf replay", "width"]),
     (["picture", "--help"], PATIENCE + ["SVG", "apf simulate --help"]),
     (["trace", "--help"], ["<AUDITLOG>", "<SCHEMA>", "user.username", "requestReceivedTimestamp", "microseconds", "4096 bytes"]),
-    (["hands", "--help"], LEVEL + ["flow H hand Q1 Q2 .. of SCHEMA DISTINGUISHER", "shares Q .. with H SCHEMA DISTINGUISHER", "covered by H"]),
+    (["hands", "--help"], LEVEL + ["flow H hand Q1 Q2 .. of SCHEMA DISTINGUISHER", "shares Q with N flows", "covered by H", "covered by N more"]),
     (["explain", "--help"], SCRIPT + ["prints one line", "prints nothing", "apf: config fault 5: bad value of limit"]),
     (["waits", "--help"], SCRIPT + ["request R queue Q ahead A most M all T", "twice the widest"]),
 ]:

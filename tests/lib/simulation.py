@@ -118,21 +118,26 @@ def requests(trace):
     return ["[", *(f"{line}," for line in lines[:-1]), *lines[-1:], "]"]
 
 
-def hands(config, trace):
-    """The queues of each hand, and those that are shared, in the order in which they were dealt. A level that rejects deals none."""
-    flows, lines = flows_of(trace), []
+def dealt_of(config, trace):
+    """The queues of each flow's hand, in the order in which they were dealt. A level that rejects deals none."""
     queues = config["queues"] if config["limitResponse"] == "Queue" else 0
-    dealt = {flow: hand_of(queues, config["handSize"] if queues else 0, flow) for flow in flows}
-    for flow, members in flows.items():
+    return {flow: hand_of(queues, config["handSize"] if queues else 0, flow) for flow in flows_of(trace)}
+
+
+def hands(config, trace):
+    """Each hand, with how many other flows have each of its queues, and the first ten of those that have all of them."""
+    dealt, lines = dealt_of(config, trace), []
+    for flow, members in flows_of(trace).items():
         lines.append(" ".join([f"flow {flow:016x} hand", *map(str, dealt[flow])]) + of_names(trace, members))
-        covers = []
-        for other, its_members in flows.items():
-            shared = [queue for queue in dealt[flow] if queue in dealt[other]]
-            if other != flow and shared:
-                lines.append(" ".join(["  shares", *map(str, shared), "with", f"{other:016x}", *names_of(trace, its_members)]))
-                covers += [f"{other:016x}"] if shared == dealt[flow] else []
+        others = {it: set(hand) for it, hand in dealt.items() if it != flow}
+        for queue in dealt[flow]:
+            if sharers := sum(queue in hand for hand in others.values()):
+                lines.append(f"  shares {queue} with {sharers} flows")
+        covers = [f"{it:016x}" for it, hand in others.items() if dealt[flow] and hand.issuperset(dealt[flow])]
         if covers:
-            lines.append(" ".join(["  covered by", *covers]))
+            lines.append(" ".join(["  covered by", *covers[:10]]))
+        if covers[10:]:
+            lines.append(f"  covered by {len(covers[10:])} more")
     return lines
 
 

@@ -267,10 +267,10 @@ WORKED = [
                 hands,
                 None,
                 "flow b2cfa8521298df5f hand 0\n"
-                '  shares 0 with 318d292d6ad4546e "a\\"\\\\\\n\\u0001\x7f/ä😀" ""\n'
+                "  shares 0 with 1 flows\n"
                 "  covered by 318d292d6ad4546e\n"
                 'flow 318d292d6ad4546e hand 0 of "a\\"\\\\\\n\\u0001\x7f/ä😀" ""\n'
-                "  shares 0 with b2cfa8521298df5f\n"
+                "  shares 0 with 1 flows\n"
                 "  covered by b2cfa8521298df5f\n",
             ),
             (
@@ -291,15 +291,14 @@ WORKED = [
                 hands,
                 None,
                 "flow 0000000000000000 hand 0 1\n"
-                "  shares 1 with 0000000000000005\n"
-                "  shares 0 1 with 0000000000000001\n"
+                "  shares 0 with 1 flows\n"
+                "  shares 1 with 2 flows\n"
                 "  covered by 0000000000000001\n"
                 "flow 0000000000000005 hand 1 2\n"
-                "  shares 1 with 0000000000000000\n"
-                "  shares 1 with 0000000000000001\n"
+                "  shares 1 with 2 flows\n"
                 "flow 0000000000000001 hand 1 0\n"
-                "  shares 1 0 with 0000000000000000\n"
-                "  shares 1 with 0000000000000005\n"
+                "  shares 1 with 2 flows\n"
+                "  shares 0 with 1 flows\n"
                 "  covered by 0000000000000000\n",
             ),
         ],

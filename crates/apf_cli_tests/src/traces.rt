@@ -113,15 +113,14 @@ fn hands(rt: HostRuntime) {
     let config = "{\"limit\":1,\"queues\":4,\"handSize\":2}";
     let shared = concat!(
         "flow 0000000000000000 hand 0 1\n",
-        "  shares 1 with 0000000000000005\n",
-        "  shares 0 1 with 0000000000000001\n",
+        "  shares 0 with 1 flows\n",
+        "  shares 1 with 2 flows\n",
         "  covered by 0000000000000001\n",
         "flow 0000000000000005 hand 1 2\n",
-        "  shares 1 with 0000000000000000\n",
-        "  shares 1 with 0000000000000001\n",
+        "  shares 1 with 2 flows\n",
         "flow 0000000000000001 hand 1 0\n",
-        "  shares 1 0 with 0000000000000000\n",
-        "  shares 1 with 0000000000000005\n",
+        "  shares 1 with 2 flows\n",
+        "  shares 0 with 1 flows\n",
         "  covered by 0000000000000000\n",
     );
     check(&rt, of(rt.alloc(), config, trace), &words, 0, shared, "");

@@ -233,13 +233,15 @@ Status: 0 done, 1 a file's fault or output that can't be written, 2 a command li
 /// Of `hands`.
 pub(crate) const HANDS: &str = "\
 Prints the hand of queues of each flow of a trace, in the order of their first requests, and below
-it the other flows that share a queue with it:
+it who shares its queues:
   flow H hand Q1 Q2 .. of SCHEMA DISTINGUISHER
-    shares Q .. with H SCHEMA DISTINGUISHER
+    shares Q with N flows
     covered by H ..
+    covered by N more
   H           a flow's hash, in hexadecimal digits
   Q           the number of a queue, from 0, in the order dealt
-  covered by  the flows whose hand alone holds all of its queues
+  shares      how many other flows hold the queue
+  covered by  the flows whose hand alone holds all of its queues: the first ten, and how many more
 The hands are those of this level by this project's rules, and not kube-apiserver's. The times of
 the trace, in microseconds, change nothing. A level that rejects deals no queues.
 

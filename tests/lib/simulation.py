@@ -93,14 +93,14 @@ def flow_line(run, flow, members):
         f"flow {flow:016x} requests {len(members)}"
         f" executed {executed} rejected {len(members) - executed - cancelled} cancelled {cancelled}"
         f" seat-time {sum(map(run.seat_time, members))}"
-        f" wait {nearest_rank(waits, 50)} {nearest_rank(waits, 99)} {max(waits, default=0)}{of_names(run.trace, members)}"
+        f" wait median {nearest_rank(waits, 50)} p99 {nearest_rank(waits, 99)} longest {max(waits, default=0)}{of_names(run.trace, members)}"
     )
 
 
 def simulate(run):
     flows = [flow_line(run, flow, members) for flow, members in flows_of(run.trace).items()]
     used, waited = (sum(map(each, range(len(run.trace)))) for each in (run.seat_time, run.wait))
-    end = f"end {run.end()} seat-time {used} of {run.config['limit'] * run.end()} waited {waited}"
+    end = f"end {run.end()} seat-time {used} of {run.config['limit'] * run.end()} waited {waited} patience {run.patience}"
     return [*flows, end, *run.level.transcript().splitlines()[-4:]]
 
 

@@ -38,10 +38,10 @@ fn prints<R: Abort + Wait + Threads + Sync>(rt: &R, alloc: Global, words: &[&str
 fn simulates_without_patience(rt: HostRuntime) {
     let words = ["apf", "simulate", "config", "trace", "0"];
     let out = "flow b2cfa8521298df5f requests 6 executed 4 rejected 2 cancelled 0 seat-time 400 \
-        wait 0 120 120 of \"batch\" \"crawler\"\n\
+        wait median 0 p99 120 longest 120 of \"batch\" \"crawler\"\n\
         flow f7c495a40a0feec0 requests 3 executed 3 rejected 0 cancelled 0 seat-time 80 \
-        wait 50 160 160 of \"users\" \"alice\"\n\
-        end 420 seat-time 480 of 840 waited 430\n\
+        wait median 50 p99 160 longest 160 of \"users\" \"alice\"\n\
+        end 420 seat-time 480 of 840 waited 430 patience 0\n\
         level open seats 0 waiting 0\n\
         executed 7 rejected 2 cancelled 0 undecided 0\n\
         queue-full 2 closed 0 concurrency-limit 0\n\
@@ -53,10 +53,10 @@ fn simulates_without_patience(rt: HostRuntime) {
 fn simulates_with_patience(rt: HostRuntime) {
     let words = ["apf", "simulate", "config", "trace", "90"];
     let out = "flow b2cfa8521298df5f requests 6 executed 2 rejected 2 cancelled 2 seat-time 200 \
-        wait 0 0 0 of \"batch\" \"crawler\"\n\
+        wait median 0 p99 0 longest 0 of \"batch\" \"crawler\"\n\
         flow f7c495a40a0feec0 requests 3 executed 3 rejected 0 cancelled 0 seat-time 80 \
-        wait 50 60 60 of \"users\" \"alice\"\n\
-        end 420 seat-time 280 of 840 waited 290\n\
+        wait median 50 p99 60 longest 60 of \"users\" \"alice\"\n\
+        end 420 seat-time 280 of 840 waited 290 patience 90\n\
         level open seats 0 waiting 0\n\
         executed 5 rejected 2 cancelled 2 undecided 0\n\
         queue-full 2 closed 0 concurrency-limit 0\n\
@@ -129,7 +129,7 @@ fn hands(rt: HostRuntime) {
 // Nothing arrives.
 #[test]
 fn empty_trace(rt: HostRuntime) {
-    let book = "end 0 seat-time 0 of 0 waited 0\n\
+    let book = "end 0 seat-time 0 of 0 waited 0 patience 1\n\
         level open seats 0 waiting 0\n\
         executed 0 rejected 0 cancelled 0 undecided 0\n\
         queue-full 0 closed 0 concurrency-limit 0\n\

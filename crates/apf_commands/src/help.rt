@@ -174,15 +174,17 @@ gives up. An API server lets a request wait for a quarter of its time-out, by de
 
 Prints a line for each flow, in the order of their first requests, a line of the whole, and the
 book of apf replay:
-  flow H requests N executed E rejected J cancelled X seat-time T wait A B C of SCHEMA DISTINGUISHER
-  end T seat-time U of V waited W
+  flow H requests N executed E rejected J cancelled X seat-time T wait median A p99 B longest C of
+    SCHEMA DISTINGUISHER, on one line
+  end T seat-time U of V waited W patience P
   flow H       the flow's hash, in hexadecimal digits
   seat-time T  the sum of width times runsFor of the flow's executed requests; U is that of all
-  wait A B C   microseconds that its executed requests waited: median, 99th percentile, most
+  wait         microseconds that its executed requests waited: median, 99th percentile, longest
   of SCHEMA DISTINGUISHER  as JSON texts; nothing where the flow's first request gives the hash
   end T        when the last thing was done, in microseconds
   of V         the level's limit times the end
   waited W     microseconds that all requests waited, those that gave up too
+  patience P   PATIENCE
 
 Example:
   $ cat config.json trace.jsonl
@@ -190,8 +192,8 @@ Example:
   {\"hash\":0,\"arrivesAt\":0,\"runsFor\":100}
   {\"hash\":0,\"arrivesAt\":40,\"runsFor\":100}
   $ apf simulate config.json trace.jsonl 15000000
-  flow 0000000000000000 requests 2 executed 2 rejected 0 cancelled 0 seat-time 200 wait 0 60 60
-  end 200 seat-time 200 of 200 waited 60
+  flow 0000000000000000 requests 2 executed 2 rejected 0 cancelled 0 seat-time 200 wait median 0 p99 60 longest 60
+  end 200 seat-time 200 of 200 waited 60 patience 15000000
   level open seats 0 waiting 0
   executed 2 rejected 0 cancelled 0 undecided 0
   queue-full 0 closed 0 concurrency-limit 0

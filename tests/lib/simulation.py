@@ -141,6 +141,24 @@ def hands(config, trace):
     return lines
 
 
+def hands_of(config, trace, name):
+    """The hands of the flows of a distinguisher, and all who share a queue with each."""
+    flows, dealt, lines = flows_of(trace), dealt_of(config, trace), []
+    for flow, members in flows.items():
+        if (trace[members[0]]["names"] or (None, None))[1] != name:
+            continue
+        lines.append(" ".join([f"flow {flow:016x} hand", *map(str, dealt[flow])]) + of_names(trace, members))
+        covers = []
+        for other, its_members in flows.items():
+            shared = [queue for queue in dealt[flow] if queue in dealt[other]]
+            if other != flow and shared:
+                lines.append(" ".join(["  shares", *map(str, shared), "with", f"{other:016x}", *names_of(trace, its_members)]))
+                covers += [f"{other:016x}"] if shared == dealt[flow] else []
+        if covers:
+            lines.append(" ".join(["  covered by", *covers]))
+    return lines
+
+
 def answer(command, contents, *patience):
     """The status, output and errors of one of these commands, on files of these bytes that are judged in this order."""
     try:

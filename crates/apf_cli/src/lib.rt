@@ -4,12 +4,13 @@
 //!
 //! - `files`: where the files' bytes come from.
 //! - `explaining`: says what is wrong with files.
-//! - `traces`, `pictures`: do the commands on a trace. `audits`: does that on an audit log.
+//! - `traces`, `comparing`, `pictures`: do the commands on a trace. `audits`: does that on an audit log.
 //! - `program`: does the others, and answers the status.
 //! - `faults`: the lines on standard error.
 #![tactic(auto)]
 
 mod audits;
+mod comparing;
 mod explaining;
 mod faults;
 mod files;
@@ -17,6 +18,6 @@ mod pictures;
 mod program;
 mod traces;
 
-pub use apf_commands::{Action, read_words};
+pub use apf_commands::{Action, read_patience, read_words};
 pub use files::{FileFault, Files};
 pub use program::act;

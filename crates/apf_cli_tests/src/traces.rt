@@ -36,7 +36,7 @@ fn prints<R: Abort + Wait + Threads + Sync>(rt: &R, alloc: Global, words: &[&str
 
 #[test]
 fn simulates_without_patience(rt: HostRuntime) {
-    let words = ["apf", "simulate", "config", "trace", "0"];
+    let words = ["apf", "simulate", "config", "trace", "0ms"];
     let out = "flow b2cfa8521298df5f requests 6 executed 4 rejected 2 cancelled 0 seat-time 400 \
         wait median 0 p99 120 longest 120 of \"batch\" \"crawler\"\n\
         flow f7c495a40a0feec0 requests 3 executed 3 rejected 0 cancelled 0 seat-time 80 \
@@ -62,6 +62,51 @@ fn simulates_with_patience(rt: HostRuntime) {
         queue-full 2 closed 0 concurrency-limit 0\n\
         entered 4 dispatched 2 struck 2\n";
     prints(&rt, rt.alloc(), &words, out);
+}
+
+// The two runs above, of each request.
+#[test]
+fn fates(rt: HostRuntime) {
+    let words = ["apf", "fates", "config", "trace", "90us"];
+    let out = "request flow arrival queue start end decision schema distinguisher\n\
+        0 b2cfa8521298df5f 0 - 0 100 execute \"batch\" \"crawler\"\n\
+        1 b2cfa8521298df5f 0 - 0 100 execute \"batch\" \"crawler\"\n\
+        2 b2cfa8521298df5f 0 1 - 90 cancelled \"batch\" \"crawler\"\n\
+        3 b2cfa8521298df5f 0 1 - 90 cancelled \"batch\" \"crawler\"\n\
+        4 b2cfa8521298df5f 0 - - 0 queue-full \"batch\" \"crawler\"\n\
+        5 b2cfa8521298df5f 0 - - 0 queue-full \"batch\" \"crawler\"\n\
+        6 f7c495a40a0feec0 50 0 100 120 execute \"users\" \"alice\"\n\
+        7 f7c495a40a0feec0 60 0 120 140 execute \"users\" \"alice\"\n\
+        8 f7c495a40a0feec0 400 - 400 420 execute \"users\" \"alice\"\n";
+    prints(&rt, rt.alloc(), &words, out);
+}
+
+// On the same level twice nothing changes, so the flows stand in the order of their first requests.
+#[test]
+fn compares_a_level_with_itself(rt: HostRuntime) {
+    let words = ["apf", "compare", "config", "config", "trace", "0"];
+    let out = "flow requests median median-2 p99 p99-2 longest longest-2 rejected rejected-2 \
+        cancelled cancelled-2 schema distinguisher\n\
+        b2cfa8521298df5f 6 0 0 120 120 120 120 2 2 0 0 \"batch\" \"crawler\"\n\
+        f7c495a40a0feec0 3 50 50 160 160 160 160 0 0 0 0 \"users\" \"alice\"\n\
+        whole 9 50 50 160 160 160 160 2 2 0 0\n";
+    prints(&rt, rt.alloc(), &words, out);
+}
+
+// A patience that is none is told before any file is read.
+#[test]
+fn bad_patience(rt: HostRuntime) {
+    let line = "apf: PATIENCE must be a whole number, alone or with us, ms or s behind it, of at most 1000000000 microseconds\n";
+    let rows: [&[&str]; 5] = [
+        &["apf", "simulate", "absent", "trace", "x"],
+        &["apf", "timeline", "absent", "trace", "1000000001"],
+        &["apf", "picture", "absent", "trace", "1001s"],
+        &["apf", "fates", "absent", "trace", ""],
+        &["apf", "compare", "absent", "config", "trace", "1.5s"],
+    ];
+    for words in rows {
+        check(&rt, of(rt.alloc(), CONFIG, TRACE), words, 2, "", line);
+    }
 }
 
 #[test]
@@ -134,7 +179,9 @@ fn empty_trace(rt: HostRuntime) {
         executed 0 rejected 0 cancelled 0 undecided 0\n\
         queue-full 0 closed 0 concurrency-limit 0\n\
         entered 0 dispatched 0 struck 0\n";
-    let rows: [(&[&str], &str); 4] = [
+    let fates = "request flow arrival queue start end decision schema distinguisher\n";
+    let rows: [(&[&str], &str); 5] = [
+        (&["apf", "fates", "config", "trace", "1"], fates),
         (&["apf", "simulate", "config", "trace", "1"], book),
         (&["apf", "timeline", "config", "trace", "0"], ""),
         (&["apf", "requests", "trace"], "[\n]\n"),
@@ -148,7 +195,9 @@ fn empty_trace(rt: HostRuntime) {
 // A hand that can't be dealt is told after the files, with the words of each command on a level.
 #[test]
 fn dealer_fault_after_the_trace(rt: HostRuntime) {
-    let rows: [&[&str]; 3] = [
+    let rows: [&[&str]; 5] = [
+        &["apf", "fates", "config", "trace", "0"],
+        &["apf", "compare", "config", "config", "trace", "0"],
         &["apf", "simulate", "config", "trace", "0"],
         &["apf", "timeline", "config", "trace", "0"],
         &["apf", "hands", "config", "trace"],

@@ -169,8 +169,9 @@ from the trace's beginning:
   schema, distinguisher  two texts, of which the hash is made
   width             seats that the request takes, 1 to 20000; 1 if absent
   cost              what a dispatch is charged, 1 to 20000; the width if absent
-PATIENCE is in microseconds. A request that waits so long after its arrival gives up. With 0 nobody
-gives up. An API server lets a request wait for a quarter of its time-out, by default 15000000.
+PATIENCE is a whole number with s, ms or us behind it, or a plain number of microseconds: 0 to 1000 s.
+A request that waits so long after its arrival gives up. With 0 nobody gives up. An API server lets
+a request wait for a quarter of its time-out, by default 15s.
 
 Prints a line for each flow, in the order of their first requests, a line of the whole, and the
 book of apf replay:
@@ -184,14 +185,14 @@ book of apf replay:
   end T        when the last thing was done, in microseconds
   of V         the level's limit times the end
   waited W     microseconds that all requests waited, those that gave up too
-  patience P   PATIENCE
+  patience P   PATIENCE in microseconds
 
 Example:
   $ cat config.json trace.jsonl
   {\"limit\":1}
   {\"hash\":0,\"arrivesAt\":0,\"runsFor\":100}
   {\"hash\":0,\"arrivesAt\":40,\"runsFor\":100}
-  $ apf simulate config.json trace.jsonl 15000000
+  $ apf simulate config.json trace.jsonl 15s
   flow 0000000000000000 requests 2 executed 2 rejected 0 cancelled 0 seat-time 200 wait median 0 p99 60 longest 60
   end 200 seat-time 200 of 200 waited 60 patience 15000000
   level open seats 0 waiting 0
@@ -209,12 +210,57 @@ request that gives up, in the order of their times in microseconds. Of one time 
 then those who give up, then the arrivals, each by the requests' numbers. The script has no times.
 
 It simulates this level by this project's rules, and not kube-apiserver. TRACE is JSON Lines, and
-PATIENCE is in microseconds; apf simulate --help says what they and CONFIG hold.
+PATIENCE is as 15s or in microseconds; apf simulate --help says what they and CONFIG hold.
 
 Example, and the same run by apf replay:
-  apf timeline config.json trace.jsonl 15000000 >script.txt
+  apf timeline config.json trace.jsonl 15s >script.txt
   apf requests trace.jsonl >requests.json
   apf replay config.json requests.json script.txt
+
+Status: 0 done, 1 a file's fault or output that can't be written, 2 a command line's fault,
+3 no memory.";
+
+/// Of `compare`.
+pub(crate) const COMPARE: &str = "\
+Simulates the trace on the level of CONFIG, and on that of OTHER. Prints a line of names, a line for
+each flow, and a line of the whole. First come the flows whose longest wait changes most. Each number
+stands twice: on the one level, and on the other.
+  flow        the flow's hash, in hexadecimal digits; whole for all requests
+  requests    how many it has
+  median, p99, longest  microseconds that its executed requests waited: median, 99th percentile, most
+  rejected    requests that were rejected
+  cancelled   requests that gave up
+  schema, distinguisher  as JSON texts; nothing where the flow's first request gives the hash
+
+It simulates these levels by this project's rules, and not kube-apiserver. TRACE is JSON Lines, and
+PATIENCE is as 15s or in microseconds; apf simulate --help says what they and CONFIG hold.
+
+Example, and what happens to the longest waits:
+  apf compare config.json other.json trace.jsonl 15s | column -t
+  apf compare config.json other.json trace.jsonl 15s | awk '{ print $7, $8, $NF }'
+
+Status: 0 done, 1 a file's fault or output that can't be written, 2 a command line's fault,
+3 no memory.";
+
+/// Of `fates`.
+pub(crate) const FATES: &str = "\
+Prints what became of each request in the run that apf simulate makes: a line of names, and a line
+for each request, in the order of their arrivals. Times are microseconds.
+  request   its number, from 0
+  flow      its flow's hash, in hexadecimal digits
+  arrival   when it arrived
+  queue     the number of the queue that it entered, or -
+  start     when it took its seats, or -
+  end       when it finished, gave up or was rejected
+  decision  execute, queue-full, concurrency-limit, or cancelled if it gave up
+  schema, distinguisher  as JSON texts; nothing where its line of the trace gives the hash
+
+It simulates this level by this project's rules, and not kube-apiserver. TRACE is JSON Lines, and
+PATIENCE is as 15s or in microseconds; apf simulate --help says what they and CONFIG hold.
+
+Example, and who waited for more than a second:
+  apf fates config.json trace.jsonl 15s | column -t
+  apf fates config.json trace.jsonl 15s | awk '$5 - $3 > 1000000'
 
 Status: 0 done, 1 a file's fault or output that can't be written, 2 a command line's fault,
 3 no memory.";
@@ -263,10 +309,10 @@ in the row of its flow, and marks where a request was rejected or gave up. At mo
 a row of their own, those with most requests. Times are microseconds in the files.
 
 It simulates this level by this project's rules, and not kube-apiserver. TRACE is JSON Lines, and
-PATIENCE is in microseconds; apf simulate --help says what they and CONFIG hold.
+PATIENCE is as 15s or in microseconds; apf simulate --help says what they and CONFIG hold.
 
 Example:
-  apf picture config.json trace.jsonl 15000000 >picture.svg
+  apf picture config.json trace.jsonl 15s >picture.svg
 
 Status: 0 done, 1 a file's fault or output that can't be written, 2 a command line's fault,
 3 no memory.";
@@ -285,7 +331,7 @@ portforward, proxy and log. At most 10000 events are taken.
 
 Example, from a log to a picture:
   apf trace audit.log users >trace.jsonl
-  apf picture config.json trace.jsonl 15000000 >picture.svg
+  apf picture config.json trace.jsonl 15s >picture.svg
 
 Status: 0 done, 1 a file's fault or output that can't be written, 2 a command line's fault or a
 SCHEMA that is too long, 3 no memory.";

@@ -56,7 +56,7 @@ def replayed(config, requests, script):
 def line_of_whole(config, record):
     """The line of the whole by areas: the seats in use over time, and the number of those that wait."""
     end, seats, waits = record.areas()
-    return f"end {end} seat-time {seats} of {config['limit'] * end} waited {waits}"
+    return f"end {end} seat-time {seats} of {config['limit'] * end} waited {waits} patience {record.patience}"
 
 
 # what happens in a drawn run, and in how many of 300 at least
@@ -151,7 +151,7 @@ FALSE_SUMS = [
     ("the rejected requests are of three kinds, and none is closed", "queue-full 2 closed 0", "queue-full 1 closed 1"),
     ("the seat-time is that of the flows", "seat-time 280", "seat-time 281"),
     ("what could be used is the limit times the end", "of 840", "of 841"),
-    ("the waits of a flow ascend", "wait 50 60 60", "wait 60 50 60"),
+    ("the waits of a flow ascend", "wait median 50 p99 60 longest 60", "wait median 60 p99 50 longest 60"),
     ("the level is empty", "seats 0 waiting 0", "seats 1 waiting 0"),
     ("each request that entered was dispatched or struck", "struck 2", "struck 1"),
 ]

@@ -114,8 +114,8 @@ class Record:
 
 
 FORM = re.compile(
-    r"(flow [0-9a-f]{16} requests \d+ executed \d+ rejected \d+ cancelled \d+ seat-time \d+ wait \d+ \d+ \d+( of \".*\" \".*\")?\n)*"
-    r"end \d+ seat-time \d+ of \d+ waited \d+\n"
+    r"(flow [0-9a-f]{16} requests \d+ executed \d+ rejected \d+ cancelled \d+ seat-time \d+ wait median \d+ p99 \d+ longest \d+( of \".*\" \".*\")?\n)*"
+    r"end \d+ seat-time \d+ of \d+ waited \d+ patience \d+\n"
     r"level (open|closed) seats \d+ waiting \d+\n"
     r"executed \d+ rejected \d+ cancelled \d+ undecided \d+\n"
     r"queue-full \d+ closed \d+ concurrency-limit \d+\n"
@@ -139,7 +139,7 @@ def sums_broken(trace, config, lines):
         ("the rejected requests are of three kinds, and none is closed", sum(int(it) for it in rejected[1::2]) == book[1] and rejected[3] == "0"),
         ("the seat-time is that of the flows", numbers["seats"] == int(end[3])),
         ("what could be used is the limit times the end", int(end[5]) == config["limit"] * int(end[1])),
-        ("the waits of a flow ascend", all(int(flow[13]) <= int(flow[14]) <= int(flow[15]) for flow in flows)),
+        ("the waits of a flow ascend", all(int(flow[14]) <= int(flow[16]) <= int(flow[18]) for flow in flows)),
         ("the level is empty", level == "level open seats 0 waiting 0".split(" ")),
         ("each request that entered was dispatched or struck", int(log[1]) == int(log[3]) + int(log[5]) and int(log[5]) == book[2]),
     ]

@@ -93,14 +93,14 @@ def flow_line(run, flow, members):
         f"flow {flow:016x} requests {len(members)}"
         f" executed {executed} rejected {len(members) - executed - cancelled} cancelled {cancelled}"
         f" seat-time {sum(map(run.seat_time, members))}"
-        f" wait {nearest_rank(waits, 50)} {nearest_rank(waits, 99)} {max(waits, default=0)}{of_names(run.trace, members)}"
+        f" wait median {nearest_rank(waits, 50)} p99 {nearest_rank(waits, 99)} longest {max(waits, default=0)}{of_names(run.trace, members)}"
     )
 
 
 def simulate(run):
     flows = [flow_line(run, flow, members) for flow, members in flows_of(run.trace).items()]
     used, waited = (sum(map(each, range(len(run.trace)))) for each in (run.seat_time, run.wait))
-    end = f"end {run.end()} seat-time {used} of {run.config['limit'] * run.end()} waited {waited}"
+    end = f"end {run.end()} seat-time {used} of {run.config['limit'] * run.end()} waited {waited} patience {run.patience}"
     return [*flows, end, *run.level.transcript().splitlines()[-4:]]
 
 
@@ -118,12 +118,35 @@ def requests(trace):
     return ["[", *(f"{line}," for line in lines[:-1]), *lines[-1:], "]"]
 
 
-def hands(config, trace):
-    """The queues of each hand, and those that are shared, in the order in which they were dealt. A level that rejects deals none."""
-    flows, lines = flows_of(trace), []
+def dealt_of(config, trace):
+    """The queues of each flow's hand, in the order in which they were dealt. A level that rejects deals none."""
     queues = config["queues"] if config["limitResponse"] == "Queue" else 0
-    dealt = {flow: hand_of(queues, config["handSize"] if queues else 0, flow) for flow in flows}
+    return {flow: hand_of(queues, config["handSize"] if queues else 0, flow) for flow in flows_of(trace)}
+
+
+def hands(config, trace):
+    """Each hand, with how many other flows have each of its queues, and the first ten of those that have all of them."""
+    dealt, lines = dealt_of(config, trace), []
+    for flow, members in flows_of(trace).items():
+        lines.append(" ".join([f"flow {flow:016x} hand", *map(str, dealt[flow])]) + of_names(trace, members))
+        others = {it: set(hand) for it, hand in dealt.items() if it != flow}
+        for queue in dealt[flow]:
+            if sharers := sum(queue in hand for hand in others.values()):
+                lines.append(f"  shares {queue} with {sharers} flows")
+        covers = [f"{it:016x}" for it, hand in others.items() if dealt[flow] and hand.issuperset(dealt[flow])]
+        if covers:
+            lines.append(" ".join(["  covered by", *covers[:10]]))
+        if covers[10:]:
+            lines.append(f"  covered by {len(covers[10:])} more")
+    return lines
+
+
+def hands_of(config, trace, name):
+    """The hands of the flows of a distinguisher, and all who share a queue with each."""
+    flows, dealt, lines = flows_of(trace), dealt_of(config, trace), []
     for flow, members in flows.items():
+        if (trace[members[0]]["names"] or (None, None))[1] != name:
+            continue
         lines.append(" ".join([f"flow {flow:016x} hand", *map(str, dealt[flow])]) + of_names(trace, members))
         covers = []
         for other, its_members in flows.items():

@@ -22,9 +22,9 @@ WORKED = [
             (
                 simulate,
                 0,
-                'flow b2cfa8521298df5f requests 6 executed 4 rejected 2 cancelled 0 seat-time 400 wait 0 120 120 of "batch" "crawler"\n'
-                'flow f7c495a40a0feec0 requests 3 executed 3 rejected 0 cancelled 0 seat-time 80 wait 50 160 160 of "users" "alice"\n'
-                "end 420 seat-time 480 of 840 waited 430\n"
+                'flow b2cfa8521298df5f requests 6 executed 4 rejected 2 cancelled 0 seat-time 400 wait median 0 p99 120 longest 120 of "batch" "crawler"\n'
+                'flow f7c495a40a0feec0 requests 3 executed 3 rejected 0 cancelled 0 seat-time 80 wait median 50 p99 160 longest 160 of "users" "alice"\n'
+                "end 420 seat-time 480 of 840 waited 430 patience 0\n"
                 "level open seats 0 waiting 0\n"
                 "executed 7 rejected 2 cancelled 0 undecided 0\n"
                 "queue-full 2 closed 0 concurrency-limit 0\n"
@@ -33,9 +33,9 @@ WORKED = [
             (
                 simulate,
                 90,
-                'flow b2cfa8521298df5f requests 6 executed 2 rejected 2 cancelled 2 seat-time 200 wait 0 0 0 of "batch" "crawler"\n'
-                'flow f7c495a40a0feec0 requests 3 executed 3 rejected 0 cancelled 0 seat-time 80 wait 50 60 60 of "users" "alice"\n'
-                "end 420 seat-time 280 of 840 waited 290\n"
+                'flow b2cfa8521298df5f requests 6 executed 2 rejected 2 cancelled 2 seat-time 200 wait median 0 p99 0 longest 0 of "batch" "crawler"\n'
+                'flow f7c495a40a0feec0 requests 3 executed 3 rejected 0 cancelled 0 seat-time 80 wait median 50 p99 60 longest 60 of "users" "alice"\n'
+                "end 420 seat-time 280 of 840 waited 290 patience 90\n"
                 "level open seats 0 waiting 0\n"
                 "executed 5 rejected 2 cancelled 2 undecided 0\n"
                 "queue-full 2 closed 0 concurrency-limit 0\n"
@@ -79,8 +79,8 @@ WORKED = [
             (
                 simulate,
                 10,
-                "flow 0000000000000000 requests 3 executed 2 rejected 0 cancelled 1 seat-time 15 wait 0 10 10\n"
-                "end 15 seat-time 15 of 15 waited 20\n"
+                "flow 0000000000000000 requests 3 executed 2 rejected 0 cancelled 1 seat-time 15 wait median 0 p99 10 longest 10\n"
+                "end 15 seat-time 15 of 15 waited 20 patience 10\n"
                 "level open seats 0 waiting 0\n"
                 "executed 2 rejected 0 cancelled 1 undecided 0\n"
                 "queue-full 0 closed 0 concurrency-limit 0\n"
@@ -97,8 +97,8 @@ WORKED = [
             (
                 simulate,
                 10,
-                "flow 0000000000000000 requests 3 executed 1 rejected 0 cancelled 2 seat-time 100 wait 0 0 0\n"
-                "end 100 seat-time 100 of 100 waited 20\n"
+                "flow 0000000000000000 requests 3 executed 1 rejected 0 cancelled 2 seat-time 100 wait median 0 p99 0 longest 0\n"
+                "end 100 seat-time 100 of 100 waited 20 patience 10\n"
                 "level open seats 0 waiting 0\n"
                 "executed 1 rejected 0 cancelled 2 undecided 0\n"
                 "queue-full 0 closed 0 concurrency-limit 0\n"
@@ -116,8 +116,8 @@ WORKED = [
             (
                 simulate,
                 0,
-                "flow 0000000000000000 requests 3 executed 3 rejected 0 cancelled 0 seat-time 2 wait 0 0 0\n"
-                "end 5 seat-time 2 of 5 waited 0\n"
+                "flow 0000000000000000 requests 3 executed 3 rejected 0 cancelled 0 seat-time 2 wait median 0 p99 0 longest 0\n"
+                "end 5 seat-time 2 of 5 waited 0 patience 0\n"
                 "level open seats 0 waiting 0\n"
                 "executed 3 rejected 0 cancelled 0 undecided 0\n"
                 "queue-full 0 closed 0 concurrency-limit 0\n"
@@ -134,8 +134,8 @@ WORKED = [
             (
                 simulate,
                 50,
-                "flow 0000000000000000 requests 3 executed 2 rejected 0 cancelled 1 seat-time 100 wait 0 40 40\n"
-                "end 100 seat-time 100 of 200 waited 90\n"
+                "flow 0000000000000000 requests 3 executed 2 rejected 0 cancelled 1 seat-time 100 wait median 0 p99 40 longest 40\n"
+                "end 100 seat-time 100 of 200 waited 90 patience 50\n"
                 "level open seats 0 waiting 0\n"
                 "executed 2 rejected 0 cancelled 1 undecided 0\n"
                 "queue-full 0 closed 0 concurrency-limit 0\n"
@@ -152,8 +152,8 @@ WORKED = [
             (
                 simulate,
                 0,
-                "flow 0000000000000000 requests 3 executed 3 rejected 0 cancelled 0 seat-time 70 wait 9 18 18\n"
-                "end 30 seat-time 70 of 60 waited 27\n"
+                "flow 0000000000000000 requests 3 executed 3 rejected 0 cancelled 0 seat-time 70 wait median 9 p99 18 longest 18\n"
+                "end 30 seat-time 70 of 60 waited 27 patience 0\n"
                 "level open seats 0 waiting 0\n"
                 "executed 3 rejected 0 cancelled 0 undecided 0\n"
                 "queue-full 0 closed 0 concurrency-limit 0\n"
@@ -171,9 +171,9 @@ WORKED = [
             (
                 simulate,
                 3,
-                "flow 0000000000000000 requests 2 executed 2 rejected 0 cancelled 0 seat-time 20 wait 0 0 0\n"
-                "flow 0000000000000001 requests 1 executed 0 rejected 1 cancelled 0 seat-time 0 wait 0 0 0\n"
-                "end 20 seat-time 20 of 20 waited 0\n"
+                "flow 0000000000000000 requests 2 executed 2 rejected 0 cancelled 0 seat-time 20 wait median 0 p99 0 longest 0\n"
+                "flow 0000000000000001 requests 1 executed 0 rejected 1 cancelled 0 seat-time 0 wait median 0 p99 0 longest 0\n"
+                "end 20 seat-time 20 of 20 waited 0 patience 3\n"
                 "level open seats 0 waiting 0\n"
                 "executed 2 rejected 1 cancelled 0 undecided 0\n"
                 "queue-full 0 closed 0 concurrency-limit 1\n"
@@ -191,9 +191,9 @@ WORKED = [
             (
                 simulate,
                 0,
-                "flow 0000000000000001 requests 3 executed 3 rejected 0 cancelled 0 seat-time 30 wait 9 19 19\n"
-                "flow 0000000000000000 requests 2 executed 2 rejected 0 cancelled 0 seat-time 20 wait 29 39 39\n"
-                "end 50 seat-time 50 of 50 waited 96\n"
+                "flow 0000000000000001 requests 3 executed 3 rejected 0 cancelled 0 seat-time 30 wait median 9 p99 19 longest 19\n"
+                "flow 0000000000000000 requests 2 executed 2 rejected 0 cancelled 0 seat-time 20 wait median 29 p99 39 longest 39\n"
+                "end 50 seat-time 50 of 50 waited 96 patience 0\n"
                 "level open seats 0 waiting 0\n"
                 "executed 5 rejected 0 cancelled 0 undecided 0\n"
                 "queue-full 0 closed 0 concurrency-limit 0\n"
@@ -211,9 +211,9 @@ WORKED = [
             (
                 simulate,
                 0,
-                "flow 0000000000000001 requests 3 executed 3 rejected 0 cancelled 0 seat-time 30 wait 19 39 39\n"
-                "flow 0000000000000000 requests 2 executed 2 rejected 0 cancelled 0 seat-time 20 wait 9 29 29\n"
-                "end 50 seat-time 50 of 50 waited 96\n"
+                "flow 0000000000000001 requests 3 executed 3 rejected 0 cancelled 0 seat-time 30 wait median 19 p99 39 longest 39\n"
+                "flow 0000000000000000 requests 2 executed 2 rejected 0 cancelled 0 seat-time 20 wait median 9 p99 29 longest 29\n"
+                "end 50 seat-time 50 of 50 waited 96 patience 0\n"
                 "level open seats 0 waiting 0\n"
                 "executed 5 rejected 0 cancelled 0 undecided 0\n"
                 "queue-full 0 closed 0 concurrency-limit 0\n"
@@ -233,9 +233,9 @@ WORKED = [
             (
                 simulate,
                 0,
-                "flow 0000000000000000 requests 3 executed 3 rejected 0 cancelled 0 seat-time 40 wait 19 19 19\n"
-                "flow 0000000000000001 requests 1 executed 1 rejected 0 cancelled 0 seat-time 20 wait 9 9 9\n"
-                "end 30 seat-time 60 of 60 waited 47\n"
+                "flow 0000000000000000 requests 3 executed 3 rejected 0 cancelled 0 seat-time 40 wait median 19 p99 19 longest 19\n"
+                "flow 0000000000000001 requests 1 executed 1 rejected 0 cancelled 0 seat-time 20 wait median 9 p99 9 longest 9\n"
+                "end 30 seat-time 60 of 60 waited 47 patience 0\n"
                 "level open seats 0 waiting 0\n"
                 "executed 4 rejected 0 cancelled 0 undecided 0\n"
                 "queue-full 0 closed 0 concurrency-limit 0\n"
@@ -255,9 +255,9 @@ WORKED = [
             (
                 simulate,
                 0,
-                "flow b2cfa8521298df5f requests 2 executed 2 rejected 0 cancelled 0 seat-time 2 wait 0 0 0\n"
-                'flow 318d292d6ad4546e requests 1 executed 1 rejected 0 cancelled 0 seat-time 1 wait 0 0 0 of "a\\"\\\\\\n\\u0001\x7f/ä😀" ""\n'
-                "end 10 seat-time 3 of 50 waited 0\n"
+                "flow b2cfa8521298df5f requests 2 executed 2 rejected 0 cancelled 0 seat-time 2 wait median 0 p99 0 longest 0\n"
+                'flow 318d292d6ad4546e requests 1 executed 1 rejected 0 cancelled 0 seat-time 1 wait median 0 p99 0 longest 0 of "a\\"\\\\\\n\\u0001\x7f/ä😀" ""\n'
+                "end 10 seat-time 3 of 50 waited 0 patience 0\n"
                 "level open seats 0 waiting 0\n"
                 "executed 3 rejected 0 cancelled 0 undecided 0\n"
                 "queue-full 0 closed 0 concurrency-limit 0\n"
@@ -267,10 +267,10 @@ WORKED = [
                 hands,
                 None,
                 "flow b2cfa8521298df5f hand 0\n"
-                '  shares 0 with 318d292d6ad4546e "a\\"\\\\\\n\\u0001\x7f/ä😀" ""\n'
+                "  shares 0 with 1 flows\n"
                 "  covered by 318d292d6ad4546e\n"
                 'flow 318d292d6ad4546e hand 0 of "a\\"\\\\\\n\\u0001\x7f/ä😀" ""\n'
-                "  shares 0 with b2cfa8521298df5f\n"
+                "  shares 0 with 1 flows\n"
                 "  covered by b2cfa8521298df5f\n",
             ),
             (
@@ -291,15 +291,14 @@ WORKED = [
                 hands,
                 None,
                 "flow 0000000000000000 hand 0 1\n"
-                "  shares 1 with 0000000000000005\n"
-                "  shares 0 1 with 0000000000000001\n"
+                "  shares 0 with 1 flows\n"
+                "  shares 1 with 2 flows\n"
                 "  covered by 0000000000000001\n"
                 "flow 0000000000000005 hand 1 2\n"
-                "  shares 1 with 0000000000000000\n"
-                "  shares 1 with 0000000000000001\n"
+                "  shares 1 with 2 flows\n"
                 "flow 0000000000000001 hand 1 0\n"
-                "  shares 1 0 with 0000000000000000\n"
-                "  shares 1 with 0000000000000005\n"
+                "  shares 1 with 2 flows\n"
+                "  shares 0 with 1 flows\n"
                 "  covered by 0000000000000000\n",
             ),
         ],
@@ -313,8 +312,8 @@ WORKED = [
             (
                 simulate,
                 1_000_000_000,
-                "flow ffffffffffffffff requests 1 executed 1 rejected 0 cancelled 0 seat-time 200000000000000 wait 0 0 0\n"
-                "end 1010000000000 seat-time 200000000000000 of 10100000000000000 waited 0\n"
+                "flow ffffffffffffffff requests 1 executed 1 rejected 0 cancelled 0 seat-time 200000000000000 wait median 0 p99 0 longest 0\n"
+                "end 1010000000000 seat-time 200000000000000 of 10100000000000000 waited 0 patience 1000000000\n"
                 "level open seats 0 waiting 0\n"
                 "executed 1 rejected 0 cancelled 0 undecided 0\n"
                 "queue-full 0 closed 0 concurrency-limit 0\n"
@@ -332,7 +331,7 @@ WORKED = [
             (
                 simulate,
                 1,
-                "end 0 seat-time 0 of 0 waited 0\n"
+                "end 0 seat-time 0 of 0 waited 0 patience 1\n"
                 "level open seats 0 waiting 0\n"
                 "executed 0 rejected 0 cancelled 0 undecided 0\n"
                 "queue-full 0 closed 0 concurrency-limit 0\n"

@@ -29,6 +29,8 @@ pub enum Fault {
     Told(Vec<u8>),
     /// The name of the flow schema is longer than a trace can hold.
     LongSchema,
+    /// The patience is no time, or more than 1,000 seconds.
+    BadPatience,
     /// The level was not opened, for another cause than the dealer's. What the readers accept has none.
     Level(ReplayFault),
     CannotRead(Input, Cause),
@@ -49,7 +51,7 @@ impl Fault {
     /// fault; 3 out of memory, or a worker that could not be started.
     pub fn status(&self) -> u8 {
         match self {
-            Fault::Dealer(_, Sizes::OfCommandLine) | Fault::TwoInputs | Fault::LongSchema => 2,
+            Fault::Dealer(_, Sizes::OfCommandLine) | Fault::TwoInputs | Fault::LongSchema | Fault::BadPatience => 2,
             Fault::Worker(_) | Fault::NoMemory => 3,
             Fault::Dealer(_, Sizes::OfConfig)
             | Fault::Config(_)
@@ -195,6 +197,9 @@ impl fmt::Display for Fault {
             // its line stands already
             Fault::Told(_) => Ok(()),
             Fault::LongSchema => f.write_str("apf: SCHEMA is longer than 4096 bytes"),
+            Fault::BadPatience => f.write_str(
+                "apf: PATIENCE must be a whole number, alone or with us, ms or s behind it, of at most 1000000000 microseconds",
+            ),
             Fault::Level(fault) => write!(f, "apf: the level can't be opened: {fault}"),
             Fault::CannotRead(input, _) => write!(f, "apf: cannot read {input}"),
             Fault::TooLarge(input) => {

@@ -4,13 +4,14 @@
 //!
 //! - `files`: where the files' bytes come from.
 //! - `explaining`: says what is wrong with files. `telling` does that for one line on standard error.
-//! - `traces`, `pictures`: do the commands on a trace. `audits`: does that on an audit log.
+//! - `traces`, `comparing`, `pictures`: do the commands on a trace. `audits`: does that on an audit log.
 //! - `measuring`: how large an output will be, before its first byte.
 //! - `program`: does the others, and answers the status.
 //! - `faults`: the lines on standard error.
 #![tactic(auto)]
 
 mod audits;
+mod comparing;
 mod explaining;
 mod faults;
 mod files;
@@ -20,6 +21,6 @@ mod program;
 mod telling;
 mod traces;
 
-pub use apf_commands::{Action, read_words};
+pub use apf_commands::{Action, read_patience, read_words};
 pub use files::{Cause, FileFault, Files};
 pub use program::act;

@@ -46,20 +46,18 @@ fn outcomes_of(alloc: Global, log: &[Event], ends: &[End]) -> Result<Vec<Outcome
 
 /// Simulates the trace on the level of the config, and draws the run as one SVG.
 ///
-/// The patience is 0 to 1,000,000,000 microseconds.
-///
 /// # Errors
 ///
-/// The faults of the files in the order config, trace, then those of the level, then those of the output.
+/// The fault of the patience, then those of the files in the order config, trace, then those of the level, then those
+/// of the output.
 pub(crate) fn print_picture<F: Files, O: Write, R: Wait>(
     rt: &R,
     alloc: Global,
     files: &mut F,
     names: (&str, &str),
-    patience: u32,
+    patience: &str,
     out: &mut O,
 ) -> Result<(), Fault>
-    requires { patience ≤ 1000000000 }
 {
     let (config, trace, simulation) = simulated(rt, alloc, files, names, patience)?;
     let log = simulation.report.log.as_slice();

@@ -2,9 +2,10 @@
 
 ghost use Rattle.std.specs.Prelude.{◌<◌, ◌≤◌, length, IfOk};
 ghost use Rattle.apf_run.specs.Limits.{max_requests};
-ghost use Rattle.apf_commands.specs.Meaning.{HasPatience, HasWorkers};
+ghost use Rattle.apf_commands.specs.Meaning.{HasWorkers};
 
 use crate::audits::print_trace;
+use crate::comparing::{print_comparison, print_fates};
 use crate::explaining::print_explanation;
 use crate::faults::{Fault, Sizes};
 use crate::files::{Files, Input, judge_names, read_input};
@@ -110,8 +111,7 @@ fn perform<F: Files, O: Write, E: Write, R: Wait + Threads + Sync>(
     out: &mut O,
     err: &mut E,
 ) -> Result<(), Fault>
-    requires workers { HasWorkers action }
-    requires patience { HasPatience action }
+    requires { HasWorkers action }
 {
     match action {
         Action::Hash {
@@ -154,6 +154,17 @@ fn perform<F: Files, O: Write, E: Write, R: Wait + Threads + Sync>(
             trace,
             patience,
         } => print_timeline(rt, alloc, files, (config, trace), patience, out)?,
+        Action::Compare {
+            config,
+            other,
+            trace,
+            patience,
+        } => print_comparison(rt, alloc, files, (config, other, trace), patience, out)?,
+        Action::Fates {
+            config,
+            trace,
+            patience,
+        } => print_fates(rt, alloc, files, (config, trace), patience, out)?,
         Action::Requests { trace } => print_requests(alloc, files, trace, out)?,
         Action::Picture {
             config,
@@ -191,7 +202,7 @@ fn print_refusal<O: Write, E: Write>(
 /// faults of `deal` and standard input named twice among them; 3 out of memory or a worker that could not start. Before the
 /// status is 1, 2 or 3, one fault is printed on `err`, and a write to it that fails changes no
 /// status. A fault prints nothing on `out`, except that a failed write may have written a beginning.
-#[tactic(auto, using(crate::proofs::Workers::has_workers, crate::proofs::Workers::has_patience))]
+#[tactic(auto, using(crate::proofs::Workers::has_workers))]
 pub fn act<F: Files, O: Write, E: Write, R: Wait + Threads + Sync>(
     rt: &R,
     alloc: Global,

@@ -8,6 +8,7 @@ use crate::faults::Fault;
 use crate::files::{Files, Input, judge_names, read_input};
 use crate::measuring::Measure;
 use crate::telling::{named, trace_fault};
+use apf_commands::read_patience;
 use apf_flows::{write_hands, write_requests};
 use apf_run::{Config, read_config, write_book};
 use apf_simulation::{Simulation, simulate};
@@ -16,8 +17,22 @@ use std::alloc::Global;
 use std::io::Write;
 use std::sync::Wait;
 
-// Reads the trace.
-fn read_requests<F: Files>(
+/// The patience that a command line names, in microseconds.
+///
+/// # Errors
+///
+/// `BadPatience` if it is no time, or more than 1,000 seconds.
+pub(crate) fn patience_of(text: &str) -> Result<u64, Fault>
+    ensures { IfOk result (λ patience. patience ≤ 1000000000) }
+{
+    match read_patience(text) {
+        Some(patience) => Ok(u64::from(patience)),
+        None => Err(Fault::BadPatience),
+    }
+}
+
+/// Reads the trace.
+pub(crate) fn read_requests<F: Files>(
     alloc: Global,
     files: &mut F,
     trace: &str,
@@ -53,43 +68,41 @@ fn read_both<F: Files>(
 /// A trace with the config of its level, and the simulation of both.
 pub(crate) type Simulated = (Config, Vec<TraceRequest>, Simulation);
 
-/// Reads the two files, and simulates the trace. The patience is 0 to 1,000,000,000 microseconds.
+/// Reads the two files, and simulates the trace.
 ///
 /// # Errors
 ///
-/// The faults of the files in the order config, trace, then those of the level.
+/// The fault of the patience, then those of the files in the order config, trace, then those of the level.
 pub(crate) fn simulated<F: Files, R: Wait>(
     rt: &R,
     alloc: Global,
     files: &mut F,
     names: (&str, &str),
-    patience: u32,
+    patience: &str,
 ) -> Result<Simulated, Fault>
-    requires { patience ≤ 1000000000 }
     ensures few { IfOk result (λ o. vec_len o.1 ≤ max_lines) }
     ensures each { IfOk result (λ o. vec_len o.2.ends ≡ vec_len o.1) }
 {
+    let patience = patience_of(patience)?;
     let (config, trace) = read_both(alloc, files, names)?;
-    let simulation = simulate(rt, alloc, &config, trace.as_slice(), u64::from(patience))?;
+    let simulation = simulate(rt, alloc, &config, trace.as_slice(), patience)?;
     Ok((config, trace, simulation))
 }
 
 /// Simulates the trace on the level of the config, and prints what its flows met and the book.
 ///
-/// The patience is 0 to 1,000,000,000 microseconds.
-///
 /// # Errors
 ///
-/// The faults of the files in the order config, trace, then those of the level, then those of the output.
+/// The fault of the patience, then those of the files in the order config, trace, then those of the level, then those
+/// of the output.
 pub(crate) fn print_simulation<F: Files, O: Write, R: Wait>(
     rt: &R,
     alloc: Global,
     files: &mut F,
     names: (&str, &str),
-    patience: u32,
+    patience: &str,
     out: &mut O,
 ) -> Result<(), Fault>
-    requires { patience ≤ 1000000000 }
 {
     let (_config, trace, simulation) = simulated(rt, alloc, files, names, patience)?;
     simulation
@@ -100,8 +113,6 @@ pub(crate) fn print_simulation<F: Files, O: Write, R: Wait>(
 
 /// Simulates the trace on the level of the config, and prints the script of the simulation.
 ///
-/// The patience is 0 to 1,000,000,000 microseconds.
-///
 /// # Errors
 ///
 /// As for `print_simulation`.
@@ -110,10 +121,9 @@ pub(crate) fn print_timeline<F: Files, O: Write, R: Wait>(
     alloc: Global,
     files: &mut F,
     names: (&str, &str),
-    patience: u32,
+    patience: &str,
     out: &mut O,
 ) -> Result<(), Fault>
-    requires { patience ≤ 1000000000 }
 {
     let (_config, _trace, simulation) = simulated(rt, alloc, files, names, patience)?;
     simulation

@@ -36,12 +36,12 @@ fn prints<R: Abort + Wait + Threads + Sync>(rt: &R, alloc: Global, words: &[&str
 
 #[test]
 fn simulates_without_patience(rt: HostRuntime) {
-    let words = ["apf", "simulate", "config", "trace", "0"];
+    let words = ["apf", "simulate", "config", "trace", "0ms"];
     let out = "flow b2cfa8521298df5f requests 6 executed 4 rejected 2 cancelled 0 seat-time 400 \
-        wait 0 120 120 of \"batch\" \"crawler\"\n\
+        wait median 0 p99 120 longest 120 of \"batch\" \"crawler\"\n\
         flow f7c495a40a0feec0 requests 3 executed 3 rejected 0 cancelled 0 seat-time 80 \
-        wait 50 160 160 of \"users\" \"alice\"\n\
-        end 420 seat-time 480 of 840 waited 430\n\
+        wait median 50 p99 160 longest 160 of \"users\" \"alice\"\n\
+        end 420 seat-time 480 of 840 waited 430 patience 0\n\
         level open seats 0 waiting 0\n\
         executed 7 rejected 2 cancelled 0 undecided 0\n\
         queue-full 2 closed 0 concurrency-limit 0\n\
@@ -53,15 +53,60 @@ fn simulates_without_patience(rt: HostRuntime) {
 fn simulates_with_patience(rt: HostRuntime) {
     let words = ["apf", "simulate", "config", "trace", "90"];
     let out = "flow b2cfa8521298df5f requests 6 executed 2 rejected 2 cancelled 2 seat-time 200 \
-        wait 0 0 0 of \"batch\" \"crawler\"\n\
+        wait median 0 p99 0 longest 0 of \"batch\" \"crawler\"\n\
         flow f7c495a40a0feec0 requests 3 executed 3 rejected 0 cancelled 0 seat-time 80 \
-        wait 50 60 60 of \"users\" \"alice\"\n\
-        end 420 seat-time 280 of 840 waited 290\n\
+        wait median 50 p99 60 longest 60 of \"users\" \"alice\"\n\
+        end 420 seat-time 280 of 840 waited 290 patience 90\n\
         level open seats 0 waiting 0\n\
         executed 5 rejected 2 cancelled 2 undecided 0\n\
         queue-full 2 closed 0 concurrency-limit 0\n\
         entered 4 dispatched 2 struck 2\n";
     prints(&rt, rt.alloc(), &words, out);
+}
+
+// The two runs above, of each request.
+#[test]
+fn fates(rt: HostRuntime) {
+    let words = ["apf", "fates", "config", "trace", "90us"];
+    let out = "request flow arrival queue start end decision schema distinguisher\n\
+        0 b2cfa8521298df5f 0 - 0 100 execute \"batch\" \"crawler\"\n\
+        1 b2cfa8521298df5f 0 - 0 100 execute \"batch\" \"crawler\"\n\
+        2 b2cfa8521298df5f 0 1 - 90 cancelled \"batch\" \"crawler\"\n\
+        3 b2cfa8521298df5f 0 1 - 90 cancelled \"batch\" \"crawler\"\n\
+        4 b2cfa8521298df5f 0 - - 0 queue-full \"batch\" \"crawler\"\n\
+        5 b2cfa8521298df5f 0 - - 0 queue-full \"batch\" \"crawler\"\n\
+        6 f7c495a40a0feec0 50 0 100 120 execute \"users\" \"alice\"\n\
+        7 f7c495a40a0feec0 60 0 120 140 execute \"users\" \"alice\"\n\
+        8 f7c495a40a0feec0 400 - 400 420 execute \"users\" \"alice\"\n";
+    prints(&rt, rt.alloc(), &words, out);
+}
+
+// On the same level twice nothing changes, so the flows stand in the order of their first requests.
+#[test]
+fn compares_a_level_with_itself(rt: HostRuntime) {
+    let words = ["apf", "compare", "config", "config", "trace", "0"];
+    let out = "flow requests median median-2 p99 p99-2 longest longest-2 rejected rejected-2 \
+        cancelled cancelled-2 schema distinguisher\n\
+        b2cfa8521298df5f 6 0 0 120 120 120 120 2 2 0 0 \"batch\" \"crawler\"\n\
+        f7c495a40a0feec0 3 50 50 160 160 160 160 0 0 0 0 \"users\" \"alice\"\n\
+        whole 9 50 50 160 160 160 160 2 2 0 0\n";
+    prints(&rt, rt.alloc(), &words, out);
+}
+
+// A patience that is none is told before any file is read.
+#[test]
+fn bad_patience(rt: HostRuntime) {
+    let line = "apf: PATIENCE must be a whole number, alone or with us, ms or s behind it, of at most 1000000000 microseconds\n";
+    let rows: [&[&str]; 5] = [
+        &["apf", "simulate", "absent", "trace", "x"],
+        &["apf", "timeline", "absent", "trace", "1000000001"],
+        &["apf", "picture", "absent", "trace", "1001s"],
+        &["apf", "fates", "absent", "trace", ""],
+        &["apf", "compare", "absent", "config", "trace", "1.5s"],
+    ];
+    for words in rows {
+        check(&rt, of(rt.alloc(), CONFIG, TRACE), words, 2, "", line);
+    }
 }
 
 #[test]
@@ -113,15 +158,14 @@ fn hands(rt: HostRuntime) {
     let config = "{\"limit\":1,\"queues\":4,\"handSize\":2}";
     let shared = concat!(
         "flow 0000000000000000 hand 0 1\n",
-        "  shares 1 with 0000000000000005\n",
-        "  shares 0 1 with 0000000000000001\n",
+        "  shares 0 with 1 flows\n",
+        "  shares 1 with 2 flows\n",
         "  covered by 0000000000000001\n",
         "flow 0000000000000005 hand 1 2\n",
-        "  shares 1 with 0000000000000000\n",
-        "  shares 1 with 0000000000000001\n",
+        "  shares 1 with 2 flows\n",
         "flow 0000000000000001 hand 1 0\n",
-        "  shares 1 0 with 0000000000000000\n",
-        "  shares 1 with 0000000000000005\n",
+        "  shares 1 with 2 flows\n",
+        "  shares 0 with 1 flows\n",
         "  covered by 0000000000000000\n",
     );
     check(&rt, of(rt.alloc(), config, trace), &words, 0, shared, "");
@@ -130,12 +174,14 @@ fn hands(rt: HostRuntime) {
 // Nothing arrives.
 #[test]
 fn empty_trace(rt: HostRuntime) {
-    let book = "end 0 seat-time 0 of 0 waited 0\n\
+    let book = "end 0 seat-time 0 of 0 waited 0 patience 1\n\
         level open seats 0 waiting 0\n\
         executed 0 rejected 0 cancelled 0 undecided 0\n\
         queue-full 0 closed 0 concurrency-limit 0\n\
         entered 0 dispatched 0 struck 0\n";
-    let rows: [(&[&str], &str); 4] = [
+    let fates = "request flow arrival queue start end decision schema distinguisher\n";
+    let rows: [(&[&str], &str); 5] = [
+        (&["apf", "fates", "config", "trace", "1"], fates),
         (&["apf", "simulate", "config", "trace", "1"], book),
         (&["apf", "timeline", "config", "trace", "0"], ""),
         (&["apf", "requests", "trace"], "[\n]\n"),
@@ -149,7 +195,9 @@ fn empty_trace(rt: HostRuntime) {
 // A hand that can't be dealt is told after the files, with the words of each command on a level.
 #[test]
 fn dealer_fault_after_the_trace(rt: HostRuntime) {
-    let rows: [&[&str]; 3] = [
+    let rows: [&[&str]; 5] = [
+        &["apf", "fates", "config", "trace", "0"],
+        &["apf", "compare", "config", "config", "trace", "0"],
         &["apf", "simulate", "config", "trace", "0"],
         &["apf", "timeline", "config", "trace", "0"],
         &["apf", "hands", "config", "trace"],

@@ -1,4 +1,4 @@
-use apf_cli::{Action, read_words};
+use apf_cli::{Action, read_patience, read_words};
 use clap::Error;
 use clap::error::ErrorKind;
 use std::alloc::Global;
@@ -96,13 +96,13 @@ fn reads_texts(rt: HostRuntime) -> Result<(), Fail> {
             schema: "s"
         }
     );
-    let picture = read_words(alloc, &["apf", "picture", "c", "t", "7"])?;
+    let picture = read_words(alloc, &["apf", "picture", "c", "t", "7s"])?;
     assert_eq!(rt;
         picture,
         Action::Picture {
             config: "c",
             trace: "t",
-            patience: 7
+            patience: "7s"
         }
     );
     let hands = read_words(alloc, &["apf", "hands", "c", "t"])?;
@@ -155,16 +155,11 @@ fn reads_numbers_at_their_ends(rt: HostRuntime) -> Result<(), Fail> {
 }
 
 #[test]
-fn reads_a_patience_at_its_ends(rt: HostRuntime) -> Result<(), Fail> {
+fn reads_the_words_of_simulations(rt: HostRuntime) -> Result<(), Fail> {
     let alloc = rt.alloc();
-    for (word, patience) in [
-        ("0", 0),
-        ("90", 90),
-        ("+1", 1),
-        ("1000000000", 1_000_000_000),
-    ] {
+    for patience in ["0", "15s", "x", ""] {
         assert_eq!(rt;
-            read_words(alloc, &["apf", "simulate", "c", "t", word])?,
+            read_words(alloc, &["apf", "simulate", "c", "t", patience])?,
             Action::Simulate {
                 config: "c",
                 trace: "t",
@@ -172,9 +167,26 @@ fn reads_a_patience_at_its_ends(rt: HostRuntime) -> Result<(), Fail> {
             }
         );
         assert_eq!(rt;
-            read_words(alloc, &["apf", "timeline", "c", "t", word])?,
+            read_words(alloc, &["apf", "timeline", "c", "t", patience])?,
             Action::Timeline {
                 config: "c",
+                trace: "t",
+                patience
+            }
+        );
+        assert_eq!(rt;
+            read_words(alloc, &["apf", "fates", "c", "t", patience])?,
+            Action::Fates {
+                config: "c",
+                trace: "t",
+                patience
+            }
+        );
+        assert_eq!(rt;
+            read_words(alloc, &["apf", "compare", "c", "o", "t", patience])?,
+            Action::Compare {
+                config: "c",
+                other: "o",
                 trace: "t",
                 patience
             }
@@ -183,10 +195,49 @@ fn reads_a_patience_at_its_ends(rt: HostRuntime) -> Result<(), Fail> {
     Ok(())
 }
 
-// Each command on a trace wants all of its words, no more, and a patience in its range.
+// A whole number of microseconds, or one with its unit behind it, to the longest and one more.
+#[test]
+fn reads_a_patience(rt: HostRuntime) {
+    for (text, patience) in [
+        ("0", Some(0)),
+        ("90", Some(90)),
+        ("+1", Some(1)),
+        ("007", Some(7)),
+        ("1000000000", Some(1_000_000_000)),
+        ("1000000001", None),
+        ("250us", Some(250)),
+        ("1000000000us", Some(1_000_000_000)),
+        ("1000000001us", None),
+        ("500ms", Some(500_000)),
+        ("1000000ms", Some(1_000_000_000)),
+        ("1000001ms", None),
+        ("15s", Some(15_000_000)),
+        ("0s", Some(0)),
+        ("1000s", Some(1_000_000_000)),
+        ("1001s", None),
+        ("4294967297s", None),
+        ("18446744073709551616", None),
+        ("", None),
+        ("s", None),
+        ("us", None),
+        ("-1", None),
+        ("-1s", None),
+        ("1.5s", None),
+        ("1 s", None),
+        ("1S", None),
+        ("1m", None),
+        ("1usus", None),
+        ("1e3", None),
+        ("x", None),
+    ] {
+        assert_eq!(rt; read_patience(text), patience, "{text}");
+    }
+}
+
+// Each command on a trace wants all of its words, and no more.
 #[test]
 fn refuses_other_words_of_traces(rt: HostRuntime) {
-    let rows: [(&[&str], ErrorKind); 15] = [
+    let rows: [(&[&str], ErrorKind); 13] = [
         (
             &["apf", "simulate", "c", "t"],
             ErrorKind::MissingRequiredArgument,
@@ -196,16 +247,8 @@ fn refuses_other_words_of_traces(rt: HostRuntime) {
             ErrorKind::UnknownArgument,
         ),
         (
-            &["apf", "simulate", "c", "t", "1000000001"],
-            ErrorKind::ValueValidation,
-        ),
-        (
             &["apf", "simulate", "c", "t", "-1"],
             ErrorKind::UnknownArgument,
-        ),
-        (
-            &["apf", "simulate", "c", "t", "1.0"],
-            ErrorKind::ValueValidation,
         ),
         (
             &["apf", "timeline", "c", "t"],
@@ -216,16 +259,16 @@ fn refuses_other_words_of_traces(rt: HostRuntime) {
             ErrorKind::UnknownArgument,
         ),
         (
-            &["apf", "timeline", "c", "t", "1000000001"],
-            ErrorKind::ValueValidation,
+            &["apf", "fates", "c", "t"],
+            ErrorKind::MissingRequiredArgument,
         ),
         (
-            &["apf", "timeline", "c", "t", "18446744073709551616"],
-            ErrorKind::ValueValidation,
+            &["apf", "compare", "c", "o", "t"],
+            ErrorKind::MissingRequiredArgument,
         ),
         (
-            &["apf", "timeline", "c", "t", "15s"],
-            ErrorKind::ValueValidation,
+            &["apf", "compare", "c", "o", "t", "0", "0"],
+            ErrorKind::UnknownArgument,
         ),
         (&["apf", "requests"], ErrorKind::MissingRequiredArgument),
         (&["apf", "requests", "c", "t"], ErrorKind::UnknownArgument),
@@ -293,7 +336,9 @@ fn refuses_other_words(rt: HostRuntime) {
 
 #[test]
 fn answers_with_help(rt: HostRuntime) -> Result<(), Fail> {
-    let rows: [(&[&str], &str); 8] = [
+    let rows: [(&[&str], &str); 10] = [
+        (&["apf", "compare", "--help"], "median"),
+        (&["apf", "help", "fates"], "concurrency-limit"),
         (&["apf", "simulate", "--help"], "in microseconds"),
         (&["apf", "timeline", "--help"], "not kube-apiserver"),
         (&["apf", "help", "requests"], "JSON Lines"),

@@ -8,11 +8,11 @@ use Rattle.clap.specs.Walk.{Row, Text, answers_to, nothing_held, rows_after, wal
 use Rattle.clap.specs.Simple.{Shape, argument_words, built, built_leaf, entered, inherited, is_simple, label_of, marked_built, names_of, rows_at, subcommand_of, with_leaf_noted}
 use Rattle.clap.specs.Faults.{entered_fault, fault_of, is_simple_and_free, level_fault}
 use Rattle.clap.proofs.OnLiterals.{clap_on_literals}
-use Rattle.apf_commands.specs.Commands.{apf_app, command_shape, rules_of, script_rules, shape_for, simulation_rules}
+use Rattle.apf_commands.specs.Commands.{apf_app, command_shape, script_rules, shape_for, simulation_rules}
 use Rattle.apf_commands.specs.Names.{text_of}
 use Rattle.apf_commands.specs.declared.names.CommandName.{CommandName}
-use Rattle.apf_commands.specs.declared.names.CommandName.TheVariants.{Hash, Deal, Replay, Run, Services, Waits, Explain, Simulate, Timeline, Requests, Picture, Hands, Trace}
-use Rattle.apf_commands.specs.Arguments.{HasArguments, HasAuditArguments, HasDealArguments, HasHandsArguments, HasHashArguments, HasRequestsArguments, HasRunArguments, HasScriptArguments, HasSimulationArguments, IsCommand}
+use Rattle.apf_commands.specs.declared.names.CommandName.TheVariants.{Hash, Deal, Replay, Run, Services, Waits, Explain, Simulate, Timeline, Compare, Fates, Requests, Picture, Hands, Trace}
+use Rattle.apf_commands.specs.Arguments.{HasArguments, HasAuditArguments, HasCompareArguments, HasDealArguments, HasHandsArguments, HasHashArguments, HasRequestsArguments, HasRunArguments, HasScriptArguments, HasSimulationArguments, IsCommand}
 use Rattle.apf_commands.proofs.Taken.{Each, MayStop, found, is_plain_rule, walk_holds}
 use Rattle.apf_commands.proofs.Given.{all_given, level_parts, no_check, signed_reads, unsigned_reads}
 
@@ -110,11 +110,21 @@ simulation_given name words e =
     let config = given.0 refl refl in
     let trace = given.1.0 refl refl in
     let patience = given.1.1.0 refl refl in
-    let reads = signed_reads 32 0 1000000000 patience.text (lit< tt) patience.accepted in
+    record { config = (config.text, config.first); trace = (trace.text, trace.first); patience = (patience.text, patience.first) }
+
+compare_given : (words : List Text) → IsFaultFree (ready (shape_for Compare)) words → HasCompareArguments (rows_after (ready (shape_for Compare)).rules [] words)
+unfolding apf_app shape_for
+compare_given words e =
+    let given = all_given (ready (shape_for Compare)) (record { rules = refl; defaults = refl; negates = refl }) words e in
+    let config = given.0 refl refl in
+    let other = given.1.0 refl refl in
+    let trace = given.1.1.0 refl refl in
+    let patience = given.1.1.1.0 refl refl in
     record {
       config = (config.text, config.first);
+      other = (other.text, other.first);
       trace = (trace.text, trace.first);
-      patience = (reads.0, ((_, patience.one, reads.1), reads.3));
+      patience = (patience.text, patience.first);
     }
 
 -- a command whose words have no fault has its arguments
@@ -130,12 +140,14 @@ arguments_given Waits words e = script_given (text_of Waits) words e
 arguments_given Explain words e = script_given (text_of Explain) words e
 arguments_given Simulate words e = simulation_given (text_of Simulate) words e
 arguments_given Timeline words e = simulation_given (text_of Timeline) words e
+arguments_given Compare words e = compare_given words e
+arguments_given Fates words e = simulation_given (text_of Fates) words e
 arguments_given Requests words e = requests_given words e
 arguments_given Picture words e = simulation_given (text_of Picture) words e
 arguments_given Hands words e = hands_given words e
 arguments_given Trace words e = trace_given words e
 
--- a walk that stops at a name of this command leaves it words with no fault only where they are those of one of the twelve
+-- a walk that stops at a name of this command leaves it words with no fault only where they are those of one of these
 abbrev IsEntered : Shape → Type 0
 IsEntered s = (name : Text) (words : List Text) → answers_to name (label_of s) ≡ true → MayStop (built apf_app).top (Some name) → IsFaultFree s words
     → IsCommand s.name (rows_after s.rules [] words)
@@ -163,7 +175,7 @@ each_entered : Each IsEntered (built apf_app).subs
 unfolding apf_app
 each_entered = (
   enters Hash,
-  (enters Deal, (enters Replay, (enters Run, (enters Services, (enters Waits, (enters Explain, (enters Simulate, (enters Timeline, (enters Requests, (enters Picture, (enters Hands, (enters Trace, ((λ name words met stays e. absurd (help_stays name met stays)), tt))))))))))))),
+  (enters Deal, (enters Replay, (enters Run, (enters Services, (enters Waits, (enters Explain, (enters Simulate, (enters Timeline, (enters Compare, (enters Fates, (enters Requests, (enters Picture, (enters Hands, (enters Trace, ((λ name words met stays e. absurd (help_stays name met stays)), tt))))))))))))))),
 )
 
 top_rules : list_all is_plain_rule (built apf_app).top.rules ≡ true

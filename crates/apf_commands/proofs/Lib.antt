@@ -4,3 +4,4 @@ pub mod Accepted
 pub mod Matches
 pub mod Chain
 mod Rows
+pub mod Patient

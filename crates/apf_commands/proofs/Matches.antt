@@ -12,7 +12,7 @@ use Rattle.clap.specs.declared.parser.matches.SubCommand.{SubCommand}
 use Rattle.apf_commands.specs.Arguments.{HasArguments, IsCommand}
 use Rattle.apf_commands.specs.Names.{command_named, text_of}
 use Rattle.apf_commands.specs.declared.names.CommandName.{CommandName}
-use Rattle.apf_commands.specs.declared.names.CommandName.TheVariants.{Hash, Deal, Replay, Run, Services, Waits, Explain, Simulate, Timeline, Requests, Picture, Hands, Trace}
+use Rattle.apf_commands.specs.declared.names.CommandName.TheVariants.{Hash, Deal, Replay, Run, Services, Waits, Explain, Simulate, Timeline, Compare, Fates, Requests, Picture, Hands, Trace}
 use Rattle.clap.proofs.OnLiterals.{clap_on_literals}
 use Rattle.apf_commands.proofs.Accepted.{Entered, apf_is_free, apf_is_simple}
 
@@ -71,6 +71,8 @@ of_its_name Waits = refl
 of_its_name Explain = refl
 of_its_name Simulate = refl
 of_its_name Timeline = refl
+of_its_name Compare = refl
+of_its_name Fates = refl
 of_its_name Requests = refl
 of_its_name Picture = refl
 of_its_name Hands = refl

@@ -27,7 +27,7 @@ record HasFaults : Type 0 where
   no_worker : fault (codes "run" ∷ codes "a" ∷ codes "b" ∷ codes "0" ∷ []) ≡ kind.ValueValidation ∷ []
   many_workers : fault (codes "run" ∷ codes "a" ∷ codes "b" ∷ codes "65" ∷ []) ≡ kind.ValueValidation ∷ []
   no_patience : fault (codes "simulate" ∷ codes "a" ∷ codes "b" ∷ []) ≡ kind.MissingRequiredArgument ∷ []
-  much_patience : fault (codes "timeline" ∷ codes "a" ∷ codes "b" ∷ codes "1000000001" ∷ []) ≡ kind.ValueValidation ∷ []
+  no_other : fault (codes "compare" ∷ codes "a" ∷ codes "b" ∷ codes "c" ∷ []) ≡ kind.MissingRequiredArgument ∷ []
   no_trace : fault (codes "requests" ∷ []) ≡ kind.MissingRequiredArgument ∷ []
   hands_patience : fault (codes "hands" ∷ codes "a" ∷ codes "b" ∷ codes "0" ∷ []) ≡ kind.UnknownArgument ∷ []
   help : fault (codes "--help" ∷ []) ≡ kind.DisplayHelp ∷ []
@@ -44,7 +44,7 @@ refused_rows = record {
   no_worker = refl;
   many_workers = refl;
   no_patience = refl;
-  much_patience = refl;
+  no_other = refl;
   no_trace = refl;
   hands_patience = refl;
   help = refl;
@@ -59,9 +59,9 @@ record IsAccepted : Type 0 where
   least : fault (codes "run" ∷ codes "a" ∷ codes "b" ∷ codes "1" ∷ []) ≡ []
   most : fault (codes "run" ∷ codes "a" ∷ codes "b" ∷ codes "64" ∷ []) ≡ []
   script : text (codes "services" ∷ codes "a" ∷ codes "b" ∷ codes "c" ∷ []) (codes "SCRIPT") ≡ Some (codes "services", Some (codes "c"))
-  least_patience : fault (codes "simulate" ∷ codes "a" ∷ codes "b" ∷ codes "0" ∷ []) ≡ []
-  most_patience : fault (codes "timeline" ∷ codes "a" ∷ codes "b" ∷ codes "1000000000" ∷ []) ≡ []
-  patience : number (codes "simulate" ∷ codes "a" ∷ codes "b" ∷ codes "90" ∷ []) (codes "PATIENCE") ≡ Some (codes "simulate", Some (codes "90"))
+  patience : text (codes "simulate" ∷ codes "a" ∷ codes "b" ∷ codes "15s" ∷ []) (codes "PATIENCE") ≡ Some (codes "simulate", Some (codes "15s"))
+  fates : text (codes "fates" ∷ codes "a" ∷ codes "b" ∷ codes "0" ∷ []) (codes "TRACE") ≡ Some (codes "fates", Some (codes "b"))
+  other : text (codes "compare" ∷ codes "a" ∷ codes "b" ∷ codes "c" ∷ codes "0" ∷ []) (codes "OTHER") ≡ Some (codes "compare", Some (codes "b"))
   trace : text (codes "requests" ∷ codes "a" ∷ []) (codes "TRACE") ≡ Some (codes "requests", Some (codes "a"))
   hands_trace : text (codes "hands" ∷ codes "a" ∷ codes "b" ∷ []) (codes "TRACE") ≡ Some (codes "hands", Some (codes "b"))
 
@@ -75,9 +75,9 @@ accepted_rows = record {
   least = refl;
   most = refl;
   script = refl;
-  least_patience = refl;
-  most_patience = refl;
   patience = refl;
+  fates = refl;
+  other = refl;
   trace = refl;
   hands_trace = refl;
 }

@@ -1,10 +1,10 @@
 -- The arguments that a command has once `clap` has accepted its words, which the readers require.
 use Rattle.std.specs.Prelude.{◌≡◌, ℕ, List, codes}
 use Rattle.clap.specs.Words.{Row, Text}
-use Rattle.apf_commands.specs.Meaning.{IsNumber, IsPatience, IsText, IsWorkerCount}
+use Rattle.apf_commands.specs.Meaning.{IsNumber, IsText, IsWorkerCount}
 use Rattle.apf_commands.specs.Names.{text_of}
 use Rattle.apf_commands.specs.declared.names.CommandName.{CommandName}
-use Rattle.apf_commands.specs.declared.names.CommandName.TheVariants.{Hash, Deal, Replay, Run, Services, Waits, Explain, Simulate, Timeline, Requests, Picture, Hands, Trace}
+use Rattle.apf_commands.specs.declared.names.CommandName.TheVariants.{Hash, Deal, Replay, Run, Services, Waits, Explain, Simulate, Timeline, Compare, Fates, Requests, Picture, Hands, Trace}
 
 -- the argument has a text
 abbrev pub HasText : List Row → Text → Type 0
@@ -37,11 +37,18 @@ pub record HasRunArguments (rows : List Row) : Type 0 where
   pub requests : HasText rows (codes "REQUESTS")
   pub workers : (n : ℕ) × IsWorkerCount rows n
 
--- the arguments of `simulate`, `timeline` and `picture`
+-- the arguments of `simulate`, `timeline`, `fates` and `picture`
 pub record HasSimulationArguments (rows : List Row) : Type 0 where
   pub config : HasText rows (codes "CONFIG")
   pub trace : HasText rows (codes "TRACE")
-  pub patience : (n : ℕ) × IsPatience rows n
+  pub patience : HasText rows (codes "PATIENCE")
+
+-- the arguments of `compare`
+pub record HasCompareArguments (rows : List Row) : Type 0 where
+  pub config : HasText rows (codes "CONFIG")
+  pub other : HasText rows (codes "OTHER")
+  pub trace : HasText rows (codes "TRACE")
+  pub patience : HasText rows (codes "PATIENCE")
 
 -- the argument of `requests`
 pub record HasRequestsArguments (rows : List Row) : Type 0 where
@@ -68,6 +75,8 @@ HasArguments Waits rows = HasScriptArguments rows
 HasArguments Explain rows = HasScriptArguments rows
 HasArguments Simulate rows = HasSimulationArguments rows
 HasArguments Timeline rows = HasSimulationArguments rows
+HasArguments Compare rows = HasCompareArguments rows
+HasArguments Fates rows = HasSimulationArguments rows
 HasArguments Requests rows = HasRequestsArguments rows
 HasArguments Picture rows = HasSimulationArguments rows
 HasArguments Hands rows = HasHandsArguments rows

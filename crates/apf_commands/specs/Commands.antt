@@ -1,12 +1,12 @@
 -- The program's commands, as `clap` declares them.
-use Rattle.std.specs.Prelude.{List, [], ◌∷◌, ◌++◌, Some, true, false, codes, pos}
+use Rattle.std.specs.Prelude.{List, [], ◌∷◌, ◌++◌, Some, true, codes, pos}
 use Rattle.clap.specs.Words.{App, Rule, Shape, Text, new_app, new_rule}
 use Rattle.clap.specs.Simple.{with_subcommand}
 use Rattle.clap.specs.declared.builder.value_parser.ValueParser.{ValueParser}
 use Rattle.clap.specs.declared.builder.value_parser.ValueParser.TheVariants.{Signed, Unsigned}
 use Rattle.apf_commands.specs.Names.{text_of}
 use Rattle.apf_commands.specs.declared.names.CommandName.{CommandName}
-use Rattle.apf_commands.specs.declared.names.CommandName.TheVariants.{Hash, Deal, Replay, Run, Services, Waits, Explain, Simulate, Timeline, Requests, Picture, Hands, Trace}
+use Rattle.apf_commands.specs.declared.names.CommandName.TheVariants.{Hash, Deal, Replay, Run, Services, Waits, Explain, Simulate, Timeline, Compare, Fates, Requests, Picture, Hands, Trace}
 
 -- a text that must be given
 abbrev pub text_rule : Text → Rule
@@ -28,10 +28,6 @@ any_u64 = Unsigned 0 18446744073709551615
 abbrev pub worker_count : ValueParser
 worker_count = Signed (pos 1) (pos 64)
 
--- for how many microseconds a request may wait
-abbrev pub patience_range : ValueParser
-patience_range = Signed (pos 0) (pos 1000000000)
-
 -- the arguments of a command that reads a configuration file and a requests file
 abbrev pub file_rules : List Rule
 file_rules = text_rule (codes "CONFIG") ∷ text_rule (codes "REQUESTS") ∷ []
@@ -46,7 +42,11 @@ trace_rules = text_rule (codes "CONFIG") ∷ text_rule (codes "TRACE") ∷ []
 
 -- the arguments of a command that simulates a trace
 abbrev pub simulation_rules : List Rule
-simulation_rules = trace_rules ++ number_rule (codes "PATIENCE") patience_range ∷ []
+simulation_rules = trace_rules ++ text_rule (codes "PATIENCE") ∷ []
+
+-- the arguments of a command that simulates a trace on two levels
+abbrev pub compare_rules : List Rule
+compare_rules = text_rule (codes "CONFIG") ∷ text_rule (codes "OTHER") ∷ text_rule (codes "TRACE") ∷ text_rule (codes "PATIENCE") ∷ []
 
 -- the arguments of each command, in their order
 abbrev pub rules_of : CommandName → List Rule
@@ -60,6 +60,8 @@ rules_of Waits = script_rules
 rules_of Explain = script_rules
 rules_of Simulate = simulation_rules
 rules_of Timeline = simulation_rules
+rules_of Compare = compare_rules
+rules_of Fates = simulation_rules
 rules_of Requests = text_rule (codes "TRACE") ∷ []
 rules_of Picture = simulation_rules
 rules_of Hands = trace_rules
@@ -85,7 +87,7 @@ abbrev pub level_commands : List CommandName
 level_commands = Replay ∷ Run ∷ Services ∷ Waits ∷ Explain ∷ []
 
 abbrev pub trace_commands : List CommandName
-trace_commands = Simulate ∷ Timeline ∷ Requests ∷ Picture ∷ Hands ∷ Trace ∷ []
+trace_commands = Simulate ∷ Timeline ∷ Compare ∷ Fates ∷ Requests ∷ Picture ∷ Hands ∷ Trace ∷ []
 
 -- the program with these commands behind its own
 abbrev pub with_commands : List CommandName → App → App
@@ -99,6 +101,6 @@ bare_app = record {
   subs = [];
 }
 
--- the program with its thirteen commands
+-- the program with its fifteen commands
 unfoldable pub apf_app : App
 apf_app = with_commands trace_commands (with_commands level_commands (with_commands flow_commands bare_app))

@@ -2,3 +2,4 @@ pub mod Commands
 pub mod Meaning
 pub mod Names
 pub mod Arguments
+pub mod Patience

@@ -4,7 +4,7 @@ use Rattle.std.specs.Str.Parse.{ParsesUnsigned}
 use Rattle.clap.specs.Words.{Row, Text, first_of, one_of, subcommand_of}
 use Rattle.apf_commands.specs.Commands.{apf_app}
 use Rattle.apf_commands.specs.declared.words.Action.{Action}
-use Rattle.apf_commands.specs.declared.words.Action.TheVariants.{Hash, Deal, Replay, Run, Services, Waits, Explain, Simulate, Timeline, Requests, Picture, Hands, Trace}
+use Rattle.apf_commands.specs.declared.words.Action.TheVariants.{Hash, Deal, Replay, Run, Services, Waits, Explain, Simulate, Timeline, Compare, Fates, Requests, Picture, Hands, Trace}
 
 -- the argument's text
 abbrev pub IsText : List Row → Text → Text → Type 0
@@ -18,10 +18,6 @@ IsNumber k rows id n =
 -- the number of workers is in its range
 abbrev pub IsWorkerCount : List Row → ℕ → Type 0
 IsWorkerCount rows n = IsNumber 32 rows (codes "WORKERS") n × (1 ≤ n) × (n ≤ 64)
-
--- the number of microseconds that a request may wait is in its range
-abbrev pub IsPatience : List Row → ℕ → Type 0
-IsPatience rows n = IsNumber 32 rows (codes "PATIENCE") n × (n ≤ 1000000000)
 
 -- a command of this name with these arguments asks for the action
 abbrev pub AsksFor : Text → List Row → Action → Type 0
@@ -47,15 +43,21 @@ AsksFor name rows (Explain config requests script) = (name ≡ codes "explain")
     × IsText rows (codes "SCRIPT") script.now
 AsksFor name rows (Simulate config trace patience) = (name ≡ codes "simulate")
     × IsText rows (codes "CONFIG") config.now × IsText rows (codes "TRACE") trace.now
-    × IsPatience rows patience
+    × IsText rows (codes "PATIENCE") patience.now
 AsksFor name rows (Timeline config trace patience) = (name ≡ codes "timeline")
     × IsText rows (codes "CONFIG") config.now × IsText rows (codes "TRACE") trace.now
-    × IsPatience rows patience
+    × IsText rows (codes "PATIENCE") patience.now
+AsksFor name rows (Compare config other trace patience) = (name ≡ codes "compare")
+    × IsText rows (codes "CONFIG") config.now × IsText rows (codes "OTHER") other.now
+    × IsText rows (codes "TRACE") trace.now × IsText rows (codes "PATIENCE") patience.now
+AsksFor name rows (Fates config trace patience) = (name ≡ codes "fates")
+    × IsText rows (codes "CONFIG") config.now × IsText rows (codes "TRACE") trace.now
+    × IsText rows (codes "PATIENCE") patience.now
 AsksFor name rows (Requests trace) = (name ≡ codes "requests")
     × IsText rows (codes "TRACE") trace.now
 AsksFor name rows (Picture config trace patience) = (name ≡ codes "picture")
     × IsText rows (codes "CONFIG") config.now × IsText rows (codes "TRACE") trace.now
-    × IsPatience rows patience
+    × IsText rows (codes "PATIENCE") patience.now
 AsksFor name rows (Hands config trace) = (name ≡ codes "hands")
     × IsText rows (codes "CONFIG") config.now × IsText rows (codes "TRACE") trace.now
 AsksFor name rows (Trace log schema) = (name ≡ codes "trace")
@@ -70,10 +72,3 @@ IsActionOf words action = (name : Text) × ((rows : List Row)
 abbrev pub HasWorkers : Action → Type 0
 HasWorkers (Run config requests workers) = 0 < workers
 HasWorkers _ = Unit {0}
-
--- who simulates requests has a patience in its range
-abbrev pub HasPatience : Action → Type 0
-HasPatience (Simulate config trace patience) = patience ≤ 1000000000
-HasPatience (Timeline config trace patience) = patience ≤ 1000000000
-HasPatience (Picture config trace patience) = patience ≤ 1000000000
-HasPatience _ = Unit {0}

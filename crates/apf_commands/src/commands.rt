@@ -13,6 +13,10 @@ use std::alloc::{AllocError, Global};
 /// What `--version` prints after the program's name.
 const VERSION: &str = "0.1.0";
 
+/// What help says of the patience.
+const PATIENCE: &str =
+    "Time after which a waiting request gives up, as 15s, 500ms or 250us; a plain number is microseconds, 0 to 1000000000; 0: never";
+
 // A text that must be given.
 fn text<'a>(alloc: Global, id: &'a str, help: &'a str) -> Arg<'a>
     ensures rule { rule_of result ≡ text_rule id.entry.now }
@@ -190,13 +194,7 @@ fn simulation_command<'a>(
     ensures shape { IfOk result (λ c. shape_of c ≡ command_shape name.entry.now simulation_rules) }
     ensures local { IfOk result (λ c. (out-Command c).has_globals ≡ false) }
 {
-    let patience = value_parser!(u32).range(0..=1_000_000_000);
-    trace_command(alloc, name, about, after_help)?.arg(number(
-        alloc,
-        "PATIENCE",
-        patience,
-        "Microseconds after which a waiting request gives up, 0 to 1000000000; 0: never",
-    ))
+    trace_command(alloc, name, about, after_help)?.arg(text(alloc, "PATIENCE", PATIENCE))
 }
 
 fn simulate_command<'a>(alloc: Global) -> Result<Command<'a>, AllocError>
@@ -220,6 +218,31 @@ fn timeline_command<'a>(alloc: Global) -> Result<Command<'a>, AllocError>
         "timeline",
         "Simulate requests with times and print the script of the simulation",
         help::TIMELINE,
+    )
+}
+
+fn compare_command<'a>(alloc: Global) -> Result<Command<'a>, AllocError>
+    ensures shape { IfOk result (λ c. shape_of c ≡ shape_for named.Compare) }
+    ensures local { IfOk result (λ c. (out-Command c).has_globals ≡ false) }
+{
+    Command::new(alloc, "compare")
+        .about("Simulate requests with times on two levels and print both, flow by flow")
+        .after_help(help::COMPARE)
+        .arg(text(alloc, "CONFIG", "Configuration file of the one level"))?
+        .arg(text(alloc, "OTHER", "Configuration file of the other level"))?
+        .arg(text(alloc, "TRACE", "Trace file of requests with their times"))?
+        .arg(text(alloc, "PATIENCE", PATIENCE))
+}
+
+fn fates_command<'a>(alloc: Global) -> Result<Command<'a>, AllocError>
+    ensures shape { IfOk result (λ c. shape_of c ≡ shape_for named.Fates) }
+    ensures local { IfOk result (λ c. (out-Command c).has_globals ≡ false) }
+{
+    simulation_command(
+        alloc,
+        "fates",
+        "Simulate requests with times and print what became of each request",
+        help::FATES,
     )
 }
 
@@ -296,13 +319,15 @@ fn with_trace_commands<'a>(alloc: Global, program: Command<'a>) -> Result<Comman
     program
         .subcommand(simulate_command(alloc)?)?
         .subcommand(timeline_command(alloc)?)?
+        .subcommand(compare_command(alloc)?)?
+        .subcommand(fates_command(alloc)?)?
         .subcommand(requests_command(alloc)?)?
         .subcommand(picture_command(alloc)?)?
         .subcommand(hands_command(alloc)?)?
         .subcommand(audit_command(alloc)?)
 }
 
-/// The program's command line, of which one of the thirteen commands must be named.
+/// The program's command line, of which one of the fifteen commands must be named.
 ///
 /// # Errors
 ///

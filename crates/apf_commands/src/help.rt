@@ -169,29 +169,32 @@ from the trace's beginning:
   schema, distinguisher  two texts, of which the hash is made
   width             seats that the request takes, 1 to 20000; 1 if absent
   cost              what a dispatch is charged, 1 to 20000; the width if absent
-PATIENCE is in microseconds. A request that waits so long after its arrival gives up. With 0 nobody
-gives up. An API server lets a request wait for a quarter of its time-out, by default 15000000.
+PATIENCE is a whole number with s, ms or us behind it, or a plain number of microseconds: 0 to 1000 s.
+A request that waits so long after its arrival gives up. With 0 nobody gives up. An API server lets
+a request wait for a quarter of its time-out, by default 15s.
 
 Prints a line for each flow, in the order of their first requests, a line of the whole, and the
 book of apf replay:
-  flow H requests N executed E rejected J cancelled X seat-time T wait A B C of SCHEMA DISTINGUISHER
-  end T seat-time U of V waited W
+  flow H requests N executed E rejected J cancelled X seat-time T wait median A p99 B longest C of
+    SCHEMA DISTINGUISHER, on one line
+  end T seat-time U of V waited W patience P
   flow H       the flow's hash, in hexadecimal digits
   seat-time T  the sum of width times runsFor of the flow's executed requests; U is that of all
-  wait A B C   microseconds that its executed requests waited: median, 99th percentile, most
+  wait         microseconds that its executed requests waited: median, 99th percentile, longest
   of SCHEMA DISTINGUISHER  as JSON texts; nothing where the flow's first request gives the hash
   end T        when the last thing was done, in microseconds
   of V         the level's limit times the end
   waited W     microseconds that all requests waited, those that gave up too
+  patience P   PATIENCE in microseconds
 
 Example:
   $ cat config.json trace.jsonl
   {\"limit\":1}
   {\"hash\":0,\"arrivesAt\":0,\"runsFor\":100}
   {\"hash\":0,\"arrivesAt\":40,\"runsFor\":100}
-  $ apf simulate config.json trace.jsonl 15000000
-  flow 0000000000000000 requests 2 executed 2 rejected 0 cancelled 0 seat-time 200 wait 0 60 60
-  end 200 seat-time 200 of 200 waited 60
+  $ apf simulate config.json trace.jsonl 15s
+  flow 0000000000000000 requests 2 executed 2 rejected 0 cancelled 0 seat-time 200 wait median 0 p99 60 longest 60
+  end 200 seat-time 200 of 200 waited 60 patience 15000000
   level open seats 0 waiting 0
   executed 2 rejected 0 cancelled 0 undecided 0
   queue-full 0 closed 0 concurrency-limit 0
@@ -207,12 +210,57 @@ request that gives up, in the order of their times in microseconds. Of one time 
 then those who give up, then the arrivals, each by the requests' numbers. The script has no times.
 
 It simulates this level by this project's rules, and not kube-apiserver. TRACE is JSON Lines, and
-PATIENCE is in microseconds; apf simulate --help says what they and CONFIG hold.
+PATIENCE is as 15s or in microseconds; apf simulate --help says what they and CONFIG hold.
 
 Example, and the same run by apf replay:
-  apf timeline config.json trace.jsonl 15000000 >script.txt
+  apf timeline config.json trace.jsonl 15s >script.txt
   apf requests trace.jsonl >requests.json
   apf replay config.json requests.json script.txt
+
+Status: 0 done, 1 a file's fault or output that can't be written, 2 a command line's fault,
+3 no memory.";
+
+/// Of `compare`.
+pub(crate) const COMPARE: &str = "\
+Simulates the trace on the level of CONFIG, and on that of OTHER. Prints a line of names, a line for
+each flow, and a line of the whole. First come the flows whose longest wait changes most. Each number
+stands twice: on the one level, and on the other.
+  flow        the flow's hash, in hexadecimal digits; whole for all requests
+  requests    how many it has
+  median, p99, longest  microseconds that its executed requests waited: median, 99th percentile, most
+  rejected    requests that were rejected
+  cancelled   requests that gave up
+  schema, distinguisher  as JSON texts; nothing where the flow's first request gives the hash
+
+It simulates these levels by this project's rules, and not kube-apiserver. TRACE is JSON Lines, and
+PATIENCE is as 15s or in microseconds; apf simulate --help says what they and CONFIG hold.
+
+Example, and what happens to the longest waits:
+  apf compare config.json other.json trace.jsonl 15s | column -t
+  apf compare config.json other.json trace.jsonl 15s | awk '{ print $7, $8, $NF }'
+
+Status: 0 done, 1 a file's fault or output that can't be written, 2 a command line's fault,
+3 no memory.";
+
+/// Of `fates`.
+pub(crate) const FATES: &str = "\
+Prints what became of each request in the run that apf simulate makes: a line of names, and a line
+for each request, in the order of their arrivals. Times are microseconds.
+  request   its number, from 0
+  flow      its flow's hash, in hexadecimal digits
+  arrival   when it arrived
+  queue     the number of the queue that it entered, or -
+  start     when it took its seats, or -
+  end       when it finished, gave up or was rejected
+  decision  execute, queue-full, concurrency-limit, or cancelled if it gave up
+  schema, distinguisher  as JSON texts; nothing where its line of the trace gives the hash
+
+It simulates this level by this project's rules, and not kube-apiserver. TRACE is JSON Lines, and
+PATIENCE is as 15s or in microseconds; apf simulate --help says what they and CONFIG hold.
+
+Example, and who waited for more than a second:
+  apf fates config.json trace.jsonl 15s | column -t
+  apf fates config.json trace.jsonl 15s | awk '$5 - $3 > 1000000'
 
 Status: 0 done, 1 a file's fault or output that can't be written, 2 a command line's fault,
 3 no memory.";
@@ -233,13 +281,15 @@ Status: 0 done, 1 a file's fault or output that can't be written, 2 a command li
 /// Of `hands`.
 pub(crate) const HANDS: &str = "\
 Prints the hand of queues of each flow of a trace, in the order of their first requests, and below
-it the other flows that share a queue with it:
+it who shares its queues:
   flow H hand Q1 Q2 .. of SCHEMA DISTINGUISHER
-    shares Q .. with H SCHEMA DISTINGUISHER
+    shares Q with N flows
     covered by H ..
+    covered by N more
   H           a flow's hash, in hexadecimal digits
   Q           the number of a queue, from 0, in the order dealt
-  covered by  the flows whose hand alone holds all of its queues
+  shares      how many other flows hold the queue
+  covered by  the flows whose hand alone holds all of its queues: the first ten, and how many more
 The hands are those of this level by this project's rules, and not kube-apiserver's. The times of
 the trace, in microseconds, change nothing. A level that rejects deals no queues.
 
@@ -259,10 +309,10 @@ in the row of its flow, and marks where a request was rejected or gave up. At mo
 a row of their own, those with most requests. Times are microseconds in the files.
 
 It simulates this level by this project's rules, and not kube-apiserver. TRACE is JSON Lines, and
-PATIENCE is in microseconds; apf simulate --help says what they and CONFIG hold.
+PATIENCE is as 15s or in microseconds; apf simulate --help says what they and CONFIG hold.
 
 Example:
-  apf picture config.json trace.jsonl 15000000 >picture.svg
+  apf picture config.json trace.jsonl 15s >picture.svg
 
 Status: 0 done, 1 a file's fault or output that can't be written, 2 a command line's fault,
 3 no memory.";
@@ -281,7 +331,7 @@ portforward, proxy and log. At most 10000 events are taken.
 
 Example, from a log to a picture:
   apf trace audit.log users >trace.jsonl
-  apf picture config.json trace.jsonl 15000000 >picture.svg
+  apf picture config.json trace.jsonl 15s >picture.svg
 
 Status: 0 done, 1 a file's fault or output that can't be written, 2 a command line's fault or a
 SCHEMA that is too long, 3 no memory.";

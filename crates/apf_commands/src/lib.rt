@@ -3,12 +3,15 @@
 //! - `names`: the names of the commands.
 //! - `help`: what `--help` says below a command's arguments.
 //! - `commands`: the commands with their arguments.
+//! - `patience`: how long a request waits before it gives up.
 //! - `words`: the command that a command line names, with its texts and numbers.
 #![tactic(auto)]
 
 mod commands;
 mod help;
 mod names;
+mod patience;
 mod words;
 
+pub use patience::read_patience;
 pub use words::{Action, read_words};

@@ -14,6 +14,8 @@ pub(crate) enum CommandName {
     Explain,
     Simulate,
     Timeline,
+    Compare,
+    Fates,
     Requests,
     Picture,
     Hands,
@@ -44,6 +46,10 @@ impl CommandName {
             Some(CommandName::Simulate)
         } else if text == "timeline" {
             Some(CommandName::Timeline)
+        } else if text == "compare" {
+            Some(CommandName::Compare)
+        } else if text == "fates" {
+            Some(CommandName::Fates)
         } else if text == "requests" {
             Some(CommandName::Requests)
         } else if text == "picture" {

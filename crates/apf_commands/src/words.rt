@@ -7,7 +7,7 @@ ghost use Rattle.apf_commands.specs.Names.{text_of as name_text};
 ghost use Rattle.apf_commands.specs.Meaning.{AsksFor, IsActionOf, IsNumber, IsText};
 ghost use Rattle.apf_commands.specs.Arguments.{HasText, HasNumber, HasHashArguments, HasDealArguments};
 ghost use Rattle.apf_commands.specs.Arguments.{HasScriptArguments, HasRunArguments, HasArguments};
-ghost use Rattle.apf_commands.specs.Arguments.{HasSimulationArguments, HasRequestsArguments, HasHandsArguments, HasAuditArguments};
+ghost use Rattle.apf_commands.specs.Arguments.{HasSimulationArguments, HasCompareArguments, HasRequestsArguments, HasHandsArguments, HasAuditArguments};
 
 use crate::commands::apf_command;
 use crate::names::CommandName;
@@ -58,30 +58,41 @@ pub enum Action<'a> {
         requests: &'a str,
         script: &'a str,
     },
-    /// Simulate a trace and print what its flows met; the texts are file names, and the patience is 0 to
-    /// 1,000,000,000 microseconds.
+    /// Simulate a trace and print what its flows met; the texts are file names, and a patience for
+    /// [`read_patience`](crate::read_patience).
     Simulate {
         config: &'a str,
         trace: &'a str,
-        patience: u32,
+        patience: &'a str,
     },
-    /// Simulate a trace and print the simulation's script; the texts are file names, and the patience is 0 to
-    /// 1,000,000,000 microseconds.
+    /// Simulate a trace and print the simulation's script; the texts are file names, and a patience.
     Timeline {
         config: &'a str,
         trace: &'a str,
-        patience: u32,
+        patience: &'a str,
+    },
+    /// Simulate a trace on two levels and print both, flow by flow; the texts are file names, and a patience.
+    Compare {
+        config: &'a str,
+        other: &'a str,
+        trace: &'a str,
+        patience: &'a str,
+    },
+    /// Simulate a trace and print what became of each request; the texts are file names, and a patience.
+    Fates {
+        config: &'a str,
+        trace: &'a str,
+        patience: &'a str,
     },
     /// Print the requests file of a trace; the text is a file name.
     Requests {
         trace: &'a str,
     },
-    /// Simulate a trace and draw the run as an SVG; the texts are file names, and the patience is 0 to
-    /// 1,000,000,000 microseconds.
+    /// Simulate a trace and draw the run as an SVG; the texts are file names, and a patience.
     Picture {
         config: &'a str,
         trace: &'a str,
-        patience: u32,
+        patience: &'a str,
     },
     /// Print the hand of each flow of a trace, and who shares it; the texts are file names.
     Hands {
@@ -222,7 +233,7 @@ fn simulate_action<'a>(matches: &ArgMatches<'a>) -> Action<'a>
     Action::Simulate {
         config: text_of(matches, "CONFIG"),
         trace: text_of(matches, "TRACE"),
-        patience: u32_of(matches, "PATIENCE"),
+        patience: text_of(matches, "PATIENCE"),
     }
 }
 
@@ -233,7 +244,30 @@ fn timeline_action<'a>(matches: &ArgMatches<'a>) -> Action<'a>
     Action::Timeline {
         config: text_of(matches, "CONFIG"),
         trace: text_of(matches, "TRACE"),
-        patience: u32_of(matches, "PATIENCE"),
+        patience: text_of(matches, "PATIENCE"),
+    }
+}
+
+fn compare_action<'a>(matches: &ArgMatches<'a>) -> Action<'a>
+    requires { HasCompareArguments (rows_of (found_of matches.now)) }
+    ensures { AsksFor (codes "compare") (rows_of (found_of matches.now)) result }
+{
+    Action::Compare {
+        config: text_of(matches, "CONFIG"),
+        other: text_of(matches, "OTHER"),
+        trace: text_of(matches, "TRACE"),
+        patience: text_of(matches, "PATIENCE"),
+    }
+}
+
+fn fates_action<'a>(matches: &ArgMatches<'a>) -> Action<'a>
+    requires { HasSimulationArguments (rows_of (found_of matches.now)) }
+    ensures { AsksFor (codes "fates") (rows_of (found_of matches.now)) result }
+{
+    Action::Fates {
+        config: text_of(matches, "CONFIG"),
+        trace: text_of(matches, "TRACE"),
+        patience: text_of(matches, "PATIENCE"),
     }
 }
 
@@ -253,7 +287,7 @@ fn picture_action<'a>(matches: &ArgMatches<'a>) -> Action<'a>
     Action::Picture {
         config: text_of(matches, "CONFIG"),
         trace: text_of(matches, "TRACE"),
-        patience: u32_of(matches, "PATIENCE"),
+        patience: text_of(matches, "PATIENCE"),
     }
 }
 
@@ -292,6 +326,8 @@ fn action_of<'a>(command: CommandName, matches: &ArgMatches<'a>) -> Action<'a>
         CommandName::Explain => explain_action(matches),
         CommandName::Simulate => simulate_action(matches),
         CommandName::Timeline => timeline_action(matches),
+        CommandName::Compare => compare_action(matches),
+        CommandName::Fates => fates_action(matches),
         CommandName::Requests => requests_action(matches),
         CommandName::Picture => picture_action(matches),
         CommandName::Hands => hands_action(matches),
@@ -305,10 +341,11 @@ fn action_of<'a>(command: CommandName, matches: &ArgMatches<'a>) -> Action<'a>
 /// `hash SCHEMA DISTINGUISHER`, `deal DECK HAND HASH`, `replay CONFIG REQUESTS SCRIPT`,
 /// `run CONFIG REQUESTS WORKERS`, `services CONFIG REQUESTS SCRIPT`, `waits CONFIG REQUESTS SCRIPT`,
 /// `explain CONFIG REQUESTS SCRIPT`,
-/// `simulate CONFIG TRACE PATIENCE`, `timeline CONFIG TRACE PATIENCE`, `requests TRACE`, `picture CONFIG TRACE PATIENCE`, `hands CONFIG TRACE`
+/// `simulate CONFIG TRACE PATIENCE`, `timeline CONFIG TRACE PATIENCE`, `compare CONFIG OTHER TRACE PATIENCE`,
+/// `fates CONFIG TRACE PATIENCE`, `requests TRACE`, `picture CONFIG TRACE PATIENCE`, `hands CONFIG TRACE`
 /// and `trace AUDITLOG SCHEMA`.
-/// `DECK` and `HAND` are whole decimal numbers of 32 bits, `HASH` is one of 64 bits, `WORKERS` is 1 to 64, and
-/// `PATIENCE` is 0 to 1,000,000,000 microseconds.
+/// `DECK` and `HAND` are whole decimal numbers of 32 bits, `HASH` is one of 64 bits, and `WORKERS` is 1 to 64. The other
+/// arguments are texts, `PATIENCE` too.
 ///
 /// # Errors
 ///

@@ -1,5 +1,5 @@
 -- The hands of the flows of a trace, and who shares their queues.
-use Rattle.std.specs.Prelude.{ℕ, List, [], ◌++◌, Bool, not, ◌&&◌, ◌==◌, nat_lt, if◌then◌else◌, length, map, filter, slice_get, Option, Some, None, codes, decimal}
+use Rattle.std.specs.Prelude.{ℕ, ◌≢◌, ◌-◌, List, [], ◌++◌, Bool, false, not, ◌&&◌, ◌==◌, nat_lt, if◌then◌else◌, length, map, filter, take, count_by, slice_get, Option, Some, None, bytes_eq, codes, decimal, string_bytes}
 use Rattle.std.specs.List.{flat_map, filter_map, list_any, list_all}
 use Rattle.apf_model.specs.declared.response.Response.{Response}
 use Rattle.apf_model.specs.declared.response.Response.TheVariants.{Queue, Reject}
@@ -10,6 +10,8 @@ use Rattle.apf_flow.specs.Fault.{fault_of}
 use Rattle.apf_flow.specs.declared.fault.DealerFault.{DealerFault}
 use Rattle.apf_traces.specs.declared.request.FlowNames.{FlowNames}
 use Rattle.apf_traces.specs.declared.request.TraceRequest.{TraceRequest}
+use Rattle.apf_flows.specs.declared.hands.HandsFault.{HandsFault}
+use Rattle.apf_flows.specs.declared.hands.HandsFault.TheVariants.{Dealer}
 use Rattle.apf_flows.specs.Flows.{hashes_of, firsts_of}
 use Rattle.apf_flows.specs.Names.{hash_text, names_text, of_names_text}
 
@@ -103,10 +105,77 @@ covers_line flow flows = codes "  covered by" ++ all_covers_text flow flows ++ c
 unfoldable pub covers_text : Flow → List Flow → List ℕ
 covers_text flow flows = if list_any (covers flow) flows then covers_line flow flows else []
 
--- the lines of a flow
+-- how many of the flows hold a queue
+abbrev pub holders_of : List Flow → ℕ → ℕ
+holders_of flows queue = count_by (λ flow. holds flow.hand queue) flows
+
+-- how many hold a queue of a flow beside that flow, which stands among the flows once
+abbrev pub sharers_of : List Flow → ℕ → ℕ
+sharers_of flows queue = holders_of flows queue - 1
+
+-- the line of a queue of a flow that others hold too, and nothing of one that it has alone
+unfoldable pub sharers_line : ℕ → ℕ → List ℕ
+sharers_line queue sharers = codes "  shares " ++ decimal queue ++ codes " with " ++ decimal sharers ++ codes " flows\n"
+
+abbrev pub sharers_text : List Flow → ℕ → List ℕ
+sharers_text flows queue = if nat_lt 0 (sharers_of flows queue) then sharers_line queue (sharers_of flows queue) else []
+
+-- the lines of the queues of a hand
+abbrev pub all_sharers_text : List Flow → List ℕ → List ℕ
+all_sharers_text flows hand = flat_map (sharers_text flows) hand
+
+-- the hashes of the other flows whose hands hold all queues of this one's
+abbrev pub covering : Flow → List Flow → List ℕ
+covering flow flows = map (λ other. other.hash) (filter (covers flow) flows)
+
+-- so many flows that cover a hand are named
+abbrev pub most_named : ℕ
+most_named = 10
+
+-- hashes, each with a space before it
+abbrev pub named_text : List ℕ → List ℕ
+named_text hashes = flat_map (λ hash. codes " " ++ hash_text hash) hashes
+
+-- the line that names flows that cover a hand
+unfoldable pub named_line : List ℕ → List ℕ
+named_line hashes = codes "  covered by" ++ named_text hashes ++ codes "\n"
+
+-- the line of how many more there are
+unfoldable pub more_line : ℕ → List ℕ
+more_line count = codes "  covered by " ++ decimal count ++ codes " more\n"
+
+-- the first of the flows that cover a hand, and how many more there are
+unfoldable pub covering_text : List ℕ → List ℕ
+covering_text hashes = (if nat_lt 0 (length hashes) then named_line (take most_named hashes) else [])
+    ++ (if nat_lt most_named (length hashes) then more_line (length hashes - most_named) else [])
+
+-- the lines of a flow: its hand, its shared queues, and who covers it
 abbrev pub flow_text : List Flow → Flow → List ℕ
-flow_text flows flow = hand_text flow ++ shares_text flow flows ++ covers_text flow flows
+flow_text flows flow = hand_text flow ++ all_sharers_text flows flow.hand ++ covering_text (covering flow flows)
 
 -- the lines of all flows
 abbrev pub hands_text : List Flow → List ℕ
 hands_text flows = flat_map (flow_text flows) flows
+
+-- the lines of one flow: its hand, each other flow that shares a queue, and all that cover it
+abbrev pub whole_text : List Flow → Flow → List ℕ
+whole_text flows flow = hand_text flow ++ shares_text flow flows ++ covers_text flow flows
+
+-- the flow's first request has names, of which this is the distinguisher
+abbrev pub has_distinguisher : List ℕ → Option FlowNames → Bool
+has_distinguisher distinguisher None = false
+has_distinguisher distinguisher (Some names) = bytes_eq (string_bytes names.distinguisher) distinguisher
+
+abbrev pub is_named : List ℕ → Flow → Bool
+is_named distinguisher flow = has_distinguisher distinguisher flow.names
+
+-- the lines of those among some flows that have this distinguisher, where these are all flows
+abbrev pub named_whole_text : List ℕ → List Flow → Flow → List ℕ
+named_whole_text distinguisher flows flow = if is_named distinguisher flow then whole_text flows flow else []
+
+abbrev pub part_text : List ℕ → List Flow → List Flow → List ℕ
+part_text distinguisher flows some = flat_map (named_whole_text distinguisher flows) some
+
+-- it is no fault of the dealer's
+abbrev pub IsNoDealer : HandsFault → Type 0
+IsNoDealer told = (fault : DealerFault) → told ≢ Dealer fault

@@ -6,8 +6,8 @@ ghost use Rattle.std.specs.Result.{result_err};
 ghost use Rattle.apf_flows.specs.Hands.{hand_by, sizes_of, fault_by, dealt_by};
 ghost use Rattle.apf_flows.specs.Dealt.{flow_of};
 
-use apf_model::{Config, Response};
 use apf_flow::{Dealer, DealerFault};
+use apf_model::{Config, Response};
 use apf_traces::TraceRequest;
 use arrayvec::ArrayVec;
 use std::alloc::{AllocError, Global};

@@ -1,19 +1,21 @@
 //! The hands of the flows of a trace, and who shares their queues.
 
-ghost use Rattle.std.specs.Prelude.{◌≡◌, ◌≤◌, OnOk, IfErr, IfSome, Some, Err, length};
-ghost use Rattle.std.specs.List.{flat_map};
+ghost use Rattle.std.specs.Prelude.{◌≡◌, ◌≤◌, OnOk, IfOk, IfErr, IfSome, Some, Err, length, map};
+ghost use Rattle.std.specs.List.{flat_map, range_with_len};
 ghost use Rattle.std.specs.Io.KnownBytes.{Appends};
 ghost use Rattle.apf_flow.specs.declared.fault.DealerFault.{DealerFault as Fault};
 ghost use Rattle.apf_flows.specs.declared.hands.HandsFault.TheVariants.{NoMemory, CannotWrite};
 ghost use Rattle.apf_flows.specs.Flows.{max_requests};
-ghost use Rattle.apf_flows.specs.Dealt.{flows_of as flows_of_dealt};
-ghost use Rattle.apf_flows.specs.Hands.{sizes_of, fault_by, flows_in, hands_text};
+ghost use Rattle.apf_flows.specs.Dealt.{flow_of as flow_of_dealt, flows_of as flows_of_dealt};
+ghost use Rattle.apf_flows.specs.Hands.{sizes_of, fault_by, flows_in, flow_text, hands_text, holders_of, IsNoDealer, part_text, is_named as the_is_named};
 
+use crate::brief::{covering_hashes, write_all_sharers, write_covering};
 use crate::dealt::{Dealt, deal_all, dealer_of};
 use crate::flows::flows_of;
-use crate::sharing::write_flow;
-use apf_model::Config;
+use crate::holders::count_all;
+use crate::sharing::{write_hand, write_whole};
 use apf_flow::DealerFault;
+use apf_model::Config;
 use apf_traces::TraceRequest;
 use std::alloc::{AllocError, Global};
 use std::io;
@@ -50,21 +52,90 @@ impl From<io::Error> for HandsFault {
     }
 }
 
-// Writes the lines of all flows.
-fn write_flows<W: Write>(out: &mut W, flows: &[Dealt<'_>]) -> io::Result<()>
-    ensures { OnOk result (Appends (W.contents out.old) (W.contents out.new) (hands_text (flows_of_dealt flows.now))) }
+// Writes the lines of a flow.
+fn write_flow<W: Write>(
+    alloc: Global,
+    out: &mut W,
+    flow: &Dealt<'_>,
+    flows: &[Dealt<'_>],
+    holders: &[usize],
+    queues: u32,
+) -> Result<(), HandsFault>
+    requires { holders.now ≡ map (holders_of (flows_of_dealt flows.now)) (range_with_len 0 queues) }
+    ensures ok { OnOk result (Appends (W.contents out.old) (W.contents out.new) (flow_text (flows_of_dealt flows.now) (flow_of_dealt flow.now))) }
+    ensures no_dealer { IfErr result IsNoDealer }
 {
+    let covering = covering_hashes(alloc, flow, flows)?;
+    write_hand(out, flow)?;
+    write_all_sharers(out, flows, holders, flow.hand.as_slice(), queues)?;
+    write_covering(out, covering.as_slice())?;
+    Ok(())
+}
+
+// Writes the lines of all flows.
+fn write_flows<W: Write>(
+    alloc: Global,
+    out: &mut W,
+    flows: &[Dealt<'_>],
+    queues: u32,
+) -> Result<(), HandsFault>
+    ensures ok { OnOk result (Appends (W.contents out.old) (W.contents out.new) (hands_text (flows_of_dealt flows.now))) }
+    ensures no_dealer { IfErr result IsNoDealer }
+{
+    let holders = count_all(alloc, flows, queues)?;
     for flow in flows {
-        write_flow(out, flow, flows)?;
+        write_flow(alloc, out, flow, flows, holders.as_slice(), queues)?;
     }
     Ok(())
 }
 
+// Whether the flow has this distinguisher.
+fn is_named(flow: &Dealt<'_>, distinguisher: &str) -> bool
+    ensures { result ≡ the_is_named distinguisher.now (flow_of_dealt flow.now) }
+{
+    match &flow.first.names {
+        Some(names) => names.distinguisher.as_str() == distinguisher,
+        None => false,
+    }
+}
+
+// Writes the lines of the flows of this distinguisher.
+fn write_part<W: Write>(out: &mut W, flows: &[Dealt<'_>], distinguisher: &str) -> io::Result<()>
+    ensures { OnOk result (Appends (W.contents out.old) (W.contents out.new) (part_text distinguisher.now (flows_of_dealt flows.now) (flows_of_dealt flows.now))) }
+{
+    for flow in flows {
+        if is_named(flow, distinguisher) {
+            write_whole(out, flow, flows)?;
+        }
+    }
+    Ok(())
+}
+
+// The flows of a trace, each with its hand.
+fn dealt_flows<'a>(
+    alloc: Global,
+    config: &Config,
+    trace: &'a [TraceRequest],
+) -> Result<Vec<Dealt<'a>>, HandsFault>
+    requires { length trace.now ≤ max_requests }
+    ensures ok { IfOk result (λ all. flows_of_dealt all.items ≡ flows_in (sizes_of config.now) trace.now) }
+    ensures dealer { IfSome (fault_by (sizes_of config.now)) (λ fault. result ≡ Err (HandsFault.Dealer fault)) }
+    ensures no_other { IfErr result (λ told. (fault : Fault) → told ≡ HandsFault.Dealer fault → fault_by (sizes_of config.now) ≡ Some fault) }
+{
+    let dealer = match dealer_of(config) {
+        Ok(dealer) => dealer,
+        Err(fault) => return Err(HandsFault::Dealer(fault)),
+    };
+    let flows = flows_of(alloc, trace)?;
+    Ok(deal_all(alloc, &dealer, trace, flows.firsts.as_slice())?)
+}
+
 /// Writes each flow of a trace with the hand of queues that it is dealt, in the order of their first requests.
 ///
-/// Below it stands a line for each other flow that shares a queue with it, with the queues that are shared in the
-/// order of the hand. If the hands of other flows hold all of its queues, a last line names those flows. A flow has
-/// its hash, and the names that its first request has. On a level that rejects, the hands have no queues.
+/// Below it stands a line for each of its queues that other flows hold too, with how many do. If the hands of other
+/// flows hold all of its queues, a line names the first ten of those flows, and another one says how many more there
+/// are. A flow has its hash, and the names that its first request has. On a level that rejects, the hands have no
+/// queues.
 ///
 /// # Errors
 ///
@@ -83,12 +154,36 @@ pub fn write_hands<W: Write>(
     ensures dealer { IfSome (fault_by (sizes_of config.now)) (λ fault. (result ≡ Err (HandsFault.Dealer fault)) × (out.new ≡ out.old)) }
     ensures no_other { IfErr result (λ told. (fault : Fault) → told ≡ HandsFault.Dealer fault → fault_by (sizes_of config.now) ≡ Some fault) }
 {
-    let dealer = match dealer_of(config) {
-        Ok(dealer) => dealer,
-        Err(fault) => return Err(HandsFault::Dealer(fault)),
-    };
-    let flows = flows_of(alloc, trace)?;
-    let dealt = deal_all(alloc, &dealer, trace, flows.firsts.as_slice())?;
-    write_flows(out, dealt.as_slice())?;
+    let flows = dealt_flows(alloc, config, trace)?;
+    write_flows(alloc, out, flows.as_slice(), config.queues)
+}
+
+/// Writes the flows of a trace that have this distinguisher, each with the hand of queues that it is dealt, in the
+/// order of their first requests.
+///
+/// Below each stands a line for each other flow that shares a queue with it, with the queues that are shared in the
+/// order of the hand. If the hands of other flows hold all of its queues, a last line names those flows. A flow has
+/// its hash, and the names that its first request has. Nothing is written if no flow has the distinguisher.
+///
+/// # Errors
+///
+/// As for [`write_hands`].
+pub fn write_hands_of<W: Write>(
+    alloc: Global,
+    config: &Config,
+    trace: &[TraceRequest],
+    distinguisher: &str,
+    out: &mut W,
+) -> Result<(), HandsFault>
+    requires { length trace.now ≤ max_requests }
+    ensures ok { OnOk result (Appends (W.contents out.old) (W.contents out.new)
+        (part_text distinguisher.now (flows_in (sizes_of config.now) trace.now) (flows_in (sizes_of config.now) trace.now))) }
+
+    // The dealer's fault is told, before anything is written, and no other fault is told as one.
+    ensures dealer { IfSome (fault_by (sizes_of config.now)) (λ fault. (result ≡ Err (HandsFault.Dealer fault)) × (out.new ≡ out.old)) }
+    ensures no_other { IfErr result (λ told. (fault : Fault) → told ≡ HandsFault.Dealer fault → fault_by (sizes_of config.now) ≡ Some fault) }
+{
+    let flows = dealt_flows(alloc, config, trace)?;
+    write_part(out, flows.as_slice(), distinguisher)?;
     Ok(())
 }

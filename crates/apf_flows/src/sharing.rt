@@ -3,7 +3,7 @@
 ghost use Rattle.std.specs.Prelude.{◌≡◌, OnOk, map};
 ghost use Rattle.std.specs.List.{list_any};
 ghost use Rattle.std.specs.Io.KnownBytes.{Appends};
-ghost use Rattle.apf_flows.specs.Hands.{shares_one, shares_all, shared, queues_text, covers, share_text, shares_text, all_covers_text, covers_line, covers_text, hand_text, flow_text};
+ghost use Rattle.apf_flows.specs.Hands.{shares_one, shares_all, shared, queues_text, covers, share_text, shares_text, all_covers_text, covers_line, covers_text, hand_text, whole_text};
 ghost use Rattle.apf_flows.specs.Dealt.{flow_of, flows_of};
 
 use crate::dealt::Dealt;
@@ -47,9 +47,9 @@ fn write_shared<W: Write>(out: &mut W, hand: &[u32], other: &[u32]) -> io::Resul
     Ok(())
 }
 
-// Writes the line of a flow and its hand.
+/// Writes the line of a flow and its hand.
 #[tactic(auto, unfolding(crate::specs::Hands::hand_text))]
-fn write_hand<W: Write>(out: &mut W, flow: &Dealt<'_>) -> io::Result<()>
+pub(crate) fn write_hand<W: Write>(out: &mut W, flow: &Dealt<'_>) -> io::Result<()>
     ensures { OnOk result (Appends (W.contents out.old) (W.contents out.new) (hand_text (flow_of flow.now))) }
 {
     out.write_all(b"flow ")?;
@@ -88,8 +88,8 @@ fn write_shares<W: Write>(out: &mut W, flow: &Dealt<'_>, flows: &[Dealt<'_>]) ->
     Ok(())
 }
 
-// Whether another flow's hand holds all queues of this one's.
-fn is_cover(flow: &Dealt<'_>, other: &Dealt<'_>) -> bool
+/// Whether another flow's hand holds all queues of this one's.
+pub(crate) fn is_cover(flow: &Dealt<'_>, other: &Dealt<'_>) -> bool
     ensures { result ≡ covers (flow_of flow.now) (flow_of other.now) }
 {
     let (hand, held) = (flow.hand.as_slice(), other.hand.as_slice());
@@ -137,13 +137,13 @@ fn write_covered<W: Write>(out: &mut W, flow: &Dealt<'_>, flows: &[Dealt<'_>]) -
     Ok(())
 }
 
-/// Writes the lines of a flow.
-pub(crate) fn write_flow<W: Write>(
+/// Writes the lines of a flow, with each other flow that shares a queue, and all that cover its hand.
+pub(crate) fn write_whole<W: Write>(
     out: &mut W,
     flow: &Dealt<'_>,
     flows: &[Dealt<'_>],
 ) -> io::Result<()>
-    ensures { OnOk result (Appends (W.contents out.old) (W.contents out.new) (flow_text (flows_of flows.now) (flow_of flow.now))) }
+    ensures { OnOk result (Appends (W.contents out.old) (W.contents out.new) (whole_text (flows_of flows.now) (flow_of flow.now))) }
 {
     write_hand(out, flow)?;
     write_shares(out, flow, flows)?;

@@ -56,7 +56,7 @@ add_up c w patience fs ds ts cs firsts rs e0 e1 e2 known rows sums used =
 -- the same of a simulation
 pub columns : (limit : ℕ) (ts : List TraceRequest) (patience : ℕ) (cs : List Course) (flows : Flows) (ds : List Decision) (counts : Counts) (es : List End) (rs : List Row) (w : Whole)
     → length ds ≡ length ts → AreOf ts cs → AreSums counts (slice_get ds) (length ds) → AreFlows (hashes_of ts) flows.firsts.items flows.of.items
-    → es ≡ ends_of patience flows.of.items ds ts cs → AreRows ts es 0 flows.firsts.items rs → IsWhole limit es w → AddUp counts w rs
+    → es ≡ ends_of patience flows.of.items ds ts cs → AreRows ts es 0 flows.firsts.items rs → IsWhole limit patience es w → AddUp counts w rs
 columns limit ts patience cs flows ds counts es rs w decided of sums are ends rows whole =
     let hashes : length (hashes_of ts) ≡ length ts = length-map ts (λ (r : TraceRequest). r.hash) in
     let each = are.each in

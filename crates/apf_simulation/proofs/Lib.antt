@@ -8,3 +8,4 @@ pub mod Ranges
 pub mod Running
 pub mod Summing
 pub mod Timely
+pub mod Ordered

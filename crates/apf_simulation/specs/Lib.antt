@@ -7,3 +7,5 @@ pub mod Runs
 pub mod Tallies
 pub mod Texts
 pub mod Times
+pub mod Comparisons
+pub mod Fates

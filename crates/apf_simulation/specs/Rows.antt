@@ -34,9 +34,10 @@ abbrev pub latest : List End → ℕ
 latest [] = 0
 latest (e ∷ ends) = max e.over_at (latest ends)
 
--- what all requests came to, on a level of this limit
-pub record IsWhole (limit : ℕ) (ends : List End) (w : Whole) : Type 0 where
+-- what all requests came to, on a level of this limit, with this patience
+pub record IsWhole (limit patience : ℕ) (ends : List End) (w : Whole) : Type 0 where
   pub end : w.end ≡ latest ends
   pub seat_time : w.seat_time ≡ in_all seat_time_of ends
   pub possible : w.possible ≡ limit * w.end
   pub waited : w.waited ≡ in_all wait_of ends
+  pub gives_up_after : w.patience ≡ patience

@@ -30,7 +30,7 @@ pub record IsMadeOf (limit : ℕ) (trace : List TraceRequest) (patience : ℕ) (
   pub in_order : s.flows.firsts.items ≡ firsts_of (hashes_of trace)
   pub ends : s.ends.items ≡ ends_of patience s.flows.of.items r.decisions.items trace d.calendar.courses
   pub rows : AreRows trace s.ends.items 0 s.flows.firsts.items s.rows.items
-  pub whole : IsWhole limit s.ends.items s.whole
+  pub whole : IsWhole limit patience s.ends.items s.whole
   pub areas : AreAreas trace s.ends.items s.whole
   pub columns : AddUp r.counts s.whole s.rows.items
 

@@ -19,8 +19,8 @@ decided_text r = codes " requests " ++ decimal r.tally.requests ++ codes " execu
 
 -- what they used, and how long they waited
 unfoldable pub used_text : Row → List ℕ
-used_text r = codes " seat-time " ++ decimal r.tally.seat_time ++ codes " wait " ++ decimal r.spread.median
-    ++ codes " " ++ decimal r.spread.high ++ codes " " ++ decimal r.spread.greatest
+used_text r = codes " seat-time " ++ decimal r.tally.seat_time ++ codes " wait median " ++ decimal r.spread.median
+    ++ codes " p99 " ++ decimal r.spread.high ++ codes " longest " ++ decimal r.spread.greatest
 
 -- the line of a flow, up to its names
 unfoldable pub row_text : Row → List ℕ
@@ -39,10 +39,17 @@ flow_text trace r = row_text r ++ first_names (slice_get trace r.first) ++ codes
 abbrev pub flows_text : List TraceRequest → List Row → List ℕ
 flows_text trace rows = flat_map (flow_text trace) rows
 
+-- when the last thing was done, and the seats that were used and that could have been
+unfoldable pub spent_text : Whole → List ℕ
+spent_text w = codes "end " ++ decimal w.end ++ codes " seat-time " ++ decimal w.seat_time ++ codes " of " ++ decimal w.possible
+
+-- how long all requests waited, and for how long one waits before it gives up
+unfoldable pub waited_text : Whole → List ℕ
+waited_text w = codes " waited " ++ decimal w.waited ++ codes " patience " ++ decimal w.patience ++ codes "\n"
+
 -- the line of the whole
-unfoldable pub whole_text : Whole → List ℕ
-whole_text w = codes "end " ++ decimal w.end ++ codes " seat-time " ++ decimal w.seat_time ++ codes " of " ++ decimal w.possible
-    ++ codes " waited " ++ decimal w.waited ++ codes "\n"
+abbrev pub whole_text : Whole → List ℕ
+whole_text w = spent_text w ++ waited_text w
 
 -- whether it is a cancellation
 abbrev pub is_cancelled : Decision → Bool

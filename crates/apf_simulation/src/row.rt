@@ -93,7 +93,7 @@ impl Row {
         let greatest = self.spread.greatest;
         write!(
             out,
-            " seat-time {seat_time} wait {median} {high} {greatest}"
+            " seat-time {seat_time} wait median {median} p99 {high} longest {greatest}"
         )
     }
 }

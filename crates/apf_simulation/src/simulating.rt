@@ -140,7 +140,7 @@ fn simulation_of(
         patience,
     )?;
     let rows = rows_of(alloc, trace, flows.firsts.as_slice(), ends.as_slice())?;
-    let whole = Whole::of(ends.as_slice(), limit);
+    let whole = Whole::of(ends.as_slice(), limit, patience);
     Ok(Simulation {
         flows,
         ends,

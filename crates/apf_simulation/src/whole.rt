@@ -6,7 +6,7 @@ ghost use Rattle.std.specs.Io.KnownBytes.{Appends};
 ghost use Rattle.apf_words.specs.Limits.{max_limit};
 ghost use Rattle.apf_simulation.specs.Ends.{IsSmall};
 ghost use Rattle.apf_simulation.specs.Rows.{IsWhole};
-ghost use Rattle.apf_simulation.specs.Texts.{whole_text};
+ghost use Rattle.apf_simulation.specs.Texts.{spent_text, waited_text, whole_text};
 
 use crate::end::End;
 use std::io;
@@ -23,15 +23,17 @@ pub struct Whole {
     pub possible: u64,
     /// The sum of the requests' waits.
     pub waited: u64,
+    /// How long a request waits before it gives up, or 0 if none does.
+    pub patience: u64,
 }
 
 impl Whole {
-    /// Of all requests, on a level of this limit.
-    pub(crate) fn of(ends: &[End], limit: u32) -> Whole
+    /// Of all requests, on a level of this limit, with this patience.
+    pub(crate) fn of(ends: &[End], limit: u32, patience: u64) -> Whole
         requires few { length ends.now ≤ 10000 }
         requires small { AllByRecursion IsSmall ends.now }
         requires limit { limit ≤ max_limit }
-        ensures { IsWhole limit ends.now result }
+        ensures { IsWhole limit patience ends.now result }
     {
         let mut end = 0u64;
         let mut seat_time = 0u64;
@@ -46,21 +48,34 @@ impl Whole {
             seat_time,
             possible: u64::from(limit) * end,
             waited,
+            patience,
         }
     }
 
-    /// Writes the line of the whole.
-    #[tactic(auto, unfolding(crate::specs::Texts::whole_text))]
-    pub(crate) fn write<W: Write>(&self, out: &mut W) -> io::Result<()>
-        ensures { OnOk result (Appends (W.contents out.old) (W.contents out.new) (whole_text self.now)) }
+    #[tactic(auto, unfolding(crate::specs::Texts::spent_text))]
+    fn write_spent<W: Write>(&self, out: &mut W) -> io::Result<()>
+        ensures { OnOk result (Appends (W.contents out.old) (W.contents out.new) (spent_text self.now)) }
     {
         let end = self.end;
         let seat_time = self.seat_time;
         let possible = self.possible;
+        write!(out, "end {end} seat-time {seat_time} of {possible}")
+    }
+
+    #[tactic(auto, unfolding(crate::specs::Texts::waited_text))]
+    fn write_waited<W: Write>(&self, out: &mut W) -> io::Result<()>
+        ensures { OnOk result (Appends (W.contents out.old) (W.contents out.new) (waited_text self.now)) }
+    {
         let waited = self.waited;
-        writeln!(
-            out,
-            "end {end} seat-time {seat_time} of {possible} waited {waited}"
-        )
+        let patience = self.patience;
+        writeln!(out, " waited {waited} patience {patience}")
+    }
+
+    /// Writes the line of the whole.
+    pub(crate) fn write<W: Write>(&self, out: &mut W) -> io::Result<()>
+        ensures { OnOk result (Appends (W.contents out.old) (W.contents out.new) (whole_text self.now)) }
+    {
+        self.write_spent(out)?;
+        self.write_waited(out)
     }
 }

@@ -25,8 +25,8 @@ returns-clause-made c =
     let rows : AreRows ts es 0 flows.firsts.items rs =
     subst (λ xs. AreRows ts xs 0 flows.firsts.items rs) c.as_slice-4.ensures.value
     (subst (λ xs. AreRows ts c.as_slice-4.result.now 0 xs rs) c.as_slice-3.ensures.value c.in_ok-rows.ensures) in
-    let whole : IsWhole limit es w = subst (λ xs. IsWhole limit xs w) c.as_slice-5.ensures.value c.of-whole.ensures in
-    let made : IsWhole limit (ends_of patience fs ds ts cs) w = subst (λ xs. IsWhole limit xs w) is whole in
+    let whole : IsWhole limit patience es w = subst (λ xs. IsWhole limit patience xs w) c.as_slice-5.ensures.value c.of-whole.ensures in
+    let made : IsWhole limit patience (ends_of patience fs ds ts cs) w = subst (λ xs. IsWhole limit patience xs w) is whole in
     let ended = made.end in
     let late : latest (ends_of patience fs ds ts cs) ≤ w.end = omega arith in
     record {

@@ -211,5 +211,8 @@ fn eight_set_limits_while_four_take(rt: HostRuntime) {
             break;
         }
     }
-    assert!(rt; raced.min(set_raced) >= ENOUGH, "{raced} of the takes, {set_raced} of the settings");
+    assert!(rt;
+        raced.min(set_raced) >= ENOUGH,
+        "{raced} of the takes, {set_raced} of the settings"
+    );
 }

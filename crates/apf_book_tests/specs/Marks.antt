@@ -8,5 +8,5 @@ abbrev pub no_gate : GateId
 no_gate =
     record {
       table = record { words = 0; slots = 0; views_name = 0; atom = 0; block = 0; offset = 0; slot_names = [] };
-      shape = record { limit = 0; response = Queue; widths = []; stations = 0 };
+      shape = record { limit = 0; response = Queue; widths = []; stations = 0; slots = 0 };
     }

@@ -146,10 +146,12 @@ fn serve_all<K: Naming, R: Threads + Wait + Abort + Sync>(
     requires { 1 < length K.level.gate.shape.widths }
     ensures { length requests.new ≡ length requests.old }
 {
+    // a thread for the first request, and one for each sleeper
+    let threads = sleepers.count as usize + 1;
     thread::for_each_mut(
         rt,
         requests,
-        requests.len(),
+        threads,
         &|place: usize, request: &mut Request<K>|
             requires { 1 < length K.level.gate.shape.widths }
         { serve(rt, level, sleepers, caller, place, request) },

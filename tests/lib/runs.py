@@ -168,6 +168,7 @@ class Fates:
         executed = [(it, request) for it, request in each if it["decision"] == "execute"]
         rejected = [it for it in self.rows if it["decision"] in ("queue-full", "concurrency-limit")]
         cancelled = [it for it in self.rows if it["decision"] == "cancelled"]
+        ends = [(it["queue"] != "-", int(it["end"]) - int(it["arrival"])) for it in cancelled]
         sentences = [
             ("each line is of its request", all(it["arrival"] == str(request["arrivesAt"]) and it["flow"] == f"{request['hash']:016x}" for it, request in each)),
             ("the lines are in the order of the arrivals", arrivals == sorted(arrivals)),
@@ -175,7 +176,7 @@ class Fates:
             ("who waited had entered a queue", all(int(it["start"]) >= int(it["arrival"]) and (it["queue"] != "-" or it["start"] == it["arrival"]) for it, _ in executed)),
             ("nobody starts after the end of its patience", not patience or all(int(it["start"]) - int(it["arrival"]) <= patience for it, _ in executed)),
             ("who is rejected enters no queue, and ends at its arrival", all((it["queue"], it["end"]) == ("-", it["arrival"]) for it in rejected)),
-            ("who gives up had entered a queue, and ends with its patience", all(it["queue"] != "-" and int(it["end"]) == int(it["arrival"]) + patience > int(it["arrival"]) for it in cancelled)),
+            ("who gives up had entered a queue, and ends with its patience", all(patience > 0 and it == (True, patience) for it in ends)),
             ("the seats in use are within the limit", self.is_within(limit, executed)),
         ]
         return [name for name, holds in sentences if not holds]

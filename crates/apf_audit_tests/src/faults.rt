@@ -53,8 +53,16 @@ fn last_line_without_an_end(rt: HostRuntime) -> Result<(), Fail> {
     ] {
         let mut text = String::from_str(alloc, PLAIN)?;
         text.push_str(last)?;
-        assert_eq!(rt; ends_early(alloc, text.as_bytes())?, is_left_out, "at {last}");
-        assert_eq!(rt; read_audit_log(alloc, text.as_bytes()).err(), fault, "at {last}");
+        assert_eq!(rt;
+            ends_early(alloc, text.as_bytes())?,
+            is_left_out,
+            "at {last}"
+        );
+        assert_eq!(rt;
+            read_audit_log(alloc, text.as_bytes()).err(),
+            fault,
+            "at {last}"
+        );
     }
     Ok(())
 }
@@ -64,7 +72,10 @@ fn last_line_without_an_end(rt: HostRuntime) -> Result<(), Fail> {
 fn no_json_before_the_last_line(rt: HostRuntime) -> Result<(), Fail> {
     let bytes = b"{\n{";
     assert_eq!(rt; ends_early(rt.alloc(), bytes.as_slice())?, true);
-    assert_eq!(rt; read_audit_log(rt.alloc(), bytes.as_slice()).err(), Some(AuditFault::NotUtf8Json(1)));
+    assert_eq!(rt;
+        read_audit_log(rt.alloc(), bytes.as_slice()).err(),
+        Some(AuditFault::NotUtf8Json(1))
+    );
     Ok(())
 }
 

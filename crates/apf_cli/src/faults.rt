@@ -51,7 +51,10 @@ impl Fault {
     /// fault; 3 out of memory, or a worker that could not be started.
     pub fn status(&self) -> u8 {
         match self {
-            Fault::Dealer(_, Sizes::OfCommandLine) | Fault::TwoInputs | Fault::LongSchema | Fault::BadPatience => 2,
+            Fault::Dealer(_, Sizes::OfCommandLine)
+            | Fault::TwoInputs
+            | Fault::LongSchema
+            | Fault::BadPatience => 2,
             Fault::Worker(_) | Fault::NoMemory => 3,
             Fault::Dealer(_, Sizes::OfConfig)
             | Fault::Config(_)

@@ -57,8 +57,7 @@ pub(crate) fn print_picture<F: Files, O: Write, R: Wait>(
     names: (&str, &str),
     patience: &str,
     out: &mut O,
-) -> Result<(), Fault>
-{
+) -> Result<(), Fault> {
     let (config, trace, simulation) = simulated(rt, alloc, files, names, patience)?;
     let log = simulation.report.log.as_slice();
     let outcomes = outcomes_of(alloc, log, simulation.ends.as_slice())?;

@@ -102,8 +102,7 @@ pub(crate) fn print_simulation<F: Files, O: Write, R: Wait>(
     names: (&str, &str),
     patience: &str,
     out: &mut O,
-) -> Result<(), Fault>
-{
+) -> Result<(), Fault> {
     let (_config, trace, simulation) = simulated(rt, alloc, files, names, patience)?;
     simulation
         .write(trace.as_slice(), out)
@@ -123,8 +122,7 @@ pub(crate) fn print_timeline<F: Files, O: Write, R: Wait>(
     names: (&str, &str),
     patience: &str,
     out: &mut O,
-) -> Result<(), Fault>
-{
+) -> Result<(), Fault> {
     let (_config, _trace, simulation) = simulated(rt, alloc, files, names, patience)?;
     simulation
         .write_timeline(out)

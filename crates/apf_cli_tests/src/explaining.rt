@@ -90,8 +90,7 @@ fn file_that_is_not_there(rt: HostRuntime) {
         script: "",
     };
     let words = ["apf", "explain", "config", "elsewhere", "script"];
-    let out =
-        "elsewhere: can't be read: there is no such file\n";
+    let out = "elsewhere: can't be read: there is no such file\n";
     check(&rt, files, &words, 1, out, "apf: cannot read requests\n");
 }
 

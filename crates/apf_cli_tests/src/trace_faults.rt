@@ -23,8 +23,14 @@ fn refuses<R: Abort + Wait + Threads + Sync>(rt: &R, alloc: Global, trace: &str,
 #[test]
 fn faults_of_a_trace(rt: HostRuntime) {
     for (trace, line) in [
-        ("\n", "apf: trace fault 3 at line 1: this is not JSON at column 0: the text ends too early\n"),
-        ("[]\n", "apf: trace fault 4 at line 1: a request is a JSON object, but this is an array\n"),
+        (
+            "\n",
+            "apf: trace fault 3 at line 1: this is not JSON at column 0: the text ends too early\n",
+        ),
+        (
+            "[]\n",
+            "apf: trace fault 4 at line 1: a request is a JSON object, but this is an array\n",
+        ),
         (
             "{\"work\":0}\n",
             "apf: trace fault 5 at line 1: the key \"work\" is unknown: a request of a trace has arrivesAt, runsFor, schema, distinguisher, hash, width and cost\n",

@@ -96,7 +96,8 @@ fn compares_a_level_with_itself(rt: HostRuntime) {
 // A patience that is none is told before any file is read.
 #[test]
 fn bad_patience(rt: HostRuntime) {
-    let line = "apf: PATIENCE must be a whole number, alone or with us, ms or s behind it, of at most 1000000000 microseconds\n";
+    let line =
+        "apf: PATIENCE must be a whole number, alone or with us, ms or s behind it, of at most 1000000000 microseconds\n";
     let rows: [&[&str]; 5] = [
         &["apf", "simulate", "absent", "trace", "x"],
         &["apf", "timeline", "absent", "trace", "1000000001"],
@@ -233,5 +234,12 @@ fn trace_of_an_audit_log(rt: HostRuntime) {
 fn log_that_is_still_written(rt: HostRuntime) {
     let words = ["apf", "trace", "trace", "users"];
     let line = "apf: the last line is left out: it has no LF at its end, and is not whole JSON\n";
-    check(&rt, of(rt.alloc(), CONFIG, "{\"stage\":"), &words, 0, "", line);
+    check(
+        &rt,
+        of(rt.alloc(), CONFIG, "{\"stage\":"),
+        &words,
+        0,
+        "",
+        line,
+    );
 }

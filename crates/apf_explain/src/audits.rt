@@ -72,11 +72,7 @@ fn is_an_object(value: Option<&Value>) -> bool
 }
 
 // Writes that a value is no event.
-fn write_not_event<W: Write>(
-    out: &mut W,
-    place: Place<'_>,
-    value: Option<&Value>,
-) -> io::Result<()>
+fn write_not_event<W: Write>(out: &mut W, place: Place<'_>, value: Option<&Value>) -> io::Result<()>
     ensures { OnOk result (IfSome (not_event_text (place_text place.entry.name.now place.entry.part) (option_map (λ value. view value.now) value.entry))
         (Appends (W.contents out.old) (W.contents out.new))) }
 {
@@ -123,7 +119,10 @@ fn write_user<W: Write>(out: &mut W, place: Place<'_>, value: Option<&Value>) ->
 fn wait_of(value: Option<&Value>) -> Option<&Value>
     ensures { option_map (λ found. view found.now) result ≡ wait_found (option_map (λ whole. view whole.now) value.entry) }
 {
-    value_at(value_at(value, "annotations"), "apiserver.latency.k8s.io/apf-queue-wait")
+    value_at(
+        value_at(value, "annotations"),
+        "apiserver.latency.k8s.io/apf-queue-wait",
+    )
 }
 
 // Writes that the run is none that a trace can have.

@@ -60,10 +60,7 @@ pub(crate) fn write_required<W: Write>(
 {
     match found {
         Some(_) => write_unwanted(out, place, key, found, wanted),
-        None => writeln!(
-            out,
-            "{place}the key {key} is missing: it must be {wanted}"
-        ),
+        None => writeln!(out, "{place}the key {key} is missing: it must be {wanted}"),
     }
 }
 
@@ -89,12 +86,7 @@ pub(crate) fn write_too_long<W: Write>(
 }
 
 // Writes at which column of a line the reader stopped, and why.
-fn write_column<W: Write>(
-    out: &mut W,
-    place: Place<'_>,
-    column: usize,
-    why: &str,
-) -> io::Result<()>
+fn write_column<W: Write>(out: &mut W, place: Place<'_>, column: usize, why: &str) -> io::Result<()>
     ensures { OnOk result (Appends (W.contents out.old) (W.contents out.new) (column_text (place_text place.entry.name.now place.entry.part) column why.now)) }
 {
     writeln!(out, "{place}this is not JSON at column {column}{why}")

@@ -63,11 +63,26 @@ fn is_cut_inside(alloc: Global, bytes: &[u8], whole: usize) -> Result<bool, Expl
 }
 
 const BEGINNINGS: [(&[u8], &str); 5] = [
-    (b"\xef\xbb\xbf", ": the bytes begin with a mark of byte order (BOM): take it away"),
-    (b"\xff\xfe", ": the bytes begin as UTF-16 does: they must be UTF-8"),
-    (b"\xfe\xff", ": the bytes begin as UTF-16 does: they must be UTF-8"),
-    (b"\x1f\x8b", ": the bytes begin as gzip does: unpack them first"),
-    (b"[", ": an array begins here: write one object on each line"),
+    (
+        b"\xef\xbb\xbf",
+        ": the bytes begin with a mark of byte order (BOM): take it away",
+    ),
+    (
+        b"\xff\xfe",
+        ": the bytes begin as UTF-16 does: they must be UTF-8",
+    ),
+    (
+        b"\xfe\xff",
+        ": the bytes begin as UTF-16 does: they must be UTF-8",
+    ),
+    (
+        b"\x1f\x8b",
+        ": the bytes begin as gzip does: unpack them first",
+    ),
+    (
+        b"[",
+        ": an array begins here: write one object on each line",
+    ),
 ];
 
 // What is known of why the bytes of a line are no JSON, by how they begin.

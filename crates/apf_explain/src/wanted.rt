@@ -33,9 +33,7 @@ impl fmt::Display for Wanted {
     fn fmt<W: fmt::Write>(&self, f: &mut fmt::Formatter<W>) -> fmt::Result {
         match self {
             Wanted::Whole(low, high) => write!(f, "a whole number from {low} to {high}"),
-            Wanted::Micros(high) => {
-                write!(f, "a whole number of microseconds from 0 to {high}")
-            }
+            Wanted::Micros(high) => { write!(f, "a whole number of microseconds from 0 to {high}") }
             Wanted::Request(last) => write!(f, "the number of a request, 0 to {last}"),
             Wanted::Response => f.write_str("\"Queue\" or \"Reject\""),
             Wanted::Text => f.write_str("a text"),

@@ -1,5 +1,5 @@
-use apf_explain::{explain_audit_log, explain_trace};
 use apf_audit::read_audit_log;
+use apf_explain::{explain_audit_log, explain_trace};
 use apf_traces::read_trace;
 use std::alloc::Global;
 use std::test::Fail;
@@ -26,7 +26,8 @@ fn audit_line(alloc: Global, bytes: &[u8]) -> Result<Vec<u8>, Fail> {
 #[test]
 fn fraction(rt: HostRuntime) -> Result<(), Fail> {
     let out = trace_line(rt.alloc(), b"{\"arrivesAt\":0.5}\n")?;
-    let line = "apf: trace fault 6 at line 1: arrivesAt is 0.5: it must be a whole number of microseconds from 0 to 1000000000000\n";
+    let line =
+        "apf: trace fault 6 at line 1: arrivesAt is 0.5: it must be a whole number of microseconds from 0 to 1000000000000\n";
     assert_eq!(rt; out.as_slice(), line.as_bytes());
     Ok(())
 }
@@ -35,10 +36,22 @@ fn fraction(rt: HostRuntime) -> Result<(), Fail> {
 #[test]
 fn lines_that_are_no_json(rt: HostRuntime) -> Result<(), Fail> {
     let rows: [(&[u8], &str); 9] = [
-        (b"\xef\xbb\xbf{}\n", "1: the bytes begin with a mark of byte order (BOM): take it away"),
-        (b"\xff\xfe{\n", "1: the bytes begin as UTF-16 does: they must be UTF-8"),
-        (b"\x1f\x8b\x08\n", "2: the bytes begin as gzip does: unpack them first"),
-        (b"[{},\n", "4: an array begins here: write one object on each line"),
+        (
+            b"\xef\xbb\xbf{}\n",
+            "1: the bytes begin with a mark of byte order (BOM): take it away",
+        ),
+        (
+            b"\xff\xfe{\n",
+            "1: the bytes begin as UTF-16 does: they must be UTF-8",
+        ),
+        (
+            b"\x1f\x8b\x08\n",
+            "2: the bytes begin as gzip does: unpack them first",
+        ),
+        (
+            b"[{},\n",
+            "4: an array begins here: write one object on each line",
+        ),
         (b"{\"a\":1e999}\n", "11: the number here is too large"),
         (b"{\n", "1: the text ends too early"),
         (b"{\"\xe2\x82\n", "3: the text ends too early"),
@@ -50,7 +63,9 @@ fn lines_that_are_no_json(rt: HostRuntime) -> Result<(), Fail> {
             ("trace", 3, trace_line(rt.alloc(), bytes)?),
             ("audit", 2, audit_line(rt.alloc(), bytes)?),
         ] {
-            let line = format!(in rt.alloc(); "apf: {name} fault {number} at line 1: this is not JSON at column {said}\n")?;
+            let line = format!(in rt.alloc();
+                "apf: {name} fault {number} at line 1: this is not JSON at column {said}\n"
+            )?;
             assert_eq!(rt; out.as_slice(), line.as_bytes());
         }
     }
@@ -61,18 +76,35 @@ fn lines_that_are_no_json(rt: HostRuntime) -> Result<(), Fail> {
 fn lines_of_an_audit_log(rt: HostRuntime) -> Result<(), Fail> {
     let front = "{\"stage\":\"ResponseComplete\",\"verb\":\"get\"";
     let user = ",\"user\":{\"username\":\"a\"}";
-    let times = ",\"requestReceivedTimestamp\":\"2026-01-31T12:00:01Z\",\"stageTimestamp\":\"2026-01-31T12:00:00Z\"";
+    let times =
+        ",\"requestReceivedTimestamp\":\"2026-01-31T12:00:01Z\",\"stageTimestamp\":\"2026-01-31T12:00:00Z\"";
     let instant = "it must be an instant from 1970 on, as \"2026-01-31T12:00:00.000000Z\"";
     let rows: [(&str, &str, &str); 5] = [
-        ("", "4", "the key user.username is missing: it must be a text of at most 4096 bytes"),
-        (",\"impersonatedUser\":{\"username\":7}", "4", "impersonatedUser.username is 7: it must be a text of at most 4096 bytes"),
+        (
+            "",
+            "4",
+            "the key user.username is missing: it must be a text of at most 4096 bytes",
+        ),
+        (
+            ",\"impersonatedUser\":{\"username\":7}",
+            "4",
+            "impersonatedUser.username is 7: it must be a text of at most 4096 bytes",
+        ),
         (user, "5", "the key requestReceivedTimestamp is missing: "),
-        (",\"user\":{\"username\":\"a\"},\"requestReceivedTimestamp\":\"noon\"", "5", "requestReceivedTimestamp is \"noon\": "),
+        (
+            ",\"user\":{\"username\":\"a\"},\"requestReceivedTimestamp\":\"noon\"",
+            "5",
+            "requestReceivedTimestamp is \"noon\": ",
+        ),
         (times, "8", ""),
     ];
     for (rest, number, said) in rows {
         let (user, said, wanted) = match number {
-            "8" => (user, "stageTimestamp is \"2026-01-31T12:00:00Z\", requestReceivedTimestamp is \"2026-01-31T12:00:01Z\" and apf-queue-wait is absent: ", "the run, which is the first less the others, must be from 0 to 10000000000 microseconds"),
+            "8" => (
+                user,
+                "stageTimestamp is \"2026-01-31T12:00:00Z\", requestReceivedTimestamp is \"2026-01-31T12:00:01Z\" and apf-queue-wait is absent: ",
+                "the run, which is the first less the others, must be from 0 to 10000000000 microseconds",
+            ),
             "5" => ("", said, instant),
             _ => ("", said, ""),
         };

@@ -76,9 +76,11 @@ fn a_writer_that_fails(rt: HostRuntime) -> Result<(), Fail> {
 #[test]
 fn characters_that_a_terminal_obeys(rt: HostRuntime) -> Result<(), Fail> {
     let mut out = Vec::new(rt.alloc());
-    let text = "~\u{7f}\u{80}\u{9f}\u{a0}\u{61b}\u{61c}\u{61d}\u{200d}\u{200e}\u{200f}\u{2010}\u{2029}\u{202a}\u{202e}\u{202f}\u{2065}\u{2066}\u{2069}\u{206a}\u{1f600}";
+    let text =
+        "~\u{7f}\u{80}\u{9f}\u{a0}\u{61b}\u{61c}\u{61d}\u{200d}\u{200e}\u{200f}\u{2010}\u{2029}\u{202a}\u{202e}\u{202f}\u{2065}\u{2066}\u{2069}\u{206a}\u{1f600}";
     write_text(&mut out, text)?;
-    let line = "\"~\\u007f\\u0080\\u009f\u{a0}\u{61b}\\u061c\u{61d}\u{200d}\\u200e\\u200f\u{2010}\u{2029}\\u202a\\u202e\u{202f}\u{2065}\\u2066\\u2069\u{206a}\u{1f600}\"";
+    let line =
+        "\"~\\u007f\\u0080\\u009f\u{a0}\u{61b}\\u061c\u{61d}\u{200d}\\u200e\\u200f\u{2010}\u{2029}\\u202a\\u202e\u{202f}\u{2065}\\u2066\\u2069\u{206a}\u{1f600}\"";
     assert_eq!(rt; out.as_slice(), line.as_bytes());
     Ok(())
 }

@@ -195,7 +195,8 @@ fn four_threads_on_two_seats(rt: HostRuntime) {
 // 1 to 4: 12 * 36 + 10 = 442.
 #[test]
 fn eight_set_limits_while_four_take(rt: HostRuntime) {
-    let mut is_seen = false;
+    let mut raced = 0u64;
+    let mut set_raced = 0u64;
     for _round in 0..100u32 {
         let counts = Counts::new();
         let words = serve_beside(&rt, rt.alloc(), &counts, 8);
@@ -204,12 +205,14 @@ fn eight_set_limits_while_four_take(rt: HostRuntime) {
         assert_eq!(rt; counts.old.load(Ordering::SeqCst).wrapping_add(last), 3538);
         assert!(rt; (1..=8).contains(&words.level().limit()));
         assert!(rt; counts.most() <= 8);
-        let raced = counts.raced.load(Ordering::SeqCst);
-        let set_raced = counts.set_raced.load(Ordering::SeqCst);
+        raced = raced.saturating_add(counts.raced.load(Ordering::SeqCst));
+        set_raced = set_raced.saturating_add(counts.set_raced.load(Ordering::SeqCst));
         if raced.min(set_raced) >= ENOUGH {
-            is_seen = true;
             break;
         }
     }
-    assert!(rt; is_seen);
+    assert!(rt;
+        raced.min(set_raced) >= ENOUGH,
+        "{raced} of the takes, {set_raced} of the settings"
+    );
 }

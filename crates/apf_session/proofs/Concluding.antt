@@ -18,15 +18,15 @@ use Rattle.apf_session.specs.Ends.{HasEnded, KeepsOrder, SessionEnds}
 -- the first of them made steps
 pub first_steps : (old : List StationToken) (x r : StationToken) → 0 < length old → x.station.number ≡ (get_or old 0 r).station.number → KeepsOrder old (set old 0 x)
 first_steps old x r some same = record {
-    count = length-set old 0 x;
-    numbers = λ i d. elim (cases_eq i 0) [
-      | inl is ↦ ap (λ (j : ℕ). (get_or (set old 0 x) j d).station.number) is
-          ∙ (ap (λ (y : StationToken). y.station.number) (get_or-set_same old 0 x d some)
-          ∙ (same ∙ (ap (λ (y : StationToken). y.station.number) (get_or_default old 0 r d some) ∙ ap (λ (j : ℕ). (get_or old j d).station.number) (sym is))))
-      | inr ne ↦ ap (λ (y : StationToken). y.station.number) (get_or-set_other old 0 i x d ne)
-    ];
-    others = λ i d ne. get_or-set_other old 0 i x d ne;
-  }
+  count = length-set old 0 x;
+  numbers = λ i d. elim (cases_eq i 0) [
+    | inl is ↦ ap (λ (j : ℕ). (get_or (set old 0 x) j d).station.number) is
+        ∙ (ap (λ (y : StationToken). y.station.number) (get_or-set_same old 0 x d some)
+        ∙ (same ∙ (ap (λ (y : StationToken). y.station.number) (get_or_default old 0 r d some) ∙ ap (λ (j : ℕ). (get_or old j d).station.number) (sym is))))
+    | inr ne ↦ ap (λ (y : StationToken). y.station.number) (get_or-set_other old 0 i x d ne)
+  ];
+  others = λ i d ne. get_or-set_other old 0 i x d ne;
+}
 
 -- none of them made steps
 pub none_steps : (old : List StationToken) → KeepsOrder old old
@@ -57,8 +57,8 @@ pub ends : (k : LevelId) (requests now : List RequestView) (operators stations :
     → IfOk result (λ (r : Report). AreStats r.stats (stats_of k.opening.sizes.deck (reverse r.log.items)))
     → IfOk result (SessionEnds k requests operators)
 ends k requests now operators stations passes (Ok r) count numbers stay many left order ended decided sums stats = record {
-    ended = record { passes = passes; stations = stations; ended = ended; all_decided = decided; sums = sums; stats = stats };
-    told = told_the_same requests now passes (slice_get r.decisions.items) (record { table = k.gate.table; pass = new_pass k.gate.shape 0 }) count numbers stay many left ended.told;
-    order = order;
-  }
+  ended = record { passes = passes; stations = stations; ended = ended; all_decided = decided; sums = sums; stats = stats };
+  told = told_the_same requests now passes (slice_get r.decisions.items) (record { table = k.gate.table; pass = new_pass k.gate.shape 0 }) count numbers stay many left ended.told;
+  order = order;
+}
 ends k requests now operators stations passes (Err e) count numbers stay many left order ended decided sums stats = ended

@@ -154,7 +154,9 @@ fn write_all_line<W: Write>(out: &mut W, one: &Figures, other: &Figures) -> io::
 fn write_header<W: Write>(out: &mut W) -> io::Result<()>
     ensures { OnOk result (Appends (W.contents out.old) (W.contents out.new) comparison_header) }
 {
-    out.write_all(b"flow requests median median-2 p99 p99-2 longest longest-2 rejected rejected-2 cancelled cancelled-2 schema distinguisher\n")
+    out.write_all(
+        b"flow requests median median-2 p99 p99-2 longest longest-2 rejected rejected-2 cancelled cancelled-2 schema distinguisher\n",
+    )
 }
 
 impl<'a> Comparison<'a> {

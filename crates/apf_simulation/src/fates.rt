@@ -80,11 +80,7 @@ fn write_asked<W: Write>(out: &mut W, request: u32, asked: &TraceRequest) -> io:
 
 // Writes the queue that it entered, and when it took its seats.
 #[tactic(auto, unfolding(crate::specs::Fates::seated_text))]
-fn write_seated<W: Write>(
-    out: &mut W,
-    queue: Option<u32>,
-    start: Option<u64>,
-) -> io::Result<()>
+fn write_seated<W: Write>(out: &mut W, queue: Option<u32>, start: Option<u64>) -> io::Result<()>
     ensures { OnOk result (Appends (W.contents out.old) (W.contents out.new) (seated_text queue start)) }
 {
     out.write_all(b" ")?;

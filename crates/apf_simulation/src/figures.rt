@@ -54,7 +54,11 @@ impl Figures {
     /// # Errors
     ///
     /// `AllocError` if memory was refused.
-    pub(crate) fn of_all(alloc: Global, ends: &[End], counts: &Counts) -> Result<Figures, AllocError>
+    pub(crate) fn of_all(
+        alloc: Global,
+        ends: &[End],
+        counts: &Counts,
+    ) -> Result<Figures, AllocError>
         ensures { IfOk result (AreOfAll ends.now counts.now) }
     {
         let mut waits = waits(alloc, ends)?;
@@ -111,11 +115,7 @@ fn write_lost<W: Write>(out: &mut W, one: &Figures, other: &Figures) -> io::Resu
 ///
 /// The writer's. Then nothing is known of how much was written.
 #[tactic(auto, unfolding(crate::specs::Comparisons::figures_text))]
-pub(crate) fn write_figures<W: Write>(
-    out: &mut W,
-    one: &Figures,
-    other: &Figures,
-) -> io::Result<()>
+pub(crate) fn write_figures<W: Write>(out: &mut W, one: &Figures, other: &Figures) -> io::Result<()>
     ensures { OnOk result (Appends (W.contents out.old) (W.contents out.new) (figures_text one.now other.now)) }
 {
     write_medians(out, one, other)?;

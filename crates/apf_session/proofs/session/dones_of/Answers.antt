@@ -9,13 +9,13 @@ pub loop-request-preserved : goal.loop-request-preserved
 loop-request-preserved g c =
     let all : List RequestView = c.args.requests.items in
     let left = left_more all c.loop-request.requests.items c.pop.new.self.items c.in-Some.request c.loop-request.dones.items c.end.result
-        c.in-Some.ensures.items c.loop-request.invariant.count c.loop-request.invariant.rest
-        (record { number = c.end.ensures.number; told = c.end.ensures.told }) c.loop-request.invariant.left in
+    c.in-Some.ensures.items c.loop-request.invariant.count c.loop-request.invariant.rest
+    (record { number = c.end.ensures.number; told = c.end.ensures.told }) c.loop-request.invariant.left in
     record {
       count = search rules;
       own = search rules;
       rest = rest_still all c.loop-request.requests.items c.pop.new.self.items c.in-Some.request c.loop-request.dones.items c.end.result
-        c.in-Some.ensures.items c.loop-request.invariant.count c.loop-request.invariant.rest;
+          c.in-Some.ensures.items c.loop-request.invariant.count c.loop-request.invariant.rest;
       left = subst (λ (l : List PassToken). (i : ℕ) (d : RequestView) (e : PassToken) → length c.pop.new.self.items ≤ i → i < length all → IsLeftOf (get_or all i d) (get_or l (length all - 1 - i) e))
-        (sym c.in_default-push.ensures.items) left;
+          (sym c.in_default-push.ensures.items) left;
     }

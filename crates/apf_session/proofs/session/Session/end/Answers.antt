@@ -8,7 +8,7 @@ use Rattle.apf_session.proofs.session.Session.end.Goals as goal
 pub returns : goal.returns
 returns g c =
     ends g.K.Naming.level c.args.self.requests.items c.settle_all.new.requests.items c.args.self.operators.items c.in_ok-stations.stations.items c.in_ok-dones-in-Ok.dones.items c.end.result
-      c.settle_all.ensures.count c.settle_all.ensures.numbers c.settle_all.ensures.told
-      c.in_ok-dones-in-Ok.ensures.count c.in_ok-dones-in-Ok.ensures.left
-      (subst (KeepsOrder c.args.self.operators.items) (sym c.in_ok-stations.ensures.same) c.settle_all.ensures.operators)
-      c.end.ensures.ended c.end.ensures.count c.end.ensures.sums c.end.ensures.stats
+    c.settle_all.ensures.count c.settle_all.ensures.numbers c.settle_all.ensures.told
+    c.in_ok-dones-in-Ok.ensures.count c.in_ok-dones-in-Ok.ensures.left
+    (subst (KeepsOrder c.args.self.operators.items) (sym c.in_ok-stations.ensures.same) c.settle_all.ensures.operators)
+    c.end.ensures.ended c.end.ensures.count c.end.ensures.sums c.end.ensures.stats

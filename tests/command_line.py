@@ -39,7 +39,7 @@ for words, line in [
     tally.check(" ".join(words), run(program, words), (2, b"", line))
 
 # help that is asked for goes to standard output, and has a line for each command, argument and file
-COMMANDS = ["  hash ", "  deal ", "  replay ", "  run ", "  services ", "  waits ", "  explain ", "  simulate ", "  timeline ", "  requests ", "  picture ", "  hands ", "  trace "]
+COMMANDS = ["  hash ", "  deal ", "  replay ", "  run ", "  services ", "  waits ", "  explain ", "  simulate ", "  timeline ", "  compare ", "  fates ", "  requests ", "  picture ", "  hands ", "  trace "]
 COMMANDS += ["apf hash workload-low alice", "  2 "]
 DEAL = ["<DECK>", "<HAND>", "<HASH>", "printf %u 0x", "not positive", "hand too large", "deck too large", "too much entropy"]
 SCRIPT = ["<CONFIG>", "<REQUESTS>", "<SCRIPT>"]
@@ -49,7 +49,7 @@ LINES = ["arrive N", "finish N", "cancel N", "close", "limit N"]
 # each command on a trace says the form of its file and the unit of its times, and that no server is simulated
 TIMES = ["<TRACE>", "JSON Lines", "microseconds", "not kube-apiserver"]
 LEVEL = ["<CONFIG>", *TIMES]
-PATIENCE = [*LEVEL, "<PATIENCE>", "0 to 1000000000"]
+PATIENCE = [*LEVEL, "<PATIENCE>", "0 to 1000000000", "15s", "500ms"]
 TRACE = ["arrivesAt", "1000000000000", "runsFor", "10000000000", "hash", "schema", "distinguisher", "width", "cost", "20000", "10000 lines", "65536"]
 FLOW = ["flow H requests N executed E rejected J cancelled X seat-time T wait median A p99 B longest C of", "SCHEMA DISTINGUISHER", "end T seat-time U of V waited W patience P"]
 for words, says in [
@@ -64,6 +64,10 @@ for words, says in [
     (["services", "--help"], SCRIPT + CONFIG + REQUESTS + LINES),
     (["simulate", "--help"], PATIENCE + TRACE + FLOW),
     (["timeline", "--help"], PATIENCE + ["apf replay", "script"]),
+    (["compare", "--help"], PATIENCE + ["<OTHER>", "median", "p99", "longest", "rejected", "cancelled", "whole", "column -t"]),
+    (["help", "compare"], PATIENCE + ["<OTHER>"]),
+    (["fates", "--help"], PATIENCE + ["arrival", "queue", "start", "end", "decision", "concurrency-limit", "column -t"]),
+    (["help", "fates"], PATIENCE),
     (["requests", "--help"], TIMES + ["apf replay", "width"]),
     (["picture", "--help"], PATIENCE + ["SVG", "apf simulate --help"]),
     (["trace", "--help"], ["<AUDITLOG>", "<SCHEMA>", "user.username", "requestReceivedTimestamp", "microseconds", "4096 bytes"]),
@@ -88,7 +92,7 @@ for words, least in ((["hash", "--help"], 1), (["deal", "--help"], 2)):
 
 # the example of simulate, with the files that it shows
 help_text = run(program, ["simulate", "--help"])[1].decode()
-found = re.search(r"^  \$ cat config.json trace.jsonl\n  (.*)\n((?:  \{.*\n)+)  \$ apf (simulate) config.json trace.jsonl (\d+)\n((?:  .*\n)+)", help_text, re.M)
+found = re.search(r"^  \$ cat config.json trace.jsonl\n  (.*)\n((?:  \{.*\n)+)  \$ apf (simulate) config.json trace.jsonl (\w+)\n((?:  .*\n)+)", help_text, re.M)
 tally.check("simulate has an example", found is not None, True)
 if found:
     config, trace, command, patience, printed = (re.sub("^  ", "", it, flags=re.M) for it in found.groups())
@@ -133,6 +137,17 @@ for words in [
     ["timeline", "a", "b", "0", "0"],
     ["timeline", "a", "b", "1000000001"],
     ["timeline", "a", "b", "1.5"],
+    ["timeline", "a", "b", "1.5s"],
+    ["compare"],
+    ["compare", "a", "b", "0"],
+    ["compare", "a", "b", "c"],
+    ["compare", "a", "b", "c", "0", "0"],
+    ["compare", "a", "b", "c", "1001s"],
+    ["compare", "a", "b", "c", "-1"],
+    ["fates"],
+    ["fates", "a", "b"],
+    ["fates", "a", "b", "0", "0"],
+    ["fates", "a", "b", "15 s"],
     ["requests"],
     ["requests", "a", "b"],
     ["hands", "a"],

@@ -66,7 +66,7 @@ for name, least in (("README.md", 2), (os.path.join("docs", "FORMATS.md"), 10)):
     tally.check(f"{name}: at least {least} commands", ran >= least, True)
     # no command of the program stands outside of what was run
     outside = re.sub(r"^```.*?^```$", "", page, flags=re.M | re.S)
-    tally.check(f"{name}: each command line is in a block that is run", re.findall(r"^\s*\$ .*|\./apf (?:hash|deal|replay|services|waits|explain|simulate|timeline|requests|hands) \S.*", outside, re.M), [])
+    tally.check(f"{name}: each command line is in a block that is run", re.findall(r"^\s*\$ .*|\./apf (?:hash|deal|replay|services|waits|explain|simulate|timeline|compare|fates|requests|hands) \S.*", outside, re.M), [])
 
 # each fault that a table lists is one that its sources have, and the other way round, with a place or without
 page = open(os.path.join(TOP, "docs", "FORMATS.md"), encoding="utf-8").read()

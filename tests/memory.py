@@ -63,6 +63,8 @@ for words, status in (
     (["simulate", tight, trace, "0"], 0),
     (["simulate", tight, trace, "3"], 0),
     (["timeline", tight, trace, "3"], 0),
+    (["fates", tight, trace, "3us"], 0),
+    (["compare", tight, roomy, trace, "3us"], 0),
     (["requests", trace], 0),
     (["hands", tight, trace], 0),
     (["picture", tight, trace, "3"], 0),
@@ -73,6 +75,7 @@ for words, status in (
     (["deal", "--help"], 0),
     (["deal", "8", "3", "x"], 2),
     (["deal", "8", "9", "0"], 2),
+    (["fates", tight, trace, "1.5s"], 2),
     (["nonsense"], 2),
     (["replay", config, bad, script], 1),
     (["replay", config, requests, bad], 1),
@@ -85,6 +88,7 @@ for words, status in (
     (["explain", config, "missing", script], 1),
     (["simulate", tight, cut, "0"], 1),
     (["hands", tight, "missing"], 1),
+    (["compare", tight, uneven, trace, "3"], 1),
 ):
     name = " ".join(os.path.basename(word) for word in words)
     ample = run(program, words)

@@ -356,6 +356,7 @@ def check_words(command):
     paths = [files(name, content) for name, content in zip(("config", "trace"), (CONFIG, LINE))]
     paths = paths[1:] if command == "requests" else paths
     if command in PATIENT:
+        # compare.py has all forms of a patience
         for patience in ("-1", "1000000001", "18446744073709551616", "1.0", "1e3", "x", ""):
             status, out, err = run(program, [command, *paths, patience])
             tally.check(f"{command} with the patience {patience!r}", (status, out, len(err) > 0), (2, b"", True))

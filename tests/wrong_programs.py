@@ -1,6 +1,7 @@
 """The tests themselves: programs that are wrong in one thing, each of which a script here must fail, at the row that is named.
 
-Each wrong program stands in front of the built one. APF_PROGRAM names it to the script; APF_SPOILED leaves out random files, and APF_ROUNDS runs of many requests.
+Each wrong program stands in front of the built one. APF_PROGRAM names it to the script; APF_SPOILED leaves out random files, APF_ROUNDS runs of many requests, and
+APF_TRACES most of the drawn traces.
 """
 
 import os
@@ -152,6 +153,23 @@ if any("\\udc80" <= it <= "\\udcff" for word in words for it in word):
     ("a run that finds no memory", shell('[ "$1" = run ] && { echo "apf: out of memory" >&2; exit 3; }'), "workers.py", "FAILED thousand workers"),
     ("a run that closes nothing", other_requests('s/, "closes": true//g'), "workers.py", "FAILED cancels and closes"),
     ("a run that cancels nobody", other_requests('s/, "cancels": [0-9]+//g'), "workers.py", "FAILED all cancel one"),
+    ("fates in which each request starts a microsecond late", python('''
+if words[:1] == ["fates"]:
+    status, out, err = answer(words)
+    rows = [row.split(b" ") for row in out.split(b"\\n")]
+    for row in rows[1:]:
+        if row[4:5] not in ([], [b"-"]):
+            row[4] = b"%d" % (int(row[4]) + 1)
+    instead(status, b"\\n".join(map(b" ".join, rows)), err)
+'''), "compare.py", "FAILED a crawler and alice fates 90"),
+    ("compare with its levels exchanged", shell('[ "$1" = compare ] && [ $# = 5 ] && exec %s compare "$3" "$2" "$4" "$5"' % program), "compare.py", "FAILED the one whose longest wait changes most comes first"),
+    ("milliseconds that are taken for microseconds", shell('case "$1:$4" in fates:*ms) exec %s fates "$2" "$3" "${4%%ms}" ;; esac' % program), "compare.py", "FAILED fates with the patience '500ms'"),
+    ("a patience that is judged after the config", python('''
+if words[:1] == ["fates"] and len(words) == 4 and answer(words)[2].startswith(b"apf: PATIENCE"):
+    early = answer([*words[:3], "0"])
+    if early[2].startswith((b"apf: cannot read config", b"apf: config fault")):
+        instead(*early)
+'''), "compare.py", "FAILED fates ["),
     ("hands that are not spread", shell('[ "$1" = deal ] && [ "$3" -gt 5 ] && { seq -s " " 0 $(($3 - 1)); exit 0; }'), "dealing_table.py", "FAILED (12, 32, 4)"),
 ]
 
@@ -165,7 +183,7 @@ def tried(wrong):
         with open(path, "w") as file:
             file.write(text)
         os.chmod(path, 0o755)
-    done = subprocess.run([sys.executable, os.path.join(HERE, script)], env=dict(os.environ, APF_PROGRAM=path, APF_SPOILED="0", APF_ROUNDS="1"), capture_output=True, timeout=600)
+    done = subprocess.run([sys.executable, os.path.join(HERE, script)], env=dict(os.environ, APF_PROGRAM=path, APF_SPOILED="0", APF_ROUNDS="1", APF_TRACES="20"), capture_output=True, timeout=600)
     lines = done.stdout.decode(errors="replace").split("\n")
     return name, (done.returncode, any(line.startswith(row) for line in lines), done.stderr), lines
 

@@ -144,3 +144,73 @@ def sums_broken(trace, config, lines):
         ("each request that entered was dispatched or struck", int(log[1]) == int(log[3]) + int(log[5]) and int(log[5]) == book[2]),
     ]
     return [name for name, holds in sentences if not holds]
+
+
+FATE = re.compile(
+    r"\d+ [0-9a-f]{16} \d+ (\d+|-) (\d+ \d+ execute|- \d+ (queue-full|concurrency-limit|cancelled))( \".*\" \".*\")?", re.ASCII
+)
+
+
+class Fates:
+    """What `fates` prints, read without any run: of each request, in the order of the lines, its fields by their names."""
+
+    def __init__(self, lines):
+        self.header, *rows = lines or [""]
+        self.rows = [dict(zip(self.header.split(" "), row.split(" ", 8))) for row in rows]
+        self.are_formed = all(map(FATE.fullmatch, rows))
+
+    def broken(self, limit, trace, patience):
+        """The sentences that the lines break."""
+        if not self.are_formed or sorted(int(it["request"]) for it in self.rows) != [*range(len(trace))]:
+            return ["each request has one line of its form"]
+        each = [(it, trace[int(it["request"])]) for it in self.rows]
+        arrivals = [(int(it["arrival"]), int(it["request"])) for it in self.rows]
+        executed = [(it, request) for it, request in each if it["decision"] == "execute"]
+        rejected = [it for it in self.rows if it["decision"] in ("queue-full", "concurrency-limit")]
+        cancelled = [it for it in self.rows if it["decision"] == "cancelled"]
+        ends = [(it["queue"] != "-", int(it["end"]) - int(it["arrival"])) for it in cancelled]
+        sentences = [
+            ("each line is of its request", all(it["arrival"] == str(request["arrivesAt"]) and it["flow"] == f"{request['hash']:016x}" for it, request in each)),
+            ("the lines are in the order of the arrivals", arrivals == sorted(arrivals)),
+            ("who executed ends when it ran", all(int(it["start"]) + request["runsFor"] == int(it["end"]) for it, request in executed)),
+            ("who waited had entered a queue", all(int(it["start"]) >= int(it["arrival"]) and (it["queue"] != "-" or it["start"] == it["arrival"]) for it, _ in executed)),
+            ("nobody starts after the end of its patience", not patience or all(int(it["start"]) - int(it["arrival"]) <= patience for it, _ in executed)),
+            ("who is rejected enters no queue, and ends at its arrival", all((it["queue"], it["end"]) == ("-", it["arrival"]) for it in rejected)),
+            ("who gives up had entered a queue, and ends with its patience", all(patience > 0 and it == (True, patience) for it in ends)),
+            ("the seats in use are within the limit", self.is_within(limit, executed)),
+        ]
+        return [name for name, holds in sentences if not holds]
+
+    def is_within(self, limit, executed):
+        """Whether at each start the seats in use fit, or are those of one request. Runs of no time use none."""
+        spans = [(int(it["start"]), int(it["end"]), request["width"]) for it, request in executed]
+        for time in {start for start, end, _ in spans if start < end}:
+            widths = [width for start, end, width in spans if start <= time < end]
+            if sum(widths) > limit and len(widths) > 1:
+                return False
+        return True
+
+    def waits(self, flow=None):
+        """How long the executed requests of a flow, or all of them, waited, in ascending order."""
+        return sorted(int(it["start"]) - int(it["arrival"]) for it in self.of(flow) if it["decision"] == "execute")
+
+    def of(self, flow):
+        return [it for it in self.rows if flow in (None, it["flow"])]
+
+    def figures(self, flow=None):
+        """The median, the 99th percentile and the longest wait, the rejected, and those that gave up."""
+        waits, decisions = self.waits(flow), [it["decision"] for it in self.of(flow)]
+        ranks = [waits[-(-percent * len(waits) // 100) - 1] if waits else 0 for percent in (50, 99, 100)]
+        return [*ranks, decisions.count("queue-full") + decisions.count("concurrency-limit"), decisions.count("cancelled")]
+
+
+def comparison(one, other):
+    """The lines of `compare` without their header and names, by those of `fates` on the two levels."""
+    flows = list(dict.fromkeys(it["flow"] for it in sorted(one.rows, key=lambda it: int(it["request"]))))
+    lines = []
+    for place, flow in enumerate([*flows, None]):
+        pairs = zip(one.figures(flow), other.figures(flow))
+        numbers = [len(one.of(flow)), *(number for pair in pairs for number in pair)]
+        change = abs(numbers[5] - numbers[6]) if flow else -1
+        lines.append((-change, place, " ".join(map(str, [flow or "whole", *numbers]))))
+    return [line for *_, line in sorted(lines)]

@@ -3,6 +3,7 @@
 A run looks at each step for what is due, and makes the calls of the independent level (level.py).
 """
 
+import re
 
 from judge import Refused, config_of, dealer_fault
 from level import Level, hand_of
@@ -12,6 +13,21 @@ from trace import trace_of
 # what is due at one time comes in this order, and by number among equals
 FINISH, CANCEL, ARRIVE = range(3)
 WORDS = ("finish", "cancel", "arrive")
+# the units of a patience, in microseconds, and the longest one
+UNITS = {"": 1, "us": 1, "ms": 1000, "s": 1_000_000}
+LONGEST = 1_000_000_000
+BAD_PATIENCE = (
+    "apf: PATIENCE must be a whole number, alone or with us, ms or s behind it, of at most 1000000000 microseconds"
+)
+
+
+def patience_of(text):
+    """The patience that a command line names, in microseconds, or None. A number may have a plus in front, and zeros."""
+    found = re.fullmatch(r"\+?([0-9]+)([a-z]*)", text)
+    if not found or found[2] not in UNITS:
+        return None
+    patience = int(found[1]) * UNITS[found[2]]
+    return patience if patience <= LONGEST else None
 
 
 class Run:
@@ -104,6 +120,49 @@ def simulate(run):
     return [*flows, end, *run.level.transcript().splitlines()[-4:]]
 
 
+FATES = "request flow arrival queue start end decision schema distinguisher"
+COMPARED = "flow requests median median-2 p99 p99-2 longest longest-2 rejected rejected-2 cancelled cancelled-2 schema distinguisher"
+
+
+def fates(run):
+    """What became of each request, in the order of the arrivals. It ended with the last call that names it."""
+    entered = {request: queue for kind, request, queue in run.level.log if kind == "enter"}
+    ended = {request: time for time, _, request in run.calls}
+    lines = [FATES]
+    for it in sorted(range(len(run.trace)), key=lambda it: (run.trace[it]["arrivesAt"], it)):
+        request = run.trace[it]
+        seated = [entered.get(it, "-"), run.started.get(it, "-")]
+        fields = [it, f"{request['hash']:016x}", request["arrivesAt"], *seated, ended[it], run.level.decided[it]]
+        lines.append(" ".join(map(str, [*fields, *names_of(run.trace, [it])])))
+    return lines
+
+
+def figures(run, members):
+    """The median, the 99th percentile and the longest of the waits of those that executed; the rejected, and those that gave up."""
+    waits = [run.wait(it) for it in members if it in run.started]
+    gave_up = [it for it in members if run.level.decided[it] == "cancelled"]
+    rejected = len(members) - len(waits) - len(gave_up)
+    return [nearest_rank(waits, 50), nearest_rank(waits, 99), max(waits, default=0), rejected, len(gave_up)]
+
+
+def compare(one, other):
+    """Two runs of one trace: the flows whose longest wait changes most first, and then all requests. Each number stands twice."""
+    lines = []
+    for flow, members in flows_of(one.trace).items():
+        pair = [figures(run, members) for run in (one, other)]
+        line = [f"{flow:016x}", len(members), *twice(*pair), *names_of(one.trace, members)]
+        lines.append((abs(pair[0][2] - pair[1][2]), line))
+    # what is equal keeps its order
+    lines.sort(key=lambda it: it[0], reverse=True)
+    everybody = range(len(one.trace))
+    whole = ["whole", len(everybody), *twice(figures(one, everybody), figures(other, everybody))]
+    return [COMPARED, *(" ".join(map(str, line)) for line in [*(it for _, it in lines), whole])]
+
+
+def twice(one, other):
+    return [number for pair in zip(one, other) for number in pair]
+
+
 def timeline(run):
     return [f"{WORDS[kind]} {request}" for _, kind, request in run.calls]
 
@@ -160,16 +219,17 @@ def hands_of(config, trace, name):
 
 
 def answer(command, contents, *patience):
-    """The status, output and errors of one of these commands, on files of these bytes that are judged in this order."""
+    """The status, output and errors of one of these commands, on files of these bytes that are judged in this order: the configs
+    of its levels, and the trace. Then the levels are opened."""
     try:
-        if command is requests:
-            lines = requests(trace_of(*contents))
-        else:
-            config, trace = config_of(contents[0]), trace_of(contents[1])
-            fault = config["limitResponse"] == "Queue" and dealer_fault(config["queues"], config["handSize"])
+        *configs, content = contents
+        levels = [config_of(it) for it in configs]
+        trace = trace_of(content)
+        for level in levels:
+            fault = level["limitResponse"] == "Queue" and dealer_fault(level["queues"], level["handSize"])
             if fault:
                 raise Refused(fault)
-            lines = command(Run(config, trace, *patience)) if patience else command(config, trace)
+        lines = command(*(Run(level, trace, *patience) for level in levels)) if patience else command(*levels, trace)
         return 0, "".join(f"{line}\n" for line in lines).encode(), b""
     except Refused as line:
         return 1, b"", f"{line}\n".encode()

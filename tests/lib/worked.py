@@ -1,6 +1,6 @@
 """Runs of requests with times that were worked by hand from the rules, and the independent computation (simulation.py) against them."""
 
-from simulation import answer, hands, nearest_rank, requests, simulate, timeline
+from simulation import answer, compare, fates, hands, nearest_rank, patience_of, requests, simulate, timeline
 
 CRAWLER = '{"schema":"batch","distinguisher":"crawler","arrivesAt":0,"runsFor":100}\n'
 ALICE = '{"schema":"users","distinguisher":"alice","arrivesAt":%d,"runsFor":20%s}\n'
@@ -12,6 +12,7 @@ COSTLY = (
     '{"hash":1,"arrivesAt":1,"runsFor":10}\n'
     '{"hash":1,"arrivesAt":1,"runsFor":10}\n'
 )
+FATES = "request flow arrival queue start end decision schema distinguisher\n"
 # a name, the config, the trace, and what each command prints of them, with its patience if it takes one
 WORKED = [
     (
@@ -52,6 +53,16 @@ WORKED = [
                 90,
                 "arrive 0\narrive 1\narrive 2\narrive 3\narrive 4\narrive 5\narrive 6\narrive 7\n"
                 "cancel 2\ncancel 3\nfinish 0\nfinish 1\nfinish 6\nfinish 7\narrive 8\nfinish 8\n",
+            ),
+            (
+                fates,
+                90,
+                FATES
+                + '0 b2cfa8521298df5f 0 - 0 100 execute "batch" "crawler"\n1 b2cfa8521298df5f 0 - 0 100 execute "batch" "crawler"\n'
+                '2 b2cfa8521298df5f 0 1 - 90 cancelled "batch" "crawler"\n3 b2cfa8521298df5f 0 1 - 90 cancelled "batch" "crawler"\n'
+                '4 b2cfa8521298df5f 0 - - 0 queue-full "batch" "crawler"\n5 b2cfa8521298df5f 0 - - 0 queue-full "batch" "crawler"\n'
+                '6 f7c495a40a0feec0 50 0 100 120 execute "users" "alice"\n7 f7c495a40a0feec0 60 0 120 140 execute "users" "alice"\n'
+                '8 f7c495a40a0feec0 400 - 400 420 execute "users" "alice"\n',
             ),
             (
                 hands,
@@ -95,6 +106,12 @@ WORKED = [
         [
             (timeline, 10, "arrive 0\narrive 1\ncancel 1\narrive 2\ncancel 2\nfinish 0\n"),
             (
+                fates,
+                10,
+                FATES
+                + "0 0000000000000000 0 - 0 100 execute\n1 0000000000000000 0 0 - 10 cancelled\n2 0000000000000000 10 0 - 20 cancelled\n",
+            ),
+            (
                 simulate,
                 10,
                 "flow 0000000000000000 requests 3 executed 1 rejected 0 cancelled 2 seat-time 100 wait median 0 p99 0 longest 0\n"
@@ -113,6 +130,11 @@ WORKED = [
         [
             (timeline, 0, "arrive 2\nfinish 2\narrive 0\nfinish 0\narrive 1\nfinish 1\n"),
             (timeline, 1, "arrive 2\nfinish 2\narrive 0\nfinish 0\narrive 1\nfinish 1\n"),
+            (
+                fates,
+                1,
+                FATES + "2 0000000000000000 3 - 3 5 execute\n0 0000000000000000 5 - 5 5 execute\n1 0000000000000000 5 - 5 5 execute\n",
+            ),
             (
                 simulate,
                 0,
@@ -168,6 +190,12 @@ WORKED = [
         '{"hash":0,"arrivesAt":0,"runsFor":10}\n{"hash":1,"arrivesAt":5,"runsFor":10}\n{"hash":0,"arrivesAt":10,"runsFor":10}\n',
         [
             (timeline, 3, "arrive 0\narrive 1\nfinish 0\narrive 2\nfinish 2\n"),
+            (
+                fates,
+                3,
+                FATES
+                + "0 0000000000000000 0 - 0 10 execute\n1 0000000000000001 5 - - 5 concurrency-limit\n2 0000000000000000 10 - 10 20 execute\n",
+            ),
             (
                 simulate,
                 3,
@@ -253,10 +281,18 @@ WORKED = [
         [
             (timeline, 0, "arrive 1\narrive 2\nfinish 1\nfinish 2\narrive 0\nfinish 0\n"),
             (
+                fates,
+                0,
+                FATES
+                + '1 b2cfa8521298df5f 0 - 0 1 execute "batch" "crawler"\n'
+                '2 318d292d6ad4546e 0 - 0 1 execute "a\\"\\\\\\n\\u0001\\u007f/ä😀" ""\n'
+                "0 b2cfa8521298df5f 9 - 9 10 execute\n",
+            ),
+            (
                 simulate,
                 0,
                 "flow b2cfa8521298df5f requests 2 executed 2 rejected 0 cancelled 0 seat-time 2 wait median 0 p99 0 longest 0\n"
-                'flow 318d292d6ad4546e requests 1 executed 1 rejected 0 cancelled 0 seat-time 1 wait median 0 p99 0 longest 0 of "a\\"\\\\\\n\\u0001\x7f/ä😀" ""\n'
+                'flow 318d292d6ad4546e requests 1 executed 1 rejected 0 cancelled 0 seat-time 1 wait median 0 p99 0 longest 0 of "a\\"\\\\\\n\\u0001\\u007f/ä😀" ""\n'
                 "end 10 seat-time 3 of 50 waited 0 patience 0\n"
                 "level open seats 0 waiting 0\n"
                 "executed 3 rejected 0 cancelled 0 undecided 0\n"
@@ -269,7 +305,7 @@ WORKED = [
                 "flow b2cfa8521298df5f hand 0\n"
                 "  shares 0 with 1 flows\n"
                 "  covered by 318d292d6ad4546e\n"
-                'flow 318d292d6ad4546e hand 0 of "a\\"\\\\\\n\\u0001\x7f/ä😀" ""\n'
+                'flow 318d292d6ad4546e hand 0 of "a\\"\\\\\\n\\u0001\\u007f/ä😀" ""\n'
                 "  shares 0 with 1 flows\n"
                 "  covered by b2cfa8521298df5f\n",
             ),
@@ -277,7 +313,7 @@ WORKED = [
                 requests,
                 None,
                 '[\n{"hash":12884702129383071583},\n{"schema":"batch","distinguisher":"crawler"},\n'
-                '{"schema":"a\\"\\\\\\n\\u0001\x7f/ä😀","distinguisher":""}\n]\n',
+                '{"schema":"a\\"\\\\\\n\\u0001\\u007f/ä😀","distinguisher":""}\n]\n',
             ),
         ],
     ),
@@ -328,6 +364,7 @@ WORKED = [
         "",
         [
             (timeline, 0, ""),
+            (fates, 0, FATES),
             (
                 simulate,
                 1,
@@ -341,6 +378,115 @@ WORKED = [
             (requests, None, "[\n]\n"),
         ],
     ),
+]
+COMPARED = "flow requests median median-2 p99 p99-2 longest longest-2 rejected rejected-2 cancelled cancelled-2 schema distinguisher\n"
+SMALL = '{"limit":%d,"queues":2,"handSize":1,"queueLengthLimit":2}'
+# a name, two configs, the trace, and what `compare` prints of them, with its patience
+SIDE_BY_SIDE = [
+    # on the second level the crawler takes all four seats at 0. At 100 alice's first request begins, and the crawler's last two;
+    # at 120 alice's second one
+    (
+        "the one whose longest wait changes most comes first",
+        [SMALL % 2, SMALL % 4],
+        WORKED[0][2],
+        0,
+        'f7c495a40a0feec0 3 50 50 160 60 160 60 0 0 0 0 "users" "alice"\n'
+        'b2cfa8521298df5f 6 0 0 120 100 120 100 2 0 0 0 "batch" "crawler"\n'
+        "whole 9 50 0 160 100 160 100 2 0 0 0\n",
+    ),
+    # the same when the longest waits get longer
+    (
+        "the other way round",
+        [SMALL % 4, SMALL % 2],
+        WORKED[0][2],
+        0,
+        'f7c495a40a0feec0 3 50 50 60 160 60 160 0 0 0 0 "users" "alice"\n'
+        'b2cfa8521298df5f 6 0 0 100 120 100 120 0 2 0 0 "batch" "crawler"\n'
+        "whole 9 0 50 100 160 100 160 0 2 0 0\n",
+    ),
+    (
+        "a level beside itself: the flows in the order of their first requests",
+        [SMALL % 2, SMALL % 2],
+        WORKED[0][2],
+        90,
+        'b2cfa8521298df5f 6 0 0 0 0 0 0 2 2 2 2 "batch" "crawler"\n'
+        'f7c495a40a0feec0 3 50 50 60 60 60 60 0 0 0 0 "users" "alice"\n'
+        "whole 9 0 0 60 60 60 60 2 2 2 2\n",
+    ),
+    # two flows wait 6 less, one by its seats and one as it is rejected
+    (
+        "changes by as much",
+        [SMALL % 1, '{"limit":1,"limitResponse":"Reject"}'],
+        '{"hash":2,"arrivesAt":0,"runsFor":10}\n{"hash":1,"arrivesAt":4,"runsFor":10}\n{"hash":0,"arrivesAt":14,"runsFor":10}\n',
+        0,
+        "0000000000000001 1 6 0 6 0 6 0 0 1 0 0\n"
+        "0000000000000000 1 6 0 6 0 6 0 0 0 0 0\n"
+        "0000000000000002 1 0 0 0 0 0 0 0 0 0 0\n"
+        "whole 3 6 0 6 0 6 0 0 1 0 0\n",
+    ),
+    ("nobody", ['{"limit":1}', '{"limit":2}'], "", 0, "whole 0 0 0 0 0 0 0 0 0 0 0\n"),
+]
+# a patience as a command line has it, and its microseconds, None where it is none
+PATIENCES = [
+    ("0", 0),
+    ("7", 7),
+    ("1000000000", 1_000_000_000),
+    ("1000000000us", 1_000_000_000),
+    ("1000000ms", 1_000_000_000),
+    ("1000s", 1_000_000_000),
+    ("250us", 250),
+    ("500ms", 500_000),
+    ("15s", 15_000_000),
+    ("0s", 0),
+    ("0ms", 0),
+    ("0us", 0),
+    ("+15s", 15_000_000),
+    ("00015s", 15_000_000),
+    ("000000000000000000007", 7),
+    ("1000000001", None),
+    ("1000000001us", None),
+    ("1000001ms", None),
+    ("1001s", None),
+    ("4294967296", None),
+    ("4295s", None),
+    ("4294967296s", None),
+    ("18446744073709551616", None),
+    ("1" + "0" * 40 + "ms", None),
+    ("", None),
+    ("s", None),
+    ("ms", None),
+    ("us", None),
+    ("+", None),
+    ("+s", None),
+    ("++1", None),
+    ("1.5s", None),
+    ("1.0", None),
+    ("1,5s", None),
+    ("15 s", None),
+    (" 15s", None),
+    ("15s ", None),
+    ("15s\n", None),
+    ("15S", None),
+    ("15MS", None),
+    ("15m", None),
+    ("1h", None),
+    ("15ns", None),
+    ("15µs", None),
+    ("15sec", None),
+    ("15ss", None),
+    ("15sms", None),
+    ("15usus", None),
+    ("s15", None),
+    ("1s500ms", None),
+    ("1e3", None),
+    ("0x10", None),
+    ("1_000", None),
+    ("1'000", None),
+    ("\uff11\uff15s", None),
+    ("\u0661s", None),
+    ("x", None),
+    ("inf", None),
+    ("-", None),
 ]
 # waits, the median of them, and the 99th percentile
 RANKS = [
@@ -361,11 +507,15 @@ def worked():
             contents = [trace.encode()] if command is requests else [config.encode(), trace.encode()]
             more = [] if patience is None else [patience]
             yield " ".join([name, command.__name__, *map(str, more)]), command, contents, more, text
+    for name, configs, trace, patience, text in SIDE_BY_SIDE:
+        yield f"{name} compare {patience}", compare, [it.encode() for it in [*configs, trace]], [patience], COMPARED + text
 
 
 def self_test(check):
     """The computation against each example."""
     for name, command, contents, patience, text in worked():
         check(f"the model: {name}", answer(command, contents, *patience), (0, text.encode(), b""))
+    for text, patience in PATIENCES:
+        check(f"the patience {text!r}", patience_of(text), patience)
     for waits, median, high in RANKS:
         check(f"the ranks of {waits}", (nearest_rank(waits, 50), nearest_rank(waits, 99)), (median, high))

@@ -1,0 +1,294 @@
+"""What became of each request (`fates`), two levels side by side (`compare`), and who shares the queues (`hands`). First the
+independent computation by examples that were worked by hand, and by rules that need no run. Then what the program prints of 300
+drawn traces. Last how long a request waits before it gives up, as a command line says it, for each command that takes it."""
+
+import json
+import os
+import random
+import subprocess
+import sys
+import time
+
+sys.path.insert(0, os.path.join(os.path.dirname(os.path.abspath(__file__)), "lib"))
+import simulation
+import worked
+from harness import Files, Tally, build, run
+from runs import Fates, comparison
+from simulation import BAD_PATIENCE, Run, flows_of, patience_of
+from trace import trace_of
+from traces import Traces
+
+# each command that takes a patience, and how many configs
+PATIENT = {"simulate": 1, "timeline": 1, "picture": 1, "fates": 1, "compare": 2}
+CONFIG = b'{"limit":2,"queues":2,"handSize":1}'
+OTHER = b'{"limit":1,"limitResponse":"Reject"}'
+# the second one waits for 7.5 s where there is one seat
+TRACE = b'{"hash":0,"arrivesAt":0,"runsFor":8000000,"width":2}\n{"hash":0,"arrivesAt":500000,"runsFor":9}\n'
+
+tally = Tally()
+program = build()
+files = Files()
+# the same draws each time; APF_SEED draws others
+seed = int(os.environ.get("APF_SEED", "1041"))
+draw = random.Random(seed)
+traces = Traces(draw)
+TRACES = int(os.environ.get("APF_TRACES", "300"))
+print(f"seed {seed}")
+
+
+def lines_of(out):
+    return out.decode().split("\n")[:-1]
+
+
+def printed(command, contents, *patience):
+    """What the program does by a command on files of these bytes."""
+    paths = [files(f"file {place}", content) for place, content in enumerate(contents)]
+    return run(program, [command, *paths, *map(str, patience)])
+
+
+def told(lines):
+    """The answer of a command that prints these lines."""
+    return 0, "".join(f"{line}\n" for line in lines).encode(), b""
+
+
+# what happens in a drawn pair of runs, and in how many of 300 at least
+SEEN = {
+    "a trace that is not in the order of the arrivals": 100,
+    "a request that waited": 60,
+    "a request that gave up": 50,
+    "a request that is rejected": 60,
+    "an order of flows that is not that of the trace": 30,
+    "flows whose longest waits change by as much, and not by nothing": 8,
+    "a flow whose longest wait changes by nothing, behind another one": 20,
+    "a flow that is covered by more than ten": 10,
+    "a flow that shares some queues of its hand and not all": 30,
+}
+
+
+def happenings(one, other):
+    """Those of them that happen in these runs of one trace."""
+    trace, decided = one.trace, one.level.decided
+    flows = [(flow, figures[0], figures[1]) for flow, figures in changes(one, other).items()]
+    apart = [abs(first - second) for _, first, second in flows]
+    hands = [{*hand} for hand in simulation.dealt_of(one.config, trace).values()]
+    covers = [[other is not hand and other >= hand for other in hands if hand] for hand in hands]
+    happens = {
+        "a trace that is not in the order of the arrivals": [it["arrivesAt"] for it in trace] != sorted(it["arrivesAt"] for it in trace),
+        "a request that waited": any(one.wait(it) for it in one.started),
+        "a request that gave up": "cancelled" in decided.values(),
+        "a request that is rejected": {"queue-full", "concurrency-limit"} & {*decided.values()},
+        "an order of flows that is not that of the trace": apart != sorted(apart, reverse=True),
+        "flows whose longest waits change by as much, and not by nothing": len({*apart} - {0}) < len([it for it in apart if it]),
+        "a flow whose longest wait changes by nothing, behind another one": 0 in apart and any(apart),
+        "a flow that is covered by more than ten": any(sum(it) > 10 for it in covers),
+        "a flow that shares some queues of its hand and not all": any(hand & other and hand - other for hand in hands for other in hands),
+    }
+    return [what for what, is_so in happens.items() if is_so]
+
+
+def changes(one, other):
+    """The longest waits of each flow in the two runs."""
+    return {
+        flow: [max((made.wait(it) for it in members if it in made.started), default=0) for made in (one, other)]
+        for flow, members in flows_of(one.trace).items()
+    }
+
+
+def drawn():
+    """Two levels, a trace and a patience."""
+    one, other, (objects, patience) = traces.config(), traces.config(), traces.trace()
+    if draw.random() < 0.5:
+        # the other level differs in one setting
+        key = draw.choice(["limit", "queueLengthLimit", "limitResponse"])
+        other = {**one, key: other[key]}
+    return one, other, traces.content(objects), patience
+
+
+def check_drawn():
+    """The computation by the rules, and the program by the computation."""
+    seen = dict.fromkeys(SEEN, 0)
+    for number in range(TRACES):
+        *configs, content, patience = drawn()
+        trace = trace_of(content)
+        one, other = (Run(config, trace, patience) for config in configs)
+        name = f"{number}: {configs}, {content}, patience {patience}"
+        fates = [simulation.fates(made) for made in (one, other)]
+        lines = simulation.compare(one, other)
+        for config, each in zip(configs, fates):
+            tally.check(f"the rules of {name}", Fates(each).broken(config["limit"], trace, patience), [])
+        by_fates = comparison(*map(Fates, fates))
+        tally.check(f"the comparison by the fates of {name}", [" ".join(it.split(" ")[:12]) for it in lines[1:]], by_fates)
+        texts = [json.dumps(config).encode() for config in configs]
+        tally.check(f"fates of {name}", printed("fates", [texts[0], content], patience), told(fates[0]))
+        tally.check(f"compare of {name}", printed("compare", [*texts, content], patience), told(lines))
+        tally.check(f"hands of {name}", printed("hands", [texts[0], content]), told(simulation.hands(configs[0], trace)))
+        for what in happenings(one, other):
+            seen[what] += 1
+    for what, count in seen.items():
+        tally.check(f"in many runs there is {what}: {count}", count >= SEEN[what] * TRACES // 300, True)
+
+
+# false copies of what `fates` prints of the first example with a patience of 90: what a judge says of one, and what stands for what
+FALSE_FATES = [
+    ("each request has one line of its form", "3 b2cfa8521298df5f", "2 b2cfa8521298df5f"),
+    ("each request has one line of its form", "0 1 - 90", "0 1  - 90"),
+    ("each request has one line of its form", "execute", "executed"),
+    ("each line is of its request", "6 f7c495a40a0feec0 50", "6 f7c495a40a0feec0 51"),
+    ("each line is of its request", "6 f7c495a40a0feec0", "6 f7c495a40a0feec1"),
+    ("the lines are in the order of the arrivals", '4 b2cfa8521298df5f 0 - - 0 queue-full "batch" "crawler"\n5', '5 b2cfa8521298df5f 0 - - 0 queue-full "batch" "crawler"\n4'),
+    ("who executed ends when it ran", "0 - 0 100 execute", "0 - 1 100 execute"),
+    ("each request has one line of its form", "0 - 0 100 execute", "0 - - 100 execute"),
+    ("each request has one line of its form", "0 1 - 90 cancelled", "0 1 0 90 cancelled"),
+    ("who waited had entered a queue", "60 0 120 140", "60 - 120 140"),
+    ("nobody starts after the end of its patience", "60 0 120 140", "60 0 151 171"),
+    ("who is rejected enters no queue, and ends at its arrival", "0 - - 0 queue-full", "0 1 - 0 queue-full"),
+    ("who is rejected enters no queue, and ends at its arrival", "0 - - 0 queue-full", "0 - - 1 queue-full"),
+    ("who gives up had entered a queue, and ends with its patience", "0 1 - 90 cancelled", "0 - - 90 cancelled"),
+    ("who gives up had entered a queue, and ends with its patience", "0 1 - 90 cancelled", "0 1 - 91 cancelled"),
+    ("the seats in use are within the limit", "60 0 120 140", "60 0 99 119"),
+]
+
+
+def check_rules():
+    """The judge of what `fates` prints, by false copies of a true one."""
+    name, config, content, _ = worked.WORKED[0]
+    trace = trace_of(content.encode())
+    true = "".join(f"{line}\n" for line in simulation.fates(Run(json.loads(config) | {"limitResponse": "Queue"}, trace, 90)))
+    tally.check(f"true fates are taken: {name}", Fates(lines_of(true.encode())).broken(2, trace, 90), [])
+    for sentence, old, new in FALSE_FATES:
+        false = true.replace(old, new, 1)
+        tally.check(f"false fates: {old} became {new}", false != true, True)
+        tally.check(f"false fates are refused: {sentence}", sentence in Fates(lines_of(false.encode())).broken(2, trace, 90), True)
+
+
+def check_examples():
+    worked.self_test(tally.check)
+    for name, command, contents, patience, text in worked.worked():
+        if command.__name__ in ("fates", "compare", "hands"):
+            tally.check(name, printed(command.__name__, contents, *patience), (0, text.encode(), b""))
+
+
+def check_patience(command, levels):
+    """A patience with a unit is so many microseconds. One that is none is told before any file is read."""
+    contents = [CONFIG, OTHER, CONFIG][: levels] + [TRACE]
+    missing = [os.path.join(files.folder.name, "missing")] * len(contents)
+    fault = (2, b"", f"{BAD_PATIENCE}\n".encode())
+    for text, patience in worked.PATIENCES:
+        if patience is None:
+            for words in ([files(f"file {place}", content) for place, content in enumerate(contents)], missing, ["-"] * len(contents)):
+                got = run(program, [command, *words, text])
+                tally.check(f"{command} {words} with the patience {text!r}", got, fault)
+        else:
+            got, want = printed(command, contents, text), printed(command, contents, patience)
+            tally.check(f"{command} with the patience {text!r}", (got, got[0]), (want, 0))
+            if command in ("simulate", "timeline", "fates", "compare"):
+                foreseen = simulation.answer(getattr(simulation, command), contents, patience)
+                tally.check(f"{command} with the patience {patience}", want, foreseen)
+    # the command line takes none of these as a text
+    for text in ("-1", "-1s", "-s"):
+        status, out, err = run(program, [command, *missing, text])
+        tally.check(f"{command} with the patience {text!r}", (status, out, err[:7]), (2, b"", b"error: "))
+    with open(os.path.join(files.folder.name, "file 0"), "rb") as full:
+        done = subprocess.run([program, command, "-", *missing[1:], "1.5s"], stdin=full, capture_output=True)
+        tally.check(f"{command} with a bad patience reads no byte", (done.returncode, done.stdout, done.stderr, full.tell()), (*fault, 0))
+
+
+def check_reading(command, levels):
+    """Files that can't be read, and the order in which the files are read and judged, and the levels are opened."""
+    missing, cut = os.path.join(files.folder.name, "missing"), files("cut", TRACE[:-1])
+    narrow, wide = files("narrow", b'{"limit":1,"queues":3}'), files("wide", b'{"limit":1,"queues":1024,"handSize":15}')
+    zero, half = files("zero", b'{"limit":0}'), files("half", b'{"limit":1')
+    good, trace = files("good", CONFIG), files("trace", TRACE)
+    absent = f"cannot read trace: {missing}: there is no such file"
+    rows = [
+        ([missing], missing, 1, "cannot read config"),
+        ([zero], missing, 1, "config fault 5: bad value of limit"),
+        ([good], missing, 1, absent),
+        ([narrow], missing, 1, absent),
+        ([narrow], cut, 1, "trace fault 11 at line 2: the last line has no LF at its end"),
+        ([narrow], trace, 1, "dealer fault 2: hand too large"),
+        ([wide], trace, 1, "dealer fault 4: too much entropy"),
+    ]
+    if levels == 2:
+        rows = [
+            *((configs + [good], path, status, line) for configs, path, status, line in rows),
+            ([good, missing], missing, 1, "cannot read config"),
+            ([good, half], missing, 1, "config fault 1: not JSON"),
+            ([zero, half], missing, 1, "config fault 5: bad value of limit"),
+            ([half, zero], missing, 1, "config fault 1: not JSON"),
+            ([zero, missing], missing, 1, "config fault 5: bad value of limit"),
+            ([narrow, zero], trace, 1, "config fault 5: bad value of limit"),
+            ([good, narrow], missing, 1, absent),
+            ([good, narrow], trace, 1, "dealer fault 2: hand too large"),
+            ([narrow, wide], trace, 1, "dealer fault 2: hand too large"),
+            ([wide, narrow], trace, 1, "dealer fault 4: too much entropy"),
+            (["-", "-"], trace, 2, "standard input is named twice"),
+            ([good, "-"], "-", 2, "standard input is named twice"),
+        ]
+    rows.append((["-"] * levels, "-", 2, "standard input is named twice"))
+    for configs, path, status, line in rows:
+        got = run(program, [command, *configs, path, "0"])
+        tally.check(f"{command} {[*configs, path]}", got, (status, b"", f"apf: {line}\n".encode()))
+
+
+def check_standard_input():
+    """`-` stands for each of the files."""
+    contents = [CONFIG, OTHER, TRACE]
+    for command, places in (("fates", (0, 2)), ("compare", (0, 1, 2))):
+        taken = [contents[place] for place in places]
+        want = simulation.answer(getattr(simulation, command), taken, 15_000_000)
+        for place, content in enumerate(taken):
+            words = [files(f"file {at}", it) for at, it in enumerate(taken)]
+            words[place] = "-"
+            done = subprocess.run([program, command, *words, "15s"], input=content, capture_output=True)
+            tally.check(f"{command} with - in place {place}", (done.returncode, done.stdout, done.stderr), want)
+
+
+def check_words(command, levels):
+    """Too few words, too many, and output that can't be written."""
+    words = [*(files(f"config {place}", CONFIG) for place in range(levels)), files("trace", TRACE), "1s"]
+    for taken in (words[:-1], [*words, "0"], []):
+        status, out, err = run(program, [command, *taken])
+        tally.check(f"{command} with {len(taken)} words", (status, out, err[:7]), (2, b"", b"error: "))
+    with open("/dev/full", "wb") as full:
+        done = subprocess.run([program, command, *words], stdin=subprocess.DEVNULL, stdout=full, stderr=subprocess.PIPE)
+    tally.check(f"{command} on a full disk", (done.returncode, done.stderr), (1, b"apf: cannot write\n"))
+
+
+def check_largest():
+    """10,000 requests of 10,000 flows, with waits, full queues and requests that give up; `hands` of them is small."""
+    one, other = b'{"limit":20,"queues":64,"handSize":8,"queueLengthLimit":4}', b'{"limit":30,"queues":8,"handSize":2,"queueLengthLimit":4}'
+    form = b'{"hash":%d,"arrivesAt":%d,"runsFor":%d,"width":%d}\n'
+    times = random.Random(seed)
+    lines = [form % (times.getrandbits(64), times.randrange(10**6), times.randrange(3000), 1 + number % 3) for number in range(10_000)]
+    content = b"".join(lines)
+    trace = trace_of(content)
+    for command, configs, patience in (("fates", [one], ["2ms"]), ("compare", [one, other], ["2ms"]), ("hands", [one], [])):
+        began = time.monotonic()
+        status, out, err = printed(command, [*configs, content], *patience)
+        took = time.monotonic() - began
+        tally.check(f"{command} of 10,000 flows", (status, err), (0, b""))
+        tally.check(f"{command} of 10,000 flows in well under ten seconds: {took:.2f} s", took < 10, True)
+        if command == "fates":
+            fates = Fates(lines_of(out))
+            tally.check("fates of 10,000 requests by the rules", fates.broken(20, trace, 2000), [])
+            decisions = {it["decision"] for it in fates.rows}
+            tally.check("10,000 requests execute, find full queues and give up", decisions, {"execute", "queue-full", "cancelled"})
+        if command == "compare":
+            tally.check("compare of 10,000 flows has a line for each", len(lines_of(out)), 10_002)
+        if command == "hands":
+            # a line for each flow and each of its queues, and who covers it
+            tally.check(f"hands of 10,000 flows is small: {len(out)} bytes", len(out) < 10_000 * 500, True)
+
+
+check_examples()
+check_rules()
+check_drawn()
+for command, levels in PATIENT.items():
+    check_patience(command, levels)
+for command in ("fates", "compare"):
+    check_reading(command, PATIENT[command])
+    check_words(command, PATIENT[command])
+check_standard_input()
+check_largest()
+tally.end()

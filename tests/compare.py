@@ -60,7 +60,7 @@ SEEN = {
     "an order of flows that is not that of the trace": 30,
     "flows whose longest waits change by as much, and not by nothing": 8,
     "a flow whose longest wait changes by nothing, behind another one": 20,
-    "a flow that is covered by more than ten": 10,
+    "a flow that is covered by more than ten": 5,
     "a flow that shares some queues of its hand and not all": 20,
 }
 

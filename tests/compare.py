@@ -60,8 +60,8 @@ SEEN = {
     "an order of flows that is not that of the trace": 30,
     "flows whose longest waits change by as much, and not by nothing": 8,
     "a flow whose longest wait changes by nothing, behind another one": 20,
-    "a flow that is covered by more than ten": 10,
-    "a flow that shares some queues of its hand and not all": 30,
+    "a flow that is covered by more than ten": 5,
+    "a flow that shares some queues of its hand and not all": 20,
 }
 
 
@@ -257,7 +257,7 @@ def check_words(command, levels):
 
 def check_largest():
     """10,000 requests of 10,000 flows, with waits, full queues and requests that give up; `hands` of them is small."""
-    one, other = b'{"limit":20,"queues":64,"handSize":8,"queueLengthLimit":4}', b'{"limit":30,"queues":8,"handSize":2,"queueLengthLimit":4}'
+    one, other = b'{"limit":20,"queues":16,"handSize":4,"queueLengthLimit":1}', b'{"limit":30,"queues":8,"handSize":2,"queueLengthLimit":4}'
     form = b'{"hash":%d,"arrivesAt":%d,"runsFor":%d,"width":%d}\n'
     times = random.Random(seed)
     lines = [form % (times.getrandbits(64), times.randrange(10**6), times.randrange(3000), 1 + number % 3) for number in range(10_000)]

@@ -15,7 +15,7 @@ const VERSION: &str = "0.1.0";
 
 /// What help says of the patience.
 const PATIENCE: &str =
-    "Time after which a waiting request gives up, as 15s, 500ms or 250us; a plain number is microseconds, 0 to 1000000000; 0: never";
+    "Time until a request gives up: 15s, 500ms, or 0 to 1000000000 microseconds; 0: never";
 
 // A text that must be given.
 fn text<'a>(alloc: Global, id: &'a str, help: &'a str) -> Arg<'a>

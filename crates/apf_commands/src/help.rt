@@ -169,9 +169,9 @@ from the trace's beginning:
   schema, distinguisher  two texts, of which the hash is made
   width             seats that the request takes, 1 to 20000; 1 if absent
   cost              what a dispatch is charged, 1 to 20000; the width if absent
-PATIENCE is a whole number with s, ms or us behind it, or a plain number of microseconds: 0 to 1000 s.
-A request that waits so long after its arrival gives up. With 0 nobody gives up. An API server lets
-a request wait for a quarter of its time-out, by default 15s.
+PATIENCE is a whole number with s, ms or us behind it, or a plain number of microseconds: at most
+1000s. A request that waits so long after its arrival gives up. With 0 nobody gives up. An API
+server lets a request wait for a quarter of its time-out, by default 15s.
 
 Prints a line for each flow, in the order of their first requests, a line of the whole, and the
 book of apf replay:
@@ -222,12 +222,13 @@ Status: 0 done, 1 a file's fault or output that can't be written, 2 a command li
 
 /// Of `compare`.
 pub(crate) const COMPARE: &str = "\
-Simulates the trace on the level of CONFIG, and on that of OTHER. Prints a line of names, a line for
-each flow, and a line of the whole. First come the flows whose longest wait changes most. Each number
-stands twice: on the one level, and on the other.
+Simulates the trace on the level of CONFIG, and on that of OTHER. Prints a line of names, a line
+for each flow, and a line of the whole. First come the flows whose longest wait changes most. Each
+number but the first stands twice: on the one level, and on the other.
   flow        the flow's hash, in hexadecimal digits; whole for all requests
   requests    how many it has
-  median, p99, longest  microseconds that its executed requests waited: median, 99th percentile, most
+  median, p99, longest  of the waits of its executed requests, in microseconds; p99 is the 99th
+              percentile
   rejected    requests that were rejected
   cancelled   requests that gave up
   schema, distinguisher  as JSON texts; nothing where the flow's first request gives the hash

@@ -1,6 +1,6 @@
 //! What is written of each flow's hand: how many share its queues, and some of those that cover it.
 
-ghost use Rattle.std.specs.Prelude.{◌≡◌, map, IfOk, OnOk};
+ghost use Rattle.std.specs.Prelude.{◌≡◌, map, OnOk};
 ghost use Rattle.std.specs.List.{range_with_len};
 ghost use Rattle.std.specs.Io.KnownBytes.{Appends};
 ghost use Rattle.apf_flows.specs.Dealt.{flow_of, flows_of};
@@ -10,7 +10,7 @@ use crate::dealt::Dealt;
 use crate::holders::sharers;
 use crate::names::write_hash;
 use crate::sharing::is_cover;
-use std::alloc::{AllocError, Global};
+use std::alloc::AllocError;
 use std::io;
 use std::io::Write;
 
@@ -64,25 +64,26 @@ pub(crate) fn write_all_sharers<W: Write>(
     Ok(())
 }
 
-/// The hashes of the other flows whose hands hold all queues of this one's.
+/// Puts the hashes of the other flows whose hands hold all queues of this one's in place of what the list had. It asks
+/// for no memory where the list has room for as many hashes as there are flows.
 ///
 /// # Errors
 ///
 /// `AllocError` if memory was refused.
-pub(crate) fn covering_hashes(
-    alloc: Global,
+pub(crate) fn find_covering(
     flow: &Dealt<'_>,
     flows: &[Dealt<'_>],
-) -> Result<Vec<u64>, AllocError>
-    ensures { IfOk result (λ hashes. hashes.items ≡ covering (flow_of flow.now) (flows_of flows.now)) }
+    hashes: &mut Vec<u64>,
+) -> Result<(), AllocError>
+    ensures { OnOk result (hashes.new.items ≡ covering (flow_of flow.now) (flows_of flows.now)) }
 {
-    let mut hashes = Vec::new(alloc);
+    hashes.clear();
     for other in flows {
         if is_cover(flow, other) {
             hashes.push(other.first.hash)?;
         }
     }
-    Ok(hashes)
+    Ok(())
 }
 
 // Writes hashes, each with a space before it.

@@ -9,7 +9,7 @@ ghost use Rattle.apf_flows.specs.Flows.{max_requests};
 ghost use Rattle.apf_flows.specs.Dealt.{flow_of as flow_of_dealt, flows_of as flows_of_dealt};
 ghost use Rattle.apf_flows.specs.Hands.{sizes_of, fault_by, flows_in, flow_text, hands_text, holders_of, IsNoDealer, part_text, is_named as the_is_named};
 
-use crate::brief::{covering_hashes, write_all_sharers, write_covering};
+use crate::brief::{find_covering, write_all_sharers, write_covering};
 use crate::dealt::{Dealt, deal_all, dealer_of};
 use crate::flows::flows_of;
 use crate::holders::count_all;
@@ -52,27 +52,27 @@ impl From<io::Error> for HandsFault {
     }
 }
 
-// Writes the lines of a flow.
+// Writes the lines of a flow. The list is for the flows that cover its hand.
 fn write_flow<W: Write>(
-    alloc: Global,
     out: &mut W,
     flow: &Dealt<'_>,
     flows: &[Dealt<'_>],
     holders: &[usize],
     queues: u32,
+    covering: &mut Vec<u64>,
 ) -> Result<(), HandsFault>
     requires { holders.now ≡ map (holders_of (flows_of_dealt flows.now)) (range_with_len 0 queues) }
     ensures ok { OnOk result (Appends (W.contents out.old) (W.contents out.new) (flow_text (flows_of_dealt flows.now) (flow_of_dealt flow.now))) }
     ensures no_dealer { IfErr result IsNoDealer }
 {
-    let covering = covering_hashes(alloc, flow, flows)?;
+    find_covering(flow, flows, covering)?;
     write_hand(out, flow)?;
     write_all_sharers(out, flows, holders, flow.hand.as_slice(), queues)?;
     write_covering(out, covering.as_slice())?;
     Ok(())
 }
 
-// Writes the lines of all flows.
+// Writes the lines of all flows. All memory is taken before the first byte.
 fn write_flows<W: Write>(
     alloc: Global,
     out: &mut W,
@@ -83,8 +83,9 @@ fn write_flows<W: Write>(
     ensures no_dealer { IfErr result IsNoDealer }
 {
     let holders = count_all(alloc, flows, queues)?;
+    let mut covering = Vec::with_capacity(alloc, flows.len())?;
     for flow in flows {
-        write_flow(alloc, out, flow, flows, holders.as_slice(), queues)?;
+        write_flow(out, flow, flows, holders.as_slice(), queues, &mut covering)?;
     }
     Ok(())
 }

@@ -12,9 +12,10 @@ import re
 import sys
 
 sys.path.insert(0, os.path.dirname(os.path.abspath(__file__)))
+from explain import flow_line, line_not_json, unknown
 from judge import NotJson, Refused, config_of, dealer_fault, flow_of, whole_in
 from level import Level
-from trace import SEATS, TEXTS, UNKNOWN_KEY, BAD_FLOW, value_of
+from trace import SEATS, needed, value_of
 
 MOST = 65_536
 KEYS = ("schema", "distinguisher", "hash", "width", "cost")
@@ -159,18 +160,19 @@ class Service:
 
 
 def asked_of(text):
-    """What an arrival's object asks: a line of a trace without its times, with the first of its faults."""
+    """What an arrival's object asks: a line of a trace without its times. What is wrong with it is said as a trace's fault says it."""
+    line = text.encode()
     try:
-        value = value_of(text.encode())
+        value = value_of(line)
     except NotJson:
-        raise Refused("not JSON") from None
+        raise Refused(line_not_json(line)) from None
     if any(key not in KEYS for key in value):
-        raise Refused(TEXTS[UNKNOWN_KEY])
+        raise Refused(f"{unknown(value, KEYS)}: an arrival has {', '.join(KEYS[:-1])} and {KEYS[-1]}")
     if flow_of(value) is None:
-        raise Refused(TEXTS[BAD_FLOW])
-    for key, (low, high, fault) in SEATS.items():
+        raise Refused(flow_line(value))
+    for key, (low, high, _) in SEATS.items():
         if key in value and not whole_in(value[key], low, high):
-            raise Refused(TEXTS[fault])
+            raise Refused(needed(value, key, f"a whole number from {low} to {high}"))
     width = value.get("width", 1)
     return {"flow": flow_of(value), "width": width, "cost": value.get("cost", width)}
 

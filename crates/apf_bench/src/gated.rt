@@ -13,20 +13,33 @@ use std::thread;
 use std::thread::Threads;
 use std::time::Clock;
 
-// Serves a request for which there is room, in at most so many turns. It reads its decision before each, if this
-// says so.
-fn serve(course: &Course, gate: &Gate<Global>, pass: &mut Pass, reads: bool)
+/// What a request does beside taking its seats, executing and giving them back.
+#[derive(Clone, Copy, PartialEq, Eq)]
+pub enum Beside {
+    /// Nothing.
+    Nothing,
+    /// It reads its decision first, as a level does.
+    Reading,
+    /// Its slot is renewed for the next request.
+    Renewal,
+}
+
+// Serves a request for which there is room, in at most so many turns.
+fn serve(course: &Course, gate: &Gate<Global>, pass: &mut Pass, beside: Beside)
     requires own { pass_gate pass.old ≡ gate.now }
     requires fresh { pass.old.pass.state ≡ Fresh }
 {
     for _turn in 0..1_000_000u32 {
-        if reads && gate.told(pass).is_some() {
+        if beside == Beside::Reading && gate.told(pass).is_some() {
             return;
         }
         match gate.try_take(pass) {
             TryTake::Taken => {
                 gate.decide(pass, Decision::Execute);
                 gate.release(pass);
+                if beside == Beside::Renewal {
+                    gate.renew(pass, 1);
+                }
                 return;
             }
             TryTake::Raced => course.wait(),
@@ -41,13 +54,13 @@ fn serve_timed<R: Clock>(
     gate: &Gate<Global>,
     request: usize,
     pass: &mut Pass,
-    reads: bool,
+    beside: Beside,
 )
     requires own { pass_gate pass.old ≡ gate.now }
     requires fresh { pass.old.pass.state ≡ Fresh }
 {
     course.begin(rt, request);
-    serve(course, gate, pass, reads);
+    serve(course, gate, pass, beside);
     course.end(rt, request);
 }
 
@@ -57,7 +70,7 @@ fn serve_all<R: Threads + Clock + Sync>(
     gate: &Gate<Global>,
     passes: &mut [Pass],
     callers: Callers,
-    reads: bool,
+    beside: Beside,
 )
     requires { All (λ t. (pass_gate t ≡ gate.now) × (t.pass.state ≡ Fresh)) passes.old }
 {
@@ -65,23 +78,27 @@ fn serve_all<R: Threads + Clock + Sync>(
         rt,
         passes,
         callers.threads.max(1) as usize,
-        &|request, pass| { serve_timed(rt, course, gate, request, pass, reads) },
+        &|request, pass| { serve_timed(rt, course, gate, request, pass, beside) },
     );
 }
 
 /// How long a request takes by the gate's steps, in picoseconds: `None` if there was no memory or clock,
-/// or seats are taken at the end. It reads its decision first, as a level does, if this says so.
+/// or seats are taken at the end.
 pub fn gated<R: Threads + Clock + Sync>(
     rt: &R,
     alloc: Global,
     callers: Callers,
-    reads: bool,
+    beside: Beside,
 ) -> Option<u64> {
     let widths = vec![in alloc; 1u32; REQUESTS as usize].ok()?;
-    let opened = Gate::open(alloc, 10_000, widths.as_slice(), 0, Response::Queue);
+    let widths = widths.as_slice();
+    let opened = match beside {
+        Beside::Nothing | Beside::Reading => Gate::open(alloc, 10_000, widths, 0, Response::Queue),
+        Beside::Renewal => Gate::open_for_life(alloc, 10_000, widths, 0, Response::Queue),
+    };
     let (gate, mut desk, mut passes, _stations) = opened.ok()?;
     let course = Course::new(rt, callers)?;
-    serve_all(rt, &course, &gate, passes.as_mut_slice(), callers, reads);
+    serve_all(rt, &course, &gate, passes.as_mut_slice(), callers, beside);
     if gate.view(&mut desk).seats() != 0 {
         return None;
     }

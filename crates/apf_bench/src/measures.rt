@@ -3,7 +3,7 @@
 use crate::bare::bare;
 use crate::choices::median;
 use crate::course::Callers;
-use crate::gated::gated;
+use crate::gated::{Beside, gated};
 use crate::level::{Scene, by_level};
 use crate::locked::locked;
 use crate::plain::plain;
@@ -23,6 +23,8 @@ pub struct Admission {
     bare: u64,
     // By the gate's steps.
     gate: u64,
+    // By the gate's steps, and with the renewal of its slot.
+    renewed: u64,
     // By the gate's steps, after a load of its decision: the steps that a level makes.
     steps: u64,
     // By a level's calls.
@@ -48,13 +50,21 @@ pub fn measured_admission<R: Threads + Clock + Wait + Sync>(
     let mut locks = Vec::new(alloc);
     let mut bares = Vec::new(alloc);
     let mut gates = Vec::new(alloc);
+    let mut renewals = Vec::new(alloc);
     let mut steps = Vec::new(alloc);
     let mut levels = Vec::new(alloc);
     for _ in 0..rounds {
         locks.push(locked(rt, alloc, callers)?).ok()?;
         bares.push(bare(rt, alloc, callers)?).ok()?;
-        gates.push(gated(rt, alloc, callers, false)?).ok()?;
-        steps.push(gated(rt, alloc, callers, true)?).ok()?;
+        gates
+            .push(gated(rt, alloc, callers, Beside::Nothing)?)
+            .ok()?;
+        renewals
+            .push(gated(rt, alloc, callers, Beside::Renewal)?)
+            .ok()?;
+        steps
+            .push(gated(rt, alloc, callers, Beside::Reading)?)
+            .ok()?;
         levels
             .push(by_level(rt, alloc, Scene::Room(callers))?)
             .ok()?;
@@ -63,6 +73,7 @@ pub fn measured_admission<R: Threads + Clock + Wait + Sync>(
         lock: median(locks)?,
         bare: median(bares)?,
         gate: median(gates)?,
+        renewed: median(renewals)?,
         steps: median(steps)?,
         level: median(levels)?,
     })
@@ -91,6 +102,11 @@ pub fn tell_admission(rt: &HostRuntime, callers: Callers, medians: Admission) ->
     let (lock, gate) = (medians.lock / 1_000, medians.gate / 1_000);
     let ratio = Ratio::of(medians.gate, medians.lock);
     println!(rt; "{callers}: under a lock {lock} ns, by the gate {gate} ns, ratio {ratio}")?;
+    let (renewed, ratio) = (
+        medians.renewed / 1_000,
+        Ratio::of(medians.renewed, medians.gate),
+    );
+    println!(rt; "{callers}: by the gate with a renewal {renewed} ns, to the gate {ratio}")?;
     let (bare, ratio) = (medians.bare / 1_000, Ratio::of(medians.bare, medians.lock));
     println!(rt; "{callers}: by bare words {bare} ns, to the lock {ratio}")?;
     let (steps, level) = (medians.steps / 1_000, medians.level / 1_000);

@@ -4,7 +4,7 @@
 ghost use Rattle.std.specs.Prelude.{◌≡◌, ◌<◌, length};
 ghost use Rattle.apf_gate.specs.Tokens.{station_gate};
 
-use apf_gate::{Cancel, Gate, Read, Station};
+use apf_gate::{Cancel, Gate, Read, Station, Ticket};
 use apf_words::Decision;
 use std::alloc::Allocator;
 
@@ -16,7 +16,7 @@ pub fn cancel<A: Allocator>(gate: &Gate<A>, station: &mut Station, request: u32)
     ensures { station_gate station.new ≡ gate.now }
 {
     gate.is_ticket(request);
-    match gate.cancel(station, request as u128) {
+    match gate.cancel(station, Ticket::of(request)) {
         Cancel::Is(decision) => decision,
         Cancel::Other => unreachable!(),
     }
@@ -30,7 +30,7 @@ pub fn read<A: Allocator>(gate: &Gate<A>, station: &mut Station, request: u32) -
     ensures { station_gate station.new ≡ gate.now }
 {
     gate.is_ticket(request);
-    match gate.read(station, request as u128) {
+    match gate.read(station, Ticket::of(request)) {
         Read::Is(found) => found,
         Read::Other => unreachable!(),
     }

@@ -143,7 +143,7 @@ module _ (s : Shape) where
                 (requests_but s h.account.pass d.services w w' r Settled (λ j ne. record { stage = refl; decision = put_else w.decision r (Some Execute) j ne; saw = refl }) (λ x. x) k.request
                 (record {
                   own = line.own;
-                  tied = record { number = line.tied.number; handed = line.tied.handed ∙ ap was_handed is; entered = line.tied.entered ∙ ap has_entered is };
+                  tied = record { number = line.tied.number; handed = line.tied.handed ∙ ap was_handed is; entered = line.tied.entered ∙ ap has_entered is; left = λ x. absurd (let z = sym is ∙ line.tied.left x in cc) };
                   stage = stage ∙ sym (settled_stands p.state (λ o. nothing_told t h r inside none (over o)));
                   saw = line.saw;
                   word = here;
@@ -179,13 +179,13 @@ module _ (s : Shape) where
 
     -- a move of r that takes it from one stage to another, as the Desk did this with it
     moves_one : (t : Table) (h : IsRuled s t) (id new : ℕ) (d d' : DeskRecord) (r : ℕ) (a b : Service) (to : Stage) (m : Move) (at : get_elem? t.views id ≡ some (Desk d ∷ [])) (l : Level) → level_of s.widths (world_of s h.account.trace) ≡ l
-        → r < length s.widths → HoldsSlot h.account r → service d r ≡ a → was_handed b ≡ was_handed a → has_entered b ≡ has_entered a → written (h.account.pass r) b ≡ written (h.account.pass r) a → stage_of (h.account.pass r) b ≡ to
+        → r < length s.widths → HoldsSlot h.account r → service d r ≡ a → was_handed b ≡ was_handed a → has_entered b ≡ has_entered a → written (h.account.pass r) b ≡ written (h.account.pass r) a → (a ≡ Left → b ≡ Left) → stage_of (h.account.pass r) b ≡ to
         → IsNext s OfDesk (Some m) h.account.trace
         → world_of s (entry OfDesk (Some m) ∷ h.account.trace) ≡ record (world_of s h.account.trace) { stage = put (world_of s h.account.trace).stage r to }
         → new ≡ packed (level_of s.widths (record (world_of s h.account.trace) { stage = put (world_of s h.account.trace).stage r to }))
         → d'.services ≡ (r, b) ∷ d.services → d'.knows ≡ saw_level d.knows l (entry OfDesk (Some m) ∷ h.account.trace) → HoldsOne d'.services d'.held
         → IsRuled s (left t 0 new id (Desk d' ∷ []))
-    moves_one t h id new d d' r a b to m at l is inside in_place was handed entered wrote stage next moved level services knows holds =
+    moves_one t h id new d d' r a b to m at l is inside in_place was handed entered wrote still stage next moved level services knows holds =
         let w = world_of s h.account.trace in
         let w' : World = record w { stage = put w.stage r to } in
         let k = is_at s t h id d at in
@@ -194,7 +194,7 @@ module _ (s : Shape) where
         (λ j l no. subst (λ x. IsSame w x j) (sym moved) (record { stage = put_else w.stage r to j (apart_from h.account r j in_place no); decision = refl; saw = refl }))
         (subst (λ (x : World × Rattle.apf_gate.proofs.DeskLines.Services). (j : ℕ) → j < length s.widths → IsRequest s j (h.account.pass j) (service_of x.1 j) x.0) (λ i. (sym moved i, sym services i))
         (requests_but s h.account.pass d.services w w' r b (λ j ne. record { stage = put_else w.stage r to j ne; decision = refl; saw = refl }) (λ x. x) k.request
-        (request_served s r (h.account.pass r) a b w w' handed entered wrote (put_here w.stage r to ∙ sym stage) refl refl (λ x. x) line)))
+        (request_served s r (h.account.pass r) a b w w' handed entered wrote still (put_here w.stage r to ∙ sym stage) refl refl (λ x. x) line)))
         (subst (λ x. Packs s h.account.current (set t.words 0 new) x) (sym moved) (packs_level s h.account.current t.words w w' new level (λ _. refl) h.packs))
         (subst (λ x. IsKnown s OfDesk x (entry OfDesk (Some m) ∷ h.account.trace)) (sym knows) (level_known s OfDesk OfDesk d.knows h.account.trace (Some m) k.known next l is))
         holds.held_is holds.is_held
@@ -239,7 +239,7 @@ module _ (s : Shape) where
               Desk d' ∷ [],
               keeps,
               tt,
-              moves_one t h id new d d' r Waiting Held Stands (Grant r) at l now inside (busy_is t h d k r Waiting Waits inside waits refl (λ y. cc) (λ y. cc)) waits refl refl refl refl next refl level refl refl (holds_now d.services r (subst (HoldsOne d.services) free k.holds)),
+              moves_one t h id new d d' r Waiting Held Stands (Grant r) at l now inside (busy_is t h d k r Waiting Waits inside waits refl (λ y. cc) (λ y. cc)) waits refl refl refl (λ y. cc) refl next refl level refl refl (holds_now d.services r (subst (HoldsOne d.services) free k.holds)),
               (refl, (d', refl, (l, e ∙ said, (u, tells t h d k (Some (Grant r)) l now next, refl)))),
             )
 
@@ -271,7 +271,7 @@ module _ (s : Shape) where
           Desk d' ∷ [],
           keeps,
           tt,
-          moves_one t h id new d d' r Held Left Gone (Release r) at l refl inside (busy_is t h d k r Held Stands inside is refl (λ y. cc) (λ y. cc)) is refl refl refl refl next refl level refl refl (holds_none d.services r Left (λ x. cc) (subst (HoldsOne d.services) held k.holds)),
+          moves_one t h id new d d' r Held Left Gone (Release r) at l refl inside (busy_is t h d k r Held Stands inside is refl (λ y. cc) (λ y. cc)) is refl refl refl (λ y. refl) refl next refl level refl refl (holds_none d.services r Left (λ x. cc) (subst (HoldsOne d.services) held k.holds)),
           (refl, (d', refl, (l, h.packs.level, (u, tells t h d k (Some (Release r)) l refl next, refl)))),
         )
 
@@ -302,6 +302,6 @@ module _ (s : Shape) where
           Desk d' ∷ [],
           keeps,
           tt,
-          moves_one t h id new d d' r Waiting Left Gone (Leave r) at l refl inside (busy_is t h d k r Waiting Waits inside waits refl (λ y. cc) (λ y. cc)) waits refl refl refl refl next refl level refl refl (holds_still d.services d.held r Left (λ x. let z = sym waits ∙ x in cc) (λ x. cc) k.holds),
+          moves_one t h id new d d' r Waiting Left Gone (Leave r) at l refl inside (busy_is t h d k r Waiting Waits inside waits refl (λ y. cc) (λ y. cc)) waits refl refl refl (λ y. refl) refl next refl level refl refl (holds_still d.services d.held r Left (λ x. let z = sym waits ∙ x in cc) (λ x. cc) k.holds),
           (refl, (d', refl, (l, h.packs.level, (u, tells t h d k (Some (Leave r)) l refl next, refl)))),
         )

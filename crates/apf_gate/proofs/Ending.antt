@@ -1,296 +1,117 @@
--- What the end of a gate tells of its tokens.
-use Rattle.std.proofs.Common.{◌≡◌, ◌≢◌, ◌⊎◌, ℕ, ◌<◌, Bool, true, false, List, [], ◌∷◌, ◌++◌, length, Some, None, sym, refl, ap, ◌∙◌, subst, inl, inr, ⊎_elim}
-use Rattle.std.specs.Prelude.{All, Any}
-use Rattle.std.proofs.lemmas.Bool.{not-true, not_from_false}
-use Rattle.apf_words.specs.Level.{Level}
+-- What the end of a batch tells of its tokens.
+use Rattle.std.proofs.Common.{◌≡◌, ◌≢◌, ◌⊎◌, ℕ, ◌<◌, true, List, length, Some, sym, refl, ap, ◌∙◌, inl, inr, ⊎_elim, arith}
+use Rattle.std.specs.Prelude.{Any}
 use Rattle.apf_words.specs.declared.decision.Decision.{Decision}
 use Rattle.apf_words.specs.declared.decision.Decision.TheVariants.{Execute, QueueFull, Closed, Cancelled, ConcurrencyLimit}
-use Rattle.apf_model.specs.declared.moves.Move.TheVariants.{Decide}
-use Rattle.apf_model.specs.declared.moves.Stage.TheVariants.{Waits, Stands}
 use Rattle.apf_model.specs.declared.response.Response.TheVariants.{Reject}
-use Rattle.apf_gate.specs.declared.record.Actor.{Actor}
-use Rattle.apf_gate.specs.declared.record.Actor.TheVariants.{OfPass, OfDesk, OfStation}
-use Rattle.apf_gate.specs.declared.record.Entry.{Entry}
-use Rattle.apf_gate.specs.declared.record.State.{State}
-use Rattle.apf_gate.specs.declared.record.State.TheVariants.{Fresh, Took, InLine, Over}
-use Rattle.apf_gate.specs.declared.record.Service.{Service}
-use Rattle.apf_gate.specs.declared.record.Service.TheVariants.{NotHanded, Handed, RefusedFull, RefusedClosed, Waiting, Held, Settled, Left}
+use Rattle.apf_gate.specs.declared.record.State.TheVariants.{Took, Over}
+use Rattle.apf_gate.specs.declared.record.Service.TheVariants.{RefusedFull, RefusedClosed, Settled}
 use Rattle.apf_gate.specs.declared.record.PassRecord.{PassRecord}
 use Rattle.apf_gate.specs.declared.record.DeskRecord.{DeskRecord}
-use Rattle.apf_gate.specs.Records.{told_of, told_own, service}
-use Rattle.apf_gate.specs.Traces.{NoneOf, GoesOn, world_of, Made, MadeFirstClose, IsToken, AreMade}
-use Rattle.apf_gate.specs.Requests.{IsRequest, MayHold, MayHaveWritten, stage_of, stage_of_pass, stage_of_settled, written}
+use Rattle.apf_gate.specs.Records.{service}
 use Rattle.apf_gate.specs.Rule.{Every}
+use Rattle.apf_gate.specs.Slots.{slot_of}
+use Rattle.apf_gate.specs.Account.{HoldsSlot}
 use Rattle.apf_gate.specs.Tokens.{GateId, PassToken, StationToken}
-use Rattle.apf_gate.specs.Ends.{WordsView, IsDecided, EndsWith, SawAtLast, IsLongest, AreOf, WasTold, Wrote, ExecutedIt, LimitedIt, IsBack, WroteCancelled, ClosedFirst, AtMostOne, EndAgrees}
+use Rattle.apf_gate.specs.Ends.{WordsView, IsDecided, IsEnded, EndsWith, Wrote, ExecutedIt, LimitedIt, IsBack, WroteCancelled, ClosedFirst, EndAgrees}
 use Rattle.apf_gate.proofs.WordNumbers.{some_same}
 use Rattle.apf_gate.proofs.Lists.{every_map, every_all, all_every, AnyOf, any_place, any_with, any_elim, every_both}
-use Rattle.apf_gate.proofs.Requests.{found_is_written, executes, executes_took, is_handed, handed_or_not}
-use Rattle.apf_gate.proofs.Traces.{made_later, made_own, close_later, close_own, decided_stands, one_decider, cancelled_by, closed_stands, one_closer, closed_by}
-use Rattle.apf_gate.proofs.HandedIn.{stations_here, passes_here, desk_here, station_there, pass_there, known_told, pass_known, station_known, desk_known, IsPassHere, IsStationHere}
+use Rattle.apf_gate.proofs.HandedIn.{IsPassHere, passes_here, holder_there, station_there}
+use Rattle.apf_gate.proofs.Ended.{IsDecidedSo, longest, told, cancelled_by_one, cancelled_is_written, cancelled_by_no_other, closed_by_one, closed_is_seen, closed_is_first, closed_by_no_other, desk_decided, full_was_refused, closed_was_written, limit_was_written, executed, pass_decided, back_by, gone, drained, at_most_one}
 
--- a Pass that holds no seats that it took stands not, nor waits, where the Desk did not enter its request
-not_taken : (f : State) (took : Bool) → f ≢ Took → (stage_of_pass f took ≢ Stands) × (stage_of_pass f took ≢ Waits)
-not_taken Fresh took other = ((λ x. cc), (λ x. cc))
-not_taken Took took other = absurd (other refl)
-not_taken InLine took other = ((λ x. cc), (λ x. cc))
-not_taken Over true other = ((λ x. cc), (λ x. cc))
-not_taken Over false other = ((λ x. cc), (λ x. cc))
+-- the end of a batch is an end
+abbrev pub ended_of : (g : GateId) (d : DeskRecord) (ps : List PassToken) (ts : List StationToken) (w : WordsView) → EndsWith g d ps ts w → IsEnded g d ps ts w.level
+ended_of g d ps ts w e = record {
+  account = e.account;
+  sound = e.sound;
+  slots = e.slots;
+  shape = e.shape;
+  laws = e.laws;
+  level_is = e.level;
+  stand = e.stand;
+  apart = e.apart;
+  all_passes = e.all_passes ∙ e.batch;
+  all_stations = e.all_stations;
+}
 
 module _ (g : GateId) (d : DeskRecord) (ps : List PassToken) (ts : List StationToken) (w : WordsView) (e : EndsWith g d ps ts w) where
-  -- a token whose own step is the newest of the trace, or of a trace without steps, saw the whole of it
-  newest : (who : Actor) (later saw : List Entry) (m : Entry) (es : List Entry) → later ++ saw ≡ m ∷ es → NoneOf who later → m.by ≡ who → saw ≡ m ∷ es
-  newest who [] saw m es is none own = is
-  newest who (x ∷ later) saw m es is none own = absurd (none.0 (ap (by_of who) is ∙ own))
-    where
-      by_of : Actor → List Entry → Actor
-      by_of other [] = other
-      by_of other (y ∷ ys) = y.by
+  abbrev i : IsEnded g d ps ts w.level
+  i = ended_of g d ps ts w e
 
-  nothing : (later saw : List Entry) → later ++ saw ≡ [] → saw ≡ []
-  nothing [] saw is = is
-  nothing (x ∷ later) saw is = cc
+  -- in a batch each request holds its slot
+  holds : (r : ℕ) → r < length g.shape.widths → HoldsSlot e.account r
+  holds r l =
+      let few = e.shape.few_slots in
+      let batch = e.batch in
+      let small : slot_of r < g.shape.slots = omega arith in
+      let own = e.slots.current (slot_of r) small in
+      let below = own.0 in
+      let same = own.1 in omega arith
 
-  -- the token that stepped last saw the whole trace
-  saw_newest : (m : Entry) (es : List Entry) → e.account.trace ≡ m ∷ es → (who : Actor) → m.by ≡ who → IsToken g.shape who → SawAtLast d ps ts (m ∷ es)
-  saw_newest m es is (OfPass r) own made = inr (inl (any_place (λ (t : PassToken). t.pass.knows.trace ≡ m ∷ es) ps (any_with (λ (t : PassToken). t.pass.number ≡ r) (IsPassHere g d ps ts w e) (λ (t : PassToken). t.pass.knows.trace ≡ m ∷ es) ps
-      (λ t n h. let k = ((pass_known g d ps ts w e) t h).newer in newest (OfPass t.pass.number) k.0 t.pass.knows.trace m es (k.1 ∙ is) k.2 (own ∙ ap OfPass (sym n))) ((pass_there g d ps ts w e) r made) (passes_here g d ps ts w e))))
-  saw_newest m es is OfDesk own made = inl (let k = (desk_known g d ps ts w e).newer in newest OfDesk k.0 d.knows.trace m es (k.1 ∙ is) k.2 own)
-  saw_newest m es is (OfStation j) own made = inr (inr (any_place (λ (t : StationToken). t.station.knows.trace ≡ m ∷ es) ts (any_with (λ (t : StationToken). t.station.number ≡ j) (IsStationHere g d ps ts w e) (λ (t : StationToken). t.station.knows.trace ≡ m ∷ es) ts
-      (λ t n h. let k = ((station_known g d ps ts w e) t h).newer in newest (OfStation t.station.number) k.0 t.station.knows.trace m es (k.1 ∙ is) k.2 (own ∙ ap OfStation (sym n))) ((station_there g d ps ts w e) j made) (stations_here g d ps ts w e))))
-
-  saw_at_last : (es : List Entry) → e.account.trace ≡ es → AreMade g.shape es → SawAtLast d ps ts es
-  saw_at_last [] is made = inl (let k = (desk_known g d ps ts w e).newer in nothing k.0 d.knows.trace (k.1 ∙ is))
-  saw_at_last (m ∷ es) is made = saw_newest m es is m.by refl made.0
-
-  last : (es : List Entry) × IsLongest g d ps ts es × AreOf g es w
-  last = (
-    e.account.trace,
-    record {
-      seen = saw_at_last e.account.trace refl e.sound.made;
-      made = e.sound.made;
-      from_desk = (desk_known g d ps ts w e).newer;
-      from_passes = all_every (λ (t : PassToken). GoesOn e.account.trace (OfPass t.pass.number) t.pass.knows.trace) ps (every_map (IsPassHere g d ps ts w e) (λ (t : PassToken). GoesOn e.account.trace (OfPass t.pass.number) t.pass.knows.trace) ps (λ t h. ((pass_known g d ps ts w e) t h).newer) (passes_here g d ps ts w e));
-      from_stations = all_every (λ (t : StationToken). GoesOn e.account.trace (OfStation t.station.number) t.station.knows.trace) ts (every_map (IsStationHere g d ps ts w e) (λ (t : StationToken). GoesOn e.account.trace (OfStation t.station.number) t.station.knows.trace) ts (λ t h. ((station_known g d ps ts w e) t h).newer) (stations_here g d ps ts w e));
-    },
-    (e.level, e.decided),
-  )
-
-  told : (r : ℕ) (x : Decision) → r < length g.shape.widths → WasTold d ps ts r x → IsDecided w r x
-  told r x l was = e.decided r l ∙ ap Some (⊎_elim
-      (λ (t : told_of d.knows.told r ≡ Some x). (known_told g d ps ts w e) OfDesk d.knows r x (desk_known g d ps ts w e) t)
-      (λ (o : Any (λ (t : PassToken). told_of t.pass.knows.told r ≡ Some x) ps ⊎ Any (λ (t : StationToken). told_of t.station.knows.told r ≡ Some x) ts). ⊎_elim
-      (λ (a : Any (λ (t : PassToken). told_of t.pass.knows.told r ≡ Some x) ps). any_elim (λ (t : PassToken). told_of t.pass.knows.told r ≡ Some x) (IsPassHere g d ps ts w e) ps (λ t is h. (known_told g d ps ts w e) (OfPass t.pass.number) t.pass.knows r x ((pass_known g d ps ts w e) t h) is) a (passes_here g d ps ts w e))
-      (λ (a : Any (λ (t : StationToken). told_of t.station.knows.told r ≡ Some x) ts). any_elim (λ (t : StationToken). told_of t.station.knows.told r ≡ Some x) (IsStationHere g d ps ts w e) ts (λ t is h. (known_told g d ps ts w e) (OfStation t.station.number) t.station.knows r x ((station_known g d ps ts w e) t h) is) a (stations_here g d ps ts w e))
-      o) was)
+  pass_there : (r : ℕ) → r < length g.shape.widths → AnyOf (λ t. t.pass.number ≡ r) ps
+  pass_there r l = holder_there g d ps ts w.level i r l (holds r l)
 
   -- what a request's word holds, the trace makes of it
-  decision_is : (r : ℕ) (x : Decision) → r < length g.shape.widths → IsDecided w r x → (world_of g.shape e.account.trace).decision r ≡ Some x
-  decision_is r x l is = some_same _ _ (sym (e.decided r l) ∙ is)
+  so : (r : ℕ) (x : Decision) → r < length g.shape.widths → IsDecided w r x → IsDecidedSo g d ps ts w.level i r x
+  so r x l is = some_same _ _ (sym (e.decided r l) ∙ is)
 
-  shut : (world_of g.shape e.account.trace).is_open ≡ false → w.level.closed ≡ true
-  shut c = ap (λ (l : Level). l.closed) e.level ∙ not_from_false _ c
-
-  abbrev own_name : StationToken → Actor
-  own_name t = OfStation t.station.number
-
-  -- a move that a Station's record has, the whole trace has
-  wrote : (t : StationToken) (r : ℕ) → (IsStationHere g d ps ts w e) t → WroteCancelled r t → Made e.account.trace (own_name t) (Decide r Cancelled)
-  wrote t r h c = let k = ((station_known g d ps ts w e) t h).newer in subst (λ es. Made es (own_name t) (Decide r Cancelled)) k.1 (made_later k.0 t.station.knows.trace (own_name t) (Decide r Cancelled) c)
-
-  first : (t : StationToken) → (IsStationHere g d ps ts w e) t → ClosedFirst t → MadeFirstClose g.shape e.account.trace (own_name t)
-  first t h c =
-      let k = ((station_known g d ps ts w e) t h).newer in
-      subst (λ es. MadeFirstClose g.shape es (own_name t)) k.1 (close_later g.shape k.0 t.station.knows.trace (own_name t) (subst (λ x. MadeFirstClose x t.station.knows.trace (own_name t)) ((station_known g d ps ts w e) t h).shape_is c))
-
-  -- no two Stations have one name
-  same_number : (j k : ℕ) → OfStation j ≡ OfStation k → j ≡ k
-  same_number j k is = ap number_of is
-    where
-      number_of : Actor → ℕ
-      number_of (OfStation n) = n
-      number_of (OfPass n) = 0
-      number_of OfDesk = 0
-
-  cancelled_by_one : (r : ℕ) → r < length g.shape.widths → IsDecided w r Cancelled → AnyOf (WroteCancelled r) ts
-  cancelled_by_one r l is =
-      let c = cancelled_by g.shape r e.account.trace e.sound.made (decision_is r Cancelled l is) in
-      any_with (λ (t : StationToken). t.station.number ≡ c.0) (IsStationHere g d ps ts w e) (WroteCancelled r) ts
-      (λ t n h.
-      let k = ((station_known g d ps ts w e) t h).newer in
-      made_own k.0 t.station.knows.trace (own_name t) (Decide r Cancelled) k.2 (subst (λ (x : List Entry × ℕ). Made x.0 (OfStation x.1) (Decide r Cancelled)) (λ i. (sym k.1 i, sym n i)) c.2)) ((station_there g d ps ts w e) c.0 c.1) (stations_here g d ps ts w e)
-
-  cancelled_is_written : (r : ℕ) → r < length g.shape.widths → Every (λ t. WroteCancelled r t → IsDecided w r Cancelled) ts
-  cancelled_is_written r l = every_map (IsStationHere g d ps ts w e) (λ (t : StationToken). WroteCancelled r t → IsDecided w r Cancelled) ts
-      (λ t h c. e.decided r l ∙ ap Some (decided_stands g.shape r Cancelled e.account.trace (own_name t) e.sound.schedule (wrote t r h c))) (stations_here g d ps ts w e)
-
-  cancelled_by_no_other : (r : ℕ) → Every (λ t. Every (λ u. WroteCancelled r t → WroteCancelled r u → t.station.number ≡ u.station.number) ts) ts
-  cancelled_by_no_other r = every_map (IsStationHere g d ps ts w e) (λ (t : StationToken). Every (λ u. WroteCancelled r t → WroteCancelled r u → t.station.number ≡ u.station.number) ts) ts
-      (λ t h. every_map (IsStationHere g d ps ts w e) (λ (u : StationToken). WroteCancelled r t → WroteCancelled r u → t.station.number ≡ u.station.number) ts
-      (λ u k a b. same_number _ _ (one_decider g.shape r Cancelled Cancelled e.account.trace (own_name t) (own_name u) e.sound.schedule (wrote t r h a) (wrote u r k b))) (stations_here g d ps ts w e)) (stations_here g d ps ts w e)
-
-  closed_by_one : w.level.closed ≡ true → AnyOf ClosedFirst ts
-  closed_by_one is =
-      let c = closed_by g.shape e.account.trace e.sound.made (not-true _ (ap (λ (l : Level). l.closed) (sym e.level) ∙ is)) in
-      any_with (λ (t : StationToken). t.station.number ≡ c.0) (IsStationHere g d ps ts w e) ClosedFirst ts
-      (λ t n h.
-      let k = ((station_known g d ps ts w e) t h).newer in
-      subst (λ x. MadeFirstClose x t.station.knows.trace (own_name t)) (sym ((station_known g d ps ts w e) t h).shape_is)
-      (close_own g.shape k.0 t.station.knows.trace (own_name t) k.2 (subst (λ (x : List Entry × ℕ). MadeFirstClose g.shape x.0 (OfStation x.1)) (λ i. (sym k.1 i, sym n i)) c.2))) ((station_there g d ps ts w e) c.0 c.1) (stations_here g d ps ts w e)
-
-  closed_is_seen : Every (λ t. t.station.knows.saw_closed ≡ true → w.level.closed ≡ true) ts
-  closed_is_seen = every_map (IsStationHere g d ps ts w e) (λ (t : StationToken). t.station.knows.saw_closed ≡ true → w.level.closed ≡ true) ts (λ t h c. shut (((station_known g d ps ts w e) t h).closed c)) (stations_here g d ps ts w e)
-
-  closed_is_first : Every (λ t. ClosedFirst t → w.level.closed ≡ true) ts
-  closed_is_first = every_map (IsStationHere g d ps ts w e) (λ (t : StationToken). ClosedFirst t → w.level.closed ≡ true) ts (λ t h c. shut (closed_stands g.shape e.account.trace (own_name t) e.sound.schedule (first t h c))) (stations_here g d ps ts w e)
-
-  closed_by_no_other : Every (λ t. Every (λ u. ClosedFirst t → ClosedFirst u → t.station.number ≡ u.station.number) ts) ts
-  closed_by_no_other = every_map (IsStationHere g d ps ts w e) (λ (t : StationToken). Every (λ u. ClosedFirst t → ClosedFirst u → t.station.number ≡ u.station.number) ts) ts
-      (λ t h. every_map (IsStationHere g d ps ts w e) (λ (u : StationToken). ClosedFirst t → ClosedFirst u → t.station.number ≡ u.station.number) ts
-      (λ u k a b. same_number _ _ (one_closer g.shape e.account.trace (own_name t) (own_name u) e.sound.schedule (first t h a) (first u k b))) (stations_here g d ps ts w e)) (stations_here g d ps ts w e)
-
-  -- the lines on a request, with the Desk that was handed in
-  line : (r : ℕ) → r < length g.shape.widths → IsRequest g.shape r (e.account.pass r) (service d r) (world_of g.shape e.account.trace)
-  line r l = subst (λ (o : DeskRecord). IsRequest g.shape r (e.account.pass r) (service o r) (world_of g.shape e.account.trace)) (desk_here g d ps ts w e) (e.sound.request r l)
+  word : (r : ℕ) (x : Decision) → r < length g.shape.widths → IsDecidedSo g d ps ts w.level i r x → IsDecided w r x
+  word r x l is = e.decided r l ∙ ap Some is
 
   -- of the request's own Pass, which was handed in
-  of_pass : (P : PassToken → Type 0) (r : ℕ) → r < length g.shape.widths → ((t : PassToken) → t.pass.number ≡ r → e.account.pass r ≡ t.pass → P t) → AnyOf P ps
-  of_pass P r l f = any_with (λ (t : PassToken). t.pass.number ≡ r) (IsPassHere g d ps ts w e) P ps (λ t n h. f t n (ap e.account.pass (sym n) ∙ h.1)) ((pass_there g d ps ts w e) r l) (passes_here g d ps ts w e)
+  of_pass : (P : PassToken → Type 0) (r : ℕ) → r < length g.shape.widths → ((t : PassToken) → t.pass.number ≡ r → e.account.pass r ≡ t.pass → P t) → Any P ps
+  of_pass P r l f = any_place P ps (any_with (λ (t : PassToken). t.pass.number ≡ r) (IsPassHere g d ps ts w.level i) P ps (λ t n h. f t n (ap e.account.pass (sym n) ∙ h.1)) (pass_there r l) (passes_here g d ps ts w.level i))
 
-  -- what the Desk wrote of a request is its decision
-  desk_decided : (r : ℕ) (a : Service) (x : Decision) → r < length g.shape.widths → service d r ≡ a → written (e.account.pass r) a ≡ Some x → IsDecided w r x
-  desk_decided r a x l is wrote = e.decided r l ∙ ap Some (subst (λ y. MayHold y ((world_of g.shape e.account.trace).decision r)) (ap (written (e.account.pass r)) is ∙ wrote) (line r l).word)
+  wrote_cancelled : (r : ℕ) → r < length g.shape.widths → Every (λ t. WroteCancelled r t → IsDecided w r Cancelled) ts
+  wrote_cancelled r l = every_map (λ (t : StationToken). WroteCancelled r t → IsDecidedSo g d ps ts w.level i r Cancelled) (λ (t : StationToken). WroteCancelled r t → IsDecided w r Cancelled) ts
+      (λ t f c. word r Cancelled l (f c)) (cancelled_is_written g d ps ts w.level i r)
 
-  full_was_refused : (r : ℕ) → r < length g.shape.widths → IsDecided w r QueueFull → service d r ≡ RefusedFull
-  full_was_refused r l is = by_service (service d r) refl (found_is_written _ _ QueueFull (line r l).word (decision_is r QueueFull l is) (λ z. cc))
-    where
-      by_service : (a : Service) → service d r ≡ a → written (e.account.pass r) (service d r) ≡ Some QueueFull → service d r ≡ RefusedFull
-      by_service NotHanded n x = absurd (subst (MayHaveWritten g.shape (e.account.pass r)) (sym (ap (written (e.account.pass r)) n) ∙ x) (line r l).own.wrote)
-      by_service Handed n x = absurd (let z = sym (ap (written (e.account.pass r)) n) ∙ x in cc)
-      by_service RefusedFull n x = n
-      by_service RefusedClosed n x = absurd (let z = sym (ap (written (e.account.pass r)) n) ∙ x in cc)
-      by_service Waiting n x = absurd (let z = sym (ap (written (e.account.pass r)) n) ∙ x in cc)
-      by_service Held n x = absurd (let z = sym (ap (written (e.account.pass r)) n) ∙ x in cc)
-      by_service Settled n x = absurd (let z = sym (ap (written (e.account.pass r)) n) ∙ x in cc)
-      by_service Left n x = absurd (let z = sym (ap (written (e.account.pass r)) n) ∙ x in cc)
-
-  closed_was_written : (r : ℕ) → r < length g.shape.widths → IsDecided w r Closed → ((service d r ≡ RefusedClosed) ⊎ AnyOf (Wrote r Closed) ps) × (w.level.closed ≡ true)
-  closed_was_written r l is = (by_service (service d r) refl wrote, shut ((line r l).closed wrote))
-    where
-      wrote : written (e.account.pass r) (service d r) ≡ Some Closed
-      wrote = found_is_written _ _ Closed (line r l).word (decision_is r Closed l is) (λ z. cc)
-
-      by_service : (a : Service) → service d r ≡ a → written (e.account.pass r) (service d r) ≡ Some Closed → (service d r ≡ RefusedClosed) ⊎ AnyOf (Wrote r Closed) ps
-      by_service NotHanded n x = inr (of_pass (Wrote r Closed) r l (λ t m same. (m, ap (λ (p : PassRecord). p.wrote) (sym same) ∙ (sym (ap (written (e.account.pass r)) n) ∙ x))))
-      by_service Handed n x = absurd (let z = sym (ap (written (e.account.pass r)) n) ∙ x in cc)
-      by_service RefusedFull n x = absurd (let z = sym (ap (written (e.account.pass r)) n) ∙ x in cc)
-      by_service RefusedClosed n x = inl n
-      by_service Waiting n x = absurd (let z = sym (ap (written (e.account.pass r)) n) ∙ x in cc)
-      by_service Held n x = absurd (let z = sym (ap (written (e.account.pass r)) n) ∙ x in cc)
-      by_service Settled n x = absurd (let z = sym (ap (written (e.account.pass r)) n) ∙ x in cc)
-      by_service Left n x = absurd (let z = sym (ap (written (e.account.pass r)) n) ∙ x in cc)
-
-  limit_was_written : (r : ℕ) → r < length g.shape.widths → IsDecided w r ConcurrencyLimit → AnyOf (LimitedIt r) ps × (g.shape.response ≡ Reject)
-  limit_was_written r l is = by_service (service d r) refl (found_is_written _ _ ConcurrencyLimit (line r l).word (decision_is r ConcurrencyLimit l is) (λ z. cc))
-    where
-      by_service : (a : Service) → service d r ≡ a → written (e.account.pass r) (service d r) ≡ Some ConcurrencyLimit → AnyOf (LimitedIt r) ps × (g.shape.response ≡ Reject)
-      by_service NotHanded n x =
-          let wrote = sym (ap (written (e.account.pass r)) n) ∙ x in
-          let k = subst (MayHaveWritten g.shape (e.account.pass r)) wrote (line r l).own.wrote in
-          (of_pass (LimitedIt r) r l (λ t m same. (m, ap (λ (p : PassRecord). p.saw_no_room) (sym same) ∙ k.3, ap (λ (p : PassRecord). p.wrote) (sym same) ∙ wrote)), k.2)
-      by_service Handed n x = absurd (let z = sym (ap (written (e.account.pass r)) n) ∙ x in cc)
-      by_service RefusedFull n x = absurd (let z = sym (ap (written (e.account.pass r)) n) ∙ x in cc)
-      by_service RefusedClosed n x = absurd (let z = sym (ap (written (e.account.pass r)) n) ∙ x in cc)
-      by_service Waiting n x = absurd (let z = sym (ap (written (e.account.pass r)) n) ∙ x in cc)
-      by_service Held n x = absurd (let z = sym (ap (written (e.account.pass r)) n) ∙ x in cc)
-      by_service Settled n x = absurd (let z = sym (ap (written (e.account.pass r)) n) ∙ x in cc)
-      by_service Left n x = absurd (let z = sym (ap (written (e.account.pass r)) n) ∙ x in cc)
-
-  executed : (r : ℕ) → r < length g.shape.widths → IsDecided w r Execute → (service d r ≡ Settled) ⊎ AnyOf (ExecutedIt r) ps
-  executed r l is = ⊎_elim
-      (λ (o : ((e.account.pass r).wrote ≡ Some Execute) × (service d r ≡ NotHanded)). inr (of_pass (ExecutedIt r) r l (λ t m same.
-      (m, ap (λ (p : PassRecord). p.took) (sym same) ∙ executes_took g.shape r (e.account.pass r) (service d r) (world_of g.shape e.account.trace) (line r l) o.0, ap (λ (p : PassRecord). p.wrote) (sym same) ∙ o.0))))
-      (λ (s : service d r ≡ Settled). inl s)
-      (executes g.shape r (e.account.pass r) (service d r) (world_of g.shape e.account.trace) (line r l) (decision_is r Execute l is))
-
-  -- what a Pass wrote is its request's decision
-  pass_decided : (t : PassToken) → (IsPassHere g d ps ts w e) t → (x : Decision) → t.pass.wrote ≡ Some x → IsDecided w t.pass.number x
-  pass_decided t h x is =
-      let r = t.pass.number in
-      let p = e.account.pass r in
-      let k = line r h.0 in
-      let wrote : p.wrote ≡ Some x = ap (λ (o : PassRecord). o.wrote) h.1 ∙ is in
-      let free = ⊎_elim (λ (n : service d r ≡ NotHanded). n) (λ n. absurd (let z = (is_handed g.shape r p (service d r) (world_of g.shape e.account.trace) k n).wrote_none in cc)) (handed_or_not (service d r)) in
-      desk_decided r NotHanded x h.0 free wrote
-
-  -- what a Pass that holds no seats says of its request, by what the Desk did with it
-  stage_back : (r : ℕ) (p : PassRecord) (a : Service) → IsRequest g.shape r p a (world_of g.shape e.account.trace) → p.state ≢ Took → (a ≡ Settled → p.state ≡ Over) → a ≢ Held → a ≢ Waiting → (stage_of p a ≢ Stands) × (stage_of p a ≢ Waits)
-  stage_back r p Waiting k took over held waits = absurd (waits refl)
-  stage_back r p Held k took over held waits = absurd (held refl)
-  stage_back r p Settled k took over held waits = ((λ x. let z = sym (ap stage_of_settled (over refl)) ∙ x in cc), (λ x. let z = sym (ap stage_of_settled (over refl)) ∙ x in cc))
-  stage_back r p Left k took over held waits = ((λ x. cc), (λ x. cc))
-  stage_back r p NotHanded k took over held waits = not_taken p.state p.took took
-  stage_back r p Handed k took over held waits = not_taken p.state p.took took
-  stage_back r p RefusedFull k took over held waits = not_taken p.state p.took took
-  stage_back r p RefusedClosed k took over held waits = not_taken p.state p.took took
-
-  -- a Pass that is back did not take seats that it holds, and is over if the Desk settled its request
-  not_took : (t : PassToken) → IsBack t → t.pass.state ≢ Took
-  not_took t back x = ⊎_elim (λ (o : t.pass.state ≡ Over). let z = sym o ∙ x in absurd (cc)) (λ (o : (t.pass.state ≢ Took) × (told_own t.pass ≢ None) × (told_own t.pass ≢ Some Execute)). o.0 x) back.back
-
-  over_if_settled : (t : PassToken) (r : ℕ) → t.pass.number ≡ r → r < length g.shape.widths → (IsPassHere g d ps ts w e) t → IsBack t → service d r ≡ Settled → t.pass.state ≡ Over
-  over_if_settled t r n l h back is = ⊎_elim (λ (o : t.pass.state ≡ Over). o)
-      (λ (o : (t.pass.state ≢ Took) × (told_own t.pass ≢ None) × (told_own t.pass ≢ Some Execute)).
-      let known : (world_of g.shape e.account.trace).decision t.pass.number ≡ told_own t.pass = ((pass_known g d ps ts w e) t h).told t.pass.number o.1 in
-      absurd (o.2 (sym known ∙ (ap (world_of g.shape e.account.trace).decision n ∙ decision_is r Execute l (desk_decided r Settled Execute l is refl)))))
-      back.back
-
-  drained : Every IsBack ps → d.held ≡ None → ((r : ℕ) → r < length g.shape.widths → service d r ≢ Waiting) → (w.level.seats ≡ 0) × (w.level.waiters ≡ 0)
-  drained back held waits = (
-    ap (λ (l : Level). l.seats) e.level ∙ e.laws.nobody_stands (world_of g.shape e.account.trace) (λ r l x. (gone r l).0 (sym (line r l).stage ∙ x)),
-    ap (λ (l : Level). l.waiters) e.level ∙ e.laws.nobody_waits (world_of g.shape e.account.trace) (λ r l x. (gone r l).1 (sym (line r l).stage ∙ x)),
+  closed : (r : ℕ) → r < length g.shape.widths → IsDecided w r Closed → ((service d r ≡ RefusedClosed) ⊎ Any (Wrote r Closed) ps) × (w.level.closed ≡ true)
+  closed r l is = let x = closed_was_written g d ps ts w.level i r l (so r Closed l is) in (
+    ⊎_elim (λ (o : service d r ≡ RefusedClosed). inl o) (λ (o : (e.account.pass r).wrote ≡ Some Closed). inr (of_pass (Wrote r Closed) r l (λ t n same. (n, ap (λ (p : PassRecord). p.wrote) (sym same) ∙ o)))) x.0,
+    x.1,
   )
-    where
-      -- what is so of a request by the token of its Pass
-      by_token : (r : ℕ) → r < length g.shape.widths → ((e.account.pass r).state ≢ Took) × (service d r ≡ Settled → (e.account.pass r).state ≡ Over)
-      by_token r l = any_elim (λ (t : PassToken). t.pass.number ≡ r) (λ (t : PassToken). (IsPassHere g d ps ts w e) t × IsBack t) ps
-          (λ t n h.
-          let same : (e.account.pass r).state ≡ t.pass.state = ap (λ k. (e.account.pass k).state) (sym n) ∙ ap (λ (o : PassRecord). o.state) h.0.1 in
-          ((λ x. not_took t h.1 (sym same ∙ x)), (λ x. same ∙ over_if_settled t r n l h.0 h.1 x)))
-          (any_place (λ (t : PassToken). t.pass.number ≡ r) ps ((pass_there g d ps ts w e) r l)) (every_both (IsPassHere g d ps ts w e) IsBack (λ (t : PassToken). (IsPassHere g d ps ts w e) t × IsBack t) ps (λ t a b. (a, b)) (passes_here g d ps ts w e) back)
 
-      not_held : (r : ℕ) → service d r ≢ Held
-      not_held r x = let z = sym (ap (λ (o : DeskRecord). o.held) (desk_here g d ps ts w e) ∙ held) ∙ e.sound.is_held r (ap (λ (o : DeskRecord). service o r) (desk_here g d ps ts w e) ∙ x) in cc
+  limited : (r : ℕ) → r < length g.shape.widths → IsDecided w r ConcurrencyLimit → Any (LimitedIt r) ps × (g.shape.response ≡ Reject)
+  limited r l is = let x = limit_was_written g d ps ts w.level i r l (so r ConcurrencyLimit l is) in
+      (of_pass (LimitedIt r) r l (λ t n same. (n, ap (λ (p : PassRecord). p.saw_no_room) (sym same) ∙ x.0, ap (λ (p : PassRecord). p.wrote) (sym same) ∙ x.1)), x.2)
 
-      gone : (r : ℕ) → r < length g.shape.widths → (stage_of (e.account.pass r) (service d r) ≢ Stands) × (stage_of (e.account.pass r) (service d r) ≢ Waits)
-      gone r l = let t = by_token r l in stage_back r (e.account.pass r) (service d r) (line r l) t.0 t.1 (not_held r) (waits r l)
+  executes : (r : ℕ) → r < length g.shape.widths → IsDecided w r Execute → (service d r ≡ Settled) ⊎ Any (ExecutedIt r) ps
+  executes r l is = ⊎_elim (λ (o : service d r ≡ Settled). inl o)
+      (λ (o : ((e.account.pass r).took ≡ true) × ((e.account.pass r).wrote ≡ Some Execute)).
+      inr (of_pass (ExecutedIt r) r l (λ t n same. (n, ap (λ (p : PassRecord). p.took) (sym same) ∙ o.0, ap (λ (p : PassRecord). p.wrote) (sym same) ∙ o.1))))
+      (executed g d ps ts w.level i r l (so r Execute l is))
 
-  -- at most one Station did what no two of them did
-  at_most_one : (Did : StationToken → Type 0) → Every (λ t. Every (λ u. Did t → Did u → t.station.number ≡ u.station.number) ts) ts → AtMostOne Did ts
-  at_most_one Did k = all_every (λ (t : StationToken). All (λ (u : StationToken). Did t → Did u → t.station.number ≡ u.station.number) ts) ts
-      (every_map (λ (t : StationToken). Every (λ u. Did t → Did u → t.station.number ≡ u.station.number) ts) (λ (t : StationToken). All (λ (u : StationToken). Did t → Did u → t.station.number ≡ u.station.number) ts) ts
-      (λ t l. all_every (λ (u : StationToken). Did t → Did u → t.station.number ≡ u.station.number) ts l) k)
+  written : Every (λ (t : PassToken). (x : Decision) → t.pass.wrote ≡ Some x → IsDecided w t.pass.number x) ps
+  written = every_map (IsPassHere g d ps ts w.level i) (λ (t : PassToken). (x : Decision) → t.pass.wrote ≡ Some x → IsDecided w t.pass.number x) ps
+      (λ t h x is. word t.pass.number x h.0 (pass_decided g d ps ts w.level i t.pass.number h.0 x (ap (λ (o : PassRecord). o.wrote) h.1 ∙ is))) (passes_here g d ps ts w.level i)
+
+  -- what is so of a request by the token of its Pass
+  back : Every IsBack ps → (r : ℕ) → r < length g.shape.widths → ((e.account.pass r).state ≢ Took) × (service d r ≡ Settled → (e.account.pass r).state ≡ Over)
+  back all r l = any_elim (λ (t : PassToken). t.pass.number ≡ r) (λ (t : PassToken). (IsPassHere g d ps ts w.level i) t × IsBack t) ps
+      (λ t n h. back_by g d ps ts w.level i t r n l h.0 h.1)
+      (any_place (λ (t : PassToken). t.pass.number ≡ r) ps (pass_there r l)) (every_both (IsPassHere g d ps ts w.level i) IsBack (λ (t : PassToken). (IsPassHere g d ps ts w.level i) t × IsBack t) ps (λ t a b. (a, b)) (passes_here g d ps ts w.level i) all)
 
   pub agrees : EndAgrees g d ps ts w
   agrees = record {
-    each_pass = λ r l. any_place (λ (t : PassToken). t.pass.number ≡ r) ps ((pass_there g d ps ts w e) r l);
-    each_station = λ k l. any_place (λ (t : StationToken). t.station.number ≡ k) ts ((station_there g d ps ts w e) k l);
-    last = last;
-    told = told;
-    cancelled_by_one = λ r l is. any_place (WroteCancelled r) ts (cancelled_by_one r l is);
-    cancelled_is_written = λ r l. all_every (λ (t : StationToken). WroteCancelled r t → IsDecided w r Cancelled) ts (cancelled_is_written r l);
-    cancelled_by_no_other = λ r. at_most_one (WroteCancelled r) (cancelled_by_no_other r);
-    closed_by_one = λ is. any_place ClosedFirst ts (closed_by_one is);
-    closed_is_first = all_every (λ (t : StationToken). ClosedFirst t → w.level.closed ≡ true) ts closed_is_first;
-    closed_by_no_other = at_most_one ClosedFirst closed_by_no_other;
-    closed_is_seen = all_every (λ (t : StationToken). t.station.knows.saw_closed ≡ true → w.level.closed ≡ true) ts closed_is_seen;
-    executed = λ r l is. ⊎_elim (λ (o : service d r ≡ Settled). inl o) (λ (o : AnyOf (ExecutedIt r) ps). inr (any_place (ExecutedIt r) ps o)) (executed r l is);
-    settled = λ r l is. desk_decided r Settled Execute l is refl;
-    full_was_refused = full_was_refused;
-    refused_as_full = λ r l is. desk_decided r RefusedFull QueueFull l is refl;
-    closed_was_written = λ r l is. let x = closed_was_written r l is in (⊎_elim (λ (o : service d r ≡ RefusedClosed). inl o) (λ (o : AnyOf (Wrote r Closed) ps). inr (any_place (Wrote r Closed) ps o)) x.0, x.1);
-    refused_as_closed = λ r l is. desk_decided r RefusedClosed Closed l is refl;
-    limit_was_written = λ r l is. let x = limit_was_written r l is in (any_place (LimitedIt r) ps x.0, x.1);
-    written = all_every (λ (t : PassToken). (x : Decision) → t.pass.wrote ≡ Some x → IsDecided w t.pass.number x) ps (every_map (IsPassHere g d ps ts w e) (λ (t : PassToken). (x : Decision) → t.pass.wrote ≡ Some x → IsDecided w t.pass.number x) ps pass_decided (passes_here g d ps ts w e));
-    drained = λ back. drained (every_all IsBack ps back);
+    each_pass = λ r l. any_place (λ (t : PassToken). t.pass.number ≡ r) ps (pass_there r l);
+    each_station = λ k l. any_place (λ (t : StationToken). t.station.number ≡ k) ts (station_there g d ps ts w.level i k l);
+    last = (e.account.trace, longest g d ps ts w.level i, (e.level, e.decided));
+    told = λ r x l was. word r x l (told g d ps ts w.level i r x was);
+    cancelled_by_one = λ r l is. any_place (WroteCancelled r) ts (cancelled_by_one g d ps ts w.level i r (so r Cancelled l is));
+    cancelled_is_written = λ r l. all_every (λ (t : StationToken). WroteCancelled r t → IsDecided w r Cancelled) ts (wrote_cancelled r l);
+    cancelled_by_no_other = λ r. at_most_one g d ps ts w.level i (WroteCancelled r) (cancelled_by_no_other g d ps ts w.level i r);
+    closed_by_one = λ is. any_place ClosedFirst ts (closed_by_one g d ps ts w.level i is);
+    closed_is_first = all_every (λ (t : StationToken). ClosedFirst t → w.level.closed ≡ true) ts (closed_is_first g d ps ts w.level i);
+    closed_by_no_other = at_most_one g d ps ts w.level i ClosedFirst (closed_by_no_other g d ps ts w.level i);
+    closed_is_seen = all_every (λ (t : StationToken). t.station.knows.saw_closed ≡ true → w.level.closed ≡ true) ts (closed_is_seen g d ps ts w.level i);
+    executed = executes;
+    settled = λ r l is. word r Execute l (desk_decided g d ps ts w.level i r Settled Execute l is refl);
+    full_was_refused = λ r l is. full_was_refused g d ps ts w.level i r l (so r QueueFull l is);
+    refused_as_full = λ r l is. word r QueueFull l (desk_decided g d ps ts w.level i r RefusedFull QueueFull l is refl);
+    closed_was_written = closed;
+    refused_as_closed = λ r l is. word r Closed l (desk_decided g d ps ts w.level i r RefusedClosed Closed l is refl);
+    limit_was_written = limited;
+    written = all_every (λ (t : PassToken). (x : Decision) → t.pass.wrote ≡ Some x → IsDecided w t.pass.number x) ps written;
+    drained = λ all held waits. drained g d ps ts w.level i (λ r l. let b = back (every_all IsBack ps all) r l in gone g d ps ts w.level i r l b.0 b.1 held (waits r l));
   }

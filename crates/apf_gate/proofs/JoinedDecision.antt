@@ -1,6 +1,6 @@
 -- The steps on a decision word of the Desk with a Pass joined to it keep the rule.
 use Rattle.std.proofs.Common.{◌≡◌, ◌≢◌, ℕ, ◌+◌, Bool, true, false, List, [], ◌∷◌, Option, Some, None, sym, refl, ap, ◌∙◌, subst}
-use Rattle.std.specs.Prelude.{slice_index, ◌==◌, MatchBool}
+use Rattle.std.specs.Prelude.{slice_index, ◌==◌, ◌||◌, MatchBool}
 use mathlib.Core.Option.{some}
 use lib.ListN.{get_elem?}
 use prog.Atomic.{either}
@@ -15,18 +15,18 @@ use Rattle.apf_gate.specs.declared.record.Shape.{Shape}
 use Rattle.apf_gate.specs.declared.record.Actor.TheVariants.{OfPass, OfDesk}
 use Rattle.apf_gate.specs.declared.record.Knowledge.{Knowledge}
 use Rattle.apf_gate.specs.declared.record.Service.{Service}
-use Rattle.apf_gate.specs.declared.record.Service.TheVariants.{Held}
+use Rattle.apf_gate.specs.declared.record.Service.TheVariants.{NotHanded, Handed, RefusedFull, RefusedClosed, Waiting, Held, Settled, Left}
 use Rattle.apf_gate.specs.declared.record.PassRecord.{PassRecord}
 use Rattle.apf_gate.specs.declared.record.DeskRecord.{DeskRecord}
 use Rattle.apf_gate.specs.declared.record.Record.{Record}
 use Rattle.apf_gate.specs.declared.record.Record.TheVariants.{Pass, Desk}
 use Rattle.apf_gate.specs.Records.{told_of, told_own, service_of, service, saw_decision}
 use Rattle.apf_gate.specs.Traces.{entry, world_of}
-use Rattle.apf_gate.specs.Requests.{IsRequest, stage_of_pass}
+use Rattle.apf_gate.specs.Requests.{IsRequest, IsHanded, stage_of_pass}
 use Rattle.apf_gate.specs.Rule.{IsRuled}
 use Rattle.apf_gate.specs.Steps.{Both, ByBoth, OfDecision, OnDecision, OnDecisionIf, Writing}
 use Rattle.apf_gate.specs.DeskSteps.{served}
-use Rattle.apf_gate.specs.JoinedSteps.{both_mark, along_told, handed_over, handed_by, refusing, JoinedLoadsDecision, JoinedExchangesDecision, JoinedMissesDecision}
+use Rattle.apf_gate.specs.JoinedSteps.{both_mark, along_told, has_left, handed_over, handed_by, refusing, JoinedLoadsDecision, JoinedExchangesDecision, JoinedMissesDecision}
 use Rattle.apf_gate.specs.DeskCalls.{MayHand, MayRefuse}
 use Rattle.apf_gate.proofs.Puts.{put_here, put_else}
 use Rattle.apf_gate.specs.Slots.{slot_of, mark_of}
@@ -38,9 +38,25 @@ use Rattle.apf_gate.proofs.Views.{Table}
 use Rattle.apf_gate.proofs.Sound.{by_found, Exchanged, left, both_step}
 use Rattle.apf_gate.proofs.Packing.{packs_same, packs_decided}
 use Rattle.apf_gate.proofs.Knowing.{decision_known, decision_told}
-use Rattle.apf_gate.proofs.PassLines.{execute_told, handed_read}
+use Rattle.apf_gate.proofs.PassLines.{execute_told}
 use Rattle.apf_gate.proofs.DeskLines.{holds_still}
 use Rattle.apf_gate.proofs.JoinedLines.{AreAt, are_at, is_early, own_handed, request_handed, agree, elsewhere}
+
+-- a Pass that has that its request left had it before, or hears it now
+heard_left : (left : Bool) (a : Service) → (left ≡ true → a ≡ Left) → (left || has_left a) ≡ true → a ≡ Left
+heard_left true a was e = was refl
+heard_left false Left was e = refl
+heard_left false NotHanded was e = absurd (cc)
+heard_left false Handed was e = absurd (cc)
+heard_left false RefusedFull was e = absurd (cc)
+heard_left false RefusedClosed was e = absurd (cc)
+heard_left false Waiting was e = absurd (cc)
+heard_left false Held was e = absurd (cc)
+heard_left false Settled was e = absurd (cc)
+
+-- a Pass that was handed over is still so after a hearing
+handed_heard : (p q : PassRecord) → q.asked ≡ p.asked → q.took ≡ p.took → q.wrote ≡ p.wrote → q.state ≡ p.state → (told_own p ≡ Some Execute → told_own q ≡ Some Execute) → IsHanded p → IsHanded q
+handed_heard p q asked took wrote state stays h = record { asked = asked ∙ h.asked; took_none = took ∙ h.took_none; wrote_none = wrote ∙ h.wrote_none; over = λ e. stays (h.over (sym state ∙ e)) }
 
 module _ (s : Shape) where
   -- what a Pass knows after a step on its word
@@ -73,7 +89,7 @@ module _ (s : Shape) where
             (subst (λ b. IsRequest s r q b w) (sym (put_here (service_of d.services) r (handed_over a))) mine)
             (decision_known s (OfPass r) OfDesk p.knows h.account.trace None k.known next r x (λ _. refl))
             (decision_known s OfDesk OfDesk d.knows h.account.trace None k.desk.known next r x (λ _. refl))
-            holds.held_is holds.is_held,
+            holds.held_is holds.is_held refl,
         (u, decision_told s OfDesk d.knows h.account.trace None k.desk.known next r x x refl (λ _. refl), desk_may_find s r q (handed_over a) w mine, agree s t h p d k None u next refl, refl),
       )
 
@@ -93,7 +109,7 @@ module _ (s : Shape) where
         not_held = λ e. cc;
         request = λ u. record {
           own = own_handed s p (service d p.number) w u k.request i;
-          tied = record { number = refl; handed = refl; entered = i.not_entered };
+          tied = record { number = refl; handed = refl; entered = i.not_entered; left = λ e. absurd (i.not_left (k.request.tied.left e)) };
           stage = i.away ∙ sym (ap (λ x. stage_of_pass x p.took) i.in_line);
           saw = k.request.saw;
           word = put_here w.decision p.number (Some QueueFull);
@@ -109,7 +125,7 @@ module _ (s : Shape) where
         not_held = λ e. cc;
         request = λ u. record {
           own = own_handed s p (service d p.number) w u k.request i;
-          tied = record { number = refl; handed = refl; entered = i.not_entered };
+          tied = record { number = refl; handed = refl; entered = i.not_entered; left = λ e. absurd (i.not_left (k.request.tied.left e)) };
           stage = i.away ∙ sym (ap (λ x. stage_of_pass x p.took) i.in_line);
           saw = k.request.saw;
           word = put_here w.decision p.number (Some Closed);
@@ -165,7 +181,7 @@ module _ (s : Shape) where
           (subst (λ b. IsRequest s r q b w') (sym (put_here (service_of d.services) r (refusing x))) (y.request (along_told p (Some x) u)))
           (decision_known s (OfPass r) OfDesk p.knows h.account.trace m k.known next r (Some x) (λ _. here))
           (decision_known s OfDesk OfDesk d.knows h.account.trace m k.desk.known next r (Some x) (λ _. here))
-          holds.held_is holds.is_held in
+          holds.held_is holds.is_held refl in
           let says : JoinedExchangesDecision x (record { pass = p; desk = d }) (record { pass = q; desk = d' }) = (u, decision_told s OfDesk d.knows h.account.trace m k.desk.known next r None (Some x) none (λ _. here), agree s t h p d k m u next refl, refl) in
           (Pass q ∷ Desk d' ∷ [], keeps, tt, ruled, (refl, (record { pass = q; desk = d' }, refl, λ c same. (None, e, subst (λ c. JoinedExchangesDecision c (record { pass = p; desk = d }) (record { pass = q; desk = d' })) (some_same x c (decision_same (mark_of r) (Some x) (Some c) same)) says))))
 
@@ -181,7 +197,7 @@ module _ (s : Shape) where
       let u : Knowledge = saw_decision d.knows r x (entry OfDesk None ∷ h.account.trace) in
       let d' : DeskRecord = record d { knows = u } in
       let v : Knowledge = along_told p x u in
-      let q : PassRecord = record p { no_room = false; knows = v } in (
+      let q : PassRecord = record p { no_room = false; left = p.left || has_left a; knows = v } in (
         Pass q ∷ Desk d' ∷ [],
         keeps,
         tt,
@@ -192,11 +208,11 @@ module _ (s : Shape) where
               own = record {
                 state = state_same p.state p q refl refl refl k.request.own.state;
                 wrote = k.request.own.wrote;
-                handed = λ e. handed_read s p v (told_along t h p d k x u (λ _. refl)) (k.request.own.handed e);
+                handed = λ e. handed_heard p q refl refl refl refl (told_along t h p d k x u (λ _. refl)) (k.request.own.handed e);
                 queues = k.request.own.queues;
                 no_room = λ e. absurd (cc);
               };
-              tied = record { number = refl; handed = k.request.tied.handed; entered = k.request.tied.entered };
+              tied = record { number = refl; handed = k.request.tied.handed; entered = k.request.tied.entered; left = heard_left p.left a k.request.tied.left };
               stage = k.request.stage;
               saw = k.request.saw;
               word = k.request.word;
@@ -204,6 +220,6 @@ module _ (s : Shape) where
             })
             (decision_known s (OfPass r) OfDesk p.knows h.account.trace None k.known next r x (λ _. refl))
             (decision_known s OfDesk OfDesk d.knows h.account.trace None k.desk.known next r x (λ _. refl))
-            k.desk.holds.held_is k.desk.holds.is_held,
+            k.desk.holds.held_is k.desk.holds.is_held refl,
         (refl, (record { pass = q; desk = d' }, refl, (x, k.word, (u, decision_told s OfDesk d.knows h.account.trace None k.desk.known next r x x refl (λ _. refl), desk_may_find s r p a w k.request, agree s t h p d k None u next refl, k.known.told r, refl)))),
       )

@@ -83,16 +83,17 @@ module _ (s : Shape) where
     pub same_written : written p (handed_over a) ≡ written p a
     pub not_held : a ≢ Held
     pub not_held_then : handed_over a ≢ Held
+    pub not_left : a ≢ Left
     pub not_full : w.decision p.number ≢ Some QueueFull
     -- an undecided request, and one of an open level, was not refused as closed
     pub unwritten : (written p a ≡ Some Closed → ⊥) → written p a ≡ None
 
   pub is_early : (p : PassRecord) (d : DeskRecord) (w : World) → IsRequest s p.number p (service d p.number) w → MayHand (record { pass = p; desk = d }) → IsEarly p (service d p.number) w
   is_early p d w k may = ⊎_elim
-      (λ (e : service d p.number ≡ NotHanded). there NotHanded e refl refl refl refl (sym (line k may).2) (λ x. cc) (λ x. cc) (λ x. cc) (λ x. (line k may).2))
+      (λ (e : service d p.number ≡ NotHanded). there NotHanded e refl refl refl refl (sym (line k may).2) (λ x. cc) (λ x. cc) (λ x. cc) (λ x. cc) (λ x. (line k may).2))
       (λ (o : (service d p.number ≡ Handed) ⊎ (service d p.number ≡ RefusedClosed)). ⊎_elim
-      (λ (e : service d p.number ≡ Handed). there Handed e refl refl refl refl refl (λ x. cc) (λ x. cc) (λ x. cc) (λ x. refl))
-      (λ (e : service d p.number ≡ RefusedClosed). there RefusedClosed e refl refl refl refl refl (λ x. cc) (λ x. cc) (λ x. cc) (λ x. absurd (x refl)))
+      (λ (e : service d p.number ≡ Handed). there Handed e refl refl refl refl refl (λ x. cc) (λ x. cc) (λ x. cc) (λ x. cc) (λ x. refl))
+      (λ (e : service d p.number ≡ RefusedClosed). there RefusedClosed e refl refl refl refl refl (λ x. cc) (λ x. cc) (λ x. cc) (λ x. cc) (λ x. absurd (x refl)))
       o)
       (early (service d p.number) (sym k.tied.entered ∙ may.not_entered) may.not_full)
     where
@@ -103,8 +104,8 @@ module _ (s : Shape) where
       not_full is = full_refused s p.number p (service d p.number) w k is may.not_full
 
       there : (b : Service) → service d p.number ≡ b → was_handed (handed_over b) ≡ true → has_entered (handed_over b) ≡ false → stage_of p (handed_over b) ≡ stage_of_pass p.state p.took → stage_of p b ≡ stage_of_pass p.state p.took → written p (handed_over b) ≡ written p b
-          → b ≢ Held → handed_over b ≢ Held → b ≢ RefusedFull → ((written p b ≡ Some Closed → ⊥) → written p b ≡ None) → IsEarly p (service d p.number) w
-      there b e handed entered stage_then stage wrote held held_then full unwritten =
+          → b ≢ Held → handed_over b ≢ Held → b ≢ Left → b ≢ RefusedFull → ((written p b ≡ Some Closed → ⊥) → written p b ≡ None) → IsEarly p (service d p.number) w
+      there b e handed entered stage_then stage wrote held held_then left full unwritten =
           let f = line k may in
           let is_away : stage_of_pass p.state p.took ≡ Away = ap (λ x. stage_of_pass x p.took) may.in_line in
           subst (λ a. IsEarly p a w) (sym e) (record {
@@ -120,6 +121,7 @@ module _ (s : Shape) where
             same_written = wrote;
             not_held = held;
             not_held_then = held_then;
+            not_left = left;
             not_full = not_full;
             unwritten = unwritten;
           })
@@ -146,7 +148,7 @@ module _ (s : Shape) where
   pub request_handed : (p : PassRecord) (a : Service) (w : World) (u : Knowledge) → IsRequest s p.number p a w → IsEarly p a w → IsRequest s p.number (handed_by p u) (handed_over a) w
   request_handed p a w u k i = record {
     own = own_handed p a w u k i;
-    tied = record { number = refl; handed = sym i.handed; entered = i.not_entered ∙ sym i.entered };
+    tied = record { number = refl; handed = sym i.handed; entered = i.not_entered ∙ sym i.entered; left = λ e. ap handed_over (k.tied.left e) };
     stage = i.away ∙ sym i.stage;
     saw = k.saw;
     word = subst (λ x. MayHold x (w.decision p.number)) (sym i.same_written) k.word;

@@ -17,7 +17,7 @@ use Rattle.apf_gate.specs.declared.record.Knowledge.{Knowledge}
 use Rattle.apf_gate.specs.Records.{level_of, told_of, told_more, saw_level, saw_decision}
 use Rattle.apf_gate.specs.Traces.{opening_of, entry, moves, world_of, GoesOn}
 use Rattle.apf_gate.specs.Account.{IsIdle, IsKnown}
-use Rattle.apf_gate.specs.Steps.{IsInRange, SawLevel, SawDecision, FindsOther}
+use Rattle.apf_gate.specs.Steps.{IsOver, IsInRange, SawLevel, SawDecision, FindsOther}
 use Rattle.apf_gate.proofs.Puts.{put_here, put_else}
 use Rattle.apf_gate.proofs.Later.{IsNext}
 
@@ -99,11 +99,12 @@ module _ (s : Shape) (who : Actor) (known : Knowledge) (es : List Entry) (m : Op
   }
 
   -- a load that tells no decision, of a word that another request has
-  pub other_found : m ≡ None → (r : ℕ) → IsIdle (world_of s es) r → length s.widths ≢ s.slots → FindsOther who known r (record known { trace = entry who None ∷ es })
-  other_found none r idle no_batch = record {
+  pub other_found : m ≡ None → (r : ℕ) → IsIdle (world_of s es) r → IsOver (world_of s es) r → length s.widths ≢ s.slots → FindsOther who known r (record known { trace = entry who None ∷ es })
+  other_found none r idle over no_batch = record {
     between = k.newer.0;
     of_others = k.newer.2;
     is_idle = subst (λ (x : Shape × List Entry). IsIdle (world_of x.0 x.1) r) (λ i. (sym k.shape_is i, sym k.newer.1 i)) idle;
+    is_over = subst (λ (x : Shape × List Entry). IsOver (world_of x.0 x.1) r) (λ i. (sym k.shape_is i, sym k.newer.1 i)) over;
     no_batch = subst (λ (x : Shape). length x.widths ≢ x.slots) (sym k.shape_is) no_batch;
     is_after = ap (λ x. record known { trace = entry who None ∷ x }) (sym k.newer.1);
     is_schedule = subst (λ y. IsSchedule (opening_of known.shape) (moves (entry who y ∷ es))) none legal_by_own;

@@ -18,6 +18,7 @@ pub mod PassLevel
 pub mod PassRelease
 pub mod PassDecision
 pub mod Renewing
+pub mod Counting
 pub mod StationSteps
 pub mod DeskLines
 pub mod DeskSteps
@@ -31,7 +32,9 @@ pub mod Gathering
 pub mod NewTokens
 pub mod Numbers
 pub mod HandedIn
+pub mod Ended
 pub mod Ending
+pub mod LifeEnding
 pub mod Determined
 pub mod Owing
 pub mod Same

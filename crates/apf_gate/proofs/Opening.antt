@@ -47,6 +47,9 @@ module _ (s : Shape) where
     idle = λ r l not. inl refl;
     later = λ r l e. (refl, refl);
     past = λ r l e. inr refl;
+    noted = λ i l. let b = shape.few_slots in record { in_order = tt; says = λ r inside e before. let c = first_here i l in absurd (omega arith) };
+    nobody = λ r l e. refl;
+    newest = λ r e. absurd e;
   }
 
   first_known : (who : Actor) → IsKnown s who (new_knowledge s) []
@@ -105,7 +108,7 @@ module _ (s : Shape) where
       made = tt;
       request = λ r l. record {
         own = record { state = (refl, refl, refl); wrote = tt; handed = λ e. absurd (cc); queues = λ e. absurd (cc); no_room = λ e. absurd (cc) };
-        tied = record { number = refl; handed = refl; entered = refl };
+        tied = record { number = refl; handed = refl; entered = refl; left = λ e. absurd (cc) };
         stage = refl;
         saw = refl;
         word = inl refl;

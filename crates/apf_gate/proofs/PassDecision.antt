@@ -52,17 +52,18 @@ module _ (s : Shape) where
   word_of t h p = (world_of s h.account.trace).decision p.number
 
   -- a load of the decision word, after which the record is q
-  loads : (t : Table) (h : IsRuled s t) (id : ℕ) (p q : PassRecord) (at : get_elem? t.views id ≡ some (Pass p ∷ [])) → q.knows ≡ told_by t h p
+  loads : (t : Table) (h : IsRuled s t) (id : ℕ) (p q : PassRecord) (at : get_elem? t.views id ≡ some (Pass p ∷ [])) → q.knows ≡ told_by t h p → q.past ≡ p.past
       → IsRequest s p.number q (service h.account.desk p.number) (world_of s h.account.trace)
       → IsRuled s (left t (slot_of p.number + 1) (slice_index t.words (slot_of p.number + 1)) id (Pass q ∷ [])) × SawDecision (OfPass p.number) p.knows p.number (word_of t h p) (word_of t h p) None (told_by t h p)
-  loads t h id p q at knows mine =
+  loads t h id p q at knows past mine =
       let w = world_of s h.account.trace in
       let r = p.number in
       let k = is_at s t h id p at in
       let es : List Entry = entry (OfPass r) None ∷ h.account.trace in
       let next = next_load s (OfPass r) h.account.trace h.sound.schedule in (
         pass_step s t h id (slot_of r + 1) (slice_index t.words (slot_of r + 1)) None p q at next (λ j ne. record { stage = refl; decision = refl; saw = refl }) (packs_same s h.account.current t.words w w (slot_of r + 1) refl (λ _. refl) h.packs) mine
-            (subst (λ u. IsKnown s (OfPass r) u es) (sym knows) (decision_known s (OfPass r) (OfPass r) p.knows h.account.trace None k.known next r (w.decision r) (λ _. refl))),
+            (subst (λ u. IsKnown s (OfPass r) u es) (sym knows) (decision_known s (OfPass r) (OfPass r) p.knows h.account.trace None k.known next r (w.decision r) (λ _. refl)))
+            past,
         decision_told s (OfPass r) p.knows h.account.trace None k.known next r (w.decision r) (w.decision r) refl (λ _. refl),
       )
 
@@ -74,7 +75,7 @@ module _ (s : Shape) where
   request_read : (t : Table) (h : IsRuled s t) (id : ℕ) (p : PassRecord) → IsAt s t h id p → IsRequest s p.number (read_by p (told_by t h p)) (service h.account.desk p.number) (world_of s h.account.trace)
   request_read t h id p k = record {
     own = own_read s p (told_by t h p) (still_executes t h id p k) k.request.own;
-    tied = record { number = refl; handed = k.request.tied.handed; entered = k.request.tied.entered };
+    tied = record { number = refl; handed = k.request.tied.handed; entered = k.request.tied.entered; left = k.request.tied.left };
     stage = k.request.stage;
     saw = k.request.saw;
     word = k.request.word;
@@ -95,7 +96,7 @@ module _ (s : Shape) where
       let k = is_at s t h id p at in
       let u : Knowledge = told_by t h p in
       let q : PassRecord = read_by p u in
-      let x = loads t h id p q at refl (request_read t h id p k) in
+      let x = loads t h id p q at refl refl (request_read t h id p k) in
       (Pass q ∷ [], keeps, tt, x.0, (refl, (q, refl, (word_of t h p, k.word, (u, x.1, may_find s p.number p (service h.account.desk p.number) (world_of s h.account.trace) k.request, grant_stands t h id p k, never_handed t h id p k, refl)))))
 
   fresh_or_not : (f : State) → (f ≡ Fresh) ⊎ ((asking_state f ≡ f) × ((b : Bool) → asking f b ≡ b))
@@ -116,7 +117,7 @@ module _ (s : Shape) where
           queues = k.own.queues;
           no_room = λ e. absurd (cc);
         };
-        tied = record { number = refl; handed = k.tied.handed; entered = k.tied.entered };
+        tied = record { number = refl; handed = k.tied.handed; entered = k.tied.entered; left = k.tied.left };
         stage = f.away ∙ sym (ap (stage_of q) f.free);
         saw = k.saw;
         word = k.word;
@@ -134,7 +135,7 @@ module _ (s : Shape) where
       (λ (e : p.state ≡ Fresh). subst P (λ i. record p { state = asking_state (sym e i); asked = asking (sym e i) p.asked; no_room = false; knows = u }) (request_asked p (service h.account.desk p.number) (world_of s h.account.trace) u e k.request))
       (λ (e : (asking_state p.state ≡ p.state) × ((b : Bool) → asking p.state b ≡ b)). subst P (λ i. record p { state = sym e.0 i; asked = sym (e.1 p.asked) i; no_room = false; knows = u }) (request_read t h id p k))
       (fresh_or_not p.state) in
-      let x = loads t h id p q at refl mine in
+      let x = loads t h id p q at refl refl mine in
       (Pass q ∷ [], keeps, tt, x.0, (refl, (q, refl, (word_of t h p, k.word, (u, x.1, may_find s p.number p (service h.account.desk p.number) (world_of s h.account.trace) k.request, grant_stands t h id p k, never_handed t h id p k, refl)))))
 
   -- the record of a Pass that wrote this decision
@@ -215,7 +216,7 @@ module _ (s : Shape) where
           queues = k.own.queues;
           no_room = λ e. absurd (cc);
         };
-        tied = record { number = refl; handed = k.tied.handed; entered = k.tied.entered };
+        tied = record { number = refl; handed = k.tied.handed; entered = k.tied.entered; left = k.tied.left };
         stage = f.away ∙ sym (ap (stage_of q) f.free ∙ ap (stage_of_pass Over) f.took_none);
         saw = k.saw;
         word = k.word;
@@ -259,7 +260,7 @@ module _ (s : Shape) where
       miss ne =
           let u : Knowledge = told_by t h p in
           let q : PassRecord = record p { state = deciding_state d p.state; no_room = false; knows = u } in
-          let x = loads t h id p q at refl (request_lost t h id p k d may) in
+          let x = loads t h id p q at refl refl (request_lost t h id p k d may) in
           (Pass q ∷ [], keeps, tt, x.0, (refl, (q, refl, same_decision (λ c. OfDecision (mark_of p.number) (λ found. PassMissesDecision c p found q) n) (w.decision r, k.word, (u, x.1, may_find s r p (service h.account.desk r) w k.request, refl)))))
 
       hit : n ≡ marked (mark_of p.number) None → Exchanged s t (slot_of p.number + 1) (marked (mark_of p.number) (Some d)) id (Says p d n) true
@@ -274,13 +275,13 @@ module _ (s : Shape) where
           let ruled = pass_step s t h id (slot_of r + 1) (marked (mark_of r) (Some d)) m p q at next (λ j ne. record { stage = refl; decision = put_else w.decision r (Some d) j ne; saw = refl }) (packs_decided s h.account t.words w r d h.slots k.holds k.in_slot h.packs)
           (record {
             own = x.own u;
-            tied = record { number = refl; handed = k.request.tied.handed; entered = k.request.tied.entered };
+            tied = record { number = refl; handed = k.request.tied.handed; entered = k.request.tied.entered; left = k.request.tied.left };
             stage = x.stage u;
             saw = k.request.saw;
             word = subst (λ y. MayHold y (put w.decision r (Some d) r)) (sym (x.written_now u)) here;
             closed = λ y. x.shut (some_same d Closed (sym (x.written_now u) ∙ y));
           })
-          (decision_known s (OfPass r) (OfPass r) p.knows h.account.trace m k.known next r (Some d) (λ _. here)) in (
+          (decision_known s (OfPass r) (OfPass r) p.knows h.account.trace m k.known next r (Some d) (λ _. here)) refl in (
             Pass q ∷ [],
             keeps,
             tt,

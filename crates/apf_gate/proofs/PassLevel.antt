@@ -45,14 +45,15 @@ module _ (s : Shape) (shape : IsShape s) (laws : AreLaws s) where
   pub on_level : (t : Table) (h : IsRuled s t) (id n : ℕ) (m : Option Move) (p q : PassRecord) (at : get_elem? t.views id ≡ some (Pass p ∷ [])) (l : Level) → level_of s.widths (world_of s h.account.trace) ≡ l
       → IsNext s (OfPass p.number) m h.account.trace
       → q.knows ≡ saw_level p.knows l (entry (OfPass p.number) m ∷ h.account.trace)
+      → q.past ≡ p.past
       → ((j : ℕ) → j ≢ p.number → IsSame (world_of s h.account.trace) (world_of s (entry (OfPass p.number) m ∷ h.account.trace)) j)
       → Packs s h.account.current (set t.words 0 n) (world_of s (entry (OfPass p.number) m ∷ h.account.trace))
       → IsRequest s p.number q (service h.account.desk p.number) (world_of s (entry (OfPass p.number) m ∷ h.account.trace))
       → IsRuled s (left t 0 n id (Pass q ∷ [])) × SawLevel (OfPass p.number) p.knows l m (saw_level p.knows l (entry (OfPass p.number) m ∷ h.account.trace))
-  on_level t h id n m p q at l is next knows elsewhere packs mine =
+  on_level t h id n m p q at l is next knows past elsewhere packs mine =
       let k = is_at s t h id p at in
       let es : List Entry = entry (OfPass p.number) m ∷ h.account.trace in (
-        pass_step s t h id 0 n m p q at next elsewhere packs mine (subst (λ u. IsKnown s (OfPass p.number) u es) (sym knows) (level_known s (OfPass p.number) (OfPass p.number) p.knows h.account.trace m k.known next l is)),
+        pass_step s t h id 0 n m p q at next elsewhere packs mine (subst (λ u. IsKnown s (OfPass p.number) u es) (sym knows) (level_known s (OfPass p.number) (OfPass p.number) p.knows h.account.trace m k.known next l is)) past,
         level_told s (OfPass p.number) p.knows h.account.trace m k.known next l is (subst IsInRange is (level_in_range s shape laws t h)) (λ e. ap (λ (x : Level). x.waiters) (sym is) ∙ no_queues s laws t h e),
       )
 
@@ -109,12 +110,12 @@ module _ (s : Shape) (shape : IsShape s) (laws : AreLaws s) where
       let m : Option Move = Some (See p.number) in
       let u : Knowledge = saw_level p.knows l (entry (OfPass p.number) m ∷ h.account.trace) in
       let q : PassRecord = record p { saw_no_room = p.saw_no_room || true; no_room = true; knows = u } in
-      on_level t h id (slice_index t.words 0) m p q at l refl (next_move s (OfPass p.number) (See p.number) h.account.trace h.sound.schedule (may_see t h id p k f.away is) refl) refl
+      on_level t h id (slice_index t.words 0) m p q at l refl (next_move s (OfPass p.number) (See p.number) h.account.trace h.sound.schedule (may_see t h id p k f.away is) refl) refl refl
       (λ j ne. record { stage = refl; decision = refl; saw = put_else w.saw_no_room p.number true j ne })
       (packs_same s h.account.current t.words w (world_of s (entry (OfPass p.number) m ∷ h.account.trace)) 0 refl (λ _. refl) h.packs)
       (record {
         own = own_looked p.number p (service h.account.desk p.number) w true u k.request fresh;
-        tied = record { number = refl; handed = k.request.tied.handed; entered = k.request.tied.entered };
+        tied = record { number = refl; handed = k.request.tied.handed; entered = k.request.tied.entered; left = k.request.tied.left };
         stage = k.request.stage;
         saw = put_here w.saw_no_room p.number true ∙ or_true p.saw_no_room;
         word = k.request.word;
@@ -127,12 +128,12 @@ module _ (s : Shape) (shape : IsShape s) (laws : AreLaws s) where
       let l : Level = level_of s.widths w in
       let u : Knowledge = saw_level p.knows l (entry (OfPass p.number) None ∷ h.account.trace) in
       let q : PassRecord = record p { saw_no_room = p.saw_no_room || false; no_room = false; knows = u } in
-      on_level t h id (slice_index t.words 0) None p q at l refl (next_load s (OfPass p.number) h.account.trace h.sound.schedule) refl
+      on_level t h id (slice_index t.words 0) None p q at l refl (next_load s (OfPass p.number) h.account.trace h.sound.schedule) refl refl
       (λ j ne. record { stage = refl; decision = refl; saw = refl })
       (packs_same s h.account.current t.words w w 0 refl (λ _. refl) h.packs)
       (record {
         own = own_looked p.number p (service h.account.desk p.number) w false u k.request fresh;
-        tied = record { number = refl; handed = k.request.tied.handed; entered = k.request.tied.entered };
+        tied = record { number = refl; handed = k.request.tied.handed; entered = k.request.tied.entered; left = k.request.tied.left };
         stage = k.request.stage;
         saw = k.request.saw ∙ or_false p.saw_no_room;
         word = k.request.word;
@@ -154,12 +155,12 @@ module _ (s : Shape) (shape : IsShape s) (laws : AreLaws s) where
       let l : Level = level_of s.widths w in
       let u : Knowledge = saw_level p.knows l (entry (OfPass p.number) None ∷ h.account.trace) in
       let q : PassRecord = read_by p u in
-      let x = on_level t h id (slice_index t.words 0) None p q at l refl (next_load s (OfPass p.number) h.account.trace h.sound.schedule) refl
+      let x = on_level t h id (slice_index t.words 0) None p q at l refl (next_load s (OfPass p.number) h.account.trace h.sound.schedule) refl refl
       (λ j ne. record { stage = refl; decision = refl; saw = refl })
       (packs_same s h.account.current t.words w w 0 refl (λ _. refl) h.packs)
       (record {
         own = own_read s p u (λ e. e) k.request.own;
-        tied = record { number = refl; handed = k.request.tied.handed; entered = k.request.tied.entered };
+        tied = record { number = refl; handed = k.request.tied.handed; entered = k.request.tied.entered; left = k.request.tied.left };
         stage = k.request.stage;
         saw = k.request.saw;
         word = k.request.word;
@@ -211,7 +212,7 @@ module _ (s : Shape) (shape : IsShape s) (laws : AreLaws s) where
           let u : Knowledge = saw_level p.knows l (entry (OfPass r) m ∷ h.account.trace) in
           let q : PassRecord = record p { state = Took; took = true; no_room = false; knows = u } in
           let level : new ≡ packed (level_of s.widths w') = is_new ∙ (λ i. packed (record { closed = (sym now i).closed; waiters = ((ap (λ (x : Level). x.waiters) (sym now)) ∙ sym as_many) i; seats = (ap (λ (x : Level). x.seats + own_width p) (sym now) ∙ (ap (λ y. seats s.widths w + y) own ∙ sym more)) i; limit = (sym now i).limit })) in
-          let x = on_level t h id new m p q at l now (next_move s (OfPass r) (Take r) h.account.trace h.sound.schedule may refl) refl
+          let x = on_level t h id new m p q at l now (next_move s (OfPass r) (Take r) h.account.trace h.sound.schedule may refl) refl refl
           (λ j ne. record { stage = put_else w.stage r Stands j ne; decision = refl; saw = refl })
           (packs_level s h.account.current t.words w w' new level (λ _. refl) h.packs)
           (record {
@@ -222,7 +223,7 @@ module _ (s : Shape) (shape : IsShape s) (laws : AreLaws s) where
               queues = k.request.own.queues;
               no_room = λ y. absurd (cc);
             };
-            tied = record { number = refl; handed = k.request.tied.handed; entered = k.request.tied.entered };
+            tied = record { number = refl; handed = k.request.tied.handed; entered = k.request.tied.entered; left = k.request.tied.left };
             stage = put_here w.stage r Stands ∙ sym (ap (stage_of q) f.free);
             saw = k.request.saw;
             word = k.request.word;

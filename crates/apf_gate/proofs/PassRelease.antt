@@ -106,7 +106,7 @@ module _ (s : Shape) (shape : IsShape s) (laws : AreLaws s) where
       let level : new ≡ packed l' = ap (λ y. (y + (2 ^ 64 - back)) % 2 ^ 64) shown ∙ leaves l' (subst (λ y. y < 2 ^ 20) (sym as_many) fits.0, subst (λ y. y < 2 ^ 20) fewer fits.1, fits.2) in
       let u : Knowledge = saw_level p.knows l (entry (OfPass r) m ∷ h.account.trace) in
       let q : PassRecord = record p { state = Over; no_room = false; knows = u } in
-      let y = on_level s shape laws t h id new m p q at l refl (next_move s (OfPass r) (Release r) h.account.trace h.sound.schedule (record { is_request = k.inside; is_standing = x.stands; is_decided = x.decided }) refl) refl
+      let y = on_level s shape laws t h id new m p q at l refl (next_move s (OfPass r) (Release r) h.account.trace h.sound.schedule (record { is_request = k.inside; is_standing = x.stands; is_decided = x.decided }) refl) refl refl
       (λ j ne. record { stage = put_else w.stage r Gone j ne; decision = refl; saw = refl })
       (packs_level s h.account.current t.words w w' new level (λ _. refl) h.packs)
       (record {
@@ -117,7 +117,7 @@ module _ (s : Shape) (shape : IsShape s) (laws : AreLaws s) where
           queues = k.request.own.queues;
           no_room = λ e. absurd (cc);
         };
-        tied = record { number = refl; handed = k.request.tied.handed; entered = k.request.tied.entered };
+        tied = record { number = refl; handed = k.request.tied.handed; entered = k.request.tied.entered; left = k.request.tied.left };
         stage = put_here w.stage r Gone ∙ sym (x.gone q refl refl);
         saw = k.request.saw;
         word = k.request.word;

@@ -1,5 +1,5 @@
 -- A Pass leaves its request and begins the next one of its slot: the step keeps the rule.
-use Rattle.std.proofs.Common.{◌≡◌, ◌≢◌, ◌⊎◌, ℕ, ◌+◌, ◌*◌, ◌<◌, Bool, true, false, List, [], ◌∷◌, ◌++◌, length, Some, None, sym, refl, ap, ◌∙◌, subst, inl, inr, ⊎_elim, arith}
+use Rattle.std.proofs.Common.{◌≡◌, ◌≢◌, ◌⊎◌, ℕ, ◌+◌, ◌*◌, ◌<◌, ◌≤◌, Bool, true, false, List, [], ◌∷◌, ◌++◌, length, Option, Some, None, sym, refl, ap, ◌∙◌, subst, inl, inr, ⊎_elim, arith}
 use Rattle.std.specs.Prelude.{slice_index}
 use mathlib.Core.Logic.{dite}
 use native.Mathlib.Decide.{ℕ_discrete}
@@ -20,14 +20,15 @@ use Rattle.apf_gate.specs.declared.record.Service.TheVariants.{NotHanded, Handed
 use Rattle.apf_gate.specs.declared.record.PassRecord.{PassRecord}
 use Rattle.apf_gate.specs.declared.record.Record.TheVariants.{Pass}
 use Rattle.apf_gate.specs.Slots.{slot_of, mark_of}
-use Rattle.apf_gate.specs.Records.{told_own, service, saw_decision, new_pass}
+use Rattle.apf_gate.specs.Records.{told_of, told_own, told_more, service, saw_decision, new_pass}
 use Rattle.apf_gate.specs.Traces.{opening_of, entry, moves, world_of, NoneOf, GoesOn}
+use Rattle.apf_words.specs.declared.decision.Decision.{Decision}
 use Rattle.apf_words.specs.declared.decision.Decision.TheVariants.{Execute, Cancelled}
 use Rattle.apf_gate.specs.Requests.{IsRequest, MayHold, written, stage_of, stage_of_pass, stage_of_settled, was_handed, has_entered}
-use Rattle.apf_gate.specs.Account.{Account, HoldsSlot, IsIdle, AreSlots, IsKnown}
+use Rattle.apf_gate.specs.Account.{Account, HoldsSlot, IsIdle, HeldBefore, IsNoted, AreSlots, IsKnown}
 use Rattle.apf_gate.specs.Rule.{IsRuled}
 use Rattle.apf_gate.specs.Steps.{ByPass, OnDecision}
-use Rattle.apf_gate.specs.PassSteps.{own_mark, IsNextRequest, MayRenew, PassRenews}
+use Rattle.apf_gate.specs.PassSteps.{own_mark, IsNextRequest, IsOutOfLine, MayRenew, PassRenews}
 use Rattle.apf_gate.proofs.Puts.{put_here, put_else}
 use Rattle.apf_gate.proofs.Later.{next_load, known_later, other_pass}
 use Rattle.apf_gate.proofs.Requests.{is_fresh, is_handed}
@@ -47,14 +48,52 @@ none_before : (who : Actor) (newer older : List Entry) → NoneOf who (newer ++ 
 none_before who [] older k = tt
 none_before who (x ∷ newer) older k = (k.0, none_before who newer older k.1)
 
+-- no two Passes have one name
+same_pass : (r j : ℕ) → OfPass r ≡ OfPass j → r ≡ j
+same_pass r j e = ap number_of e
+  where
+    number_of : Actor → ℕ
+    number_of (OfPass n) = n
+    number_of OfDesk = 0
+    number_of (OfStation k) = 0
+
+held_below : (i c e : ℕ) (past : List (ℕ × Decision)) → c ≤ e → HeldBefore i c past → HeldBefore i e past
+held_below i c e [] l k = tt
+held_below i c e (latest ∷ past) l k = (let b = k.0 in omega arith, k.1, k.2)
+
+-- nothing is noted of a request that did not hold the slot before
+none_noted : (i c : ℕ) (past : List (ℕ × Decision)) (r : ℕ) → HeldBefore i c past → c ≤ r → told_of past r ≡ None
+none_noted i c [] r k l = refl
+none_noted i c (latest ∷ past) r k l = put_else (told_of past) latest.0 (Some latest.1) r (λ e. let b = k.0 in omega arith) ∙ none_noted i latest.0 past r k.2 (let b = k.0 in omega arith)
+
+-- the request r is noted as the next one begins, where nobody came between the two
+noted_more : (n : ℕ) (w : World) (r next : ℕ) (past : List (ℕ × Decision)) → r < next → IsNoted n w (slot_of r) r past → ((j : ℕ) → j < n → slot_of j ≡ slot_of r → r < j → j < next → w.decision j ≡ None)
+    → (found : Option Decision) → w.decision r ≡ found → IsNoted n w (slot_of r) next (told_more past r found)
+noted_more n w r next past below k between None is = record {
+  in_order = held_below (slot_of r) r next past (omega arith) k.in_order;
+  says = λ j inside e l. dite (dec_lt j r)
+      (λ m. k.says j inside e m)
+      (λ m. none_noted (slot_of r) r past j k.in_order (omega arith) ∙ sym (dite (ℕ_discrete j r) (λ y. ap w.decision y ∙ is) (λ ne. between j inside e (omega arith) l)));
+}
+noted_more n w r next past below k between (Some d) is = record {
+  in_order = (below, refl, k.in_order);
+  says = λ j inside e l. dite (ℕ_discrete j r)
+      (λ y. ap (put (told_of past) r (Some d)) y ∙ (put_here (told_of past) r (Some d) ∙ (sym is ∙ ap w.decision (sym y))))
+      (λ ne. put_else (told_of past) r (Some d) j ne ∙ dite (dec_lt j r)
+      (λ m. k.says j inside e m)
+      (λ m. none_noted (slot_of r) r past j k.in_order (omega arith) ∙ sym (between j inside e (omega arith) l)));
+}
+
 module _ (s : Shape) where
   -- a Pass that may leave its request neither waits nor stands
   may_leave : (p : PassRecord) (a : Service) (w : World) → IsRequest s p.number p a w → (told_own p ≢ None → w.decision p.number ≡ told_own p) → MayRenew p → IsIdle w p.number
   may_leave p a w k known may = ⊎_elim
       (λ (e : p.state ≡ Fresh). inl (is_fresh s p.number p a w k e).away)
-      (λ (m : (told_own p ≢ None) × ((p.state ≡ Over) ⊎ ((p.state ≡ InLine) × (p.entered ≡ false)))). ⊎_elim
+      (λ (m : (told_own p ≢ None) × ((p.state ≡ Over) ⊎ IsOutOfLine p)). ⊎_elim
       (λ (e : p.state ≡ Over). over a refl e)
-      (λ (e : (p.state ≡ InLine) × (p.entered ≡ false)). line a refl e.0 (sym k.tied.entered ∙ e.1)) m.1)
+      (λ (e : IsOutOfLine p). ⊎_elim
+      (λ (n : p.entered ≡ false). line a refl e.0 (sym k.tied.entered ∙ n))
+      (λ (n : p.left ≡ true). inr (k.stage ∙ ap (stage_of p) (k.tied.left n))) e.1) m.1)
       may
     where
       -- a request that is over and was handed to the Desk is executed, so that its word says
@@ -97,8 +136,9 @@ module _ (s : Shape) where
 
   -- the lines on slots as one is handed on
   slots_renewed : (g : Account) (r next : ℕ) (q : PassRecord) → AreSlots s g → HoldsSlot g r → slot_of next ≡ slot_of r → r < next → next < length s.widths → slot_of r < s.slots
-      → IsIdle (world_of s g.trace) r → ((world_of s g.trace).decision r ≢ None) ⊎ ((g.pass r).state ≡ Fresh) → AreSlots s (renewed g next q)
-  slots_renewed g r next q k holds same below inside in_slot idle over = record {
+      → IsIdle (world_of s g.trace) r → ((world_of s g.trace).decision r ≢ None) ⊎ ((g.pass r).state ≡ Fresh)
+      → q.past ≡ told_more (g.pass r).past r ((world_of s g.trace).decision r) → AreSlots s (renewed g next q)
+  slots_renewed g r next q k holds same below inside in_slot idle over past = record {
     current = λ i l. dite (ℕ_discrete i (slot_of next))
         (λ e. subst (λ j. (put g.current (slot_of next) next j < length s.widths) × (slot_of (put g.current (slot_of next) next j) ≡ j)) (sym e)
         (subst (λ c. (c < length s.widths) × (slot_of c ≡ slot_of next)) (sym (put_here g.current (slot_of next) next)) (inside, refl)))
@@ -131,8 +171,28 @@ module _ (s : Shape) where
         (λ m. ended j unmoved (k.past j l (omega arith)))
         (λ m. let h = k.later j l (omega arith) in inr (ap (λ (p : PassRecord). p.state) (unmoved ∙ h.0)))))
         (λ ne. let at = elsewhere j ne in ended j (put_else g.pass next q j (λ e. ne (ap slot_of e))) (k.past j l (omega arith)));
+    noted = λ i l. dite (ℕ_discrete i (slot_of next))
+        (λ e. subst (λ j. IsNoted (length s.widths) (world_of s g.trace) j (put g.current (slot_of next) next j) (put g.pass next q (put g.current (slot_of next) next j)).past) (sym e)
+        (subst (λ c. IsNoted (length s.widths) (world_of s g.trace) (slot_of next) c (put g.pass next q c).past) (sym (put_here g.current (slot_of next) next))
+        (subst (λ xs. IsNoted (length s.widths) (world_of s g.trace) (slot_of next) next xs) (sym (ap (λ (o : PassRecord). o.past) (put_here g.pass next q))) now_noted)))
+        (λ ne. subst (λ c. IsNoted (length s.widths) (world_of s g.trace) i c (put g.pass next q c).past) (sym (put_else g.current (slot_of next) next i ne))
+        (subst (λ xs. IsNoted (length s.widths) (world_of s g.trace) i (g.current i) xs) (sym (ap (λ (o : PassRecord). o.past) (put_else g.pass next q (g.current i) (λ e. ne (sym (k.current i l).1 ∙ ap slot_of e))))) (k.noted i l)));
+    nobody = λ j l beyond. k.nobody j l beyond;
+    newest = λ j e. subst (HoldsSlot (renewed g next q)) (same_pass next j e) (put_here g.current (slot_of next) next);
   }
     where
+      -- what the Pass noted, with its request before
+      was_noted : IsNoted (length s.widths) (world_of s g.trace) (slot_of r) r (g.pass r).past
+      was_noted = subst (λ c. IsNoted (length s.widths) (world_of s g.trace) (slot_of r) c (g.pass c).past) holds (k.noted (slot_of r) in_slot)
+
+      -- nobody came between the two
+      between_none : (j : ℕ) → j < length s.widths → slot_of j ≡ slot_of r → r < j → j < next → (world_of s g.trace).decision j ≡ None
+      between_none j l e after before = (k.later j l (let was : g.current (slot_of j) ≡ r = ap g.current e ∙ holds in omega arith)).1
+
+      now_noted : IsNoted (length s.widths) (world_of s g.trace) (slot_of next) next q.past
+      now_noted = subst (λ xs. IsNoted (length s.widths) (world_of s g.trace) (slot_of next) next xs) (sym past) (subst (λ i. IsNoted (length s.widths) (world_of s g.trace) i next (told_more (g.pass r).past r ((world_of s g.trace).decision r))) (sym same)
+          (noted_more (length s.widths) (world_of s g.trace) r next (g.pass r).past below was_noted between_none ((world_of s g.trace).decision r) refl))
+
       elsewhere : (j : ℕ) → slot_of j ≢ slot_of next → put g.current (slot_of next) next (slot_of j) ≡ g.current (slot_of j)
       elsewhere j ne = put_else g.current (slot_of next) next (slot_of j) ne
 
@@ -143,12 +203,12 @@ module _ (s : Shape) where
       ended j same x = ⊎_elim (λ (e : (world_of s g.trace).decision j ≢ None). inl e) (λ (e : (g.pass j).state ≡ Fresh). inr (ap (λ (p : PassRecord). p.state) same ∙ e)) x
 
   -- the lines on the new request are those on one that nobody did anything with
-  request_new : (next : ℕ) (a : Service) (w : World) (u : Knowledge) → IsRequest s next (new_pass s next) a w → IsRequest s next (record (new_pass s next) { knows = u }) a w
-  request_new next a w u k =
-      let q : PassRecord = record (new_pass s next) { knows = u } in
+  request_new : (next : ℕ) (a : Service) (w : World) (past : List (ℕ × Decision)) (u : Knowledge) → IsRequest s next (new_pass s next) a w → IsRequest s next (record (new_pass s next) { past = past; knows = u }) a w
+  request_new next a w past u k =
+      let q : PassRecord = record (new_pass s next) { past = past; knows = u } in
       let f = is_fresh s next (new_pass s next) a w k refl in record {
         own = record { state = (refl, refl, refl); wrote = tt; handed = λ e. absurd (cc); queues = λ e. absurd (cc); no_room = λ e. absurd (cc) };
-        tied = record { number = refl; handed = k.tied.handed; entered = k.tied.entered };
+        tied = record { number = refl; handed = k.tied.handed; entered = k.tied.entered; left = λ e. absurd (cc) };
         stage = f.away ∙ sym (ap (stage_of q) f.free);
         saw = k.saw;
         word = subst (λ b. MayHold (written q b) (w.decision next)) (sym f.free) (subst (λ b. MayHold (written (new_pass s next) b) (w.decision next)) f.free k.word);
@@ -166,9 +226,10 @@ module _ (s : Shape) where
       let es : List Entry = entry (OfPass next) None ∷ g.trace in
       let found = w.decision r in
       let u : Knowledge = saw_decision p.knows r found es in
-      let q : PassRecord = record (new_pass s next) { knows = u } in
-      let q' : PassRecord = record (new_pass p.knows.shape next) { knows = u } in
-      let same_q : q ≡ q' = ap (λ x. record (new_pass x next) { knows = u }) (sym k.known.shape_is) in
+      let past = told_more p.past r found in
+      let q : PassRecord = record (new_pass s next) { past = past; knows = u } in
+      let q' : PassRecord = record (new_pass p.knows.shape next) { past = past; knows = u } in
+      let same_q : q ≡ q' = ap (λ x. record (new_pass x next) { past = past; knows = u }) (sym k.known.shape_is) in
       let g' = renewed g next q in
       let was = (h.views id (Pass p ∷ []) at).0.0 in
       let idle = may_leave p (service g.desk r) w k.request (λ some. k.known.told r some) may in
@@ -179,9 +240,9 @@ module _ (s : Shape) where
       let none_own : NoneOf (OfPass next) g.trace = all_others new_known.newer in
       let over : (w.decision r ≢ None) ⊎ ((g.pass r).state ≡ Fresh) = ⊎_elim
       (λ (e : p.state ≡ Fresh). inr (ap (λ (o : PassRecord). o.state) was.1.1 ∙ e))
-      (λ (m : (told_own p ≢ None) × ((p.state ≡ Over) ⊎ ((p.state ≡ InLine) × (p.entered ≡ false)))). inl (λ none. m.0 (sym (k.known.told r m.0) ∙ none)))
+      (λ (m : (told_own p ≢ None) × ((p.state ≡ Over) ⊎ IsOutOfLine p)). inl (λ none. m.0 (sym (k.known.told r m.0) ∙ none)))
       may in
-      let slots_now = slots_renewed g r next q h.slots k.holds is_next.same_slot is_next.later inside k.in_slot idle over in
+      let slots_now = slots_renewed g r next q h.slots k.holds is_next.same_slot is_next.later inside k.in_slot idle over (ap (λ (o : PassRecord). told_more o.past r found) (sym was.1.1)) in
       let learnt = decision_known s (OfPass r) (OfPass next) p.knows g.trace None k.known next_is r found (λ _. refl) in
       let known_now : IsKnown s (OfPass next) u es = record { shape_is = learnt.shape_is; closed = learnt.closed; told = learnt.told; newer = ([], refl, tt) } in
       let saw = decision_told s (OfPass r) p.knows g.trace None k.known (next_load s (OfPass r) g.trace h.sound.schedule) r found found refl (λ _. refl) in
@@ -198,7 +259,7 @@ module _ (s : Shape) where
         schedule = next_is.schedule;
         made = (inside, next_is.made, h.sound.made);
         request = λ j l. put_each s (λ i o. IsRequest s i o (service g.desk i) w) g.pass next q
-            (request_new next (service g.desk next) w u (subst (λ (o : PassRecord). IsRequest s next o (service g.desk next) w) fresh.0 (h.sound.request next inside))) j
+            (request_new next (service g.desk next) w past u (subst (λ (o : PassRecord). IsRequest s next o (service g.desk next) w) fresh.0 (h.sound.request next inside))) j
             (λ ne. h.sound.request j l);
         pass_knows = λ j l. put_each s (λ i o. IsKnown s (OfPass i) o.knows es) g.pass next q known_now j (λ ne. known_later s (g.pass j).knows (OfPass j) (OfPass next) None g.trace (other_pass j next ne) next_is.later (h.sound.pass_knows j l));
         desk_knows = known_later s g.desk.knows OfDesk (OfPass next) None g.trace (λ x. cc) next_is.later h.sound.desk_knows;

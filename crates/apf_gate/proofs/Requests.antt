@@ -77,11 +77,11 @@ module _ (s : Shape) where
   }
 
   -- the Desk did another thing with the request, which says the same of its Pass and of what was written
-  pub request_served : (r : ℕ) (p : PassRecord) (a b : Service) (w w' : World) → was_handed b ≡ was_handed a → has_entered b ≡ has_entered a → written p b ≡ written p a
+  pub request_served : (r : ℕ) (p : PassRecord) (a b : Service) (w w' : World) → was_handed b ≡ was_handed a → has_entered b ≡ has_entered a → written p b ≡ written p a → (a ≡ Left → b ≡ Left)
       → w'.stage r ≡ stage_of p b → w'.decision r ≡ w.decision r → w'.saw_no_room r ≡ w.saw_no_room r → (w.is_open ≡ false → w'.is_open ≡ false) → IsRequest s r p a w → IsRequest s r p b w'
-  request_served r p a b w w' handed entered wrote stage decision saw closes k = record {
+  request_served r p a b w w' handed entered wrote still stage decision saw closes k = record {
     own = k.own;
-    tied = record { number = k.tied.number; handed = k.tied.handed ∙ sym handed; entered = k.tied.entered ∙ sym entered };
+    tied = record { number = k.tied.number; handed = k.tied.handed ∙ sym handed; entered = k.tied.entered ∙ sym entered; left = λ e. still (k.tied.left e) };
     stage = stage;
     saw = saw ∙ k.saw;
     word = subst (λ (x : Option Decision × Option Decision). MayHold x.0 x.1) (λ i. (sym wrote i, sym decision i)) k.word;

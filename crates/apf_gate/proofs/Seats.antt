@@ -42,7 +42,7 @@ module _ (s : Shape) where
   }
 
   same_slots : (g : Account) (x i : ℕ) → AreSlots s g → AreSlots s (moved g x i)
-  same_slots g x i k = record { current = k.current; inside = k.inside; idle = k.idle; later = k.later; past = k.past }
+  same_slots g x i k = record { current = k.current; inside = k.inside; idle = k.idle; later = k.later; past = k.past; noted = k.noted; nobody = k.nobody; newest = k.newest }
 
   -- a record that another token has stays where it was
   stays : (g : Account) (x i j : ℕ) (y : Record) → token_of y ≢ x → IsKeptAt s g j y → IsKeptAt s (moved g x i) j y

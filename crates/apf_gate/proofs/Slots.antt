@@ -1,7 +1,8 @@
 -- The slots of an account: whose word is whose, and how the lines on slots go on.
-use Rattle.std.proofs.Common.{◌≡◌, ◌≢◌, ℕ, ◌/◌, ◌<◌, ◌≤◌, length, Option, Some, None, sym, ap, ◌∙◌, subst, inl, inr, ⊎_elim, arith}
+use Rattle.std.proofs.Common.{◌≡◌, ◌≢◌, ◌⊎◌, ℕ, ◌/◌, ◌<◌, ◌≤◌, List, length, Option, Some, None, sym, ap, ◌∙◌, subst, inl, inr, ⊎_elim, arith}
 use mathlib.Core.Logic.{dite}
 use native.Mathlib.Decide.{ℕ_discrete}
+use Rattle.std.proofs.Math.Decide.{dec_lt}
 use Rattle.apf_words.specs.Codes.{code_in, marked}
 use Rattle.apf_words.specs.declared.decision.Decision.{Decision}
 use Rattle.apf_words.specs.declared.decision.Decision.TheVariants.{Execute, QueueFull, Closed, Cancelled, ConcurrencyLimit}
@@ -9,11 +10,13 @@ use Rattle.apf_model.specs.declared.moves.Stage.{Stage}
 use Rattle.apf_model.specs.declared.moves.Stage.TheVariants.{Away, Gone}
 use Rattle.apf_model.specs.World.{World}
 use Rattle.apf_gate.specs.declared.record.Shape.{Shape}
+use Rattle.apf_gate.specs.declared.record.Actor.TheVariants.{OfPass}
 use Rattle.apf_gate.specs.declared.record.State.TheVariants.{Fresh}
 use Rattle.apf_gate.specs.declared.record.PassRecord.{PassRecord}
 use Rattle.apf_gate.specs.Slots.{slot_of, mark_of}
 use Rattle.apf_gate.specs.Traces.{world_of}
-use Rattle.apf_gate.specs.Account.{Account, HoldsSlot, IsIdle, AreSlots}
+use Rattle.apf_gate.specs.Records.{told_of}
+use Rattle.apf_gate.specs.Account.{Account, HoldsSlot, IsIdle, HeldBefore, IsNewestBy, AreSlots}
 use Rattle.apf_gate.proofs.WordNumbers.{code_same}
 use Rattle.apf_gate.proofs.Requests.{IsSame}
 
@@ -53,8 +56,9 @@ module _ (s : Shape) where
 
   -- the lines on slots, where nothing changes of those who hold none
   pub slots_after : (g g' : Account) → AreSlots s g → ((i : ℕ) → g'.current i ≡ g.current i)
-      → ((r : ℕ) → r < length s.widths → ¬ HoldsSlot g r → IsSame (world_of s g.trace) (world_of s g'.trace) r × (g'.pass r ≡ g.pass r)) → AreSlots s g'
-  slots_after g g' k same else = record {
+      → ((r : ℕ) → r < length s.widths → ¬ HoldsSlot g r → IsSame (world_of s g.trace) (world_of s g'.trace) r × (g'.pass r ≡ g.pass r))
+      → ((r : ℕ) → (g'.pass r).past ≡ (g.pass r).past) → ((r : ℕ) → IsNewestBy (OfPass r) g'.trace → HoldsSlot g r) → AreSlots s g'
+  slots_after g g' k same else noted newest = record {
     current = λ i l. subst (λ c. (c < length s.widths) × (slot_of c ≡ i)) (sym (same i)) (k.current i l);
     inside = λ r l e. k.inside r l (sym (same (slot_of r)) ∙ e);
     idle = λ r l not.
@@ -71,4 +75,22 @@ module _ (s : Shape) where
         let above : r < g.current (slot_of r) = omega arith in
         let x = else r l (λ e. omega arith) in
         ⊎_elim (λ (e : (world_of s g.trace).decision r ≢ None). inl (λ none. e (sym x.0.decision ∙ none))) (λ (e : (g.pass r).state ≡ Fresh). inr (ap (λ (p : PassRecord). p.state) x.1 ∙ e)) (k.past r l above);
+    noted = λ i l.
+        let n = k.noted i l in
+        let c = same i in
+        let own : (g'.pass (g'.current i)).past ≡ (g.pass (g.current i)).past = noted (g'.current i) ∙ ap (λ r. (g.pass r).past) c in record {
+          in_order = subst (λ (x : ℕ × List (ℕ × Decision)). HeldBefore i x.0 x.1) (λ j. (sym c j, sym own j)) n.in_order;
+          says = λ r inside e before.
+              let below : r < g.current i = subst (λ x. r < x) c before in
+              let x = (else r inside (λ holds. let y : g.current i ≡ r = ap g.current (sym e) ∙ holds in omega arith)).0 in
+              ap (λ past. told_of past r) own ∙ (n.says r inside e below ∙ sym x.decision);
+        };
+    nobody = λ r l beyond. let x = (else r l (λ holds. let y = k.inside r l holds in omega arith)).0 in x.decision ∙ k.nobody r l beyond;
+    newest = λ r e. same (slot_of r) ∙ newest r e;
   }
+
+  -- who holds no slot is decided, or its Pass is fresh
+  pub other_fresh : (g : Account) → AreSlots s g → (r : ℕ) → r < length s.widths → ¬ HoldsSlot g r → ((world_of s g.trace).decision r ≢ None) ⊎ ((g.pass r).state ≡ Fresh)
+  other_fresh g k r l not = dite (dec_lt r (g.current (slot_of r)))
+      (λ m. k.past r l m)
+      (λ m. inr (ap (λ (p : PassRecord). p.state) (k.later r l (let ne : g.current (slot_of r) ≢ r = not in omega arith)).0))

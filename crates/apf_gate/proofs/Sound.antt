@@ -16,6 +16,7 @@ use Rattle.apf_gate.specs.declared.record.DeskRecord.{DeskRecord}
 use Rattle.apf_gate.specs.declared.record.StationRecord.{StationRecord}
 use Rattle.apf_gate.specs.declared.record.Record.{Record}
 use Rattle.apf_gate.specs.declared.record.Record.TheVariants.{Pass, Desk, Station}
+use Rattle.apf_gate.specs.declared.record.Actor.{Actor}
 use Rattle.apf_gate.specs.declared.record.Actor.TheVariants.{OfPass, OfDesk, OfStation}
 use Rattle.apf_gate.specs.declared.record.Entry.{Entry}
 use Rattle.apf_gate.specs.Records.{service}
@@ -56,14 +57,30 @@ module _ (s : Shape) where
     abbrev w : World
     w = world_of s h.account.trace
 
+    -- what is noted stays, where the record of one Pass changes
+    noted_as : (p q : PassRecord) (r : ℕ) → q.past ≡ p.past → h.account.pass r ≡ p → (j : ℕ) → (put h.account.pass r q j).past ≡ (h.account.pass j).past
+    noted_as p q r past was j = dite (ℕ_discrete j r)
+        (λ e. subst (λ y. (put h.account.pass r q y).past ≡ (h.account.pass y).past) (sym e) (ap (λ (o : PassRecord). o.past) (put_here h.account.pass r q) ∙ (past ∙ ap (λ (o : PassRecord). o.past) (sym was))))
+        (λ ne. ap (λ (o : PassRecord). o.past) (put_else h.account.pass r q j ne))
+
+    -- no two Passes have one name
+    same_pass : (r j : ℕ) → OfPass r ≡ OfPass j → r ≡ j
+    same_pass r j e = ap number_of e
+      where
+        number_of : Actor → ℕ
+        number_of (OfPass n) = n
+        number_of OfDesk = 0
+        number_of (OfStation k) = 0
+
     -- a step of a Pass, after which its record is q
     pub pass_step : (p q : PassRecord) → get_elem? t.views id ≡ some (Pass p ∷ []) → IsNext s (OfPass p.number) m h.account.trace
         → ((j : ℕ) → j ≢ p.number → IsSame (world_of s h.account.trace) (world_of s (entry (OfPass p.number) m ∷ h.account.trace)) j)
         → Packs s h.account.current (set t.words i n) (world_of s (entry (OfPass p.number) m ∷ h.account.trace))
         → IsRequest s p.number q (service h.account.desk p.number) (world_of s (entry (OfPass p.number) m ∷ h.account.trace))
         → IsKnown s (OfPass p.number) q.knows (entry (OfPass p.number) m ∷ h.account.trace)
+        → q.past ≡ p.past
         → IsRuled s (left t i n id (Pass q ∷ []))
-    pass_step p q at next elsewhere packs mine known =
+    pass_step p q at next elsewhere packs mine known past =
         let r = p.number in
         let es : List Entry = entry (OfPass r) m ∷ g.trace in
         let was = (h.views id (Pass p ∷ []) at).0.0 in
@@ -90,7 +107,8 @@ module _ (s : Shape) where
           held = h.sound.held;
           is_held = h.sound.is_held;
         })
-        (slots_after s g g' h.slots (λ _. refl) (λ j l no. let ne = apart_from g r j was.1.2 no in (elsewhere j ne, put_else g.pass r q j ne)))
+        (slots_after s g g' h.slots (λ _. refl) (λ j l no. let ne = apart_from g r j was.1.2 no in (elsewhere j ne, put_else g.pass r q j ne))
+        (noted_as p q r past was.1.1) (λ j e. subst (HoldsSlot g) (same_pass r j e) was.1.2))
         packs
 
     -- a step of a Station, after which its record is c'
@@ -125,7 +143,7 @@ module _ (s : Shape) where
           held = h.sound.held;
           is_held = h.sound.is_held;
         })
-        (slots_after s g g' h.slots (λ _. refl) (λ j l no. (elsewhere j l no, refl)))
+        (slots_after s g g' h.slots (λ _. refl) (λ j l no. (elsewhere j l no, refl)) (λ _. refl) (λ j e. absurd (cc)))
         packs
 
     -- a step of the Desk, after which its record is d'
@@ -153,7 +171,7 @@ module _ (s : Shape) where
           held = held;
           is_held = is_held;
         })
-        (slots_after s g g' h.slots (λ _. refl) (λ j l no. (elsewhere j l no, refl)))
+        (slots_after s g g' h.slots (λ _. refl) (λ j l no. (elsewhere j l no, refl)) (λ _. refl) (λ j e. absurd (cc)))
         packs
 
     -- a step of the Desk that a Pass is joined to, after which their records are q and d'
@@ -163,8 +181,9 @@ module _ (s : Shape) where
         → IsRequest s p.number q (service d' p.number) (world_of s (entry OfDesk m ∷ h.account.trace))
         → IsKnown s (OfPass p.number) q.knows (entry OfDesk m ∷ h.account.trace) → IsKnown s OfDesk d'.knows (entry OfDesk m ∷ h.account.trace)
         → ((r : ℕ) → d'.held ≡ Some r → service d' r ≡ Held) → ((r : ℕ) → service d' r ≡ Held → d'.held ≡ Some r)
+        → q.past ≡ p.past
         → IsRuled s (left t i n id (Pass q ∷ Desk d' ∷ []))
-    both_step p q d d' at next elsewhere packs mine known known_desk held is_held =
+    both_step p q d d' at next elsewhere packs mine known known_desk held is_held past =
         let r = p.number in
         let es : List Entry = entry OfDesk m ∷ g.trace in
         let v = h.views id (Pass p ∷ Desk d ∷ []) at in
@@ -192,5 +211,5 @@ module _ (s : Shape) where
           held = held;
           is_held = is_held;
         })
-        (slots_after s g g' h.slots (λ _. refl) (λ j l no. let ne = apart_from g r j was.1.2 no in ((elsewhere j ne).0, put_else g.pass r q j ne)))
+        (slots_after s g g' h.slots (λ _. refl) (λ j l no. let ne = apart_from g r j was.1.2 no in ((elsewhere j ne).0, put_else g.pass r q j ne)) (noted_as p q r past was.1.1) (λ j e. absurd (cc)))
         packs

@@ -9,7 +9,7 @@ use native.Mathlib.Decide.{ℕ_discrete}
 use Rattle.apf_model.specs.World.{width}
 use Rattle.apf_model.specs.declared.response.Response.{Response}
 use Rattle.std.specs.Prelude.{max, nat_le, if◌then◌else◌}
-use Rattle.std.proofs.Common.{◌/◌, ◌%◌}
+use Rattle.std.proofs.Common.{◌%◌}
 use Rattle.std.proofs.lemmas.Bool.{leb-true, le-leb}
 use Rattle.apf_gate.specs.Slots.{slot_of, mark_of, wide, coded_width, next_of}
 use Rattle.apf_gate.specs.Gauges.{IsShape, spread, all_widths, shape_of, shape_in}
@@ -76,16 +76,18 @@ next_is_wide n ws r k l few some narrow =
 pub next_is_next : (r k : ℕ) → k < 32768 → (slot_of (next_of r k) ≡ slot_of r) × (r < next_of r k)
 next_is_next r k few = (omega arith, omega arith)
 
-pub next_fits : (n r k : ℕ) → r / 536870912 + 1 < n / 536870912 → k ≤ 20000 → next_of r k < n
-next_fits n r k room few = omega arith
+-- how many numbers there are
+pub batch_length : (lives : Bool) (n : ℕ) (ws : List ℕ) → lives ≡ false → length (all_widths lives n ws) ≡ length ws
+batch_length lives n ws is = ap (λ b. length (all_widths b n ws)) is
 
--- on slots that are used again, where the numbers reach so far
-pub next_inside : (lives : Bool) (n : ℕ) (ws : List ℕ) (r k : ℕ) → lives ≡ true → r / 536870912 + 1 < n / 536870912 → k ≤ 20000 → next_of r k < length (all_widths lives n ws)
-next_inside lives n ws r k is room few = subst (λ b. next_of r k < length (all_widths b n ws)) (sym is) (subst (λ m. next_of r k < m) (sym (length_spread ws n)) (next_fits n r k room few))
+pub life_length : (lives : Bool) (n : ℕ) (ws : List ℕ) → lives ≡ true → length (all_widths lives n ws) ≡ n
+life_length lives n ws is = ap (λ b. length (all_widths b n ws)) is ∙ length_spread ws n
 
-pub next_wide : (lives : Bool) (n : ℕ) (ws : List ℕ) (r k : ℕ) → lives ≡ true → r / 536870912 + 1 < n / 536870912 → length ws ≤ 10000 → 1 ≤ k → k ≤ 20000 → width (all_widths lives n ws) (next_of r k) ≡ k
-next_wide lives n ws r k is room few some narrow = subst (λ b. width (all_widths b n ws) (next_of r k) ≡ k) (sym is) (next_is_wide n ws r k (next_fits n r k room narrow) (omega arith) some narrow)
+-- the numbers of a batch end before the next one of any slot
+pub batch_ends : (r k : ℕ) → 10000 ≤ next_of r k
+batch_ends r k = omega arith
 
--- where the numbers end
-pub numbers_end : (lives : Bool) (n : ℕ) (ws : List ℕ) (r : ℕ) → lives ≡ true → n / 536870912 ≤ r / 536870912 + 1 → length (all_widths lives n ws) ≤ r + 1073741824
-numbers_end lives n ws r is ends = subst (λ b. length (all_widths b n ws) ≤ r + 1073741824) (sym is) (let h = length_spread ws n in omega arith)
+-- the next request of a slot, if there is one, is so wide as its number says
+pub next_wide : (lives : Bool) (n : ℕ) (ws : List ℕ) (r k : ℕ) → next_of r k < length (all_widths lives n ws) → length ws ≤ 10000 → 1 ≤ k → k ≤ 20000 → width (all_widths lives n ws) (next_of r k) ≡ k
+next_wide false n ws r k room few some narrow = absurd (let b = batch_ends r k in omega arith)
+next_wide true n ws r k room few some narrow = next_is_wide n ws r k (subst (λ m. next_of r k < m) (length_spread ws n) room) (omega arith) some narrow

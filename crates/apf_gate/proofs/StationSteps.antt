@@ -1,5 +1,5 @@
 -- The steps of a Station keep the rule.
-use Rattle.std.proofs.Common.{◌≡◌, ◌≢◌, ℕ, ◌⊎◌, ◌+◌, ◌/◌, ◌<◌, ◌≤◌, Bool, true, false, List, [], ◌∷◌, length, set, Option, Some, None, sym, refl, ap, ◌∙◌, subst, inl, inr, arith}
+use Rattle.std.proofs.Common.{◌≡◌, ◌≢◌, ℕ, ◌⊎◌, ◌+◌, ◌/◌, ◌<◌, ◌≤◌, Bool, true, false, List, [], ◌∷◌, length, set, Option, Some, None, sym, refl, ap, ◌∙◌, subst, inl, inr, ⊎_elim, arith}
 use Rattle.std.specs.Prelude.{slice_index, bit_or, ◌==◌, MatchBool}
 use mathlib.Core.Logic.{dite}
 use mathlib.Core.Option.{some}
@@ -17,6 +17,7 @@ use Rattle.apf_model.specs.World.{World, put}
 use Rattle.apf_gate.specs.declared.record.Shape.{Shape}
 use Rattle.apf_gate.specs.declared.record.Actor.TheVariants.{OfStation}
 use Rattle.apf_gate.specs.declared.record.Knowledge.{Knowledge}
+use Rattle.apf_gate.specs.declared.record.State.TheVariants.{Fresh}
 use Rattle.apf_gate.specs.declared.record.Service.{Service}
 use Rattle.apf_gate.specs.declared.record.PassRecord.{PassRecord}
 use Rattle.apf_gate.specs.declared.record.StationRecord.{StationRecord}
@@ -25,17 +26,17 @@ use Rattle.apf_gate.specs.declared.record.Record.TheVariants.{Station}
 use Rattle.apf_gate.specs.Records.{level_of, service, saw_level, saw_decision}
 use Rattle.apf_gate.specs.Traces.{entry, world_of}
 use Rattle.apf_gate.specs.Requests.{IsRequest, MayHold, written}
-use Rattle.apf_gate.specs.Account.{HoldsSlot, IsIdle, IsKnown}
+use Rattle.apf_gate.specs.Account.{HoldsSlot, IsKnown}
 use Rattle.apf_gate.specs.Rule.{IsRuled}
 use Rattle.apf_gate.specs.Gauges.{IsShape, AreLaws}
-use Rattle.apf_gate.specs.Steps.{IsInRange, SawLevel, ByStation, OfLevel, OfDecision, OnLevel, OnLevelIf, OnTicket, OnTicketIf, Setting, FindsOther}
+use Rattle.apf_gate.specs.Steps.{IsInRange, SawLevel, ByStation, OfLevel, OfDecision, OnLevel, OnLevelIf, OnTicket, OnTicketIf, Setting, IsOver, FindsOther}
 use Rattle.apf_gate.specs.StationSteps.{StationLoadsLevel, StationExchangesLevel, StationClosesLevel, StationLoadsDecision, StationExchangesDecision, StationFindsOther}
 use Rattle.apf_gate.proofs.Puts.{put_here, put_else}
 use Rattle.apf_gate.specs.Slots.{slot_of, mark_of}
 use Rattle.apf_gate.proofs.WordNumbers.{packed_same}
-use Rattle.apf_gate.proofs.Slots.{decision_same, mark_is, mark_apart, apart_from}
+use Rattle.apf_gate.proofs.Slots.{decision_same, mark_is, mark_apart, apart_from, other_fresh}
 use Rattle.apf_gate.proofs.Later.{IsNext, next_load, next_move}
-use Rattle.apf_gate.proofs.Requests.{IsSame, none_written, request_elsewhere}
+use Rattle.apf_gate.proofs.Requests.{IsSame, is_fresh, none_written, request_elsewhere}
 use Rattle.apf_gate.proofs.Views.{Table}
 use Rattle.apf_gate.proofs.Sound.{by_found, Exchanged, station_step}
 use Rattle.apf_gate.proofs.Packing.{own_word, packs_same, packs_level, packs_decided, level_in_range, no_queues, is_small}
@@ -167,8 +168,15 @@ module _ (s : Shape) where
   other_known : (t : Table) (h : IsRuled s t) (c : StationRecord) → IsAt t h c → IsKnown s (OfStation c.number) (record c.knows { trace = entry (OfStation c.number) None ∷ h.account.trace }) (entry (OfStation c.number) None ∷ h.account.trace)
   other_known t h c k = follows s (OfStation c.number) (OfStation c.number) c.knows h.account.trace None k.known (next_load s (OfStation c.number) h.account.trace h.sound.schedule)
 
-  other_told : (t : Table) (h : IsRuled s t) (c : StationRecord) → IsAt t h c → (r : ℕ) → IsIdle (world_of s h.account.trace) r → length s.widths ≢ s.slots → FindsOther (OfStation c.number) c.knows r (record c.knows { trace = entry (OfStation c.number) None ∷ h.account.trace })
-  other_told t h c k r idle no_batch = other_found s (OfStation c.number) c.knows h.account.trace None k.known (next_load s (OfStation c.number) h.account.trace h.sound.schedule) refl r idle no_batch
+  -- who does not hold its slot is over
+  other_over : (t : Table) (h : IsRuled s t) (r : ℕ) → r < length s.widths → ¬ HoldsSlot h.account r → IsOver (world_of s h.account.trace) r
+  other_over t h r inside not = ⊎_elim
+      (λ (e : (world_of s h.account.trace).decision r ≢ None). inl e)
+      (λ (e : (h.account.pass r).state ≡ Fresh). inr (is_fresh s r (h.account.pass r) (service h.account.desk r) (world_of s h.account.trace) (h.sound.request r inside) e).away)
+      (other_fresh s h.account h.slots r inside not)
+
+  other_told : (t : Table) (h : IsRuled s t) (c : StationRecord) → IsAt t h c → (r : ℕ) → r < length s.widths → ¬ HoldsSlot h.account r → length s.widths ≢ s.slots → FindsOther (OfStation c.number) c.knows r (record c.knows { trace = entry (OfStation c.number) None ∷ h.account.trace })
+  other_told t h c k r inside not no_batch = other_found s (OfStation c.number) c.knows h.account.trace None k.known (next_load s (OfStation c.number) h.account.trace h.sound.schedule) refl r (h.slots.idle r inside not) (other_over t h r inside not) no_batch
 
   -- where another request holds the slot of r, its word has another mark
   other_mark : (t : Table) (h : IsRuled s t) (r : ℕ) → slot_of r < s.slots → ¬ HoldsSlot h.account r → slice_index t.words (slot_of r + 1) / 8 ≢ mark_of r
@@ -208,7 +216,7 @@ module _ (s : Shape) where
         keeps,
         tt,
         loads t h id r c u at (other_known t h c k),
-        (refl, (c', refl, inr (other_mark t h r in_slot not, (u, other_told t h c k r (h.slots.idle r inside not) (all_hold t h shape r inside in_slot not), refl)))),
+        (refl, (c', refl, inr (other_mark t h r in_slot not, (u, other_told t h c k r inside not (all_hold t h shape r inside in_slot not), refl)))),
       ))
 
   -- the lines on a request that is cancelled now

@@ -1,5 +1,6 @@
 -- One trace and one record for each token, which explain the words: the lines of the rule.
-use Rattle.std.specs.Prelude.{◌≡◌, ◌≢◌, ◌⊎◌, ℕ, ◌<◌, true, false, List, length, Some, None}
+use Rattle.std.specs.Prelude.{◌≡◌, ◌≢◌, ◌⊎◌, ℕ, ◌<◌, ◌≤◌, true, false, List, [], ◌∷◌, length, Some, None}
+use Rattle.apf_words.specs.declared.decision.Decision.{Decision}
 use Rattle.apf_model.specs.declared.moves.Stage.TheVariants.{Away, Gone}
 use Rattle.apf_model.specs.World.{World}
 use Rattle.apf_model.specs.Schedule.{IsSchedule}
@@ -49,6 +50,11 @@ pub record IsSound (shape : Shape) (account : Account) : Type 0 where
   pub held : (r : ℕ) → account.desk.held ≡ Some r → service account.desk r ≡ Held
   pub is_held : (r : ℕ) → service account.desk r ≡ Held → account.desk.held ≡ Some r
 
+-- the newest step is this token's
+abbrev pub IsNewestBy : Actor → List Entry → Type 0
+IsNewestBy who [] = ⊥
+IsNewestBy who (newest ∷ trace) = newest.by ≡ who
+
 -- the request holds its slot
 abbrev pub HoldsSlot : Account → ℕ → Type 0
 HoldsSlot account r = account.current (slot_of r) ≡ r
@@ -56,6 +62,16 @@ HoldsSlot account r = account.current (slot_of r) ≡ r
 -- the request neither waits nor stands
 abbrev pub IsIdle : World → ℕ → Type 0
 IsIdle w r = (w.stage r ≡ Away) ⊎ (w.stage r ≡ Gone)
+
+-- these requests held the slot i one after another, the latest first, and all before the request c
+abbrev pub HeldBefore : ℕ → ℕ → List (ℕ × Decision) → Type 0
+HeldBefore i c [] = Unit {0}
+HeldBefore i c (latest ∷ past) = (latest.0 < c) × (slot_of latest.0 ≡ i) × HeldBefore i latest.0 past
+
+-- the Pass of the request c, which holds the slot i, has noted how those were decided that held it before
+pub record IsNoted (numbers : ℕ) (w : World) (i c : ℕ) (past : List (ℕ × Decision)) : Type 0 where
+  pub in_order : HeldBefore i c past
+  pub says : (r : ℕ) → r < numbers → slot_of r ≡ i → r < c → told_of past r ≡ w.decision r
 
 -- the lines on slots: which requests hold them, held them, and will
 pub record AreSlots (shape : Shape) (account : Account) : Type 0 where
@@ -67,3 +83,9 @@ pub record AreSlots (shape : Shape) (account : Account) : Type 0 where
   pub later : (r : ℕ) → r < length shape.widths → account.current (slot_of r) < r → (account.pass r ≡ new_pass shape r) × ((world_of shape account.trace).decision r ≡ None)
   -- who held it before is decided, or its Pass never began
   pub past : (r : ℕ) → r < length shape.widths → r < account.current (slot_of r) → ((world_of shape account.trace).decision r ≢ None) ⊎ ((account.pass r).state ≡ Fresh)
+  -- and its decision is noted
+  pub noted : (i : ℕ) → i < shape.slots → IsNoted (length shape.widths) (world_of shape account.trace) i (account.current i) (account.pass (account.current i)).past
+  -- who has no slot is undecided
+  pub nobody : (r : ℕ) → r < length shape.widths → shape.slots ≤ slot_of r → (world_of shape account.trace).decision r ≡ None
+  -- the newest step, if a Pass made it, is of one that holds its slot
+  pub newest : (r : ℕ) → IsNewestBy (OfPass r) account.trace → HoldsSlot account r

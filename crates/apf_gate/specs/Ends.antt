@@ -14,9 +14,9 @@ use Rattle.apf_gate.specs.declared.record.Service.TheVariants.{RefusedFull, Refu
 use Rattle.apf_gate.specs.declared.record.DeskRecord.{DeskRecord}
 use Rattle.apf_gate.specs.Records.{level_of, told_of, told_own, service}
 use Rattle.apf_gate.specs.Traces.{world_of, GoesOn, Made, MadeFirstClose, AreMade}
-use Rattle.apf_gate.specs.Account.{Account, IsSound}
+use Rattle.apf_gate.specs.Account.{Account, IsSound, AreSlots}
 use Rattle.apf_gate.specs.Rule.{Every, AreApart, IsRecord}
-use Rattle.apf_gate.specs.Gauges.{AreLaws}
+use Rattle.apf_gate.specs.Gauges.{IsShape, AreLaws}
 use Rattle.apf_gate.specs.Tokens.{GateId, PassToken, StationToken}
 
 -- what the words of a gate that ended say
@@ -41,10 +41,26 @@ stations_before (token ∷ tokens) rest = Station token.station ∷ stations_bef
 abbrev pub handed_in : DeskRecord → List PassToken → List StationToken → List Record
 handed_in desk passes stations = stations_before stations (passes_before passes (Desk desk ∷ []))
 
--- the words are those of a state under the rule, in which each record that was handed in stands, and no two are of one token
+-- a gate ended so: in a state under the rule, in which each record that was handed in stands, and no two are of one token. The level word said this
+pub record IsEnded (gate : GateId) (desk : DeskRecord) (passes : List PassToken) (stations : List StationToken) (level : Level) : Type 0 where
+  pub account : Account
+  pub sound : IsSound gate.shape account
+  pub slots : AreSlots gate.shape account
+  pub shape : IsShape gate.shape
+  pub laws : AreLaws gate.shape
+  pub level_is : level ≡ level_of gate.shape.widths (world_of gate.shape account.trace)
+  pub stand : Every (IsRecord gate.shape account) (handed_in desk passes stations)
+  pub apart : AreApart (handed_in desk passes stations)
+  pub all_passes : length passes ≡ gate.shape.slots
+  pub all_stations : length stations ≡ gate.shape.stations
+
+-- the words are those of a state under the rule, in which each record that was handed in stands, and no two are of one token. It is that of a batch
 pub record EndsWith (gate : GateId) (desk : DeskRecord) (passes : List PassToken) (stations : List StationToken) (words : WordsView) : Type 0 where
   pub account : Account
   pub sound : IsSound gate.shape account
+  pub slots : AreSlots gate.shape account
+  pub shape : IsShape gate.shape
+  pub batch : length gate.shape.widths ≡ gate.shape.slots
   pub laws : AreLaws gate.shape
   pub level : words.level ≡ level_of gate.shape.widths (world_of gate.shape account.trace)
   pub count : length words.decisions ≡ length gate.shape.widths

@@ -21,7 +21,7 @@ spread widths (suc n) = spread widths n ++ slice_index_or widths n (coded_width 
 
 -- how many numbers of requests a gate has whose slots are used again
 abbrev pub max_numbers : ℕ
-max_numbers = 37778931862957161709567
+max_numbers = 37778931862957161709568
 
 -- the shape of a gate: a batch, or slots that are used again, with so many numbers of requests
 abbrev pub all_widths : Bool → ℕ → List ℕ → List ℕ

@@ -3,7 +3,7 @@ use Rattle.std.specs.Prelude.{◌≡◌, ◌≢◌, ◌⊎◌, true, false, Opti
 use Rattle.apf_words.specs.declared.decision.Decision.{Decision}
 use Rattle.apf_words.specs.declared.decision.Decision.TheVariants.{QueueFull, Closed, Cancelled}
 use Rattle.apf_gate.specs.declared.record.PassRecord.{PassRecord}
-use Rattle.apf_gate.specs.declared.record.Service.TheVariants.{NotHanded, RefusedFull, RefusedClosed, Waiting}
+use Rattle.apf_gate.specs.declared.record.Service.TheVariants.{NotHanded, RefusedFull, RefusedClosed, Waiting, Left}
 use Rattle.apf_gate.specs.declared.record.DeskRecord.{DeskRecord}
 use Rattle.apf_gate.specs.declared.answers.TryEnter.{TryEnter}
 use Rattle.apf_gate.specs.declared.answers.TryEnter.TheVariants as tried
@@ -40,10 +40,12 @@ pub record AfterRefuse (pass : PassRecord) (decision answer : Decision) (desk' :
   pub told_pass : told_own pass' ≡ Some answer
   pub entered : pass'.entered ≡ false
 
--- after a hearing both were told the decision that was found, if one was: the one that the Pass was told, if it was. The Desk served nobody
+-- after a hearing both were told the decision that was found, if one was: the one that the Pass was told, if it was. The Pass has that its request left, if the Desk let it leave. The Desk served nobody
 pub record AfterHear (desk : DeskRecord) (pass : PassRecord) (answer : Option Decision) (desk' : DeskRecord) (pass' : PassRecord) : Type 0 where
   pub stays : told_own pass ≢ None → answer ≡ told_own pass
   pub told : answer ≢ None → told_of desk'.knows.told pass.number ≡ answer
   pub told_pass : answer ≢ None → told_own pass' ≡ answer
   pub entered : pass'.entered ≡ pass.entered
+  pub left : service desk pass.number ≡ Left → pass'.left ≡ true
+  pub still_left : pass.left ≡ true → pass'.left ≡ true
   pub served : (desk'.services ≡ desk.services) × (desk'.held ≡ desk.held)

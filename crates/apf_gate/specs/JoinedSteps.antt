@@ -1,5 +1,5 @@
 -- The steps of the Desk with a Pass joined to it, each by its operation and its word.
-use Rattle.std.specs.Prelude.{◌≡◌, ◌≢◌, ℕ, true, false, Option, Some, None}
+use Rattle.std.specs.Prelude.{◌≡◌, ◌≢◌, ◌||◌, ℕ, Bool, true, false, Option, Some, None}
 use Rattle.apf_words.specs.Level.{Level}
 use Rattle.apf_words.specs.declared.decision.Decision.{Decision}
 use Rattle.apf_words.specs.declared.decision.Decision.TheVariants.{Execute, QueueFull, Closed, Cancelled, ConcurrencyLimit}
@@ -81,7 +81,18 @@ abbrev pub JoinedMissesDecision : Both → Option Decision → Both → Type 0
 JoinedMissesDecision both found both' = (known' : Knowledge) × SawDecision OfDesk both.desk.knows both.pass.number found found None known' × DeskMayFind (handed_over (joined_service both)) found × Agree both known'
     × (both' ≡ record { pass = handed_by both.pass (along_told both.pass found known'); desk = served both.desk both.pass.number (handed_over (joined_service both)) known' })
 
--- they load the decision word, which holds what the Pass was told, if it was. Nothing is handed over
+-- the Desk let the request leave
+abbrev pub has_left : Service → Bool
+has_left NotHanded = false
+has_left Handed = false
+has_left RefusedFull = false
+has_left RefusedClosed = false
+has_left Waiting = false
+has_left Held = false
+has_left Settled = false
+has_left Left = true
+
+-- they load the decision word, which holds what the Pass was told, if it was. Nothing is handed over, and the Pass hears whether its request left
 abbrev pub JoinedLoadsDecision : Both → Option Decision → Both → Type 0
 JoinedLoadsDecision both found both' = (known' : Knowledge) × SawDecision OfDesk both.desk.knows both.pass.number found found None known' × DeskMayFind (joined_service both) found × Agree both known' × (told_own both.pass ≢ None → found ≡ told_own both.pass)
-    × (both' ≡ record { pass = record both.pass { no_room = false; knows = along_told both.pass found known' }; desk = record both.desk { knows = known' } })
+    × (both' ≡ record { pass = record both.pass { no_room = false; left = both.pass.left || has_left (joined_service both); knows = along_told both.pass found known' }; desk = record both.desk { knows = known' } })

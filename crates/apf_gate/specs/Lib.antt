@@ -4,6 +4,7 @@ pub mod Traces
 pub mod Requests
 pub mod Account
 pub mod Rule
+pub mod Counted
 pub mod Gauges
 pub mod Steps
 pub mod PassSteps
@@ -20,6 +21,7 @@ pub mod StationCalls
 pub mod StationResults
 pub mod Opens
 pub mod Ends
+pub mod LifeEnds
 pub mod Hidden
 pub mod Owing
 pub mod Same

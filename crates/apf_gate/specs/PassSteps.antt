@@ -13,7 +13,7 @@ use Rattle.apf_gate.specs.declared.record.State.TheVariants.{Fresh, Took, InLine
 use Rattle.apf_gate.specs.declared.record.PassRecord.{PassRecord}
 use Rattle.apf_gate.specs.declared.record.Entry.{Entry}
 use Rattle.apf_gate.specs.Slots.{slot_of, mark_of}
-use Rattle.apf_gate.specs.Records.{told_own, told_of, own_width, saw_decision, new_pass, KnowsMore}
+use Rattle.apf_gate.specs.Records.{told_own, told_of, told_more, own_width, saw_decision, new_pass, KnowsMore}
 use Rattle.apf_model.specs.Schedule.{IsSchedule}
 use Rattle.apf_gate.specs.Traces.{opening_of, entry, moves, NoneOf, world_of}
 use Rattle.apf_gate.specs.Requests.{MayHold}
@@ -119,9 +119,13 @@ pub record IsNextRequest (pass : PassRecord) (next : ℕ) : Type 0 where
   pub same_slot : slot_of next ≡ slot_of pass.number
   pub later : pass.number < next
 
+-- a Pass in line neither waits nor stands: its request never entered, or it heard that it left
+abbrev pub IsOutOfLine : PassRecord → Type 0
+IsOutOfLine pass = (pass.state ≡ InLine) × ((pass.entered ≡ false) ⊎ (pass.left ≡ true))
+
 -- a Pass may leave its request for another: it never began with it, or it was told its decision and neither waits nor stands
 abbrev pub MayRenew : PassRecord → Type 0
-MayRenew pass = (pass.state ≡ Fresh) ⊎ ((told_own pass ≢ None) × ((pass.state ≡ Over) ⊎ ((pass.state ≡ InLine) × (pass.entered ≡ false))))
+MayRenew pass = (pass.state ≡ Fresh) ⊎ ((told_own pass ≢ None) × ((pass.state ≡ Over) ⊎ IsOutOfLine pass))
 
 -- what a Pass knows after it left its request, whose word held this, and the first step of the next one, which is this
 pub record SawRenewal (known : Knowledge) (r next : ℕ) (found : Option Decision) (known' : Knowledge) : Type 0 where
@@ -137,6 +141,7 @@ pub record SawRenewal (known : Knowledge) (r next : ℕ) (found : Option Decisio
   pub stays : told_of known.told r ≢ None → found ≡ told_of known.told r
   pub more : KnowsMore known known'
 
--- it leaves its request, and begins the next one of its slot
+-- it leaves its request, notes how that was decided, and begins the next one of its slot
 abbrev pub PassRenews : ℕ → PassRecord → Option Decision → PassRecord → Type 0
-PassRenews next pass found pass' = (known' : Knowledge) × SawRenewal pass.knows pass.number next found known' × (pass' ≡ record (new_pass pass.knows.shape next) { knows = known' })
+PassRenews next pass found pass' = (known' : Knowledge) × SawRenewal pass.knows pass.number next found known'
+    × (pass' ≡ record (new_pass pass.knows.shape next) { past = told_more pass.past pass.number found; knows = known' })

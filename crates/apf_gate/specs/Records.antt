@@ -64,7 +64,7 @@ abbrev pub new_knowledge : Shape → Knowledge
 new_knowledge shape = record { shape = shape; saw_closed = false; told = []; trace = [] }
 
 abbrev pub new_pass : Shape → ℕ → PassRecord
-new_pass shape r = record { number = r; state = Fresh; asked = false; handed = false; entered = false; took = false; saw_no_room = false; no_room = false; wrote = None; knows = new_knowledge shape }
+new_pass shape r = record { number = r; state = Fresh; asked = false; handed = false; entered = false; left = false; took = false; saw_no_room = false; no_room = false; wrote = None; past = []; knows = new_knowledge shape }
 
 abbrev pub new_desk : Shape → DeskRecord
 new_desk shape = record { services = []; held = None; knows = new_knowledge shape }

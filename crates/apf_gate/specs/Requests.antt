@@ -112,11 +112,12 @@ pub record IsPassRecord (shape : Shape) (pass : PassRecord) : Type 0 where
   pub queues : pass.entered ≡ true → shape.response ≡ Queue
   pub no_room : pass.no_room ≡ true → pass.saw_no_room ≡ true
 
--- a Pass has that it was handed over, and that it entered, exactly if the Desk did that
+-- a Pass has that it was handed over, and that it entered, exactly if the Desk did that. It has that it left only if the Desk let it leave
 pub record AreTied (r : ℕ) (pass : PassRecord) (service : Service) : Type 0 where
   pub number : pass.number ≡ r
   pub handed : pass.handed ≡ was_handed service
   pub entered : pass.entered ≡ has_entered service
+  pub left : pass.left ≡ true → service ≡ Left
 
 -- the lines on a request: where it stands, whether it saw no room, and what its word holds
 pub record IsRequest (shape : Shape) (r : ℕ) (pass : PassRecord) (service : Service) (w : World) : Type 0 where

@@ -15,9 +15,13 @@ wide code = if nat_le code 20000 then max code 1 else 20000
 abbrev pub coded_width : ℕ → ℕ
 coded_width r = wide (mark_of r % 32768)
 
+-- how often its slot was given before
+abbrev pub round_of : ℕ → ℕ
+round_of r = mark_of r / 32768
+
 -- the next request of the slot of r, of this width
 abbrev pub next_of : ℕ → ℕ → ℕ
-next_of r k = ((mark_of r / 32768 + 1) * 32768 + k) * 16384 + slot_of r
+next_of r k = ((round_of r + 1) * 32768 + k) * 16384 + slot_of r
 
 -- a request of a gate of this shape
 pub record IsTicket (shape : Shape) (r : ℕ) : Type 0 where

@@ -6,6 +6,8 @@ use Rattle.apf_words.specs.Limits.{max_limit, max_requests, max_width}
 use Rattle.apf_words.specs.declared.decision.Decision.{Decision}
 use Rattle.apf_model.specs.declared.moves.Move.{Move}
 use Rattle.apf_model.specs.declared.response.Response.TheVariants.{Reject}
+use Rattle.apf_model.specs.declared.moves.Stage.TheVariants.{Away}
+use Rattle.apf_model.specs.World.{World}
 use Rattle.apf_model.specs.Schedule.{IsSchedule}
 use Rattle.apf_gate.specs.declared.record.Actor.{Actor}
 use Rattle.apf_gate.specs.declared.record.Entry.{Entry}
@@ -54,11 +56,16 @@ pub record SawDecision (who : Actor) (known : Knowledge) (r : ℕ) (found left :
   pub stays : told_of known.told r ≢ None → found ≡ told_of known.told r
   pub more : KnowsMore known known'
 
--- a step of this token on the word of the slot of r, which another request holds: a load, which tells no decision. The request r neither waits nor stands. In a batch no other request holds it
+-- the request is over: it is decided, or it never began
+abbrev pub IsOver : World → ℕ → Type 0
+IsOver w r = (w.decision r ≢ None) ⊎ (w.stage r ≡ Away)
+
+-- a step of this token on the word of the slot of r, which another request holds: a load, which tells no decision. The request r is over: it neither waits nor stands. In a batch no other request holds it
 pub record FindsOther (who : Actor) (known : Knowledge) (r : ℕ) (known' : Knowledge) : Type 0 where
   pub between : List Entry
   pub of_others : NoneOf who between
   pub is_idle : IsIdle (world_of known.shape (between ++ known.trace)) r
+  pub is_over : IsOver (world_of known.shape (between ++ known.trace)) r
   pub no_batch : length known.shape.widths ≢ known.shape.slots
   pub is_after : known' ≡ record known { trace = entry who None ∷ (between ++ known.trace) }
   pub is_schedule : IsSchedule (opening_of known.shape) (moves known'.trace)

@@ -7,8 +7,10 @@ use Rattle.apf_gate.specs.declared.record.DeskRecord.{DeskRecord}
 use Rattle.apf_gate.specs.declared.record.StationRecord.{StationRecord}
 use Rattle.apf_gate.specs.declared.record.Record.{Record}
 use Rattle.apf_gate.specs.declared.record.Record.TheVariants.{Pass, Desk}
-use Rattle.apf_gate.specs.Slots.{slot_of}
+use Rattle.apf_gate.specs.declared.counts.Counts.{Counts}
+use Rattle.apf_gate.specs.Slots.{slot_of, round_of}
 use Rattle.apf_gate.specs.Records.{own_width}
+use Rattle.apf_gate.specs.Counted.{AreCounts}
 use Rattle.apf_gate.specs.Gauges.{IsShape}
 use Rattle.apf_gate.specs.Rule.{pass_of, desk_of}
 use Rattle.apf_gate.specs.Steps.{Both, both_of}
@@ -43,8 +45,8 @@ desk_gate token = record { table = token.table; shape = token.desk.knows.shape }
 abbrev pub station_gate : StationToken → GateId
 station_gate token = record { table = token.table; shape = token.station.knows.shape }
 
--- a Pass's seat has its record alone, which has the number and the width
-pub record IsPass (me : Me (Unit {0}) (List Record)) (number width : ℕ) : Type 0 where
+-- a Pass's seat has its record alone, which has the number, the width, and the decisions that these are the numbers of: at most one for each time that the slot was given before
+pub record IsPass (me : Me (Unit {0}) (List Record)) (number width : ℕ) (counts : Counts) : Type 0 where
   pub alone : me ≡ (Pass (pass_of me.0) ∷ [], [])
   pub same_number : number ≡ (pass_of me.0).number
   pub same_width : width ≡ own_width (pass_of me.0)
@@ -52,6 +54,8 @@ pub record IsPass (me : Me (Unit {0}) (List Record)) (number width : ℕ) : Type
   pub in_slot : slot_of (pass_of me.0).number < (pass_of me.0).knows.shape.slots
   pub small : number < 2 ^ 75
   pub narrow : width ≤ max_width
+  pub counted : AreCounts counts (pass_of me.0).past
+  pub few : length (pass_of me.0).past ≤ round_of number
 
 -- the Desk's seat has its record alone, which has the request that it holds, and the shape of a gate
 pub record IsDesk (me : Me (Unit {0}) (List Record)) (held : Option ℕ) : Type 0 where

@@ -22,7 +22,7 @@ pub enum TryTake {
 pub enum Renew {
     /// The next request of the slot began. Tells how the old one was decided.
     Began(Option<Decision>),
-    /// The slot can't be used again. Nothing changed.
+    /// The slot's numbers are used up. Nothing changed.
     Spent,
 }
 
@@ -31,7 +31,7 @@ pub enum Renew {
 pub enum Read {
     /// This decision, or none.
     Is(Option<Decision>),
-    /// Another request holds the slot.
+    /// Another request holds the slot, so that this one is over.
     Other,
 }
 
@@ -40,7 +40,7 @@ pub enum Read {
 pub enum Cancel {
     /// The request is decided so.
     Is(Decision),
-    /// Another request holds the slot. Nothing was written.
+    /// Another request holds the slot, so that this one is over. Nothing was written of anyone.
     Other,
 }
 

@@ -14,8 +14,10 @@ ghost use Rattle.apf_gate.specs.Steps.{IsInRange};
 ghost use Rattle.apf_gate.specs.Tokens.{pass_gate, desk_gate, station_gate};
 ghost use Rattle.apf_gate.specs.Ends.{EndsWith, passes_before, stations_before};
 
+use crate::counts::Counts;
 use crate::desk::Desk;
 use crate::gate::{Gate, level_in};
+use crate::life_end::LifeWords;
 use crate::pass::Pass;
 use crate::plays::First;
 use crate::rule::Place;
@@ -46,6 +48,24 @@ impl<A: Allocator> Words<A> {
         ensures { result ≡ self.now.level }
     {
         self.level
+    }
+
+    /// All decisions.
+    pub(crate) fn decisions(&self) -> &[Option<Decision>]
+        ensures { result.now ≡ self.now.decisions }
+    {
+        self.decisions.as_slice()
+    }
+
+    /// With the numbers of decisions.
+    pub(crate) fn with_counts(self, counts: Counts) -> LifeWords<A>
+        ensures { result ≡ record { level = self.level; decisions = self.decisions; counts = counts } }
+    {
+        LifeWords {
+            level: self.level,
+            decisions: self.decisions,
+            counts,
+        }
     }
 
     /// A request's decision.
@@ -89,7 +109,7 @@ impl<A: Allocator> Gate<A> {
     }
 
     // Joins the Passes' parts to the Desk's seat.
-    fn gather_passes(&self, mut seat: Place, mut passes: Vec<Pass, A>) -> Place
+    pub(crate) fn gather_passes(&self, mut seat: Place, mut passes: Vec<Pass, A>) -> Place
         requires table { seat.table_id ≡ self.now.table }
         requires view { seat.me ≡ (records.Desk (desk_of seat.me.0) ∷ [], []) }
         requires own { All (λ t. pass_gate t ≡ self.now) passes.items }
@@ -101,6 +121,7 @@ impl<A: Allocator> Gate<A> {
                 seat: other,
                 number: _,
                 width: _,
+                counts: _,
             } = pass;
             self.board.shared.join_seat::<First>(&mut seat, other);
         }
@@ -108,7 +129,7 @@ impl<A: Allocator> Gate<A> {
     }
 
     // Joins the Stations' parts to the seat.
-    fn gather_stations(&self, mut seat: Place, mut stations: Vec<Station, A>) -> Place
+    pub(crate) fn gather_stations(&self, mut seat: Place, mut stations: Vec<Station, A>) -> Place
         requires table { seat.table_id ≡ self.now.table }
         requires view { seat.me.1 ≡ [] }
         requires own { All (λ t. station_gate t ≡ self.now) stations.items }
@@ -124,7 +145,7 @@ impl<A: Allocator> Gate<A> {
 }
 
 // What the words say.
-fn read<A: Allocator, B: Allocator>(
+pub(crate) fn read<A: Allocator, B: Allocator>(
     closed: Closed<(), A>,
     count: usize,
     mut decisions: Vec<Option<Decision>, B>,

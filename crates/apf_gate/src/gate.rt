@@ -1,6 +1,6 @@
 //! The gate: the words of a level.
 
-ghost use Rattle.std.specs.Prelude.{◌≡◌, ◌+◌, ◌<◌, ◌≤◌, ◌^◌, length};
+ghost use Rattle.std.specs.Prelude.{◌≡◌, ◌↔◌, ◌+◌, ◌<◌, ◌≤◌, ◌^◌, length, IsTrue};
 ghost use Rattle.apf_words.specs.Level.{Level, packed};
 ghost use Rattle.apf_words.specs.Limits.{max_width};
 ghost use Rattle.apf_model.specs.World.{width};
@@ -8,6 +8,7 @@ ghost use Rattle.apf_gate.specs.Slots.{slot_of, mark_of, coded_width, IsTicket};
 ghost use Rattle.apf_gate.specs.Steps.{IsInRange};
 
 use crate::rule::{Board, Gauge};
+use crate::ticket::Ticket;
 use apf_words::LevelWord;
 use std::alloc::Allocator;
 use std::marker::Model;
@@ -47,6 +48,24 @@ impl<A: Allocator> Gate<A> {
         ensures { IsTicket self.now.shape request }
     {
         let _ = &self.gauge;
+    }
+
+    /// Whether this is the ticket of a request that there may be at this gate: of one of its slots, and of a number
+    /// that is not beyond the last one.
+    pub fn knows(&self, ticket: Ticket) -> bool
+        ensures { IsTrue result ↔ IsTicket self.now.shape ticket.number }
+    {
+        ticket.number % 16384 < self.gauge.widths.len() as u128 && ticket.number < self.numbers()
+    }
+
+    /// How many requests there may ever be.
+    pub(crate) fn numbers(&self) -> u128
+        ensures { result ≡ length self.now.shape.widths }
+    {
+        if self.gauge.lives {
+            return self.gauge.numbers;
+        }
+        self.gauge.widths.len() as u128
     }
 
     /// The width of a request, by its number.

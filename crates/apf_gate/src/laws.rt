@@ -4,6 +4,7 @@ ghost use Rattle.std.specs.Prelude.{List};
 ghost use Rattle.apf_gate.specs.declared.record.DeskRecord.{DeskRecord};
 ghost use Rattle.apf_gate.specs.Tokens.{GateId, PassToken, StationToken};
 ghost use Rattle.apf_gate.specs.Ends.{WordsView, EndsWith, EndAgrees};
+ghost use Rattle.apf_gate.specs.LifeEnds.{LifeView, LifeEndsWith, LifeAgrees};
 ghost use Rattle.apf_gate.specs.Hidden.{NothingIsHidden};
 ghost use Rattle.apf_gate.specs.Owing.{NoDispatchIsLost};
 ghost use Rattle.apf_gate.specs.Same.{AllAreToldTheSame};
@@ -17,6 +18,18 @@ use apf_model::every_world_adds_up;
 pub fn every_end_agrees()
     ensures { (gate : GateId) (desk : DeskRecord) (passes : List PassToken) (stations : List StationToken) (words : WordsView)
         → EndsWith gate desk passes stations words → EndAgrees gate desk passes stations words }
+{}
+
+/// Every gate that ended whose slots were used again agrees with its tokens, on each request that ever held a slot:
+/// of any tokens that `Gate::end_for_life` was handed, and the words that it answered.
+///
+/// Of all requests that were ever decided, each once, the executed, the rejected and the cancelled sum up. Who is
+/// undecided when all Passes are back never began.
+///
+/// It runs no code: the contract is the law.
+pub fn every_end_for_life_agrees()
+    ensures { (gate : GateId) (desk : DeskRecord) (passes : List PassToken) (stations : List StationToken) (words : LifeView)
+        → LifeEndsWith gate desk passes stations words → LifeAgrees gate desk passes stations words }
 {}
 
 /// No step of a gate is hidden: between two states under its rule.

@@ -8,20 +8,23 @@
 //! - `plays`: what each kind of step tells.
 //! - `gate`: the words, as the calls share them.
 //! - `open`: how a gate begins, `fault` why it may not.
+//! - `ticket`: what names a request for ever, `counts` how many were decided so.
 //! - `pass`, `desk`, `station`: the tokens and their calls, `joined` those of a Pass with the Desk, `answers` what
 //!   they answer.
 //! - `sleep`: sleeping until a request is decided.
-//! - `end`: how a gate ends, and what its words said.
+//! - `end`: how a gate ends, and what its words said; `life_end`: how one ends whose slots were used again.
 //! - `laws`: what follows for the tokens that were handed in, and while requests wait.
 #![tactic(auto)]
 
 mod answers;
+mod counts;
 mod desk;
 mod end;
 mod fault;
 mod gate;
 mod joined;
 mod laws;
+mod life_end;
 mod open;
 mod pass;
 mod plays;
@@ -29,13 +32,20 @@ mod record;
 mod rule;
 mod sleep;
 mod station;
+mod ticket;
 
 pub use answers::{Cancel, Close, Read, Renew, TryEnter, TryGrant, TrySetLimit, TryTake};
+pub use counts::Counts;
 pub use desk::Desk;
 pub use end::Words;
 pub use fault::GateFault;
 pub use gate::Gate;
-pub use laws::{all_are_told_the_same, every_end_agrees, no_dispatch_is_lost, no_step_is_hidden};
+pub use laws::{
+    all_are_told_the_same, every_end_agrees, every_end_for_life_agrees, no_dispatch_is_lost,
+    no_step_is_hidden,
+};
+pub use life_end::LifeWords;
 pub use open::Opened;
 pub use pass::Pass;
 pub use station::Station;
+pub use ticket::Ticket;

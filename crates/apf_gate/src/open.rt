@@ -12,6 +12,7 @@ ghost use Rattle.apf_gate.specs.Tokens.{pass_gate, station_gate};
 ghost use Rattle.apf_gate.specs.Opens.{FaultOf, IsWidth, new_passes, new_stations};
 ghost use Rattle.apf_gate.specs.declared.fault.GateFault.TheVariants.{NoMemory};
 
+use crate::counts::Counts;
 use crate::desk::Desk;
 use crate::fault::GateFault;
 use crate::gate::Gate;
@@ -25,7 +26,7 @@ use std::alloc::{AllocError, Allocator};
 use std::snapshot::Snapshot;
 
 /// How many numbers of requests a gate has whose slots are used again.
-const MAX_NUMBERS: u128 = 37_778_931_862_957_161_709_567;
+const MAX_NUMBERS: u128 = 37_778_931_862_957_161_709_568;
 
 /// A gate that was opened, with its tokens: the Desk, a Pass for each request, in their order, and the
 /// Stations.
@@ -183,6 +184,7 @@ impl<A: Allocator + Copy> Gate<A> {
                 seat: self.board.shared.split_seat::<First>(seat),
                 number: r as u128,
                 width: self.gauge.widths[r],
+                counts: Counts::none(),
             };
             passes.push(pass)?;
         }

@@ -1,6 +1,6 @@
 //! The token of a request, and its steps.
 
-ghost use Rattle.std.specs.Prelude.{◌≡◌, ◌≢◌, ◌⊎◌, ◌+◌, ◌^◌, ◌<◌, ◌≤◌, ◌==◌, length, not, true, false, MatchBool, Option};
+ghost use Rattle.std.specs.Prelude.{◌≡◌, ◌≢◌, ◌↔◌, ◌+◌, ◌^◌, ◌<◌, ◌≤◌, ◌==◌, length, not, true, false, MatchBool, Option};
 ghost use Rattle.apf_words.specs.Fits.{Fits};
 ghost use Rattle.apf_words.specs.declared.decision.Decision.{Decision};
 ghost use Rattle.apf_words.specs.Level.{Level};
@@ -8,27 +8,27 @@ ghost use Rattle.apf_model.specs.declared.response.Response.TheVariants.{Reject}
 ghost use Rattle.apf_gate.specs.declared.record.State.TheVariants.{Fresh};
 ghost use Rattle.apf_words.specs.Limits.{max_width};
 ghost use Rattle.apf_model.specs.World.{width as width_in};
-ghost use Rattle.apf_gate.specs.Slots.{next_of, IsTicket};
+ghost use Rattle.apf_gate.specs.Slots.{next_of, round_of, IsTicket};
 ghost use Rattle.apf_gate.specs.Records.{own_width, KnowsMore};
-ghost use Rattle.apf_gate.specs.Steps.{IsInRange, OfDecision};
-ghost use Rattle.apf_gate.specs.PassSteps.{PassLoadsLevel, PassMissesLevel, PassExchangesLevel, PassSubtractsLevel, PassLoadsDecision, PassAsksDecision, own_mark, IsNextRequest, MayRenew, PassRenews};
+ghost use Rattle.apf_gate.specs.Counted.{AreCounts, total};
+ghost use Rattle.apf_gate.specs.Steps.{IsInRange};
+ghost use Rattle.apf_gate.specs.PassSteps.{PassLoadsLevel, PassMissesLevel, PassExchangesLevel, PassSubtractsLevel, PassLoadsDecision, PassAsksDecision, IsNextRequest, MayRenew, PassRenews};
 ghost use Rattle.apf_gate.specs.Tokens.{pass_gate};
 ghost use Rattle.apf_gate.specs.PassCalls.{TriesToTake, MayWrite, MayRelease, Decides};
 ghost use Rattle.apf_gate.specs.PassResults.{SamePass, AfterTryTake, AfterAsk, AfterTold, AfterDecide, AfterRelease};
 
 use crate::answers::{Renew, TryTake};
+use crate::counts::Counts;
 use crate::gate::{Gate, level_in, mark, word_of};
 use crate::plays::{
     Chosen, PassAskDecision, PassExchangeDecision, PassExchangeLevel, PassLoadDecision,
     PassLoadLevel, PassRenew, PassSubtractLevel,
 };
 use crate::rule::Place;
+use crate::ticket::Ticket;
 use apf_words::{Decision, LevelWord, decided, decision_in, fits, undecided};
 use std::alloc::Allocator;
 use std::marker::{Brand, Model};
-
-// A number says its slot in its lowest 14 bits, and its width in the 15 above: this is the first bit past both.
-const ROUND: u128 = 536_870_912;
 
 /// The token of one request.
 #[derive(Drop)]
@@ -36,6 +36,8 @@ pub struct Pass {
     pub(crate) seat: Place,
     pub(crate) number: u128,
     pub(crate) width: u32,
+    // How the requests were decided that held the slot before.
+    pub(crate) counts: Counts,
 }
 
 impl Model for Pass {
@@ -49,7 +51,7 @@ impl Model for Pass {
       pass = pass_of p.seat.me.0;
     } };
 
-    ghost invariant = { λ p. IsPass p.seat.me p.number p.width };
+    ghost invariant = { λ p. IsPass p.seat.me p.number p.width p.counts };
 }
 
 impl Pass {
@@ -60,6 +62,24 @@ impl Pass {
         ensures is_ticket { IsTicket self.now.pass.knows.shape result }
     {
         self.number
+    }
+
+    /// How the requests were decided that held the slot before.
+    pub(crate) fn before(&self) -> Counts
+        ensures counts { AreCounts result self.now.pass.past }
+        ensures few { total result ≤ 2 ^ 46 }
+    {
+        self.counts
+    }
+
+    /// What names its request for ever.
+    pub fn ticket(&self) -> Ticket
+        ensures number { result.number ≡ self.now.pass.number }
+        ensures is_ticket { IsTicket self.now.pass.knows.shape result.number }
+    {
+        Ticket {
+            number: self.number,
+        }
     }
 }
 
@@ -162,11 +182,11 @@ impl<A: Allocator> Gate<A> {
     }
 
     /// Leaves the request, and begins the next one of the slot, which is fresh and has this width. Tells how the
-    /// old one was decided: it is undecided only if it never began. `Spent` if the slot can't be used again: in a
-    /// batch, or where its numbers ran out. Then nothing changes.
+    /// old one was decided: it is undecided only if it never began. `Spent` exactly if the slot's numbers are used
+    /// up: a slot is given 2^46 times, and that of a batch once. Then nothing changes.
     ///
-    /// It makes one swap of the slot's word. The old request is fresh, or its Pass was told its decision and it
-    /// neither waits nor stands.
+    /// It makes one swap of the slot's word. The old request never began, or its Pass was told its decision and it
+    /// neither waits nor stands: a request that was struck has to be heard first.
     pub fn renew(&self, pass: &mut Pass, width: u32) -> Renew
         requires own { pass_gate pass.old ≡ self.now }
         requires may { MayRenew pass.old.pass }
@@ -174,68 +194,56 @@ impl<A: Allocator> Gate<A> {
         requires narrow { width ≤ max_width }
         ensures gate { pass_gate pass.new ≡ pass_gate pass.old }
         ensures spent { result ≡ Renew.Spent → pass.new ≡ pass.old }
-        ensures spent_only { result ≡ Renew.Spent → (length self.now.shape.widths ≡ self.now.shape.slots) ⊎ (length self.now.shape.widths ≤ pass.old.pass.number + 2 ^ 30) }
+        ensures spent_only { (result ≡ Renew.Spent) ↔ (length self.now.shape.widths ≤ next_of pass.old.pass.number width) }
         ensures answer { (found : Option Decision) → result ≡ Renew.Began found → PassRenews (next_of pass.old.pass.number width) pass.old.pass found pass.new.pass }
         ensures wide { (found : Option Decision) → result ≡ Renew.Began found → own_width pass.new.pass ≡ width }
     {
-        if !self.gauge.lives {
-            return Renew::Spent;
-        }
-        if pass.number / ROUND + 1 >= self.gauge.numbers / ROUND {
-            return Renew::Spent;
-        }
-        Renew::Began(self.renew_wide(pass, width))
-    }
-
-    // The renewal, where the slot has a number left.
-    fn renew_wide(&self, pass: &mut Pass, width: u32) -> Option<Decision>
-        requires own { pass_gate pass.old ≡ self.now }
-        requires may { MayRenew pass.old.pass }
-        requires narrow { width ≤ max_width }
-        requires next { next_of pass.old.pass.number width < length self.now.shape.widths }
-        requires is_wide { width_in self.now.shape.widths (next_of pass.old.pass.number width) ≡ width }
-        ensures gate { pass_gate pass.new ≡ pass_gate pass.old }
-        ensures answer { PassRenews (next_of pass.old.pass.number width) pass.old.pass result pass.new.pass }
-        ensures wide { own_width pass.new.pass ≡ width }
-    {
         let next = self.next_number(pass, width);
-        decision_in(self.swap_for_next::<Brand>(pass, next, width))
+        if next >= self.numbers() {
+            return Renew::Spent;
+        }
+        Renew::Began(self.swap_for_next::<Brand>(pass, next, width))
     }
 
     // The number of the next request of the slot, of this width.
     fn next_number(&self, pass: &Pass, width: u32) -> u128
         requires own { pass_gate pass.now ≡ self.now }
+        requires some_width { 1 ≤ width }
         requires narrow { width ≤ max_width }
-        requires next { next_of pass.now.pass.number width < length self.now.shape.widths }
         ensures value { result ≡ next_of pass.now.pass.number width }
         ensures is_next { IsNextRequest pass.now.pass result }
-        ensures small { result < 2 ^ 75 }
+        ensures round { round_of result ≡ round_of pass.now.pass.number + 1 }
+        ensures small { result < length self.now.shape.widths → result < 2 ^ 75 }
+        ensures wide { result < length self.now.shape.widths → width_in self.now.shape.widths result ≡ width }
     {
         let _ = &self.gauge;
         let round = pass.number / 16384 / 32768 + 1;
         (round * 32768 + width as u128) * 16384 + pass.number % 16384
     }
 
-    // One swap of the slot's word, for that of the next request, undecided.
-    fn swap_for_next<J: Chosen>(&self, pass: &mut Pass, next: u128, width: u32) -> u64
+    // One swap of the slot's word, for that of the next request, undecided. Tells how the old one was decided.
+    fn swap_for_next<J: Chosen>(&self, pass: &mut Pass, next: u128, width: u32) -> Option<Decision>
         requires own { pass_gate pass.old ≡ self.now }
         requires may { MayRenew pass.old.pass }
         requires chosen { next ≡ J.request }
         requires is_next { IsNextRequest pass.old.pass next }
+        requires round { round_of next ≡ round_of pass.old.pass.number + 1 }
         requires inside { next < length self.now.shape.widths }
         requires small { next < 2 ^ 75 }
         requires narrow { width ≤ max_width }
         requires is_wide { width_in self.now.shape.widths next ≡ width }
         ensures gate { pass_gate pass.new ≡ pass_gate pass.old }
-        ensures answer { OfDecision (own_mark pass.old.pass) (λ found. PassRenews next pass.old.pass found pass.new.pass) result }
+        ensures answer { PassRenews next pass.old.pass result pass.new.pass }
+        ensures wide { own_width pass.new.pass ≡ width }
     {
         let word = word_of(next);
         let own = mark(next);
         let new = undecided(own);
         let shared = &self.board.shared;
-        let found = shared.swap::<PassRenew<J>>(&mut pass.seat, word, new);
+        let found = decision_in(shared.swap::<PassRenew<J>>(&mut pass.seat, word, new));
         pass.number = next;
         pass.width = width;
+        pass.counts.add_found(found);
         found
     }
 

@@ -74,6 +74,8 @@ pub struct PassRecord {
     pub handed: bool,
     /// Whether its request entered.
     pub entered: bool,
+    /// Whether it heard that its request left without executing.
+    pub left: bool,
     /// Whether it took seats.
     pub took: bool,
     /// Whether a load of it found no room: an open level in which nobody waits and its request does
@@ -83,6 +85,8 @@ pub struct PassRecord {
     pub no_room: bool,
     /// The decision that it wrote.
     pub wrote: Option<Decision>,
+    /// The decided requests that held the slot before, each with its decision. The latest stands first.
+    pub past: LinkedList<(u128, Decision)>,
     /// What its steps found.
     pub knows: Knowledge,
 }

@@ -17,6 +17,7 @@ use crate::plays::{
     StationLoadLevel,
 };
 use crate::rule::Place;
+use crate::ticket::Ticket;
 use apf_words::{Decision, LevelWord, decided, decision_in, mark_in, undecided};
 use std::alloc::Allocator;
 use std::marker::{Brand, Model};
@@ -55,15 +56,17 @@ impl<A: Allocator> Gate<A> {
         level_in(shared.load::<StationLoadLevel>(&mut station.seat, 0))
     }
 
-    /// Reads a request's decision, by one load of the word of its slot, if it holds that still.
-    pub fn read(&self, station: &mut Station, request: u128) -> Read
+    /// Reads a request's decision, by one load of the word of its slot, if it holds that still. `Other` says that
+    /// this request is over: another one holds the slot.
+    pub fn read(&self, station: &mut Station, ticket: Ticket) -> Read
         requires own { station_gate station.old ≡ self.now }
-        requires is_request { IsTicket self.now.shape request }
+        requires is_request { IsTicket self.now.shape ticket.number }
         ensures same { SameStation station.old station.new }
-        ensures answer { TriesToRead station.old.station request result station.new.station }
-        ensures after { AfterTryRead station.old.station request result station.new.station }
+        ensures answer { TriesToRead station.old.station ticket.number result station.new.station }
+        ensures after { AfterTryRead station.old.station ticket.number result station.new.station }
         ensures in_a_batch { length self.now.shape.widths ≡ self.now.shape.slots → result ≢ Read.Other }
     {
+        let request = ticket.number;
         let found = self.load_word::<Brand>(station, request);
         if mark_in(found) != mark(request) {
             return Read::Other;
@@ -71,17 +74,18 @@ impl<A: Allocator> Gate<A> {
         Read::Is(decision_in(found))
     }
 
-    /// Cancels a request, if it is undecided and holds its slot. Answers its decision, or that another request
-    /// holds the slot. It makes one exchange of the word of the request's slot. Where that wrote, it wakes whoever
-    /// sleeps until the request is decided.
-    pub fn cancel(&self, station: &mut Station, request: u128) -> Cancel
+    /// Cancels a request, if it is undecided and holds its slot. Answers its decision, or `Other`: another request
+    /// holds the slot, so that this one is over, and nothing was written of anyone. It makes one exchange of the word
+    /// of the request's slot. Where that wrote, it wakes whoever sleeps until the request is decided.
+    pub fn cancel(&self, station: &mut Station, ticket: Ticket) -> Cancel
         requires own { station_gate station.old ≡ self.now }
-        requires is_request { IsTicket self.now.shape request }
+        requires is_request { IsTicket self.now.shape ticket.number }
         ensures same { SameStation station.old station.new }
-        ensures answer { TriesToCancel station.old.station request result station.new.station }
-        ensures after { AfterTryCancel station.old.station request result station.new.station }
+        ensures answer { TriesToCancel station.old.station ticket.number result station.new.station }
+        ensures after { AfterTryCancel station.old.station ticket.number result station.new.station }
         ensures in_a_batch { length self.now.shape.widths ≡ self.now.shape.slots → result ≢ Cancel.Other }
     {
+        let request = ticket.number;
         let found = self.exchange_word::<Brand>(station, request);
         if mark_in(found) != mark(request) {
             return Cancel::Other;

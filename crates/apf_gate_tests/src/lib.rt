@@ -11,7 +11,7 @@
 //!
 //! - `rows`: worked examples, from a gate's opening to its end, `cancels` those of cancelled requests.
 //! - `levels`: over-wide requests, levels without queues, limits. `refusals`: closing and refusing.
-//! - `renewals`: slots that are used again.
+//! - `renewals`: slots that are used again, `lives` by four threads a million times.
 //! - `faults`: why a gate is not opened. `sizes`: the smallest gate and the largest.
 //! - `memory`: each allocation refused in turn.
 //! - `parking`: nobody sleeps on a request that is decided.
@@ -41,6 +41,7 @@ mod endings;
 mod faults;
 #[cfg(test)]
 mod levels;
+mod lives;
 #[cfg(test)]
 mod memory;
 #[cfg(test)]

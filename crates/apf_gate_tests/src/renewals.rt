@@ -1,13 +1,15 @@
 //! Slots that are used again.
 
-ghost use Rattle.std.specs.Prelude.{◌≡◌, ◌≤◌};
+ghost use Rattle.std.specs.Prelude.{◌≡◌, ◌≤◌, None};
 ghost use Rattle.apf_words.specs.Limits.{max_width};
+ghost use Rattle.apf_model.specs.declared.response.Response.TheVariants.{Queue};
+ghost use Rattle.apf_gate.specs.declared.record.State.TheVariants.{Fresh};
 ghost use Rattle.apf_gate.specs.Slots.{IsTicket};
-ghost use Rattle.apf_gate.specs.Tokens.{pass_gate, station_gate};
+ghost use Rattle.apf_gate.specs.Tokens.{pass_gate, desk_gate, station_gate};
 
 use crate::requests::Request;
 use crate::stations;
-use apf_gate::{Cancel, Gate, Read, Renew, Station, TryTake};
+use apf_gate::{Cancel, Desk, Gate, Pass, Read, Renew, Station, Ticket, TryEnter, TryTake};
 use apf_model::Response;
 use apf_words::Decision;
 use std::alloc::Global;
@@ -40,27 +42,27 @@ impl Slot {
         }
     }
 
-    // The number of the request that holds the slot.
-    fn number(&self) -> u128
-        ensures { IsTicket self.now.gate.shape result }
+    // The ticket of the request that holds the slot.
+    fn ticket(&self) -> Ticket
+        ensures { IsTicket self.now.gate.shape result.number }
     {
-        self.request.pass.number()
+        self.request.pass.ticket()
     }
 
     // The Station cancels this request. It is answered so.
-    fn cancel<R: Abort>(&mut self, rt: &R, request: u128, answer: Cancel)
-        requires { IsTicket self.old.gate.shape request }
+    fn cancel<R: Abort>(&mut self, rt: &R, ticket: Ticket, answer: Cancel)
+        requires { IsTicket self.old.gate.shape ticket.number }
         ensures { self.new.gate ≡ self.old.gate }
     {
-        assert_eq!(rt; self.gate.cancel(&mut self.station, request), answer);
+        assert_eq!(rt; self.gate.cancel(&mut self.station, ticket), answer);
     }
 
     // The Station reads this request's decision. It is answered so.
-    fn read<R: Abort>(&mut self, rt: &R, request: u128, answer: Read)
-        requires { IsTicket self.old.gate.shape request }
+    fn read<R: Abort>(&mut self, rt: &R, ticket: Ticket, answer: Read)
+        requires { IsTicket self.old.gate.shape ticket.number }
         ensures { self.new.gate ≡ self.old.gate }
     {
-        assert_eq!(rt; self.gate.read(&mut self.station, request), answer);
+        assert_eq!(rt; self.gate.read(&mut self.station, ticket), answer);
     }
 
     // So many seats are taken.
@@ -100,8 +102,8 @@ impl Slot {
 #[test]
 fn a_late_cancel_misses(rt: HostRuntime) {
     let mut slot = Slot::open(&rt, rt.alloc());
-    let first = slot.number();
-    assert_eq!(rt; first, 1);
+    let first = slot.ticket();
+    assert_eq!(rt; first, Ticket::of(1));
     slot.takes(&rt);
     slot.has(&rt, 2);
     slot.ends(&rt, Decision::Execute);
@@ -109,8 +111,9 @@ fn a_late_cancel_misses(rt: HostRuntime) {
     slot.renews(&rt, 3, Renew::Began(Some(Decision::Execute)));
     slot.cancel(&rt, first, Cancel::Other);
     slot.read(&rt, first, Read::Other);
-    let second = slot.number();
-    assert_eq!(rt; second, (32_768 + 3) * 16_384 + 1);
+    let second = slot.ticket();
+    assert_eq!(rt; second.number, (32_768 + 3) * 16_384 + 1);
+    assert_eq!(rt; second.slot(), 1);
     slot.read(&rt, second, Read::Is(None));
 }
 
@@ -119,7 +122,7 @@ fn a_late_cancel_misses(rt: HostRuntime) {
 fn the_next_request_is_cancelled(rt: HostRuntime) {
     let mut slot = Slot::open(&rt, rt.alloc());
     slot.renews(&rt, 3, Renew::Began(None));
-    let second = slot.number();
+    let second = slot.ticket();
     slot.takes(&rt);
     slot.has(&rt, 3);
     slot.cancel(&rt, second, Cancel::Is(Decision::Cancelled));
@@ -136,7 +139,7 @@ fn a_slot_is_renewed_often(rt: HostRuntime) {
     for _ in 0..1_000_000u32 {
         slot.renews(&rt, 5, Renew::Began(None));
     }
-    assert_eq!(rt; slot.number(), (1_000_000 * 32_768 + 5) * 16_384 + 1);
+    assert_eq!(rt; slot.ticket().number, (1_000_000 * 32_768 + 5) * 16_384 + 1);
     slot.takes(&rt);
     slot.has(&rt, 5);
 }
@@ -159,4 +162,73 @@ fn a_batch_is_spent(rt: HostRuntime) {
     let mut request = Request::new(pass);
     assert_eq!(rt; request.renew(&gate, 3), Some(Renew::Spent));
     assert_eq!(rt; request.take(&gate), Some(TryTake::Taken));
+}
+
+// A gate knows the tickets of its own slots, up to the last number, and no others.
+#[test]
+fn a_gate_knows_its_tickets(rt: HostRuntime) {
+    let slot = Slot::open(&rt, rt.alloc());
+    let last = 1u128 << 75;
+    for (number, known) in [
+        (0, true),
+        (1, true),
+        (2, false),
+        (16_384, true),
+        (16_386, false),
+        (last - 16_384, true),
+        (last, false),
+    ] {
+        assert_eq!(rt; slot.gate.knows(Ticket { number }), known);
+    }
+}
+
+// The request waits, is cancelled, and leaves. It hears so, and the next request of its slot begins.
+fn strike<R: Abort>(
+    rt: &R,
+    gate: &Gate<Global>,
+    desk: &mut Desk,
+    pass: &mut Pass,
+    station: &mut Station,
+)
+    requires own_desk { desk_gate desk.old ≡ gate.now }
+    requires own_pass { pass_gate pass.old ≡ gate.now }
+    requires own_station { station_gate station.old ≡ gate.now }
+    requires queues { gate.now.shape.response ≡ Queue }
+    requires fresh { pass.old.pass.state ≡ Fresh }
+    requires idle { desk.old.desk.held ≡ None }
+{
+    let ticket = pass.ticket();
+    assert_eq!(rt; gate.ask(pass), None);
+    let TryEnter::Entered = gate.try_enter(desk, pass) else {
+        panic!(rt; "enters")
+    };
+    assert_eq!(rt;
+        gate.cancel(station, ticket),
+        Cancel::Is(Decision::Cancelled)
+    );
+    let Some(Decision::Cancelled) = gate.seen(desk, ticket.number) else {
+        panic!(rt; "seen")
+    };
+    gate.leave(desk, ticket.number);
+    let Some(Decision::Cancelled) = gate.hear(desk, pass) else {
+        panic!(rt; "heard")
+    };
+    assert_eq!(rt;
+        gate.renew(pass, 1),
+        Renew::Began(Some(Decision::Cancelled))
+    );
+    assert_eq!(rt; gate.cancel(station, ticket), Cancel::Other);
+    assert_eq!(rt; gate.look(station).waiters(), 0);
+}
+
+#[test]
+fn a_struck_request_is_renewed(rt: HostRuntime) {
+    let opened = Gate::open_for_life(rt.alloc(), 1, &[1], 1, Response::Queue);
+    let Ok((gate, mut desk, mut passes, mut stations)) = opened else {
+        panic!(rt; "opens")
+    };
+    let (Some(mut pass), Some(mut station)) = (passes.pop(), stations.pop()) else {
+        panic!(rt; "tokens")
+    };
+    strike(&rt, &gate, &mut desk, &mut pass, &mut station);
 }

@@ -5,7 +5,7 @@ ghost use Rattle.apf_words.specs.Limits.{max_limit};
 ghost use Rattle.apf_gate.specs.Tokens.{station_gate};
 ghost use Rattle.apf_gate_tests.specs.Stages.{IsNamed};
 
-use apf_gate::{Cancel, Close, Gate, Read, Station, TrySetLimit};
+use apf_gate::{Cancel, Close, Gate, Read, Station, Ticket, TrySetLimit};
 use apf_words::{Decision, LevelWord};
 use std::alloc::Global;
 
@@ -23,7 +23,7 @@ pub fn read(gate: &Gate<Global>, station: &mut Station, request: u128) -> Option
     requires is_request { IsNamed gate.now.shape request }
     ensures { station_gate station.new ≡ gate.now }
 {
-    match gate.read(station, request) {
+    match gate.read(station, Ticket { number: request }) {
         Read::Is(found) => found,
         Read::Other => unreachable!(),
     }
@@ -35,7 +35,7 @@ pub fn cancel(gate: &Gate<Global>, station: &mut Station, request: u128) -> Deci
     requires is_request { IsNamed gate.now.shape request }
     ensures { station_gate station.new ≡ gate.now }
 {
-    match gate.cancel(station, request) {
+    match gate.cancel(station, Ticket { number: request }) {
         Cancel::Is(decision) => decision,
         Cancel::Other => unreachable!(),
     }

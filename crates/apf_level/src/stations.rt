@@ -9,7 +9,7 @@ ghost use Rattle.apf_gate.specs.Tokens.{station_gate};
 
 use crate::level::Level;
 use crate::naming::Naming;
-use apf_gate::{Cancel, Close, Station, TrySetLimit};
+use apf_gate::{Cancel, Close, Station, Ticket, TrySetLimit};
 use apf_words::{Decision, LevelWord};
 
 impl<K: Naming> Level<K> {
@@ -22,7 +22,7 @@ impl<K: Naming> Level<K> {
         ensures answer { CancelsTo station.old.station request result station.new.station }
         ensures after { AfterCancel station.old.station request result station.new.station }
     {
-        match self.gate.cancel(station, request as u128) {
+        match self.gate.cancel(station, Ticket::of(request)) {
             Cancel::Is(decision) => decision,
             // in a batch a request keeps its slot
             Cancel::Other => unreachable!(),

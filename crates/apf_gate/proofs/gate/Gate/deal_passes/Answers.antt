@@ -10,7 +10,9 @@ use Rattle.apf_gate.specs.Tokens.{GateId}
 use Rattle.apf_gate.proofs.Opening.{pass_dealt}
 use Rattle.apf_gate.proofs.Puts.{any_default}
 use Rattle.apf_gate.proofs.Seats.{cuts}
-use Rattle.apf_gate.specs.Slots.{slot_of}
+use Rattle.apf_gate.specs.Slots.{slot_of, round_of}
+use Rattle.apf_gate.specs.Counted.{AreCounts}
+use Rattle.apf_gate.proofs.Counting.{counts_none}
 use Rattle.apf_gate.specs.Gauges.{shape_in}
 use Rattle.apf_gate.proofs.Spreading.{slots_in, first_width}
 use Rattle.apf_gate.proofs.gate.Gate.deal_passes.Goals as goal
@@ -52,6 +54,8 @@ invariant_of-pass g c =
       in_slot = subst (λ (x : Me (Unit {0}) (List Record)). slot_of (pass_of x.0).number < (pass_of x.0).knows.shape.slots) (sym dealt) (subst (λ (x : GateId). slot_of c.loop-r.r < x.shape.slots) c.self.view_is in_slot);
       small = small_number;
       narrow = subst (λ x. x ≤ 20000) (sym wide) small;
+      counted = subst (λ (x : Me (Unit {0}) (List Record)). AreCounts c.none.result (pass_of x.0).past) (sym dealt) (subst (λ k. AreCounts k []) (sym c.none.ensures) counts_none);
+      few = subst (λ (x : Me (Unit {0}) (List Record)). length (pass_of x.0).past ≤ round_of c.loop-r.r) (sym dealt) (omega arith);
     }
 
 pub loop-r-preserved : goal.loop-r-preserved

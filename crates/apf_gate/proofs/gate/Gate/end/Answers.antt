@@ -38,6 +38,9 @@ returns g c =
     let ended : EndsWith (record { table = c.args.self.table; shape = own }) (desk_of c.desk.inside.seat.me.0) c.args.passes.items c.args.stations.items c.read.result = record {
       account = h.account;
       sound = h.sound;
+      slots = h.slots;
+      shape = i.shape;
+      batch = batch;
       laws = i.laws;
       level = c.read.ensures.level (level_of own.widths (world_of own h.account.trace)) (ap (λ (ws : List ℕ). slice_index ws 0) (sym f.2) ∙ h.packs.level) (level_in_range own i.shape i.laws f.0 h);
       count = c.read.ensures.count ∙ sym n;

@@ -7,8 +7,8 @@ use Rattle.apf_gate.specs.Tokens.{GateId, PassToken}
 use Rattle.apf_gate.proofs.Renewing.{pass_renews}
 use Rattle.apf_gate.proofs.gate.Gate.swap_for_next.Goals as goal
 
-pub swap-found-requires : goal.swap-found-requires
-swap-found-requires g c =
+pub swap-requires : goal.swap-requires
+swap-requires g c =
     let i = c.self.invariant in
     let m = c.pass.invariant in
     let may = subst (λ (t : PassToken). MayRenew t.pass) (sym c.pass.view_is) c.requires.may in

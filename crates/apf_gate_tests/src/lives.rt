@@ -1,0 +1,303 @@
+//! A million requests over eight slots, by four threads, with cancels by tickets that are late or not.
+
+ghost use Rattle.std.specs.Prelude.{◌≡◌, length, All};
+ghost use Rattle.apf_gate.specs.declared.record.State.TheVariants.{Fresh};
+ghost use Rattle.apf_gate.specs.Tokens.{pass_gate, station_gate};
+
+use crate::requests::Request;
+use apf_gate::{Cancel, Gate, LifeWords, Pass, Renew, Station, Ticket, TryTake};
+use apf_model::Response;
+use apf_rounds::MOST_TURNS;
+use apf_words::Decision;
+use std::alloc::Global;
+use std::process::Abort;
+use std::sync::atomic::{AtomicU64, Ordering};
+use std::thread;
+use std::thread::Threads;
+
+// How many slots there are, and how many requests hold each, one after another.
+const SLOTS: u32 = 8;
+
+const ROUNDS: u64 = 125_000;
+
+// What the threads tell the test.
+#[derive(Drop)]
+struct Board {
+    // How manieth request holds each slot.
+    present: Vec<AtomicU64>,
+    // Of each request the decisions that were told of it, a bit for each: those that its Pass was told, and
+    // eight places higher those that Stations were told.
+    told: Vec<AtomicU64>,
+    // The cancels that found another request.
+    late: AtomicU64,
+}
+
+// So many numbers, each 0.
+fn zeros<R: Abort>(rt: &R, alloc: Global, count: u64) -> Vec<AtomicU64> {
+    let mut numbers = Vec::new(alloc);
+    for _ in 0..count {
+        let Ok(()) = numbers.push(AtomicU64::new(0)) else {
+            panic!(rt; "memory")
+        };
+    }
+    numbers
+}
+
+impl Board {
+    fn new<R: Abort>(rt: &R, alloc: Global) -> Board {
+        Board {
+            present: zeros(rt, alloc, u64::from(SLOTS)),
+            told: zeros(rt, alloc, ROUNDS * u64::from(SLOTS)),
+            late: AtomicU64::new(0),
+        }
+    }
+
+    // How manieth request holds the slot.
+    fn present(&self, slot: u32) -> u64 {
+        match self.present.get(slot as usize) {
+            None => 0,
+            Some(round) => round.load(Ordering::SeqCst),
+        }
+    }
+
+    // The next request holds the slot.
+    fn goes_on(&self, slot: u32) {
+        if let Some(round) = self.present.get(slot as usize) {
+            round.fetch_add(1, Ordering::SeqCst);
+        }
+    }
+
+    // This was told of a request: to its Pass, or to a Station.
+    fn note(&self, slot: u32, round: u64, decision: Decision, to_station: bool) {
+        let place = round
+            .wrapping_mul(u64::from(SLOTS))
+            .wrapping_add(u64::from(slot));
+        if let Some(word) = self.told.get(place as usize) {
+            word.fetch_or(bit(decision, to_station), Ordering::SeqCst);
+        }
+    }
+}
+
+fn bit(decision: Decision, to_station: bool) -> u64 {
+    let own = match decision {
+        Decision::Execute => 1,
+        Decision::QueueFull => 2,
+        Decision::Closed => 4,
+        Decision::Cancelled => 8,
+        Decision::ConcurrencyLimit => 16,
+    };
+    if to_station { own * 256 } else { own }
+}
+
+// Takes the request's seats, in at most so many turns.
+fn take(gate: &Gate<Global>, request: &mut Request)
+    requires { pass_gate request.old.pass ≡ gate.now }
+    ensures { pass_gate request.new.pass ≡ gate.now }
+{
+    for _turn in 0..MOST_TURNS {
+        if let Some(TryTake::NoRoom | TryTake::Raced) = request.take(gate) {
+            thread::yield_now();
+        } else {
+            break;
+        }
+    }
+}
+
+// One request of the slot, from its beginning to its end.
+fn run(gate: &Gate<Global>, board: &Board, slot: u32, round: u64, request: &mut Request)
+    requires { pass_gate request.old.pass ≡ gate.now }
+    ensures { pass_gate request.new.pass ≡ gate.now }
+{
+    take(gate, request);
+    if let Some(decision) = request.execute(gate) {
+        board.note(slot, round, decision, false);
+    }
+    request.release(gate);
+    if let Some(Renew::Began(Some(decision))) = request.renew(gate, 1) {
+        board.note(slot, round, decision, false);
+    }
+    board.goes_on(slot);
+}
+
+// The ticket of the request of this round of the slot. All are one seat wide.
+fn ticket_of(slot: u32, round: u64) -> Ticket {
+    if round == 0 {
+        return Ticket::of(slot);
+    }
+    Ticket {
+        number: (u128::from(round) * 32_768 + 1) * 16_384 + u128::from(slot),
+    }
+}
+
+// Cancels the present request of the slot, or one of the two before.
+fn cancel(gate: &Gate<Global>, board: &Board, slot: u32, back: u64, station: &mut Station)
+    requires { station_gate station.old ≡ gate.now }
+    ensures { station_gate station.new ≡ gate.now }
+{
+    let round = board.present(slot).saturating_sub(back);
+    let ticket = ticket_of(slot, round);
+    if round >= ROUNDS || !gate.knows(ticket) {
+        return;
+    }
+    match gate.cancel(station, ticket) {
+        Cancel::Is(decision) => board.note(slot, round, decision, true),
+        Cancel::Other => {
+            board.late.fetch_add(1, Ordering::SeqCst);
+        }
+    }
+}
+
+// What one thread has: two slots and a Station.
+#[derive(Drop)]
+struct Worker {
+    left: Request,
+    right: Request,
+    station: Station,
+}
+
+// One request of each of its slots, and a cancel of a slot of another.
+fn turn(gate: &Gate<Global>, board: &Board, thread: u32, round: u64, worker: &mut Worker)
+    requires { (pass_gate worker.old.left.pass ≡ gate.now) × (pass_gate worker.old.right.pass ≡ gate.now) × (station_gate worker.old.station ≡ gate.now) }
+    ensures { (pass_gate worker.new.left.pass ≡ gate.now) × (pass_gate worker.new.right.pass ≡ gate.now) × (station_gate worker.new.station ≡ gate.now) }
+{
+    let first = thread.wrapping_mul(2);
+    run(gate, board, first, round, &mut worker.left);
+    let other = first.wrapping_add(2 + (round % 6) as u32) % SLOTS;
+    cancel(gate, board, other, round % 3, &mut worker.station);
+    run(gate, board, first.wrapping_add(1), round, &mut worker.right);
+}
+
+fn work(gate: &Gate<Global>, board: &Board, thread: u32, worker: &mut Worker)
+    requires { (pass_gate worker.old.left.pass ≡ gate.now) × (pass_gate worker.old.right.pass ≡ gate.now) × (station_gate worker.old.station ≡ gate.now) }
+    ensures { (pass_gate worker.new.left.pass ≡ gate.now) × (pass_gate worker.new.right.pass ≡ gate.now) × (station_gate worker.new.station ≡ gate.now) }
+{
+    for round in 0..ROUNDS {
+        turn(gate, board, thread, round, worker);
+    }
+}
+
+// All work, each in a thread of its own.
+fn all_work<R: Threads + Sync>(rt: &R, gate: &Gate<Global>, board: &Board, workers: &mut [Worker])
+    requires { All (λ w. (pass_gate w.left.pass ≡ gate.now) × (pass_gate w.right.pass ≡ gate.now) × (station_gate w.station ≡ gate.now)) workers.old }
+    ensures { All (λ w. (pass_gate w.left.pass ≡ gate.now) × (pass_gate w.right.pass ≡ gate.now) × (station_gate w.station ≡ gate.now)) workers.new }
+{
+    thread::for_each_mut(
+        rt,
+        workers,
+        4,
+        &|thread, worker| work(gate, board, thread as u32, worker),
+    );
+}
+
+// Deals the tokens out, the last ones first. So the worker that is made last has the first two slots.
+fn deal<R: Abort>(
+    rt: &R,
+    alloc: Global,
+    gate: &Gate<Global>,
+    mut passes: Vec<Pass>,
+    mut stations: Vec<Station>,
+) -> Vec<Worker>
+    requires passes { All (λ t. (pass_gate t ≡ gate.now) × (t.pass.state ≡ Fresh)) passes.items }
+    requires stations { All (λ t. station_gate t ≡ gate.now) stations.items }
+    ensures { All (λ w. (pass_gate w.left.pass ≡ gate.now) × (pass_gate w.right.pass ≡ gate.now) × (station_gate w.station ≡ gate.now)) result.items }
+{
+    let mut workers = Vec::new(alloc);
+    for _ in 0..4u32 {
+        let (Some(right), Some(left), Some(station)) = (passes.pop(), passes.pop(), stations.pop())
+        else {
+            panic!(rt; "tokens")
+        };
+        let worker = Worker {
+            left: Request::new(left),
+            right: Request::new(right),
+            station,
+        };
+        let Ok(()) = workers.push(worker) else {
+            panic!(rt; "memory")
+        };
+    }
+    workers.reverse();
+    workers
+}
+
+// Collects the tokens.
+fn collect<R: Abort>(
+    rt: &R,
+    alloc: Global,
+    gate: &Gate<Global>,
+    mut workers: Vec<Worker>,
+) -> (Vec<Pass>, Vec<Station>)
+    requires { All (λ w. (pass_gate w.left.pass ≡ gate.now) × (pass_gate w.right.pass ≡ gate.now) × (station_gate w.station ≡ gate.now)) workers.items }
+    ensures passes { All (λ t. pass_gate t ≡ gate.now) result.0.items }
+    ensures stations { All (λ t. station_gate t ≡ gate.now) result.1.items }
+{
+    let mut passes = Vec::new(alloc);
+    let mut stations = Vec::new(alloc);
+    while let Some(worker) = workers.pop() {
+        let Worker {
+            left,
+            right,
+            station,
+        } = worker;
+        let (Ok(()), Ok(()), Ok(())) = (
+            passes.push(left.into_pass()),
+            passes.push(right.into_pass()),
+            stations.push(station),
+        ) else {
+            panic!(rt; "memory")
+        };
+    }
+    (passes, stations)
+}
+
+// Runs a million requests, and ends the gate.
+fn live<R: Threads + Abort + Sync>(rt: &R, alloc: Global, board: &Board) -> LifeWords<Global> {
+    let opened = Gate::open_for_life(alloc, 2, &[1, 1, 1, 1, 1, 1, 1, 1], 4, Response::Queue);
+    let Ok((gate, desk, passes, stations)) = opened else {
+        panic!(rt; "opens")
+    };
+    let mut workers = deal(rt, alloc, &gate, passes, stations);
+    all_work(rt, &gate, board, workers.as_mut_slice());
+    let (passes, stations) = collect(rt, alloc, &gate, workers);
+    assert!(rt; passes.len() == 8 && stations.len() == 4);
+    let Ok(words) = gate.end_for_life(alloc, desk, passes, stations) else {
+        panic!(rt; "memory")
+    };
+    words
+}
+
+// How many requests were decided so, each told of to all alike: 1 is execute and 8 is cancelled. No other bits
+// than these may stand there, and who is cancelled was cancelled by a call that said so.
+fn decided<R: Abort>(rt: &R, board: &Board) -> (u64, u64) {
+    let mut executed = 0u64;
+    let mut cancelled = 0u64;
+    for word in board.told.iter() {
+        match word.load(Ordering::SeqCst) {
+            0x001 | 0x101 => executed = executed.saturating_add(1),
+            0x808 => cancelled = cancelled.saturating_add(1),
+            other => panic!(rt; "told {other}"),
+        }
+    }
+    (executed, cancelled)
+}
+
+// Each request has one decision, whoever was told it, early or late. Late cancels wrote nothing, and some were late.
+#[test]
+fn a_million_requests_over_eight_slots(rt: HostRuntime) {
+    let board = Board::new(&rt, rt.alloc());
+    let words = live(&rt, rt.alloc(), &board);
+    let (executed, cancelled) = decided(&rt, &board);
+    let counts = words.counts();
+    assert_eq!(rt; executed.saturating_add(cancelled), 1_000_000);
+    assert_eq!(rt; (counts.executed, counts.cancelled), (executed, cancelled));
+    assert_eq!(rt;
+        (counts.queue_full, counts.closed, counts.concurrency_limit),
+        (0, 0, 0)
+    );
+    assert_eq!(rt; words.level().seats(), 0);
+    let late = board.late.load(Ordering::SeqCst);
+    assert!(rt;
+        late > 1_000 && cancelled > 1_000,
+        "{late} were late, {cancelled} were cancelled"
+    );
+}

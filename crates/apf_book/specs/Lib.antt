@@ -5,6 +5,8 @@ pub mod Stretch
 pub mod Counted
 pub mod Seats
 pub mod Overtaken
+pub mod BookCalls
+pub mod BookResults
 pub mod BookView
 pub mod Moves
 pub mod Said

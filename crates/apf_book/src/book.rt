@@ -1,25 +1,15 @@
 //! The book of a level: its queues and its log, with the Desk.
 
-ghost use Rattle.std.specs.Prelude.{◌≡◌, ◌≢◌, ◌↔◌, ℕ, ◌+◌, ◌*◌, ◌<◌, ◌≤◌, [], ◌∷◌, length, map, reverse, true, false, Option, Some, None, Contains, IfOk, IfErr, OnOk};
-ghost use Rattle.apf_words.specs.declared.decision.Decision.{Decision};
-ghost use Rattle.apf_words.specs.declared.decision.Decision.TheVariants as decisions;
-ghost use Rattle.apf_history.specs.declared.events.Event.TheVariants as events;
-ghost use Rattle.apf_model.specs.declared.response.Response.TheVariants.{Queue};
-ghost use Rattle.apf_model.specs.History.{has_arrived, waiting};
+ghost use Rattle.std.specs.Prelude.{◌≡◌, ◌+◌, ◌<◌, ◌≤◌, length, reverse};
 ghost use Rattle.apf_model.specs.Outcome.{stats_of};
-ghost use Rattle.apf_model.specs.Schedule.{AreWidths};
-ghost use Rattle.apf_model.specs.Fair.{widest, DifferAtMost};
 ghost use Rattle.apf_gate.specs.declared.record.State.TheVariants.{InLine};
-ghost use Rattle.apf_gate.specs.Records.{new_desk, told_of, told_own, KnowsMore};
-ghost use Rattle.apf_gate.specs.Tokens.{pass_gate, desk_gate};
-ghost use Rattle.apf_gate.specs.JoinedSteps.{JoinedLoadsDecision};
-ghost use Rattle.apf_book.specs.Opening.{opening_ledger, opening_ledger_with, IsFaultOf, AreSettings};
+ghost use Rattle.apf_gate.specs.Tokens.{desk_gate};
+ghost use Rattle.apf_book.specs.Opening.{opening_ledger, opening_ledger_with};
 ghost use Rattle.apf_book.specs.LedgerKept.{AreStats};
-ghost use Rattle.apf_book.specs.Stretch.{IsBacklogged, service_in, IsIsolated, AreWaitsBounded};
 ghost use Rattle.apf_book.specs.BookView.{IsKept};
-ghost use Rattle.apf_book.specs.Arrivals.{arrival, IsTold, SaysOpen};
-ghost use Rattle.apf_book.specs.Servings.{with, Turns, Serves, Stops, Strikes};
-ghost use Rattle.apf_book.specs.Stopped.{IsStopped};
+ghost use Rattle.apf_book.specs.Servings.{Turns};
+ghost use Rattle.apf_book.specs.BookCalls.{IsDeskFor, AreCostsFor, MakesBook, AreOf, AnswersArrival, Dispatches, StrikesOut, Hears};
+ghost use Rattle.apf_book.specs.BookResults.{SameBook, SameRequest, AfterArrive, AfterStrike, AfterHear, IsLogOfBook};
 
 use crate::arrived::Arrived;
 use crate::fault::BookFault;
@@ -65,15 +55,8 @@ impl<A: Allocator + Copy> Book<A> {
     ///
     /// The first of these: the dealer's fault, the queues', and `NoMemory` if memory was refused.
     pub fn new(alloc: A, config: &Config, asks: &[Ask], desk: Desk) -> Result<Book<A>, BookFault>
-        requires fresh { desk.desk ≡ new_desk desk.desk.knows.shape }
-        requires widths { map (λ a. a.width) asks.now ≡ desk.desk.knows.shape.widths }
-        requires has_queues { desk.desk.knows.shape.response ≡ Queue }
-        requires batch { length desk.desk.knows.shape.widths ≡ desk.desk.knows.shape.slots }
-        ensures desk { IfOk result (λ b. b.desk ≡ desk) }
-        ensures ledger { IfOk result (λ b. b.ledger ≡ opening_ledger config.now asks.now) }
-        ensures stopped { IfOk result (λ b. IsStopped b.ledger b.desk.desk.knows) }
-        ensures settings { OnOk result (AreSettings config.now asks.now) }
-        ensures fault { IfErr result (IsFaultOf config.now asks.now) }
+        requires begins { IsDeskFor asks.now desk }
+        ensures { MakesBook config.now asks.now desk (opening_ledger config.now asks.now) result }
     {
         desk.is_of_a_gate();
         let ledger = Ledger::new(alloc, config, asks, widths_of(alloc, asks))?;
@@ -96,17 +79,9 @@ impl<A: Allocator + Copy> Book<A> {
         costs: &[u32],
         desk: Desk,
     ) -> Result<Book<A>, BookFault>
-        requires fresh { desk.desk ≡ new_desk desk.desk.knows.shape }
-        requires widths { map (λ a. a.width) asks.now ≡ desk.desk.knows.shape.widths }
-        requires one_cost_each { length costs.now ≡ length asks.now }
-        requires costs { AreWidths costs.now }
-        requires has_queues { desk.desk.knows.shape.response ≡ Queue }
-        requires batch { length desk.desk.knows.shape.widths ≡ desk.desk.knows.shape.slots }
-        ensures desk { IfOk result (λ b. b.desk ≡ desk) }
-        ensures ledger { IfOk result (λ b. b.ledger ≡ opening_ledger_with config.now asks.now costs.now) }
-        ensures stopped { IfOk result (λ b. IsStopped b.ledger b.desk.desk.knows) }
-        ensures settings { OnOk result (AreSettings config.now asks.now) }
-        ensures fault { IfErr result (IsFaultOf config.now asks.now) }
+        requires begins { IsDeskFor asks.now desk }
+        requires costs { AreCostsFor asks.now costs.now }
+        ensures { MakesBook config.now asks.now desk (opening_ledger_with config.now asks.now costs.now) result }
     {
         desk.is_of_a_gate();
         let ledger = Ledger::new(alloc, config, asks, Vec::from_slice(alloc, costs))?;
@@ -127,23 +102,12 @@ impl<A: Allocator> Book<A> {
         gate: &Gate<G>,
         pass: &mut Pass,
     ) -> Arrived
-        requires own { desk_gate self.old.desk ≡ gate.now }
-        requires own_pass { pass_gate pass.old ≡ gate.now }
+        requires own { AreOf gate.now self.old pass.old }
         requires in_line { pass.old.pass.state ≡ InLine }
-        ensures gate { desk_gate self.new.desk ≡ desk_gate self.old.desk }
-        ensures pass { pass_gate pass.new ≡ pass_gate pass.old }
-        ensures number { pass.new.pass.number ≡ pass.old.pass.number }
-        ensures in_line { pass.new.pass.state ≡ InLine }
-        ensures log { self.new.ledger ≡ with (arrival result pass.old.pass.number) self.old.ledger }
-        ensures told { IsTold result pass.new.pass self.old.desk.desk.knows self.new.desk.desk.knows }
-        ensures again { (result ≡ Arrived.Again) ↔ (has_arrived self.old.ledger.history pass.old.pass.number ≡ true) }
-        ensures first { pass.old.pass.handed ≡ false → has_arrived self.old.ledger.history pass.old.pass.number ≡ false }
-        ensures entered { (pass.new.pass.entered ≡ true) ↔ ((q : ℕ) × Contains self.new.ledger.history (events.Enter pass.old.pass.number q)) }
-        ensures stays_closed { self.old.desk.desk.knows.saw_closed ≡ true → ¬ SaysOpen result }
-        ensures cancelled_first { told_own pass.old.pass ≡ Some decisions.Cancelled → ¬ SaysOpen result }
-        ensures cancelled_seen { told_own pass.new.pass ≡ Some decisions.Cancelled → ¬ SaysOpen result }
-        ensures more { KnowsMore self.old.desk.desk.knows self.new.desk.desk.knows }
-        ensures kept { IsKept self.new.desk.desk self.new.ledger }
+        ensures same { SameBook self.old self.new }
+        ensures same_request { SameRequest pass.old pass.new }
+        ensures answer { AnswersArrival self.old pass.old result self.new pass.new }
+        ensures after { AfterArrive self.old pass.old result self.new pass.new }
     {
         legal_histories_are_in_order();
         self.desk.is_of_a_gate();
@@ -178,12 +142,8 @@ impl<A: Allocator> Book<A> {
     /// step, made in this call, found.
     pub fn dispatch<R: Wait, G: Allocator>(&mut self, rt: &R, gate: &Gate<G>) -> u32
         requires own { desk_gate self.old.desk ≡ gate.now }
-        ensures gate { desk_gate self.new.desk ≡ desk_gate self.old.desk }
-        ensures log { Serves self.old.ledger self.new.ledger result }
-        ensures stops { Stops self.new.ledger self.old.desk.desk.knows self.new.desk.desk.knows }
-        ensures stopped { IsStopped self.new.ledger self.new.desk.desk.knows }
-        ensures more { KnowsMore self.old.desk.desk.knows self.new.desk.desk.knows }
-        ensures kept { IsKept self.new.desk.desk self.new.ledger }
+        ensures same { SameBook self.old self.new }
+        ensures answer { Dispatches self.old result self.new }
     {
         let mut count = 0;
         for _ in rt.forever() {
@@ -203,15 +163,9 @@ impl<A: Allocator> Book<A> {
     pub fn strike<G: Allocator>(&mut self, gate: &Gate<G>, request: u32) -> bool
         requires own { desk_gate self.old.desk ≡ gate.now }
         requires is_request { request < length gate.now.shape.widths }
-        ensures gate { desk_gate self.new.desk ≡ desk_gate self.old.desk }
-        ensures struck { result ≡ true → (q : ℕ) × Contains (waiting self.old.ledger.history q) request × (self.new.ledger ≡ with (events.Strike request q ∷ []) self.old.ledger) }
-        ensures stays { result ≡ false → self.new.ledger ≡ self.old.ledger }
-        ensures reads { Strikes self.old.desk.desk request result ((q : ℕ) × Contains (waiting self.old.ledger.history q) request) self.new.desk.desk }
-        ensures told { told_of self.old.desk.desk.knows.told request ≢ None → (q : ℕ) → ¬ Contains (waiting self.new.ledger.history q) request }
-        ensures still_stopped { result ≡ false → IsStopped self.old.ledger self.old.desk.desk.knows → IsStopped self.new.ledger self.new.desk.desk.knows }
-        ensures nobody_new { (q r : ℕ) → Contains (waiting self.new.ledger.history q) r → Contains (waiting self.old.ledger.history q) r }
-        ensures more { KnowsMore self.old.desk.desk.knows self.new.desk.desk.knows }
-        ensures kept { IsKept self.new.desk.desk self.new.ledger }
+        ensures same { SameBook self.old self.new }
+        ensures answer { StrikesOut self.old request result self.new }
+        ensures after { AfterStrike self.old request result self.new }
     {
         legal_histories_are_in_order();
         self.desk.is_of_a_gate();
@@ -228,18 +182,11 @@ impl<A: Allocator> Book<A> {
     /// The Desk hears the decision of the Pass's request, which is the one that the Pass was told, if it
     /// was, and answers nothing. Queues and log stay. It makes one load, with the tokens joined.
     pub fn hear<G: Allocator>(&mut self, gate: &Gate<G>, pass: &mut Pass)
-        requires own { desk_gate self.old.desk ≡ gate.now }
-        requires own_pass { pass_gate pass.old ≡ gate.now }
-        ensures gate { desk_gate self.new.desk ≡ desk_gate self.old.desk }
-        ensures pass { pass_gate pass.new ≡ pass_gate pass.old }
-        ensures number { pass.new.pass.number ≡ pass.old.pass.number }
-        ensures state { pass.new.pass.state ≡ pass.old.pass.state }
-        ensures ledger { self.new.ledger ≡ self.old.ledger }
-        ensures answer { (found : Option Decision) × JoinedLoadsDecision (record { pass = pass.old.pass; desk = self.old.desk.desk }) found (record { pass = pass.new.pass; desk = self.new.desk.desk }) }
-        ensures told { told_own pass.old.pass ≢ None → told_of self.new.desk.desk.knows.told pass.old.pass.number ≡ told_own pass.old.pass }
-        ensures told_pass { told_own pass.old.pass ≢ None → told_own pass.new.pass ≡ told_own pass.old.pass }
-        ensures more { KnowsMore self.old.desk.desk.knows self.new.desk.desk.knows }
-        ensures kept { IsKept self.new.desk.desk self.new.ledger }
+        requires own { AreOf gate.now self.old pass.old }
+        ensures same { SameBook self.old self.new }
+        ensures same_request { SameRequest pass.old pass.new }
+        ensures answer { Hears self.old pass.old self.new pass.new }
+        ensures after { AfterHear pass.old self.new pass.new }
     {
         gate.hear(&mut self.desk, pass);
     }
@@ -261,15 +208,7 @@ impl<A: Allocator> Book<A> {
     /// between or not. While a request waits, its own queue is served at most the costs of those before it,
     /// and each other queue at most these and twice the largest cost.
     pub fn log(&self) -> &[Event]
-        ensures log { reverse result.now ≡ self.now.ledger.history }
-        ensures balanced { (from to a b : ℕ) → from ≤ to → to ≤ length result.now
-            → a < self.now.ledger.sizes.deck → b < self.now.ledger.sizes.deck
-            → IsBacklogged result.now from to a → IsBacklogged result.now from to b
-            → DifferAtMost (2 * widest self.now.ledger.costs) (service_in self.now.ledger.costs result.now from to a)
-            (service_in self.now.ledger.costs result.now from to b) }
-        ensures isolated { IsIsolated self.now.ledger.sizes.deck self.now.ledger.costs result.now }
-        ensures waits { AreWaitsBounded self.now.ledger.sizes.deck self.now.ledger.costs result.now }
-        ensures kept { IsKept self.now.desk.desk self.now.ledger }
+        ensures { IsLogOfBook self.now result.now }
     {
         self.ledger.log()
     }
@@ -287,11 +226,9 @@ impl<A: Allocator> Book<A> {
     // Tries once to serve the chosen head, if any waits.
     fn turn<G: Allocator>(&mut self, gate: &Gate<G>) -> Option<Served>
         requires own { desk_gate self.old.desk ≡ gate.now }
-        ensures gate { desk_gate self.new.desk ≡ desk_gate self.old.desk }
+        ensures same { SameBook self.old self.new }
         ensures turns { Turns result self.old.ledger self.new.ledger self.old.desk.desk.knows self.new.desk.desk.knows }
-        ensures more { KnowsMore self.old.desk.desk.knows self.new.desk.desk.knows }
         ensures few { length self.old.ledger.history ≤ 20000 }
-        ensures kept { IsKept self.new.desk.desk self.new.ledger }
     {
         legal_histories_are_in_order();
         self.desk.is_of_a_gate();

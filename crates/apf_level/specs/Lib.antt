@@ -12,3 +12,4 @@ pub mod Limits
 pub mod Heard
 pub mod Keepers
 pub mod Reports
+pub mod LevelCalls

@@ -4,13 +4,13 @@ ghost use Rattle.std.specs.Prelude.{◌≡◌, ◌<◌, ◌==◌, length, not, t
 ghost use Rattle.apf_words.specs.Level.{Level as Word};
 ghost use Rattle.apf_words.specs.Limits.{max_requests};
 ghost use Rattle.apf_words.specs.declared.decision.Decision.TheVariants.{Execute};
-ghost use Rattle.apf_gate.specs.declared.record.State.TheVariants.{Fresh};
 ghost use Rattle.apf_gate.specs.Records.{told_own};
 ghost use Rattle.apf_gate.specs.PassSteps.{PassSubtractsLevel};
 ghost use Rattle.apf_gate.specs.Tokens.{pass_gate};
 ghost use Rattle.apf_level.specs.Tokens.{IsOf};
 ghost use Rattle.apf_level.specs.Admission.{tried_pass, IsTriedTold, TriesToAdmit, SaysOpen};
-ghost use Rattle.apf_level.specs.Attempts.{tried_of, TakesOrDecides, StaysOut};
+ghost use Rattle.apf_level.specs.Attempts.{tried_of, TakesOrDecides};
+ghost use Rattle.apf_level.specs.LevelCalls.{IsFreshPass, AfterAttempt};
 
 use crate::answers::{Attempt, TryAdmit};
 use crate::level::Level;
@@ -27,8 +27,7 @@ impl<K: Naming> Level<K> {
     /// showed room an exchange; and an exchange of the decision word, unless it answers busy. Seats that were
     /// taken while the request was cancelled are given back.
     pub fn try_admit(&self, pass: Pass) -> TryAdmit
-        requires own { pass_gate pass ≡ K.level.gate }
-        requires fresh { pass.pass.state ≡ Fresh }
+        requires { IsFreshPass K.level pass }
         ensures same { IsOf pass (tried_pass result) }
         ensures told { IsTriedTold result }
         ensures steps { TriesToAdmit pass.pass result }
@@ -55,13 +54,9 @@ impl<K: Naming> Level<K> {
 
     // As `try_admit`, but it says why it is busy.
     pub(crate) fn attempt(&self, mut pass: Pass) -> Attempt
-        requires own { pass_gate pass ≡ K.level.gate }
-        requires fresh { pass.pass.state ≡ Fresh }
-        ensures same { IsOf pass (tried_pass (tried_of result)) }
-        ensures told { IsTriedTold (tried_of result) }
+        requires { IsFreshPass K.level pass }
+        ensures after { AfterAttempt pass result }
         ensures steps { TriesToAdmit pass.pass (tried_of result) }
-        ensures stays_closed { pass.pass.knows.saw_closed ≡ true → ¬ SaysOpen (tried_of result) }
-        ensures outside { StaysOut pass.pass result }
         ensures never_entered { pass.pass.entered ≡ false }
     {
         let _request = self.number(&pass);
@@ -74,13 +69,9 @@ impl<K: Naming> Level<K> {
     // Takes the seats, if nobody waits and they fit, and decides: what `try_admit` does once it read that
     // nothing is decided.
     pub(crate) fn take(&self, mut pass: Pass) -> Attempt
-        requires own { pass_gate pass ≡ K.level.gate }
-        requires fresh { pass.pass.state ≡ Fresh }
-        ensures same { IsOf pass (tried_pass (tried_of result)) }
-        ensures told { IsTriedTold (tried_of result) }
+        requires { IsFreshPass K.level pass }
+        ensures after { AfterAttempt pass result }
         ensures steps { TakesOrDecides pass.pass result }
-        ensures stays_closed { pass.pass.knows.saw_closed ≡ true → ¬ SaysOpen (tried_of result) }
-        ensures outside { StaysOut pass.pass result }
     {
         let _request = self.number(&pass);
         match self.gate.try_take(&mut pass) {

@@ -2,11 +2,11 @@
 
 ghost use Rattle.std.specs.Prelude.{◌≡◌, true};
 ghost use Rattle.apf_model.specs.declared.response.Response.TheVariants.{Queue};
-ghost use Rattle.apf_gate.specs.declared.record.State.TheVariants.{Fresh};
 ghost use Rattle.apf_gate.specs.Tokens.{pass_gate};
 ghost use Rattle.apf_level.specs.Tokens.{IsOf};
-ghost use Rattle.apf_level.specs.Admission.{begun_pass, polled_pass, admitted_pass, IsBegunTold, IsAdmittedTold, EnteredNow, SaysWaiting, Polls, IsNotExecuted};
+ghost use Rattle.apf_level.specs.Admission.{begun_pass, polled_pass, admitted_pass, IsBegunTold, IsAdmittedTold, SaysWaiting, Polls, IsNotExecuted};
 ghost use Rattle.apf_level.specs.Arrivals.{Logs};
+ghost use Rattle.apf_level.specs.LevelCalls.{IsFreshPass, AfterBegin};
 
 use crate::answers::{Admit, Attempt, Begin, Poll, Stood};
 use crate::level::Level;
@@ -30,11 +30,8 @@ impl<K: Naming> Level<K> {
     /// It takes the lock only where requests wait or it does not fit, or to dispatch where its decision was
     /// lost and requests waited when its seats were given back.
     pub fn begin<R: Wait>(&self, rt: &R, pass: Pass) -> Begin
-        requires own { pass_gate pass ≡ K.level.gate }
-        requires fresh { pass.pass.state ≡ Fresh }
-        ensures same { IsOf pass (begun_pass result) }
-        ensures told { IsBegunTold result }
-        ensures entered { EnteredNow pass.pass result }
+        requires { IsFreshPass K.level pass }
+        ensures after { AfterBegin pass result }
         ensures queues { SaysWaiting result → self.now.gate.shape.response ≡ Queue }
     {
         let (begun, _event) = self.arrive(rt, pass);
@@ -44,11 +41,8 @@ impl<K: Naming> Level<K> {
     /// As `begin`. Answers also the event that the log got by the arrival: the request's Enter or Full, which
     /// name its queue, or none, of a request that took its seats or was decided without a queue.
     pub fn begin_with_event<R: Wait>(&self, rt: &R, pass: Pass) -> (Begin, Option<Event>)
-        requires own { pass_gate pass ≡ K.level.gate }
-        requires fresh { pass.pass.state ≡ Fresh }
-        ensures same { IsOf pass (begun_pass result.0) }
-        ensures told { IsBegunTold result.0 }
-        ensures entered { EnteredNow pass.pass result.0 }
+        requires { IsFreshPass K.level pass }
+        ensures after { AfterBegin pass result.0 }
         ensures queues { SaysWaiting result.0 → self.now.gate.shape.response ≡ Queue }
         ensures logs { Logs K.level pass.pass.number result.0 result.1 }
     {
@@ -79,8 +73,7 @@ impl<K: Naming> Level<K> {
     /// The request arrives, and its caller waits until it is decided. After some readings it sleeps; a
     /// dispatch or a cancel by any thread wakes it.
     pub fn admit<R: Wait>(&self, rt: &R, pass: Pass) -> Admit
-        requires own { pass_gate pass ≡ K.level.gate }
-        requires fresh { pass.pass.state ≡ Fresh }
+        requires { IsFreshPass K.level pass }
         ensures same { IsOf pass (admitted_pass result) }
         ensures told { IsAdmittedTold result }
     {
@@ -112,11 +105,8 @@ impl<K: Naming> Level<K> {
 
     // The request arrives.
     fn arrive<R: Wait>(&self, rt: &R, pass: Pass) -> (Begin, Option<Event>)
-        requires own { pass_gate pass ≡ K.level.gate }
-        requires fresh { pass.pass.state ≡ Fresh }
-        ensures same { IsOf pass (begun_pass result.0) }
-        ensures told { IsBegunTold result.0 }
-        ensures entered { EnteredNow pass.pass result.0 }
+        requires { IsFreshPass K.level pass }
+        ensures after { AfterBegin pass result.0 }
         ensures queues { SaysWaiting result.0 → self.now.gate.shape.response ≡ Queue }
         ensures logs { Logs K.level pass.pass.number result.0 result.1 }
     {
@@ -149,11 +139,8 @@ impl<K: Naming> Level<K> {
         queued: &QueuedLock<K>,
         mut pass: Pass,
     ) -> (Begin, Option<Event>)
-        requires own { pass_gate pass ≡ K.level.gate }
-        requires fresh { pass.pass.state ≡ Fresh }
-        ensures same { IsOf pass (begun_pass result.0) }
-        ensures told { IsBegunTold result.0 }
-        ensures entered { EnteredNow pass.pass result.0 }
+        requires { IsFreshPass K.level pass }
+        ensures after { AfterBegin pass result.0 }
         ensures logs { Logs K.level pass.pass.number result.0 result.1 }
         ensures queues { self.now.gate.shape.response ≡ Queue }
     {

@@ -2,10 +2,10 @@
 
 ghost use Rattle.std.specs.Prelude.{◌≡◌, length, reverse, slice_get, IfOk, All};
 ghost use Rattle.apf_model.specs.Outcome.{stats_of};
-ghost use Rattle.apf_gate.specs.Tokens.{pass_gate, station_gate};
 ghost use Rattle.apf_book.specs.LedgerKept.{AreStats};
 ghost use Rattle.apf_level.specs.Keepers.{log_in, IsKeeperOf};
 ghost use Rattle.apf_level.specs.Reports.{AreSums, Ended};
+ghost use Rattle.apf_level.specs.LevelCalls.{AreAllOf};
 
 use crate::alone::{Alone, AloneLock};
 use crate::finish::finish;
@@ -73,10 +73,7 @@ impl<K: Naming> Level<K> {
         stations: Vec<Station>,
         _stats: StatsPass,
     ) -> Result<Report, AllocError>
-        requires own { All (λ t. pass_gate t ≡ K.level.gate) dones.items }
-        requires own_stations { All (λ t. station_gate t ≡ K.level.gate) stations.items }
-        requires all_dones { length dones.items ≡ length K.level.gate.shape.widths }
-        requires all_stations { length stations.items ≡ K.level.gate.shape.stations }
+        requires { AreAllOf K.level dones.items stations.items }
         ensures ended { IfOk result (λ r. Ended K.level r.word (slice_get r.decisions.items) (reverse r.log.items) dones.items stations.items) }
         ensures count { IfOk result (λ r. length r.decisions.items ≡ length K.level.gate.shape.widths) }
         ensures sums { IfOk result (λ r. AreSums r.counts (slice_get r.decisions.items) (length r.decisions.items)) }

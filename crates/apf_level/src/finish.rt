@@ -1,13 +1,11 @@
 //! The words and the log of a level whose Passes all came back.
 
 ghost use Rattle.std.specs.Prelude.{◌≡◌, [], reverse, length, IfOk, All};
-ghost use Rattle.apf_gate.specs.Tokens.{pass_gate, station_gate};
-ghost use Rattle.apf_book.specs.Laws.{decision_in};
 ghost use Rattle.apf_level.specs.Levels.{IsBookOf, IsIdleOf};
 ghost use Rattle.apf_level.specs.Keepers.{desk_in, log_in, IsKeeperOf};
 ghost use Rattle.apf_level.specs.Tokens.{IsDone};
 ghost use Rattle.apf_level.specs.Heard.{IsHeard};
-ghost use Rattle.apf_level.specs.Reports.{Ended};
+ghost use Rattle.apf_level.specs.LevelCalls.{AreAllOf, Finishes};
 
 use crate::hearing::Keeper;
 use crate::naming::Naming;
@@ -27,15 +25,11 @@ fn finish_book<K: Naming>(
     requires own { gate ≡ K.level.gate }
     requires batch { length K.level.gate.shape.widths ≡ K.level.gate.shape.slots }
     requires own_book { IsBookOf K.level book }
-    requires own_passes { All (λ t. pass_gate t ≡ K.level.gate) passes.items }
-    requires own_stations { All (λ t. station_gate t ≡ K.level.gate) stations.items }
-    requires all_passes { length passes.items ≡ length K.level.gate.shape.widths }
-    requires all_stations { length stations.items ≡ K.level.gate.shape.stations }
+    requires all { AreAllOf K.level passes.items stations.items }
     requires done { All IsDone passes.items }
     requires heard { All (IsHeard book.desk.desk) passes.items }
     ensures log { IfOk result (λ o. reverse o.1.items ≡ book.ledger.history) }
-    ensures ended { IfOk result (λ o. Ended K.level o.0.level (decision_in o.0) (reverse o.1.items) passes.items stations.items) }
-    ensures count { IfOk result (λ o. length o.0.decisions ≡ length K.level.gate.shape.widths) }
+    ensures finished { IfOk result (λ o. Finishes K.level o.0 (reverse o.1.items) passes.items stations.items) }
 {
     every_end_agrees();
     every_ended_book_agrees();
@@ -57,15 +51,11 @@ fn finish_alone<K: Naming>(
     requires own { gate ≡ K.level.gate }
     requires batch { length K.level.gate.shape.widths ≡ K.level.gate.shape.slots }
     requires own_desk { IsIdleOf K.level desk }
-    requires own_passes { All (λ t. pass_gate t ≡ K.level.gate) passes.items }
-    requires own_stations { All (λ t. station_gate t ≡ K.level.gate) stations.items }
-    requires all_passes { length passes.items ≡ length K.level.gate.shape.widths }
-    requires all_stations { length stations.items ≡ K.level.gate.shape.stations }
+    requires all { AreAllOf K.level passes.items stations.items }
     requires done { All IsDone passes.items }
     requires heard { All (IsHeard desk.desk) passes.items }
     ensures log { IfOk result (λ o. o.1.items ≡ []) }
-    ensures ended { IfOk result (λ o. Ended K.level o.0.level (decision_in o.0) (reverse o.1.items) passes.items stations.items) }
-    ensures count { IfOk result (λ o. length o.0.decisions ≡ length K.level.gate.shape.widths) }
+    ensures finished { IfOk result (λ o. Finishes K.level o.0 (reverse o.1.items) passes.items stations.items) }
 {
     every_end_agrees();
     let words = gate.end(alloc, desk, passes, stations)?;
@@ -83,15 +73,11 @@ pub fn finish<K: Naming>(
     requires own { gate ≡ K.level.gate }
     requires batch { length K.level.gate.shape.widths ≡ K.level.gate.shape.slots }
     requires own_keeper { IsKeeperOf K.level keeper }
-    requires own_passes { All (λ t. pass_gate t ≡ K.level.gate) passes.items }
-    requires own_stations { All (λ t. station_gate t ≡ K.level.gate) stations.items }
-    requires all_passes { length passes.items ≡ length K.level.gate.shape.widths }
-    requires all_stations { length stations.items ≡ K.level.gate.shape.stations }
+    requires all { AreAllOf K.level passes.items stations.items }
     requires done { All IsDone passes.items }
     requires heard { All (IsHeard (desk_in keeper).desk) passes.items }
     ensures log { IfOk result (λ o. reverse o.1.items ≡ log_in keeper) }
-    ensures ended { IfOk result (λ o. Ended K.level o.0.level (decision_in o.0) (reverse o.1.items) passes.items stations.items) }
-    ensures count { IfOk result (λ o. length o.0.decisions ≡ length K.level.gate.shape.widths) }
+    ensures finished { IfOk result (λ o. Finishes K.level o.0 (reverse o.1.items) passes.items stations.items) }
 {
     match keeper {
         Keeper::Book(book) => finish_book::<K>(alloc, gate, book, passes, stations),

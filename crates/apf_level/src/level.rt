@@ -10,7 +10,8 @@ ghost use Rattle.apf_book.specs.Stopped.{IsStopped};
 ghost use Rattle.apf_book.specs.Opening.{opening_ledger, opening_ledger_with, AreSettings, IsFaultOf};
 ghost use Rattle.apf_gate.specs.Tokens.{desk_gate};
 ghost use Rattle.apf_level.specs.Levels.{IsBookOf};
-ghost use Rattle.apf_level.specs.Opening.{FaultBy, SettledBy};
+ghost use Rattle.apf_book.specs.BookCalls.{AreCostsFor};
+ghost use Rattle.apf_level.specs.LevelCalls.{IsGateFor, IsOpened, IsJudged};
 
 use crate::alone::{Alone, AloneLock};
 use crate::naming::Naming;
@@ -83,19 +84,9 @@ impl<K: Naming> Level<K> {
         passes: Vec<Pass>,
         stations: Vec<Station>,
     ) -> Result<Opened<K>, LevelFault>
-        requires own { gate ≡ K.level.gate }
-        requires opening { K.level.opening ≡ opening_ledger config.now asks.now }
-        requires desk { desk ≡ record { table = gate.table; desk = new_desk gate.shape } }
-        requires batch { length gate.shape.widths ≡ gate.shape.slots }
-        requires limit { gate.shape.limit ≡ config.now.limit }
-        requires widths { map (λ a. a.width) asks.now ≡ gate.shape.widths }
-        requires response { gate.shape.response ≡ config.now.limit_response }
-        ensures gate { IfOk result (λ o. o.level.gate ≡ gate) }
-        ensures passes { IfOk result (λ o. o.passes ≡ passes) }
-        ensures stations { IfOk result (λ o. o.stations ≡ stations) }
-        ensures stats { IfOk result (λ o. (o.stats.cell ≡ o.level.cell) × (o.stats.trace ≡ [])) }
-        ensures settings { OnOk result (SettledBy config.now.limit_response config.now asks.now) }
-        ensures fault { IfErr result (FaultBy config.now.limit_response config.now asks.now) }
+        requires { IsGateFor K.level config.now asks.now (opening_ledger config.now asks.now) gate desk }
+        ensures opened { IfOk result (λ o. IsOpened gate passes stations o.level o.passes o.stations o.stats) }
+        ensures judged { IsJudged config.now asks.now result }
     {
         let under = match config.limit_response {
             Response::Queue => {
@@ -130,21 +121,10 @@ impl<K: Naming> Level<K> {
         passes: Vec<Pass>,
         stations: Vec<Station>,
     ) -> Result<Opened<K>, LevelFault>
-        requires own { gate ≡ K.level.gate }
-        requires opening { K.level.opening ≡ opening_ledger_with config.now asks.now costs.now }
-        requires desk { desk ≡ record { table = gate.table; desk = new_desk gate.shape } }
-        requires batch { length gate.shape.widths ≡ gate.shape.slots }
-        requires limit { gate.shape.limit ≡ config.now.limit }
-        requires widths { map (λ a. a.width) asks.now ≡ gate.shape.widths }
-        requires one_cost_each { length costs.now ≡ length asks.now }
-        requires costs { AreWidths costs.now }
-        requires response { gate.shape.response ≡ config.now.limit_response }
-        ensures gate { IfOk result (λ o. o.level.gate ≡ gate) }
-        ensures passes { IfOk result (λ o. o.passes ≡ passes) }
-        ensures stations { IfOk result (λ o. o.stations ≡ stations) }
-        ensures stats { IfOk result (λ o. (o.stats.cell ≡ o.level.cell) × (o.stats.trace ≡ [])) }
-        ensures settings { OnOk result (SettledBy config.now.limit_response config.now asks.now) }
-        ensures fault { IfErr result (FaultBy config.now.limit_response config.now asks.now) }
+        requires opening { IsGateFor K.level config.now asks.now (opening_ledger_with config.now asks.now costs.now) gate desk }
+        requires costs { AreCostsFor asks.now costs.now }
+        ensures opened { IfOk result (λ o. IsOpened gate passes stations o.level o.passes o.stations o.stats) }
+        ensures judged { IsJudged config.now asks.now result }
     {
         let under = match config.limit_response {
             Response::Queue => {
@@ -170,10 +150,7 @@ fn assembled<K: Naming>(
     requires own { gate ≡ K.level.gate }
     requires batch { length gate.shape.widths ≡ gate.shape.slots }
     requires stats { (under.2.cell ≡ under.1) × (under.2.trace ≡ []) }
-    ensures gate { result.level.gate ≡ gate }
-    ensures passes { result.passes ≡ passes }
-    ensures stations { result.stations ≡ stations }
-    ensures stats { (result.stats.cell ≡ result.level.cell) × (result.stats.trace ≡ []) }
+    ensures { IsOpened gate passes stations result.level result.passes result.stations result.stats }
 {
     let (shared, window, stats) = under;
     let level = Level {

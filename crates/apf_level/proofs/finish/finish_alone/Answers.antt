@@ -1,4 +1,4 @@
-use Rattle.std.proofs.Common.{◌≡◌, ◌∙◌, List, [], refl, ap, sym, subst, reverse}
+use Rattle.std.proofs.Common.{rules, ◌≡◌, ◌∙◌, List, [], refl, ap, sym, subst, reverse}
 use Rattle.apf_model.specs.declared.response.Response.{Response}
 use Rattle.apf_model.specs.declared.response.Response.TheVariants.{Queue, Reject}
 use Rattle.apf_history.specs.declared.events.Event.{Event}
@@ -10,8 +10,8 @@ use Rattle.apf_level.proofs.Ends.{ended}
 use Rattle.apf_level.proofs.Idle.{agrees, arrivals, nobody_entered}
 use Rattle.apf_level.proofs.finish.finish_alone.Goals as goal
 
-pub returns-clause-ended : goal.returns-clause-ended
-returns-clause-ended g c =
+pub returns-clause-finished : goal.returns-clause-finished
+returns-clause-finished g c =
     let k = g.K.Naming.level in
     let d = c.args.desk.desk in
     let w = c.in_ok-words.words in
@@ -21,14 +21,17 @@ returns-clause-ended g c =
     let e : EndAgrees k.gate d ps ss w = c.every_end_agrees.ensures k.gate d ps ss w ends in
     let idle = c.requires.own_desk in
     let empty : [] ≡ reverse c.new.result.items = sym (ap (λ (l : List Event). reverse l) c.new.ensures.items) in
-    subst (λ (h : List Event). Ended k w.level (decision_in w) h ps ss) empty
-    (ended k d w ps ss e ends.count c.requires.own_passes c.requires.done c.requires.heard [] idle.holds_none idle.of_log (λ q. refl)
-    (agrees k d w ps ss e ends.count idle.served_none) (arrivals k d w ps ss e ends.count idle.served_none) (nobody_entered k d w ps ss ends idle.no_queues)
-    (record {
-      trace = e.last.0;
-      made = e.last.1.made;
-      says = λ q. absurd (let bad : ◌≡◌ {A = Response} Queue Reject = sym q ∙ idle.no_queues in cc);
-      word = e.last.2.0;
-      goes_on = e.last.1.from_stations;
-    })
-    (λ _. refl))
+    record {
+      ended = subst (λ (h : List Event). Ended k w.level (decision_in w) h ps ss) empty
+          (ended k d w ps ss e ends.count c.requires.all.own_passes c.requires.done c.requires.heard [] idle.holds_none idle.of_log (λ q. refl)
+          (agrees k d w ps ss e ends.count idle.served_none) (arrivals k d w ps ss e ends.count idle.served_none) (nobody_entered k d w ps ss ends idle.no_queues)
+          (record {
+            trace = e.last.0;
+            made = e.last.1.made;
+            says = λ q. absurd (let bad : ◌≡◌ {A = Response} Queue Reject = sym q ∙ idle.no_queues in cc);
+            word = e.last.2.0;
+            goes_on = e.last.1.from_stations;
+          })
+          (λ _. refl));
+      count = search rules;
+    }

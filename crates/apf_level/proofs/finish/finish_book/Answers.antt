@@ -1,4 +1,4 @@
-use Rattle.std.proofs.Common.{◌≡◌, ◌∙◌, List, ap, sym, subst}
+use Rattle.std.proofs.Common.{rules, ◌≡◌, ◌∙◌, List, ap, sym, subst}
 use Rattle.apf_model.specs.declared.response.Response.{Response}
 use Rattle.apf_model.specs.declared.response.Response.TheVariants.{Queue, Reject}
 use Rattle.apf_history.specs.declared.events.Event.{Event}
@@ -11,8 +11,8 @@ use Rattle.apf_level.proofs.Ends.{ended, gone}
 use Rattle.apf_level.proofs.Nobody.{nobody}
 use Rattle.apf_level.proofs.finish.finish_book.Goals as goal
 
-pub returns-clause-ended : goal.returns-clause-ended
-returns-clause-ended g c =
+pub returns-clause-finished : goal.returns-clause-finished
+returns-clause-finished g c =
     let k = g.K.Naming.level in
     let book = c.args.book in
     let v : LedgerView = book.ledger in
@@ -27,8 +27,11 @@ returns-clause-ended g c =
     let mind : IsOfOneMind d v = c.every_book_is_kept.ensures d v kept in
     let agree : LogAgrees k.gate v ps ss w = c.every_ended_book_agrees.ensures k.gate book.desk v ps ss w c.requires.own_book.gate kept ends in
     let of_log : IsLogOf v = kept.of_log in
-    let law = ended k d w ps ss e ends.count c.requires.own_passes c.requires.done c.requires.heard v.history mind.holds_none in
-    let none = nobody c.every_legal_history_is_in_order.ensures.numbers k book.desk v c.requires.own_book.gate kept mind (gone k d w ps ss e ends.count c.requires.own_passes c.requires.done c.requires.heard) in
-    subst (λ (h : List Event). Ended k w.level (decision_in w) h ps ss) (sym c.end-desk.ensures.log)
-    (law (subst IsLogOf c.requires.own_book.ledger of_log) none agree.agrees agree.arrivals agree.entered (subst (λ (x : List Event). IsMade k.gate x w.level ss) (ap (λ (y : LedgerView). y.history) c.requires.own_book.ledger) agree.made)
-    (λ alone. absurd (let bad : ◌≡◌ {A = Response} Queue Reject = sym kept.has_queues ∙ (ap (λ (x : GateId). x.shape.response) c.requires.own_book.gate ∙ alone) in cc)))
+    let law = ended k d w ps ss e ends.count c.requires.all.own_passes c.requires.done c.requires.heard v.history mind.holds_none in
+    let none = nobody c.every_legal_history_is_in_order.ensures.numbers k book.desk v c.requires.own_book.gate kept mind (gone k d w ps ss e ends.count c.requires.all.own_passes c.requires.done c.requires.heard) in
+    record {
+      ended = subst (λ (h : List Event). Ended k w.level (decision_in w) h ps ss) (sym c.end-desk.ensures.log)
+          (law (subst IsLogOf c.requires.own_book.ledger of_log) none agree.agrees agree.arrivals agree.entered (subst (λ (x : List Event). IsMade k.gate x w.level ss) (ap (λ (y : LedgerView). y.history) c.requires.own_book.ledger) agree.made)
+          (λ alone. absurd (let bad : ◌≡◌ {A = Response} Queue Reject = sym kept.has_queues ∙ (ap (λ (x : GateId). x.shape.response) c.requires.own_book.gate ∙ alone) in cc)));
+      count = search rules;
+    }

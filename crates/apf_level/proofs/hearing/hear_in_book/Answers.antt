@@ -12,15 +12,15 @@ returns-clause-heard g c =
     let desk = c.hear.new.self.desk.desk in
     let later = c.strike-struck.new.self.desk.desk in
     let r : ℕ = old.pass.number in
-    let n : t.pass.number ≡ r = c.hear.ensures.number in
+    let n : t.pass.number ≡ r = c.hear.ensures.same_request.number in
     let asked : c.number.result ≡ t.pass.number = c.number.ensures.number in
     let some = c.requires.done.told in
-    let told : told_of desk.knows.told r ≡ told_own old.pass = c.hear.ensures.told some in
+    let told : told_of desk.knows.told r ≡ told_own old.pass = c.hear.ensures.after.told some in
     let known : told_of desk.knows.told t.pass.number ≢ None = (λ none. some (sym told ∙ (ap (told_of desk.knows.told) (sym n) ∙ none))) in
     record {
-      told = c.strike-struck.ensures.more.told t.pass.number known ∙ (ap (told_of desk.knows.told) n ∙ (told ∙ sym (c.hear.ensures.told_pass some)));
+      told = c.strike-struck.ensures.same.more.told t.pass.number known ∙ (ap (told_of desk.knows.told) n ∙ (told ∙ sym (c.hear.ensures.after.told_pass some)));
       gone = λ waits.
-          let member = ((c.every_book_is_kept.ensures later c.strike-struck.new.self.ledger c.strike-struck.ensures.kept).waiting_is t.pass.number).0 waits in
-          c.strike-struck.ensures.told (subst (λ (i : ℕ). told_of desk.knows.told i ≢ None) (sym asked) known) member.0 (subst (λ (i : ℕ). Contains (waiting c.strike-struck.new.self.ledger.history member.0) i) (sym asked) member.1);
+          let member = ((c.every_book_is_kept.ensures later c.strike-struck.new.self.ledger c.strike-struck.ensures.same.kept).waiting_is t.pass.number).0 waits in
+          c.strike-struck.ensures.after.told (subst (λ (i : ℕ). told_of desk.knows.told i ≢ None) (sym asked) known) member.0 (subst (λ (i : ℕ). Contains (waiting c.strike-struck.new.self.ledger.history member.0) i) (sym asked) member.1);
       inside = subst (λ (i : ℕ). i < length t.pass.knows.shape.widths) asked c.number.ensures.inside;
     }

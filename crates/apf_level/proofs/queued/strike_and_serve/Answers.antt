@@ -7,6 +7,6 @@ use Rattle.apf_level.proofs.queued.strike_and_serve.Goals as goal
 
 pub serve-requires-clause-went_on : goal.serve-requires-clause-went_on
 serve-requires-clause-went_on g c =
-    let struck = c.if-struck.ensures.struck refl in
+    let struck = c.if-struck.ensures.answer.struck refl in
     went_once (shown c.args.board.now.trace) _ c.log-before.result.now c.args.book.now.ledger.history c.strike-struck.new.self.ledger.history (Strike c.args.request struck.0 ∷ [])
     c.requires.published refl c.log-before.ensures.log (ap (λ (v : LedgerView). v.history) struck.2)

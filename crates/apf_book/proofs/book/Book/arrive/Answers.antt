@@ -17,74 +17,100 @@ use Rattle.apf_book.proofs.book.Book.arrive.Goals as goal
 is_new : (v : LedgerView) (i r : ℕ) (found : Bool) → i ≡ r → found ≡ has_arrived v.history i → found ≡ false → has_arrived v.history r ≡ false
 is_new v i r found same is not_found = subst (λ (j : ℕ). has_arrived v.history j ≡ false) same (sym is ∙ not_found)
 
-pub returns-then-has_arrived-clause-entered : goal.returns-then-has_arrived-clause-entered
-returns-then-has_arrived-clause-entered g c =
-    entered_logs (opened c.legal_histories_are_in_order.ensures).statuses c.self.inside.desk.desk c.self.inside.ledger c.self.invariant c.args.pass.now.pass.number c.hear-found.new.pass.pass.entered
-    (c.hear-found.ensures.after.entered ∙ c.hear-found.ensures.same.tied.entered)
+pub returns-then-has_arrived-clause-after : goal.returns-then-has_arrived-clause-after
+returns-then-has_arrived-clause-after g c = record {
+  in_line = search rules;
+  first = λ away. subst (λ (v : BookView). has_arrived v.ledger.history c.args.pass.now.pass.number ≡ false) c.self.view_is (never_arrived (opened c.legal_histories_are_in_order.ensures).statuses c.self.inside.desk.desk c.self.inside.ledger c.self.invariant c.args.pass.now.pass.number (c.hear-found.ensures.same.not_handed away));
+  entered = entered_logs (opened c.legal_histories_are_in_order.ensures).statuses c.self.inside.desk.desk c.self.inside.ledger c.self.invariant c.args.pass.now.pass.number c.hear-found.new.pass.pass.entered
+      (c.hear-found.ensures.after.entered ∙ c.hear-found.ensures.same.tied.entered);
+  stays_closed = search rules;
+  cancelled_first = search rules;
+  cancelled_seen = search rules;
+}
 
-pub returns-in-Some-Cancelled-clause-entered : goal.returns-in-Some-Cancelled-clause-entered
-returns-in-Some-Cancelled-clause-entered g c =
-    entered_logs (opened c.legal_histories_are_in_order.ensures).statuses c.self.inside.desk.desk c.self.inside.ledger c.self.invariant c.args.pass.now.pass.number c.hear-found.new.pass.pass.entered
-    (c.hear-found.ensures.after.entered ∙ c.hear-found.ensures.same.tied.entered)
+pub returns-in-Some-Cancelled-clause-after : goal.returns-in-Some-Cancelled-clause-after
+returns-in-Some-Cancelled-clause-after g c = record {
+  in_line = search rules;
+  first = λ away. subst (λ (v : BookView). has_arrived v.ledger.history c.args.pass.now.pass.number ≡ false) c.self.view_is (never_arrived (opened c.legal_histories_are_in_order.ensures).statuses c.self.inside.desk.desk c.self.inside.ledger c.self.invariant c.args.pass.now.pass.number (c.hear-found.ensures.same.not_handed away));
+  entered = entered_logs (opened c.legal_histories_are_in_order.ensures).statuses c.self.inside.desk.desk c.self.inside.ledger c.self.invariant c.args.pass.now.pass.number c.hear-found.new.pass.pass.entered
+      (c.hear-found.ensures.after.entered ∙ c.hear-found.ensures.same.tied.entered);
+  stays_closed = search rules;
+  cancelled_first = search rules;
+  cancelled_seen = search rules;
+}
 
-pub returns-in-Entered-clause-more : goal.returns-in-Entered-clause-more
-returns-in-Entered-clause-more g c =
-    subst (λ (v : BookView). KnowsMore v.desk.desk.knows c.hand.new.desk.desk.knows) c.self.view_is
-    (more_then c.self.inside.desk.desk.knows c.hear-found.new.desk.desk.knows c.hand.new.desk.desk.knows c.hear-found.ensures.same.more c.in-Entered.ensures.moves.more)
+pub returns-in-Full-clause-answer : goal.returns-in-Full-clause-answer
+returns-in-Full-clause-answer g c = record {
+  log = search rules;
+  told = subst (λ (v : BookView). BothTold QueueFull c.hand.new.pass.pass v.desk.desk.knows c.hand.new.desk.desk.knows) c.self.view_is
+      (told_then c.self.inside.desk.desk.knows c.hear-found.new.desk.desk.knows c.hand.new.desk.desk.knows c.hand.new.pass.pass.number QueueFull c.hear-found.ensures.same.more c.in-Full.ensures.told.0, c.in-Full.ensures.told.1);
+  again = search rules;
+}
 
-pub returns-in-Full-clause-more : goal.returns-in-Full-clause-more
-returns-in-Full-clause-more g c =
-    subst (λ (v : BookView). KnowsMore v.desk.desk.knows c.hand.new.desk.desk.knows) c.self.view_is
-    (more_then c.self.inside.desk.desk.knows c.hear-found.new.desk.desk.knows c.hand.new.desk.desk.knows c.hear-found.ensures.same.more c.in-Full.ensures.moves.more)
+pub returns-in-Closed-clause-answer : goal.returns-in-Closed-clause-answer
+returns-in-Closed-clause-answer g c = record {
+  log = search rules;
+  told = subst (λ (v : BookView). BothTold Closed c.hand.new.pass.pass v.desk.desk.knows c.hand.new.desk.desk.knows) c.self.view_is
+      (told_then c.self.inside.desk.desk.knows c.hear-found.new.desk.desk.knows c.hand.new.desk.desk.knows c.hand.new.pass.pass.number Closed c.hear-found.ensures.same.more c.in-Closed.ensures.told.0, c.in-Closed.ensures.told.1);
+  again = search rules;
+}
 
-pub returns-in-Closed-clause-more : goal.returns-in-Closed-clause-more
-returns-in-Closed-clause-more g c =
-    subst (λ (v : BookView). KnowsMore v.desk.desk.knows c.hand.new.desk.desk.knows) c.self.view_is
-    (more_then c.self.inside.desk.desk.knows c.hear-found.new.desk.desk.knows c.hand.new.desk.desk.knows c.hear-found.ensures.same.more c.in-Closed.ensures.moves.more)
+pub returns-in-Cancelled-clause-answer : goal.returns-in-Cancelled-clause-answer
+returns-in-Cancelled-clause-answer g c = record {
+  log = search rules;
+  told = subst (λ (v : BookView). BothTold Cancelled c.hand.new.pass.pass v.desk.desk.knows c.hand.new.desk.desk.knows) c.self.view_is
+      (told_then c.self.inside.desk.desk.knows c.hear-found.new.desk.desk.knows c.hand.new.desk.desk.knows c.hand.new.pass.pass.number Cancelled c.hear-found.ensures.same.more c.in-Cancelled.ensures.told.0, c.in-Cancelled.ensures.told.1);
+  again = search rules;
+}
 
-pub returns-in-Cancelled-clause-more : goal.returns-in-Cancelled-clause-more
-returns-in-Cancelled-clause-more g c =
-    subst (λ (v : BookView). KnowsMore v.desk.desk.knows c.hand.new.desk.desk.knows) c.self.view_is
-    (more_then c.self.inside.desk.desk.knows c.hear-found.new.desk.desk.knows c.hand.new.desk.desk.knows c.hear-found.ensures.same.more c.in-Cancelled.ensures.moves.more)
+pub returns-in-Full-clause-after : goal.returns-in-Full-clause-after
+returns-in-Full-clause-after g c = record {
+  in_line = search rules;
+  first = λ away. subst (λ (v : BookView). has_arrived v.ledger.history c.args.pass.now.pass.number ≡ false) c.self.view_is (never_arrived (opened c.legal_histories_are_in_order.ensures).statuses c.self.inside.desk.desk c.self.inside.ledger c.self.invariant c.args.pass.now.pass.number (c.hear-found.ensures.same.not_handed away));
+  entered = (
+    (λ yes. absurd (let bad : true ≡ false = sym yes ∙ c.in-Full.ensures.entered in cc)),
+    (λ logs. absurd (full_not_entered (opened c.legal_histories_are_in_order.ensures).statuses c.self.inside.ledger c.refuse.new.self c.args.pass.now.pass.number c.number-request.result c.shortest-queue.result c.number-request.ensures.number c.refuse.ensures.log c.refuse.ensures.sound logs)),
+  );
+  stays_closed = search rules;
+  cancelled_first = search rules;
+  cancelled_seen = λ cancelled _. absurd (let bad = sym c.in-Full.ensures.told.1 ∙ cancelled in cc);
+}
 
-pub returns-in-Full-clause-told : goal.returns-in-Full-clause-told
-returns-in-Full-clause-told g c =
-    subst (λ (v : BookView). BothTold QueueFull c.hand.new.pass.pass v.desk.desk.knows c.hand.new.desk.desk.knows) c.self.view_is
-    (told_then c.self.inside.desk.desk.knows c.hear-found.new.desk.desk.knows c.hand.new.desk.desk.knows c.hand.new.pass.pass.number QueueFull c.hear-found.ensures.same.more c.in-Full.ensures.told.0, c.in-Full.ensures.told.1)
+pub returns-in-Entered-clause-after : goal.returns-in-Entered-clause-after
+returns-in-Entered-clause-after g c = record {
+  in_line = search rules;
+  first = λ away. subst (λ (v : BookView). has_arrived v.ledger.history c.args.pass.now.pass.number ≡ false) c.self.view_is (never_arrived (opened c.legal_histories_are_in_order.ensures).statuses c.self.inside.desk.desk c.self.inside.ledger c.self.invariant c.args.pass.now.pass.number (c.hear-found.ensures.same.not_handed away));
+  entered = search rules;
+  stays_closed = search rules;
+  cancelled_first = search rules;
+  cancelled_seen = λ cancelled _.
+      let heard = heard_own (record { pass = c.args.pass.now.pass; desk = c.self.inside.desk.desk }) (record { pass = c.hear-found.new.pass.pass; desk = c.hear-found.new.desk.desk }) c.hear-found.result c.hear-found.ensures.answer in
+      let seen : c.hear-found.result ≡ Some Cancelled = sym heard ∙ (sym (c.in-Entered.ensures.told_entering refl) ∙ cancelled) in
+      let other : c.hear-found.result ≢ Some Cancelled = (search rules) in
+      absurd (other seen);
+}
 
-pub returns-in-Closed-clause-told : goal.returns-in-Closed-clause-told
-returns-in-Closed-clause-told g c =
-    subst (λ (v : BookView). BothTold Closed c.hand.new.pass.pass v.desk.desk.knows c.hand.new.desk.desk.knows) c.self.view_is
-    (told_then c.self.inside.desk.desk.knows c.hear-found.new.desk.desk.knows c.hand.new.desk.desk.knows c.hand.new.pass.pass.number Closed c.hear-found.ensures.same.more c.in-Closed.ensures.told.0, c.in-Closed.ensures.told.1)
+pub returns-in-Closed-clause-after : goal.returns-in-Closed-clause-after
+returns-in-Closed-clause-after g c = record {
+  in_line = search rules;
+  first = λ away. subst (λ (v : BookView). has_arrived v.ledger.history c.args.pass.now.pass.number ≡ false) c.self.view_is (never_arrived (opened c.legal_histories_are_in_order.ensures).statuses c.self.inside.desk.desk c.self.inside.ledger c.self.invariant c.args.pass.now.pass.number (c.hear-found.ensures.same.not_handed away));
+  entered = let new = is_new c.self.inside.ledger c.number-request.result c.args.pass.now.pass.number c.has_arrived.result c.number-request.ensures.number c.has_arrived.ensures.arrived c.if-has_arrived.false in
+      stays_out (opened c.legal_histories_are_in_order.ensures).statuses c.self.inside.desk.desk c.self.inside.ledger c.self.invariant c.args.pass.now.pass.number c.hand.new.pass.pass.entered new c.in-Closed.ensures.entered;
+  stays_closed = search rules;
+  cancelled_first = search rules;
+  cancelled_seen = search rules;
+}
 
-pub returns-in-Cancelled-clause-told : goal.returns-in-Cancelled-clause-told
-returns-in-Cancelled-clause-told g c =
-    subst (λ (v : BookView). BothTold Cancelled c.hand.new.pass.pass v.desk.desk.knows c.hand.new.desk.desk.knows) c.self.view_is
-    (told_then c.self.inside.desk.desk.knows c.hear-found.new.desk.desk.knows c.hand.new.desk.desk.knows c.hand.new.pass.pass.number Cancelled c.hear-found.ensures.same.more c.in-Cancelled.ensures.told.0, c.in-Cancelled.ensures.told.1)
-
-pub returns-in-Full-clause-entered : goal.returns-in-Full-clause-entered
-returns-in-Full-clause-entered g c = (
-  (λ yes. absurd (let bad : true ≡ false = sym yes ∙ c.in-Full.ensures.entered in cc)),
-  (λ logs. absurd (full_not_entered (opened c.legal_histories_are_in_order.ensures).statuses c.self.inside.ledger c.refuse.new.self c.args.pass.now.pass.number c.number-request.result c.shortest-queue.result c.number-request.ensures.number c.refuse.ensures.log c.refuse.ensures.sound logs)),
-)
-
-pub returns-then-has_arrived-clause-first : goal.returns-then-has_arrived-clause-first
-returns-then-has_arrived-clause-first g c = λ away. subst (λ (v : BookView). has_arrived v.ledger.history c.args.pass.now.pass.number ≡ false) c.self.view_is (never_arrived (opened c.legal_histories_are_in_order.ensures).statuses c.self.inside.desk.desk c.self.inside.ledger c.self.invariant c.args.pass.now.pass.number (c.hear-found.ensures.same.not_handed away))
-
-pub returns-in-Some-Cancelled-clause-first : goal.returns-in-Some-Cancelled-clause-first
-returns-in-Some-Cancelled-clause-first g c = λ away. subst (λ (v : BookView). has_arrived v.ledger.history c.args.pass.now.pass.number ≡ false) c.self.view_is (never_arrived (opened c.legal_histories_are_in_order.ensures).statuses c.self.inside.desk.desk c.self.inside.ledger c.self.invariant c.args.pass.now.pass.number (c.hear-found.ensures.same.not_handed away))
-
-pub returns-in-Entered-clause-first : goal.returns-in-Entered-clause-first
-returns-in-Entered-clause-first g c = λ away. subst (λ (v : BookView). has_arrived v.ledger.history c.args.pass.now.pass.number ≡ false) c.self.view_is (never_arrived (opened c.legal_histories_are_in_order.ensures).statuses c.self.inside.desk.desk c.self.inside.ledger c.self.invariant c.args.pass.now.pass.number (c.hear-found.ensures.same.not_handed away))
-
-pub returns-in-Full-clause-first : goal.returns-in-Full-clause-first
-returns-in-Full-clause-first g c = λ away. subst (λ (v : BookView). has_arrived v.ledger.history c.args.pass.now.pass.number ≡ false) c.self.view_is (never_arrived (opened c.legal_histories_are_in_order.ensures).statuses c.self.inside.desk.desk c.self.inside.ledger c.self.invariant c.args.pass.now.pass.number (c.hear-found.ensures.same.not_handed away))
-
-pub returns-in-Closed-clause-first : goal.returns-in-Closed-clause-first
-returns-in-Closed-clause-first g c = λ away. subst (λ (v : BookView). has_arrived v.ledger.history c.args.pass.now.pass.number ≡ false) c.self.view_is (never_arrived (opened c.legal_histories_are_in_order.ensures).statuses c.self.inside.desk.desk c.self.inside.ledger c.self.invariant c.args.pass.now.pass.number (c.hear-found.ensures.same.not_handed away))
-
-pub returns-in-Cancelled-clause-first : goal.returns-in-Cancelled-clause-first
-returns-in-Cancelled-clause-first g c = λ away. subst (λ (v : BookView). has_arrived v.ledger.history c.args.pass.now.pass.number ≡ false) c.self.view_is (never_arrived (opened c.legal_histories_are_in_order.ensures).statuses c.self.inside.desk.desk c.self.inside.ledger c.self.invariant c.args.pass.now.pass.number (c.hear-found.ensures.same.not_handed away))
+pub returns-in-Cancelled-clause-after : goal.returns-in-Cancelled-clause-after
+returns-in-Cancelled-clause-after g c = record {
+  in_line = search rules;
+  first = λ away. subst (λ (v : BookView). has_arrived v.ledger.history c.args.pass.now.pass.number ≡ false) c.self.view_is (never_arrived (opened c.legal_histories_are_in_order.ensures).statuses c.self.inside.desk.desk c.self.inside.ledger c.self.invariant c.args.pass.now.pass.number (c.hear-found.ensures.same.not_handed away));
+  entered = let new = is_new c.self.inside.ledger c.number-request.result c.args.pass.now.pass.number c.has_arrived.result c.number-request.ensures.number c.has_arrived.ensures.arrived c.if-has_arrived.false in
+      stays_out (opened c.legal_histories_are_in_order.ensures).statuses c.self.inside.desk.desk c.self.inside.ledger c.self.invariant c.args.pass.now.pass.number c.hand.new.pass.pass.entered new c.in-Cancelled.ensures.entered;
+  stays_closed = search rules;
+  cancelled_first = search rules;
+  cancelled_seen = search rules;
+}
 
 pub hand-requires-clause-not_entered : goal.hand-requires-clause-not_entered
 hand-requires-clause-not_entered g c =
@@ -102,16 +128,15 @@ invariant_of-self-in-Closed g c =
     kept_refused (opened c.legal_histories_are_in_order.ensures).statuses c.self.inside.desk.desk c.hear-found.new.desk.desk c.self.inside.ledger c.self.invariant c.hear-found.ensures.after.served c.hear-found.ensures.same.more (hears_quiet c.args.pass.now.pass c.hear-found.new.pass.pass c.self.inside.desk.desk c.hear-found.new.desk.desk c.hear-found.result c.hear-found.ensures.answer) c.args.pass.now.pass.number c.hear-found.new.pass.pass.number c.hear-found.ensures.same.number new
     c.hand.new.desk.desk c.in-Closed.ensures.moves c.in-Closed.ensures.says c.in-Closed.ensures.held
 
-pub returns-in-Closed-clause-kept : goal.returns-in-Closed-clause-kept
-returns-in-Closed-clause-kept g c =
-    let new = is_new c.self.inside.ledger c.number-request.result c.args.pass.now.pass.number c.has_arrived.result c.number-request.ensures.number c.has_arrived.ensures.arrived c.if-has_arrived.false in
-    kept_refused (opened c.legal_histories_are_in_order.ensures).statuses c.self.inside.desk.desk c.hear-found.new.desk.desk c.self.inside.ledger c.self.invariant c.hear-found.ensures.after.served c.hear-found.ensures.same.more (hears_quiet c.args.pass.now.pass c.hear-found.new.pass.pass c.self.inside.desk.desk c.hear-found.new.desk.desk c.hear-found.result c.hear-found.ensures.answer) c.args.pass.now.pass.number c.hear-found.new.pass.pass.number c.hear-found.ensures.same.number new
-    c.hand.new.desk.desk c.in-Closed.ensures.moves c.in-Closed.ensures.says c.in-Closed.ensures.held
-
-pub returns-in-Closed-clause-entered : goal.returns-in-Closed-clause-entered
-returns-in-Closed-clause-entered g c =
-    let new = is_new c.self.inside.ledger c.number-request.result c.args.pass.now.pass.number c.has_arrived.result c.number-request.ensures.number c.has_arrived.ensures.arrived c.if-has_arrived.false in
-    stays_out (opened c.legal_histories_are_in_order.ensures).statuses c.self.inside.desk.desk c.self.inside.ledger c.self.invariant c.args.pass.now.pass.number c.hand.new.pass.pass.entered new c.in-Closed.ensures.entered
+pub returns-in-Closed-clause-same : goal.returns-in-Closed-clause-same
+returns-in-Closed-clause-same g c = record {
+  gate = search rules;
+  more = subst (λ (v : BookView). KnowsMore v.desk.desk.knows c.hand.new.desk.desk.knows) c.self.view_is
+      (more_then c.self.inside.desk.desk.knows c.hear-found.new.desk.desk.knows c.hand.new.desk.desk.knows c.hear-found.ensures.same.more c.in-Closed.ensures.moves.more);
+  kept = let new = is_new c.self.inside.ledger c.number-request.result c.args.pass.now.pass.number c.has_arrived.result c.number-request.ensures.number c.has_arrived.ensures.arrived c.if-has_arrived.false in
+      kept_refused (opened c.legal_histories_are_in_order.ensures).statuses c.self.inside.desk.desk c.hear-found.new.desk.desk c.self.inside.ledger c.self.invariant c.hear-found.ensures.after.served c.hear-found.ensures.same.more (hears_quiet c.args.pass.now.pass c.hear-found.new.pass.pass c.self.inside.desk.desk c.hear-found.new.desk.desk c.hear-found.result c.hear-found.ensures.answer) c.args.pass.now.pass.number c.hear-found.new.pass.pass.number c.hear-found.ensures.same.number new
+      c.hand.new.desk.desk c.in-Closed.ensures.moves c.in-Closed.ensures.says c.in-Closed.ensures.held;
+}
 
 pub invariant_of-self-in-Cancelled : goal.invariant_of-self-in-Cancelled
 invariant_of-self-in-Cancelled g c =
@@ -119,16 +144,15 @@ invariant_of-self-in-Cancelled g c =
     kept_refused (opened c.legal_histories_are_in_order.ensures).statuses c.self.inside.desk.desk c.hear-found.new.desk.desk c.self.inside.ledger c.self.invariant c.hear-found.ensures.after.served c.hear-found.ensures.same.more (hears_quiet c.args.pass.now.pass c.hear-found.new.pass.pass c.self.inside.desk.desk c.hear-found.new.desk.desk c.hear-found.result c.hear-found.ensures.answer) c.args.pass.now.pass.number c.hear-found.new.pass.pass.number c.hear-found.ensures.same.number new
     c.hand.new.desk.desk c.in-Cancelled.ensures.moves c.in-Cancelled.ensures.says c.in-Cancelled.ensures.held
 
-pub returns-in-Cancelled-clause-kept : goal.returns-in-Cancelled-clause-kept
-returns-in-Cancelled-clause-kept g c =
-    let new = is_new c.self.inside.ledger c.number-request.result c.args.pass.now.pass.number c.has_arrived.result c.number-request.ensures.number c.has_arrived.ensures.arrived c.if-has_arrived.false in
-    kept_refused (opened c.legal_histories_are_in_order.ensures).statuses c.self.inside.desk.desk c.hear-found.new.desk.desk c.self.inside.ledger c.self.invariant c.hear-found.ensures.after.served c.hear-found.ensures.same.more (hears_quiet c.args.pass.now.pass c.hear-found.new.pass.pass c.self.inside.desk.desk c.hear-found.new.desk.desk c.hear-found.result c.hear-found.ensures.answer) c.args.pass.now.pass.number c.hear-found.new.pass.pass.number c.hear-found.ensures.same.number new
-    c.hand.new.desk.desk c.in-Cancelled.ensures.moves c.in-Cancelled.ensures.says c.in-Cancelled.ensures.held
-
-pub returns-in-Cancelled-clause-entered : goal.returns-in-Cancelled-clause-entered
-returns-in-Cancelled-clause-entered g c =
-    let new = is_new c.self.inside.ledger c.number-request.result c.args.pass.now.pass.number c.has_arrived.result c.number-request.ensures.number c.has_arrived.ensures.arrived c.if-has_arrived.false in
-    stays_out (opened c.legal_histories_are_in_order.ensures).statuses c.self.inside.desk.desk c.self.inside.ledger c.self.invariant c.args.pass.now.pass.number c.hand.new.pass.pass.entered new c.in-Cancelled.ensures.entered
+pub returns-in-Cancelled-clause-same : goal.returns-in-Cancelled-clause-same
+returns-in-Cancelled-clause-same g c = record {
+  gate = search rules;
+  more = subst (λ (v : BookView). KnowsMore v.desk.desk.knows c.hand.new.desk.desk.knows) c.self.view_is
+      (more_then c.self.inside.desk.desk.knows c.hear-found.new.desk.desk.knows c.hand.new.desk.desk.knows c.hear-found.ensures.same.more c.in-Cancelled.ensures.moves.more);
+  kept = let new = is_new c.self.inside.ledger c.number-request.result c.args.pass.now.pass.number c.has_arrived.result c.number-request.ensures.number c.has_arrived.ensures.arrived c.if-has_arrived.false in
+      kept_refused (opened c.legal_histories_are_in_order.ensures).statuses c.self.inside.desk.desk c.hear-found.new.desk.desk c.self.inside.ledger c.self.invariant c.hear-found.ensures.after.served c.hear-found.ensures.same.more (hears_quiet c.args.pass.now.pass c.hear-found.new.pass.pass c.self.inside.desk.desk c.hear-found.new.desk.desk c.hear-found.result c.hear-found.ensures.answer) c.args.pass.now.pass.number c.hear-found.new.pass.pass.number c.hear-found.ensures.same.number new
+      c.hand.new.desk.desk c.in-Cancelled.ensures.moves c.in-Cancelled.ensures.says c.in-Cancelled.ensures.held;
+}
 
 pub invariant_of-self-in-Entered : goal.invariant_of-self-in-Entered
 invariant_of-self-in-Entered g c =
@@ -136,11 +160,15 @@ invariant_of-self-in-Entered g c =
     kept_arrived (opened c.legal_histories_are_in_order.ensures).statuses c.self.inside.desk.desk c.hear-found.new.desk.desk c.self.inside.ledger c.self.invariant c.hear-found.ensures.after.served c.hear-found.ensures.same.more (hears_quiet c.args.pass.now.pass c.hear-found.new.pass.pass c.self.inside.desk.desk c.hear-found.new.desk.desk c.hear-found.result c.hear-found.ensures.answer) c.args.pass.now.pass.number c.hear-found.new.pass.pass.number c.hear-found.ensures.same.number new
     c.hand.new.desk.desk c.enter.new.self (events.Enter c.number-request.result c.shortest-queue.result) c.number-request.ensures.number c.enter.ensures.log c.enter.ensures.sound c.in-Entered.ensures.moves c.in-Entered.ensures.says c.in-Entered.ensures.held (λ e. cc)
 
-pub returns-in-Entered-clause-kept : goal.returns-in-Entered-clause-kept
-returns-in-Entered-clause-kept g c =
-    let new = is_new c.self.inside.ledger c.number-request.result c.args.pass.now.pass.number c.has_arrived.result c.number-request.ensures.number c.has_arrived.ensures.arrived c.if-has_arrived.false in
-    kept_arrived (opened c.legal_histories_are_in_order.ensures).statuses c.self.inside.desk.desk c.hear-found.new.desk.desk c.self.inside.ledger c.self.invariant c.hear-found.ensures.after.served c.hear-found.ensures.same.more (hears_quiet c.args.pass.now.pass c.hear-found.new.pass.pass c.self.inside.desk.desk c.hear-found.new.desk.desk c.hear-found.result c.hear-found.ensures.answer) c.args.pass.now.pass.number c.hear-found.new.pass.pass.number c.hear-found.ensures.same.number new
-    c.hand.new.desk.desk c.enter.new.self (events.Enter c.number-request.result c.shortest-queue.result) c.number-request.ensures.number c.enter.ensures.log c.enter.ensures.sound c.in-Entered.ensures.moves c.in-Entered.ensures.says c.in-Entered.ensures.held (λ e. cc)
+pub returns-in-Entered-clause-same : goal.returns-in-Entered-clause-same
+returns-in-Entered-clause-same g c = record {
+  gate = search rules;
+  more = subst (λ (v : BookView). KnowsMore v.desk.desk.knows c.hand.new.desk.desk.knows) c.self.view_is
+      (more_then c.self.inside.desk.desk.knows c.hear-found.new.desk.desk.knows c.hand.new.desk.desk.knows c.hear-found.ensures.same.more c.in-Entered.ensures.moves.more);
+  kept = let new = is_new c.self.inside.ledger c.number-request.result c.args.pass.now.pass.number c.has_arrived.result c.number-request.ensures.number c.has_arrived.ensures.arrived c.if-has_arrived.false in
+      kept_arrived (opened c.legal_histories_are_in_order.ensures).statuses c.self.inside.desk.desk c.hear-found.new.desk.desk c.self.inside.ledger c.self.invariant c.hear-found.ensures.after.served c.hear-found.ensures.same.more (hears_quiet c.args.pass.now.pass c.hear-found.new.pass.pass c.self.inside.desk.desk c.hear-found.new.desk.desk c.hear-found.result c.hear-found.ensures.answer) c.args.pass.now.pass.number c.hear-found.new.pass.pass.number c.hear-found.ensures.same.number new
+      c.hand.new.desk.desk c.enter.new.self (events.Enter c.number-request.result c.shortest-queue.result) c.number-request.ensures.number c.enter.ensures.log c.enter.ensures.sound c.in-Entered.ensures.moves c.in-Entered.ensures.says c.in-Entered.ensures.held (λ e. cc);
+}
 
 pub invariant_of-self-in-Full : goal.invariant_of-self-in-Full
 invariant_of-self-in-Full g c =
@@ -148,30 +176,32 @@ invariant_of-self-in-Full g c =
     kept_arrived (opened c.legal_histories_are_in_order.ensures).statuses c.self.inside.desk.desk c.hear-found.new.desk.desk c.self.inside.ledger c.self.invariant c.hear-found.ensures.after.served c.hear-found.ensures.same.more (hears_quiet c.args.pass.now.pass c.hear-found.new.pass.pass c.self.inside.desk.desk c.hear-found.new.desk.desk c.hear-found.result c.hear-found.ensures.answer) c.args.pass.now.pass.number c.hear-found.new.pass.pass.number c.hear-found.ensures.same.number new
     c.hand.new.desk.desk c.refuse.new.self (events.Full c.number-request.result c.shortest-queue.result) c.number-request.ensures.number c.refuse.ensures.log c.refuse.ensures.sound c.in-Full.ensures.moves c.in-Full.ensures.says c.in-Full.ensures.held (λ e. cc)
 
-pub returns-in-Full-clause-kept : goal.returns-in-Full-clause-kept
-returns-in-Full-clause-kept g c =
-    let new = is_new c.self.inside.ledger c.number-request.result c.args.pass.now.pass.number c.has_arrived.result c.number-request.ensures.number c.has_arrived.ensures.arrived c.if-has_arrived.false in
-    kept_arrived (opened c.legal_histories_are_in_order.ensures).statuses c.self.inside.desk.desk c.hear-found.new.desk.desk c.self.inside.ledger c.self.invariant c.hear-found.ensures.after.served c.hear-found.ensures.same.more (hears_quiet c.args.pass.now.pass c.hear-found.new.pass.pass c.self.inside.desk.desk c.hear-found.new.desk.desk c.hear-found.result c.hear-found.ensures.answer) c.args.pass.now.pass.number c.hear-found.new.pass.pass.number c.hear-found.ensures.same.number new
-    c.hand.new.desk.desk c.refuse.new.self (events.Full c.number-request.result c.shortest-queue.result) c.number-request.ensures.number c.refuse.ensures.log c.refuse.ensures.sound c.in-Full.ensures.moves c.in-Full.ensures.says c.in-Full.ensures.held (λ e. cc)
+pub returns-in-Full-clause-same : goal.returns-in-Full-clause-same
+returns-in-Full-clause-same g c = record {
+  gate = search rules;
+  more = subst (λ (v : BookView). KnowsMore v.desk.desk.knows c.hand.new.desk.desk.knows) c.self.view_is
+      (more_then c.self.inside.desk.desk.knows c.hear-found.new.desk.desk.knows c.hand.new.desk.desk.knows c.hear-found.ensures.same.more c.in-Full.ensures.moves.more);
+  kept = let new = is_new c.self.inside.ledger c.number-request.result c.args.pass.now.pass.number c.has_arrived.result c.number-request.ensures.number c.has_arrived.ensures.arrived c.if-has_arrived.false in
+      kept_arrived (opened c.legal_histories_are_in_order.ensures).statuses c.self.inside.desk.desk c.hear-found.new.desk.desk c.self.inside.ledger c.self.invariant c.hear-found.ensures.after.served c.hear-found.ensures.same.more (hears_quiet c.args.pass.now.pass c.hear-found.new.pass.pass c.self.inside.desk.desk c.hear-found.new.desk.desk c.hear-found.result c.hear-found.ensures.answer) c.args.pass.now.pass.number c.hear-found.new.pass.pass.number c.hear-found.ensures.same.number new
+      c.hand.new.desk.desk c.refuse.new.self (events.Full c.number-request.result c.shortest-queue.result) c.number-request.ensures.number c.refuse.ensures.log c.refuse.ensures.sound c.in-Full.ensures.moves c.in-Full.ensures.says c.in-Full.ensures.held (λ e. cc);
+}
 
-pub returns-then-has_arrived-clause-kept : goal.returns-then-has_arrived-clause-kept
-returns-then-has_arrived-clause-kept g c = kept_quiet c.self.inside.desk.desk c.hear-found.new.desk.desk c.self.inside.ledger c.self.invariant c.hear-found.ensures.after.served c.hear-found.ensures.same.more (hears_quiet c.args.pass.now.pass c.hear-found.new.pass.pass c.self.inside.desk.desk c.hear-found.new.desk.desk c.hear-found.result c.hear-found.ensures.answer)
+pub returns-then-has_arrived-clause-same : goal.returns-then-has_arrived-clause-same
+returns-then-has_arrived-clause-same g c = record {
+  gate = search rules;
+  more = search rules;
+  kept = kept_quiet c.self.inside.desk.desk c.hear-found.new.desk.desk c.self.inside.ledger c.self.invariant c.hear-found.ensures.after.served c.hear-found.ensures.same.more (hears_quiet c.args.pass.now.pass c.hear-found.new.pass.pass c.self.inside.desk.desk c.hear-found.new.desk.desk c.hear-found.result c.hear-found.ensures.answer);
+}
 
-pub returns-in-Some-Cancelled-clause-kept : goal.returns-in-Some-Cancelled-clause-kept
-returns-in-Some-Cancelled-clause-kept g c = kept_quiet c.self.inside.desk.desk c.hear-found.new.desk.desk c.self.inside.ledger c.self.invariant c.hear-found.ensures.after.served c.hear-found.ensures.same.more (hears_quiet c.args.pass.now.pass c.hear-found.new.pass.pass c.self.inside.desk.desk c.hear-found.new.desk.desk c.hear-found.result c.hear-found.ensures.answer)
+pub returns-in-Some-Cancelled-clause-same : goal.returns-in-Some-Cancelled-clause-same
+returns-in-Some-Cancelled-clause-same g c = record {
+  gate = search rules;
+  more = search rules;
+  kept = kept_quiet c.self.inside.desk.desk c.hear-found.new.desk.desk c.self.inside.ledger c.self.invariant c.hear-found.ensures.after.served c.hear-found.ensures.same.more (hears_quiet c.args.pass.now.pass c.hear-found.new.pass.pass c.self.inside.desk.desk c.hear-found.new.desk.desk c.hear-found.result c.hear-found.ensures.answer);
+}
 
 pub invariant_of-self : goal.invariant_of-self
 invariant_of-self g c = kept_quiet c.self.inside.desk.desk c.hear-found.new.desk.desk c.self.inside.ledger c.self.invariant c.hear-found.ensures.after.served c.hear-found.ensures.same.more (hears_quiet c.args.pass.now.pass c.hear-found.new.pass.pass c.self.inside.desk.desk c.hear-found.new.desk.desk c.hear-found.result c.hear-found.ensures.answer)
 
 pub invariant_of-self-in-Some-Cancelled : goal.invariant_of-self-in-Some-Cancelled
 invariant_of-self-in-Some-Cancelled g c = kept_quiet c.self.inside.desk.desk c.hear-found.new.desk.desk c.self.inside.ledger c.self.invariant c.hear-found.ensures.after.served c.hear-found.ensures.same.more (hears_quiet c.args.pass.now.pass c.hear-found.new.pass.pass c.self.inside.desk.desk c.hear-found.new.desk.desk c.hear-found.result c.hear-found.ensures.answer)
-
-pub returns-in-Entered-clause-cancelled_seen : goal.returns-in-Entered-clause-cancelled_seen
-returns-in-Entered-clause-cancelled_seen g c = λ cancelled _.
-    let heard = heard_own (record { pass = c.args.pass.now.pass; desk = c.self.inside.desk.desk }) (record { pass = c.hear-found.new.pass.pass; desk = c.hear-found.new.desk.desk }) c.hear-found.result c.hear-found.ensures.answer in
-    let seen : c.hear-found.result ≡ Some Cancelled = sym heard ∙ (sym (c.in-Entered.ensures.told_entering refl) ∙ cancelled) in
-    let other : c.hear-found.result ≢ Some Cancelled = (search rules) in
-    absurd (other seen)
-
-pub returns-in-Full-clause-cancelled_seen : goal.returns-in-Full-clause-cancelled_seen
-returns-in-Full-clause-cancelled_seen g c = λ cancelled _. absurd (let bad = sym c.in-Full.ensures.told.1 ∙ cancelled in cc)

@@ -1,21 +1,33 @@
 -- What the turns appended, and where they stopped.
-use Rattle.std.proofs.Common.{inl, inr, ◌∙◌, arith}
+use Rattle.std.proofs.Common.{rules, inl, inr, ◌∙◌, arith}
 use Rattle.apf_history.specs.declared.events.Event.TheVariants as events
 use Rattle.apf_book.proofs.Knowing.{more_then}
 use Rattle.apf_book.proofs.Stopped.{stopped}
 use Rattle.apf_book.proofs.Turning.{serves_dispatch, serves_strike, longer, misses_then}
 use Rattle.apf_book.proofs.book.Book.dispatch.Goals as goal
 
-pub returns-in-None-turn-clause-more : goal.returns-in-None-turn-clause-more
-returns-in-None-turn-clause-more g c = more_then c.args.self.now.desk.desk.knows c.loop.self.desk.desk.knows c.turn.new.self.desk.desk.knows c.loop.invariant.more c.in-None-turn.ensures.more
+pub returns-in-None-turn-clause-same : goal.returns-in-None-turn-clause-same
+returns-in-None-turn-clause-same g c = record {
+  gate = search rules;
+  more = more_then c.args.self.now.desk.desk.knows c.loop.self.desk.desk.knows c.turn.new.self.desk.desk.knows c.loop.invariant.more c.in-None-turn.ensures.same.more;
+  kept = search rules;
+}
 
-pub returns-in-Some-NoRoom-clause-stops : goal.returns-in-Some-NoRoom-clause-stops
-returns-in-Some-NoRoom-clause-stops g c =
-    let turned = rw c.in-Some-NoRoom.field-0-is at c.in-Some-NoRoom.ensures.turns in
-    inr (misses_then c.turn.new.self.ledger c.args.self.now.desk.desk.knows c.loop.self.desk.desk.knows c.turn.new.self.desk.desk.knows c.loop.invariant.more turned.1)
+pub returns-in-Some-NoRoom-clause-answer : goal.returns-in-Some-NoRoom-clause-answer
+returns-in-Some-NoRoom-clause-answer g c = record {
+  log = search rules;
+  stops = let turned = rw c.in-Some-NoRoom.field-0-is at c.in-Some-NoRoom.ensures.turns in
+      inr (misses_then c.turn.new.self.ledger c.args.self.now.desk.desk.knows c.loop.self.desk.desk.knows c.turn.new.self.desk.desk.knows c.loop.invariant.more turned.1);
+  stopped = let turned = rw c.in-Some-NoRoom.field-0-is at c.in-Some-NoRoom.ensures.turns in
+      stopped c.turn.new.self.ledger c.loop.self.desk.desk.knows c.turn.new.self.desk.desk.knows c.in-Some-NoRoom.ensures.same.more (inr turned.1);
+}
 
-pub returns-in-Some-NoRoom-clause-more : goal.returns-in-Some-NoRoom-clause-more
-returns-in-Some-NoRoom-clause-more g c = more_then c.args.self.now.desk.desk.knows c.loop.self.desk.desk.knows c.turn.new.self.desk.desk.knows c.loop.invariant.more c.in-Some-NoRoom.ensures.more
+pub returns-in-Some-NoRoom-clause-same : goal.returns-in-Some-NoRoom-clause-same
+returns-in-Some-NoRoom-clause-same g c = record {
+  gate = search rules;
+  more = more_then c.args.self.now.desk.desk.knows c.loop.self.desk.desk.knows c.turn.new.self.desk.desk.knows c.loop.invariant.more c.in-Some-NoRoom.ensures.same.more;
+  kept = search rules;
+}
 
 pub loop-preserved-in-Some-Dispatched : goal.loop-preserved-in-Some-Dispatched
 loop-preserved-in-Some-Dispatched g c =
@@ -23,9 +35,9 @@ loop-preserved-in-Some-Dispatched g c =
     let one = longer c.loop.self.ledger c.turn.new.self.ledger (events.Dispatch turned.0 turned.1) turned.2 in
     record {
       iterator = search;
-      gate = c.in-Some-Dispatched.ensures.gate ∙ c.loop.invariant.gate;
+      gate = c.in-Some-Dispatched.ensures.same.gate ∙ c.loop.invariant.gate;
       serves = serves_dispatch c.args.self.now.ledger c.loop.self.ledger c.turn.new.self.ledger c.loop.count turned.0 turned.1 c.loop.invariant.serves turned.2;
-      more = more_then c.args.self.now.desk.desk.knows c.loop.self.desk.desk.knows c.turn.new.self.desk.desk.knows c.loop.invariant.more c.in-Some-Dispatched.ensures.more;
+      more = more_then c.args.self.now.desk.desk.knows c.loop.self.desk.desk.knows c.turn.new.self.desk.desk.knows c.loop.invariant.more c.in-Some-Dispatched.ensures.same.more;
       within = let before = c.loop.invariant.within in omega arith;
     }
 
@@ -35,9 +47,9 @@ loop-preserved-in-Some-Struck g c =
     let one = longer c.loop.self.ledger c.turn.new.self.ledger (events.Strike turned.0 turned.1) turned.2 in
     record {
       iterator = search;
-      gate = c.in-Some-Struck.ensures.gate ∙ c.loop.invariant.gate;
+      gate = c.in-Some-Struck.ensures.same.gate ∙ c.loop.invariant.gate;
       serves = serves_strike c.args.self.now.ledger c.loop.self.ledger c.turn.new.self.ledger c.loop.count turned.0 turned.1 c.loop.invariant.serves turned.2;
-      more = more_then c.args.self.now.desk.desk.knows c.loop.self.desk.desk.knows c.turn.new.self.desk.desk.knows c.loop.invariant.more c.in-Some-Struck.ensures.more;
+      more = more_then c.args.self.now.desk.desk.knows c.loop.self.desk.desk.knows c.turn.new.self.desk.desk.knows c.loop.invariant.more c.in-Some-Struck.ensures.same.more;
       within = let before = c.loop.invariant.within in omega arith;
     }
 
@@ -46,17 +58,15 @@ loop-preserved g c =
     let turned = rw c.in-Some-Raced.field-0-is at c.in-Some-Raced.ensures.turns in
     record {
       iterator = search;
-      gate = c.in-Some-Raced.ensures.gate ∙ c.loop.invariant.gate;
+      gate = c.in-Some-Raced.ensures.same.gate ∙ c.loop.invariant.gate;
       serves = rw turned c.loop.invariant.serves;
-      more = more_then c.args.self.now.desk.desk.knows c.loop.self.desk.desk.knows c.turn.new.self.desk.desk.knows c.loop.invariant.more c.in-Some-Raced.ensures.more;
+      more = more_then c.args.self.now.desk.desk.knows c.loop.self.desk.desk.knows c.turn.new.self.desk.desk.knows c.loop.invariant.more c.in-Some-Raced.ensures.same.more;
       within = rw turned c.loop.invariant.within;
     }
 
-pub returns-in-None-turn-clause-stopped : goal.returns-in-None-turn-clause-stopped
-returns-in-None-turn-clause-stopped g c =
-    stopped c.turn.new.self.ledger c.loop.self.desk.desk.knows c.turn.new.self.desk.desk.knows c.in-None-turn.ensures.more (inl c.in-None-turn.ensures.turns.1)
-
-pub returns-in-Some-NoRoom-clause-stopped : goal.returns-in-Some-NoRoom-clause-stopped
-returns-in-Some-NoRoom-clause-stopped g c =
-    let turned = rw c.in-Some-NoRoom.field-0-is at c.in-Some-NoRoom.ensures.turns in
-    stopped c.turn.new.self.ledger c.loop.self.desk.desk.knows c.turn.new.self.desk.desk.knows c.in-Some-NoRoom.ensures.more (inr turned.1)
+pub returns-in-None-turn-clause-answer : goal.returns-in-None-turn-clause-answer
+returns-in-None-turn-clause-answer g c = record {
+  log = search rules;
+  stops = search rules;
+  stopped = stopped c.turn.new.self.ledger c.loop.self.desk.desk.knows c.turn.new.self.desk.desk.knows c.in-None-turn.ensures.same.more (inl c.in-None-turn.ensures.turns.1);
+}

@@ -1,5 +1,5 @@
 -- One turn: the chosen head, what was tried with it, and what the log has of that.
-use Rattle.std.proofs.Common.{[], ◌∷◌, refl, ap, ◌∙◌}
+use Rattle.std.proofs.Common.{rules, [], ◌∷◌, refl, ap, ◌∙◌}
 use Rattle.apf_history.specs.declared.events.Event.TheVariants as events
 use Rattle.apf_model.specs.History.{waiting}
 use Rattle.apf_book.specs.BookView.{BookView}
@@ -22,20 +22,26 @@ invariant_of-self-in-NoRoom g c =
     kept_head (opened c.legal_histories_are_in_order.ensures).statuses c.self.inside.desk.desk c.serve.new.desk.desk c.self.inside.ledger c.in-Some.chosen.queue c.in-Some.chosen.request c.self.invariant
     (first_contains (waiting c.self.inside.ledger.history c.in-Some.chosen.queue) c.in-Some.chosen.request c.in-Some.ensures.next.is_first) c.in-NoRoom.ensures.moves c.in-NoRoom.ensures.says c.in-NoRoom.ensures.holds_none
 
-pub returns-in-NoRoom-clause-kept : goal.returns-in-NoRoom-clause-kept
-returns-in-NoRoom-clause-kept g c =
-    kept_head (opened c.legal_histories_are_in_order.ensures).statuses c.self.inside.desk.desk c.serve.new.desk.desk c.self.inside.ledger c.in-Some.chosen.queue c.in-Some.chosen.request c.self.invariant
-    (first_contains (waiting c.self.inside.ledger.history c.in-Some.chosen.queue) c.in-Some.chosen.request c.in-Some.ensures.next.is_first) c.in-NoRoom.ensures.moves c.in-NoRoom.ensures.says c.in-NoRoom.ensures.holds_none
+pub returns-in-NoRoom-clause-same : goal.returns-in-NoRoom-clause-same
+returns-in-NoRoom-clause-same g c = record {
+  gate = search rules;
+  more = search rules;
+  kept = kept_head (opened c.legal_histories_are_in_order.ensures).statuses c.self.inside.desk.desk c.serve.new.desk.desk c.self.inside.ledger c.in-Some.chosen.queue c.in-Some.chosen.request c.self.invariant
+      (first_contains (waiting c.self.inside.ledger.history c.in-Some.chosen.queue) c.in-Some.chosen.request c.in-Some.ensures.next.is_first) c.in-NoRoom.ensures.moves c.in-NoRoom.ensures.says c.in-NoRoom.ensures.holds_none;
+}
 
 pub invariant_of-self-in-Raced : goal.invariant_of-self-in-Raced
 invariant_of-self-in-Raced g c =
     kept_head (opened c.legal_histories_are_in_order.ensures).statuses c.self.inside.desk.desk c.serve.new.desk.desk c.self.inside.ledger c.in-Some.chosen.queue c.in-Some.chosen.request c.self.invariant
     (first_contains (waiting c.self.inside.ledger.history c.in-Some.chosen.queue) c.in-Some.chosen.request c.in-Some.ensures.next.is_first) c.in-Raced.ensures.moves c.in-Raced.ensures.says c.in-Raced.ensures.holds_none
 
-pub returns-in-Raced-clause-kept : goal.returns-in-Raced-clause-kept
-returns-in-Raced-clause-kept g c =
-    kept_head (opened c.legal_histories_are_in_order.ensures).statuses c.self.inside.desk.desk c.serve.new.desk.desk c.self.inside.ledger c.in-Some.chosen.queue c.in-Some.chosen.request c.self.invariant
-    (first_contains (waiting c.self.inside.ledger.history c.in-Some.chosen.queue) c.in-Some.chosen.request c.in-Some.ensures.next.is_first) c.in-Raced.ensures.moves c.in-Raced.ensures.says c.in-Raced.ensures.holds_none
+pub returns-in-Raced-clause-same : goal.returns-in-Raced-clause-same
+returns-in-Raced-clause-same g c = record {
+  gate = search rules;
+  more = search rules;
+  kept = kept_head (opened c.legal_histories_are_in_order.ensures).statuses c.self.inside.desk.desk c.serve.new.desk.desk c.self.inside.ledger c.in-Some.chosen.queue c.in-Some.chosen.request c.self.invariant
+      (first_contains (waiting c.self.inside.ledger.history c.in-Some.chosen.queue) c.in-Some.chosen.request c.in-Some.ensures.next.is_first) c.in-Raced.ensures.moves c.in-Raced.ensures.says c.in-Raced.ensures.holds_none;
+}
 
 pub returns-in-Dispatched-clause-turns : goal.returns-in-Dispatched-clause-turns
 returns-in-Dispatched-clause-turns g c =
@@ -50,17 +56,23 @@ invariant_of-self g c =
     kept_logged c.self.inside.desk.desk c.serve.new.desk.desk c.self.inside.ledger c.dispatch.new.self (events.Dispatch c.in-Some.chosen.request c.in-Some.chosen.queue) c.self.invariant c.dispatch.ensures.log c.dispatch.ensures.sound
     c.in-Dispatched.ensures.moves c.in-Dispatched.ensures.says c.in-Dispatched.ensures.holds_none (λ e. absurd (cc))
 
-pub returns-in-Dispatched-clause-kept : goal.returns-in-Dispatched-clause-kept
-returns-in-Dispatched-clause-kept g c =
-    kept_logged c.self.inside.desk.desk c.serve.new.desk.desk c.self.inside.ledger c.dispatch.new.self (events.Dispatch c.in-Some.chosen.request c.in-Some.chosen.queue) c.self.invariant c.dispatch.ensures.log c.dispatch.ensures.sound
-    c.in-Dispatched.ensures.moves c.in-Dispatched.ensures.says c.in-Dispatched.ensures.holds_none (λ e. absurd (cc))
+pub returns-in-Dispatched-clause-same : goal.returns-in-Dispatched-clause-same
+returns-in-Dispatched-clause-same g c = record {
+  gate = search rules;
+  more = search rules;
+  kept = kept_logged c.self.inside.desk.desk c.serve.new.desk.desk c.self.inside.ledger c.dispatch.new.self (events.Dispatch c.in-Some.chosen.request c.in-Some.chosen.queue) c.self.invariant c.dispatch.ensures.log c.dispatch.ensures.sound
+      c.in-Dispatched.ensures.moves c.in-Dispatched.ensures.says c.in-Dispatched.ensures.holds_none (λ e. absurd (cc));
+}
 
 pub invariant_of-self-in-Struck : goal.invariant_of-self-in-Struck
 invariant_of-self-in-Struck g c =
     kept_logged c.self.inside.desk.desk c.serve.new.desk.desk c.self.inside.ledger c.strike.new.self (events.Strike c.in-Some.chosen.request c.in-Some-strike._queue) c.self.invariant c.in-Some-strike.ensures.some c.in-Some-strike.ensures.sound
     c.in-Struck.ensures.moves c.in-Struck.ensures.says c.in-Struck.ensures.holds_none (λ e. c.in-Struck.ensures.struck refl)
 
-pub returns-in-Some-strike-clause-kept : goal.returns-in-Some-strike-clause-kept
-returns-in-Some-strike-clause-kept g c =
-    kept_logged c.self.inside.desk.desk c.serve.new.desk.desk c.self.inside.ledger c.strike.new.self (events.Strike c.in-Some.chosen.request c.in-Some-strike._queue) c.self.invariant c.in-Some-strike.ensures.some c.in-Some-strike.ensures.sound
-    c.in-Struck.ensures.moves c.in-Struck.ensures.says c.in-Struck.ensures.holds_none (λ e. c.in-Struck.ensures.struck refl)
+pub returns-in-Some-strike-clause-same : goal.returns-in-Some-strike-clause-same
+returns-in-Some-strike-clause-same g c = record {
+  gate = search rules;
+  more = search rules;
+  kept = kept_logged c.self.inside.desk.desk c.serve.new.desk.desk c.self.inside.ledger c.strike.new.self (events.Strike c.in-Some.chosen.request c.in-Some-strike._queue) c.self.invariant c.in-Some-strike.ensures.some c.in-Some-strike.ensures.sound
+      c.in-Struck.ensures.moves c.in-Struck.ensures.says c.in-Struck.ensures.holds_none (λ e. c.in-Struck.ensures.struck refl);
+}

@@ -1,5 +1,5 @@
 -- The ledger is the opening one, in which each request costs what was given.
-use Rattle.std.proofs.Common.{◌∙◌, ap, length, sym, ℕ, List}
+use Rattle.std.proofs.Common.{rules, ◌≡◌, ◌∙◌, ap, length, sym, ℕ, List}
 use Rattle.std.proofs.lemmas.List.{length-map}
 use Rattle.apf_model.specs.declared.config.Ask.{Ask}
 use Rattle.apf_book.specs.LedgerView.{LedgerView}
@@ -8,13 +8,18 @@ use Rattle.apf_book.proofs.Charging.{began_with, kept_new}
 use Rattle.apf_book.proofs.Stopped.{begins_stopped}
 use Rattle.apf_book.proofs.book.Book.with_costs.Goals as goal
 
-pub returns-clause-ledger : goal.returns-clause-ledger
-returns-clause-ledger g c = began_with c.from_slice.result (λ x. x.items) (opening_ledger_with c.args.config.now c.args.asks.now) _ _ c.in_ok-ledger.ensures.opening c.from_slice.ensures.items
-
-pub returns-clause-stopped : goal.returns-clause-stopped
-returns-clause-stopped g c = begins_stopped c.in_ok-ledger.ledger c.args.desk.desk.knows (ap (λ (v : LedgerView). v.history) (returns-clause-ledger g c))
+pub returns : goal.returns
+returns g c =
+    let ledger : c.in_ok-ledger.ledger ≡ opening_ledger_with c.args.config.now c.args.asks.now c.args.costs.now = began_with c.from_slice.result (λ x. x.items) (opening_ledger_with c.args.config.now c.args.asks.now) _ _ c.in_ok-ledger.ensures.opening c.from_slice.ensures.items in
+    record {
+      desk = search rules;
+      ledger = ledger;
+      stopped = begins_stopped c.in_ok-ledger.ledger c.args.desk.desk.knows (ap (λ (v : LedgerView). v.history) ledger);
+      settings = search rules;
+      fault = search rules;
+    }
 
 pub invariant_of-result : goal.invariant_of-result
 invariant_of-result g c =
-    kept_new c.args.desk.desk c.in_ok-ledger.ledger c.args.config.now c.args.asks.now c.args.costs.now (returns-clause-ledger g c) c.in_ok-ledger.ensures.sound c.requires.fresh
-    (c.requires.one_cost_each ∙ (sym (length-map c.args.asks.now (λ (a : Ask). a.width)) ∙ ap (λ (l : List ℕ). length l) c.requires.widths)) c.requires.has_queues c.requires.batch
+    kept_new c.args.desk.desk c.in_ok-ledger.ledger c.args.config.now c.args.asks.now c.args.costs.now (returns g c).ledger c.in_ok-ledger.ensures.sound c.requires.begins.fresh
+    (c.requires.costs.one_cost_each ∙ (sym (length-map c.args.asks.now (λ (a : Ask). a.width)) ∙ ap (λ (l : List ℕ). length l) c.requires.begins.widths)) c.requires.begins.has_queues c.requires.begins.batch

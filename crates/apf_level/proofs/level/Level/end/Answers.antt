@@ -28,33 +28,34 @@ counted k gate n ps ds own is same all =
     (whole, omega arith)
 
 pub overflow_cast-count : goal.overflow_cast-count
-overflow_cast-count g c = let few = (counted g.K.Naming.level c.self.inside.gate c.len-count.result c.in_ok-passes.passes.items c.args.dones.items c.self.invariant (search rules) c.in_ok-passes.ensures.same c.requires.all_dones).1 in omega arith
+overflow_cast-count g c = let few = (counted g.K.Naming.level c.self.inside.gate c.len-count.result c.in_ok-passes.passes.items c.args.dones.items c.self.invariant (search rules) c.in_ok-passes.ensures.same c.requires.all_passes).1 in omega arith
 
-pub finish-requires-clause-own_passes : goal.finish-requires-clause-own_passes
-finish-requires-clause-own_passes g c κs within =
-    all_same c.args.dones.items c.in_ok-passes.passes.items (sym c.in_ok-passes.ensures.same) (λ (o : Outcome). o.gate ≡ g.K.Naming.level.gate) c.requires.own
-
-pub finish-requires-clause-all_passes : goal.finish-requires-clause-all_passes
-finish-requires-clause-all_passes g c κs within = as_many c.in_ok-passes.passes.items c.args.dones.items (length g.K.Naming.level.gate.shape.widths) c.in_ok-passes.ensures.same c.requires.all_dones
+pub finish-requires-clause-all : goal.finish-requires-clause-all
+finish-requires-clause-all g c κs within = record {
+  own_passes = all_same c.args.dones.items c.in_ok-passes.passes.items (sym c.in_ok-passes.ensures.same) (λ (o : Outcome). o.gate ≡ g.K.Naming.level.gate) c.requires.own_passes;
+  own_stations = c.requires.own_stations;
+  all_passes = as_many c.in_ok-passes.passes.items c.args.dones.items (length g.K.Naming.level.gate.shape.widths) c.in_ok-passes.ensures.same c.requires.all_passes;
+  all_stations = c.requires.all_stations;
+}
 
 pub read-requires-clause-count : goal.read-requires-clause-count
-read-requires-clause-count g c = (counted g.K.Naming.level c.self.inside.gate c.len-count.result c.in_ok-passes.passes.items c.args.dones.items c.self.invariant (search rules) c.in_ok-passes.ensures.same c.requires.all_dones).0 ∙ sym c.in_ok-words.ensures.count
+read-requires-clause-count g c = (counted g.K.Naming.level c.self.inside.gate c.len-count.result c.in_ok-passes.passes.items c.args.dones.items c.self.invariant (search rules) c.in_ok-passes.ensures.same c.requires.all_passes).0 ∙ sym c.in_ok-words.ensures.finished.count
 
 pub read-requires-clause-few : goal.read-requires-clause-few
-read-requires-clause-few g c = (counted g.K.Naming.level c.self.inside.gate c.len-count.result c.in_ok-passes.passes.items c.args.dones.items c.self.invariant (search rules) c.in_ok-passes.ensures.same c.requires.all_dones).1
+read-requires-clause-few g c = (counted g.K.Naming.level c.self.inside.gate c.len-count.result c.in_ok-passes.passes.items c.args.dones.items c.self.invariant (search rules) c.in_ok-passes.ensures.same c.requires.all_passes).1
 
 pub read-requires-clause-decided : goal.read-requires-clause-decided
-read-requires-clause-decided g c = λ r low. c.in_ok-words.ensures.ended.all_decided r (subst (λ n. r < n) (counted g.K.Naming.level c.self.inside.gate c.len-count.result c.in_ok-passes.passes.items c.args.dones.items c.self.invariant (search rules) c.in_ok-passes.ensures.same c.requires.all_dones).0 low)
+read-requires-clause-decided g c = λ r low. c.in_ok-words.ensures.finished.ended.all_decided r (subst (λ n. r < n) (counted g.K.Naming.level c.self.inside.gate c.len-count.result c.in_ok-passes.passes.items c.args.dones.items c.self.invariant (search rules) c.in_ok-passes.ensures.same c.requires.all_passes).0 low)
 
 pub returns-clause-ended : goal.returns-clause-ended
 returns-clause-ended g c =
     let w = c.in_ok-words.words in
     let decisions : List Decision = c.in_ok-decisions.decisions.items in
     ended_same g.K.Naming.level w.level c.level.result (decision_in w) (slice_get decisions) _ c.in_ok-passes.passes.items c.args.dones.items c.args.stations.items c.in_ok-passes.ensures.same
-    c.level.ensures (same_map w decisions c.in_ok-decisions.ensures.decisions) c.in_ok-words.ensures.ended
+    c.level.ensures (same_map w decisions c.in_ok-decisions.ensures.decisions) c.in_ok-words.ensures.finished.ended
 
 pub returns-clause-count : goal.returns-clause-count
-returns-clause-count g c = c.in_ok-decisions.ensures.count ∙ (counted g.K.Naming.level c.self.inside.gate c.len-count.result c.in_ok-passes.passes.items c.args.dones.items c.self.invariant (search rules) c.in_ok-passes.ensures.same c.requires.all_dones).0
+returns-clause-count g c = c.in_ok-decisions.ensures.count ∙ (counted g.K.Naming.level c.self.inside.gate c.len-count.result c.in_ok-passes.passes.items c.args.dones.items c.self.invariant (search rules) c.in_ok-passes.ensures.same c.requires.all_passes).0
 
 pub returns-clause-sums : goal.returns-clause-sums
 returns-clause-sums g c =

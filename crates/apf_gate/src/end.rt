@@ -104,7 +104,11 @@ impl<A: Allocator> Gate<A> {
         let Desk { seat, held: _ } = desk;
         let seat = self.gather_passes(seat, passes);
         let seat = self.gather_stations(seat, stations);
-        let Gate { board, gauge: _ } = self;
+        let Gate {
+            board,
+            gauge: _,
+            sleepers: _,
+        } = self;
         Ok(read(board.close_with(seat), count, decisions))
     }
 

@@ -12,6 +12,7 @@ use crate::ticket::Ticket;
 use apf_words::LevelWord;
 use std::alloc::Allocator;
 use std::marker::Model;
+use std::sync::atomic::AtomicU64;
 
 /// The words of a level: the level word, and a decision word for each request.
 ///
@@ -20,6 +21,8 @@ use std::marker::Model;
 pub struct Gate<A: Allocator> {
     pub(crate) board: Board<A>,
     pub(crate) gauge: Gauge<A>,
+    // How many sleep until a request is decided. No promise rests on it.
+    pub(crate) sleepers: AtomicU64,
 }
 
 impl<A: Allocator> Model for Gate<A> {

@@ -83,7 +83,11 @@ impl<A: Allocator> Gate<A> {
         let Desk { seat, held: _ } = desk;
         let seat = self.gather_passes(seat, passes);
         let seat = self.gather_stations(seat, stations);
-        let Gate { board, gauge: _ } = self;
+        let Gate {
+            board,
+            gauge: _,
+            sleepers: _,
+        } = self;
         let words = read(board.close_with(seat), count, decisions);
         counts.add_all(counts_now(words.decisions()));
         Ok(words.with_counts(counts))

@@ -24,6 +24,7 @@ use apf_model::{Response, every_schedule_is_safe, every_world_adds_up};
 use apf_words::{LevelWord, MAX_LIMIT, MAX_REQUESTS, MAX_STATIONS, MAX_WIDTH};
 use std::alloc::{AllocError, Allocator};
 use std::snapshot::Snapshot;
+use std::sync::atomic::AtomicU64;
 
 /// How many numbers of requests a gate has whose slots are used again.
 const MAX_NUMBERS: u128 = 37_778_931_862_957_161_709_568;
@@ -167,7 +168,15 @@ impl<A: Allocator + Copy> Gate<A> {
             stations,
         };
         let (board, seat) = Board::of_words(alloc, words.as_slice(), &Snapshot::of(&gauge))?;
-        Ok((Gate { board, gauge }, seat))
+        let sleepers = AtomicU64::new(0);
+        Ok((
+            Gate {
+                board,
+                gauge,
+                sleepers,
+            },
+            seat,
+        ))
     }
 
     // A Pass for each request, off the first seat.

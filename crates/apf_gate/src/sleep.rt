@@ -6,6 +6,7 @@ use crate::gate::{Gate, mark, word_of};
 use apf_words::undecided;
 use std::alloc::Allocator;
 use std::sync::Wait;
+use std::sync::atomic::Ordering;
 
 impl<A: Allocator> Gate<A> {
     /// Sleeps while the request is undecided. It is for a request that waits, or whose seats the Desk holds:
@@ -18,14 +19,19 @@ impl<A: Allocator> Gate<A> {
         requires is_request { IsTicket self.now.shape request }
     {
         let low = undecided(mark(request)) % 4_294_967_296;
+        self.sleepers.fetch_add(1, Ordering::SeqCst);
         self.board.shared.park(rt, word_of(request), low as u32);
+        self.sleepers.fetch_sub(1, Ordering::SeqCst);
     }
 
-    /// Wakes all who sleep until the request is decided: after `settle` wrote it. It is no step, and a call of
-    /// the kernel: whoever knows that nobody sleeps spares it.
+    /// Wakes all who sleep until the request is decided: after `settle` wrote it. It is no step. Where anybody
+    /// sleeps, it is a call of the kernel, which whoever knows that nobody sleeps until this request is decided spares.
     pub fn wake(&self, request: u128)
         requires is_request { IsTicket self.now.shape request }
     {
-        self.board.shared.wake_all(word_of(request));
+        // who is counted later finds the word changed, and does not sleep
+        if self.sleepers.load(Ordering::SeqCst) != 0 {
+            self.board.shared.wake_all(word_of(request));
+        }
     }
 }

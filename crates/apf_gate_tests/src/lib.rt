@@ -41,6 +41,7 @@ mod endings;
 mod faults;
 #[cfg(test)]
 mod levels;
+#[cfg(test)]
 mod lives;
 #[cfg(test)]
 mod memory;

@@ -1,7 +1,7 @@
 -- What each event leaves of the queues and the log.
 use Rattle.std.proofs.Common.{◌≡◌, ◌≢◌, ℕ, ◌<◌, ◌≤◌, inl, inr, Bool, true, false, not, eqb, List, [], ◌∷◌, ◌++◌, length, get_or, set, reverse, length-set, get_or-set_same, get_or-set_other, refl, sym, ap, ◌∙◌, subst, arith}
 use Rattle.std.specs.Prelude.{◌||◌, if◌then◌else◌, Contains, slice_set}
-use Rattle.std.proofs.lemmas.Bool.{cases_eq, eq-eqb, ne_eqb, false≢true}
+use Rattle.std.proofs.lemmas.Bool.{cases_eq, eq-eqb, ne_eqb}
 use Rattle.std.proofs.lemmas.List.{reverse-append}
 use Rattle.std.proofs.lemmas.List.Elements.{Contains-push_cases}
 use Rattle.apf_history.specs.declared.events.Event.{Event}
@@ -9,9 +9,10 @@ use Rattle.apf_history.specs.declared.events.Event.TheVariants.{Enter, Full, Dis
 use Rattle.apf_model.specs.World.{width}
 use Rattle.apf_model.specs.History.{request_of, queue_of, has_arrived, waiting, MayFollow}
 use Rattle.apf_model.specs.Fair.{numbers, after_enter, after_dispatch}
-use Rattle.apf_model.specs.Order.{changed}
+use Rattle.apf_history.specs.declared.events.Status.TheVariants as status_is
+use Rattle.apf_model.specs.Order.{changed, status}
 use Rattle.apf_queue.specs.declared.choice.Chosen.{Chosen}
-use Rattle.apf_queue.specs.View.{QueuesView, queue_in, numbers_in, Enters, Dispatches, struck}
+use Rattle.apf_queue.specs.View.{QueuesView, queue_in, numbers_in, StandsNowhere, Enters, Dispatches, struck}
 use Rattle.apf_book.specs.LedgerView.{LedgerView, hand_in, HasFairLog, IsLogOf, Arrives, IsNext, after}
 use Rattle.apf_book.specs.LedgerKept.{AreOfLog}
 use Rattle.apf_book.specs.Histories.{Laws}
@@ -19,13 +20,6 @@ use Rattle.apf_book.proofs.Lists.{Contains-rest, Contains-filter, first_contains
 
 pub reversed : (xs : List Event) (e : Event) → reverse (xs ++ e ∷ []) ≡ e ∷ reverse xs
 reversed xs e = reverse-append xs (e ∷ [])
-
-or_false : (a b : Bool) → (a || b) ≡ false → (a ≡ false) × (b ≡ false)
-or_false true b e = absurd (false≢true (sym e))
-or_false false b e = (refl, e)
-
-other_number : (j r : ℕ) → eqb j r ≡ false → j ≢ r
-other_number j r e same = false≢true (sym e ∙ eq-eqb j r same)
 
 -- what is told of a log
 pub sound_of : (v : LedgerView) (s : QueuesView) (marks : List Bool) (capacity : ℕ) → AreOfLog v s marks capacity → IsLogOf v
@@ -39,6 +33,15 @@ module _ (laws : Laws) (v : LedgerView) (s : QueuesView) (marks : List Bool) (ca
   -- the log is short
   pub few_events : length v.history ≤ 20000
   few_events = let two = (laws.numbers (hand_in v) v.limit v.history is.fair.0).of_requests (length v.costs) is.names_requests in let k = is.few in omega arith
+
+  -- who has not arrived stands in no queue
+  pub nowhere : (r : ℕ) → has_arrived v.history r ≡ false → StandsNowhere s r
+  nowhere r new q stands =
+      let all = laws.statuses (hand_in v) v.limit v.history is.fair.0 in
+      let away : status v.history r ≡ status_is.Away = (all.away r).1 new in
+      let waits : status v.history r ≡ status_is.Waits = (all.waits r).1 (q, subst (λ (xs : List ℕ). Contains xs r) (is.queue_is q) stands) in
+      let same : status_is.Away ≡ status_is.Waits = sym away ∙ waits in
+      cc
 
   pub waiting_request : (q r : ℕ) → Contains (waiting v.history q) r → r < length v.costs
   waiting_request q r c = (laws.numbers (hand_in v) v.limit v.history is.fair.0).waits_named (length v.costs) is.names_requests q r c
@@ -78,22 +81,21 @@ module _ (laws : Laws) (v : LedgerView) (s : QueuesView) (marks : List Bool) (ca
       -- a request leaves its queue: it is dispatched or struck
       pub leaves : ((xs : List ℕ) (j : ℕ) → Contains (changed e xs) j → Contains xs j) → ((j : ℕ) → has_arrived (e ∷ v.history) j ≡ has_arrived v.history j)
           → request_of e < length v.costs → HasFairLog (after v e) → numbers_in t ≡ numbers v.sizes.deck v.costs (e ∷ v.history)
-          → t.widths ≡ s.widths → t.length_limit ≡ s.length_limit → AreOfLog (after v e) t marks capacity
-      leaves fewer arrived named fair numbers_are widths limit = record {
+          → t.costs ≡ s.costs → t.length_limit ≡ s.length_limit → AreOfLog (after v e) t marks capacity
+      leaves fewer arrived named fair numbers_are costs limit = record {
         queue_is = queues_after;
         fair = fair;
         numbers_are = numbers_are;
         deck = ap (λ (x : List (List ℕ)). length x) is_set ∙ (length-set s.queues (queue_of e) (changed e (queue_in s (queue_of e))) ∙ is.deck);
         limit = limit ∙ is.limit;
-        not_pushed = λ j n. ap (λ (x : List ℕ). width x j) widths ∙ is.not_pushed j (sym (arrived j) ∙ n);
-        pushed = λ p j c. ap (λ (x : List ℕ). width x j) widths ∙ is.pushed p j (stood_before fewer p j c);
+        charged = λ p j c. ap (λ (x : List ℕ). width x j) costs ∙ is.charged p j (stood_before fewer p j c);
         marked = λ j. is.marked j ∙ sym (arrived j);
         names_queues = (inside, is.names_queues);
         names_requests = (named, is.names_requests);
         costs = is.costs;
         few = is.few;
         one_hash_each = is.one_hash_each;
-        one_place_each = ap (λ (x : List ℕ). length x) widths ∙ is.one_place_each;
+        one_place_each = ap (λ (x : List ℕ). length x) costs ∙ is.one_place_each;
         one_mark_each = is.one_mark_each;
         room = is.room;
       }
@@ -117,8 +119,7 @@ module _ (laws : Laws) (v : LedgerView) (s : QueuesView) (marks : List Bool) (ca
       numbers_are = is.numbers_are;
       deck = is.deck;
       limit = is.limit;
-      not_pushed = λ j e. is.not_pushed j (or_false (eqb r j) (has_arrived v.history j) e).1;
-      pushed = is.pushed;
+      charged = is.charged;
       marked = mark_set r comes.is_request;
       names_queues = (comes.is_queue, is.names_queues);
       names_requests = (comes.is_request, is.names_requests);
@@ -132,16 +133,16 @@ module _ (laws : Laws) (v : LedgerView) (s : QueuesView) (marks : List Bool) (ca
 
     -- it enters the queue
     module _ (t : QueuesView) (room : length (waiting v.history q) ≢ v.limit) (e : Enters s t q r (width v.costs r)) where
-      width_here : width t.widths r ≡ width v.costs r
-      width_here = ap (λ (x : List ℕ). get_or x r 0) e.widths ∙ get_or-set_same s.widths r (width v.costs r) 0 (let d = is.one_place_each in let k = comes.is_request in omega arith)
+      cost_here : width t.costs r ≡ width v.costs r
+      cost_here = ap (λ (x : List ℕ). get_or x r 0) e.costs ∙ get_or-set_same s.costs r (width v.costs r) 0 (let d = is.one_place_each in let k = comes.is_request in omega arith)
 
-      width_else : (j : ℕ) → j ≢ r → width t.widths j ≡ width s.widths j
-      width_else j ne = ap (λ (x : List ℕ). get_or x j 0) e.widths ∙ get_or-set_other s.widths r j (width v.costs r) 0 ne
+      cost_else : (j : ℕ) → j ≢ r → width t.costs j ≡ width s.costs j
+      cost_else j ne = ap (λ (x : List ℕ). get_or x j 0) e.costs ∙ get_or-set_other s.costs r j (width v.costs r) 0 ne
 
-      pushed_after : (p j : ℕ) → Contains (queue_in t p) j → width t.widths j ≡ width v.costs j
-      pushed_after p j c = elim (cases_eq j r) [
-        | inl same ↦ ap (width t.widths) same ∙ (width_here ∙ ap (width v.costs) (sym same))
-        | inr ne ↦ width_else j ne ∙ is.pushed p j (elim (cases_eq p q) [
+      charged_after : (p j : ℕ) → Contains (queue_in t p) j → width t.costs j ≡ width v.costs j
+      charged_after p j c = elim (cases_eq j r) [
+        | inl same ↦ ap (width t.costs) same ∙ (cost_here ∙ ap (width v.costs) (sym same))
+        | inr ne ↦ cost_else j ne ∙ is.charged p j (elim (cases_eq p q) [
           | inl at ↦ elim (Contains-push_cases (queue_in s q) r j (subst (λ (xs : List ℕ). Contains xs j) (ap (queue_in t) at ∙ queue_named (Enter r q) (may_enter room) comes.is_queue t e.queues) c)) [
             | inl old ↦ subst (λ (i : ℕ). Contains (queue_in s i) j) (sym at) old
             | inr new ↦ absurd (ne (sym new))
@@ -157,27 +158,26 @@ module _ (laws : Laws) (v : LedgerView) (s : QueuesView) (marks : List Bool) (ca
         numbers_are = e.numbers ∙ (ap (λ (xs : List ℕ). after_enter q xs (numbers_in s)) (is.queue_is q) ∙ ap (after_enter q (waiting v.history q)) is.numbers_are);
         deck = ap (λ (x : List (List ℕ)). length x) e.queues ∙ (length-set s.queues q (queue_in s q ++ r ∷ []) ∙ is.deck);
         limit = e.length_limit ∙ is.limit;
-        not_pushed = λ j n. let o = or_false (eqb r j) (has_arrived v.history j) n in width_else j (λ x. other_number r j o.0 (sym x)) ∙ is.not_pushed j o.1;
-        pushed = pushed_after;
+        charged = charged_after;
         marked = mark_set r comes.is_request;
         names_queues = (comes.is_queue, is.names_queues);
         names_requests = (comes.is_request, is.names_requests);
         costs = is.costs;
         few = is.few;
         one_hash_each = is.one_hash_each;
-        one_place_each = ap (λ (x : List ℕ). length x) e.widths ∙ (length-set s.widths r (width v.costs r) ∙ is.one_place_each);
+        one_place_each = ap (λ (x : List ℕ). length x) e.costs ∙ (length-set s.costs r (width v.costs r) ∙ is.one_place_each);
         one_mark_each = length-set marks r true ∙ is.one_mark_each;
         room = is.room;
       }
 
   -- the chosen request is dispatched
-  pub dispatches : (t : QueuesView) (c : Chosen) → IsNext v c → Dispatches s t c.queue c.width → AreOfLog (after v (Dispatch c.request c.queue)) t marks capacity
+  pub dispatches : (t : QueuesView) (c : Chosen) → IsNext v c → Dispatches s t c.queue c.cost → AreOfLog (after v (Dispatch c.request c.queue)) t marks capacity
   dispatches t c n d =
       let waits = first_contains (waiting v.history c.queue) c.request n.is_first in
       leaves (Dispatch c.request c.queue) n.is_first n.is_choice.is_queue t d.queues Contains-rest (λ j. refl)
       (waiting_request c.queue c.request waits) ((n.is_first, is.fair.0), (n.is_choice, is.fair.1))
       (d.numbers ∙ (ap (λ (k : ℕ). after_dispatch c.queue k (numbers_in s)) n.cost_is ∙ ap (after_dispatch c.queue (width v.costs c.request)) is.numbers_are))
-      d.widths d.length_limit
+      d.costs d.length_limit
 
   -- a request that waits is struck
   pub strikes : (r q : ℕ) → q < v.sizes.deck → Contains (waiting v.history q) r → AreOfLog (after v (Strike r q)) (struck s q r) marks capacity

@@ -13,6 +13,7 @@ pub mod Lists
 pub mod Ledgers
 pub mod Nexts
 pub mod Running
+pub mod Times
 pub mod Stretches
 pub mod Widths
 pub mod Leavings

@@ -38,11 +38,6 @@ no_queue zero q = refl
 no_queue (suc n) zero = refl
 no_queue (suc n) (suc q) = no_queue n q
 
-pub no_width : (n r : ℕ) → slice_index (replicate n 0) r ≡ 0
-no_width zero r = refl
-no_width (suc n) zero = refl
-no_width (suc n) (suc r) = no_width n r
-
 pub no_mark : (n r : ℕ) → slice_index_or (replicate n false) r false ≡ false
 no_mark zero r = refl
 no_mark (suc n) zero = refl

@@ -12,16 +12,16 @@ use Rattle.apf_queue.specs.declared.choice.Chosen.{Chosen}
 use Rattle.apf_queue.specs.View.{QueuesView, opening_view, queue_count, queue_in, numbers_in, NothingWaits as NothingQueued, IsChosen}
 use Rattle.apf_book.specs.LedgerView.{LedgerView, hand_in, IsNext, NothingWaits}
 use Rattle.apf_book.specs.LedgerKept.{AreOfLog}
-use Rattle.apf_book.proofs.Lists.{first_contains, some_first, Contains-none, no_queue, no_width, no_mark}
+use Rattle.apf_book.proofs.Lists.{first_contains, some_first, Contains-none, no_queue, no_mark}
 use Rattle.apf_book.specs.Histories.{Laws}
 use Rattle.apf_book.proofs.Ledgers.{waiting_request}
 
 module _ (v : LedgerView) (s : QueuesView) (marks : List Bool) (capacity : ℕ) (is : AreOfLog v s marks capacity) where
-  finish_same : (q : ℕ) → queue_in s q ≢ [] → finish s.widths (queue_in s) (numbers_in s) q ≡ finish v.costs (waiting v.history) (numbers v.sizes.deck v.costs v.history) q
+  finish_same : (q : ℕ) → queue_in s q ≢ [] → finish s.costs (queue_in s) (numbers_in s) q ≡ finish v.costs (waiting v.history) (numbers v.sizes.deck v.costs v.history) q
   finish_same q ne =
       let a : slice_index s.next q ≡ (numbers v.sizes.deck v.costs v.history).next q = ap (λ (n : Numbers). n.next q) is.numbers_are in
-      let b : width s.widths (slice_index (queue_in s q) 0) ≡ width v.costs (slice_index (waiting v.history q) 0) =
-      is.pushed q (slice_index (queue_in s q) 0) (some_first (queue_in s q) ne) ∙ ap (λ (xs : List ℕ). width v.costs (slice_index xs 0)) (is.queue_is q) in
+      let b : width s.costs (slice_index (queue_in s q) 0) ≡ width v.costs (slice_index (waiting v.history q) 0) =
+      is.charged q (slice_index (queue_in s q) 0) (some_first (queue_in s q) ne) ∙ ap (λ (xs : List ℕ). width v.costs (slice_index xs 0)) (is.queue_is q) in
       omega arith
 
   steps_same : (q : ℕ) → steps_round (queue_count s) (numbers_in s).robin q ≡ steps_round v.sizes.deck (numbers v.sizes.deck v.costs v.history).robin q
@@ -34,7 +34,7 @@ module _ (v : LedgerView) (s : QueuesView) (marks : List Bool) (capacity : ℕ) 
   some_queue q ne e = ne (is.queue_is q ∙ e)
 
   -- the choice by the queues is that by the log
-  choice_of_log : (q : ℕ) → IsChoice (queue_count s) s.widths (queue_in s) (numbers_in s) q → IsChoice v.sizes.deck v.costs (waiting v.history) (numbers v.sizes.deck v.costs v.history) q
+  choice_of_log : (q : ℕ) → IsChoice (queue_count s) s.costs (queue_in s) (numbers_in s) q → IsChoice v.sizes.deck v.costs (waiting v.history) (numbers v.sizes.deck v.costs v.history) q
   choice_of_log q c = record {
     is_queue = let d = is.deck in let k = c.is_queue in omega arith;
     is_waited_in = some_queue q c.is_waited_in;
@@ -43,7 +43,7 @@ module _ (v : LedgerView) (s : QueuesView) (marks : List Bool) (capacity : ℕ) 
         let k = c.is_reached_first p (let d = is.deck in omega arith) (some_waits p ne) (omega arith) in omega arith);
   }
 
-  choice_of_queues : (q : ℕ) → IsChoice v.sizes.deck v.costs (waiting v.history) (numbers v.sizes.deck v.costs v.history) q → IsChoice (queue_count s) s.widths (queue_in s) (numbers_in s) q
+  choice_of_queues : (q : ℕ) → IsChoice v.sizes.deck v.costs (waiting v.history) (numbers v.sizes.deck v.costs v.history) q → IsChoice (queue_count s) s.costs (queue_in s) (numbers_in s) q
   choice_of_queues q c =
       let some = some_waits q c.is_waited_in in
       record {
@@ -60,7 +60,7 @@ module _ (v : LedgerView) (s : QueuesView) (marks : List Bool) (capacity : ℕ) 
       record {
         is_choice = choice_of_log c.queue is_chosen.is_choice;
         is_first = ap (λ (xs : List ℕ). slice_get xs 0) (sym (is.queue_is c.queue)) ∙ first;
-        cost_is = is_chosen.is_head.width_is ∙ is.pushed c.queue c.request (first_contains (queue_in s c.queue) c.request first);
+        cost_is = is_chosen.is_head.cost_is ∙ is.charged c.queue c.request (first_contains (queue_in s c.queue) c.request first);
       }
 
   pub next_of_queues : (c : Chosen) → IsNext v c → IsChosen s c
@@ -71,7 +71,7 @@ module _ (v : LedgerView) (s : QueuesView) (marks : List Bool) (capacity : ℕ) 
         is_head = record {
           queue_is = refl;
           is_first = first;
-          width_is = n.cost_is ∙ sym (is.pushed c.queue c.request (first_contains (queue_in s c.queue) c.request first));
+          cost_is = n.cost_is ∙ sym (is.charged c.queue c.request (first_contains (queue_in s c.queue) c.request first));
         };
       }
 
@@ -107,15 +107,14 @@ opens v s marks capacity n nothing opening start unmarked costs hashes are few r
       numbers_are = start ∙ sym (ap (numbers v.sizes.deck v.costs) nothing);
       deck = ap queue_count opening ∙ length-replicate v.sizes.deck [];
       limit = ap (λ (x : QueuesView). x.length_limit) opening;
-      not_pushed = λ r e. ap (λ (x : QueuesView). width x.widths r) opening ∙ no_width n r;
-      pushed = λ q r c. absurd (Contains-none r (subst (λ (xs : List ℕ). Contains xs r) (empty q) c));
+      charged = λ q r c. absurd (Contains-none r (subst (λ (xs : List ℕ). Contains xs r) (empty q) c));
       marked = λ r. ap (λ (x : List Bool). slice_index_or x r false) unmarked ∙ (no_mark n r ∙ sym (ap (λ (h : List Event). has_arrived h r) nothing));
       names_queues = subst (λ (h : List Event). NamesQueues v.sizes.deck h) (sym nothing) tt;
       names_requests = subst (λ (h : List Event). NamesRequests (length v.costs) h) (sym nothing) tt;
       costs = are;
       few = omega arith;
       one_hash_each = hashes ∙ sym costs;
-      one_place_each = ap (λ (x : QueuesView). length x.widths) opening ∙ (length-replicate n 0 ∙ sym costs);
+      one_place_each = ap (λ (x : QueuesView). length x.costs) opening ∙ (length-replicate n 0 ∙ sym costs);
       one_mark_each = ap (λ (x : List Bool). length x) unmarked ∙ (length-replicate n false ∙ sym costs);
       room = omega arith;
     }

@@ -6,7 +6,7 @@ use Rattle.apf_history.specs.declared.events.Event.{Event}
 use Rattle.apf_model.specs.Outcome.{is_enter, is_full, is_dispatch, is_strike}
 use Rattle.apf_book.specs.LedgerKept.{AreRunning}
 
-count : (p : Event → Bool) (e : Event) (h : List Event) → count_by p (e ∷ h) ≡ cond (p e) 1 0 + count_by p h
+pub count : (p : Event → Bool) (e : Event) (h : List Event) → count_by p (e ∷ h) ≡ cond (p e) 1 0 + count_by p h
 count p e h = sum_by-cons (λ x. cond (p x) 1 0) e h
 
 -- one event more

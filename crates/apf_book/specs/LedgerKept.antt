@@ -20,16 +20,15 @@ pub record AreOfLog (v : LedgerView) (queues : QueuesView) (arrived : List Bool)
   pub numbers_are : numbers_in queues ≡ numbers v.sizes.deck v.costs v.history
   pub deck : queue_count queues ≡ v.sizes.deck
   pub limit : queues.length_limit ≡ v.limit
-  -- the queues store a request's cost once it is pushed
-  pub not_pushed : (r : ℕ) → has_arrived v.history r ≡ false → width queues.widths r ≡ 0
-  pub pushed : (q r : ℕ) → Contains (queue_in queues q) r → width queues.widths r ≡ width v.costs r
+  -- the queues have the cost of each request that waits
+  pub charged : (q r : ℕ) → Contains (queue_in queues q) r → width queues.costs r ≡ width v.costs r
   pub marked : (r : ℕ) → slice_index_or arrived r false ≡ has_arrived v.history r
   pub names_queues : NamesQueues v.sizes.deck v.history
   pub names_requests : NamesRequests (length v.costs) v.history
   pub costs : AreWidths v.costs
   pub few : length v.costs ≤ max_requests
   pub one_hash_each : length v.hashes ≡ length v.costs
-  pub one_place_each : length queues.widths ≡ length v.costs
+  pub one_place_each : length queues.costs ≡ length v.costs
   pub one_mark_each : length arrived ≡ length v.costs
   -- two events for each request
   pub room : 2 * length v.costs ≤ capacity

@@ -1,5 +1,5 @@
 -- The queues and the log, as contracts see them.
-use Rattle.std.specs.Prelude.{◌≡◌, ℕ, ◌<◌, ◌≤◌, false, List, [], ◌∷◌, length, slice_get, slice_index, Some}
+use Rattle.std.specs.Prelude.{◌≡◌, ◌≢◌, ℕ, ◌<◌, ◌≤◌, false, List, [], ◌∷◌, length, slice_get, slice_index, Some}
 use Rattle.apf_words.specs.Limits.{max_requests}
 use Rattle.apf_flow.specs.Sizes.{Sizes}
 use Rattle.apf_flow.specs.Deal.{hand_of}
@@ -7,7 +7,7 @@ use Rattle.apf_history.specs.declared.events.Event.{Event}
 use Rattle.apf_model.specs.World.{width}
 use Rattle.apf_model.specs.Schedule.{AreWidths}
 use Rattle.apf_model.specs.History.{NamesRequests, NamesQueues, has_arrived, waiting, IsShortest}
-use Rattle.apf_model.specs.Fair.{numbers, IsChoice, IsFair}
+use Rattle.apf_model.specs.Fair.{numbers, finish, IsChoice, IsFair}
 use Rattle.apf_queue.specs.declared.choice.Chosen.{Chosen}
 
 -- the log of a level, and what its queues were made of
@@ -57,4 +57,10 @@ NothingWaits v = (q : ℕ) → waiting v.history q ≡ []
 pub record IsNext (v : LedgerView) (c : Chosen) : Type 0 where
   pub is_choice : IsChoice v.sizes.deck v.costs (waiting v.history) (numbers v.sizes.deck v.costs v.history) c.queue
   pub is_first : slice_get (waiting v.history c.queue) 0 ≡ Some c.request
-  pub cost_is : c.width ≡ width v.costs c.request
+  pub cost_is : c.cost ≡ width v.costs c.request
+
+-- no number of virtual time and no finish is above 200,000,000
+pub record AreSmall (v : LedgerView) : Type 0 where
+  pub next : (q : ℕ) → (numbers v.sizes.deck v.costs v.history).next q ≤ 200000000
+  pub virtual_time : (numbers v.sizes.deck v.costs v.history).virtual_time ≤ 200000000
+  pub finish : (q : ℕ) → waiting v.history q ≢ [] → finish v.costs (waiting v.history) (numbers v.sizes.deck v.costs v.history) q ≤ 200000000

@@ -7,7 +7,7 @@ ghost use Rattle.apf_model.specs.History.{has_arrived, waiting, IsShortest};
 ghost use Rattle.apf_model.specs.Schedule.{AreWidths};
 ghost use Rattle.apf_model.specs.Outcome.{stats_of};
 ghost use Rattle.apf_book.specs.Opening.{opening_ledger_with, IsFaultOf, AreSettings};
-ghost use Rattle.apf_book.specs.LedgerView.{hand_in, after, IsLogOf, Arrives, NothingWaits, IsNext};
+ghost use Rattle.apf_book.specs.LedgerView.{hand_in, after, IsLogOf, Arrives, NothingWaits, IsNext, AreSmall};
 ghost use Rattle.apf_book.specs.LedgerKept.{AreStats};
 ghost use Rattle.apf_book.specs.Stretch.{IsBacklogged, service_in, IsIsolated, AreWaitsBounded};
 ghost use Rattle.apf_model.specs.Fair.{widest, DifferAtMost};
@@ -190,6 +190,7 @@ impl<A: Allocator> Ledger<A> {
         ensures next { MatchOption result (NothingWaits self.now) (IsNext self.now) }
         ensures is_request { IfSome result (λ c. c.request < length self.now.costs) }
         ensures few { length self.now.history ≤ 20000 }
+        ensures small { AreSmall self.now }
         ensures sound { IsLogOf self.now }
     {
         legal_histories_are_in_order();

@@ -1,6 +1,6 @@
 //! Queues whose calls are made where their conditions are kept, and else answer `None`.
 
-ghost use Rattle.std.specs.Prelude.{◌≡◌, ◌<◌, ℕ, false, true, length, slice_index, slice_index_or};
+ghost use Rattle.std.specs.Prelude.{◌≡◌, length};
 
 use apf_queue::{Chosen, Full, QueueFault, Queues};
 use std::alloc::Global;
@@ -10,10 +10,9 @@ use std::alloc::Global;
 pub struct Checked {
     queues: Queues<Global>,
     queue_count: u32,
-    was_pushed: Vec<bool>,
+    request_count: u32,
     ghost one_list_each: { queue_count ≡ length queues.queues },
-    ghost one_flag_each: { length was_pushed.items ≡ length queues.widths },
-    ghost unpushed: { (r : ℕ) → slice_index_or was_pushed.items r true ≡ false → slice_index queues.widths r ≡ 0 },
+    ghost one_cost_each: { request_count ≡ length queues.costs },
 }
 
 impl Checked {
@@ -31,7 +30,7 @@ impl Checked {
         Ok(Checked {
             queues: Queues::new(alloc, queues, length_limit, requests)?,
             queue_count: queues,
-            was_pushed: vec![in alloc; false; requests as usize]?,
+            request_count: requests,
         })
     }
 
@@ -43,22 +42,33 @@ impl Checked {
         Some(self.queues.len(queue))
     }
 
-    /// Pushes the request, if it was not pushed and all is in range.
-    pub fn push(&mut self, queue: u32, request: u32, width: u32) -> Option<Result<(), Full>> {
-        let was_pushed = *self.was_pushed.get(request as usize)?;
-        if was_pushed || queue >= self.queue_count || width < 1 || width > 20_000 {
+    /// The queue in which the request stands, if there is such a request.
+    pub fn queue_of(&self, request: u32) -> Option<Option<u32>> {
+        if request >= self.request_count {
             return None;
         }
-        let answer = self.queues.push(queue, request, width);
-        if answer.is_ok() {
-            self.was_pushed[request as usize] = true;
-        }
-        Some(answer)
+        Some(self.queues.queue_of(request))
     }
 
-    /// Takes the request out, if it was pushed.
+    /// Pushes the request, if it stands in no queue and all is in range.
+    pub fn push(&mut self, queue: u32, request: u32, cost: u32) -> Option<Result<(), Full>> {
+        if queue >= self.queue_count || request >= self.request_count {
+            return None;
+        }
+        if cost < 1 || cost > 20_000 {
+            return None;
+        }
+        match self.queues.queue_of(request) {
+            Some(_) => None,
+            None => Some(self.queues.push(queue, request, cost)),
+        }
+    }
+
+    /// Takes the request out, if there is such a request.
     pub fn remove(&mut self, request: u32) -> Option<Option<u32>> {
-        let _is_request = self.was_pushed.get(request as usize)?;
+        if request >= self.request_count {
+            return None;
+        }
         Some(self.queues.remove(request))
     }
 
@@ -70,14 +80,17 @@ impl Checked {
         Some(self.queues.shortest(hand))
     }
 
-    /// The queue that is served next.
+    /// What is dispatched next.
     pub fn choose(&self) -> Option<Chosen> {
         self.queues.choose()
     }
 
-    /// Dispatches the request that is served next.
+    /// Dispatches what is dispatched next, if virtual time may go on in its queue.
     pub fn dispatch(&mut self) -> Option<Chosen> {
         let chosen = self.queues.choose()?;
+        if !self.queues.has_time(chosen.queue) {
+            return None;
+        }
         self.queues.dispatch(chosen);
         Some(chosen)
     }

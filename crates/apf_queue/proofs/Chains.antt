@@ -1,7 +1,7 @@
 -- Chains of links, and what one write changes.
 use Rattle.std.proofs.Common.{◌≡◌, ◌≢◌, ℕ, ◌<◌, List, [], ◌∷◌, ◌++◌, length, get_or, set, get_or-set_other, get_or-set_same, length-set, refl, sym, ap, ◌∙◌, subst}
 use Rattle.std.proofs.lemmas.List.{append-nil}
-use Rattle.apf_queue.specs.Links.{NotIn, AreApart, Leads, IsRing, AreLinked}
+use Rattle.apf_queue.specs.Nodes.{NotIn, AreApart, Leads, IsRing, AreLinked}
 
 -- the last node of a chain
 abbrev pub last_of : ℕ → List ℕ → ℕ

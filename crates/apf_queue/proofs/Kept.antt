@@ -1,7 +1,6 @@
 -- The finishes of the queues stay as the other fields say.
 use Rattle.std.proofs.Common.{◌≡◌, ◌≢◌, ℕ, ◌+◌, ◌-◌, ◌^◌, ◌<◌, ◌≤◌, inl, inr, List, [], ◌∷◌, ◌++◌, length, get_or, set, length-set, get_or-set_same, get_or-set_other, Option, None, Some, refl, sym, ap, ◌∙◌, subst, arith}
-use Rattle.std.specs.Prelude.{slice_get, nat_lt, replicate, ◌⊎◌, IfNone, IfSome, MatchOption}
-use Rattle.std.proofs.lemmas.List.Sums.{count_by-le-length}
+use Rattle.std.specs.Prelude.{slice_get, replicate, Contains, ◌⊎◌, ◌↔◌, IfNone, IfSome, MatchOption}
 use Rattle.std.proofs.lemmas.Bool.{cases_eq, cases_lt}
 use Rattle.std.proofs.lemmas.List.{get_or_past, length-replicate}
 use Rattle.apf_model.specs.World.{width}
@@ -11,31 +10,31 @@ use Rattle.apf_queue.specs.RingsView.{RingsView, ring}
 use Rattle.apf_queue.specs.TimeView.{TimeView, numbers_of}
 use Rattle.apf_queue.specs.Consistent.{AreConsistent, finish_with, finish_at, AreFinishes, AreKept}
 use Rattle.apf_queue.proofs.Places.{first_contains}
-use Rattle.apf_queue.proofs.Consistency.{put_other, with_queue, with_queue_else, empties}
+use Rattle.apf_queue.proofs.Consistency.{put_other, with_queue, with_request, with_queue_else, empties}
 
 cases_empty : (xs : List ℕ) → (xs ≡ []) ⊎ (xs ≢ [])
 cases_empty [] = inl refl
 cases_empty (x ∷ xs) = inr (λ e. (let n = ap length e in absurd (omega arith)))
 
--- the finish of a queue depends on its first request, that one's width, and its number
-same_finish : (widths widths' : List ℕ) (n n' : ℕ) (first first' : Option ℕ) → first' ≡ first → n' ≡ n → ((r : ℕ) → first ≡ Some r → width widths' r ≡ width widths r)
-    → finish_with widths' n' first' ≡ finish_with widths n first
-same_finish widths widths' n n' None first' e number same = ap (finish_with widths' n') e
-same_finish widths widths' n n' (Some r) first' e number same = ap (finish_with widths' n') e ∙ (let a = same r refl in omega arith)
+-- the finish of a queue depends on its first request, that one's cost, and its number
+same_finish : (costs costs' : List ℕ) (n n' : ℕ) (first first' : Option ℕ) → first' ≡ first → n' ≡ n → ((r : ℕ) → first ≡ Some r → width costs' r ≡ width costs r)
+    → finish_with costs' n' first' ≡ finish_with costs n first
+same_finish costs costs' n n' None first' e number same = ap (finish_with costs' n') e
+same_finish costs costs' n n' (Some r) first' e number same = ap (finish_with costs' n') e ∙ (let a = same r refl in omega arith)
 
 -- the finish of one queue is set, and no other queue's changed
-set_finishes : (rings rings' : RingsView) (widths widths' : List ℕ) (time time' : TimeView) (finishes : List ℕ) (q : ℕ) → AreFinishes rings widths time finishes
+set_finishes : (rings rings' : RingsView) (time time' : TimeView) (finishes : List ℕ) (q : ℕ) → AreFinishes rings time finishes
     → q < length rings.queues → length rings'.queues ≡ length rings.queues
-    → ((p : ℕ) → p ≢ q → finish_at rings' widths' time' p ≡ finish_at rings widths time p)
-    → AreFinishes rings' widths' time' (set finishes q (finish_at rings' widths' time' q))
-set_finishes rings rings' widths widths' time time' finishes q old is_queue queues others =
-    let n = length-set finishes q (finish_at rings' widths' time' q) in
+    → ((p : ℕ) → p ≢ q → finish_at rings' time' p ≡ finish_at rings time p)
+    → AreFinishes rings' time' (set finishes q (finish_at rings' time' q))
+set_finishes rings rings' time time' finishes q old is_queue queues others =
+    let n = length-set finishes q (finish_at rings' time' q) in
     let room = old.room in
     record {
       room = omega arith;
       each = λ p below. elim (cases_eq p q) [
-        | inl e ↦ subst (λ (i : ℕ). get_or (set finishes q (finish_at rings' widths' time' q)) i 0 ≡ finish_at rings' widths' time' i) (sym e) (get_or-set_same finishes q (finish_at rings' widths' time' q) 0 (omega arith))
-        | inr ne ↦ get_or-set_other finishes q p (finish_at rings' widths' time' q) 0 ne ∙ old.each p (omega arith) ∙ sym (others p ne)
+        | inl e ↦ subst (λ (i : ℕ). get_or (set finishes q (finish_at rings' time' q)) i 0 ≡ finish_at rings' time' i) (sym e) (get_or-set_same finishes q (finish_at rings' time' q) 0 (omega arith))
+        | inr ne ↦ get_or-set_other finishes q p (finish_at rings' time' q) 0 ne ∙ old.each p (omega arith) ∙ sym (others p ne)
       ];
     }
 
@@ -43,59 +42,51 @@ enter_other : (q : ℕ) (held : List ℕ) (v : Numbers) (p : ℕ) → p ≢ q �
 enter_other q [] v p ne = put_other v.next q _ p ne
 enter_other q (x ∷ xs) v p ne = refl
 
--- no sum of a queue's number and a width is large
-pub small_sum : (rings : RingsView) (widths : List ℕ) (time : TimeView) (waiting limit : ℕ) → AreConsistent rings widths time waiting limit
-    → (q r : ℕ) → get_or time.next q 0 + width widths r < 2 ^ 64 - 1
-small_sum rings widths time waiting limit kept q r =
-    let a = kept.next_served q in
-    let b = kept.narrow r in
-    let c = count_by-le-length (λ k. nat_lt 0 k) widths in
-    let d = kept.shape.few_requests in
-    omega arith
+-- no sum of a queue's number and a cost is large
+pub small_sum : (rings : RingsView) (time : TimeView) (limit : ℕ) → AreConsistent rings time limit
+    → (q r : ℕ) → get_or time.next q 0 + width rings.costs r < 2 ^ 128 - 1
+small_sum rings time limit kept q r = let a = kept.next_within q in let b = kept.low r in omega arith
 
--- a request is pushed
-pub push_finishes : (rings : RingsView) (widths : List ℕ) (time time' : TimeView) (finishes : List ℕ) (waiting limit q r k : ℕ) → AreKept rings widths time finishes waiting limit
-    → q < length rings.queues → width widths r ≡ 0 → numbers_of time' ≡ after_enter q (ring rings q) (numbers_of time)
-    → AreFinishes (with_queue rings q (ring rings q ++ r ∷ [])) (set widths r k) time'
-    (set finishes q (finish_at (with_queue rings q (ring rings q ++ r ∷ [])) (set widths r k) time' q))
-push_finishes rings widths time time' finishes waiting limit q r k kept is_queue is_new numbers =
-    set_finishes rings (with_queue rings q (ring rings q ++ r ∷ [])) widths (set widths r k) time time' finishes q kept.finishes_are is_queue (length-set rings.queues q (ring rings q ++ r ∷ []))
-    (λ p ne. same_finish widths (set widths r k) (get_or time.next p 0) (get_or time'.next p 0) (slice_get (ring rings p) 0)
-    (slice_get (ring (with_queue rings q (ring rings q ++ r ∷ [])) p) 0) (ap (λ (xs : List ℕ). slice_get xs 0) (with_queue_else rings q (ring rings q ++ r ∷ []) p ne))
+-- a request that stands in no queue is pushed
+pub push_finishes : (rings : RingsView) (time time' : TimeView) (finishes : List ℕ) (limit q r k : ℕ) → AreKept rings time finishes limit
+    → q < length rings.queues → ((p : ℕ) → Contains (ring rings p) r → ⊥) → numbers_of time' ≡ after_enter q (ring rings q) (numbers_of time)
+    → AreFinishes (with_request rings q r k) time' (set finishes q (finish_at (with_request rings q r k) time' q))
+push_finishes rings time time' finishes limit q r k kept is_queue nowhere numbers =
+    set_finishes rings (with_request rings q r k) time time' finishes q kept.finishes_are is_queue (length-set rings.queues q (ring rings q ++ r ∷ []))
+    (λ p ne. same_finish rings.costs (set rings.costs r k) (get_or time.next p 0) (get_or time'.next p 0) (slice_get (ring rings p) 0)
+    (slice_get (ring (with_request rings q r k) p) 0) (ap (λ (xs : List ℕ). slice_get xs 0) (with_queue_else rings q (ring rings q ++ r ∷ []) p ne))
     (ap (λ (v : Numbers). v.next p) numbers ∙ enter_other q (ring rings q) (numbers_of time) p ne)
-    (λ x first.
-    let pushed = kept.consistent.pushed p x (first_contains (ring rings p) x first) in
-    get_or-set_other widths r x k 0 (λ same. let e = ap (λ i. get_or widths i 0) same in absurd (omega arith))))
+    (λ x first. get_or-set_other rings.costs r x k 0 (λ same. nowhere p (subst (λ (i : ℕ). Contains (ring rings p) i) same (first_contains (ring rings p) x first)))))
 
 -- a request leaves its queue, and no other queue's number changes
-pub left_finishes : (rings : RingsView) (widths : List ℕ) (time time' : TimeView) (finishes : List ℕ) (waiting limit q : ℕ) (left : List ℕ) → AreKept rings widths time finishes waiting limit
+pub left_finishes : (rings : RingsView) (time time' : TimeView) (finishes : List ℕ) (limit q : ℕ) (left : List ℕ) → AreKept rings time finishes limit
     → q < length rings.queues → ((p : ℕ) → p ≢ q → get_or time'.next p 0 ≡ get_or time.next p 0)
-    → AreFinishes (with_queue rings q left) widths time' (set finishes q (finish_at (with_queue rings q left) widths time' q))
-left_finishes rings widths time time' finishes waiting limit q left kept is_queue numbers =
-    set_finishes rings (with_queue rings q left) widths widths time time' finishes q kept.finishes_are is_queue (length-set rings.queues q left)
-    (λ p ne. same_finish widths widths (get_or time.next p 0) (get_or time'.next p 0) (slice_get (ring rings p) 0)
+    → AreFinishes (with_queue rings q left) time' (set finishes q (finish_at (with_queue rings q left) time' q))
+left_finishes rings time time' finishes limit q left kept is_queue numbers =
+    set_finishes rings (with_queue rings q left) time time' finishes q kept.finishes_are is_queue (length-set rings.queues q left)
+    (λ p ne. same_finish rings.costs rings.costs (get_or time.next p 0) (get_or time'.next p 0) (slice_get (ring rings p) 0)
     (slice_get (ring (with_queue rings q left) p) 0) (ap (λ (xs : List ℕ). slice_get xs 0) (with_queue_else rings q left p ne)) (numbers p ne) (λ x first. refl))
 
 -- a dispatch changes one number
 pub dispatch_other : (time time' : TimeView) (q k : ℕ) → numbers_of time' ≡ after_dispatch q k (numbers_of time) → (p : ℕ) → p ≢ q → get_or time'.next p 0 ≡ get_or time.next p 0
 dispatch_other time time' q k numbers p ne = ap (λ (v : Numbers). v.next p) numbers ∙ put_other (numbers_of time).next q _ p ne
 
-finish_some : (widths : List ℕ) (n : ℕ) (requests : List ℕ) → requests ≢ [] → finish_with widths n (slice_get requests 0) ≡ n + width widths (get_or requests 0 0)
-finish_some widths n [] some = absurd (some refl)
-finish_some widths n (r ∷ requests) some = refl
+finish_some : (costs : List ℕ) (n : ℕ) (requests : List ℕ) → requests ≢ [] → finish_with costs n (slice_get requests 0) ≡ n + width costs (get_or requests 0 0)
+finish_some costs n [] some = absurd (some refl)
+finish_some costs n (r ∷ requests) some = refl
 
-module _ (rings : RingsView) (widths : List ℕ) (time : TimeView) (finishes : List ℕ) (waiting limit : ℕ) (kept : AreKept rings widths time finishes waiting limit) where
-  queue_finish : (q : ℕ) → q < length rings.queues → ring rings q ≢ [] → get_or finishes q 0 ≡ finish widths (ring rings) (numbers_of time) q
-  queue_finish q is_queue some = kept.finishes_are.each q (let a = kept.finishes_are.room in omega arith) ∙ finish_some widths (get_or time.next q 0) (ring rings q) some
+module _ (rings : RingsView) (time : TimeView) (finishes : List ℕ) (limit : ℕ) (kept : AreKept rings time finishes limit) where
+  queue_finish : (q : ℕ) → q < length rings.queues → ring rings q ≢ [] → get_or finishes q 0 ≡ finish rings.costs (ring rings) (numbers_of time) q
+  queue_finish q is_queue some = kept.finishes_are.each q (let a = kept.finishes_are.room in omega arith) ∙ finish_some rings.costs (get_or time.next q 0) (ring rings q) some
 
   small_finish : (q : ℕ) → q < length rings.queues → ring rings q ≢ [] → get_or finishes q 0 < no_finish
-  small_finish q is_queue some = let a = queue_finish q is_queue some in let b = small_sum rings widths time waiting limit kept.consistent q (get_or (ring rings q) 0 0) in omega arith
+  small_finish q is_queue some = let a = queue_finish q is_queue some in let b = small_sum rings time limit kept.consistent q (get_or (ring rings q) 0 0) in omega arith
 
   -- a queue with a finish is one in which someone waits
   waited_in : (q : ℕ) → q < length finishes → get_or finishes q 0 < no_finish → ring rings q ≢ []
   waited_in q below finish none =
       let a = kept.finishes_are.each q below in
-      let b = ap (λ (xs : List ℕ). finish_with widths (get_or time.next q 0) (slice_get xs 0)) none in
+      let b = ap (λ (xs : List ℕ). finish_with rings.costs (get_or time.next q 0) (slice_get xs 0)) none in
       absurd (omega arith)
 
   some_queue : (q : ℕ) → ring rings q ≢ [] → q < length rings.queues
@@ -113,7 +104,7 @@ module _ (rings : RingsView) (widths : List ℕ) (time : TimeView) (finishes : L
   -- the first queue of least finish is the choice
   pub first_is_choice : (from q : ℕ) → IsFirstLeastFrom finishes from q
       → ((x p : ℕ) → x < length rings.queues → p < length rings.queues → IsReachedBy from x p → steps_round (length rings.queues) time.robin x ≤ steps_round (length rings.queues) time.robin p)
-      → IsChoice (length rings.queues) widths (ring rings) (numbers_of time) q
+      → IsChoice (length rings.queues) rings.costs (ring rings) (numbers_of time) q
   first_is_choice from q first round =
       let some = waited_in q first.is_queue first.is_finish in
       let is_queue = some_queue q some in
@@ -130,7 +121,7 @@ module _ (rings : RingsView) (widths : List ℕ) (time : TimeView) (finishes : L
   pub choice_found : (queues robin from : ℕ) (o : Option ℕ) → queues ≡ length rings.queues → robin ≡ time.robin
       → ((x p : ℕ) → x < queues → p < queues → IsReachedBy from x p → steps_round queues robin x ≤ steps_round queues robin p)
       → IfNone o ((q : ℕ) → q < length finishes → no_finish ≤ get_or finishes q 0) → IfSome o (IsFirstLeastFrom finishes from)
-      → MatchOption o ((q : ℕ) → q < length rings.queues → ring rings q ≡ []) (IsChoice (length rings.queues) widths (ring rings) (numbers_of time))
+      → MatchOption o ((q : ℕ) → q < length rings.queues → ring rings q ≡ []) (IsChoice (length rings.queues) rings.costs (ring rings) (numbers_of time))
   choice_found queues robin from None e f round none some = nothing_waits none
   choice_found queues robin from (Some q) e f round none some =
       first_is_choice from q some
@@ -138,11 +129,17 @@ module _ (rings : RingsView) (widths : List ℕ) (time : TimeView) (finishes : L
       (subst (λ (n : ℕ). (x p : ℕ) → x < queues → p < queues → IsReachedBy from x p → steps_round queues n x ≤ steps_round queues n p) f round))
 
 -- queues in which nothing ever was
-pub opening_finishes : (queues requests : ℕ) (widths : List ℕ) (time : TimeView) (finishes : List ℕ) → queues ≤ length finishes
+pub opening_finishes : (queues requests : ℕ) (costs : List ℕ) (time : TimeView) (finishes : List ℕ) → queues ≤ length finishes
     → ((q : ℕ) → q < length finishes → get_or finishes q 0 ≡ no_finish)
-    → AreFinishes (record { queues = replicate queues []; requests = requests }) widths time finishes
-opening_finishes queues requests widths time finishes room empty =
+    → AreFinishes (record { queues = replicate queues []; costs = costs; requests = requests }) time finishes
+opening_finishes queues requests costs time finishes room empty =
     record {
       room = (let a : length (replicate {A = List ℕ} queues []) ≡ queues = length-replicate queues [] in omega arith);
-      each = λ q below. empty q below ∙ sym (ap (λ (xs : List ℕ). finish_with widths (get_or time.next q 0) (slice_get xs 0)) (empties queues q));
+      each = λ q below. empty q below ∙ sym (ap (λ (xs : List ℕ). finish_with costs (get_or time.next q 0) (slice_get xs 0)) (empties queues q));
     }
+
+-- a request that no queue is recorded for stands in none
+pub stands_nowhere : (o : Option ℕ) (r : ℕ) (queues : List (List ℕ)) → ((q : ℕ) → (o ≡ Some q) ↔ Contains (get_or queues q []) r)
+    → IfNone o ((q : ℕ) → Contains (get_or queues q []) r → ⊥)
+stands_nowhere None r queues stands = λ q c. (let e : ◌≡◌ {A = Option ℕ} None (Some q) = (stands q).1 c in cc)
+stands_nowhere (Some p) r queues stands = tt

@@ -1,4 +1,6 @@
 pub mod Chains
+pub mod Columns
+pub mod Linked
 pub mod Places
 pub mod RingLists
 pub mod RingSteps

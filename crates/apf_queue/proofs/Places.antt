@@ -3,7 +3,7 @@ use Rattle.std.proofs.Common.{◌≡◌, ◌≢◌, ℕ, suc, ◌<◌, ◌⊎◌
 use Rattle.std.specs.Prelude.{Contains, slice_get}
 use Rattle.std.proofs.lemmas.Bool.{cases_eq, eq-eqb, ne_eqb, false≢true}
 use Rattle.std.proofs.lemmas.List.Elements.{All-contains, All-contains_itself, All-filter, filter_passes, Contains-append_cases, Contains-push_cases}
-use Rattle.apf_queue.specs.Links.{NotIn, AreApart}
+use Rattle.apf_queue.specs.Nodes.{NotIn, AreApart}
 use Rattle.apf_queue.specs.RingsView.{without}
 
 pub Contains-head : (x : ℕ) (xs : List ℕ) → Contains (x ∷ xs) x

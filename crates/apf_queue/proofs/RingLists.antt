@@ -4,7 +4,7 @@ use Rattle.std.specs.Prelude.{Contains, slice_get}
 use Rattle.std.proofs.lemmas.Bool.{cases_eq}
 use Rattle.std.proofs.lemmas.List.{ext_get_or, length_push}
 use Rattle.std.proofs.lemmas.List.Elements.{Contains-append_left, Contains-push, Contains-push_cases}
-use Rattle.apf_queue.specs.Links.{NotIn, AreApart, Leads, IsRing, AreLinked}
+use Rattle.apf_queue.specs.Nodes.{NotIn, AreApart, Leads, IsRing, AreLinked}
 use Rattle.apf_queue.specs.RingsView.{RingsView, ring as seen_list, AreRings, follow, rings_from, ring_at, queue_at, without}
 use Rattle.apf_queue.proofs.Places.{Contains-head, NotIn-from, AreApart-push, AreApart-out, length-out, without-out, IsSplit, split_at, Contains-without, without-contains}
 
@@ -37,7 +37,7 @@ first_contained next a zero some = absurd (some refl)
 first_contained next a (suc n) some = Contains-head (get_or next a 0) (follow next (get_or next a 0) n)
 
 -- what contracts see of the fields
-module _ (requests : ℕ) (next lengths : List ℕ) (seen : RingsView) (is : ◌≡◌ {A = RingsView} (record { queues = rings_from next requests lengths; requests = requests }) seen) where
+module _ (requests : ℕ) (next lengths costs : List ℕ) (seen : RingsView) (is : ◌≡◌ {A = RingsView} (record { queues = rings_from next requests lengths; costs = costs; requests = requests }) seen) where
   pub seen_count : length seen.queues ≡ length lengths
   seen_count = sym (ap (λ (v : RingsView). length v.queues) is) ∙ length-rings_from next requests lengths
 
@@ -149,7 +149,7 @@ module _ (requests : ℕ) (next previous : List ℕ) (queue_of : List (Option �
   ]
 
   r_in_list : r < length queue_of
-  r_in_list = subst (λ (m : ℕ). r < m) (sym rings.one_queue_each) r_in
+  r_in_list = let a = rings.one_queue_each in let b = rings.one_node_each in let l = r_in in omega arith
 
   queue_kept : (x : ℕ) → x ≢ r → queue_at (set queue_of r (Some q)) x ≡ queue_at queue_of x
   queue_kept x ne = get_or-set_other queue_of r x (Some q) None ne
@@ -203,7 +203,7 @@ module _ (requests : ℕ) (next previous : List ℕ) (queue_of : List (Option �
         linked = linked;
         one_node_each = same_len ∙ rings.one_node_each ∙ ap (λ m. requests + m) (sym (length-set lengths q n));
         nodes_fit = subst (λ (m : ℕ). requests + m < 2 ^ 32) (sym (length-set lengths q n)) rings.nodes_fit;
-        one_queue_each = length-set queue_of r (Some q) ∙ rings.one_queue_each;
+        one_queue_each = length-set queue_of r (Some q) ∙ rings.one_queue_each ∙ sym same_len;
         ring = ring_after;
         apart = apart_after;
         counted = counted_after;
@@ -265,7 +265,7 @@ module _ (requests : ℕ) (next previous : List ℕ) (queue_of : List (Option �
   ]
 
   r_in_queues : r < length queue_of
-  r_in_queues = subst (λ (m : ℕ). r < m) (sym rings.one_queue_each) r_in
+  r_in_queues = let a = rings.one_queue_each in let b = rings.one_node_each in let l = r_in in omega arith
 
   queue_stays : (x : ℕ) → x ≢ r → queue_at (set queue_of r None) x ≡ queue_at queue_of x
   queue_stays x ne = get_or-set_other queue_of r x None None ne
@@ -310,7 +310,7 @@ module _ (requests : ℕ) (next previous : List ℕ) (queue_of : List (Option �
         linked = linked;
         one_node_each = same_len ∙ rings.one_node_each ∙ ap (λ m. requests + m) (sym (length-set lengths q n));
         nodes_fit = subst (λ (m : ℕ). requests + m < 2 ^ 32) (sym (length-set lengths q n)) rings.nodes_fit;
-        one_queue_each = length-set queue_of r None ∙ rings.one_queue_each;
+        one_queue_each = length-set queue_of r None ∙ rings.one_queue_each ∙ sym same_len;
         ring = ring_left;
         apart = apart_left_over;
         counted = counted_left;

@@ -4,7 +4,7 @@ use Rattle.std.specs.Int.{IsPowerOfTwo}
 
 -- what stands in place of a finish where nothing waits
 abbrev pub no_finish : ℕ
-no_finish = 2 ^ 64 - 1
+no_finish = 2 ^ 128 - 1
 
 -- counting round from `from`, q is reached no later than p
 abbrev pub IsReachedBy : ℕ → ℕ → ℕ → Type 0

@@ -1,6 +1,6 @@
 pub mod Faults
 pub mod Finishes
-pub mod Links
+pub mod Nodes
 pub mod RingsView
 pub mod TimeView
 pub mod View

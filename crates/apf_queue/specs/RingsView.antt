@@ -1,10 +1,11 @@
 -- The rings of the queues, seen as lists of requests.
 use Rattle.std.specs.Prelude.{◌≡◌, ℕ, zero, suc, ◌+◌, ◌^◌, ◌<◌, ◌==◌, not, List, [], ◌∷◌, length, slice_index, slice_index_or, filter, Contains, Option, Some, None}
-use Rattle.apf_queue.specs.Links.{AreApart, IsRing, AreLinked}
+use Rattle.apf_queue.specs.Nodes.{AreApart, IsRing, AreLinked}
 
--- what contracts see: the requests that stand in each queue, in order, and how many requests there are
+-- what contracts see: the requests that stand in each queue, in order, what the dispatch of each request is charged, and how many requests there are
 pub record RingsView : Type 0 where
   pub queues : List (List ℕ)
+  pub costs : List ℕ
   pub requests : ℕ
 
 -- the requests that stand in queue q
@@ -38,7 +39,7 @@ pub record AreRings (requests : ℕ) (next previous : List ℕ) (queue_of : List
   pub linked : AreLinked next previous
   pub one_node_each : length next ≡ requests + length lengths
   pub nodes_fit : requests + length lengths < 2 ^ 32
-  pub one_queue_each : length queue_of ≡ requests
+  pub one_queue_each : length queue_of ≡ length next
   pub ring : (q : ℕ) → q < length lengths → IsRing next (requests + q) (queue q)
   pub apart : (q : ℕ) → q < length lengths → AreApart (queue q)
   pub counted : (q : ℕ) → q < length lengths → slice_index lengths q ≡ length (queue q)

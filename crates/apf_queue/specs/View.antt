@@ -1,8 +1,8 @@
 -- The queues of a level, as contracts see them.
-use Rattle.std.specs.Prelude.{◌≡◌, ◌≢◌, ℕ, ◌-◌, ◌<◌, ◌≤◌, List, [], ◌∷◌, ◌++◌, length, drop, slice_index, slice_index_or, slice_get, slice_set, replicate, Some}
+use Rattle.std.specs.Prelude.{◌≡◌, ℕ, ◌-◌, ◌^◌, ◌<◌, ◌≤◌, List, [], ◌∷◌, ◌++◌, length, drop, slice_index, slice_index_or, slice_get, slice_set, replicate, Contains, Some}
 use Rattle.apf_words.specs.Limits.{max_queues, max_queue_length, max_requests}
 use Rattle.apf_model.specs.World.{width}
-use Rattle.apf_model.specs.Fair.{Numbers, after_enter, after_dispatch, finish, IsChoice}
+use Rattle.apf_model.specs.Fair.{Numbers, after_enter, after_dispatch, IsChoice}
 use Rattle.apf_queue.specs.declared.choice.Chosen.{Chosen}
 use Rattle.apf_queue.specs.RingsView.{without}
 
@@ -10,8 +10,8 @@ use Rattle.apf_queue.specs.RingsView.{without}
 pub record QueuesView : Type 0 where
   -- the requests that wait in each queue, in the order of entry
   pub queues : List (List ℕ)
-  -- the width of each request that was pushed, and 0 for the others
-  pub widths : List ℕ
+  -- what the dispatch of each request is charged: the cost of its newest push, and 0 before its first
+  pub costs : List ℕ
   -- the number next of each queue
   pub next : List ℕ
   -- the level's virtual time, R
@@ -34,7 +34,7 @@ abbrev pub opening_view : ℕ → ℕ → ℕ → QueuesView
 opening_view queues length_limit requests =
     record {
       queues = replicate queues [];
-      widths = replicate requests 0;
+      costs = replicate requests 0;
       next = replicate queues 0;
       virtual_time = 0;
       robin = queues - 1;
@@ -47,7 +47,7 @@ queue_count s = length s.queues
 
 -- how many requests there are
 abbrev pub request_count : QueuesView → ℕ
-request_count s = length s.widths
+request_count s = length s.costs
 
 -- the requests that wait in queue q, in the order of entry
 abbrev pub queue_in : QueuesView → ℕ → List ℕ
@@ -57,18 +57,18 @@ queue_in s q = slice_index_or s.queues q []
 abbrev pub numbers_in : QueuesView → Numbers
 numbers_in s = record { next = λ q. slice_index s.next q; virtual_time = s.virtual_time; robin = s.robin }
 
--- no push of r was Ok
-abbrev pub WasNeverPushed : QueuesView → ℕ → Type 0
-WasNeverPushed s r = width s.widths r ≡ 0
+-- r stands in no queue
+abbrev pub StandsNowhere : QueuesView → ℕ → Type 0
+StandsNowhere s r = (q : ℕ) → ¬ Contains (queue_in s q) r
 
 -- nothing waits
 abbrev pub NothingWaits : QueuesView → Type 0
 NothingWaits s = (q : ℕ) → q < queue_count s → queue_in s q ≡ []
 
--- r, of this width, enters q: it is put at the end
+-- r, of this cost, enters q: it is put at the end
 pub record Enters (old new : QueuesView) (q r k : ℕ) : Type 0 where
   pub queues : new.queues ≡ slice_set old.queues q (queue_in old q ++ r ∷ [])
-  pub widths : new.widths ≡ slice_set old.widths r k
+  pub costs : new.costs ≡ slice_set old.costs r k
   pub numbers : numbers_in new ≡ after_enter q (queue_in old q) (numbers_in old)
   pub length_limit : new.length_limit ≡ old.length_limit
 
@@ -76,26 +76,28 @@ pub record Enters (old new : QueuesView) (q r k : ℕ) : Type 0 where
 abbrev pub struck : QueuesView → ℕ → ℕ → QueuesView
 struck s q r = record s { queues = slice_set s.queues q (without r (queue_in s q)) }
 
--- the first request of q, of this width, is dispatched
+-- the first request of q, of this cost, is dispatched
 pub record Dispatches (old new : QueuesView) (q k : ℕ) : Type 0 where
   pub queues : new.queues ≡ slice_set old.queues q (drop 1 (queue_in old q))
-  pub widths : new.widths ≡ old.widths
+  pub costs : new.costs ≡ old.costs
   pub numbers : numbers_in new ≡ after_dispatch q k (numbers_in old)
   pub length_limit : new.length_limit ≡ old.length_limit
 
--- the first request of queue q, with its width
+-- the first request of queue q, with its cost
 pub record IsHead (s : QueuesView) (q : ℕ) (c : Chosen) : Type 0 where
   pub queue_is : c.queue ≡ q
   pub is_first : slice_get (queue_in s q) 0 ≡ Some c.request
-  pub width_is : c.width ≡ width s.widths c.request
+  pub cost_is : c.cost ≡ width s.costs c.request
 
--- this is what is dispatched next: the choice, its first request and that one's width
+-- this is what is dispatched next: the choice, its first request and that one's cost
 pub record IsChosen (s : QueuesView) (c : Chosen) : Type 0 where
-  pub is_choice : IsChoice (queue_count s) s.widths (queue_in s) (numbers_in s) c.queue
+  pub is_choice : IsChoice (queue_count s) s.costs (queue_in s) (numbers_in s) c.queue
   pub is_head : IsHead s c.queue c
 
--- no number of virtual time and no finish is above 200,000,000
-pub record AreSmall (s : QueuesView) : Type 0 where
-  pub next : (q : ℕ) → slice_index s.next q ≤ 200000000
-  pub virtual_time : s.virtual_time ≤ 200000000
-  pub finish : (q : ℕ) → queue_in s q ≢ [] → finish s.widths (queue_in s) (numbers_in s) q ≤ 200000000
+-- up to this, the number of a queue may grow: far more than 20,000 times all requests that can ever be numbered, and far less than 2^128
+abbrev pub latest_time : ℕ
+latest_time = 2 ^ 127
+
+-- virtual time may go on in queue q
+abbrev pub HasTime : QueuesView → ℕ → Type 0
+HasTime s q = slice_index s.next q ≤ latest_time

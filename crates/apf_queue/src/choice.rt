@@ -11,8 +11,8 @@ pub struct Chosen {
     pub queue: u32,
     /// Its first request.
     pub request: u32,
-    /// That request's width, in seats.
-    pub width: u32,
+    /// What its dispatch is charged.
+    pub cost: u32,
 }
 
 // The queue after the robin, from which the count goes round.

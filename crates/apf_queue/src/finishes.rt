@@ -12,13 +12,13 @@ use std::alloc::{AllocError, Allocator};
 use std::marker::Model;
 
 /// What stands in place of the virtual finish of a queue in which nothing waits: above each finish.
-pub const NO_FINISH: u64 = u64::MAX;
+pub const NO_FINISH: u128 = u128::MAX;
 
 // The finishes of the queues, and the least of them.
 #[derive(Drop)]
 pub struct Finishes<A: Allocator> {
     leaves: usize,
-    least: Vec<u64, A>,
+    least: Vec<u128, A>,
 }
 
 // Clauses see the finishes alone, and not what the tree holds of them.
@@ -44,7 +44,7 @@ fn leaf_count(queues: u32) -> usize
 }
 
 // Puts the finish at the leaf, and sets the nodes above it as far as their least changes.
-fn put(least: &mut [u64], leaves: usize, leaf: usize, finish: u64)
+fn put(least: &mut [u128], leaves: usize, leaf: usize, finish: u128)
     requires least { AreLeast leaves least.old }
     requires is_leaf { leaves ≤ leaf }
     requires is_node { leaf < 2 * leaves }
@@ -64,7 +64,7 @@ fn put(least: &mut [u64], leaves: usize, leaf: usize, finish: u64)
 }
 
 // The first leaf under the node that holds what the node holds.
-fn first_under(least: &[u64], leaves: usize, node: usize) -> usize
+fn first_under(least: &[u128], leaves: usize, node: usize) -> usize
     requires least { AreLeast leaves least.now }
     requires above { 1 ≤ node }
     requires is_node { node < 2 * leaves }
@@ -85,7 +85,7 @@ fn first_under(least: &[u64], leaves: usize, node: usize) -> usize
 // Where none does under the node, the count goes on at the leaf after these: the first one under the
 // next node, or under the one above it if that begins there too. After the last leaf of all the
 // number of the next node is that of one which begins at the first leaf.
-fn first_round(least: &[u64], leaves: usize, node: usize) -> usize
+fn first_round(least: &[u128], leaves: usize, node: usize) -> usize
     requires least { AreLeast leaves least.now }
     requires above { 1 ≤ node }
     requires is_node { node < 2 * leaves }
@@ -115,7 +115,7 @@ impl<A: Allocator> Finishes<A> {
 
 impl<A: Allocator> Finishes<A> {
     // The finish of the queue is this one from now on.
-    pub fn set(&mut self, queue: u32, finish: u64)
+    pub fn set(&mut self, queue: u32, finish: u128)
         requires { queue < length self.old }
         ensures { self.new ≡ slice_set self.old queue finish }
     {
@@ -130,7 +130,7 @@ impl<A: Allocator> Finishes<A> {
         ensures none { IfNone result ((q : ℕ) → q < length self.now → no_finish ≤ slice_index self.now q) }
         ensures some { IfSome result (IsFirstLeastFrom self.now from) }
     {
-        let least: &[u64] = &self.least;
+        let least: &[u128] = &self.least;
         if least[1] >= NO_FINISH {
             return None;
         }

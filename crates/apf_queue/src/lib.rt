@@ -4,7 +4,7 @@
 //! In the order of the data's way:
 //!
 //! - `fault`: what is refused.
-//! - `links`: rings of nodes that are linked both ways, over two slices.
+//! - `nodes`: rings of nodes that are linked both ways, in one slice.
 //! - `rings`: one ring for each queue, in which a request can be taken out of any place.
 //! - `virtual_time`: what a request that enters or is dispatched does to the numbers.
 //! - `finishes`: the least of the virtual finishes, and where it stands first.
@@ -15,7 +15,7 @@
 mod choice;
 mod fault;
 mod finishes;
-mod links;
+mod nodes;
 mod queues;
 mod rings;
 mod virtual_time;

@@ -5,7 +5,7 @@ ghost use Rattle.apf_words.specs.Limits.{max_width};
 ghost use Rattle.apf_model.specs.History.{IsShortest};
 ghost use Rattle.apf_model.specs.Fair.{opening_numbers, IsChoice};
 ghost use Rattle.apf_queue.specs.RingsView.{without};
-ghost use Rattle.apf_queue.specs.View.{IsQueueShape, opening_view, queue_count, request_count, queue_in, numbers_in, WasNeverPushed, NothingWaits, Enters, struck, Dispatches, IsHead, IsChosen, AreSmall};
+ghost use Rattle.apf_queue.specs.View.{IsQueueShape, opening_view, queue_count, request_count, queue_in, numbers_in, StandsNowhere, NothingWaits, Enters, struck, Dispatches, IsHead, IsChosen, HasTime};
 ghost use Rattle.apf_queue.specs.Consistent.{finish_at};
 
 use crate::choice::{Chosen, queue_after};
@@ -19,16 +19,15 @@ use std::marker::Model;
 
 /// The queues of a priority level.
 ///
-/// Requests and queues are named by their numbers, from 0.
+/// Requests and queues are named by their numbers, from 0. A request that stands in no queue may be
+/// pushed, however often its number stood in a queue before.
 #[derive(Drop)]
 pub struct Queues<A: Allocator> {
     length_limit: u32,
     rings: Rings<A>,
-    widths: Vec<u32, A>,
     time: VirtualTime<A>,
     // The virtual finish of each queue, so that the least is found at once.
     finishes: Finishes<A>,
-    waiting: u32,
 }
 
 // Clauses see the queues as lists of requests, with the numbers of virtual time.
@@ -40,14 +39,14 @@ impl<A: Allocator> Model for Queues<A> {
 
     ghost view = { λ s. record {
       queues = s.rings.queues;
-      widths = s.widths.items;
+      costs = s.rings.costs;
       next = s.time.next;
       virtual_time = s.time.virtual_time;
       robin = s.time.robin;
       length_limit = s.length_limit;
     } };
 
-    ghost invariant = { λ s. AreKept s.rings s.widths.items s.time s.finishes s.waiting s.length_limit };
+    ghost invariant = { λ s. AreKept s.rings s.time s.finishes s.length_limit };
 }
 
 // Whether the numbers are in range.
@@ -60,21 +59,15 @@ fn is_shape(queues: u32, length_limit: u32, requests: u32) -> bool
 }
 
 // The virtual finish of the queue, or `NO_FINISH` if it is empty.
-fn finish_in<A: Allocator>(
-    rings: &Rings<A>,
-    widths: &[u32],
-    time: &VirtualTime<A>,
-    queue: u32,
-) -> u64
+fn finish_in<A: Allocator>(rings: &Rings<A>, time: &VirtualTime<A>, queue: u32) -> u128
     requires is_queue { queue < length rings.now.queues }
     requires one_next_each { length time.now.next ≡ length rings.now.queues }
-    requires one_width_each { length widths.now ≡ rings.now.requests }
-    requires fits { (r : ℕ) → slice_index time.now.next queue + slice_index widths.now r < 2 ^ 64 }
-    ensures { result ≡ finish_at rings.now widths.now time.now queue }
+    requires fits { (r : ℕ) → slice_index time.now.next queue + slice_index rings.now.costs r < 2 ^ 128 }
+    ensures { result ≡ finish_at rings.now time.now queue }
 {
     match rings.first(queue) {
         None => NO_FINISH,
-        Some(request) => time.finish(queue, widths[request as usize]),
+        Some(request) => time.finish(queue, rings.cost(request)),
     }
 }
 
@@ -106,10 +99,8 @@ impl<A: Allocator + Copy> Queues<A> {
         Ok(Queues {
             length_limit,
             rings: Rings::new(alloc, queues, requests)?,
-            widths: vec![in alloc; 0; requests as usize]?,
             time: VirtualTime::new(alloc, queues)?,
             finishes: Finishes::new(alloc, queues)?,
-            waiting: 0,
         })
     }
 }
@@ -142,32 +133,41 @@ impl<A: Allocator> Queues<A> {
         hand[place]
     }
 
-    /// Puts the request, of this width in seats, at the end of the queue. A queue that was empty
-    /// starts no earlier than the level's virtual time.
+    /// The queue in which the request stands, or `None` if it stands in none.
+    pub fn queue_of(&self, request: u32) -> Option<u32>
+        requires { request < request_count self.now }
+        ensures stands { (q : ℕ) → (result ≡ Some q) ↔ Contains (queue_in self.now q) request }
+        ensures nowhere { IfNone result (StandsNowhere self.now request) }
+    {
+        self.rings.queue_of(request)
+    }
+
+    /// Puts the request, whose dispatch is charged this cost, at the end of the queue. A queue that was
+    /// empty starts no earlier than the level's virtual time.
+    ///
+    /// The request stands in no queue now, which `queue_of` tells. A cost is 1 to 20,000.
     ///
     /// # Errors
     ///
     /// `Full` exactly if the queue holds as many requests as the length limit says; then nothing
     /// changes.
-    pub fn push(&mut self, queue: u32, request: u32, width: u32) -> Result<(), Full>
+    pub fn push(&mut self, queue: u32, request: u32, cost: u32) -> Result<(), Full>
         requires is_queue { queue < queue_count self.old }
         requires is_request { request < request_count self.old }
-        requires has_width { 1 ≤ width }
-        requires narrow { width ≤ max_width }
-        requires is_new { WasNeverPushed self.old request }
+        requires has_cost { 1 ≤ cost }
+        requires low { cost ≤ max_width }
+        requires is_nowhere { StandsNowhere self.old request }
         ensures full { IsErr result ↔ (length (queue_in self.old queue) ≡ self.old.length_limit) }
         ensures unchanged { OnErr result (self.new ≡ self.old) }
-        ensures enters { OnOk result (Enters self.old self.new queue request width) }
+        ensures enters { OnOk result (Enters self.old self.new queue request cost) }
     {
         let len = self.rings.len(queue);
         if len == self.length_limit {
             return Err(Full);
         }
-        self.rings.push(queue, request);
-        self.widths[request as usize] = width;
+        self.rings.push(queue, request, cost);
         self.time.enter(queue, len);
-        self.waiting += 1;
-        let finish = finish_in(&self.rings, &self.widths, &self.time, queue);
+        let finish = finish_in(&self.rings, &self.time, queue);
         self.finishes.set(queue, finish);
         Ok(())
     }
@@ -183,8 +183,7 @@ impl<A: Allocator> Queues<A> {
             → without request (queue_in self.old q) ≡ before ++ after }
     {
         let queue = self.rings.remove(request)?;
-        self.waiting -= 1;
-        let finish_left = finish_in(&self.rings, &self.widths, &self.time, queue);
+        let finish_left = finish_in(&self.rings, &self.time, queue);
         self.finishes.set(queue, finish_left);
         Some(queue)
     }
@@ -193,24 +192,34 @@ impl<A: Allocator> Queues<A> {
     /// finish, the first request of the one that is reached first when counting round from the queue
     /// after the one that was dispatched from last. `None` exactly if nothing waits.
     pub fn choose(&self) -> Option<Chosen>
-        ensures chosen { MatchOption result (NothingWaits self.now) (IsChosen self.now) }
-        ensures small { AreSmall self.now }
+        ensures { MatchOption result (NothingWaits self.now) (IsChosen self.now) }
     {
         let queue = self.choice()?;
         self.chosen_of(queue)
     }
 
     /// Dispatches what `choose` gives now: takes it out of its queue, and moves the numbers of
-    /// virtual time on by its width.
+    /// virtual time on by its cost.
+    ///
+    /// Virtual time may go on in that queue, which `has_time` tells. It always may before the 2^112th
+    /// dispatch.
     pub fn dispatch(&mut self, chosen: Chosen)
-        requires { IsChosen self.old chosen }
-        ensures { Dispatches self.old self.new chosen.queue chosen.width }
+        requires chosen { IsChosen self.old chosen }
+        requires time { HasTime self.old chosen.queue }
+        ensures { Dispatches self.old self.new chosen.queue chosen.cost }
     {
         let _ = self.rings.remove(chosen.request);
-        self.time.dispatch(chosen.queue, chosen.width);
-        self.waiting -= 1;
-        let finish_left = finish_in(&self.rings, &self.widths, &self.time, chosen.queue);
+        self.time.dispatch(chosen.queue, chosen.cost);
+        let finish_left = finish_in(&self.rings, &self.time, chosen.queue);
         self.finishes.set(chosen.queue, finish_left);
+    }
+
+    /// Whether virtual time may go on in the queue: whether its number is at most 2^127.
+    pub fn has_time(&self, queue: u32) -> bool
+        requires { queue < queue_count self.now }
+        ensures { IsTrue result ↔ HasTime self.now queue }
+    {
+        self.time.has_time(queue)
     }
 
     // How many queues there are.
@@ -229,15 +238,14 @@ impl<A: Allocator> Queues<A> {
         Some(Chosen {
             queue,
             request,
-            width: self.widths[request as usize],
+            cost: self.rings.cost(request),
         })
     }
 
     // The queue of least virtual finish that is reached first when counting round from the queue after
     // the robin, or `None` if nothing waits.
     fn choice(&self) -> Option<u32>
-        ensures chosen { MatchOption result (NothingWaits self.now) (IsChoice (queue_count self.now) self.now.widths (queue_in self.now) (numbers_in self.now)) }
-        ensures small { AreSmall self.now }
+        ensures { MatchOption result (NothingWaits self.now) (IsChoice (queue_count self.now) self.now.costs (queue_in self.now) (numbers_in self.now)) }
     {
         let after = queue_after(self.queue_count(), self.time.robin());
         self.finishes.first_least(after)

@@ -3,18 +3,22 @@
 //! Each queue has its own virtual time, `next`: where the service of its next request starts. The
 //! level's virtual time never falls behind the start of what it dispatches.
 
-ghost use Rattle.std.specs.Prelude.{◌≡◌, ℕ, ◌+◌, ◌-◌, ◌<◌, ◌^◌, List, length, slice_index, replicate, IfOk};
+ghost use Rattle.std.specs.Prelude.{◌≡◌, ℕ, ◌+◌, ◌-◌, ◌<◌, ◌≤◌, ◌^◌, ◌↔◌, List, length, slice_index, replicate, IsTrue, IfOk};
 ghost use Rattle.apf_model.specs.Fair.{after_enter, after_dispatch};
 ghost use Rattle.apf_queue.specs.TimeView.{numbers_of};
+ghost use Rattle.apf_queue.specs.View.{latest_time};
 
 use std::alloc::{AllocError, Allocator};
 use std::marker::Model;
 
-// The numbers of a level's virtual time, in seats.
+// Up to this, the number of a queue may grow.
+const LATEST_TIME: u128 = 1 << 127;
+
+// The numbers of a level's virtual time, in the unit of costs.
 #[derive(Drop)]
 pub struct VirtualTime<A: Allocator> {
-    next: Vec<u64, A>,
-    level: u64,
+    next: Vec<u128, A>,
+    level: u128,
     robin: u32,
 }
 
@@ -46,13 +50,21 @@ impl<A: Allocator> VirtualTime<A> {
         self.robin
     }
 
-    // The virtual finish of the queue, whose first request is of this width.
-    pub fn finish(&self, queue: u32, width: u32) -> u64
-        requires is_queue { queue < length self.now.next }
-        requires fits { slice_index self.now.next queue + width < 2 ^ 64 }
-        ensures { result ≡ slice_index self.now.next queue + width }
+    // Whether virtual time may go on in the queue.
+    pub fn has_time(&self, queue: u32) -> bool
+        requires { queue < length self.now.next }
+        ensures { IsTrue result ↔ (slice_index self.now.next queue ≤ latest_time) }
     {
-        self.next[queue as usize] + u64::from(width)
+        self.next[queue as usize] <= LATEST_TIME
+    }
+
+    // The virtual finish of the queue, whose first request is of this cost.
+    pub fn finish(&self, queue: u32, cost: u32) -> u128
+        requires is_queue { queue < length self.now.next }
+        requires fits { slice_index self.now.next queue + cost < 2 ^ 128 }
+        ensures { result ≡ slice_index self.now.next queue + cost }
+    {
+        self.next[queue as usize] + u128::from(cost)
     }
 
     // A request enters the queue, in which this many wait: one that was empty starts no earlier than
@@ -68,16 +80,16 @@ impl<A: Allocator> VirtualTime<A> {
         }
     }
 
-    // A request of this width is dispatched from the queue.
-    pub fn dispatch(&mut self, queue: u32, width: u32)
+    // A request of this cost is dispatched from the queue.
+    pub fn dispatch(&mut self, queue: u32, cost: u32)
         requires is_queue { queue < length self.old.next }
-        requires fits { slice_index self.old.next queue + width < 2 ^ 64 }
-        ensures numbers { numbers_of self.new ≡ after_dispatch queue width (numbers_of self.old) }
+        requires fits { slice_index self.old.next queue + cost < 2 ^ 128 }
+        ensures numbers { numbers_of self.new ≡ after_dispatch queue cost (numbers_of self.old) }
         ensures one_for_each { length self.new.next ≡ length self.old.next }
     {
         let next = self.next[queue as usize];
         self.level = self.level.max(next);
-        self.next[queue as usize] = next + u64::from(width);
+        self.next[queue as usize] = next + u128::from(cost);
         self.robin = queue;
     }
 }

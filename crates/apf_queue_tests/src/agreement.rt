@@ -2,7 +2,7 @@
 //! program, which computes them of the history so far.
 //!
 //! The calls are made on one level after another, so that the histories stay short enough for the plain
-//! program. On every second level the widths are small, so that finishes are often equal.
+//! program. On every second level the costs are small, so that finishes are often equal.
 
 use crate::draws::Xorshift;
 use crate::levels::{Level, Place, Seen};
@@ -46,8 +46,8 @@ fn agree(rt: &impl Abort, alloc: Global, queues: u32) -> Result<Seen, Fail> {
     let mut random = Xorshift::new(88_172_645_463_325_252);
     let mut seen = Seen::default();
     for number in 0..CALLS / CALLS_OF_LEVEL {
-        let widest = if number % 2 == 0 { 3 } else { 20_000 };
-        let mut level = Level::new(alloc, queues, widest, &mut random)?;
+        let greatest = if number % 2 == 0 { 3 } else { 20_000 };
+        let mut level = Level::new(alloc, queues, greatest, &mut random)?;
         let from = random.below(queues);
         for _ in 0..CALLS_OF_LEVEL {
             let queue = queue_of(&mut random, queues, from);

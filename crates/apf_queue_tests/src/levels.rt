@@ -35,37 +35,37 @@ pub struct Seen {
     pub plainly: u32,
 }
 
-// Queues, the widths of the requests, and the history, the newest event first.
+// Queues, the costs of the requests, and the history, the newest event first.
 #[derive(Drop)]
 pub struct Level {
     alloc: Global,
     queues: u32,
     checked: Checked,
     slow: Slow,
-    widths: Vec<u32>,
+    costs: Vec<u32>,
     history: Vec<Event>,
     // The queue into which each request so far was to be put.
     drawn: Vec<u32>,
 }
 
 impl Level {
-    // A level of this many queues, whose requests have widths of at most this many seats.
+    // A level of this many queues, whose requests have costs of at most this.
     pub fn new(
         alloc: Global,
         queues: u32,
-        widest: u32,
+        greatest: u32,
         random: &mut Xorshift,
     ) -> Result<Level, Fail> {
-        let mut widths = Vec::new(alloc);
+        let mut costs = Vec::new(alloc);
         for _ in 0..REQUESTS {
-            widths.push(1u32.saturating_add(random.below(widest)))?;
+            costs.push(1u32.saturating_add(random.below(greatest)))?;
         }
         Ok(Level {
             alloc,
             queues,
             checked: Checked::new(alloc, queues, LENGTH_LIMIT, REQUESTS)?,
             slow: Slow::new(alloc, queues, LENGTH_LIMIT)?,
-            widths,
+            costs,
             history: Vec::new(alloc),
             drawn: Vec::new(alloc),
         })
@@ -74,11 +74,11 @@ impl Level {
     // The next request enters the queue.
     pub fn push(&mut self, rt: &impl Abort, queue: u32, seen: &mut Seen) -> Result<(), Fail> {
         let request = u32::try_from(self.drawn.len()).unwrap_or(REQUESTS);
-        let Some(width) = self.widths.get(request as usize).copied() else {
+        let Some(cost) = self.costs.get(request as usize).copied() else {
             return Ok(());
         };
-        let has_room = self.slow.push(queue, request, width)?;
-        let answer = self.checked.push(queue, request, width);
+        let has_room = self.slow.push(queue, request, cost)?;
+        let answer = self.checked.push(queue, request, cost);
         assert_eq!(rt; answer.map(|entered| entered.is_ok()), Some(has_room));
         self.drawn.push(queue)?;
         if has_room {
@@ -132,17 +132,17 @@ impl Level {
         let history = self.history.as_slice();
         let named = names_queues(self.queues, history);
         assert!(rt; named && history.len() < 1_000);
-        let Some(queue) = choice(self.alloc, self.queues, self.widths.as_slice(), history)? else {
+        let Some(queue) = choice(self.alloc, self.queues, self.costs.as_slice(), history)? else {
             return Ok(None);
         };
         let Some(request) = waiting(self.alloc, history, queue)?.first().copied() else {
             return Ok(None);
         };
-        let width = self.widths.get(request as usize).copied().unwrap_or(0);
+        let cost = self.costs.get(request as usize).copied().unwrap_or(0);
         Ok(Some(Chosen {
             queue,
             request,
-            width,
+            cost,
         }))
     }
 

@@ -5,6 +5,7 @@
 //!
 //! - `rows`: worked rows of calls, and shapes. `numbers`: worked rows of virtual time.
 //! - `memory`: each allocation refused in turn.
+//! - `again`: requests that are pushed again a million times.
 //! - `random`: many random calls on eight queues, whose answers are those of plain lists.
 //! - `agreement`: many more for several numbers of queues, also compared with what `apf_plain`
 //!   computes of the history so far.
@@ -12,6 +13,8 @@
 //! - `draws`: random numbers.
 #![tactic(auto)]
 
+#[cfg(test)]
+mod again;
 #[cfg(test)]
 mod agreement;
 #[cfg(test)]

@@ -2,7 +2,7 @@
 //!
 //! The numbers were worked out by hand. They are compared with what the plain program computes of the
 //! history, and with what the queues choose, which tells of them: the calls so far are made on new
-//! queues, one queue or both are emptied by strikes, which move no number, and a request of each width
+//! queues, one queue or both are emptied by strikes, which move no number, and a request of each cost
 //! in turn is put there. R is told by a third queue, which was empty all the time and so starts at R.
 
 use apf_checked::Checked;
@@ -13,15 +13,15 @@ use std::alloc::{AllocError, Global};
 use std::process::Abort;
 use std::test::Fail;
 
-// The two requests that are put into the queues after the calls of a row, and how wide they get.
+// The two requests that are put into the queues after the calls of a row, and how much they cost.
 const PROBES: [u32; 2] = [8, 9];
 
-const WIDEST_PROBE: u32 = 5;
+const GREATEST_COST: u32 = 5;
 
-// What happened, in the order of time, and the widths of the requests.
+// What happened, in the order of time, and the costs of the requests.
 #[derive(Clone, Copy)]
 struct Row<'a> {
-    widths: &'a [u32],
+    costs: &'a [u32],
     events: &'a [Event],
 }
 
@@ -50,27 +50,27 @@ fn chosen_by(finishes: &[Option<u64>], robin: u32) -> Option<u32> {
 }
 
 impl Numbers {
-    // The finish of a queue, in which a request of this width stands alone, or is as it was if the width
+    // The finish of a queue, in which a request of this cost stands alone, or is as it was if the cost
     // is 0.
-    fn finish(&self, next: u64, finish: Option<u64>, width: u32) -> Option<u64> {
-        if width == 0 {
+    fn finish(&self, next: u64, finish: Option<u64>, cost: u32) -> Option<u64> {
+        if cost == 0 {
             return finish;
         }
-        Some(next.max(self.virtual_time).saturating_add(u64::from(width)))
+        Some(next.max(self.virtual_time).saturating_add(u64::from(cost)))
     }
 
-    // The queue that is chosen where requests of these widths stand alone.
-    fn choice_beside(&self, widths: (u32, u32)) -> Option<u32> {
-        let first = self.finish(self.next.0, self.finishes.0, widths.0);
-        let second = self.finish(self.next.1, self.finishes.1, widths.1);
+    // The queue that is chosen where requests of these costs stand alone.
+    fn choice_beside(&self, costs: (u32, u32)) -> Option<u32> {
+        let first = self.finish(self.next.0, self.finishes.0, costs.0);
+        let second = self.finish(self.next.1, self.finishes.1, costs.1);
         chosen_by(&[first, second], self.robin)
     }
 
-    // The queue that is chosen of three, where requests of these widths stand alone in the first one and
+    // The queue that is chosen of three, where requests of these costs stand alone in the first one and
     // in the third one, which was empty all the time.
-    fn choice_with_third(&self, has_dispatched: bool, widths: (u32, u32)) -> Option<u32> {
-        let first = self.finish(self.next.0, None, widths.0);
-        let third = self.finish(0, None, widths.1);
+    fn choice_with_third(&self, has_dispatched: bool, costs: (u32, u32)) -> Option<u32> {
+        let first = self.finish(self.next.0, None, costs.0);
+        let third = self.finish(0, None, costs.1);
         let robin = if has_dispatched { self.robin } else { 2 };
         chosen_by(&[first, None, third], robin)
     }
@@ -83,19 +83,19 @@ fn empty(rt: &impl Abort, queues: &mut Checked, waiting: &[u32], queue: u32) {
     }
 }
 
-// The queue is emptied, and a request of this width is put there, unless the width is 0.
-fn probe(rt: &impl Abort, queues: &mut Checked, waiting: &[u32], place: (u32, u32), width: u32) {
+// The queue is emptied, and a request of this cost is put there, unless the cost is 0.
+fn probe(rt: &impl Abort, queues: &mut Checked, waiting: &[u32], place: (u32, u32), cost: u32) {
     let (queue, request) = place;
-    if width == 0 {
+    if cost == 0 {
         return;
     }
     empty(rt, queues, waiting, queue);
-    assert_eq!(rt; queues.push(queue, request, width), Some(Ok(())));
+    assert_eq!(rt; queues.push(queue, request, cost), Some(Ok(())));
 }
 
 impl Row<'_> {
-    fn width(&self, request: u32) -> u32 {
-        self.widths.get(request as usize).copied().unwrap_or(0)
+    fn cost(&self, request: u32) -> u32 {
+        self.costs.get(request as usize).copied().unwrap_or(0)
     }
 
     // The history at this place, the newest event first.
@@ -122,19 +122,19 @@ impl Row<'_> {
     fn make(&self, rt: &impl Abort, queues: &mut Checked, event: Event) {
         match event {
             Enter(request, queue) => {
-                let answer = queues.push(queue, request, self.width(request));
+                let answer = queues.push(queue, request, self.cost(request));
                 assert_eq!(rt; answer, Some(Ok(())));
             }
             Event::Full(request, queue) => {
-                let answer = queues.push(queue, request, self.width(request));
+                let answer = queues.push(queue, request, self.cost(request));
                 assert_eq!(rt; answer, Some(Err(Full)));
             }
             Dispatch(request, queue) => {
-                let width = self.width(request);
+                let cost = self.cost(request);
                 let next = Chosen {
                     queue,
                     request,
-                    width,
+                    cost,
                 };
                 assert_eq!(rt; queues.dispatch(), Some(next));
             }
@@ -154,7 +154,7 @@ impl Row<'_> {
         let history = history.as_slice();
         assert!(rt; names_queues(2, history));
         assert!(rt; history.len() < 1 << 20);
-        let numbers = numbers_of(alloc, 2, self.widths, history)?;
+        let numbers = numbers_of(alloc, 2, self.costs, history)?;
         assert_eq!(rt;
             numbers.next.as_slice(),
             [want.next.0, want.next.1].as_slice(),
@@ -167,10 +167,10 @@ impl Row<'_> {
             (1, want.next.1, want.finishes.1),
         ] {
             let first = waiting(alloc, history, queue)?.first().copied();
-            let found = first.map(|request| next.saturating_add(u64::from(self.width(request))));
+            let found = first.map(|request| next.saturating_add(u64::from(self.cost(request))));
             assert_eq!(rt; found, finish, "place {place}");
         }
-        let chosen = choice(alloc, 2, self.widths, history)?;
+        let chosen = choice(alloc, 2, self.costs, history)?;
         assert_eq!(rt; chosen, want.choice_beside((0, 0)), "place {place}");
         Ok(())
     }
@@ -187,16 +187,16 @@ impl Row<'_> {
         let first = waiting(alloc, history.as_slice(), 0)?;
         let second = waiting(alloc, history.as_slice(), 1)?;
         let [request, other] = PROBES;
-        for width in 0..=WIDEST_PROBE {
-            for beside in 0..=WIDEST_PROBE {
+        for cost in 0..=GREATEST_COST {
+            for beside in 0..=GREATEST_COST {
                 let mut queues = self.queues(rt, alloc, 2, place)?;
-                probe(rt, &mut queues, first.as_slice(), (0, request), width);
+                probe(rt, &mut queues, first.as_slice(), (0, request), cost);
                 probe(rt, &mut queues, second.as_slice(), (1, other), beside);
                 let chosen = queues.choose().map(|next| next.queue);
                 assert_eq!(rt;
                     chosen,
-                    want.choice_beside((width, beside)),
-                    "place {place}, widths {width} and {beside}"
+                    want.choice_beside((cost, beside)),
+                    "place {place}, costs {cost} and {beside}"
                 );
             }
         }
@@ -216,17 +216,17 @@ impl Row<'_> {
         let second = waiting(alloc, history.as_slice(), 1)?;
         let has_dispatched = history.iter().any(|event| matches!(*event, Dispatch(..)));
         let [request, other] = PROBES;
-        for width in 1..=WIDEST_PROBE {
-            for beside in 1..=WIDEST_PROBE {
+        for cost in 1..=GREATEST_COST {
+            for beside in 1..=GREATEST_COST {
                 let mut queues = self.queues(rt, alloc, 3, place)?;
-                probe(rt, &mut queues, first.as_slice(), (0, request), width);
+                probe(rt, &mut queues, first.as_slice(), (0, request), cost);
                 empty(rt, &mut queues, second.as_slice(), 1);
                 probe(rt, &mut queues, &[], (2, other), beside);
                 let chosen = queues.choose().map(|next| next.queue);
                 assert_eq!(rt;
                     chosen,
-                    want.choice_with_third(has_dispatched, (width, beside)),
-                    "place {place}, widths {width} and {beside} in the third queue"
+                    want.choice_with_third(has_dispatched, (cost, beside)),
+                    "place {place}, costs {cost} and {beside} in the third queue"
                 );
             }
         }
@@ -244,7 +244,7 @@ impl Row<'_> {
 #[test]
 fn numbers_of_virtual_time(rt: HostRuntime) -> Result<(), Fail> {
     let row = Row {
-        widths: &[1, 3, 3, 1, 1],
+        costs: &[1, 3, 3, 1, 1],
         events: &[
             Enter(1, 0),
             Enter(2, 0),
@@ -278,7 +278,7 @@ fn numbers_of_virtual_time(rt: HostRuntime) -> Result<(), Fail> {
 #[test]
 fn a_tie_goes_to_the_queue_after_the_robin(rt: HostRuntime) -> Result<(), Fail> {
     let row = Row {
-        widths: &[1, 1, 1, 2],
+        costs: &[1, 1, 1, 2],
         events: &[
             Enter(1, 0),
             Enter(2, 0),
@@ -302,7 +302,7 @@ fn a_tie_goes_to_the_queue_after_the_robin(rt: HostRuntime) -> Result<(), Fail> 
 #[test]
 fn a_strike_moves_no_number(rt: HostRuntime) -> Result<(), Fail> {
     let row = Row {
-        widths: &[5, 1, 3],
+        costs: &[5, 1, 3],
         events: &[
             Enter(0, 0),
             Enter(1, 0),

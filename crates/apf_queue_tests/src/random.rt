@@ -10,7 +10,8 @@ const QUEUES: u32 = 8;
 
 const LENGTH_LIMIT: u32 = 5;
 
-const REQUESTS: u32 = 10_000;
+// So few that each is pushed again and again, with another cost.
+const REQUESTS: u32 = 64;
 
 // How often each kind of answer came.
 #[derive(Default, Drop)]
@@ -53,15 +54,18 @@ fn call(
     match random.below(8) {
         0 | 1 => {
             let request = random.below(REQUESTS);
-            let width = 1u32.saturating_add(random.below(20_000));
-            if let Some(answer) = queues.push(queue, request, width) {
-                assert_eq!(rt; answer.is_ok(), slow.push(queue, request, width)?);
+            let cost = 1u32.saturating_add(random.below(20_000));
+            if let Some(answer) = queues.push(queue, request, cost) {
+                assert_eq!(rt; answer.is_ok(), slow.push(queue, request, cost)?);
                 seen.count_push(answer.is_ok());
             }
         }
         2 => {
             let request = random.below(REQUESTS);
-            assert_eq!(rt; queues.remove(request), Some(slow.remove(request)));
+            let queue = slow.remove(request);
+            assert_eq!(rt; queues.queue_of(request), Some(queue));
+            assert_eq!(rt; queues.remove(request), Some(queue));
+            assert_eq!(rt; queues.queue_of(request), Some(None));
         }
         3 => {
             let place = random.below(LENGTH_LIMIT) as usize;

@@ -13,11 +13,11 @@ fn dispatched(rt: &impl Abort, checked: &mut Checked, expected: &[Chosen]) {
     assert_eq!(rt; checked.dispatch(), None);
 }
 
-fn chosen(queue: u32, request: u32, width: u32) -> Chosen {
+fn chosen(queue: u32, request: u32, cost: u32) -> Chosen {
     Chosen {
         queue,
         request,
-        width,
+        cost,
     }
 }
 

@@ -40,7 +40,7 @@ impl Slow {
     }
 
     // Whether there was room.
-    pub fn push(&mut self, queue: u32, request: u32, width: u32) -> Result<bool, AllocError> {
+    pub fn push(&mut self, queue: u32, request: u32, cost: u32) -> Result<bool, AllocError> {
         let level = self.level;
         let Some(list) = self.lists.get_mut(queue as usize) else {
             return Ok(false);
@@ -53,7 +53,7 @@ impl Slow {
                 *next = level.max(*next);
             }
         }
-        list.push((request, width))?;
+        list.push((request, cost))?;
         Ok(true)
     }
 
@@ -83,9 +83,9 @@ impl Slow {
 
     // The finish of a queue, with what is first in it.
     fn head(&self, queue: usize) -> Option<(u64, u32, u32)> {
-        let (request, width) = *self.lists.get(queue)?.first()?;
+        let (request, cost) = *self.lists.get(queue)?.first()?;
         let next = *self.next.get(queue)?;
-        Some((next.saturating_add(u64::from(width)), request, width))
+        Some((next.saturating_add(u64::from(cost)), request, cost))
     }
 
     pub fn choose(&self) -> Option<Chosen> {
@@ -93,14 +93,14 @@ impl Slow {
         let mut best: Option<(u64, Chosen)> = None;
         let after = self.robin.saturating_add(1);
         for queue in (after..queues).chain(0..after.min(queues)) {
-            if let Some((finish, request, width)) = self.head(queue) {
+            if let Some((finish, request, cost)) = self.head(queue) {
                 if best.is_none_or(|(least, _)| finish < least) {
                     best = Some((
                         finish,
                         Chosen {
                             queue: u32::try_from(queue).unwrap_or(0),
                             request,
-                            width,
+                            cost,
                         },
                     ));
                 }
@@ -114,7 +114,7 @@ impl Slow {
         let queue = chosen.queue as usize;
         let next = self.next.get_mut(queue)?;
         self.level = self.level.max(*next);
-        *next = next.saturating_add(u64::from(chosen.width));
+        *next = next.saturating_add(u64::from(chosen.cost));
         self.robin = queue;
         self.remove(chosen.request)?;
         Some(chosen)

@@ -9,10 +9,14 @@ use Rattle.apf_book.proofs.Lists.{first_contains}
 use Rattle.apf_book.proofs.Ledgers.{reversed, sound_of, has_room, few_events, waiting_request, dispatches}
 use Rattle.apf_book.proofs.Nexts.{next_of_queues}
 use Rattle.apf_book.proofs.Running.{running_after, count_within}
+use Rattle.apf_book.proofs.Times.{has_time}
 use Rattle.apf_book.proofs.ledger.Ledger.dispatch.Goals as goal
 
-pub dispatch-requires : goal.dispatch-requires
-dispatch-requires g c = next_of_queues _ _ _ _ c.self.invariant.0 c.args.chosen (subst (λ (w : LedgerView). IsNext w c.args.chosen) (sym c.self.view_is) c.requires.next)
+pub dispatch-requires-clause-time : goal.dispatch-requires-clause-time
+dispatch-requires-clause-time g c = has_time (opened c.legal_histories_are_in_order.ensures) _ _ _ _ c.self.invariant.0 c.args.chosen.queue
+
+pub dispatch-requires-clause-chosen : goal.dispatch-requires-clause-chosen
+dispatch-requires-clause-chosen g c = next_of_queues _ _ _ _ c.self.invariant.0 c.args.chosen (subst (λ (w : LedgerView). IsNext w c.args.chosen) (sym c.self.view_is) c.requires.next)
 
 pub push_reserved-requires : goal.push_reserved-requires
 push_reserved-requires g c =

@@ -9,9 +9,15 @@ use Rattle.apf_model.specs.Outcome.{is_enter}
 use Rattle.apf_queue.specs.View.{Enters}
 use Rattle.apf_book.specs.LedgerView.{LedgerView, Arrives}
 use Rattle.apf_book.proofs.Opened.{opened}
-use Rattle.apf_book.proofs.Ledgers.{reversed, sound_of, has_room, few_events, may_enter, enters}
+use Rattle.apf_book.proofs.Ledgers.{reversed, sound_of, has_room, few_events, nowhere, may_enter, enters}
 use Rattle.apf_book.proofs.Running.{running_after, count_within}
 use Rattle.apf_book.proofs.ledger.Ledger.enter.Goals as goal
+
+pub push-requires-clause-is_nowhere : goal.push-requires-clause-is_nowhere
+push-requires-clause-is_nowhere g c =
+    let laws = opened c.legal_histories_are_in_order.ensures in
+    let comes = subst (λ (w : LedgerView). Arrives w c.args.request c.args.queue) (sym c.self.view_is) c.requires.arrives in
+    nowhere laws _ _ _ _ c.self.invariant.0 c.args.request comes.is_new
 
 pub push_reserved-requires : goal.push_reserved-requires
 push_reserved-requires g c =

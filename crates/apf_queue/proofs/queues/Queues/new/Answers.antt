@@ -7,8 +7,7 @@ use Rattle.apf_queue.proofs.queues.Queues.new.Goals as goal
 pub invariant_of-result : goal.invariant_of-result
 invariant_of-result g c =
     let shape : IsQueueShape c.args.queues c.args.length_limit c.args.requests = search rules in
-    let zero = c.in_ok-vec.ensures.items_if_clones_equal (λ y e. e) in
-    rw (c.in_ok-new.ensures, zero, c.in_ok-new-2.ensures) (record {
+    rw (c.in_ok-new.ensures, c.in_ok-new-2.ensures) (record {
       consistent = opening_consistent c.args.queues c.args.length_limit c.args.requests shape;
       finishes_are = opening_finishes c.args.queues c.args.requests _ _ _ c.in_ok-new-3.ensures.room c.in_ok-new-3.ensures.empty;
     })

@@ -1,0 +1,125 @@
+-- How large the numbers of virtual time can be.
+use Rattle.std.proofs.Common.{◌≡◌, ◌≢◌, ℕ, zero, suc, ◌+◌, ◌*◌, ◌<◌, ◌≤◌, inl, inr, Bool, List, [], ◌∷◌, length, refl, ap, ◌∙◌, subst, sym, arith}
+use Rattle.std.specs.Prelude.{max, count_by, slice_index}
+use Rattle.std.proofs.lemmas.Bool.{cases_eq, cases_lt}
+use Rattle.std.proofs.lemmas.List.{get_or_past}
+use Rattle.apf_history.specs.declared.events.Event.{Event}
+use Rattle.apf_history.specs.declared.events.Event.TheVariants.{Enter, Full, Dispatch, Strike}
+use Rattle.apf_history.specs.Tally.{tally}
+use Rattle.apf_model.specs.World.{put, width}
+use Rattle.apf_model.specs.History.{waiting}
+use Rattle.apf_model.specs.Outcome.{is_enter, is_full, is_dispatch, is_strike, stats_of}
+use Rattle.apf_model.specs.Fair.{Numbers, after_enter, numbers}
+use Rattle.apf_queue.specs.View.{QueuesView, HasTime}
+use Rattle.apf_book.specs.LedgerView.{LedgerView, hand_in, AreSmall}
+use Rattle.apf_book.specs.LedgerKept.{AreOfLog}
+use Rattle.apf_book.specs.Histories.{Laws}
+use Rattle.apf_book.proofs.Puts.{put_here, put_else}
+use Rattle.apf_book.proofs.Running.{count}
+
+-- no number is above this
+pub record AreWithin (most : ℕ) (v : Numbers) : Type 0 where
+  pub next : (q : ℕ) → v.next q ≤ most
+  pub virtual_time : v.virtual_time ≤ most
+
+put_within : (f : ℕ → ℕ) (p x most : ℕ) → ((q : ℕ) → f q ≤ most) → x ≤ most → (q : ℕ) → put f p x q ≤ most
+put_within f p x most h l q = elim (cases_eq q p) [
+  | inl e ↦ let a : put f p x q ≡ put f p x p = ap (put f p x) e in let b = put_here f p x in omega arith
+  | inr other ↦ let a = put_else f p x q other in let b = h q in omega arith
+]
+
+enter_within : (q : ℕ) (queue : List ℕ) (v : Numbers) (most : ℕ) → AreWithin most v → AreWithin most (after_enter q queue v)
+enter_within q [] v most b = record { next = put_within v.next q (max (v.next q) v.virtual_time) most b.next (let c = b.next q in let d = b.virtual_time in omega arith); virtual_time = b.virtual_time }
+enter_within q (r ∷ rs) v most b = b
+
+-- each dispatch adds one cost at most, and nothing else adds any: so it is with any number of requests, and over any history
+pub numbers_within : (queues : ℕ) (costs : List ℕ) (most : ℕ) → ((r : ℕ) → width costs r ≤ most) → (h : List Event) → AreWithin (count_by is_dispatch h * most) (numbers queues costs h)
+numbers_within queues costs most low [] = record { next = λ q. omega arith; virtual_time = omega arith }
+numbers_within queues costs most low (Enter r q ∷ h) =
+    let k = count is_dispatch (Enter r q) h in
+    let same : count_by is_dispatch (Enter r q ∷ h) ≡ count_by is_dispatch h = omega arith in
+    subst (λ (n : ℕ). AreWithin (n * most) (numbers queues costs (Enter r q ∷ h))) (sym same) (enter_within q (waiting h q) (numbers queues costs h) (count_by is_dispatch h * most) (numbers_within queues costs most low h))
+numbers_within queues costs most low (Full r q ∷ h) =
+    let k = count is_dispatch (Full r q) h in
+    let same : count_by is_dispatch (Full r q ∷ h) ≡ count_by is_dispatch h = omega arith in
+    subst (λ (n : ℕ). AreWithin (n * most) (numbers queues costs h)) (sym same) (numbers_within queues costs most low h)
+numbers_within queues costs most low (Dispatch r q ∷ h) =
+    let before = numbers_within queues costs most low h in
+    let now = before.virtual_time in let from = before.next q in let cost = low r in
+    let k = count is_dispatch (Dispatch r q) h in
+    let same : count_by is_dispatch (Dispatch r q ∷ h) ≡ suc (count_by is_dispatch h) = omega arith in
+    let more : suc (count_by is_dispatch h) * most ≡ count_by is_dispatch h * most + most = omega arith in
+    subst (λ (n : ℕ). AreWithin (n * most) (numbers queues costs (Dispatch r q ∷ h))) (sym same) (record {
+      next = put_within (numbers queues costs h).next q ((numbers queues costs h).next q + width costs r) (suc (count_by is_dispatch h) * most) (λ p. (let d = before.next p in omega arith)) (omega arith);
+      virtual_time = omega arith;
+    })
+numbers_within queues costs most low (Strike r q ∷ h) =
+    let k = count is_dispatch (Strike r q) h in
+    let same : count_by is_dispatch (Strike r q ∷ h) ≡ count_by is_dispatch h = omega arith in
+    subst (λ (n : ℕ). AreWithin (n * most) (numbers queues costs h)) (sym same) (numbers_within queues costs most low h)
+
+-- each event is of one kind
+kinds : (h : List Event) → count_by is_enter h + count_by is_full h + count_by is_dispatch h + count_by is_strike h ≡ length h
+kinds [] = omega arith
+kinds (Enter r q ∷ h) =
+    let a = count is_enter (Enter r q) h in let b = count is_full (Enter r q) h in let c = count is_dispatch (Enter r q) h in let d = count is_strike (Enter r q) h in let k = kinds h in omega arith
+kinds (Full r q ∷ h) =
+    let a = count is_enter (Full r q) h in let b = count is_full (Full r q) h in let c = count is_dispatch (Full r q) h in let d = count is_strike (Full r q) h in let k = kinds h in omega arith
+kinds (Dispatch r q ∷ h) =
+    let a = count is_enter (Dispatch r q) h in let b = count is_full (Dispatch r q) h in let c = count is_dispatch (Dispatch r q) h in let d = count is_strike (Dispatch r q) h in let k = kinds h in omega arith
+kinds (Strike r q ∷ h) =
+    let a = count is_enter (Strike r q) h in let b = count is_full (Strike r q) h in let c = count is_dispatch (Strike r q) h in let d = count is_strike (Strike r q) h in let k = kinds h in omega arith
+
+in_tally : (f : ℕ → ℕ) (n i : ℕ) → i < n → f i ≤ tally f n
+in_tally f zero i l = absurd (omega arith)
+in_tally f (suc n) i l = elim (cases_eq i n) [
+  | inl e ↦ let a = ap f e in omega arith
+  | inr ne ↦ let a = in_tally f n i (omega arith) in omega arith
+]
+
+some_length : (xs : List ℕ) → xs ≢ [] → 1 ≤ length xs
+some_length [] some = absurd (some refl)
+some_length (x ∷ xs) some = omega arith
+
+module _ (laws : Laws) (v : LedgerView) (s : QueuesView) (marks : List Bool) (capacity : ℕ) (is : AreOfLog v s marks capacity) where
+  -- there are two events of each request that was dispatched, and one of each that waits
+  few_dispatched : 2 * count_by is_dispatch v.history + (stats_of v.sizes.deck v.history).waiting ≤ 2 * length v.costs
+  few_dispatched =
+      let all = laws.numbers (hand_in v) v.limit v.history is.fair.0 in
+      let two = all.of_requests (length v.costs) is.names_requests in
+      let sum = all.of_queues v.sizes.deck is.names_queues in
+      let k = kinds v.history in
+      omega arith
+
+  low : (r : ℕ) → width v.costs r ≤ 20000
+  low r = elim (cases_lt r (length v.costs)) [
+    | inl l ↦ (is.costs r l).1
+    | inr past ↦ let none = get_or_past v.costs r 0 past in omega arith
+  ]
+
+  times : AreWithin (count_by is_dispatch v.history * 20000) (numbers v.sizes.deck v.costs v.history)
+  times = numbers_within v.sizes.deck v.costs 20000 low v.history
+
+  -- virtual time may go on in each queue
+  pub has_time : (q : ℕ) → HasTime s q
+  has_time q =
+      let d = few_dispatched in let k = is.few in
+      let e : slice_index s.next q ≡ (numbers v.sizes.deck v.costs v.history).next q = ap (λ (n : Numbers). n.next q) is.numbers_are in
+      let b = times.next q in
+      omega arith
+
+  -- who waits is counted
+  some_waits : (q : ℕ) → waiting v.history q ≢ [] → 1 ≤ (stats_of v.sizes.deck v.history).waiting
+  some_waits q some = elim (cases_lt q (length s.queues)) [
+    | inl l ↦ let a = in_tally (λ p. length (waiting v.history p)) v.sizes.deck q (let d = is.deck in omega arith) in let b = some_length (waiting v.history q) some in omega arith
+    | inr past ↦ absurd (some (sym (is.queue_is q) ∙ get_or_past s.queues q [] past))
+  ]
+
+  pub small : AreSmall v
+  small =
+      let t = times in let d = few_dispatched in let k = is.few in
+      record {
+        next = λ q. (let b = t.next q in omega arith);
+        virtual_time = (let b = t.virtual_time in omega arith);
+        finish = λ q some. (let b = t.next q in let one = some_waits q some in let cost = low (slice_index (waiting v.history q) 0) in omega arith);
+      }

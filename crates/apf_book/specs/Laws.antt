@@ -7,13 +7,14 @@ use Rattle.apf_history.specs.declared.events.Event.TheVariants.{Enter, Full, Dis
 use Rattle.apf_model.specs.declared.response.Response.TheVariants.{Queue}
 use Rattle.apf_model.specs.History.{waiting}
 use Rattle.apf_model.specs.Outcome.{Agrees, ExecutesArrivals}
+use Rattle.apf_model.specs.Schedule.{IsSchedule}
 use Rattle.apf_gate.specs.declared.record.Service.TheVariants.{RefusedFull, Waiting, Settled}
 use Rattle.apf_gate.specs.declared.record.DeskRecord.{DeskRecord}
 use Rattle.apf_gate.specs.Records.{told_of, service, level_of}
 use Rattle.apf_words.specs.Level.{Level}
-use Rattle.apf_gate.specs.declared.record.Actor.TheVariants.{OfStation}
+use Rattle.apf_gate.specs.declared.record.Actor.TheVariants.{OfPass, OfStation}
 use Rattle.apf_gate.specs.declared.record.Entry.{Entry}
-use Rattle.apf_gate.specs.Traces.{world_of, GoesOn, AreMade}
+use Rattle.apf_gate.specs.Traces.{opening_of, moves, world_of, GoesOn, AreMade}
 use Rattle.apf_gate.specs.Tokens.{GateId, PassToken, StationToken}
 use Rattle.apf_book.specs.Said.{saying, sayings}
 use Rattle.apf_gate.specs.Ends.{WordsView}
@@ -46,18 +47,20 @@ took_in (token ∷ tokens) r = ((token.pass.number == r) && token.pass.took) || 
 abbrev pub EnteredBy : List Event → PassToken → Type 0
 EnteredBy h t = (t.pass.entered ≡ true) ↔ ((q : ℕ) × Contains h (Enter t.pass.number q))
 
--- one trace of steps of this gate's tokens explains the level word, and goes on from what each Station saw; of a gate with queues it says the history
-pub record IsMade (gate : GateId) (h : List Event) (level : Level) (stations : List StationToken) : Type 0 where
+-- one trace of steps of this gate's tokens, whose moves are a schedule, explains the level word, and goes on from what each Pass and each Station saw; of a gate with queues it says the history
+pub record IsMade (gate : GateId) (h : List Event) (level : Level) (passes : List PassToken) (stations : List StationToken) : Type 0 where
   pub trace : List Entry
   pub made : AreMade gate.shape trace
+  pub schedule : IsSchedule (opening_of gate.shape) (moves trace)
   pub says : gate.shape.response ≡ Queue → map saying h ≡ sayings trace
   pub word : level ≡ level_of gate.shape.widths (world_of gate.shape trace)
+  pub from_passes : All (λ (t : PassToken). GoesOn trace (OfPass t.pass.number) t.pass.knows.trace) passes
   pub goes_on : All (λ (t : StationToken). GoesOn trace (OfStation t.station.number) t.station.knows.trace) stations
 
 -- the log agrees with the decisions of the words
 pub record LogAgrees (gate : GateId) (v : LedgerView) (passes : List PassToken) (stations : List StationToken) (words : WordsView) : Type 0 where
   -- the log is what the Desk's steps of the whole trace say, in their order
-  pub made : IsMade gate v.history words.level stations
+  pub made : IsMade gate v.history words.level passes stations
   -- each dispatched request is executed, each struck one is cancelled, and those with a Full event are those decided queue-full
   pub agrees : Agrees v.history (decision_in words)
   -- each executed request was dispatched, or its Pass took its seats on arrival

@@ -54,7 +54,7 @@ module _ (k : LevelId) (d : DeskRecord) (w : WordsView) (ps : List PassToken) (s
       let x : IsDone t = subst IsDone any.3 (done any.0 t any.2) in
       x.told (sym is ∙ (ap (decision_in w) any.4 ∙ none))
 
-  pub ended : (h : List Event) → d.held ≡ None → IsLogOf (logged_as k h) → NothingWaits (logged_as k h) → Agrees h (decision_in w) → ExecutesArrivals h (decision_in w) (took_in ps) → All (EnteredBy h) ps → IsMade k.gate h w.level ss → (k.gate.shape.response ≡ Reject → h ≡ []) → Ended k w.level (decision_in w) h ps ss
+  pub ended : (h : List Event) → d.held ≡ None → IsLogOf (logged_as k h) → NothingWaits (logged_as k h) → Agrees h (decision_in w) → ExecutesArrivals h (decision_in w) (took_in ps) → All (EnteredBy h) ps → IsMade k.gate h w.level ps ss → (k.gate.shape.response ≡ Reject → h ≡ []) → Ended k w.level (decision_in w) h ps ss
   ended h held of_log nobody agrees arrivals entered made logs_nothing = record {
     drained = e.drained (λ i t low. (done i t low).back) held gone;
     of_log = of_log;

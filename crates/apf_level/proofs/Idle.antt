@@ -17,11 +17,14 @@ use Rattle.apf_gate.specs.Ends.{WordsView, EndsWith, EndAgrees, ExecutedIt, pass
 use Rattle.apf_model.specs.declared.response.Response.{Response}
 use Rattle.apf_model.specs.declared.response.Response.TheVariants.{Queue, Reject}
 use Rattle.apf_gate.specs.declared.record.Record.{Record}
-use Rattle.apf_gate.specs.declared.record.Record.TheVariants.{Pass, Desk}
+use Rattle.apf_gate.specs.declared.record.Record.TheVariants.{Pass, Desk, Station}
+use Rattle.apf_gate.specs.declared.record.Actor.TheVariants.{OfPass, OfStation}
+use Rattle.apf_gate.specs.declared.record.StationRecord.{StationRecord}
+use Rattle.apf_gate.specs.Traces.{GoesOn}
 use Rattle.apf_gate.specs.declared.record.PassRecord.{PassRecord}
 use Rattle.apf_gate.specs.Requests.{IsPassRecord}
 use Rattle.apf_gate.specs.Rule.{Every, IsRecord}
-use Rattle.apf_book.specs.Laws.{decision_in, took_in, EnteredBy}
+use Rattle.apf_book.specs.Laws.{decision_in, took_in, EnteredBy, IsMade}
 use Rattle.apf_level.specs.Levels.{LevelId}
 
 or_true : (a b : Bool) → b ≡ true → (a || b) ≡ true
@@ -93,3 +96,31 @@ nobody_entered k d w ps ss ends rejects i t low =
       (λ is. absurd (let bad : ◌≡◌ {A = Response} Queue Reject = sym (own.queues is) ∙ rejects in cc)),
       (λ logs. absurd (no_event _ logs.1)),
     )
+
+stations_of : (P : Record → Type 0) (s : StationToken) (ss : List StationToken) → P (Station s.station) → ((i : ℕ) (t : StationToken) → i < length ss → P (Station (slice_index_or ss i t).station)) → (i : ℕ) (t : StationToken) → i < length (s ∷ ss) → P (Station (slice_index_or (s ∷ ss) i t).station)
+stations_of P s ss here there zero t low = here
+stations_of P s ss here there (suc i) t low = there i t (omega arith)
+
+each_station : (P : Record → Type 0) (ss : List StationToken) (rest : List Record) → Every P (stations_before ss rest) → (i : ℕ) (t : StationToken) → i < length ss → P (Station (slice_index_or ss i t).station)
+each_station P [] rest k = λ i t low. absurd (omega arith)
+each_station P (s ∷ ss) rest k = stations_of P s ss k.0 (each_station P ss rest k.1)
+
+-- the steps of a level without queues, which say no event
+pub made_alone : (k : LevelId) (d : DeskRecord) (w : WordsView) (ps : List PassToken) (ss : List StationToken) (h : List Event) → EndsWith k.gate d ps ss w → k.gate.shape.response ≡ Reject → IsMade k.gate h w.level ps ss
+made_alone k d w ps ss h ends rejects =
+    let account = ends.account in
+    let passes = every_passes (IsRecord k.gate.shape account) ps (Desk d ∷ []) (every_stations (IsRecord k.gate.shape account) ss (passes_before ps (Desk d ∷ [])) ends.stand) in
+    let stations = each_station (IsRecord k.gate.shape account) ss (passes_before ps (Desk d ∷ [])) ends.stand in
+    record {
+      trace = account.trace;
+      made = ends.sound.made;
+      schedule = ends.sound.schedule;
+      says = λ queues. absurd (let bad : ◌≡◌ {A = Response} Queue Reject = sym queues ∙ rejects in cc);
+      word = ends.level;
+      from_passes = λ i t low.
+          let here = passes i t low in
+          subst (λ (p : PassRecord). GoesOn account.trace (OfPass (slice_index_or ps i t).pass.number) p.knows.trace) here.1 (ends.sound.pass_knows (slice_index_or ps i t).pass.number here.0).newer;
+      goes_on = λ i t low.
+          let here = stations i t low in
+          subst (λ (s : StationRecord). GoesOn account.trace (OfStation (slice_index_or ss i t).station.number) s.knows.trace) here.1 (ends.sound.station_knows (slice_index_or ss i t).station.number).newer;
+    }

@@ -8,3 +8,4 @@ pub mod Idle
 pub mod Nobody
 pub mod Appending
 pub mod Entered
+pub mod Following

@@ -10,7 +10,8 @@ use Rattle.apf_model.specs.Outcome.{ExecutesArrivals}
 use Rattle.apf_gate.specs.Tokens.{PassToken, StationToken}
 use Rattle.apf_book.specs.Laws.{took_in}
 use Rattle.apf_level.specs.Levels.{LevelId}
-use Rattle.apf_level.specs.Heard.{Outcome, outcome_of}
+use Rattle.apf_level.specs.Heard.{Outcome, GoOnFrom, outcome_of}
+use Rattle.apf_level.proofs.Following.{from_dones}
 use Rattle.apf_level.specs.Reports.{Ended}
 
 -- as `took_in`, of outcomes
@@ -46,16 +47,24 @@ module _ (ps ds : List PassToken) (same : map outcome_of ps ≡ map outcome_of d
   took_same = λ i r. (took_map ps r ∙ (ap (λ (l : List Outcome). took_of l r) same ∙ sym (took_map ds r))) i
 
 -- what is told of some Passes is told of others that say the same, of the same words
-pub ended_same : (k : LevelId) (level level' : Level) (f f' : ℕ → Option Decision) (h : List Event) (ps ds : List PassToken) (ss : List StationToken) → map outcome_of ps ≡ map outcome_of ds
+pub ended_same : (k : LevelId) (level level' : Level) (f f' : ℕ → Option Decision) (h : List Event) (ps ds : List PassToken) (ss : List StationToken) → map outcome_of ps ≡ map outcome_of ds → GoOnFrom ds ps []
     → level' ≡ level → f ≡ f' → Ended k level f h ps ss → Ended k level' f' h ds ss
-ended_same k level level' f f' h ps ds ss same a b e =
+ended_same k level level' f f' h ps ds ss same on a b e =
     subst (λ (l : Level). Ended k l f' h ds ss) (sym a) (subst (λ (g : ℕ → Option Decision). Ended k level g h ds ss) b (record {
       drained = e.drained;
       of_log = e.of_log;
       nobody_waits = e.nobody_waits;
       agrees = e.agrees;
       arrivals = subst (ExecutesArrivals h f) (took_same ps ds same) e.arrivals;
-      made = e.made;
+      made = record {
+        trace = e.made.trace;
+        made = e.made.made;
+        schedule = e.made.schedule;
+        says = e.made.says;
+        word = e.made.word;
+        from_passes = from_dones e.made.trace ds ps on e.made.from_passes;
+        goes_on = e.made.goes_on;
+      };
       logs_nothing = e.logs_nothing;
       entered = all_same ps ds same (λ (o : Outcome). (o.entered ≡ true) ↔ ((q : ℕ) × Contains h (Enter o.number q))) e.entered;
       each = λ r low. any_same ps ds same (λ (o : Outcome). o.number ≡ r) (e.each r low);

@@ -1,5 +1,5 @@
 -- What the calls of a Level ask and answer, where more than one call does.
-use Rattle.std.specs.Prelude.{◌≡◌, ℕ, true, List, [], length, map, All, Result, IfErr, OnOk}
+use Rattle.std.specs.Prelude.{◌≡◌, true, List, [], length, map, All, Result, IfErr, OnOk}
 use Rattle.apf_history.specs.declared.events.Event.{Event}
 use Rattle.apf_model.specs.declared.config.Config.{Config}
 use Rattle.apf_model.specs.declared.config.Ask.{Ask}

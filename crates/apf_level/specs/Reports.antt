@@ -42,8 +42,8 @@ pub record Ended (k : LevelId) (level : Level) (decision : ℕ → Option Decisi
   pub agrees : Agrees h decision
   -- each executed request was dispatched, or its Pass took its seats on arrival
   pub arrivals : ExecutesArrivals h decision (took_in passes)
-  -- one trace of the level's steps explains the level word, and goes on from what each Station saw; with queues it says the log, and without them the log is empty
-  pub made : IsMade k.gate h level stations
+  -- one trace of the level's steps, which is a schedule, explains the level word, and goes on from what each Pass and each Station saw; with queues it says the log, and without them the log is empty
+  pub made : IsMade k.gate h level passes stations
   pub logs_nothing : k.gate.shape.response ≡ Reject → h ≡ []
   -- each Pass has that its request entered exactly if the log has its Enter
   pub entered : All (EnteredBy h) passes

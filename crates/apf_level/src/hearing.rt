@@ -5,7 +5,7 @@ ghost use Rattle.apf_gate.specs.Tokens.{desk_gate, pass_gate};
 ghost use Rattle.apf_level.specs.Levels.{IsBookOf};
 ghost use Rattle.apf_level.specs.Keepers.{desk_in, IsKeeperOf};
 ghost use Rattle.apf_level.specs.Tokens.{IsDone};
-ghost use Rattle.apf_level.specs.Heard.{IsHeard, StaysHeard, outcome_of};
+ghost use Rattle.apf_level.specs.Heard.{IsHeard, StaysHeard, GoesOnFrom, GoOnFrom, outcome_of};
 
 use crate::naming::Naming;
 use crate::tokens::Done;
@@ -31,6 +31,7 @@ fn hear_in_book<K: Naming>(gate: &Gate<Global>, book: &mut Book<Global>, pass: &
     ensures done { IsDone pass.new }
     ensures heard { IsHeard book.new.desk.desk pass.new }
     ensures stays { StaysHeard book.old.desk.desk book.new.desk.desk }
+    ensures goes_on { GoesOnFrom pass.old pass.new }
 {
     every_book_is_kept();
     book.hear(gate, pass);
@@ -49,6 +50,7 @@ fn hear_alone(gate: &Gate<Global>, desk: &mut Desk, pass: &mut Pass)
     ensures done { IsDone pass.new }
     ensures heard { IsHeard desk.new.desk pass.new }
     ensures stays { StaysHeard desk.old.desk desk.new.desk }
+    ensures goes_on { GoesOnFrom pass.old pass.new }
 {
     gate.hear(desk, pass);
     let _request = pass.number();
@@ -64,6 +66,7 @@ fn hear<K: Naming>(gate: &Gate<Global>, keeper: &mut Keeper, done: Done) -> Pass
     ensures done { IsDone result }
     ensures heard { IsHeard (desk_in keeper.new).desk result }
     ensures stays { StaysHeard (desk_in keeper.old).desk (desk_in keeper.new).desk }
+    ensures goes_on { GoesOnFrom done result }
 {
     let mut pass = done.into_pass();
     match keeper {
@@ -87,6 +90,7 @@ pub fn gather<K: Naming>(
     ensures same { IfOk result (λ ps. map outcome_of ps.items ≡ map outcome_of dones.items) }
     ensures done { IfOk result (λ ps. All IsDone ps.items) }
     ensures heard { IfOk result (λ ps. All (IsHeard (desk_in keeper.new).desk) ps.items) }
+    ensures go_on { IfOk result (λ ps. GoOnFrom dones.items ps.items []) }
 {
     let mut passes = Vec::with_capacity(alloc, dones.len())?;
     for done in dones {

@@ -85,7 +85,7 @@ module _ (k : LevelId) (config : Config) (requests : List Request) (report : Rep
       limit = limit;
       response = response;
       widths = widths;
-      made = record { trace = ended.made.trace; made = ended.made.made; says = ended.made.says; word = ended.made.word; goes_on = λ i d low. absurd (let l = low in omega arith) };
+      made = record { trace = ended.made.trace; made = ended.made.made; schedule = ended.made.schedule; says = ended.made.says; word = ended.made.word; from_passes = λ i d low. absurd (let l = low in omega arith); goes_on = λ i d low. absurd (let l = low in omega arith) };
       logs_nothing = λ alone. ended.logs_nothing (response ∙ alone);
     };
     of_log = subst IsLogOf same_ledger ended.of_log;

@@ -35,13 +35,13 @@ pub record AreFinished (gate : GateId) (requests : List Request) (r : Returned) 
 abbrev pub ledger_of : Config → List Request → Report → LedgerView
 ledger_of config requests r = record (opening_ledger config (asks_of requests)) { history = reverse r.log.items }
 
--- one trace of the steps of a gate of these settings and requests explains the level word, and with queues it says the log, which is empty without them
+-- one trace of the steps of a gate of these settings and requests, which is a schedule, explains the level word, and with queues it says the log, which is empty without them
 pub record IsMadeFor (config : Config) (requests : List Request) (r : Report) : Type 0 where
   pub gate : GateId
   pub limit : gate.shape.limit ≡ config.limit
   pub response : gate.shape.response ≡ config.limit_response
   pub widths : gate.shape.widths ≡ map (λ (a : Ask). a.width) (asks_of requests)
-  pub made : IsMade gate (reverse r.log.items) r.word []
+  pub made : IsMade gate (reverse r.log.items) r.word [] []
   pub logs_nothing : config.limit_response ≡ Reject → reverse r.log.items ≡ []
 
 -- what a run tells of these requests at a level of these settings

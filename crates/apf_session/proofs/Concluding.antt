@@ -1,5 +1,5 @@
 -- What the end of a session tells of its requests and operators.
-use Rattle.std.proofs.Common.{◌≡◌, ◌≢◌, ℕ, ◌-◌, ◌<◌, inl, inr, List, length, get_or, set, length-set, get_or-set_same, get_or-set_other, Option, None, All, sym, ap, ◌∙◌, subst, refl, arith}
+use Rattle.std.proofs.Common.{◌≡◌, ◌≢◌, ℕ, ◌-◌, ◌<◌, inl, inr, List, length, get_or, set, length-set, get_or-set_same, get_or-set_other, Option, None, All, sym, ap, ◌∙◌, refl, arith}
 use Rattle.std.proofs.lemmas.Bool.{cases_eq}
 use Rattle.std.proofs.lemmas.List.{get_or_default}
 use Rattle.std.specs.Prelude.{Result, Ok, Err, IfOk, reverse, slice_get}
@@ -13,7 +13,7 @@ use Rattle.apf_book.specs.LedgerKept.{AreStats}
 use Rattle.apf_level.specs.declared.report.Report.{Report}
 use Rattle.apf_level.specs.Levels.{LevelId}
 use Rattle.apf_level.specs.Reports.{AreSums, Ended}
-use Rattle.apf_session.specs.Ends.{HasEnded, KeepsOrder, SessionEnds}
+use Rattle.apf_session.specs.Ends.{KeepsOrder, SessionEnds}
 
 -- the first of them made steps
 pub first_steps : (old : List StationToken) (x r : StationToken) → 0 < length old → x.station.number ≡ (get_or old 0 r).station.number → KeepsOrder old (set old 0 x)

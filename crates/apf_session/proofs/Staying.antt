@@ -1,7 +1,6 @@
 -- A request that was told a decision is told no other one by the calls that bring it to its end.
-use Rattle.std.proofs.Common.{◌≡◌, ◌≢◌, ap, refl, subst, not, ◌∙◌, sym, None, Some}
+use Rattle.std.proofs.Common.{◌≡◌, ◌≢◌, ap, refl, subst, not, ◌∙◌, sym}
 use Rattle.std.specs.Prelude.{◌==◌}
-use Rattle.apf_words.specs.declared.decision.Decision.TheVariants.{Execute}
 use Rattle.apf_session.specs.declared.token.Token.{Token}
 use Rattle.apf_session.specs.declared.token.Token.TheVariants as tokens
 use Rattle.apf_session.specs.declared.answer.Answer.{Answer}

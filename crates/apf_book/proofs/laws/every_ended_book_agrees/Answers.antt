@@ -12,7 +12,10 @@ use Rattle.apf_model.specs.History.{request_of, NamesRequests}
 use Rattle.apf_gate.specs.Tokens.{GateId, DeskToken, PassToken, StationToken, desk_gate}
 use Rattle.apf_gate.specs.Ends.{WordsView, EndAgrees, ExecutedIt, passes_before, stations_before}
 use Rattle.apf_gate.specs.declared.record.Record.{Record}
-use Rattle.apf_gate.specs.declared.record.Record.TheVariants.{Pass, Desk}
+use Rattle.apf_gate.specs.declared.record.Record.TheVariants.{Pass, Desk, Station}
+use Rattle.apf_gate.specs.declared.record.Actor.TheVariants.{OfPass, OfDesk, OfStation}
+use Rattle.apf_gate.specs.declared.record.StationRecord.{StationRecord}
+use Rattle.apf_gate.specs.Traces.{GoesOn}
 use Rattle.apf_gate.specs.declared.record.PassRecord.{PassRecord}
 use Rattle.apf_gate.specs.declared.record.DeskRecord.{DeskRecord}
 use Rattle.apf_gate.specs.Records.{service}
@@ -67,6 +70,14 @@ each_of : (P : Record → Type 0) (p : PassToken) (ps : List PassToken) → P (P
 each_of P p ps here there zero t low = here
 each_of P p ps here there (suc i) t low = there i t (omega arith)
 
+stations_of : (P : Record → Type 0) (s : StationToken) (ss : List StationToken) → P (Station s.station) → ((i : ℕ) (t : StationToken) → i < length ss → P (Station (slice_index_or ss i t).station)) → (i : ℕ) (t : StationToken) → i < length (s ∷ ss) → P (Station (slice_index_or (s ∷ ss) i t).station)
+stations_of P s ss here there zero t low = here
+stations_of P s ss here there (suc i) t low = there i t (omega arith)
+
+each_station : (P : Record → Type 0) (ss : List StationToken) (rest : List Record) → Every P (stations_before ss rest) → ((i : ℕ) (t : StationToken) → i < length ss → P (Station (slice_index_or ss i t).station)) × Every P rest
+each_station P [] rest k = ((λ i t low. absurd (omega arith)), k)
+each_station P (s ∷ ss) rest k = let h = each_station P ss rest k.1 in (stations_of P s ss k.0 h.0, h.1)
+
 every_passes : (P : Record → Type 0) (ps : List PassToken) (rest : List Record) → Every P (passes_before ps rest) → ((i : ℕ) (t : PassToken) → i < length ps → P (Pass (slice_index_or ps i t).pass)) × Every P rest
 every_passes P [] rest k = ((λ i t low. absurd (omega arith)), k)
 every_passes P (p ∷ ps) rest k = let h = every_passes P ps rest k.1 in (each_of P p ps k.0 h.0, h.1)
@@ -79,14 +90,22 @@ returns c = λ gate desk v passes stations words own kept ends.
     let below : (r : ℕ) → r < length words.decisions → r < length gate.shape.widths = (λ r l. let k = ends.count in omega arith) in
     record {
       made =
-          let last = agrees.last in
-          let on = last.1.from_desk in
+          let account = ends.account in
+          let of_stations = each_station (IsRecord gate.shape account) stations (passes_before passes (Desk desk.desk ∷ [])) ends.stand in
+          let rest = every_passes (IsRecord gate.shape account) passes (Desk desk.desk ∷ []) of_stations.1 in
+          let on : GoesOn account.trace OfDesk desk.desk.knows.trace = subst (λ (d : DeskRecord). GoesOn account.trace OfDesk d.knows.trace) rest.1.0 ends.sound.desk_knows.newer in
           record {
-            trace = last.0;
-            made = last.1.made;
+            trace = account.trace;
+            made = ends.sound.made;
+            schedule = ends.sound.schedule;
             says = λ _. kept.said ∙ (sym (none_say on.0 desk.desk.knows.trace on.2) ∙ ap sayings on.1);
-            word = last.2.0;
-            goes_on = last.1.from_stations;
+            word = ends.level;
+            from_passes = λ i t low.
+                let here = rest.0 i t low in
+                subst (λ (p : PassRecord). GoesOn account.trace (OfPass (slice_index_or passes i t).pass.number) p.knows.trace) here.1 (ends.sound.pass_knows (slice_index_or passes i t).pass.number here.0).newer;
+            goes_on = λ i t low.
+                let here = of_stations.0 i t low in
+                subst (λ (s : StationRecord). GoesOn account.trace (OfStation (slice_index_or stations i t).station.number) s.knows.trace) here.1 (ends.sound.station_knows (slice_index_or stations i t).station.number).newer;
           };
       agrees = record {
         dispatched = λ r q here. decided words r Execute (agrees.settled r (within (Dispatch r q) here) ((mind.dispatched_is r).1 (q, here)));

@@ -1,13 +1,11 @@
-use Rattle.std.proofs.Common.{rules, ◌≡◌, ◌∙◌, List, [], refl, ap, sym, subst, reverse}
-use Rattle.apf_model.specs.declared.response.Response.{Response}
-use Rattle.apf_model.specs.declared.response.Response.TheVariants.{Queue, Reject}
+use Rattle.std.proofs.Common.{rules, ◌≡◌, List, [], refl, ap, sym, subst, reverse}
 use Rattle.apf_history.specs.declared.events.Event.{Event}
 use Rattle.apf_gate.specs.Tokens.{GateId}
 use Rattle.apf_gate.specs.Ends.{EndsWith, EndAgrees}
 use Rattle.apf_book.specs.Laws.{decision_in}
 use Rattle.apf_level.specs.Reports.{Ended}
 use Rattle.apf_level.proofs.Ends.{ended}
-use Rattle.apf_level.proofs.Idle.{agrees, arrivals, nobody_entered}
+use Rattle.apf_level.proofs.Idle.{agrees, arrivals, nobody_entered, made_alone}
 use Rattle.apf_level.proofs.finish.finish_alone.Goals as goal
 
 pub returns-clause-finished : goal.returns-clause-finished
@@ -25,13 +23,7 @@ returns-clause-finished g c =
       ended = subst (λ (h : List Event). Ended k w.level (decision_in w) h ps ss) empty
           (ended k d w ps ss e ends.count c.requires.all.own_passes c.requires.done c.requires.heard [] idle.holds_none idle.of_log (λ q. refl)
           (agrees k d w ps ss e ends.count idle.served_none) (arrivals k d w ps ss e ends.count idle.served_none) (nobody_entered k d w ps ss ends idle.no_queues)
-          (record {
-            trace = e.last.0;
-            made = e.last.1.made;
-            says = λ q. absurd (let bad : ◌≡◌ {A = Response} Queue Reject = sym q ∙ idle.no_queues in cc);
-            word = e.last.2.0;
-            goes_on = e.last.1.from_stations;
-          })
+          (made_alone k d w ps ss [] ends idle.no_queues)
           (λ _. refl));
       count = search rules;
     }

@@ -31,7 +31,7 @@ returns-clause-finished g c =
     let none = nobody c.every_legal_history_is_in_order.ensures.numbers k book.desk v c.requires.own_book.gate kept mind (gone k d w ps ss e ends.count c.requires.all.own_passes c.requires.done c.requires.heard) in
     record {
       ended = subst (λ (h : List Event). Ended k w.level (decision_in w) h ps ss) (sym c.end-desk.ensures.log)
-          (law (subst IsLogOf c.requires.own_book.ledger of_log) none agree.agrees agree.arrivals agree.entered (subst (λ (x : List Event). IsMade k.gate x w.level ss) (ap (λ (y : LedgerView). y.history) c.requires.own_book.ledger) agree.made)
+          (law (subst IsLogOf c.requires.own_book.ledger of_log) none agree.agrees agree.arrivals agree.entered (subst (λ (x : List Event). IsMade k.gate x w.level ps ss) (ap (λ (y : LedgerView). y.history) c.requires.own_book.ledger) agree.made)
           (λ alone. absurd (let bad : ◌≡◌ {A = Response} Queue Reject = sym kept.has_queues ∙ (ap (λ (x : GateId). x.shape.response) c.requires.own_book.gate ∙ alone) in cc)));
       count = search rules;
     }

@@ -5,7 +5,8 @@ use Rattle.std.proofs.lemmas.List.Elements.{All-push, All-rest}
 use Rattle.apf_gate.specs.Tokens.{PassToken, pass_gate}
 use Rattle.apf_level.specs.Keepers.{desk_in}
 use Rattle.apf_level.specs.Tokens.{IsDone}
-use Rattle.apf_level.specs.Heard.{Outcome, IsHeard, outcome_of}
+use Rattle.apf_level.specs.Heard.{Outcome, IsHeard, GoOnFrom, outcome_of}
+use Rattle.apf_level.proofs.Following.{one_more}
 use Rattle.apf_level.proofs.hearing.gather.Goals as goal
 
 pub loop-done-preserved : goal.loop-done-preserved
@@ -30,4 +31,5 @@ loop-done-preserved g c =
       rest = All-rest (λ (t : PassToken). pass_gate t ≡ g.K.Naming.level.gate) done _ _ step was.rest;
       done = subst (All IsDone) (sym pushed) (All-push IsDone items pass was.done c.hear-pass.ensures.done);
       heard = subst (All (IsHeard desk)) (sym pushed) (All-push (IsHeard desk) items pass (λ k d low. c.hear-pass.ensures.stays _ (was.done k d low).told (was.heard k d low)) c.hear-pass.ensures.heard);
+      go_on = subst (λ (l : List PassToken). GoOnFrom c.args.dones.items l rest) (sym pushed) (one_more c.args.dones.items items rest done pass (subst (GoOnFrom c.args.dones.items items) step was.go_on) c.hear-pass.ensures.goes_on);
     }

@@ -3,7 +3,7 @@ use Rattle.std.specs.Vec.Iter.{into_iter_items}
 use Rattle.apf_gate.specs.Tokens.{PassToken, pass_gate}
 use Rattle.apf_level.specs.Keepers.{desk_in, IsKeeperOf}
 use Rattle.apf_level.specs.Tokens.{IsDone}
-use Rattle.apf_level.specs.Heard.{IsHeard, outcome_of}
+use Rattle.apf_level.specs.Heard.{IsHeard, GoOnFrom, outcome_of}
 use Rattle.apf_level.proofs.hearing.gather.Given as goal
 
 abbrev pub invariant-loop-done : goal.invariant-loop-done
@@ -14,4 +14,5 @@ invariant-loop-done g l =
       rest : All (λ (t : PassToken). pass_gate t ≡ g.K.Naming.level.gate) (into_iter_items l.done-iterator);
       done : All IsDone l.passes.items;
       heard : All (IsHeard (desk_in l.keeper).desk) l.passes.items;
+      go_on : GoOnFrom l.fn.dones.items l.passes.items (into_iter_items l.done-iterator);
     }

@@ -3,6 +3,7 @@ use Rattle.std.specs.Prelude.{Contains}
 use Rattle.apf_model.specs.History.{waiting}
 use Rattle.apf_gate.specs.Records.{told_of, told_own}
 use Rattle.apf_gate.specs.Tokens.{PassToken}
+use Rattle.apf_level.proofs.Following.{heard_on}
 use Rattle.apf_level.proofs.hearing.hear_in_book.Goals as goal
 
 pub returns-clause-heard : goal.returns-clause-heard
@@ -24,3 +25,9 @@ returns-clause-heard g c =
           c.strike-struck.ensures.after.told (subst (λ (i : ℕ). told_of desk.knows.told i ≢ None) (sym asked) known) member.0 (subst (λ (i : ℕ). Contains (waiting c.strike-struck.new.self.ledger.history member.0) i) (sym asked) member.1);
       inside = subst (λ (i : ℕ). i < length t.pass.knows.shape.widths) asked c.number.ensures.inside;
     }
+
+pub returns-clause-goes_on : goal.returns-clause-goes_on
+returns-clause-goes_on g c = record {
+  number = c.hear.ensures.same_request.number;
+  trace = heard_on (record { pass = c.args.pass.now.pass; desk = c.args.book.now.desk.desk }) (record { pass = c.hear.new.pass.pass; desk = c.hear.new.self.desk.desk }) c.hear.ensures.answer.answer.0 c.hear.ensures.answer.answer.1;
+}

@@ -1,8 +1,7 @@
 -- The Dones are those of the requests that are gone, the last one first, each of the level; the requests that are left are as they were.
-use Rattle.std.proofs.Common.{◌≡◌, ◌≢◌, ℕ, ◌+◌, ◌-◌, ◌<◌, ◌≤◌, length, slice_index_or, All, None}
-use Rattle.apf_gate.specs.Records.{told_own}
+use Rattle.std.proofs.Common.{◌≡◌, ℕ, ◌+◌, ◌-◌, ◌<◌, ◌≤◌, length, slice_index_or, All}
 use Rattle.apf_gate.specs.Tokens.{PassToken, pass_gate}
-use Rattle.apf_session.specs.Requests.{RequestView, told_by, IsLeftOf}
+use Rattle.apf_session.specs.Requests.{RequestView, IsLeftOf}
 use Rattle.apf_session.proofs.session.dones_of.Given as goal
 
 abbrev pub invariant-loop-request : goal.invariant-loop-request

@@ -51,7 +51,7 @@ pub returns-clause-ended : goal.returns-clause-ended
 returns-clause-ended g c =
     let w = c.in_ok-words.words in
     let decisions : List Decision = c.in_ok-decisions.decisions.items in
-    ended_same g.K.Naming.level w.level c.level.result (decision_in w) (slice_get decisions) _ c.in_ok-passes.passes.items c.args.dones.items c.args.stations.items c.in_ok-passes.ensures.same
+    ended_same g.K.Naming.level w.level c.level.result (decision_in w) (slice_get decisions) _ c.in_ok-passes.passes.items c.args.dones.items c.args.stations.items c.in_ok-passes.ensures.same c.in_ok-passes.ensures.go_on
     c.level.ensures (same_map w decisions c.in_ok-decisions.ensures.decisions) c.in_ok-words.ensures.finished.ended
 
 pub returns-clause-count : goal.returns-clause-count

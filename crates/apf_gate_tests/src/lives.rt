@@ -202,7 +202,7 @@ fn deal<R: Abort>(
     ensures { All (λ w. (pass_gate w.left.pass ≡ gate.now) × (pass_gate w.right.pass ≡ gate.now) × (station_gate w.station ≡ gate.now)) result.items }
 {
     let mut workers = Vec::new(alloc);
-    for _ in 0..4u32 {
+    for _thread in 0..4u32 {
         let (Some(right), Some(left), Some(station)) = (passes.pop(), passes.pop(), stations.pop())
         else {
             panic!(rt; "tokens")

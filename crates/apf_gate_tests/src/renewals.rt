@@ -1,6 +1,6 @@
 //! Slots that are used again.
 
-ghost use Rattle.std.specs.Prelude.{◌≡◌, ◌≤◌, None};
+ghost use Rattle.std.specs.Prelude.{◌≡◌, ◌≤◌, [], None};
 ghost use Rattle.apf_words.specs.Limits.{max_width};
 ghost use Rattle.apf_model.specs.declared.response.Response.TheVariants.{Queue};
 ghost use Rattle.apf_gate.specs.declared.record.State.TheVariants.{Fresh};
@@ -195,10 +195,12 @@ fn strike<R: Abort>(
     requires own_station { station_gate station.old ≡ gate.now }
     requires queues { gate.now.shape.response ≡ Queue }
     requires fresh { pass.old.pass.state ≡ Fresh }
-    requires idle { desk.old.desk.held ≡ None }
+    requires idle { (desk.old.desk.services ≡ []) × (desk.old.desk.held ≡ None) }
 {
     let ticket = pass.ticket();
-    assert_eq!(rt; gate.ask(pass), None);
+    let None = gate.ask(pass) else {
+        panic!(rt; "undecided")
+    };
     let TryEnter::Entered = gate.try_enter(desk, pass) else {
         panic!(rt; "enters")
     };

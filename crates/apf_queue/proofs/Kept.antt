@@ -10,7 +10,7 @@ use Rattle.apf_queue.specs.RingsView.{RingsView, ring}
 use Rattle.apf_queue.specs.TimeView.{TimeView, numbers_of}
 use Rattle.apf_queue.specs.Consistent.{AreConsistent, finish_with, finish_at, AreFinishes, AreKept}
 use Rattle.apf_queue.proofs.Places.{first_contains}
-use Rattle.apf_queue.proofs.Consistency.{put_other, with_queue, with_request, with_queue_else, empties}
+use Rattle.apf_queue.proofs.Consistency.{put_other, with_queue, with_request, with_queue_here, with_queue_else, empties}
 
 cases_empty : (xs : List ℕ) → (xs ≡ []) ⊎ (xs ≢ [])
 cases_empty [] = inl refl
@@ -57,6 +57,33 @@ push_finishes rings time time' finishes limit q r k kept is_queue nowhere number
     (slice_get (ring (with_request rings q r k) p) 0) (ap (λ (xs : List ℕ). slice_get xs 0) (with_queue_else rings q (ring rings q ++ r ∷ []) p ne))
     (ap (λ (v : Numbers). v.next p) numbers ∙ enter_other q (ring rings q) (numbers_of time) p ne)
     (λ x first. get_or-set_other rings.costs r x k 0 (λ same. nowhere p (subst (λ (i : ℕ). Contains (ring rings p) i) same (first_contains (ring rings p) x first)))))
+
+busy_number : (q : ℕ) (held : List ℕ) (v : Numbers) → held ≢ [] → after_enter q held v ≡ v
+busy_number q [] v some = absurd (some refl)
+busy_number q (x ∷ xs) v some = refl
+
+busy_first : (xs : List ℕ) (r : ℕ) → xs ≢ [] → slice_get (xs ++ r ∷ []) 0 ≡ slice_get xs 0
+busy_first [] r some = absurd (some refl)
+busy_first (x ∷ xs) r some = refl
+
+-- behind others, it leaves each finish as it was
+pub busy_finishes : (rings : RingsView) (time time' : TimeView) (finishes : List ℕ) (limit q r k : ℕ) → AreKept rings time finishes limit
+    → q < length rings.queues → ring rings q ≢ [] → ((p : ℕ) → Contains (ring rings p) r → ⊥) → numbers_of time' ≡ after_enter q (ring rings q) (numbers_of time)
+    → AreFinishes (with_request rings q r k) time' finishes
+busy_finishes rings time time' finishes limit q r k kept is_queue some nowhere numbers =
+    let first : (p : ℕ) → slice_get (ring (with_request rings q r k) p) 0 ≡ slice_get (ring rings p) 0 = λ (p : ℕ). elim (cases_eq p q) [
+      | inl e ↦ ap (λ i. slice_get (ring (with_request rings q r k) i) 0) e ∙ ap (λ (xs : List ℕ). slice_get xs 0) (with_queue_here rings q (ring rings q ++ r ∷ []) is_queue)
+          ∙ busy_first (ring rings q) r some ∙ ap (λ i. slice_get (ring rings i) 0) (sym e)
+      | inr ne ↦ ap (λ (xs : List ℕ). slice_get xs 0) (with_queue_else rings q (ring rings q ++ r ∷ []) p ne)
+    ] in
+    let queues = length-set rings.queues q (ring rings q ++ r ∷ []) in
+    record {
+      room = (let a = kept.finishes_are.room in omega arith);
+      each = λ p below. kept.finishes_are.each p below ∙ sym (same_finish rings.costs (set rings.costs r k) (get_or time.next p 0) (get_or time'.next p 0)
+          (slice_get (ring rings p) 0) (slice_get (ring (with_request rings q r k) p) 0) (first p)
+          (ap (λ (v : Numbers). v.next p) (numbers ∙ busy_number q (ring rings q) (numbers_of time) some))
+          (λ x head. get_or-set_other rings.costs r x k 0 (λ same. nowhere p (subst (λ (i : ℕ). Contains (ring rings p) i) same (first_contains (ring rings p) x head)))));
+    }
 
 -- a request leaves its queue, and no other queue's number changes
 pub left_finishes : (rings : RingsView) (time time' : TimeView) (finishes : List ℕ) (limit q : ℕ) (left : List ℕ) → AreKept rings time finishes limit

@@ -21,6 +21,8 @@ pub struct Node {
     pub cost: u32,
 }
 
+const _: () = prove!(size_of::<Node>() == 16);
+
 impl Node {
     // The node of this number, alone and in no queue.
     pub fn alone(number: u32) -> Node

@@ -167,6 +167,10 @@ impl<A: Allocator> Queues<A> {
         }
         self.rings.push(queue, request, cost);
         self.time.enter(queue, len);
+        if len > 0 {
+            // its first request stays, and so does its finish
+            return Ok(());
+        }
         let finish = finish_in(&self.rings, &self.time, queue);
         self.finishes.set(queue, finish);
         Ok(())

@@ -1,11 +1,12 @@
 //! A million requests over eight slots, by four threads, with cancels by tickets that are late or not.
 
+ghost use denote.Param.Send.{IsSync};
 ghost use Rattle.std.specs.Prelude.{◌≡◌, length, All};
-ghost use Rattle.apf_gate.specs.declared.record.State.TheVariants.{Fresh};
 ghost use Rattle.apf_gate.specs.Tokens.{pass_gate, station_gate};
 
 use crate::requests::Request;
-use apf_gate::{Cancel, Gate, LifeWords, Pass, Renew, Station, Ticket, TryTake};
+use crate::stand::{passes_of, requests_of};
+use apf_gate::{Cancel, Gate, LifeWords, Renew, Station, Ticket, TryTake};
 use apf_model::Response;
 use apf_rounds::MOST_TURNS;
 use apf_words::Decision;
@@ -13,7 +14,7 @@ use std::alloc::Global;
 use std::process::Abort;
 use std::sync::atomic::{AtomicU64, Ordering};
 use std::thread;
-use std::thread::Threads;
+use std::thread::{Threads, join_mut};
 
 // How many slots there are, and how many requests hold each, one after another.
 const SLOTS: u32 = 8;
@@ -30,6 +31,8 @@ struct Board {
     told: Vec<AtomicU64>,
     // The cancels that found another request.
     late: AtomicU64,
+    // The slots whose requests all came to an end.
+    ended: AtomicU64,
 }
 
 // So many numbers, each 0.
@@ -49,6 +52,7 @@ impl Board {
             present: zeros(rt, alloc, u64::from(SLOTS)),
             told: zeros(rt, alloc, ROUNDS * u64::from(SLOTS)),
             late: AtomicU64::new(0),
+            ended: AtomicU64::new(0),
         }
     }
 
@@ -129,6 +133,17 @@ fn ticket_of(slot: u32, round: u64) -> Ticket {
     }
 }
 
+// All requests of one slot, one after another.
+fn live_on(gate: &Gate<Global>, board: &Board, slot: u32, request: &mut Request)
+    requires { pass_gate request.old.pass ≡ gate.now }
+    ensures { pass_gate request.new.pass ≡ gate.now }
+{
+    for round in 0..ROUNDS {
+        run(gate, board, slot, round, request);
+    }
+    board.ended.fetch_add(1, Ordering::SeqCst);
+}
+
 // Cancels the present request of the slot, or one of the two before.
 fn cancel(gate: &Gate<Global>, board: &Board, slot: u32, back: u64, station: &mut Station)
     requires { station_gate station.old ≡ gate.now }
@@ -147,119 +162,101 @@ fn cancel(gate: &Gate<Global>, board: &Board, slot: u32, back: u64, station: &mu
     }
 }
 
-// What one thread has: two slots and a Station.
-#[derive(Drop)]
-struct Worker {
-    left: Request,
-    right: Request,
-    station: Station,
-}
-
-// One request of each of its slots, and a cancel of a slot of another.
-fn turn(gate: &Gate<Global>, board: &Board, thread: u32, round: u64, worker: &mut Worker)
-    requires { (pass_gate worker.old.left.pass ≡ gate.now) × (pass_gate worker.old.right.pass ≡ gate.now) × (station_gate worker.old.station ≡ gate.now) }
-    ensures { (pass_gate worker.new.left.pass ≡ gate.now) × (pass_gate worker.new.right.pass ≡ gate.now) × (station_gate worker.new.station ≡ gate.now) }
+// Cancels requests of one slot after another, until all have ended.
+fn cancel_on(gate: &Gate<Global>, board: &Board, station: &mut Station)
+    requires { station_gate station.old ≡ gate.now }
+    ensures { station_gate station.new ≡ gate.now }
 {
-    let first = thread.wrapping_mul(2);
-    run(gate, board, first, round, &mut worker.left);
-    let other = first.wrapping_add(2 + (round % 6) as u32) % SLOTS;
-    cancel(gate, board, other, round % 3, &mut worker.station);
-    run(gate, board, first.wrapping_add(1), round, &mut worker.right);
-}
-
-fn work(gate: &Gate<Global>, board: &Board, thread: u32, worker: &mut Worker)
-    requires { (pass_gate worker.old.left.pass ≡ gate.now) × (pass_gate worker.old.right.pass ≡ gate.now) × (station_gate worker.old.station ≡ gate.now) }
-    ensures { (pass_gate worker.new.left.pass ≡ gate.now) × (pass_gate worker.new.right.pass ≡ gate.now) × (station_gate worker.new.station ≡ gate.now) }
-{
-    for round in 0..ROUNDS {
-        turn(gate, board, thread, round, worker);
+    for turn in 0..MOST_TURNS {
+        if board.ended.load(Ordering::SeqCst) >= u64::from(SLOTS) {
+            break;
+        }
+        let slot = turn % SLOTS;
+        cancel(gate, board, slot, u64::from(turn / SLOTS % 3), station);
+        thread::yield_now();
     }
 }
 
-// All work, each in a thread of its own.
-fn all_work<R: Threads + Sync>(rt: &R, gate: &Gate<Global>, board: &Board, workers: &mut [Worker])
-    requires { All (λ w. (pass_gate w.left.pass ≡ gate.now) × (pass_gate w.right.pass ≡ gate.now) × (station_gate w.station ≡ gate.now)) workers.old }
-    ensures { All (λ w. (pass_gate w.left.pass ≡ gate.now) × (pass_gate w.right.pass ≡ gate.now) × (station_gate w.station ≡ gate.now)) workers.new }
+// The slots live on, in four threads.
+fn slots_live<R: Threads + Sync>(
+    rt: &R,
+    gate: &Gate<Global>,
+    board: &Board,
+    requests: &mut [Request],
+)
+    requires { All (λ r. pass_gate r.pass ≡ gate.now) requests.old }
+    ensures count { length requests.new ≡ length requests.old }
+    ensures own { All (λ r. pass_gate r.pass ≡ gate.now) requests.new }
 {
     thread::for_each_mut(
         rt,
-        workers,
+        requests,
         4,
-        &|thread, worker| work(gate, board, thread as u32, worker),
+        &|slot, request| live_on(gate, board, slot as u32, request),
     );
 }
 
-// Deals the tokens out, the last ones first. So the worker that is made last has the first two slots.
-fn deal<R: Abort>(
+// The Stations cancel, in two threads.
+fn stations_cancel<R: Threads + Sync>(
     rt: &R,
-    alloc: Global,
     gate: &Gate<Global>,
-    mut passes: Vec<Pass>,
-    mut stations: Vec<Station>,
-) -> Vec<Worker>
-    requires passes { All (λ t. (pass_gate t ≡ gate.now) × (t.pass.state ≡ Fresh)) passes.items }
-    requires stations { All (λ t. station_gate t ≡ gate.now) stations.items }
-    ensures { All (λ w. (pass_gate w.left.pass ≡ gate.now) × (pass_gate w.right.pass ≡ gate.now) × (station_gate w.station ≡ gate.now)) result.items }
+    board: &Board,
+    stations: &mut [Station],
+)
+    requires { All (λ t. station_gate t ≡ gate.now) stations.old }
+    ensures count { length stations.new ≡ length stations.old }
+    ensures own { All (λ t. station_gate t ≡ gate.now) stations.new }
 {
-    let mut workers = Vec::new(alloc);
-    for _thread in 0..4u32 {
-        let (Some(right), Some(left), Some(station)) = (passes.pop(), passes.pop(), stations.pop())
-        else {
-            panic!(rt; "tokens")
-        };
-        let worker = Worker {
-            left: Request::new(left),
-            right: Request::new(right),
-            station,
-        };
-        let Ok(()) = workers.push(worker) else {
-            panic!(rt; "memory")
-        };
-    }
-    workers.reverse();
-    workers
+    thread::for_each_mut(
+        rt,
+        stations,
+        2,
+        &|_, station| cancel_on(gate, board, station),
+    );
 }
 
-// Collects the tokens.
-fn collect<R: Abort>(
+// Both at once.
+fn all_work<R: Threads + Sync>(
     rt: &R,
-    alloc: Global,
     gate: &Gate<Global>,
-    mut workers: Vec<Worker>,
-) -> (Vec<Pass>, Vec<Station>)
-    requires { All (λ w. (pass_gate w.left.pass ≡ gate.now) × (pass_gate w.right.pass ≡ gate.now) × (station_gate w.station ≡ gate.now)) workers.items }
-    ensures passes { All (λ t. pass_gate t ≡ gate.now) result.0.items }
-    ensures stations { All (λ t. station_gate t ≡ gate.now) result.1.items }
+    board: &Board,
+    requests: &mut [Request],
+    stations: &mut [Station],
+)
+    requires requests { All (λ r. pass_gate r.pass ≡ gate.now) requests.old }
+    requires stations { All (λ t. station_gate t ≡ gate.now) stations.old }
+    ensures count { (length requests.new ≡ length requests.old) × (length stations.new ≡ length stations.old) }
+    ensures requests { All (λ r. pass_gate r.pass ≡ gate.now) requests.new }
+    ensures stations { All (λ t. station_gate t ≡ gate.now) stations.new }
 {
-    let mut passes = Vec::new(alloc);
-    let mut stations = Vec::new(alloc);
-    while let Some(worker) = workers.pop() {
-        let Worker {
-            left,
-            right,
-            station,
-        } = worker;
-        let (Ok(()), Ok(()), Ok(())) = (
-            passes.push(left.into_pass()),
-            passes.push(right.into_pass()),
-            stations.push(station),
-        ) else {
-            panic!(rt; "memory")
-        };
-    }
-    (passes, stations)
+    join_mut(
+        rt,
+        &mut ||
+            requires { IsSync R.row × All (λ r. pass_gate r.pass ≡ gate.now) requests.now }
+            ensures { (length requests.exit.now ≡ length requests.entry.now) × All (λ r. pass_gate r.pass ≡ gate.entry.now) requests.exit.now }
+        { slots_live(rt, gate, board, requests) },
+        &mut ||
+            requires { IsSync R.row × All (λ t. station_gate t ≡ gate.now) stations.now }
+            ensures { (length stations.exit.now ≡ length stations.entry.now) × All (λ t. station_gate t ≡ gate.entry.now) stations.exit.now }
+        { stations_cancel(rt, gate, board, stations) },
+    );
 }
 
 // Runs a million requests, and ends the gate.
 fn live<R: Threads + Abort + Sync>(rt: &R, alloc: Global, board: &Board) -> LifeWords<Global> {
-    let opened = Gate::open_for_life(alloc, 2, &[1, 1, 1, 1, 1, 1, 1, 1], 4, Response::Queue);
-    let Ok((gate, desk, passes, stations)) = opened else {
+    let opened = Gate::open_for_life(alloc, 2, &[1, 1, 1, 1, 1, 1, 1, 1], 2, Response::Queue);
+    let Ok((gate, desk, passes, mut stations)) = opened else {
         panic!(rt; "opens")
     };
-    let mut workers = deal(rt, alloc, &gate, passes, stations);
-    all_work(rt, &gate, board, workers.as_mut_slice());
-    let (passes, stations) = collect(rt, alloc, &gate, workers);
-    assert!(rt; passes.len() == 8 && stations.len() == 4);
+    let mut requests = requests_of(rt, alloc, passes, &gate);
+    all_work(
+        rt,
+        &gate,
+        board,
+        requests.as_mut_slice(),
+        stations.as_mut_slice(),
+    );
+    let passes = passes_of(rt, alloc, requests, &gate);
     let Ok(words) = gate.end_for_life(alloc, desk, passes, stations) else {
         panic!(rt; "memory")
     };

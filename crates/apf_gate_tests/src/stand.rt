@@ -32,8 +32,8 @@ pub struct Stand {
     pub ghost response_is: { gate.shape.response ≡ response },
 }
 
-// The requests of these Passes, in their order.
-fn requests_of<R: Abort>(
+/// The requests of these Passes, in their order.
+pub fn requests_of<R: Abort>(
     rt: &R,
     alloc: Global,
     mut passes: Vec<Pass>,
@@ -55,8 +55,8 @@ fn requests_of<R: Abort>(
     requests
 }
 
-// The Passes of these requests.
-fn passes_of<R: Abort>(
+/// The Passes of these requests.
+pub fn passes_of<R: Abort>(
     rt: &R,
     alloc: Global,
     mut requests: Vec<Request>,

@@ -84,7 +84,7 @@ fn run_named<K: Naming, R: Threads + Clock + Wait + Sync>(
     opening: Opening<'_>,
     scene: Scene,
 ) -> Option<u64>
-    requires { K.level ≡ level_of opening.gate opening.config opening.asks.now }
+    requires { K.level ≡ level_of opening.gate opening.board.cell opening.config opening.asks.now }
 {
     let mut session = Session::<K>::open(rt, alloc, opening).ok()?;
     let picos = play(rt, &mut session, scene);

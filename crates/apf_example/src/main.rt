@@ -33,7 +33,7 @@ fn serve_named<K: Naming, R: Wait>(
     alloc: Global,
     opening: Opening<'_>,
 ) -> Result<Report, OpenFault>
-    requires level { K.level ≡ level_of opening.gate opening.config opening.asks.now }
+    requires level { K.level ≡ level_of opening.gate opening.board.cell opening.config opening.asks.now }
     requires two { length opening.gate.shape.widths ≡ 2 }
 {
     let mut session = Session::<K>::open(rt, alloc, opening)?;

@@ -10,7 +10,8 @@ use Rattle.apf_gate.specs.Ends.{WordsView}
 use Rattle.apf_book.specs.declared.fault.BookFault.{BookFault}
 use Rattle.apf_book.specs.LedgerView.{LedgerView}
 use Rattle.apf_book.specs.Laws.{decision_in}
-use Rattle.apf_stats.specs.Numbers.{PassView}
+use Rattle.atomic_table.specs.Seated.{TableId}
+use Rattle.apf_stats.specs.Numbers.{BoardView, PassView}
 use Rattle.apf_level.specs.declared.answers.Begin.{Begin}
 use Rattle.apf_level.specs.declared.answers.Attempt.{Attempt}
 use Rattle.apf_level.specs.Levels.{LevelId, LevelView}
@@ -29,6 +30,14 @@ pub record IsGateFor (k : LevelId) (config : Config) (asks : List Ask) (ledger :
   pub limit : gate.shape.limit ≡ config.limit
   pub widths : map (λ (a : Ask). a.width) asks ≡ gate.shape.widths
   pub response : gate.shape.response ≡ config.limit_response
+
+-- both ends of the statistics and the reader's pass are of the level's cell, which nobody wrote or read yet
+pub record AreEndsOf (k : LevelId) (writer : BoardView) (read : TableId) (pass : PassView) : Type 0 where
+  pub board : writer.cell ≡ k.cell
+  pub window : read ≡ k.cell
+  pub reader : pass.cell ≡ k.cell
+  pub nothing_published : writer.trace ≡ []
+  pub nothing_read : pass.trace ≡ []
 
 -- the level is of this gate; its Passes and Stations are those that were given; and the reader of statistics is of its cell and read nothing
 pub record IsOpened {P S : Type 0} (own : GateId) (given : P) (handed : S) (level : LevelView) (all : P) (each : S) (reader : PassView) : Type 0 where

@@ -8,10 +8,11 @@ use Rattle.apf_gate.specs.Gauges.{IsShape}
 use Rattle.apf_book.specs.LedgerView.{LedgerView, IsLogOf}
 use Rattle.apf_book.specs.BookView.{BookView}
 
--- its gate, and the ledger that it was opened with
+-- its gate, the ledger that it was opened with, and the cell of its statistics
 pub record LevelId : Type 0 where
   pub gate : GateId
   pub opening : LedgerView
+  pub cell : TableId
 
 -- a level, as contracts see it: its gate, and the cell of its statistics
 pub record LevelView : Type 0 where
@@ -22,12 +23,13 @@ pub record LevelView : Type 0 where
 abbrev pub logged_as : LevelId → List Event → LedgerView
 logged_as k h = record k.opening { history = h }
 
--- the gate is this level's
-pub record IsGateOf (k : LevelId) (gate : GateId) : Type 0 where
+-- the gate, and the cell that is read, are this level's
+pub record IsLevelOf (k : LevelId) (gate : GateId) (read : TableId) : Type 0 where
   pub same : gate ≡ k.gate
   pub shape : IsShape gate.shape
   -- a batch: each request has a slot of its own
   pub batch : length gate.shape.widths ≡ gate.shape.slots
+  pub cell : read ≡ k.cell
 
 -- the book is this level's: its Desk is of the level's gate, and its ledger began as the level's
 pub record IsBookOf (k : LevelId) (b : BookView) : Type 0 where

@@ -5,13 +5,12 @@ ghost use Rattle.apf_words.specs.Limits.{max_requests};
 ghost use Rattle.apf_model.specs.declared.response.Response.TheVariants.{Queue, Reject};
 ghost use Rattle.apf_model.specs.Schedule.{AreWidths};
 ghost use Rattle.apf_gate.specs.Records.{new_desk};
-ghost use Rattle.apf_book.specs.declared.fault.BookFault.TheVariants.{NoMemory};
 ghost use Rattle.apf_book.specs.Stopped.{IsStopped};
 ghost use Rattle.apf_book.specs.Opening.{opening_ledger, opening_ledger_with, AreSettings, IsFaultOf};
 ghost use Rattle.apf_gate.specs.Tokens.{desk_gate};
 ghost use Rattle.apf_level.specs.Levels.{IsBookOf};
 ghost use Rattle.apf_book.specs.BookCalls.{AreCostsFor};
-ghost use Rattle.apf_level.specs.LevelCalls.{IsGateFor, IsOpened, IsJudged};
+ghost use Rattle.apf_level.specs.LevelCalls.{IsGateFor, AreEndsOf, IsOpened, IsJudged};
 
 use crate::alone::{Alone, AloneLock};
 use crate::naming::Naming;
@@ -20,10 +19,13 @@ use crate::shared::Shared;
 use apf_book::{Ask, Book, BookFault, Config};
 use apf_gate::{Desk, Gate, Pass, Station};
 use apf_model::Response;
-use apf_stats::{StatsPass, Window};
+use apf_stats::{Board, StatsPass, Window};
 use std::alloc::Global;
 use std::marker::{Model, PhantomData};
 use std::sync::Mutex;
+
+/// Both ends of a level's statistics and its reader, as `open_statistics` made them.
+pub type Ends = (Board, Window, StatsPass);
 
 /// Why a level is not opened: the dealer's fault, the queues', or out of memory, the first of these.
 pub type LevelFault = BookFault;
@@ -37,13 +39,13 @@ pub struct Level<K: Naming> {
 }
 
 impl<K: Naming> Model for Level<K> {
-    ghost use Rattle.apf_level.specs.Levels.{LevelView, IsGateOf};
+    ghost use Rattle.apf_level.specs.Levels.{LevelView, IsLevelOf};
 
     ghost Value = { LevelView };
 
     ghost view = { λ l. record { gate = l.gate; cell = l.window } };
 
-    ghost invariant = { λ l. IsGateOf K.level l.gate };
+    ghost invariant = { λ l. IsLevelOf K.level l.gate l.window };
 }
 
 /// A level that was opened, with the tokens of its gate, and one reader's pass of its statistics.
@@ -67,7 +69,8 @@ impl<K: Naming> Level<K> {
     }
 
     /// A level over the parts of K's gate, as `Gate::open` gave them for the config's limit and response and
-    /// the asks' widths. A dispatch is charged the request's width. All memory is taken here.
+    /// the asks' widths, and over the ends of K's statistics. A dispatch is charged the request's width. All
+    /// memory is taken here.
     ///
     /// On a level whose response is Reject the settings of queues are not used.
     ///
@@ -83,22 +86,32 @@ impl<K: Naming> Level<K> {
         desk: Desk,
         passes: Vec<Pass>,
         stations: Vec<Station>,
+        ends: Ends,
     ) -> Result<Opened<K>, LevelFault>
-        requires { IsGateFor K.level config.now asks.now (opening_ledger config.now asks.now) gate desk }
+        requires opening { IsGateFor K.level config.now asks.now (opening_ledger config.now asks.now) gate desk }
+        requires ends { AreEndsOf K.level ends.0 ends.1 ends.2 }
         ensures opened { IfOk result (λ o. IsOpened gate passes stations o.level o.passes o.stations o.stats) }
         ensures judged { IsJudged config.now asks.now result }
     {
-        let under = match config.limit_response {
+        let (board, window, stats) = ends;
+        let shared = match config.limit_response {
             Response::Queue => {
                 let book = Book::new(alloc, config, asks, desk);
-                queued::<K>(alloc, config, asks, book)?
+                queued::<K>(alloc, config, asks, book, board)?
             }
-            Response::Reject => {
-                desk.is_of_a_gate();
-                alone::<K>(alloc, desk)?
-            }
+            Response::Reject => alone::<K>(desk),
         };
-        Ok(assembled(gate, under, passes, stations))
+        let level = Level {
+            gate,
+            shared,
+            window,
+        };
+        Ok(Opened {
+            level,
+            passes,
+            stations,
+            stats,
+        })
     }
 
     /// As `open`, but a dispatch is charged the request's cost: its queue's next and the level's virtual
@@ -120,60 +133,44 @@ impl<K: Naming> Level<K> {
         desk: Desk,
         passes: Vec<Pass>,
         stations: Vec<Station>,
+        ends: Ends,
     ) -> Result<Opened<K>, LevelFault>
         requires opening { IsGateFor K.level config.now asks.now (opening_ledger_with config.now asks.now costs.now) gate desk }
         requires costs { AreCostsFor asks.now costs.now }
+        requires ends { AreEndsOf K.level ends.0 ends.1 ends.2 }
         ensures opened { IfOk result (λ o. IsOpened gate passes stations o.level o.passes o.stations o.stats) }
         ensures judged { IsJudged config.now asks.now result }
     {
-        let under = match config.limit_response {
+        let (board, window, stats) = ends;
+        let shared = match config.limit_response {
             Response::Queue => {
                 let book = Book::with_costs(alloc, config, asks, costs, desk);
-                queued::<K>(alloc, config, asks, book)?
+                queued::<K>(alloc, config, asks, book, board)?
             }
-            Response::Reject => alone::<K>(alloc, desk)?,
+            Response::Reject => alone::<K>(desk),
         };
-        Ok(assembled(gate, under, passes, stations))
+        let level = Level {
+            gate,
+            shared,
+            window,
+        };
+        Ok(Opened {
+            level,
+            passes,
+            stations,
+            stats,
+        })
     }
 }
 
-// What stands under a level's lock, with both ends of its statistics.
-type Under<K> = (Shared<K>, Window, StatsPass);
-
-// The level over these parts.
-fn assembled<K: Naming>(
-    gate: Gate<Global>,
-    under: Under<K>,
-    passes: Vec<Pass>,
-    stations: Vec<Station>,
-) -> Opened<K>
-    requires own { gate ≡ K.level.gate }
-    requires batch { length gate.shape.widths ≡ gate.shape.slots }
-    requires stats { (under.2.cell ≡ under.1) × (under.2.trace ≡ []) }
-    ensures { IsOpened gate passes stations result.level result.passes result.stations result.stats }
-{
-    let (shared, window, stats) = under;
-    let level = Level {
-        gate,
-        shared,
-        window,
-    };
-    Opened {
-        level,
-        passes,
-        stations,
-        stats,
-    }
-}
-
-// What stands under the lock of a level with queues, of whose book this was made, with the readers' end of
-// its statistics.
+// The lock of a level with queues, of whose book this was made, with the writer's end of its statistics.
 fn queued<K: Naming>(
     alloc: Global,
     config: &Config,
     asks: &[Ask],
     book: Result<Book<Global>, BookFault>,
-) -> Result<Under<K>, LevelFault>
+    board: Board,
+) -> Result<Shared<K>, LevelFault>
     requires book { IfOk book (IsBookOf K.level) }
     requires new { IfOk book (λ b. b.ledger.history ≡ []) }
     requires stopped { IfOk book (λ b. IsStopped b.ledger b.desk.desk.knows) }
@@ -181,12 +178,12 @@ fn queued<K: Naming>(
     requires settings { OnOk book (AreSettings config.now asks.now) }
     requires fault { IfErr book (IsFaultOf config.now asks.now) }
     requires has_queues { K.level.gate.shape.response ≡ Queue }
+    requires own_cell { board.cell ≡ K.level.cell }
+    requires nothing_published { board.trace ≡ [] }
     ensures settings { OnOk result (AreSettings config.now asks.now) }
-    ensures stats { IfOk result (λ o. (o.2.cell ≡ o.1) × (o.2.trace ≡ [])) }
     ensures fault { IfErr result (IsFaultOf config.now asks.now) }
 {
     let book = book?;
-    let (board, window, stats) = apf_stats::open(alloc)?;
     let queued = Queued {
         book,
         board,
@@ -196,11 +193,11 @@ fn queued<K: Naming>(
     let lock = QueuedLock {
         lock: Mutex::new(queued),
     };
-    Ok((Shared::Queued(lock), window, stats))
+    Ok(Shared::Queued(lock))
 }
 
-// What stands under the lock of a level without queues, whose statistics nobody writes.
-fn alone<K: Naming>(alloc: Global, desk: Desk) -> Result<Under<K>, LevelFault>
+// The lock of a level without queues, whose statistics nobody writes.
+fn alone<K: Naming>(desk: Desk) -> Shared<K>
     requires own { desk_gate desk ≡ K.level.gate }
     requires batch { length K.level.gate.shape.widths ≡ K.level.gate.shape.slots }
     requires fresh { desk.desk ≡ new_desk desk.desk.knows.shape }
@@ -208,11 +205,8 @@ fn alone<K: Naming>(alloc: Global, desk: Desk) -> Result<Under<K>, LevelFault>
     requires one_cost_each { length K.level.opening.costs ≡ length K.level.gate.shape.widths }
     requires costs { AreWidths K.level.opening.costs }
     requires no_queues { K.level.gate.shape.response ≡ Reject }
-    ensures stats { IfOk result (λ o. (o.2.cell ≡ o.1) × (o.2.trace ≡ [])) }
-    ensures fault { IfErr result (λ f. f ≡ NoMemory) }
 {
     desk.is_of_a_gate();
-    let (_board, window, stats) = apf_stats::open(alloc)?;
     let alone = Alone {
         desk,
         of: PhantomData,
@@ -220,5 +214,5 @@ fn alone<K: Naming>(alloc: Global, desk: Desk) -> Result<Under<K>, LevelFault>
     let lock = AloneLock {
         lock: Mutex::new(alone),
     };
-    Ok((Shared::Alone(lock), window, stats))
+    Shared::Alone(lock)
 }

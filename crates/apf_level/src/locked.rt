@@ -60,9 +60,11 @@ impl<K: Naming> Level<K> {
         self.shared.copy_events(rt, from, into)
     }
 
-    /// The numbers of the log as they were published last, by one reading. It takes no lock of the queues.
+    /// The numbers of the log as they were published last, by one reading of the level's cell. It takes no lock of the
+    /// queues.
     pub fn stats<R: Wait>(&self, rt: &R, pass: &mut StatsPass) -> Stats
         requires own { pass.old.cell ≡ self.now.cell }
+        ensures own_cell { self.now.cell ≡ K.level.cell }
         ensures cell { pass.new.cell ≡ pass.old.cell }
         ensures number { pass.new.number ≡ pass.old.number }
         ensures one_reading { IsNext pass.old.number None pass.old.trace pass.new.trace }

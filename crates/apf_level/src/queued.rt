@@ -40,6 +40,7 @@ pub struct Queued<K: Naming> {
     pub of: PhantomData<K>,
     ghost tied: { IsBookOf K.level book },
     ghost stopped: { IsStopped book.ledger book.desk.desk.knows },
+    ghost own_cell: { board.cell ≡ K.level.cell },
     ghost published: { shown board.trace ≡ shown_of book.ledger.history },
     ghost one_flag_each: { length sleeps.items ≡ length K.level.gate.shape.widths },
 }

@@ -80,7 +80,7 @@ fn play_named<K: Naming, R: Wait + Abort>(
     costs: &[u32],
     steps: &[Step],
 ) -> Result<Ended, OpenFault>
-    requires level { K.level ≡ level_with opening.gate opening.config opening.asks.now costs.now }
+    requires level { K.level ≡ level_with opening.gate opening.board.cell opening.config opening.asks.now costs.now }
     requires one_cost_each { length costs.now ≡ length opening.asks.now }
     requires costs { AreWidths costs.now }
 {

@@ -62,7 +62,7 @@ fn play_named<K: Naming, R: Threads + Wait + Abort + Clock + Sync>(
     opening: Opening<'_>,
     scenes: &[Scene<'_>],
 ) -> Result<Ended, OpenFault>
-    requires { K.level ≡ level_of opening.gate opening.config opening.asks.now }
+    requires { K.level ≡ level_of opening.gate opening.board.cell opening.config opening.asks.now }
 {
     let mut session = Session::<K>::open(rt, alloc, opening)?;
     for scene in scenes {

@@ -49,7 +49,7 @@ impl<K: Naming> Recorder<K> {
         opening: Opening<'_>,
         commands: usize,
     ) -> Result<Recorder<K>, OpenFault>
-        requires level { K.level ≡ level_of opening.gate opening.config opening.asks.now }
+        requires level { K.level ≡ level_of opening.gate opening.board.cell opening.config opening.asks.now }
         requires one { opening.gate.shape.stations ≡ 1 }
         ensures settings { OnOk result (CanOpen opening.entry.config opening.entry.asks.now 1) }
         ensures fault { IfErr result (IsOpenFault opening.entry.config opening.entry.asks.now 1) }

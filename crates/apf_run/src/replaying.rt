@@ -51,7 +51,7 @@ fn replay_named<K: Naming, R: Wait>(
     requests: &[Request],
     commands: &[Command],
 ) -> Result<Transcript, ReplayFault>
-    requires level { K.level ≡ level_of opening.gate opening.config opening.asks.now }
+    requires level { K.level ≡ level_of opening.gate opening.board.cell opening.config opening.asks.now }
     requires one { opening.gate.shape.stations ≡ 1 }
     requires asks { opening.asks.now ≡ asks_of requests.now }
     ensures settings { OnOk result (CanRun opening.entry.config requests.now 1) }

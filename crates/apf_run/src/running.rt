@@ -59,7 +59,7 @@ fn run_named<K: Plan, W: Work, R: Wait + Threads + Sync>(
     requests: &[Request],
     work: &W,
 ) -> Result<Report, RunFault>
-    requires level { K.level ≡ level_of opening.gate opening.config opening.asks.now }
+    requires level { K.level ≡ level_of opening.gate opening.board.cell opening.config opening.asks.now }
     requires plan { K.requests ≡ requests.now }
     requires asks { opening.asks.now ≡ asks_of requests.now }
     requires some { 0 < opening.gate.shape.stations }
@@ -74,13 +74,16 @@ fn run_named<K: Plan, W: Work, R: Wait + Threads + Sync>(
         desk,
         passes,
         stations,
+        board,
+        window,
+        reader,
     } = opening;
     let Opened {
         level,
         passes,
         stations,
         stats,
-    } = Level::<K>::open(alloc, &config, asks, gate, desk, passes, stations)?;
+    } = Level::<K>::open(alloc, &config, asks, gate, desk, passes, stations, (board, window, reader))?;
     let finished = Finished::new(alloc, passes.len(), stations.len())?;
     let workers = deal_out(alloc, passes, stations)?;
     let job = Job::new(&level, requests, work);

@@ -1,5 +1,6 @@
 -- What a level is opened with, and why it is not opened.
 use Rattle.std.specs.Prelude.{◌≡◌, ◌≢◌, ℕ, List, [], map}
+use Rattle.atomic_table.specs.Seated.{TableId}
 use Rattle.apf_gate.specs.declared.record.Shape.{Shape}
 use Rattle.apf_gate.specs.declared.fault.GateFault.{GateFault}
 use Rattle.apf_gate.specs.declared.fault.GateFault.TheVariants as gate
@@ -16,13 +17,13 @@ use Rattle.apf_level.specs.Opening.{FaultBy, SettledBy}
 use Rattle.apf_session.specs.declared.fault.OpenFault.{OpenFault}
 use Rattle.apf_session.specs.declared.fault.OpenFault.TheVariants as faults
 
--- the level of this gate, opened with these settings
-abbrev pub level_of : GateId → Config → List Ask → LevelId
-level_of gate config asks = record { gate = gate; opening = opening_ledger config asks }
+-- the level of this gate and this cell of statistics, opened with these settings
+abbrev pub level_of : GateId → TableId → Config → List Ask → LevelId
+level_of gate cell config asks = record { gate = gate; opening = opening_ledger config asks; cell = cell }
 
 -- the same, with these costs
-abbrev pub level_with : GateId → Config → List Ask → List ℕ → LevelId
-level_with gate config asks costs = record { gate = gate; opening = opening_ledger_with config asks costs }
+abbrev pub level_with : GateId → TableId → Config → List Ask → List ℕ → LevelId
+level_with gate cell config asks costs = record { gate = gate; opening = opening_ledger_with config asks costs; cell = cell }
 
 -- a Station of this gate, which made no step
 abbrev pub IsNew : GateId → StationToken → Type 0

@@ -23,7 +23,7 @@
 //!     alloc: Global,
 //!     opening: Opening<'_>,
 //! ) -> Result<Report, OpenFault>
-//!     requires { K.level ≡ level_of opening.gate opening.config opening.asks.now }
+//!     requires { K.level ≡ level_of opening.gate opening.board.cell opening.config opening.asks.now }
 //!     requires { length opening.gate.shape.widths ≡ 2 }
 //! {
 //!     let mut session = Session::<K>::open(rt, alloc, opening)?;

@@ -1,6 +1,6 @@
 //! Opens the gate of a level.
 
-ghost use Rattle.std.specs.Prelude.{◌≡◌, ◌≤◌, length, map, All, IfOk, IfErr};
+ghost use Rattle.std.specs.Prelude.{◌≡◌, ◌≤◌, [], length, map, All, IfOk, IfErr};
 ghost use Rattle.apf_words.specs.Limits.{max_requests, max_stations};
 ghost use Rattle.apf_gate.specs.declared.record.State.TheVariants.{Fresh};
 ghost use Rattle.apf_gate.specs.Records.{new_desk};
@@ -12,9 +12,11 @@ ghost use Rattle.apf_session.specs.Requests.{ArePassesNumbered};
 use crate::fault::OpenFault;
 use apf_book::{Ask, Config};
 use apf_gate::{Desk, Gate, Pass, Station};
+use apf_level::{Board, StatsPass, Window, open_statistics};
 use std::alloc::Global;
 
-/// The settings of a level with its gate, which was just opened for them, and the gate's tokens.
+/// The settings of a level with its gate, which was just opened for them, the gate's tokens, and the ends of its
+/// statistics.
 #[derive(Drop)]
 pub struct Opening<'a> {
     pub config: Config,
@@ -23,6 +25,9 @@ pub struct Opening<'a> {
     pub desk: Desk,
     pub passes: Vec<Pass>,
     pub stations: Vec<Station>,
+    pub board: Board,
+    pub window: Window,
+    pub reader: StatsPass,
     pub ghost desk_is: { desk ≡ record { table = gate.table; desk = new_desk gate.shape } },
     pub ghost is_a_batch: { length gate.shape.widths ≡ gate.shape.slots },
     pub ghost limit_is: { gate.shape.limit ≡ config.limit },
@@ -37,6 +42,10 @@ pub struct Opening<'a> {
     pub ghost is_shape: { IsShape (shape_for config asks.now gate.shape.stations) },
     pub ghost few_stations: { gate.shape.stations ≤ max_stations },
     pub ghost few: { length asks.now ≤ max_requests },
+    pub ghost window_is: { window ≡ board.cell },
+    pub ghost reader_is: { reader.cell ≡ board.cell },
+    pub ghost nothing_published: { board.trace ≡ [] },
+    pub ghost nothing_read: { reader.trace ≡ [] },
 }
 
 impl<'a> Opening<'a> {
@@ -65,6 +74,7 @@ impl<'a> Opening<'a> {
             stations,
             config.limit_response,
         )?;
+        let (board, window, reader) = open_statistics(alloc)?;
         Ok(Opening {
             config: *config,
             asks,
@@ -72,6 +82,9 @@ impl<'a> Opening<'a> {
             desk,
             passes,
             stations,
+            board,
+            window,
+            reader,
         })
     }
 }

@@ -196,7 +196,7 @@ impl<K: Naming> Session<K> {
         alloc: Global,
         opening: Opening<'_>,
     ) -> Result<Session<K>, OpenFault>
-        requires { K.level ≡ level_of opening.gate opening.config opening.asks.now }
+        requires { K.level ≡ level_of opening.gate opening.board.cell opening.config opening.asks.now }
         ensures numbered { IfOk result (λ s. AreNumbered s.requests.items) }
         ensures away { IfOk result (λ s. AreAway s.requests.items) }
         ensures settings { OnOk result (SettledBy opening.entry.config.limit_response opening.entry.config opening.entry.asks.now) }
@@ -209,8 +209,11 @@ impl<K: Naming> Session<K> {
             desk,
             passes,
             stations,
+            board,
+            window,
+            reader,
         } = opening;
-        let opened = Level::open(alloc, &config, asks, gate, desk, passes, stations)?;
+        let opened = Level::open(alloc, &config, asks, gate, desk, passes, stations, (board, window, reader))?;
         Ok(Session::of(rt, alloc, opened)?)
     }
 
@@ -226,7 +229,7 @@ impl<K: Naming> Session<K> {
         opening: Opening<'_>,
         costs: &[u32],
     ) -> Result<Session<K>, OpenFault>
-        requires level { K.level ≡ level_with opening.gate opening.config opening.asks.now costs.now }
+        requires level { K.level ≡ level_with opening.gate opening.board.cell opening.config opening.asks.now costs.now }
         requires one_cost_each { length costs.now ≡ length opening.asks.now }
         requires costs { AreWidths costs.now }
         ensures numbered { IfOk result (λ s. AreNumbered s.requests.items) }
@@ -241,9 +244,12 @@ impl<K: Naming> Session<K> {
             desk,
             passes,
             stations,
+            board,
+            window,
+            reader,
         } = opening;
         let opened = Level::open_with_costs(
-            alloc, &config, asks, costs, gate, desk, passes, stations,
+            alloc, &config, asks, costs, gate, desk, passes, stations, (board, window, reader),
         )?;
         Ok(Session::of(rt, alloc, opened)?)
     }

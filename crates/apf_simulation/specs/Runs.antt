@@ -1,5 +1,6 @@
 -- What a simulation is.
 use Rattle.std.specs.Prelude.{◌≡◌, ℕ, List, []}
+use Rattle.atomic_table.specs.Seated.{TableId}
 use Rattle.apf_gate.specs.Tokens.{GateId}
 use Rattle.apf_model.specs.declared.config.Config.{Config}
 use Rattle.apf_level.specs.declared.report.Report.{Report}
@@ -37,7 +38,8 @@ pub record IsMadeOf (limit : ℕ) (trace : List TraceRequest) (patience : ℕ) (
 -- The trace was run on a level of this config. The level has ended, and nothing is due.
 pub record IsSimulation (config : Config) (trace : List TraceRequest) (patience : ℕ) (s : Simulation) : Type 0 where
   pub gate : GateId
-  pub report : HasEnded (level_with gate config (asks_of trace) (costs_of trace)) s.report
+  pub cell : TableId
+  pub report : HasEnded (level_with gate cell config (asks_of trace) (costs_of trace)) s.report
   pub diary : DiaryView
   pub run : HasRun trace patience diary
   pub made : IsMadeOf config.limit trace patience diary s.report s

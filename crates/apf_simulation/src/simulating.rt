@@ -83,7 +83,7 @@ fn run_named<K: Naming, R: Wait>(
     costs: &[u32],
     diary: Diary,
 ) -> Result<(Diary, Report), OpenFault>
-    requires level { K.level ≡ level_with opening.gate opening.config opening.asks.now costs.now }
+    requires level { K.level ≡ level_with opening.gate opening.board.cell opening.config opening.asks.now costs.now }
     requires one { opening.gate.shape.stations ≡ 1 }
     requires one_cost_each { length costs.now ≡ length opening.asks.now }
     requires costs { AreWidths costs.now }

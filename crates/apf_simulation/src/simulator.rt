@@ -42,7 +42,7 @@ impl<K: Naming> Simulator<K> {
         costs: &[u32],
         diary: Diary,
     ) -> Result<Simulator<K>, OpenFault>
-        requires level { K.level ≡ level_with opening.gate opening.config opening.asks.now costs.now }
+        requires level { K.level ≡ level_with opening.gate opening.board.cell opening.config opening.asks.now costs.now }
         requires one { opening.gate.shape.stations ≡ 1 }
         requires one_cost_each { length costs.now ≡ length opening.asks.now }
         requires costs { AreWidths costs.now }

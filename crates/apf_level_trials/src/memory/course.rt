@@ -25,7 +25,7 @@ fn run_named<K: Naming, R: Wait>(
     alloc: Global,
     opening: Opening<'_>,
 ) -> Result<Course, OpenFault>
-    requires level { K.level ≡ level_of opening.gate opening.config opening.asks.now }
+    requires level { K.level ≡ level_of opening.gate opening.board.cell opening.config opening.asks.now }
     requires requests { length opening.gate.shape.widths ≡ 4 }
     requires one { opening.gate.shape.stations ≡ 1 }
 {

@@ -61,7 +61,7 @@ fn run_named<K: Naming, R: Threads + Wait + Sync>(
     seed: u64,
     opening: Opening<'_>,
 ) -> Result<Told, OpenFault>
-    requires { K.level ≡ level_of opening.gate opening.config opening.asks.now }
+    requires { K.level ≡ level_of opening.gate opening.board.cell opening.config opening.asks.now }
 {
     let Opening {
         config,
@@ -70,13 +70,16 @@ fn run_named<K: Naming, R: Threads + Wait + Sync>(
         desk,
         passes,
         stations,
+        board,
+        window,
+        reader,
     } = opening;
     let Opened {
         level,
         passes,
         stations,
         mut stats,
-    } = Level::<K>::open(alloc, &config, asks, gate, desk, passes, stations)?;
+    } = Level::<K>::open(alloc, &config, asks, gate, desk, passes, stations, (board, window, reader))?;
     let requests = passes.len();
     let callers = stations.len();
     let mut workers = deal_out::<K>(alloc, seed, passes, stations)?;

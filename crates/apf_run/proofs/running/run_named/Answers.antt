@@ -13,7 +13,7 @@ use Rattle.apf_run.proofs.running.run_named.Goals as goal
 
 pub new-job-requires-after_bounds : goal.new-job-requires-after_bounds
 new-job-requires-after_bounds g c κs within =
-    orders g.K.Naming.level c.args.opening.gate c.args.opening.config c.args.opening.asks.now g.K.Plan.requests c.args.requests.now c.requires.level c.requires.plan c.requires.asks c.args.opening.widths_are
+    orders g.K.Naming.level c.args.opening.gate c.args.opening.board.cell c.args.opening.config c.args.opening.asks.now g.K.Plan.requests c.args.requests.now c.requires.level c.requires.plan c.requires.asks c.args.opening.widths_are
 
 pub returns-clause-told : goal.returns-clause-told
 returns-clause-told g c =
@@ -23,7 +23,7 @@ returns-clause-told g c =
     let report = c.in_ok-end.field-0 in
     let finished = c.in_ok-finished-2.finished in
     told k config requests report finished (ap (λ (l : LevelId). l.opening) c.requires.level ∙ ap (λ (asks : List Ask). opening_ledger config asks) c.requires.asks)
-    (orders k c.args.opening.gate config c.args.opening.asks.now requests requests c.requires.level refl c.requires.asks c.args.opening.widths_are)
+    (orders k c.args.opening.gate c.args.opening.board.cell config c.args.opening.asks.now requests requests c.requires.level refl c.requires.asks c.args.opening.widths_are)
     (subst (λ (plan : List Request). AreFinished k.gate plan finished) c.requires.plan c.into_parts-dones.ensures.finished)
     (subst (λ (dones : List PassToken). Ended k report.word (slice_get report.decisions.items) (reverse report.log.items) dones finished.stations) c.into_parts-dones.ensures.dones
     (subst (λ (stations : List StationToken). Ended k report.word (slice_get report.decisions.items) (reverse report.log.items) c.into_parts-dones.result.0.items stations) c.into_parts-dones.ensures.stations

@@ -49,10 +49,11 @@ returns-clause-simulation g c =
     let same : r ≡ s.report = sym made.report in
     record {
       gate = opening.gate;
-      report = subst (λ x. HasEnded (level_with opening.gate config (asks_of ts) (costs_of ts)) x) same
-          (subst (λ (x : List Ask). HasEnded (level_with opening.gate config x (costs_of ts)) r) asks
-          (subst (λ x. HasEnded (level_with opening.gate config opening.asks.now x) r) costs
-          (subst (λ (x : Config). HasEnded (level_with opening.gate x opening.asks.now c.as_slice-2.result.now) r) settings c.in_ok-diary-2.ensures.report)));
+      cell = opening.board.cell;
+      report = subst (λ x. HasEnded (level_with opening.gate opening.board.cell config (asks_of ts) (costs_of ts)) x) same
+          (subst (λ (x : List Ask). HasEnded (level_with opening.gate opening.board.cell config x (costs_of ts)) r) asks
+          (subst (λ x. HasEnded (level_with opening.gate opening.board.cell config opening.asks.now x) r) costs
+          (subst (λ (x : Config). HasEnded (level_with opening.gate opening.board.cell x opening.asks.now c.as_slice-2.result.now) r) settings c.in_ok-diary-2.ensures.report)));
       diary = d;
       run = has_run ts p c.in_ok-diary.diary d c.in_ok-diary.ensures.kept c.in_ok-diary-2.ensures.goes_on c.in_ok-diary-2.ensures.over;
       made = subst (λ x. IsMadeOf config.limit ts p d x s) same (subst (λ (x : Config). IsMadeOf x.limit ts p d r s) settings made);

@@ -2,10 +2,11 @@ use Rattle.std.proofs.Common.{rules, arith, ◌≡◌, ℕ, ◌<◌, ◌≤◌, 
 use Rattle.std.specs.Prelude.{slice_get}
 use Rattle.apf_words.specs.declared.decision.Decision.{Decision}
 use Rattle.apf_words.specs.Limits.{max_requests}
+use Rattle.atomic_table.specs.Seated.{TableId}
 use Rattle.apf_gate.specs.Tokens.{GateId, PassToken}
 use Rattle.apf_gate.specs.Ends.{WordsView}
 use Rattle.apf_book.specs.Laws.{decision_in}
-use Rattle.apf_level.specs.Levels.{LevelId, IsGateOf}
+use Rattle.apf_level.specs.Levels.{LevelId, IsLevelOf}
 use Rattle.apf_level.specs.Heard.{Outcome, outcome_of}
 use Rattle.apf_level.specs.Reports.{AreSums}
 use Rattle.apf_level.proofs.Outcomes.{all_same, same_length, ended_same}
@@ -18,9 +19,9 @@ same_map w ds h = λ i r. sym (h r) i
 as_many : (ps ds : List PassToken) (n : ℕ) → map outcome_of ps ≡ map outcome_of ds → length ds ≡ n → length ps ≡ n
 as_many ps ds n same all = same_length ps ds same ∙ all
 
-counted : (k : LevelId) (gate : GateId) (n : ℕ) (ps ds : List PassToken) → IsGateOf k gate → n ≡ length ps → map outcome_of ps ≡ map outcome_of ds → length ds ≡ length k.gate.shape.widths
+counted : (k : LevelId) (gate : GateId) (read : TableId) (n : ℕ) (ps ds : List PassToken) → IsLevelOf k gate read → n ≡ length ps → map outcome_of ps ≡ map outcome_of ds → length ds ≡ length k.gate.shape.widths
     → (n ≡ length k.gate.shape.widths) × (n ≤ max_requests)
-counted k gate n ps ds own is same all =
+counted k gate read n ps ds own is same all =
     let whole : n ≡ length k.gate.shape.widths = is ∙ as_many ps ds (length k.gate.shape.widths) same all in
     let few = own.shape.few_slots in
     let batch = own.batch in
@@ -28,7 +29,7 @@ counted k gate n ps ds own is same all =
     (whole, omega arith)
 
 pub overflow_cast-count : goal.overflow_cast-count
-overflow_cast-count g c = let few = (counted g.K.Naming.level c.self.inside.gate c.len-count.result c.in_ok-passes.passes.items c.args.dones.items c.self.invariant (search rules) c.in_ok-passes.ensures.same c.requires.all_passes).1 in omega arith
+overflow_cast-count g c = let few = (counted g.K.Naming.level c.self.inside.gate c.self.inside.window c.len-count.result c.in_ok-passes.passes.items c.args.dones.items c.self.invariant (search rules) c.in_ok-passes.ensures.same c.requires.all_passes).1 in omega arith
 
 pub finish-requires-clause-all : goal.finish-requires-clause-all
 finish-requires-clause-all g c κs within = record {
@@ -39,13 +40,13 @@ finish-requires-clause-all g c κs within = record {
 }
 
 pub read-requires-clause-count : goal.read-requires-clause-count
-read-requires-clause-count g c = (counted g.K.Naming.level c.self.inside.gate c.len-count.result c.in_ok-passes.passes.items c.args.dones.items c.self.invariant (search rules) c.in_ok-passes.ensures.same c.requires.all_passes).0 ∙ sym c.in_ok-words.ensures.finished.count
+read-requires-clause-count g c = (counted g.K.Naming.level c.self.inside.gate c.self.inside.window c.len-count.result c.in_ok-passes.passes.items c.args.dones.items c.self.invariant (search rules) c.in_ok-passes.ensures.same c.requires.all_passes).0 ∙ sym c.in_ok-words.ensures.finished.count
 
 pub read-requires-clause-few : goal.read-requires-clause-few
-read-requires-clause-few g c = (counted g.K.Naming.level c.self.inside.gate c.len-count.result c.in_ok-passes.passes.items c.args.dones.items c.self.invariant (search rules) c.in_ok-passes.ensures.same c.requires.all_passes).1
+read-requires-clause-few g c = (counted g.K.Naming.level c.self.inside.gate c.self.inside.window c.len-count.result c.in_ok-passes.passes.items c.args.dones.items c.self.invariant (search rules) c.in_ok-passes.ensures.same c.requires.all_passes).1
 
 pub read-requires-clause-decided : goal.read-requires-clause-decided
-read-requires-clause-decided g c = λ r low. c.in_ok-words.ensures.finished.ended.all_decided r (subst (λ n. r < n) (counted g.K.Naming.level c.self.inside.gate c.len-count.result c.in_ok-passes.passes.items c.args.dones.items c.self.invariant (search rules) c.in_ok-passes.ensures.same c.requires.all_passes).0 low)
+read-requires-clause-decided g c = λ r low. c.in_ok-words.ensures.finished.ended.all_decided r (subst (λ n. r < n) (counted g.K.Naming.level c.self.inside.gate c.self.inside.window c.len-count.result c.in_ok-passes.passes.items c.args.dones.items c.self.invariant (search rules) c.in_ok-passes.ensures.same c.requires.all_passes).0 low)
 
 pub returns-clause-ended : goal.returns-clause-ended
 returns-clause-ended g c =
@@ -55,7 +56,7 @@ returns-clause-ended g c =
     c.level.ensures (same_map w decisions c.in_ok-decisions.ensures.decisions) c.in_ok-words.ensures.finished.ended
 
 pub returns-clause-count : goal.returns-clause-count
-returns-clause-count g c = c.in_ok-decisions.ensures.count ∙ (counted g.K.Naming.level c.self.inside.gate c.len-count.result c.in_ok-passes.passes.items c.args.dones.items c.self.invariant (search rules) c.in_ok-passes.ensures.same c.requires.all_passes).0
+returns-clause-count g c = c.in_ok-decisions.ensures.count ∙ (counted g.K.Naming.level c.self.inside.gate c.self.inside.window c.len-count.result c.in_ok-passes.passes.items c.args.dones.items c.self.invariant (search rules) c.in_ok-passes.ensures.same c.requires.all_passes).0
 
 pub returns-clause-sums : goal.returns-clause-sums
 returns-clause-sums g c =

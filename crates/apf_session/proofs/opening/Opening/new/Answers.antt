@@ -23,4 +23,8 @@ invariant_of-result c =
       is_shape = search rules;
       few_stations = search rules;
       few = search rules;
+      window_is = search rules;
+      reader_is = search rules;
+      nothing_published = search rules;
+      nothing_read = search rules;
     }

@@ -134,10 +134,11 @@ fn ticket_of(slot: u32, round: u64) -> Ticket {
 }
 
 // All requests of one slot, one after another.
-fn live_on(gate: &Gate<Global>, board: &Board, slot: u32, request: &mut Request)
+fn live_on(gate: &Gate<Global>, board: &Board, place: usize, request: &mut Request)
     requires { pass_gate request.old.pass ≡ gate.now }
     ensures { pass_gate request.new.pass ≡ gate.now }
 {
+    let slot = (place % 8) as u32;
     for round in 0..ROUNDS {
         run(gate, board, slot, round, request);
     }
@@ -192,7 +193,7 @@ fn slots_live<R: Threads + Sync>(
         rt,
         requests,
         4,
-        &|slot, request| live_on(gate, board, slot as u32, request),
+        &|place, request| live_on(gate, board, place, request),
     );
 }
 

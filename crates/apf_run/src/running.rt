@@ -83,7 +83,16 @@ fn run_named<K: Plan, W: Work, R: Wait + Threads + Sync>(
         passes,
         stations,
         stats,
-    } = Level::<K>::open(alloc, &config, asks, gate, desk, passes, stations, (board, window, reader))?;
+    } = Level::<K>::open(
+        alloc,
+        &config,
+        asks,
+        gate,
+        desk,
+        passes,
+        stations,
+        (board, window, reader),
+    )?;
     let finished = Finished::new(alloc, passes.len(), stations.len())?;
     let workers = deal_out(alloc, passes, stations)?;
     let job = Job::new(&level, requests, work);

@@ -213,7 +213,16 @@ impl<K: Naming> Session<K> {
             window,
             reader,
         } = opening;
-        let opened = Level::open(alloc, &config, asks, gate, desk, passes, stations, (board, window, reader))?;
+        let opened = Level::open(
+            alloc,
+            &config,
+            asks,
+            gate,
+            desk,
+            passes,
+            stations,
+            (board, window, reader),
+        )?;
         Ok(Session::of(rt, alloc, opened)?)
     }
 
@@ -249,7 +258,15 @@ impl<K: Naming> Session<K> {
             reader,
         } = opening;
         let opened = Level::open_with_costs(
-            alloc, &config, asks, costs, gate, desk, passes, stations, (board, window, reader),
+            alloc,
+            &config,
+            asks,
+            costs,
+            gate,
+            desk,
+            passes,
+            stations,
+            (board, window, reader),
         )?;
         Ok(Session::of(rt, alloc, opened)?)
     }

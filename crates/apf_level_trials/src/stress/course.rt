@@ -79,7 +79,16 @@ fn run_named<K: Naming, R: Threads + Wait + Sync>(
         passes,
         stations,
         mut stats,
-    } = Level::<K>::open(alloc, &config, asks, gate, desk, passes, stations, (board, window, reader))?;
+    } = Level::<K>::open(
+        alloc,
+        &config,
+        asks,
+        gate,
+        desk,
+        passes,
+        stations,
+        (board, window, reader),
+    )?;
     let requests = passes.len();
     let callers = stations.len();
     let mut workers = deal_out::<K>(alloc, seed, passes, stations)?;

@@ -134,6 +134,27 @@ for place in range(3):
     tally.check(f"{NAMES[place]} from a pipe, too large", piped(["replay", *instead(place, "-")], b" " * (MOST[place] + 1)), too_large(place))
 tally.check("config from a pipe, of the largest size", piped(["replay", *instead(0, "-")], padded(CONFIG, MOST[0])), (0, TRANSCRIPT, b""))
 
+
+def told_at_once(place):
+    """What is said of one byte more than a file may have, by a pipe that is not closed: whoever reads on waits for more."""
+    reading, writing = os.pipe()
+    one = subprocess.Popen([program, "replay", *instead(place, "-")], stdin=reading, stdout=subprocess.PIPE, stderr=subprocess.PIPE)
+    os.close(reading)
+    with open(writing, "wb", buffering=0) as pipe:
+        left = b" " * (MOST[place] + 1)
+        while left:
+            left = left[pipe.write(left) :]
+        try:
+            out, err = one.communicate(timeout=20)
+        except subprocess.TimeoutExpired:
+            one.kill()
+            out, err = one.communicate()
+    return one.returncode, out, err
+
+
+for place in range(3):
+    tally.check(f"one byte more of the {NAMES[place]} is read, and no more", told_at_once(place), too_large(place))
+
 # it stands for one file only: then nothing is read, not even a pipe that nobody closes
 for command in WANT:
     for places in ((0, 1), (0, 2), (1, 2), (0, 1, 2)):

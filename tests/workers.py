@@ -3,6 +3,7 @@
 import json
 import os
 import random
+import resource
 import sys
 import time
 
@@ -104,6 +105,20 @@ for name, config in [
         status, out, err = run(program, words)
         tally.check(f"64 workers, {name}", (status, faults(config, many, 64, out.decode(errors="replace")), err), (0, [], b""))
 print(f"{4 * rounds} runs of 10,000 requests by 64 workers took {time.monotonic() - began:.1f} s")
+
+
+
+def processor_time(units):
+    """The time that a processor was busy with a run of a hundred requests that work so many units each."""
+    before = resource.getrusage(resource.RUSAGE_CHILDREN).ru_utime
+    got = ran(one_queue(100), [{"hash": 0, "work": units}] * 100, 1)
+    tally.check(f"requests of {units} units", got, (0, book("open", 100, 0, 0, 0, 0, 0, 0, 0, 0), b""))
+    return resource.getrusage(resource.RUSAGE_CHILDREN).ru_utime - before
+
+
+# each request works as many units as its file says
+none, some = processor_time(0), processor_time(1_000_000)
+tally.check(f"work takes time: {none:.3f} s without, {some:.3f} s with a million units each", some > 2 * none + 0.01, True)
 
 # a book that is wrong in one thing is refused
 config, requests = one_queue(2), [{"hash": 0, "cancels": 3}, plain, plain, plain, {"hash": 0, "closes": True}, plain]

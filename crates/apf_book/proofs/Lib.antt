@@ -14,6 +14,8 @@ pub mod Ledgers
 pub mod Nexts
 pub mod Running
 pub mod Times
+pub mod Asking
+pub mod Entering
 pub mod Stretches
 pub mod Widths
 pub mod Leavings

@@ -24,6 +24,7 @@ mod handing;
 mod histories;
 mod laws;
 mod ledger;
+mod life;
 mod overtaking;
 mod serving;
 mod stats;

@@ -56,7 +56,7 @@ same_numbers queues costs costs' (Full r q ∷ h) k = same_numbers queues costs 
 same_numbers queues costs costs' (Dispatch r q ∷ h) k = λ i. after_dispatch q (k.0 i) (same_numbers queues costs costs' h k.1 i)
 same_numbers queues costs costs' (Strike r q ∷ h) k = same_numbers queues costs costs' h k.1
 
-Contains-holding : (holders slots : List ℕ) (slot : ℕ) → Contains slots slot → Contains (holding holders slots) (slice_index holders slot)
+pub Contains-holding : (holders slots : List ℕ) (slot : ℕ) → Contains slots slot → Contains (holding holders slots) (slice_index holders slot)
 Contains-holding holders slots slot c = (
   c.0,
   subst (λ (n : ℕ). c.0 < n) (sym (length-map slots (λ i. slice_index holders i))) c.1,

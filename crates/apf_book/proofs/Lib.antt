@@ -16,6 +16,8 @@ pub mod Running
 pub mod Times
 pub mod Asking
 pub mod Entering
+pub mod LifeNexts
+pub mod LifeStrikes
 pub mod Stretches
 pub mod Widths
 pub mod Leavings

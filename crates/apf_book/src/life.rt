@@ -2,15 +2,17 @@
 //!
 //! The history is stored nowhere. Each call says what becomes of every history that the queues are of.
 
-ghost use Rattle.std.specs.Prelude.{◌≡◌, ◌≢◌, ℕ, ◌<◌, ◌≤◌, List, length};
+ghost use Rattle.std.specs.Prelude.{◌≡◌, ◌≢◌, ℕ, ◌<◌, ◌≤◌, List, [], length, slice_index, Contains, IfSome, IfNone, MatchOption};
 ghost use Rattle.apf_words.specs.Limits.{max_width};
 ghost use Rattle.apf_gate.specs.Slots.{slot_of};
 ghost use Rattle.apf_history.specs.declared.events.Event.TheVariants as events;
-ghost use Rattle.apf_queue.specs.View.{queue_count, queue_in, StandsNowhere};
-ghost use Rattle.apf_book.specs.Life.{LifeView, IsLifeOf, Comes, asked, then_came};
+ghost use Rattle.apf_model.specs.World.{width};
+ghost use Rattle.apf_model.specs.History.{waiting};
+ghost use Rattle.apf_queue.specs.View.{queue_count, queue_in, StandsNowhere, IsChosen, HasTime};
+ghost use Rattle.apf_book.specs.Life.{LifeView, IsLifeOf, Comes, asked, then_came, IsNextIn};
 
 use crate::histories::{fair_histories_stand, legal_histories_are_in_order};
-use apf_queue::Queues;
+use apf_queue::{Chosen, Queues};
 use std::alloc::Allocator;
 use std::marker::Model;
 
@@ -52,4 +54,55 @@ impl<A: Allocator> LifeLedger<A> {
         };
         self.holders[slot as usize] = request;
     }
+    // The request is refused, as the queue is full. Nothing that is stored changes.
+    pub fn refuse(&self, request: u128, queue: u32)
+        requires full { length (queue_in self.now.queues queue) ≡ self.now.queues.length_limit }
+        ensures { (v : LifeView) (hand : List ℕ) (cost : ℕ) → IsLifeOf v self.now → Comes v request hand queue → cost ≤ max_width
+            → IsLifeOf (then_came (asked v request hand cost) (events.Full request queue)) self.now }
+    {
+        legal_histories_are_in_order();
+        fair_histories_stand();
+    }
+
+    // What is dispatched next, in every history that the queues are of, or `None` if nothing waits.
+    pub fn choose(&self) -> Option<Chosen>
+        ensures chosen { IfSome result (IsChosen self.now.queues) }
+        ensures next { (v : LifeView) → IsLifeOf v self.now → MatchOption result ((q : ℕ) → waiting v.history q ≡ []) (IsNextIn v self.now) }
+        ensures time { (v : LifeView) (q : ℕ) → IsLifeOf v self.now → HasTime self.now.queues q }
+    {
+        legal_histories_are_in_order();
+        self.queues.choose()
+    }
+
+    // The request that holds the chosen slot is dispatched.
+    pub fn dispatch(&mut self, chosen: Chosen)
+        requires chosen { IsChosen self.old.queues chosen }
+        requires time { HasTime self.old.queues chosen.queue }
+        ensures { (v : LifeView) → IsLifeOf v self.old
+            → IsLifeOf (then_came v (events.Dispatch (slice_index self.old.holders chosen.request) chosen.queue)) self.new }
+    {
+        legal_histories_are_in_order();
+        self.queues.dispatch(chosen);
+    }
+    // Strikes the request out of its queue, and tells the queue: `None`, with nothing changed, if it
+    // waits in none.
+    pub fn strike(&mut self, request: u128) -> Option<u32>
+        requires has_slot { slot_of request < length self.old.holders }
+        ensures none { IfNone result (self.new ≡ self.old) }
+        ensures nowhere { IfNone result ((v : LifeView) → IsLifeOf v self.old → (q : ℕ) → ¬ Contains (waiting v.history q) request) }
+        ensures some { IfSome result (λ q. (v : LifeView) → IsLifeOf v self.old → IsLifeOf (then_came v (events.Strike request q)) self.new) }
+    {
+        legal_histories_are_in_order();
+        let slot = (request % 16_384) as u32;
+        if self.holders[slot as usize] != request {
+            return None;
+        }
+        self.queues.remove(slot)
+    }
 }
+
+// A batch is the case in which all is known before: a request that asks for what is known of it changes
+// nothing.
+pub fn a_batch_is_known()
+    ensures { (v : LifeView) (r : ℕ) → asked v r (v.hands r) (width v.costs r) ≡ v }
+{}

@@ -17,6 +17,7 @@ pub mod Times
 pub mod Asking
 pub mod Entering
 pub mod LifeNexts
+pub mod LifeOpening
 pub mod LifeStrikes
 pub mod Stretches
 pub mod Widths

@@ -66,3 +66,11 @@ pub record IsNextIn (v : LifeView) (s : LifeState) (c : Chosen) : Type 0 where
   pub is_choice : IsChoice v.queues v.costs (waiting v.history) (numbers v.queues v.costs v.history) c.queue
   pub is_first : slice_get (waiting v.history c.queue) 0 ≡ Some (slice_index s.holders c.request)
   pub cost_is : c.cost ≡ width v.costs (slice_index s.holders c.request)
+
+-- nothing happened yet: so many queues, each with this length limit
+pub record IsOpening (v : LifeView) (queues limit : ℕ) : Type 0 where
+  pub nothing : v.history ≡ []
+  pub queues_are : v.queues ≡ queues
+  pub limit_is : v.limit ≡ limit
+  pub low : (r : ℕ) → width v.costs r ≤ max_width
+  pub few : length v.costs ≤ 2 ^ 76

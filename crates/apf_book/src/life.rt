@@ -2,17 +2,17 @@
 //!
 //! The history is stored nowhere. Each call says what becomes of every history that the queues are of.
 
-ghost use Rattle.std.specs.Prelude.{◌≡◌, ◌≢◌, ℕ, ◌<◌, ◌≤◌, List, [], length, slice_index, Contains, IfSome, IfNone, MatchOption};
+ghost use Rattle.std.specs.Prelude.{◌≡◌, ◌≢◌, ℕ, ◌<◌, ◌≤◌, List, [], length, slice_index, Contains, ◌↔◌, IsErrOf, IfOk, IfSome, IfNone, MatchOption};
 ghost use Rattle.apf_words.specs.Limits.{max_width};
 ghost use Rattle.apf_gate.specs.Slots.{slot_of};
 ghost use Rattle.apf_history.specs.declared.events.Event.TheVariants as events;
 ghost use Rattle.apf_model.specs.World.{width};
 ghost use Rattle.apf_model.specs.History.{waiting};
-ghost use Rattle.apf_queue.specs.View.{queue_count, queue_in, StandsNowhere, IsChosen, HasTime};
-ghost use Rattle.apf_book.specs.Life.{LifeView, IsLifeOf, Comes, asked, then_came, IsNextIn};
+ghost use Rattle.apf_queue.specs.View.{queue_count, queue_in, IsQueueShape, StandsNowhere, IsChosen, HasTime};
+ghost use Rattle.apf_book.specs.Life.{LifeView, IsLifeOf, Comes, asked, then_came, IsNextIn, IsOpening};
 
 use crate::histories::{fair_histories_stand, legal_histories_are_in_order};
-use apf_queue::{Chosen, Queues};
+use apf_queue::{Chosen, QueueFault, Queues};
 use std::alloc::Allocator;
 use std::marker::Model;
 
@@ -32,6 +32,25 @@ impl<A: Allocator> Model for LifeLedger<A> {
     ghost view = { λ s. record { queues = s.queues; holders = s.holders.items } };
 
     ghost invariant = { λ s. length s.holders.items ≡ length s.queues.costs };
+}
+
+impl<A: Allocator + Copy> LifeLedger<A> {
+    // Empty queues for this many slots. All memory is taken here.
+    pub fn new(
+        alloc: A,
+        queues: u32,
+        length_limit: u32,
+        slots: u32,
+    ) -> Result<LifeLedger<A>, QueueFault>
+        ensures bad_shape { IsErrOf result QueueFault.BadShape ↔ (¬ IsQueueShape queues length_limit slots) }
+        ensures slots { IfOk result (λ l. length l.holders ≡ slots) }
+        ensures opening { IfOk result (λ l. (v : LifeView) → IsOpening v queues length_limit → IsLifeOf v l) }
+    {
+        Ok(LifeLedger {
+            queues: Queues::new(alloc, queues, length_limit, slots)?,
+            holders: vec![in alloc; 0; slots as usize]?,
+        })
+    }
 }
 
 impl<A: Allocator> LifeLedger<A> {

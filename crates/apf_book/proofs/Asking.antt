@@ -1,7 +1,7 @@
 -- What a request asks for changes nothing of a history that does not name it.
-use Rattle.std.proofs.Common.{◌≡◌, ◌≢◌, ℕ, ◌<◌, ◌≤◌, inl, inr, Bool, true, false, cond, eqb, List, [], ◌∷◌, length, get_or, set, map, length-set, get_or-set_same, get_or-set_other, refl, sym, ap, ◌∙◌, subst, arith}
-use Rattle.std.specs.Prelude.{◌||◌, Contains, slice_index, slice_set}
-use Rattle.std.proofs.lemmas.Bool.{cases_eq, cases_lt, eq-eqb, false≢true}
+use Rattle.std.proofs.Common.{◌≡◌, ◌≢◌, ℕ, ◌<◌, ◌≤◌, inl, inr, Bool, true, false, eqb, List, [], ◌∷◌, length, get_or, set, length-set, get_or-set_same, get_or-set_other, refl, sym, ap, ◌∙◌, subst, arith}
+use Rattle.std.specs.Prelude.{◌||◌, Contains, slice_index}
+use Rattle.std.proofs.lemmas.Bool.{cases_eq, eq-eqb, false≢true}
 use Rattle.std.proofs.lemmas.List.{get_or-map, length-map}
 use Rattle.apf_history.specs.declared.events.Event.{Event}
 use Rattle.apf_history.specs.declared.events.Event.TheVariants.{Enter, Full, Dispatch, Strike}
@@ -9,7 +9,7 @@ use Rattle.apf_history.specs.declared.events.Status.TheVariants as status_is
 use Rattle.apf_history.specs.Standing.{EachNames}
 use Rattle.apf_model.specs.World.{put, width}
 use Rattle.apf_model.specs.History.{request_of, has_arrived, waiting, IsLegal, NamesRequests}
-use Rattle.apf_model.specs.Fair.{numbers, after_enter, after_dispatch, IsFair}
+use Rattle.apf_model.specs.Fair.{numbers, after_enter, after_dispatch}
 use Rattle.apf_model.specs.Order.{status}
 use Rattle.apf_queue.specs.View.{queue_in}
 use Rattle.apf_book.specs.Histories.{Laws, Stands}

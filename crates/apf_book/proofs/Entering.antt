@@ -1,7 +1,7 @@
 -- What the arrival of a request leaves of the queues of slots.
-use Rattle.std.proofs.Common.{◌≡◌, ◌≢◌, ℕ, ◌<◌, ◌≤◌, inl, inr, Bool, List, [], ◌∷◌, ◌++◌, length, get_or, set, map, length-set, get_or-set_same, get_or-set_other, refl, sym, ap, ap₂, ◌∙◌, subst, arith}
-use Rattle.std.specs.Prelude.{if◌then◌else◌, Contains, slice_index}
-use Rattle.std.proofs.lemmas.Bool.{cases_eq, eq-eqb, ne_eqb}
+use Rattle.std.proofs.Common.{◌≡◌, ◌≢◌, ℕ, ◌<◌, ◌≤◌, inl, inr, List, [], ◌∷◌, ◌++◌, length, get_or, set, length-set, get_or-set_same, get_or-set_other, refl, sym, ap, ap₂, ◌∙◌, subst, arith}
+use Rattle.std.specs.Prelude.{Contains, slice_index}
+use Rattle.std.proofs.lemmas.Bool.{cases_eq}
 use Rattle.std.proofs.lemmas.List.{map_push, length-map}
 use Rattle.std.proofs.lemmas.List.Elements.{Contains-push_cases}
 use Rattle.apf_gate.specs.Slots.{slot_of}
@@ -9,7 +9,7 @@ use Rattle.apf_history.specs.declared.events.Event.TheVariants.{Enter}
 use Rattle.apf_model.specs.World.{put, width}
 use Rattle.apf_model.specs.History.{waiting, IsShortest, MayFollow}
 use Rattle.apf_model.specs.Fair.{Numbers, numbers, after_enter}
-use Rattle.apf_queue.specs.View.{QueuesView, queue_in, numbers_in, StandsNowhere, Enters}
+use Rattle.apf_queue.specs.View.{QueuesView, queue_in, StandsNowhere, Enters}
 use Rattle.apf_book.specs.Histories.{Laws, Stands}
 use Rattle.apf_book.specs.Life.{LifeView, LifeState, IsLifeOf, holding, Comes, asked, then_came}
 use Rattle.apf_book.proofs.Lists.{Contains-head, Contains-tail}

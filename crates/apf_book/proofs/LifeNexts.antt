@@ -1,17 +1,15 @@
 -- What is dispatched next from queues of slots, and what a dispatch, a strike and a refusal leave.
-use Rattle.std.proofs.Common.{◌≡◌, ◌≢◌, ℕ, zero, suc, ◌+◌, ◌*◌, ◌^◌, ◌<◌, ◌≤◌, inl, inr, Bool, not, eqb, List, [], ◌∷◌, ◌++◌, length, get_or, set, map, drop, length-set, get_or-set_same, get_or-set_other, Option, Some, None, refl, sym, ap, ◌∙◌, subst, arith}
+use Rattle.std.proofs.Common.{◌≡◌, ◌≢◌, ℕ, ◌≤◌, inl, inr, List, [], ◌∷◌, length, get_or, drop, length-set, get_or-set_same, get_or-set_other, Option, Some, None, refl, sym, ap, ◌∙◌, subst, arith}
 use Rattle.std.specs.Prelude.{Contains, slice_get, slice_index, MatchOption}
 use Rattle.std.proofs.lemmas.Bool.{cases_eq, cases_lt}
 use Rattle.std.proofs.lemmas.List.{get_or_past, drop-map, length-map}
-use Rattle.apf_gate.specs.Slots.{slot_of}
-use Rattle.apf_history.specs.declared.events.Event.{Event}
-use Rattle.apf_history.specs.declared.events.Event.TheVariants.{Enter, Full, Dispatch, Strike}
+use Rattle.apf_history.specs.declared.events.Event.TheVariants.{Full, Dispatch}
 use Rattle.apf_model.specs.World.{put, width}
-use Rattle.apf_model.specs.History.{waiting, IsShortest, MayFollow, NamesRequests}
+use Rattle.apf_model.specs.History.{waiting, IsShortest, MayFollow}
 use Rattle.apf_model.specs.Fair.{Numbers, numbers, after_dispatch, finish, steps_round, IsChoice}
 use Rattle.apf_model.specs.Outcome.{is_dispatch}
 use Rattle.apf_queue.specs.declared.choice.Chosen.{Chosen}
-use Rattle.apf_queue.specs.View.{QueuesView, queue_count, queue_in, numbers_in, IsHead, IsChosen, NothingWaits, Dispatches, HasTime}
+use Rattle.apf_queue.specs.View.{QueuesView, queue_count, queue_in, numbers_in, IsChosen, NothingWaits, Dispatches, HasTime}
 use Rattle.apf_book.specs.Histories.{Laws, Stands}
 use Rattle.apf_book.specs.Life.{LifeView, LifeState, IsLifeOf, holding, Comes, asked, then_came, IsNextIn}
 use Rattle.apf_book.proofs.Lists.{Contains-rest, first_contains, some_first}

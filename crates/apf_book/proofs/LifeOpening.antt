@@ -1,12 +1,12 @@
 -- How queues of slots begin.
-use Rattle.std.proofs.Common.{◌≡◌, ℕ, List, [], length, replicate, refl, sym, ap, ◌∙◌, subst, arith}
+use Rattle.std.proofs.Common.{◌≡◌, ℕ, List, [], length, sym, ap, ◌∙◌, subst}
 use Rattle.std.specs.Prelude.{Contains}
 use Rattle.std.proofs.lemmas.List.{length-replicate}
 use Rattle.apf_history.specs.declared.events.Event.{Event}
 use Rattle.apf_model.specs.History.{NamesRequests, NamesQueues, waiting}
 use Rattle.apf_model.specs.Fair.{opening_numbers, numbers, IsFair}
 use Rattle.apf_queue.specs.View.{QueuesView, opening_view, queue_count, queue_in, numbers_in}
-use Rattle.apf_book.specs.Life.{LifeView, LifeState, IsLifeOf, holding, IsOpening}
+use Rattle.apf_book.specs.Life.{LifeView, IsLifeOf, holding, IsOpening}
 use Rattle.apf_book.proofs.Lists.{Contains-none, no_queue}
 
 pub life_opens : (v : LifeView) (s : QueuesView) (holders : List ℕ) (queues limit slots : ℕ) → s ≡ opening_view queues limit slots → numbers_in s ≡ opening_numbers queues → length holders ≡ slots

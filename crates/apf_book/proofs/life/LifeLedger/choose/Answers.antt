@@ -1,9 +1,8 @@
 -- The choice by the queues is that by the history.
-use Rattle.std.proofs.Common.{ℕ, [], ◌≡◌, sym, subst}
+use Rattle.std.proofs.Common.{subst}
 use Rattle.std.specs.Prelude.{MatchOption}
-use Rattle.apf_model.specs.History.{waiting}
 use Rattle.apf_queue.specs.View.{NothingWaits, IsChosen}
-use Rattle.apf_book.specs.Life.{LifeState, IsLifeOf}
+use Rattle.apf_book.specs.Life.{LifeState}
 use Rattle.apf_book.proofs.Opened.{opened}
 use Rattle.apf_book.proofs.LifeNexts.{life_chosen, life_has_time}
 use Rattle.apf_book.proofs.life.LifeLedger.choose.Goals as goal

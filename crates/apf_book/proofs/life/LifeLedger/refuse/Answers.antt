@@ -1,7 +1,4 @@
 -- The history after a Full.
-use Rattle.std.proofs.Common.{◌≡◌, length, sym, subst}
-use Rattle.apf_queue.specs.View.{queue_in}
-use Rattle.apf_book.specs.Life.{LifeState, IsLifeOf}
 use Rattle.apf_book.proofs.Opened.{opened, stands}
 use Rattle.apf_book.proofs.LifeNexts.{life_refuses}
 use Rattle.apf_book.proofs.life.LifeLedger.refuse.Goals as goal

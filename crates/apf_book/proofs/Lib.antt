@@ -14,6 +14,11 @@ pub mod Ledgers
 pub mod Nexts
 pub mod Running
 pub mod Times
+pub mod Asking
+pub mod Entering
+pub mod LifeNexts
+pub mod LifeOpening
+pub mod LifeStrikes
 pub mod Stretches
 pub mod Widths
 pub mod Leavings

@@ -1,5 +1,5 @@
 -- The laws of histories, opened.
-use Rattle.apf_book.specs.Histories.{Laws, LegalLaws, Balanced, FairLaw, Isolated, IsolationLaw, Waits, WaitLaws}
+use Rattle.apf_book.specs.Histories.{Laws, LegalLaws, Balanced, FairLaw, Isolated, IsolationLaw, Waits, WaitLaws, Stands, StandingLaw}
 
 pub opened : LegalLaws → Laws
 unfolding LegalLaws
@@ -16,3 +16,7 @@ isolated law = law
 pub waits : WaitLaws → Waits
 unfolding WaitLaws
 waits laws = laws
+
+pub stands : StandingLaw → Stands
+unfolding StandingLaw
+stands law = law

@@ -1,7 +1,9 @@
 -- The laws of histories, closed: no search looks into them, and a proof that needs one opens them.
-use Rattle.std.specs.Prelude.{ℕ, ◌+◌, ◌-◌, ◌*◌, ◌<◌, ◌≤◌, List, ◌∷◌, ◌++◌, length, Contains}
+use Rattle.std.specs.Prelude.{◌≡◌, ℕ, ◌+◌, ◌-◌, ◌*◌, ◌<◌, ◌≤◌, List, ◌∷◌, ◌++◌, length, Contains}
 use Rattle.apf_history.specs.declared.events.Event.{Event}
 use Rattle.apf_history.specs.declared.events.Event.TheVariants.{Enter}
+use Rattle.apf_history.specs.Standing.{EachNames}
+use Rattle.apf_model.specs.World.{width}
 use Rattle.apf_model.specs.History.{waiting, MayFollow, IsLegal}
 use Rattle.apf_model.specs.Fair.{IsFair, service, IsNeverEmpty, widest, DifferAtMost}
 use Rattle.apf_model.specs.Waits.{total_width, granted}
@@ -56,3 +58,13 @@ pub record Waits : Type 0 where
 -- the same, closed
 unfoldable pub WaitLaws : Type 0
 WaitLaws = Waits
+
+-- the law of every fair history: it stands if the hand or the width of a request changes that it does not name
+abbrev pub Stands : Type 0
+Stands = (queues : ℕ) (widths widths' : List ℕ) (hands hands' : ℕ → List ℕ) (limit : ℕ) (h : List Event)
+    → EachNames (λ r. hands' r ≡ hands r) h → EachNames (λ r. width widths' r ≡ width widths r) h
+    → IsFair queues widths hands limit h → IsFair queues widths' hands' limit h
+
+-- the same, closed
+unfoldable pub StandingLaw : Type 0
+StandingLaw = Stands

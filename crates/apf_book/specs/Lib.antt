@@ -1,5 +1,6 @@
 pub mod LedgerView
 pub mod LedgerKept
+pub mod Life
 pub mod Opening
 pub mod Stretch
 pub mod Counted

@@ -3,8 +3,9 @@
 //! A law with for-all statements is tried at each goal of the function that calls it. These say the laws
 //! in a word that no search looks into; a proof that needs one opens it by a lemma.
 
-ghost use Rattle.apf_book.specs.Histories.{LegalLaws, FairLaw, IsolationLaw, WaitLaws};
+ghost use Rattle.apf_book.specs.Histories.{LegalLaws, FairLaw, IsolationLaw, WaitLaws, StandingLaw};
 
+use apf_history::every_fair_history_stands;
 use apf_model::{
     every_fair_history_is_balanced, every_fair_history_isolates, every_legal_history_is_in_order,
     every_wait_is_bounded,
@@ -36,4 +37,11 @@ pub fn waits_are_bounded()
     ensures { WaitLaws }
 {
     every_wait_is_bounded();
+}
+
+// The law of every fair history and a request that it does not name.
+pub fn fair_histories_stand()
+    ensures { StandingLaw }
+{
+    every_fair_history_stands();
 }

@@ -7,6 +7,7 @@
 //! - `fault`: why a book is refused.
 //! - `histories`: the laws of histories, for proofs.
 //! - `ledger`: the queues, and the log that they are of.
+//! - `life`: the queues of slots, and every history that they are of. No call uses it yet.
 //! - `stats`: the numbers of a log.
 //! - `stretch`: the services of two queues in a stretch of a log.
 //! - `overtaking`: the wait of a request in a log, and what is granted while it lasts.
@@ -24,6 +25,7 @@ mod handing;
 mod histories;
 mod laws;
 mod ledger;
+mod life;
 mod overtaking;
 mod serving;
 mod stats;

@@ -1,0 +1,127 @@
+//! The queues of a level whose slots are used again, and whose requests bring their hands and costs.
+//!
+//! The history is stored nowhere. Each call says what becomes of every history that the queues are of.
+
+ghost use Rattle.std.specs.Prelude.{◌≡◌, ◌≢◌, ℕ, ◌<◌, ◌≤◌, List, [], length, slice_index, Contains, ◌↔◌, IsErrOf, IfOk, IfSome, IfNone, MatchOption};
+ghost use Rattle.apf_words.specs.Limits.{max_width};
+ghost use Rattle.apf_gate.specs.Slots.{slot_of};
+ghost use Rattle.apf_history.specs.declared.events.Event.TheVariants as events;
+ghost use Rattle.apf_model.specs.World.{width};
+ghost use Rattle.apf_model.specs.History.{waiting};
+ghost use Rattle.apf_queue.specs.View.{queue_count, queue_in, IsQueueShape, StandsNowhere, IsChosen, HasTime};
+ghost use Rattle.apf_book.specs.Life.{LifeView, IsLifeOf, Comes, asked, then_came, IsNextIn, IsOpening};
+
+use crate::histories::{fair_histories_stand, legal_histories_are_in_order};
+use apf_queue::{Chosen, QueueFault, Queues};
+use std::alloc::Allocator;
+use std::marker::Model;
+
+// Queues of slots, with the number of the request that holds each slot that waits.
+#[derive(Drop)]
+pub struct LifeLedger<A: Allocator> {
+    queues: Queues<A>,
+    holders: Vec<u128, A>,
+}
+
+impl<A: Allocator> Model for LifeLedger<A> {
+    ghost use Rattle.std.specs.Prelude.{◌≡◌, length};
+    ghost use Rattle.apf_book.specs.Life.{LifeState};
+
+    ghost Value = { LifeState };
+
+    ghost view = { λ s. record { queues = s.queues; holders = s.holders.items } };
+
+    ghost invariant = { λ s. length s.holders.items ≡ length s.queues.costs };
+}
+
+impl<A: Allocator + Copy> LifeLedger<A> {
+    // Empty queues for this many slots. All memory is taken here.
+    pub fn new(
+        alloc: A,
+        queues: u32,
+        length_limit: u32,
+        slots: u32,
+    ) -> Result<LifeLedger<A>, QueueFault>
+        ensures bad_shape { IsErrOf result QueueFault.BadShape ↔ (¬ IsQueueShape queues length_limit slots) }
+        ensures slots { IfOk result (λ l. length l.holders ≡ slots) }
+        ensures opening { IfOk result (λ l. (v : LifeView) → IsOpening v queues length_limit → IsLifeOf v l) }
+    {
+        Ok(LifeLedger {
+            queues: Queues::new(alloc, queues, length_limit, slots)?,
+            holders: vec![in alloc; 0; slots as usize]?,
+        })
+    }
+}
+
+impl<A: Allocator> LifeLedger<A> {
+    // The request, whose slot waits in no queue, enters the queue. Its dispatch is charged this cost.
+    pub fn enter(&mut self, request: u128, queue: u32, cost: u32)
+        requires is_queue { queue < queue_count self.old.queues }
+        requires has_slot { slot_of request < length self.old.holders }
+        requires is_nowhere { StandsNowhere self.old.queues (slot_of request) }
+        requires room { length (queue_in self.old.queues queue) ≢ self.old.queues.length_limit }
+        requires has_cost { 1 ≤ cost }
+        requires low { cost ≤ max_width }
+        ensures { (v : LifeView) (hand : List ℕ) → IsLifeOf v self.old → Comes v request hand queue
+            → IsLifeOf (then_came (asked v request hand cost) (events.Enter request queue)) self.new }
+    {
+        legal_histories_are_in_order();
+        fair_histories_stand();
+        let slot = (request % 16_384) as u32;
+        let Ok(()) = self.queues.push(queue, slot, cost) else {
+            unreachable!()
+        };
+        self.holders[slot as usize] = request;
+    }
+    // The request is refused, as the queue is full. Nothing that is stored changes.
+    pub fn refuse(&self, request: u128, queue: u32)
+        requires full { length (queue_in self.now.queues queue) ≡ self.now.queues.length_limit }
+        ensures { (v : LifeView) (hand : List ℕ) (cost : ℕ) → IsLifeOf v self.now → Comes v request hand queue → cost ≤ max_width
+            → IsLifeOf (then_came (asked v request hand cost) (events.Full request queue)) self.now }
+    {
+        legal_histories_are_in_order();
+        fair_histories_stand();
+    }
+
+    // What is dispatched next, in every history that the queues are of, or `None` if nothing waits.
+    pub fn choose(&self) -> Option<Chosen>
+        ensures chosen { IfSome result (IsChosen self.now.queues) }
+        ensures next { (v : LifeView) → IsLifeOf v self.now → MatchOption result ((q : ℕ) → waiting v.history q ≡ []) (IsNextIn v self.now) }
+        ensures time { (v : LifeView) (q : ℕ) → IsLifeOf v self.now → HasTime self.now.queues q }
+    {
+        legal_histories_are_in_order();
+        self.queues.choose()
+    }
+
+    // The request that holds the chosen slot is dispatched.
+    pub fn dispatch(&mut self, chosen: Chosen)
+        requires chosen { IsChosen self.old.queues chosen }
+        requires time { HasTime self.old.queues chosen.queue }
+        ensures { (v : LifeView) → IsLifeOf v self.old
+            → IsLifeOf (then_came v (events.Dispatch (slice_index self.old.holders chosen.request) chosen.queue)) self.new }
+    {
+        legal_histories_are_in_order();
+        self.queues.dispatch(chosen);
+    }
+    // Strikes the request out of its queue, and tells the queue: `None`, with nothing changed, if it
+    // waits in none.
+    pub fn strike(&mut self, request: u128) -> Option<u32>
+        requires has_slot { slot_of request < length self.old.holders }
+        ensures none { IfNone result (self.new ≡ self.old) }
+        ensures nowhere { IfNone result ((v : LifeView) → IsLifeOf v self.old → (q : ℕ) → ¬ Contains (waiting v.history q) request) }
+        ensures some { IfSome result (λ q. (v : LifeView) → IsLifeOf v self.old → IsLifeOf (then_came v (events.Strike request q)) self.new) }
+    {
+        legal_histories_are_in_order();
+        let slot = (request % 16_384) as u32;
+        if self.holders[slot as usize] != request {
+            return None;
+        }
+        self.queues.remove(slot)
+    }
+}
+
+// A batch is the case in which all is known before: a request that asks for what is known of it changes
+// nothing.
+pub fn a_batch_is_known()
+    ensures { (v : LifeView) (r : ℕ) → asked v r (v.hands r) (width v.costs r) ≡ v }
+{}

@@ -1,5 +1,6 @@
 """The trace of an audit log. First an independent judge of audit logs by itself: 300 drawn logs, each made of known requests, and 500
-faulty ones, each with a known fault; and the example under examples/audit. Then the command, where the program has it."""
+faulty ones, each with a known fault; rows by hand; and the example under examples/audit. Then the command, where the program has it, and
+300 drawn choices of requests, of which some were turned away."""
 
 import os
 import random
@@ -8,8 +9,8 @@ import sys
 
 sys.path.insert(0, os.path.join(os.path.dirname(os.path.abspath(__file__)), "lib"))
 import trace
-from audit import ARRIVAL, BYTES, CUT, NAME, TOO_MANY, AuditFault, json_text, trace_of
-from audits import NOON, Logs
+from audit import ARRIVAL, BYTES, CUT, EVERY, NAME, TOO_MANY, AuditFault, Choice, json_text, trace_of, turned_away
+from audits import NOON, Logs, time_text
 from harness import TOP, Files, Tally, build, run
 
 # the name of the program's command; none: what stands below of the command is not run
@@ -26,10 +27,10 @@ FAULTY = int(os.environ.get("APF_FAULTY", "500"))
 print(f"seed {seed}")
 
 
-def read(content, schema):
+def read(content, schema, choice=EVERY):
     """What the judge says: the text of the trace, or the fault's line."""
     try:
-        return trace_of(content, schema)
+        return trace_of(content, schema, choice)
     except AuditFault as fault:
         return str(fault)
 
@@ -71,7 +72,43 @@ def check_judge():
         kinds.add(fault)
     for content in long_lines():
         tally.check(f"the judge of a line of {len(content)} bytes", read(content, "a"), read_long(content))
+    check_rows(lambda content, choice: read(content, "s", choice))
     tally.check("the faulty logs have each fault", sorted(kinds), [*range(2, 11)])
+
+
+# seconds after noon at which it was received and completed, the user, the namespace if there is one, and the code
+ROWS = [(0, 4, "a", "x", 200), (0, 1, "a", "x", 201), (1, 3, "b", "y", 404), (1, 9, "a", "y", 429), (2, 2, "ab", None, 429), (2, 3, "b", "x", 200)]
+# what each choice leaves, by hand: the number of the row, how long it runs in seconds, and its flow
+CHOICES = {
+    Choice(): [(0, 4, "a"), (1, 1, "a"), (2, 2, "b"), (3, 1, "a"), (4, 1, "ab"), (5, 1, "b")],
+    Choice(by="namespace"): [(0, 4, "x"), (1, 1, "x"), (2, 2, "y"), (3, 2, "y"), (4, 1, ""), (5, 1, "x")],
+    Choice(user="a"): [(0, 4, "a"), (1, 1, "a"), (3, 1, "a")],
+    Choice(user="a*", since=NOON + 10**6): [(3, 0, "a"), (4, 0, "ab")],
+    Choice(since=NOON + 10**6, until=NOON + 2 * 10**6): [(2, 2, "b"), (3, 2, "a")],
+    Choice(user="c"): [],
+}
+
+
+def rows_log():
+    for received, completed, user, namespace, code in ROWS:
+        event = logs.event((NOON + received * 10**6, (completed - received) * 10**6, user, None))
+        event.pop("impersonatedUser", None)
+        event["user"] = {"username": user}
+        event["responseStatus"] = {"code": code}
+        event["objectRef"] = {} if namespace is None else {"namespace": namespace}
+        yield logs.line(event) + b"\n"
+
+
+def rows_trace(rows):
+    start = min((ROWS[number][0] for number, _, _ in rows), default=0)
+    form = '{{"schema":"s","distinguisher":"{}","arrivesAt":{},"runsFor":{}}}\n'
+    return "".join(form.format(flow, (ROWS[number][0] - start) * 10**6, run * 10**6) for number, run, flow in rows)
+
+
+def check_rows(got):
+    for choice, rows in CHOICES.items():
+        content = b"".join(rows_log())
+        tally.check(f"{choice}", got(content, choice), rows_trace(rows))
 
 
 def long_lines():
@@ -91,6 +128,48 @@ def read_long(content):
 def example(name):
     with open(os.path.join(TOP, "examples", "audit", name), "rb") as file:
         return file.read()
+
+
+def notes(content, choice, is_cut=False):
+    """What is said of a good log on standard error."""
+    count, of = turned_away(content, choice)
+    median = "each gets the median runsFor of those of its flow that ran, or of all that ran"
+    said = f"apf: {count} of {of} requests were turned away with status 429: {median}\n" if count else ""
+    return (f"{CUT}\n" if is_cut else "") + said
+
+
+def check_choices():
+    kinds = set()
+    for _ in range(GOOD):
+        content, choice = logs.chosen()
+        wanted = read(content, "s", choice)
+        is_good = not wanted.startswith("apf: ")
+        words = logs.words(choice)
+        got = run(program, [COMMAND, *words, files("audit.log", content), "s"])
+        told = (0, wanted.encode(), notes(content, choice).encode()) if is_good else (1, b"", f"{wanted}\n".encode())
+        tally.check(f"{COMMAND} {words} of {content[-300:]!r}", got, told)
+        away, of = turned_away(content, choice) if is_good else (0, 0)
+        kinds |= {("turned away", away > 0), ("all were", 0 < away == of), ("good", is_good), ("some", 0 < of < content.count(b"\n")), ("none", of == 0)}
+    tally.check("the choices have each kind", len(kinds), 10)
+
+
+def check_bad_choices():
+    content = example("audit.log")
+    instant = "must be an instant from 1970 on, as 2026-01-31T12:00:00Z"
+    for words, line in [
+        (["--by", "users"], "--by must be user or namespace"),
+        (["--by", ""], "--by must be user or namespace"),
+        (["--since", "noon"], f"--since {instant}"),
+        (["--until", "1969-12-31T23:59:59Z"], f"--until {instant}"),
+        (["--since", "2026-07-01T10:00:00", "--by", "user"], f"--since {instant}"),
+    ]:
+        tally.check(f"{COMMAND} {words}", run(program, [COMMAND, files("audit.log", content), "s", *words]), (2, b"", f"apf: {line}\n".encode()))
+    many = b"".join(logs.line(logs.event((NOON + number * 10**6, 5, "alice", None))) + b"\n" for number in range(10_001))
+    span = "received from 2026-11-25T12:00:00Z to 2026-11-25T14:46:40Z"
+    tell = f"apf: audit fault 9: there are 10001 requests, {span}: at most 10000 may be there: --since, --until and --user choose some of them\n"
+    tally.check(f"{COMMAND} of 10,001 requests", printed(many, "s"), (1, b"", tell.encode()))
+    since = run(program, [COMMAND, files("audit.log", many), "s", "--since", time_text(NOON + 10**6)])
+    tally.check(f"{COMMAND} --since of 10,001 requests", (since[0], since[1].count(b"\n"), since[2]), (0, 10_000, b""))
 
 
 def check_example():
@@ -120,6 +199,9 @@ def check_command():
         tally.check(f"{COMMAND} of a line of {len(content)} bytes", printed(content, "a"), (1 if line else 0, b"", f"{line}\n".encode() if line else b""))
     many = b"".join(logs.line(logs.event(logs.request(draw.randrange(10**9)))) + b"\n" for _ in range(10_000))
     tally.check(f"{COMMAND} of 10,000 requests", printed(many, "a"), (0, read(many, "a").encode(), b""))
+    check_rows(lambda content, choice: run(program, [COMMAND, files("audit.log", content), "s", *logs.words(choice)])[1].decode())
+    check_choices()
+    check_bad_choices()
 
 
 check_judge()

@@ -122,6 +122,10 @@ def check_drawn():
         tally.check(f"fates of {name}", printed("fates", [texts[0], content], patience), told(fates[0]))
         tally.check(f"compare of {name}", printed("compare", [*texts, content], patience), told(lines))
         tally.check(f"hands of {name}", printed("hands", [texts[0], content]), told(simulation.hands(configs[0], trace)))
+        flows = [*sorted({it["names"][1] for it in trace if it["names"]}), "nobody"]
+        flow = flows[number % len(flows)]
+        of_flow = printed("hands", [texts[0], content], f"--flow={flow}")
+        tally.check(f"hands of {flow!r} of {name}", of_flow, told(simulation.hands_of(configs[0], trace, flow)))
         for what in happenings(one, other):
             seen[what] += 1
     for what, count in seen.items():

@@ -1,8 +1,9 @@
 """What an audit log says, by the table of its faults: an independent judge of its bytes.
 
-An audit log has one event a line, as JSON. `trace_of` answers the trace of its requests as text, or raises AuditFault.
+An audit log has one event a line, as JSON. `trace_of` answers the trace of its chosen requests as text, or raises AuditFault.
 """
 
+import collections
 import datetime
 import json
 import re
@@ -22,8 +23,13 @@ ARRIVAL = 1_000_000_000_000
 RUN = 10_000_000_000
 WAIT = 10_000_000_000
 
-# each fault's number is its place in the order in which a line is judged; the last two are judged once no line has a fault
+# each fault's number is its place in the order in which a line is judged, but for that of a namespace, which stands behind that of a user;
+# the last two before it are judged once no line has a fault
 TOO_LONG, NOT_JSON, NOT_EVENT, BAD_USER, BAD_RECEIVED, BAD_STAGE, BAD_WAIT, BAD_RUN, TOO_MANY, BAD_ARRIVAL = range(1, 11)
+BAD_NAMESPACE = 12
+# what makes a flow, the name of a user or its beginning with `*`, and microseconds from 1970 on
+Choice = collections.namedtuple("Choice", "by user since until", defaults=("user", None, None, None))
+EVERY = Choice()
 # bytes of a line, without its LF
 BYTES = 8_388_608
 CUT = "apf: the last line is left out: it has no LF at its end, and is not whole JSON"
@@ -46,6 +52,12 @@ class AuditFault(Refused):
         super().__init__(f"apf: audit fault {number}{at}: {told(number, content, line)}")
 
 
+def utc(micros):
+    """An instant in UTC, with as many digits of the second as it needs."""
+    whole = (EPOCH + datetime.timedelta(microseconds=micros)).strftime("%Y-%m-%dT%H:%M:%S.%f")
+    return whole.rstrip("0").rstrip(".") + "Z"
+
+
 def shown(value):
     return "absent" if value is None else found(value[0])
 
@@ -53,7 +65,9 @@ def shown(value):
 def told(number, content, line):
     """What is wrong with a line of these bytes."""
     if number == TOO_MANY:
-        return f"there are {line} requests: at most {REQUESTS} may be there"
+        first, last = (utc(it) for it in content)
+        choose = "--since, --until and --user choose some of them"
+        return f"there are {line} requests, received from {first} to {last}: at most {REQUESTS} may be there: {choose}"
     if number == TOO_LONG:
         return f"the line has {len(content)} bytes: at most {BYTES} may be there"
     if number == NOT_JSON:
@@ -71,6 +85,8 @@ def told(number, content, line):
         user = value.get(who) if isinstance(value.get(who), dict) else {}
         name = {f"{who}.username": user["username"]} if "username" in user else {}
         return needed(name, f"{who}.username", f"a text of at most {NAME} bytes")
+    if number == BAD_NAMESPACE:
+        return f"objectRef.namespace is {found(value['objectRef']['namespace'])}: it must be a text of at most {NAME} bytes"
     if number in (BAD_RECEIVED, BAD_STAGE):
         key = "requestReceivedTimestamp" if number == BAD_RECEIVED else "stageTimestamp"
         return needed(value, key, 'an instant from 1970 on, as "2026-01-31T12:00:00.000000Z"')
@@ -149,22 +165,54 @@ def is_taken(event):
     return event["stage"] == "ResponseComplete" and event["verb"] != "watch" and at(event, "objectRef", "subresource") not in LASTING
 
 
-def request_of(event, line, text):
-    """The arrival from 1970 on, the line, the run and the user of an event that is taken. A user who is impersonated is the one."""
+def namespace_of(event):
+    """The namespace of the event's object, empty where there is none, or None where it is no name."""
+    there = event.get("objectRef")
+    if not isinstance(there, dict) or "namespace" not in there:
+        return ""
+    name = there["namespace"]
+    return name if isinstance(name, str) and len(name.encode()) <= NAME else None
+
+
+def is_chosen(choice, user, received):
+    if choice.user is not None and choice.user.endswith("*"):
+        if user[: len(choice.user) - 1] != choice.user[:-1]:
+            return False
+    elif choice.user not in (None, user):
+        return False
+    return (choice.since is None or received >= choice.since) and (choice.until is None or received < choice.until)
+
+
+def was_turned_away(event):
+    code = at(event, "responseStatus", "code")
+    return type(code) is int and code == 429
+
+
+def request_of(event, line, text, choice):
+    """The arrival from 1970 on, the line, the run and the flow of an event that is taken, with no run if it was turned away; None if it is
+    not chosen. A user who is impersonated is the one."""
     user = text_at(event, "impersonatedUser" if "impersonatedUser" in event else "user", "username")
     if user is None or len(user.encode()) > NAME:
         raise AuditFault(BAD_USER, line, text)
+    flow = user if choice.by == "user" else namespace_of(event)
+    if flow is None:
+        raise AuditFault(BAD_NAMESPACE, line, text)
     times = [instant(text_at(event, key)) for key in ("requestReceivedTimestamp", "stageTimestamp")]
-    for time, fault in zip(times, (BAD_RECEIVED, BAD_STAGE)):
-        if time is None:
-            raise AuditFault(fault, line, text)
+    if times[0] is None:
+        raise AuditFault(BAD_RECEIVED, line, text)
+    if not is_chosen(choice, user, times[0]):
+        return None
+    if was_turned_away(event):
+        return times[0], line, None, flow
+    if times[1] is None:
+        raise AuditFault(BAD_STAGE, line, text)
     wait = wait_of(event)
     if wait is None:
         raise AuditFault(BAD_WAIT, line, text)
     run = times[1] - times[0] - wait
     if not 0 <= run <= RUN:
         raise AuditFault(BAD_RUN, line, text)
-    return times[0], line, run, user
+    return times[0], line, run, flow
 
 
 def lines_of(content):
@@ -181,7 +229,7 @@ def lines_of(content):
     return [*lines, rest], False
 
 
-def taken_of(content):
+def taken_of(content, choice):
     """What is taken of the lines, in their order."""
     for line, text in enumerate(lines_of(content)[0], 1):
         if len(text) > BYTES:
@@ -192,18 +240,40 @@ def taken_of(content):
             raise AuditFault(NOT_JSON, line, text) from None
         if text_at(event, "stage") is None or text_at(event, "verb") is None:
             raise AuditFault(NOT_EVENT, line, text)
-        if is_taken(event):
-            yield request_of(event, line, text)
+        request = request_of(event, line, text, choice) if is_taken(event) else None
+        if request:
+            yield request
 
 
-def trace_of(content, schema):
-    taken = list(taken_of(content))
+def median(runs):
+    return sorted(runs)[(len(runs) - 1) // 2] if runs else 0
+
+
+def with_runs(taken):
+    """Each of those that were turned away runs for the median of its flow's runs, or of all runs where none of its flow ran."""
+    ran = collections.defaultdict(list)
+    for _, _, run, flow in taken:
+        if run is not None:
+            ran[flow].append(run)
+    of_all = median([run for runs in ran.values() for run in runs])
+    of_flow = {flow: median(runs) for flow, runs in ran.items()}
+    return [(received, line, of_flow.get(flow, of_all) if run is None else run, flow) for received, line, run, flow in taken]
+
+
+def turned_away(content, choice=EVERY):
+    """How many of the chosen requests of a good log were turned away, of how many."""
+    taken = list(taken_of(content, choice))
+    return sum(run is None for _, _, run, _ in taken), len(taken)
+
+
+def trace_of(content, schema, choice=EVERY):
+    taken = list(taken_of(content, choice))
     if len(taken) > REQUESTS:
-        raise AuditFault(TOO_MANY, len(taken))
+        raise AuditFault(TOO_MANY, len(taken), [pick(it[0] for it in taken) for pick in (min, max)])
     start = min((received for received, *_ in taken), default=0)
     for received, line, _, _ in taken:
         if received - start > ARRIVAL:
             raise AuditFault(BAD_ARRIVAL, line, content.split(b"\n")[line - 1])
     schema = json_text(schema)
     form = '{{"schema":{},"distinguisher":{},"arrivesAt":{},"runsFor":{}}}\n'
-    return "".join(form.format(schema, json_text(user), received - start, run) for received, _, run, user in sorted(taken, key=lambda it: it[:2]))
+    return "".join(form.format(schema, json_text(user), received - start, run) for received, _, run, user in sorted(with_runs(taken), key=lambda it: it[:2]))

@@ -3,7 +3,7 @@
 import datetime
 import json
 
-from audit import BAD_ARRIVAL, BAD_RECEIVED, BAD_RUN, BAD_STAGE, BAD_USER, BAD_WAIT, LASTING, NOT_EVENT, NOT_JSON, QUEUE_WAIT, TOO_MANY
+from audit import BAD_ARRIVAL, BAD_RECEIVED, BAD_RUN, BAD_STAGE, BAD_USER, BAD_WAIT, Choice, LASTING, NOT_EVENT, NOT_JSON, QUEUE_WAIT, TOO_MANY
 
 USERS = ["system:serviceaccount:kube-system:job-controller", "system:node:node-7", "alice@example.com", "kubernetes-admin", "", 'o"\\\u20ac\U0001f600\u0001\u007f\u0085\u200f\u202e\u2028\u2067']
 VERBS = ["get", "list", "create", "update", "patch", "delete", "deletecollection"]
@@ -135,6 +135,39 @@ class Logs:
             return content + line, [*requests, last], False
         return content + self.draw.choice([line[: self.draw.randrange(1, len(line))], b"{", b"x", b" ", b"\xe2"]), requests, True
 
+    def chosen(self):
+        """A log with requests that were turned away, in some namespaces, and a choice of some of them."""
+        lines = []
+        for _ in range(self.draw.choice([0, 1, 5, 30, 90])):
+            if self.draw.random() < 0.1:
+                lines.append(self.line(self.other()))
+            event = self.event(self.request())
+            if self.draw.random() < 0.4:
+                event["responseStatus"] = self.draw.choice(STATUSES)
+            if self.draw.random() < 0.6:
+                event["objectRef"] = {"resource": "pods", "namespace": self.draw.choice(["default", "kube-system", "", "\u20ac"])}
+            if self.draw.random() < 0.002:
+                event["objectRef"] = {"namespace": self.draw.choice([7, None, [], "x" * 4097])}
+            if self.draw.random() < 0.002:
+                event["stageTimestamp"] = self.draw.choice(NO_TIMES)
+            lines.append(self.line(event))
+        return b"".join(it + b"\n" for it in lines), self.choice()
+
+    def choice(self):
+        name = self.draw.choice([it for it in USERS if "\u0001" not in it])
+        names = [None, None, None, name, f"{name}*", f"{name[: self.draw.randrange(len(name) + 1)]}*", "*", f"{name}x", "nobody*"]
+        ends = sorted(NOON + self.draw.choice([0, 1, 999, 10**6, self.draw.randrange(10**7)]) for _ in range(2))
+        since, until = (it if self.draw.random() < 0.4 else None for it in ends)
+        return Choice(self.draw.choice(["user", "user", "namespace"]), self.draw.choice(names), since, until)
+
+    def words(self, choice):
+        """The words of a command line that choose so."""
+        given = {"by": choice.by if choice.by != "user" or self.draw.random() < 0.3 else None, "user": choice.user}
+        given |= {key: time_text(at, self.draw) if at is not None else None for key, at in (("since", choice.since), ("until", choice.until))}
+        words = [[f"--{key}={text}"] if self.draw.random() < 0.5 or text.startswith("-") else [f"--{key}", text] for key, text in given.items() if text is not None]
+        self.draw.shuffle(words)
+        return [word for pair in words for word in pair]
+
     # what is not allowed
 
     def spoiled(self, fault):
@@ -200,6 +233,7 @@ class Logs:
             yield content, fault, line
 
 
+STATUSES = [{"code": 429}, {"metadata": {}, "status": "Failure", "reason": "TooManyRequests", "code": 429}, {"code": 429}, {"code": "429"}, {"code": 428}, 429, None, {"status": 429}]
 NO_TIMES = [None, 7, "", "x", "2026-11-25", "2026-11-25T12:00:00", "2026-13-25T12:00:00Z", "2026-11-31T12:00:00Z", "2026-11-25T24:00:01Z", "2026-11-25T12:60:00Z"]
 NO_TIMES += ["1969-12-31T23:59:59Z", "2026-11-25T12:00:00.Z", "2026-11-25T12:00:00.1234567890Z", "2026-11-25T12:00:00Zx", " 2026-11-25T12:00:00Z", "1795608000"]
 NO_WAITS = [None, 7, "", "x", "1", "s", "1x", "-1s", "-1.5ms", "1.5.5s", "10000.000000001s", "10001s", "2h46m41s", "1.s", "1ss"]

@@ -4,3 +4,5 @@ pub mod Logs
 pub mod Order
 pub mod Lengths
 pub mod Earliest
+pub mod Medians
+pub mod Nanoseconds

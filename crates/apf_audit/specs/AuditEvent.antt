@@ -1,31 +1,40 @@
 -- What the JSON value of a line of an audit log says.
-use Rattle.std.specs.Prelude.{ℕ, ◌≤◌, List, length, Bool, true, false, ◌&&◌, ◌||◌, not, nat_le, if◌then◌else◌, Option, Some, None, option_and_then, IfSome, Result, Ok, Err, codes, bytes_eq, string_bytes}
+use Rattle.std.specs.Prelude.{ℕ, ◌≤◌, List, [], length, Bool, true, false, ◌&&◌, ◌||◌, ◌==◌, not, nat_le, if◌then◌else◌, Option, Some, None, option_and_then, IfSome, Result, Ok, Err, codes, bytes_eq, string_bytes}
+use Rattle.std.specs.Option.{option_map_or}
 use Rattle.serde_json.specs.Data.{Data}
 use Rattle.serde_json.specs.Find.{get, as_str}
 use Rattle.apf_files.specs.FirstFault.{◌>>=◌, or_fault}
+use Rattle.apf_files.specs.JsonFile.{whole_of}
+use Rattle.apf_audit.specs.Choice.{is_chosen}
 use Rattle.apf_audit.specs.Times.{instant_of, wait_of, run_of, max_run}
+use Rattle.apf_audit.specs.declared.choice.By.{By}
+use Rattle.apf_audit.specs.declared.choice.By.TheVariants.{User, Namespace}
+use Rattle.apf_audit.specs.declared.choice.Choice.{Choice}
 use Rattle.apf_audit.specs.declared.event.Taken.{Taken}
 use Rattle.apf_audit.specs.declared.fault.AuditFault.{AuditFault}
-use Rattle.apf_audit.specs.declared.fault.AuditFault.TheVariants.{NotEvent, BadUser, BadReceived, BadStage, BadWait, BadRun}
+use Rattle.apf_audit.specs.declared.fault.AuditFault.TheVariants.{NotEvent, BadUser, BadNamespace, BadReceived, BadStage, BadWait, BadRun}
 
--- the name of a user has at most this many bytes
+-- the name of a user, or of a namespace, has at most this many bytes
 abbrev pub max_name : ℕ
 max_name = 4096
 
--- what is taken of an event, with the bytes of the user's name, and the time of its arrival in microseconds from 1970 on
+-- what is taken of an event: the time of its arrival in microseconds from 1970 on, whether it was turned away, how long it ran, 0 if it
+-- was turned away, and the bytes of its flow's name
 pub record Event : Type 0 where
   pub line : ℕ
   pub received : ℕ
+  pub turned_away : Bool
   pub runs_for : ℕ
-  pub user : List ℕ
+  pub flow : List ℕ
 
 -- what the code takes of an event
 abbrev pub event : Taken → Event
 event taken = record {
   line = taken.line;
   received = taken.received;
+  turned_away = taken.turned_away;
   runs_for = taken.runs_for;
-  user = string_bytes taken.distinguisher;
+  flow = string_bytes taken.distinguisher;
 }
 
 -- the text at a key, if there is one
@@ -70,6 +79,29 @@ name_by d (Some impersonated) = text_at (codes "username") impersonated
 unfoldable pub user_of : Data → Option (List ℕ)
 user_of d = option_and_then short (name_by d (get (codes "impersonatedUser") d))
 
+-- the namespace of an object that has one
+abbrev pub namespace_by : Option Data → Option (List ℕ)
+namespace_by None = Some []
+namespace_by (Some d) = option_and_then short (as_str d)
+
+-- the namespace, where a trace can have it; without one it is the empty text
+unfoldable pub namespace_of : Data → Option (List ℕ)
+namespace_of d = namespace_by (option_and_then (get (codes "namespace")) (get (codes "objectRef") d))
+
+-- the name of the flow of an event of this user
+abbrev pub flow_of : By → List ℕ → Data → Option (List ℕ)
+flow_of User user d = Some user
+flow_of Namespace user d = namespace_of d
+
+-- the code of a status is that of a request that was turned away
+abbrev pub is_refusal : Option Data → Bool
+is_refusal None = false
+is_refusal (Some d) = option_map_or (λ code. code == 429) (whole_of d) false
+
+-- the request was turned away
+unfoldable pub was_turned_away : Data → Bool
+was_turned_away d = is_refusal (option_and_then (get (codes "code")) (get (codes "responseStatus") d))
+
 -- the instant at a key
 unfoldable pub instant_at : List ℕ → Data → Option ℕ
 instant_at key d = option_and_then instant_of (text_at key d)
@@ -83,24 +115,39 @@ wait_by (Some d) = option_and_then wait_of (as_str d)
 unfoldable pub wait_at : Data → Option ℕ
 wait_at d = wait_by (option_and_then (get (codes "apiserver.latency.k8s.io/apf-queue-wait")) (get (codes "annotations") d))
 
--- what is taken of an event, or its first fault
-unfoldable pub taken_of : ℕ → Data → Result Event AuditFault
-taken_of line d = do
-  user ← or_fault (BadUser line) (user_of d)
-  received ← or_fault (BadReceived line) (instant_at (codes "requestReceivedTimestamp") d)
+-- how long the request of an event ran that was received at this time, or its first fault; 0 if it was turned away
+abbrev pub run_by : Bool → ℕ → ℕ → Data → Result ℕ AuditFault
+run_by true line received d = Ok 0
+run_by false line received d = do
   completed ← or_fault (BadStage line) (instant_at (codes "stageTimestamp") d)
   wait ← or_fault (BadWait line) (wait_at d)
-  runs_for ← or_fault (BadRun line) (run_of received completed wait)
-  Ok (record { line = line; received = received; runs_for = runs_for; user = user })
+  or_fault (BadRun line) (run_of received completed wait)
+
+unfoldable pub run_at : ℕ → ℕ → Data → Result ℕ AuditFault
+run_at line received d = run_by (was_turned_away d) line received d
+
+-- the same with what else is taken of it
+unfoldable pub ran_at : ℕ → ℕ → List ℕ → Data → Result Event AuditFault
+ran_at line received flow d = do
+  runs_for ← run_at line received d
+  Ok (record { line = line; received = received; turned_away = was_turned_away d; runs_for = runs_for; flow = flow })
+
+-- what is taken of an event, none where it is not chosen, or its first fault
+unfoldable pub taken_of : Choice → ℕ → Data → Result (Option Event) AuditFault
+taken_of choice line d = do
+  user ← or_fault (BadUser line) (user_of d)
+  flow ← or_fault (BadNamespace line) (flow_of choice.by user d)
+  received ← or_fault (BadReceived line) (instant_at (codes "requestReceivedTimestamp") d)
+  if is_chosen choice user received then ran_at line received flow d >>= (λ e. Ok (Some e)) else Ok None
 
 -- what is taken of the value of a line, by whether it is taken
-abbrev pub event_by : ℕ → Data → Option Bool → Result (Option Event) AuditFault
-event_by line d None = Err (NotEvent line)
-event_by line d (Some false) = Ok None
-event_by line d (Some true) = taken_of line d >>= (λ e. Ok (Some e))
+abbrev pub event_by : Choice → ℕ → Data → Option Bool → Result (Option Event) AuditFault
+event_by choice line d None = Err (NotEvent line)
+event_by choice line d (Some false) = Ok None
+event_by choice line d (Some true) = taken_of choice line d
 
-unfoldable pub event_of : ℕ → Data → Result (Option Event) AuditFault
-event_of line d = event_by line d (is_taken d)
+unfoldable pub event_of : Choice → ℕ → Data → Result (Option Event) AuditFault
+event_of choice line d = event_by choice line d (is_taken d)
 
 -- the run and the name are such that a trace can have them
 pub record IsTakenInRange (taken : Taken) : Type 0 where

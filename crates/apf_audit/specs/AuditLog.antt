@@ -5,7 +5,8 @@ use Rattle.serde_json.specs.Data.{Data}
 use Rattle.apf_files.specs.FirstFault.{◌>>=◌, before}
 use Rattle.apf_traces.specs.TraceFile.{Line, lines_of, value_of}
 use Rattle.apf_audit.specs.AuditEvent.{Event, event_of}
-use Rattle.apf_audit.specs.Arrivals.{Entry, entries_from, earliest, max_requests}
+use Rattle.apf_audit.specs.Arrivals.{Entry, entries_from, earliest, latest, max_requests}
+use Rattle.apf_audit.specs.declared.choice.Choice.{Choice}
 use Rattle.apf_audit.specs.declared.fault.AuditFault.{AuditFault}
 use Rattle.apf_audit.specs.declared.fault.AuditFault.TheVariants.{TooLong, NotUtf8Json, TooMany}
 
@@ -14,15 +15,15 @@ abbrev pub max_line : ℕ
 max_line = 8388608
 
 -- what is taken of the line of this number, none where its event is not taken, or its first fault
-abbrev pub judged_by : ℕ → Bool → Option Data → Result (Option Event) AuditFault
-judged_by number is_ended (Some d) = event_of number d
-judged_by number true None = Err (NotUtf8Json number)
-judged_by number false None = Ok None
+abbrev pub judged_by : Choice → ℕ → Bool → Option Data → Result (Option Event) AuditFault
+judged_by choice number is_ended (Some d) = event_of choice number d
+judged_by choice number true None = Err (NotUtf8Json number)
+judged_by choice number false None = Ok None
 
 -- of a line that no LF ends, and that is no JSON text, nothing is taken: it is still written
-unfoldable pub judged_line : ℕ → Line → Result (Option Event) AuditFault
-judged_line number line =
-    if nat_le (length line.bytes) max_line then judged_by number line.is_ended (value_of line.bytes) else Err (TooLong number)
+unfoldable pub judged_line : Choice → ℕ → Line → Result (Option Event) AuditFault
+judged_line choice number line =
+    if nat_le (length line.bytes) max_line then judged_by choice number line.is_ended (value_of line.bytes) else Err (TooLong number)
 
 -- the first of the lines that no LF ends is no JSON text
 abbrev pub is_cut_from : List Line → Bool
@@ -40,25 +41,25 @@ before_taken (Ok None) others = others
 before_taken (Ok (Some x)) others = before (Ok x) others
 
 -- what is taken of the lines, of which the first has this number, or the first fault
-abbrev pub events_from : ℕ → List Line → Result (List Event) AuditFault
-events_from number [] = Ok []
-events_from number (line ∷ lines) = before_taken (judged_line number line) (events_from (number + 1) lines)
+abbrev pub events_from : Choice → ℕ → List Line → Result (List Event) AuditFault
+events_from choice number [] = Ok []
+events_from choice number (line ∷ lines) = before_taken (judged_line choice number line) (events_from choice (number + 1) lines)
 
 -- what is taken of an audit log, in the order of its lines, or the first fault of a line
-unfoldable pub events_of : List ℕ → Result (List Event) AuditFault
-events_of bytes = events_from 1 (lines_of bytes)
+unfoldable pub events_of : Choice → List ℕ → Result (List Event) AuditFault
+events_of choice bytes = events_from choice 1 (lines_of bytes)
 
 -- the requests of these events, or why a trace cannot have them
 abbrev pub requests_by : Bool → List Event → Result (List Entry) AuditFault
-requests_by false events = Err (TooMany (length events))
-requests_by true events = entries_from (earliest events) events
+requests_by false events = Err (TooMany (length events) (earliest events) (latest events))
+requests_by true events = entries_from (earliest events) events events
 
--- the requests of an audit log, in the order of its lines, or its fault
-unfoldable pub log_of : List ℕ → Result (List Entry) AuditFault
-log_of bytes = events_of bytes >>= (λ events. requests_by (nat_le (length events) max_requests) events)
+-- the chosen requests of an audit log, in the order of its lines, or its fault
+unfoldable pub log_of : Choice → List ℕ → Result (List Entry) AuditFault
+log_of choice bytes = events_of choice bytes >>= (λ events. requests_by (nat_le (length events) max_requests) events)
 
--- these are the requests of an audit log, in some order
-pub record IsLogOf (bytes : List ℕ) (requests : List Entry) : Type 0 where
+-- these are the chosen requests of an audit log, in some order
+pub record IsLogOf (choice : Choice) (bytes : List ℕ) (requests : List Entry) : Type 0 where
   pub in_file : List Entry
-  pub is : log_of bytes ≡ Ok in_file
+  pub is : log_of choice bytes ≡ Ok in_file
   pub same : IsPermutation in_file requests

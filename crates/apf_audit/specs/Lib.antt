@@ -1,6 +1,10 @@
 pub mod AuditFaults
 pub mod Times
+pub mod Choice
 pub mod AuditEvent
 pub mod Arrivals
 pub mod AuditLog
 pub mod TraceText
+pub mod Runs
+pub mod InstantText
+pub mod Known

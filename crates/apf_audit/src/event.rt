@@ -4,13 +4,15 @@ ghost use Rattle.std.specs.Prelude.{◌≡◌, ◌≢◌, ◌≤◌, IfOk, IfErr
 ghost use Rattle.serde_json.specs.Find.{get};
 ghost use Rattle.serde_json.specs.View.{view};
 ghost use Rattle.apf_audit.specs.AuditEvent as spec;
+ghost use Rattle.apf_audit.specs.Times.{max_run};
 
+use crate::choice::{By, Choice};
 use crate::fault::AuditFault;
-use crate::times::{instant_of, run_of, wait_of};
+use crate::times::{read_instant, run_of, wait_of};
 use serde_json::Value;
 use std::alloc::Global;
 
-// Of the name of a user: a name of this length fits a line of a trace, whatever has to be escaped.
+// Of the name of a user or a namespace: a name of this length fits a line of a trace, whatever has to be escaped.
 const MAX_NAME: usize = 4096;
 
 const QUEUE_WAIT: &str = "apiserver.latency.k8s.io/apf-queue-wait";
@@ -21,6 +23,8 @@ pub(crate) struct Taken {
     pub line: usize,
     // in microseconds from 1970 on
     pub received: u64,
+    // whether the server turned it away, and then it ran for 0
+    pub turned_away: bool,
     pub runs_for: u64,
     pub distinguisher: String,
 }
@@ -77,17 +81,68 @@ fn name_of(value: &Value) -> Option<&str>
     }
 }
 
+// The name, if it is short enough for a line of a trace.
+fn short(name: &str) -> Option<&str>
+    ensures value { option_map (λ text. text.now) result ≡ spec.short name.now }
+    ensures short { IfSome result (λ name. length name.now ≤ spec.max_name) }
+{
+    if name.len() > MAX_NAME {
+        return None;
+    }
+    Some(name)
+}
+
 // The name of the user, where a trace can have it.
 #[tactic(auto, unfolding(crate::specs::AuditEvent::user_of))]
 fn user_of(value: &Value) -> Option<&str>
     ensures value { option_map (λ text. text.now) result ≡ spec.user_of (view value.now) }
     ensures short { IfSome result (λ user. length user.now ≤ spec.max_name) }
 {
-    let user = name_of(value)?;
-    if user.len() > MAX_NAME {
-        return None;
+    short(name_of(value)?)
+}
+
+// The namespace, where a trace can have it. Without one it is the empty text.
+#[tactic(auto, unfolding(crate::specs::AuditEvent::namespace_of))]
+fn namespace_of(value: &Value) -> Option<&str>
+    ensures value { option_map (λ text. text.now) result ≡ spec.namespace_of (view value.now) }
+    ensures short { IfSome result (λ name. length name.now ≤ spec.max_name) }
+{
+    match value
+        .get("objectRef")
+        .and_then(|object| object.get("namespace"))
+    {
+        Some(namespace) => short(namespace.as_str()?),
+        None => Some(""),
     }
-    Some(user)
+}
+
+// The name of the flow of an event of this user.
+fn flow_of<'a>(by: By, user: &'a str, value: &'a Value) -> Option<&'a str>
+    requires { length user.now ≤ spec.max_name }
+    ensures value { option_map (λ text. text.now) result ≡ spec.flow_of by user.entry.now (view value.now) }
+    ensures short { IfSome result (λ name. length name.now ≤ spec.max_name) }
+{
+    match by {
+        By::User => Some(user),
+        By::Namespace => namespace_of(value),
+    }
+}
+
+// Whether the request was turned away: the server answered with status 429.
+#[tactic(auto, unfolding(crate::specs::AuditEvent::was_turned_away))]
+fn was_turned_away(value: &Value) -> bool
+    ensures { result ≡ spec.was_turned_away (view value.now) }
+{
+    match value
+        .get("responseStatus")
+        .and_then(|status| status.get("code"))
+    {
+        Some(code) => match code.as_u64() {
+            Some(code) => code == 429,
+            None => false,
+        },
+        None => false,
+    }
 }
 
 // The instant at a key.
@@ -95,7 +150,7 @@ fn user_of(value: &Value) -> Option<&str>
 fn instant_at(value: &Value, key: &str) -> Option<u64>
     ensures { result ≡ spec.instant_at key.now (view value.now) }
 {
-    instant_of(text_at(value, key)?)
+    read_instant(text_at(value, key)?)
 }
 
 // The wait in the queue that the annotation says, and 0 where there is no such annotation.
@@ -109,46 +164,88 @@ fn wait_at(value: &Value) -> Option<u64>
     }
 }
 
-// What is taken of the event of line `line`.
-#[tactic(auto, unfolding(crate::specs::AuditEvent::taken_of))]
-fn taken_of(alloc: Global, value: &Value, line: usize) -> Result<Taken, AuditFault>
-    ensures ok { IfOk result (λ taken. spec.taken_of line (view value.now) ≡ Ok (spec.event taken)) }
-    ensures ranges { IfOk result spec.IsTakenInRange }
-    ensures err { IfErr result (λ fault. fault ≢ AuditFault.NoMemory
-        → spec.taken_of line (view value.now) ≡ Err fault) }
+// How long the request of an event ran that was received at this time, and 0 if it was turned away.
+#[tactic(auto, unfolding(crate::specs::AuditEvent::run_at))]
+fn run_at(value: &Value, line: usize, received: u64) -> Result<u64, AuditFault>
+    ensures ok { IfOk result (λ run. spec.run_at line received (view value.now) ≡ Ok run) }
+    ensures within { IfOk result (λ run. run ≤ max_run) }
+    ensures err { IfErr result (λ fault. spec.run_at line received (view value.now) ≡ Err fault) }
 {
-    let user = user_of(value).ok_or(AuditFault::BadUser(line))?;
-    let received = instant_at(value, "requestReceivedTimestamp").ok_or(AuditFault::BadReceived(
-        line,
-    ))?;
+    if was_turned_away(value) {
+        return Ok(0);
+    }
     let completed = instant_at(value, "stageTimestamp").ok_or(AuditFault::BadStage(line))?;
     let wait = wait_at(value).ok_or(AuditFault::BadWait(line))?;
-    let runs_for = run_of(received, completed, wait).ok_or(AuditFault::BadRun(line))?;
-    let Ok(distinguisher) = String::from_str(alloc, user) else {
+    run_of(received, completed, wait).ok_or(AuditFault::BadRun(line))
+}
+
+// What is taken of an event of this flow that was received at this time.
+#[tactic(auto, unfolding(crate::specs::AuditEvent::ran_at))]
+fn ran_at(
+    alloc: Global,
+    value: &Value,
+    line: usize,
+    received: u64,
+    flow: &str,
+) -> Result<Taken, AuditFault>
+    requires { length flow.now ≤ spec.max_name }
+    ensures ok { IfOk result (λ taken. spec.ran_at line received flow.now (view value.now) ≡ Ok (spec.event taken)) }
+    ensures ranges { IfOk result spec.IsTakenInRange }
+    ensures err { IfErr result (λ fault. fault ≢ AuditFault.NoMemory
+        → spec.ran_at line received flow.now (view value.now) ≡ Err fault) }
+{
+    let runs_for = run_at(value, line, received)?;
+    let Ok(distinguisher) = String::from_str(alloc, flow) else {
         return Err(AuditFault::NoMemory);
     };
     Ok(Taken {
         line,
         received,
+        turned_away: was_turned_away(value),
         runs_for,
         distinguisher,
     })
 }
 
-/// What is taken of the value of line `line`, or none where its event is not taken.
-#[tactic(auto, unfolding(crate::specs::AuditEvent::event_of))]
-pub(crate) fn event_of_value(
+// What is taken of the event of line `line`, or none where it is not chosen.
+#[tactic(auto, unfolding(crate::specs::AuditEvent::taken_of))]
+fn taken_of(
     alloc: Global,
+    choice: &Choice<'_>,
     value: &Value,
     line: usize,
 ) -> Result<Option<Taken>, AuditFault>
-    ensures ok { IfOk result (λ taken. spec.event_of line (view value.now) ≡ Ok (option_map spec.event taken)) }
+    ensures ok { IfOk result (λ taken. spec.taken_of choice.now line (view value.now) ≡ Ok (option_map spec.event taken)) }
     ensures ranges { IfOk result spec.IsInRangeIfTaken }
     ensures err { IfErr result (λ fault. fault ≢ AuditFault.NoMemory
-        → spec.event_of line (view value.now) ≡ Err fault) }
+        → spec.taken_of choice.now line (view value.now) ≡ Err fault) }
+{
+    let user = user_of(value).ok_or(AuditFault::BadUser(line))?;
+    let flow = flow_of(choice.by, user, value).ok_or(AuditFault::BadNamespace(line))?;
+    let received = instant_at(value, "requestReceivedTimestamp").ok_or(AuditFault::BadReceived(
+        line,
+    ))?;
+    if !choice.has(user, received) {
+        return Ok(None);
+    }
+    Ok(Some(ran_at(alloc, value, line, received, flow)?))
+}
+
+/// What is taken of the value of line `line`, or none where its event is not taken, or not chosen.
+#[tactic(auto, unfolding(crate::specs::AuditEvent::event_of))]
+pub(crate) fn event_of_value(
+    alloc: Global,
+    choice: &Choice<'_>,
+    value: &Value,
+    line: usize,
+) -> Result<Option<Taken>, AuditFault>
+    ensures ok { IfOk result (λ taken. spec.event_of choice.now line (view value.now) ≡ Ok (option_map spec.event taken)) }
+    ensures ranges { IfOk result spec.IsInRangeIfTaken }
+    ensures err { IfErr result (λ fault. fault ≢ AuditFault.NoMemory
+        → spec.event_of choice.now line (view value.now) ≡ Err fault) }
 {
     match is_taken(value) {
-        Some(true) => Ok(Some(taken_of(alloc, value, line)?)),
+        Some(true) => taken_of(alloc, choice, value, line),
         Some(false) => Ok(None),
         None => Err(AuditFault::NotEvent(line)),
     }

@@ -7,8 +7,8 @@ use thiserror::Error;
 
 /// Why an audit log was refused. Lines are counted from 1.
 ///
-/// Lines are judged from the first to the last, each by the faults 1 to 8 in the order of their numbers. The first
-/// fault is answered. Where no line has one, the whole log is judged by the faults 9 and 10.
+/// Lines are judged from the first to the last, each by the faults 1 to 8 in the order of their numbers, with 12 behind
+/// 4. The first fault is answered. Where no line has one, the whole log is judged by the faults 9 and 10.
 #[derive(Clone, Copy, Debug, PartialEq, Eq, Error)]
 pub enum AuditFault {
     /// 1: the line has more than 8,388,608 bytes. Its LF does not count.
@@ -24,6 +24,9 @@ pub enum AuditFault {
     /// bytes, or it is absent.
     #[error("bad username")]
     BadUser(usize),
+    /// 12: `objectRef.namespace` is not a text of at most 4,096 bytes. Judged where namespaces make the flows.
+    #[error("bad namespace")]
+    BadNamespace(usize),
     /// 5: `requestReceivedTimestamp` is not the text of an instant from 1970 on, or it is absent.
     #[error("bad requestReceivedTimestamp")]
     BadReceived(usize),
@@ -36,9 +39,10 @@ pub enum AuditFault {
     /// 8: the run is below 0, or above 10,000,000,000 microseconds.
     #[error("bad run")]
     BadRun(usize),
-    /// 9: so many requests, more than 10,000.
-    #[error("too many requests: {0}")]
-    TooMany(usize),
+    /// 9: so many requests are chosen, more than 10,000. They were received from the first of these instants to the last,
+    /// both in microseconds from 1970 on.
+    #[error("too many requests: {count}")]
+    TooMany { count: usize, first: u64, last: u64 },
     /// 10: the request arrives more than 1,000,000,000,000 microseconds after the earliest one.
     #[error("arrives too late")]
     BadArrival(usize),
@@ -48,7 +52,7 @@ pub enum AuditFault {
 }
 
 impl AuditFault {
-    /// The fault's number, 1 to 11.
+    /// The fault's number, 1 to 12.
     pub fn number(&self) -> u8
         ensures { result ≡ audit_fault_number self.now }
     {
@@ -61,8 +65,9 @@ impl AuditFault {
             AuditFault::BadStage(_) => 6,
             AuditFault::BadWait(_) => 7,
             AuditFault::BadRun(_) => 8,
-            AuditFault::TooMany(_) => 9,
+            AuditFault::TooMany { .. } => 9,
             AuditFault::BadArrival(_) => 10,
+            AuditFault::BadNamespace(_) => 12,
             AuditFault::NoMemory => 11,
         }
     }
@@ -76,12 +81,13 @@ impl AuditFault {
             | AuditFault::NotUtf8Json(line)
             | AuditFault::NotEvent(line)
             | AuditFault::BadUser(line)
+            | AuditFault::BadNamespace(line)
             | AuditFault::BadReceived(line)
             | AuditFault::BadStage(line)
             | AuditFault::BadWait(line)
             | AuditFault::BadRun(line)
             | AuditFault::BadArrival(line) => Some(line),
-            AuditFault::TooMany(_) | AuditFault::NoMemory => None,
+            AuditFault::TooMany { .. } | AuditFault::NoMemory => None,
         }
     }
 }

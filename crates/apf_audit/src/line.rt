@@ -6,6 +6,7 @@ ghost use Rattle.apf_traces.specs.TraceFile.{value_of as value_of_bytes};
 ghost use Rattle.apf_audit.specs.AuditEvent.{event, IsInRangeIfTaken};
 ghost use Rattle.apf_audit.specs.AuditLog.{judged_line, is_cut};
 
+use crate::choice::Choice;
 use crate::event::{Taken, event_of_value};
 use crate::fault::AuditFault;
 use apf_traces::first_line;
@@ -28,26 +29,27 @@ fn value_of(alloc: Global, bytes: &[u8], line: usize) -> Result<Value, AuditFaul
     }
 }
 
-/// What is taken of line `line`, whose bytes come without their LF, or none where its event is not taken.
+/// What is taken of line `line`, whose bytes come without their LF, or none where its event is not taken or not chosen.
 ///
 /// `is_ended` says whether an LF ends the line. Where none does, and the line is no JSON text, nothing is taken of it.
 #[tactic(auto, unfolding(crate::specs::AuditLog::judged_line))]
 pub(crate) fn taken_of_line(
     alloc: Global,
+    choice: &Choice<'_>,
     bytes: &[u8],
     is_ended: bool,
     line: usize,
 ) -> Result<Option<Taken>, AuditFault>
-    ensures ok { IfOk result (λ taken. judged_line line (record { bytes = bytes.now; is_ended = is_ended }) ≡ Ok (option_map event taken)) }
+    ensures ok { IfOk result (λ taken. judged_line choice.now line (record { bytes = bytes.now; is_ended = is_ended }) ≡ Ok (option_map event taken)) }
     ensures ranges { IfOk result IsInRangeIfTaken }
     ensures err { IfErr result (λ fault. fault ≢ AuditFault.NoMemory
-        → judged_line line (record { bytes = bytes.now; is_ended = is_ended }) ≡ Err fault) }
+        → judged_line choice.now line (record { bytes = bytes.now; is_ended = is_ended }) ≡ Err fault) }
 {
     if bytes.len() > MAX_LINE {
         return Err(AuditFault::TooLong(line));
     }
     match value_of(alloc, bytes, line) {
-        Ok(value) => event_of_value(alloc, &value, line),
+        Ok(value) => event_of_value(alloc, choice, &value, line),
         Err(AuditFault::NotUtf8Json(_)) if !is_ended => Ok(None),
         Err(fault) => Err(fault),
     }

@@ -19,9 +19,10 @@ fn natural(value: i64) -> Option<u64>
     u64::try_from(value).ok()
 }
 
-/// The whole microseconds from 1970 on of the instant that a text says.
+/// The whole microseconds from 1970 on of the instant that a text says, as RFC 3339 and RFC 9557 have instants. `None` for
+/// another text, and for an instant before 1970.
 #[tactic(auto, unfolding(crate::specs::Times::instant_of))]
-pub(crate) fn instant_of(text: &str) -> Option<u64>
+pub fn read_instant(text: &str) -> Option<u64>
     ensures { result ≡ spec.instant_of text.now }
 {
     match text.parse::<Timestamp>() {

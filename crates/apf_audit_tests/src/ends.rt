@@ -1,7 +1,10 @@
-use crate::logs::{ALICE, PLAIN, line, request};
-use apf_audit::{AuditFault, AuditRequest, read_audit_log};
+use crate::logs::{ALICE, PLAIN, line, read, request};
+use apf_audit::{AuditFault, AuditRequest};
 use std::alloc::Global;
 use std::test::Fail;
+
+// 2026-11-25T12:00:00Z, in microseconds from 1970 on.
+const NOON: u64 = 1_795_608_000_000_000;
 
 // A log of `count` events of no time.
 fn plain_lines(alloc: Global, count: u32) -> Result<String, Fail> {
@@ -48,7 +51,7 @@ fn line_at(alloc: Global, instant: &str) -> Result<String, Fail> {
 fn ten_thousand_requests(rt: HostRuntime) -> Result<(), Fail> {
     let mut text = plain_lines(rt.alloc(), 10_000)?;
     text.push_str("{\"stage\":\"Panic\",\"verb\":\"get\"}\n")?;
-    let requests = read_audit_log(rt.alloc(), text.as_bytes())?;
+    let requests = read(rt.alloc(), text.as_bytes())?;
     assert_eq!(rt; requests.len(), 10_000);
     assert_eq!(rt; requests.as_slice().first().map(|one| one.line), Some(1));
     assert_eq!(rt;
@@ -60,9 +63,18 @@ fn ten_thousand_requests(rt: HostRuntime) -> Result<(), Fail> {
 
 #[test]
 fn more_requests(rt: HostRuntime) -> Result<(), Fail> {
-    let text = plain_lines(rt.alloc(), 10_002)?;
-    let fault = read_audit_log(rt.alloc(), text.as_bytes()).err();
-    assert_eq!(rt; fault, Some(AuditFault::TooMany(10_002)));
+    let mut text = plain_lines(rt.alloc(), 10_000)?;
+    text.push_str(line_at(rt.alloc(), "2026-11-25T12:00:01.5Z")?.as_str())?;
+    text.push_str(line_at(rt.alloc(), "2026-11-25T11:59:59Z")?.as_str())?;
+    let fault = read(rt.alloc(), text.as_bytes()).err();
+    assert_eq!(rt;
+        fault,
+        Some(AuditFault::TooMany {
+            count: 10_002,
+            first: NOON - 1_000_000,
+            last: NOON + 1_500_000,
+        })
+    );
     Ok(())
 }
 
@@ -70,7 +82,7 @@ fn more_requests(rt: HostRuntime) -> Result<(), Fail> {
 fn a_fault_of_a_line_before_more_requests(rt: HostRuntime) -> Result<(), Fail> {
     let mut text = plain_lines(rt.alloc(), 10_001)?;
     text.push_str("{}\n")?;
-    let fault = read_audit_log(rt.alloc(), text.as_bytes()).err();
+    let fault = read(rt.alloc(), text.as_bytes()).err();
     assert_eq!(rt; fault, Some(AuditFault::NotEvent(10_002)));
     Ok(())
 }
@@ -80,11 +92,11 @@ fn the_widest_name(rt: HostRuntime) -> Result<(), Fail> {
     let name = wide_name(rt.alloc(), 4096)?;
     let text = line_of_user(rt.alloc(), name.as_str())?;
     let wanted: [AuditRequest; 1] = [request(rt.alloc(), 1, name.as_str(), 0, 0)?];
-    let requests = read_audit_log(rt.alloc(), text.as_bytes())?;
+    let requests = read(rt.alloc(), text.as_bytes())?;
     assert_eq!(rt; requests.as_slice(), wanted.as_slice());
     let wider = wide_name(rt.alloc(), 4097)?;
     let wide = line_of_user(rt.alloc(), wider.as_str())?;
-    let fault = read_audit_log(rt.alloc(), wide.as_bytes()).err();
+    let fault = read(rt.alloc(), wide.as_bytes()).err();
     assert_eq!(rt; fault, Some(AuditFault::BadUser(1)));
     Ok(())
 }
@@ -93,7 +105,7 @@ fn the_widest_name(rt: HostRuntime) -> Result<(), Fail> {
 fn the_longest_run(rt: HostRuntime) -> Result<(), Fail> {
     let text = line(rt.alloc(), "12:00:00", "14:46:40", "")?;
     let wanted: [AuditRequest; 1] = [request(rt.alloc(), 1, "alice", 0, 10_000_000_000)?];
-    let requests = read_audit_log(rt.alloc(), text.as_bytes())?;
+    let requests = read(rt.alloc(), text.as_bytes())?;
     assert_eq!(rt; requests.as_slice(), wanted.as_slice());
     Ok(())
 }
@@ -103,7 +115,7 @@ fn the_longest_run(rt: HostRuntime) -> Result<(), Fail> {
 fn the_latest_arrival(rt: HostRuntime) -> Result<(), Fail> {
     let mut text = line_at(rt.alloc(), "2026-12-07T01:46:40Z")?;
     text.push_str(line_at(rt.alloc(), "2026-11-25T12:00:00Z")?.as_str())?;
-    let requests = read_audit_log(rt.alloc(), text.as_bytes())?;
+    let requests = read(rt.alloc(), text.as_bytes())?;
     let wanted = [
         request(rt.alloc(), 2, "alice", 0, 0)?,
         request(rt.alloc(), 1, "alice", 1_000_000_000_000, 0)?,
@@ -111,7 +123,7 @@ fn the_latest_arrival(rt: HostRuntime) -> Result<(), Fail> {
     assert_eq!(rt; requests.as_slice(), wanted.as_slice());
     text.push_str(line_at(rt.alloc(), "2026-12-07T01:46:40.000001Z")?.as_str())?;
     text.push_str(line_at(rt.alloc(), "2027-01-01T00:00:00Z")?.as_str())?;
-    let fault = read_audit_log(rt.alloc(), text.as_bytes()).err();
+    let fault = read(rt.alloc(), text.as_bytes()).err();
     assert_eq!(rt; fault, Some(AuditFault::BadArrival(3)));
     Ok(())
 }

@@ -1,5 +1,5 @@
-use crate::logs::{ALICE, PLAIN, line};
-use apf_audit::{AuditFault, ends_early, read_audit_log};
+use crate::logs::{ALICE, PLAIN, line, read};
+use apf_audit::{AuditFault, ends_early};
 use std::test::Fail;
 
 #[test]
@@ -18,6 +18,7 @@ fn numbers_and_texts(rt: HostRuntime) -> Result<(), Fail> {
         (AuditFault::BadWait(7), 7, "bad apf-queue-wait"),
         (AuditFault::BadRun(7), 8, "bad run"),
         (AuditFault::BadArrival(7), 10, "arrives too late"),
+        (AuditFault::BadNamespace(7), 12, "bad namespace"),
     ] {
         assert_eq!(rt; fault.number(), number);
         assert_eq!(rt; fault.to_string(rt.alloc())?.as_str(), said);
@@ -29,7 +30,15 @@ fn numbers_and_texts(rt: HostRuntime) -> Result<(), Fail> {
 #[test]
 fn faults_without_a_line(rt: HostRuntime) -> Result<(), Fail> {
     for (fault, number, said) in [
-        (AuditFault::TooMany(10_001), 9, "too many requests: 10001"),
+        (
+            AuditFault::TooMany {
+                count: 10_001,
+                first: 1,
+                last: 2,
+            },
+            9,
+            "too many requests: 10001",
+        ),
         (AuditFault::NoMemory, 11, "out of memory"),
     ] {
         assert_eq!(rt; fault.number(), number);
@@ -58,11 +67,7 @@ fn last_line_without_an_end(rt: HostRuntime) -> Result<(), Fail> {
             is_left_out,
             "at {last}"
         );
-        assert_eq!(rt;
-            read_audit_log(alloc, text.as_bytes()).err(),
-            fault,
-            "at {last}"
-        );
+        assert_eq!(rt; read(alloc, text.as_bytes()).err(), fault, "at {last}");
     }
     Ok(())
 }
@@ -73,7 +78,7 @@ fn no_json_before_the_last_line(rt: HostRuntime) -> Result<(), Fail> {
     let bytes = b"{\n{";
     assert_eq!(rt; ends_early(rt.alloc(), bytes.as_slice())?, true);
     assert_eq!(rt;
-        read_audit_log(rt.alloc(), bytes.as_slice()).err(),
+        read(rt.alloc(), bytes.as_slice()).err(),
         Some(AuditFault::NotUtf8Json(1))
     );
     Ok(())
@@ -91,10 +96,10 @@ fn no_json(rt: HostRuntime) -> Result<(), Fail> {
         "# a comment\n",
         "{\"stage\":\"\\ud800\",\"verb\":\"get\"}\n",
     ] {
-        let fault = read_audit_log(rt.alloc(), text.as_bytes()).err();
+        let fault = read(rt.alloc(), text.as_bytes()).err();
         assert_eq!(rt; fault, Some(AuditFault::NotUtf8Json(1)), "at {text}");
     }
-    let fault = read_audit_log(rt.alloc(), [255u8, 10].as_slice()).err();
+    let fault = read(rt.alloc(), [255u8, 10].as_slice()).err();
     assert_eq!(rt; fault, Some(AuditFault::NotUtf8Json(1)));
     Ok(())
 }
@@ -113,7 +118,7 @@ fn no_event(rt: HostRuntime) -> Result<(), Fail> {
         "{\"Stage\":\"Panic\",\"verb\":\"get\"}\n",
         "[{\"stage\":\"Panic\",\"verb\":\"get\"}]\n",
     ] {
-        let fault = read_audit_log(rt.alloc(), text.as_bytes()).err();
+        let fault = read(rt.alloc(), text.as_bytes()).err();
         assert_eq!(rt; fault, Some(AuditFault::NotEvent(1)), "at {text}");
     }
     Ok(())
@@ -129,7 +134,7 @@ fn bad_names(rt: HostRuntime) -> Result<(), Fail> {
         ",\"user\":{\"username\":7},\"stageTimestamp\":7",
     ] {
         let text = line(rt.alloc(), "12:00:00", "12:00:00", members)?;
-        let fault = read_audit_log(rt.alloc(), text.as_bytes()).err();
+        let fault = read(rt.alloc(), text.as_bytes()).err();
         assert_eq!(rt; fault, Some(AuditFault::BadUser(1)), "at {members}");
     }
     Ok(())
@@ -157,7 +162,7 @@ fn bad_instants(rt: HostRuntime) -> Result<(), Fail> {
                 members.push_str(part)?;
             }
             let text = line(rt.alloc(), "12:00:00", "12:00:00", members.as_str())?;
-            let found = read_audit_log(rt.alloc(), text.as_bytes()).err();
+            let found = read(rt.alloc(), text.as_bytes()).err();
             assert_eq!(rt; found, Some(fault), "at {members}");
         }
     }
@@ -175,7 +180,7 @@ fn times_that_are_absent(rt: HostRuntime) -> Result<(), Fail> {
     ] {
         let mut text = String::from_str(rt.alloc(), ALICE)?;
         text.push_str(members)?;
-        let found = read_audit_log(rt.alloc(), text.as_bytes()).err();
+        let found = read(rt.alloc(), text.as_bytes()).err();
         assert_eq!(rt; found, Some(fault), "at {members}");
     }
     Ok(())
@@ -201,7 +206,7 @@ fn bad_waits(rt: HostRuntime) -> Result<(), Fail> {
         members.push_str(wait)?;
         members.push_str("}")?;
         let text = line(rt.alloc(), "12:00:01", "12:00:00", members.as_str())?;
-        let fault = read_audit_log(rt.alloc(), text.as_bytes()).err();
+        let fault = read(rt.alloc(), text.as_bytes()).err();
         assert_eq!(rt; fault, Some(AuditFault::BadWait(1)), "at {wait}");
     }
     Ok(())
@@ -220,7 +225,7 @@ fn bad_runs(rt: HostRuntime) -> Result<(), Fail> {
         ),
     ] {
         let text = line(rt.alloc(), received, completed, members)?;
-        let fault = read_audit_log(rt.alloc(), text.as_bytes()).err();
+        let fault = read(rt.alloc(), text.as_bytes()).err();
         assert_eq!(rt; fault, Some(AuditFault::BadRun(1)), "at {completed}");
     }
     Ok(())
@@ -232,7 +237,7 @@ fn the_first_line_with_a_fault(rt: HostRuntime) -> Result<(), Fail> {
     text.push_str("{\"stage\":\"Panic\",\"verb\":\"get\"}\n")?;
     text.push_str(line(rt.alloc(), "12:00:01", "12:00:00", "")?.as_str())?;
     text.push_str("{}\n\n{")?;
-    let fault = read_audit_log(rt.alloc(), text.as_bytes()).err();
+    let fault = read(rt.alloc(), text.as_bytes()).err();
     assert_eq!(rt; fault, Some(AuditFault::BadRun(3)));
     Ok(())
 }

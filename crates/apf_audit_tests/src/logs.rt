@@ -1,8 +1,21 @@
 //! What the tests write logs of.
 
-use apf_audit::AuditRequest;
+use apf_audit::{AuditFault, AuditRequest, By, Choice, read_audit_log};
 use std::alloc::Global;
 use std::test::Fail;
+
+/// Every request, each a flow by its user.
+pub const EVERY: Choice<'static> = Choice {
+    by: By::User,
+    user: None,
+    since: None,
+    until: None,
+};
+
+/// The requests of a log, all of them.
+pub fn read(alloc: Global, bytes: &[u8]) -> Result<Vec<AuditRequest>, AuditFault> {
+    read_audit_log(alloc, bytes, &EVERY)
+}
 
 /// The front of an event that is taken, up to the time at which its request was received.
 pub const ALICE: &str =
@@ -40,6 +53,7 @@ pub fn request(
     Ok(AuditRequest {
         line,
         arrives_at,
+        turned_away: false,
         runs_for,
         distinguisher: String::from_str(alloc, user)?,
     })

@@ -1,12 +1,11 @@
-use crate::logs::{ALICE, line, request};
-use apf_audit::read_audit_log;
+use crate::logs::{ALICE, line, read, request};
 use std::test::Fail;
 
 const WAIT: &str = ",\"annotations\":{\"apiserver.latency.k8s.io/apf-queue-wait\":\"";
 
 #[test]
 fn an_empty_log(rt: HostRuntime) -> Result<(), Fail> {
-    assert!(rt; read_audit_log(rt.alloc(), b"")?.is_empty());
+    assert!(rt; read(rt.alloc(), b"")?.is_empty());
     Ok(())
 }
 
@@ -29,7 +28,7 @@ fn the_order_of_arrivals(rt: HostRuntime) -> Result<(), Fail> {
         request(rt.alloc(), 2, "alice", 1_499_750, 1_500_000)?,
         request(rt.alloc(), 6, "alice", 1_499_750, 7)?,
     ];
-    let requests = read_audit_log(rt.alloc(), text.as_bytes())?;
+    let requests = read(rt.alloc(), text.as_bytes())?;
     assert_eq!(rt; requests.as_slice(), wanted.as_slice());
     Ok(())
 }
@@ -54,7 +53,7 @@ fn which_events_are_taken(rt: HostRuntime) -> Result<(), Fail> {
         (",\"stage\":\"\",\"user\":null,\"stageTimestamp\":7", false),
     ] {
         let text = line(rt.alloc(), "12:00:00", "12:00:00", members)?;
-        let requests = read_audit_log(rt.alloc(), text.as_bytes())?;
+        let requests = read(rt.alloc(), text.as_bytes())?;
         assert_eq!(rt; requests.len() == 1, is_taken, "at {members}");
     }
     Ok(())
@@ -78,7 +77,7 @@ fn waits(rt: HostRuntime) -> Result<(), Fail> {
         members.push_str(wait)?;
         members.push_str("\"}")?;
         let text = line(rt.alloc(), "12:00:00", "13:56:40", members.as_str())?;
-        let requests = read_audit_log(rt.alloc(), text.as_bytes())?;
+        let requests = read(rt.alloc(), text.as_bytes())?;
         let wanted = [request(rt.alloc(), 1, "alice", 0, runs_for)?];
         assert_eq!(rt; requests.as_slice(), wanted.as_slice(), "at {wait}");
     }
@@ -95,7 +94,7 @@ fn annotations_without_a_wait(rt: HostRuntime) -> Result<(), Fail> {
         ",\"apiserver.latency.k8s.io/apf-queue-wait\":\"1s\"",
     ] {
         let text = line(rt.alloc(), "12:00:00", "12:00:07", members)?;
-        let requests = read_audit_log(rt.alloc(), text.as_bytes())?;
+        let requests = read(rt.alloc(), text.as_bytes())?;
         let wanted = [request(rt.alloc(), 1, "alice", 0, 7_000_000)?];
         assert_eq!(rt; requests.as_slice(), wanted.as_slice(), "at {members}");
     }
@@ -124,7 +123,7 @@ fn instants(rt: HostRuntime) -> Result<(), Fail> {
         ] {
             text.push_str(part)?;
         }
-        let requests = read_audit_log(rt.alloc(), text.as_bytes())?;
+        let requests = read(rt.alloc(), text.as_bytes())?;
         let wanted = [
             request(rt.alloc(), 1, "alice", 0, 0)?,
             request(rt.alloc(), 2, "alice", 86_400_000_000, 0)?,
@@ -139,7 +138,7 @@ fn instants(rt: HostRuntime) -> Result<(), Fail> {
 fn names_as_escapes(rt: HostRuntime) -> Result<(), Fail> {
     let members = ",\"user\":{\"username\":7,\"usern\\u0061me\":\"\\u00e9\\n\\ud83d\\uDE00\"}";
     let text = line(rt.alloc(), "12:00:00", "12:00:01", members)?;
-    let requests = read_audit_log(rt.alloc(), text.as_bytes())?;
+    let requests = read(rt.alloc(), text.as_bytes())?;
     let wanted = [request(rt.alloc(), 1, "é\n\u{1f600}", 0, 1_000_000)?];
     assert_eq!(rt; requests.as_slice(), wanted.as_slice());
     Ok(())

@@ -18,9 +18,9 @@ some_workers name rows (Timeline config trace patience) is = tt
 some_workers name rows (Compare config other trace patience) is = tt
 some_workers name rows (Fates config trace patience) is = tt
 some_workers name rows (Requests trace) is = tt
-some_workers name rows (Hands config trace) is = tt
+some_workers name rows (Hands config trace flow) is = tt
 some_workers name rows (Picture config trace patience) is = tt
-some_workers name rows (Trace log schema) is = tt
+some_workers name rows (Trace log schema chosen) is = tt
 
 pub has_workers : (words : List Text) (action : Action) → IsActionOf words action → HasWorkers action
 has_workers words action is = some_workers is.0 is.1.0 action is.1.2

@@ -17,6 +17,22 @@ pub enum Sizes {
     OfConfig,
 }
 
+/// A bound of the instants at which chosen requests were received.
+#[derive(Clone, Copy, Debug, PartialEq, Eq)]
+pub enum Bound {
+    Since,
+    Until,
+}
+
+impl fmt::Display for Bound {
+    fn fmt<W: fmt::Write>(&self, f: &mut fmt::Formatter<W>) -> fmt::Result {
+        f.write_str(match self {
+            Bound::Since => "--since",
+            Bound::Until => "--until",
+        })
+    }
+}
+
 /// Why a command did not end well.
 #[derive(Debug, PartialEq, Eq, Drop)]
 pub enum Fault {
@@ -31,6 +47,10 @@ pub enum Fault {
     LongSchema,
     /// The patience is no time, or more than 1,000 seconds.
     BadPatience,
+    /// What makes a flow is neither `user` nor `namespace`.
+    BadBy,
+    /// The bound of the choice is no instant from 1970 on.
+    BadInstant(Bound),
     /// The level was not opened, for another cause than the dealer's. What the readers accept has none.
     Level(ReplayFault),
     CannotRead(Input, Cause),
@@ -54,7 +74,9 @@ impl Fault {
             Fault::Dealer(_, Sizes::OfCommandLine)
             | Fault::TwoInputs
             | Fault::LongSchema
-            | Fault::BadPatience => 2,
+            | Fault::BadPatience
+            | Fault::BadBy
+            | Fault::BadInstant(_) => 2,
             Fault::Worker(_) | Fault::NoMemory => 3,
             Fault::Dealer(_, Sizes::OfConfig)
             | Fault::Config(_)
@@ -202,6 +224,11 @@ impl fmt::Display for Fault {
             Fault::LongSchema => f.write_str("apf: SCHEMA is longer than 4096 bytes"),
             Fault::BadPatience => f.write_str(
                 "apf: PATIENCE must be a whole number, alone or with us, ms or s behind it, of at most 1000000000 microseconds",
+            ),
+            Fault::BadBy => f.write_str("apf: --by must be user or namespace"),
+            Fault::BadInstant(bound) => write!(
+                f,
+                "apf: {bound} must be an instant from 1970 on, as 2026-01-31T12:00:00Z"
             ),
             Fault::Level(fault) => write!(f, "apf: the level can't be opened: {fault}"),
             Fault::CannotRead(input, _) => write!(f, "apf: cannot read {input}"),

@@ -21,6 +21,6 @@ mod program;
 mod telling;
 mod traces;
 
-pub use apf_commands::{Action, read_patience, read_words};
+pub use apf_commands::{Action, Chosen, read_patience, read_words};
 pub use files::{Cause, FileFault, Files};
 pub use program::act;

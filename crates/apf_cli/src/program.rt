@@ -171,8 +171,16 @@ fn perform<F: Files, O: Write, E: Write, R: Wait + Threads + Sync>(
             trace,
             patience,
         } => print_picture(rt, alloc, files, (config, trace), patience, out)?,
-        Action::Hands { config, trace } => print_hands(alloc, files, (config, trace), out)?,
-        Action::Trace { log, schema } => print_trace(alloc, files, log, schema, out, err)?,
+        Action::Hands {
+            config,
+            trace,
+            flow,
+        } => print_hands(alloc, files, (config, trace), flow, out)?,
+        Action::Trace {
+            log,
+            schema,
+            chosen,
+        } => print_trace(alloc, files, (log, schema), &chosen, out, err)?,
     }
     out.flush().map_err(|_| Fault::CannotWrite)
 }

@@ -9,7 +9,7 @@ use crate::files::{Files, Input, judge_names, read_input};
 use crate::measuring::Measure;
 use crate::telling::{named, trace_fault};
 use apf_commands::read_patience;
-use apf_flows::{write_hands, write_requests};
+use apf_flows::{write_hands, write_hands_of, write_requests};
 use apf_run::{Config, read_config, write_book};
 use apf_simulation::{Simulation, simulate};
 use apf_traces::{TraceRequest, read_trace};
@@ -147,7 +147,7 @@ pub(crate) fn print_requests<F: Files, O: Write>(
     write_requests(trace.as_slice(), out).map_err(|_| Fault::CannotWrite)
 }
 
-/// Prints the hands of the trace's flows on the level of the config.
+/// Prints the hands of the trace's flows on the level of the config, or of those of one distinguisher.
 ///
 /// # Errors
 ///
@@ -156,8 +156,12 @@ pub(crate) fn print_hands<F: Files, O: Write>(
     alloc: Global,
     files: &mut F,
     names: (&str, &str),
+    flow: Option<&str>,
     out: &mut O,
 ) -> Result<(), Fault> {
     let (config, trace) = read_both(alloc, files, names)?;
-    Ok(write_hands(alloc, &config, trace.as_slice(), out)?)
+    match flow {
+        Some(name) => Ok(write_hands_of(alloc, &config, trace.as_slice(), name, out)?),
+        None => Ok(write_hands(alloc, &config, trace.as_slice(), out)?),
+    }
 }

@@ -1,4 +1,4 @@
-use apf_cli::{Action, read_patience, read_words};
+use apf_cli::{Action, Chosen, read_patience, read_words};
 use clap::Error;
 use clap::error::ErrorKind;
 use std::alloc::Global;
@@ -93,7 +93,13 @@ fn reads_texts(rt: HostRuntime) -> Result<(), Fail> {
         trace,
         Action::Trace {
             log: "l",
-            schema: "s"
+            schema: "s",
+            chosen: Chosen {
+                by: None,
+                user: None,
+                since: None,
+                until: None
+            }
         }
     );
     let picture = read_words(alloc, &["apf", "picture", "c", "t", "7s"])?;
@@ -110,10 +116,91 @@ fn reads_texts(rt: HostRuntime) -> Result<(), Fail> {
         hands,
         Action::Hands {
             config: "c",
-            trace: "t"
+            trace: "t",
+            flow: None
         }
     );
     Ok(())
+}
+
+// Options stand before, among and behind the other words, each with its text as the next word or behind `=`.
+#[test]
+fn reads_options(rt: HostRuntime) -> Result<(), Fail> {
+    let alloc = rt.alloc();
+    let words = [
+        "apf",
+        "trace",
+        "--by",
+        "b",
+        "l",
+        "--user=u*",
+        "s",
+        "--until",
+        "",
+        "--since",
+        "f",
+    ];
+    let trace = read_words(alloc, &words)?;
+    assert_eq!(rt;
+        trace,
+        Action::Trace {
+            log: "l",
+            schema: "s",
+            chosen: Chosen {
+                by: Some("b"),
+                user: Some("u*"),
+                since: Some("f"),
+                until: Some("")
+            }
+        }
+    );
+    let hands = read_words(alloc, &["apf", "hands", "--flow", "f", "c", "t"])?;
+    assert_eq!(rt;
+        hands,
+        Action::Hands {
+            config: "c",
+            trace: "t",
+            flow: Some("f")
+        }
+    );
+    Ok(())
+}
+
+#[test]
+fn refuses_other_options(rt: HostRuntime) {
+    let rows: [(&[&str], ErrorKind); 7] = [
+        (
+            &["apf", "trace", "l", "s", "--since"],
+            ErrorKind::InvalidValue,
+        ),
+        (
+            &["apf", "trace", "l", "s", "--user", "a", "--user", "a"],
+            ErrorKind::ArgumentConflict,
+        ),
+        (
+            &["apf", "trace", "l", "s", "--flow", "a"],
+            ErrorKind::UnknownArgument,
+        ),
+        (
+            &["apf", "trace", "l", "--by", "user"],
+            ErrorKind::MissingRequiredArgument,
+        ),
+        (
+            &["apf", "hands", "c", "t", "--flow"],
+            ErrorKind::InvalidValue,
+        ),
+        (
+            &["apf", "hands", "c", "t", "--user", "a"],
+            ErrorKind::UnknownArgument,
+        ),
+        (
+            &["apf", "simulate", "c", "t", "0", "--flow", "a"],
+            ErrorKind::UnknownArgument,
+        ),
+    ];
+    for (words, kind) in rows {
+        let _ = refused(&rt, rt.alloc(), words, kind);
+    }
 }
 
 #[test]

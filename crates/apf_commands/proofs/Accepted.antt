@@ -13,7 +13,7 @@ use Rattle.apf_commands.specs.Names.{text_of}
 use Rattle.apf_commands.specs.declared.names.CommandName.{CommandName}
 use Rattle.apf_commands.specs.declared.names.CommandName.TheVariants.{Hash, Deal, Replay, Run, Services, Waits, Explain, Simulate, Timeline, Compare, Fates, Requests, Picture, Hands, Trace}
 use Rattle.apf_commands.specs.Arguments.{HasArguments, HasAuditArguments, HasCompareArguments, HasDealArguments, HasHandsArguments, HasHashArguments, HasRequestsArguments, HasRunArguments, HasScriptArguments, HasSimulationArguments, IsCommand}
-use Rattle.apf_commands.proofs.Taken.{Each, MayStop, found, is_plain_rule, walk_holds}
+use Rattle.apf_commands.proofs.Taken.{Each, MayStop, OwnIds, found, is_plain_rule, walk_holds}
 use Rattle.apf_commands.proofs.Given.{all_given, level_parts, no_check, signed_reads, unsigned_reads}
 
 -- the program's commands have the form of which `clap` says what a parse gives, and when it fails
@@ -36,7 +36,7 @@ IsFaultFree s words = level_fault s [] nothing_held words false [] ≡ []
 hash_given : (words : List Text) → IsFaultFree (ready (shape_for Hash)) words → HasHashArguments (rows_after (ready (shape_for Hash)).rules [] words)
 unfolding apf_app shape_for
 hash_given words e =
-    let given = all_given (ready (shape_for Hash)) (record { rules = refl; defaults = refl; negates = refl }) words e in
+    let given = all_given (ready (shape_for Hash)) (record { rules = refl; own_ids = (refl, (refl, (refl, tt))); defaults = refl; negates = refl }) words e in
     let schema = given.0 refl refl in
     let distinguisher = given.1.0 refl refl in
     record { schema = (schema.text, schema.first); distinguisher = (distinguisher.text, distinguisher.first) }
@@ -44,7 +44,7 @@ hash_given words e =
 deal_given : (words : List Text) → IsFaultFree (ready (shape_for Deal)) words → HasDealArguments (rows_after (ready (shape_for Deal)).rules [] words)
 unfolding apf_app shape_for
 deal_given words e =
-    let given = all_given (ready (shape_for Deal)) (record { rules = refl; defaults = refl; negates = refl }) words e in
+    let given = all_given (ready (shape_for Deal)) (record { rules = refl; own_ids = (refl, (refl, (refl, (refl, tt)))); defaults = refl; negates = refl }) words e in
     let deck = given.0 refl refl in
     let hand = given.1.0 refl refl in
     let hash = given.1.1.0 refl refl in
@@ -60,7 +60,7 @@ deal_given words e =
 run_given : (words : List Text) → IsFaultFree (ready (shape_for Run)) words → HasRunArguments (rows_after (ready (shape_for Run)).rules [] words)
 unfolding apf_app shape_for
 run_given words e =
-    let given = all_given (ready (shape_for Run)) (record { rules = refl; defaults = refl; negates = refl }) words e in
+    let given = all_given (ready (shape_for Run)) (record { rules = refl; own_ids = (refl, (refl, (refl, (refl, tt)))); defaults = refl; negates = refl }) words e in
     let config = given.0 refl refl in
     let requests = given.1.0 refl refl in
     let workers = given.1.1.0 refl refl in
@@ -74,14 +74,14 @@ run_given words e =
 requests_given : (words : List Text) → IsFaultFree (ready (shape_for Requests)) words → HasRequestsArguments (rows_after (ready (shape_for Requests)).rules [] words)
 unfolding apf_app shape_for
 requests_given words e =
-    let given = all_given (ready (shape_for Requests)) (record { rules = refl; defaults = refl; negates = refl }) words e in
+    let given = all_given (ready (shape_for Requests)) (record { rules = refl; own_ids = (refl, (refl, tt)); defaults = refl; negates = refl }) words e in
     let trace = given.0 refl refl in
     record { trace = (trace.text, trace.first) }
 
 hands_given : (words : List Text) → IsFaultFree (ready (shape_for Hands)) words → HasHandsArguments (rows_after (ready (shape_for Hands)).rules [] words)
 unfolding apf_app shape_for
 hands_given words e =
-    let given = all_given (ready (shape_for Hands)) (record { rules = refl; defaults = refl; negates = refl }) words e in
+    let given = all_given (ready (shape_for Hands)) (record { rules = refl; own_ids = (refl, (refl, (refl, (refl, tt)))); defaults = refl; negates = refl }) words e in
     let config = given.0 refl refl in
     let trace = given.1.0 refl refl in
     record { config = (config.text, config.first); trace = (trace.text, trace.first) }
@@ -89,7 +89,7 @@ hands_given words e =
 trace_given : (words : List Text) → IsFaultFree (ready (shape_for Trace)) words → HasAuditArguments (rows_after (ready (shape_for Trace)).rules [] words)
 unfolding apf_app shape_for
 trace_given words e =
-    let given = all_given (ready (shape_for Trace)) (record { rules = refl; defaults = refl; negates = refl }) words e in
+    let given = all_given (ready (shape_for Trace)) (record { rules = refl; own_ids = (refl, (refl, (refl, (refl, (refl, (refl, (refl, tt))))))); defaults = refl; negates = refl }) words e in
     let log = given.0 refl refl in
     let schema = given.1.0 refl refl in
     record { log = (log.text, log.first); schema = (schema.text, schema.first) }
@@ -97,7 +97,7 @@ trace_given words e =
 script_given : (name : Text) (words : List Text) → IsFaultFree (ready (command_shape name script_rules)) words → HasScriptArguments (rows_after (ready (command_shape name script_rules)).rules [] words)
 unfolding apf_app
 script_given name words e =
-    let given = all_given (ready (command_shape name script_rules)) (record { rules = refl; defaults = refl; negates = refl }) words e in
+    let given = all_given (ready (command_shape name script_rules)) (record { rules = refl; own_ids = (refl, (refl, (refl, (refl, tt)))); defaults = refl; negates = refl }) words e in
     let config = given.0 refl refl in
     let requests = given.1.0 refl refl in
     let script = given.1.1.0 refl refl in
@@ -106,7 +106,7 @@ script_given name words e =
 simulation_given : (name : Text) (words : List Text) → IsFaultFree (ready (command_shape name simulation_rules)) words → HasSimulationArguments (rows_after (ready (command_shape name simulation_rules)).rules [] words)
 unfolding apf_app
 simulation_given name words e =
-    let given = all_given (ready (command_shape name simulation_rules)) (record { rules = refl; defaults = refl; negates = refl }) words e in
+    let given = all_given (ready (command_shape name simulation_rules)) (record { rules = refl; own_ids = (refl, (refl, (refl, (refl, tt)))); defaults = refl; negates = refl }) words e in
     let config = given.0 refl refl in
     let trace = given.1.0 refl refl in
     let patience = given.1.1.0 refl refl in
@@ -115,7 +115,7 @@ simulation_given name words e =
 compare_given : (words : List Text) → IsFaultFree (ready (shape_for Compare)) words → HasCompareArguments (rows_after (ready (shape_for Compare)).rules [] words)
 unfolding apf_app shape_for
 compare_given words e =
-    let given = all_given (ready (shape_for Compare)) (record { rules = refl; defaults = refl; negates = refl }) words e in
+    let given = all_given (ready (shape_for Compare)) (record { rules = refl; own_ids = (refl, (refl, (refl, (refl, (refl, tt))))); defaults = refl; negates = refl }) words e in
     let config = given.0 refl refl in
     let other = given.1.0 refl refl in
     let trace = given.1.1.0 refl refl in
@@ -182,6 +182,10 @@ top_rules : list_all is_plain_rule (built apf_app).top.rules ≡ true
 unfolding apf_app shape_for
 top_rules = refl
 
+top_own_ids : OwnIds (built apf_app).top.rules
+unfolding apf_app shape_for
+top_own_ids = (refl, (refl, tt))
+
 top_wants_command : (built apf_app).top.subcommand_required ≡ true
 unfolding apf_app shape_for
 top_wants_command = refl
@@ -214,6 +218,6 @@ command_of words e =
     let rest = argument_words apf_app words in
     let stop = (walk b.top.rules (names_of b) nothing_held rest).stopped in
     let parts = level_parts b.top (names_of b) rest (is_some (entered b stop)) (entered_fault b stop) e in
-    let holds = walk_holds b.top top_rules (names_of b) rest (walk_from nothing_held) (record { rows = tt; stop = tt }) parts.walked in
+    let holds = walk_holds b.top top_rules top_own_ids (names_of b) rest (walk_from nothing_held) (record { rows = tt; stop = tt }) parts.walked in
     let some = wanted (is_some (entered b stop)) b.top.subcommand_required (no_check _ _ _ parts.check).0 top_wants_command in
     entered_at stop parts.below some holds.stop

@@ -1,5 +1,6 @@
 -- What a chain of `clap`'s builders makes.
 use Rattle.std.proofs.Common.{◌≡◌, ◌∙◌, ◌||◌, false, true, Option, Some, ap, ap₂, refl, Bor}
+use Rattle.clap.specs.declared.builder.texts.Texts.TheVariants.{One}
 use Rattle.clap.specs.declared.builder.value_parser.ValueParser.{ValueParser}
 use Rattle.clap.specs.Built.{AddsArg}
 use Rattle.clap.specs.Simple.{App, app_of, app_of_fields, on_top, with_rule}
@@ -62,6 +63,17 @@ pub text_made : (new required helped : Arg) {rule : Rule} {line : Bor Text} → 
 text_made new required helped rule_is local asks helps = (
   ap rule_of helps ∙ (ap rule_of asks ∙ ap (λ (r : Rule). record r { required = true }) rule_is),
   ap (λ a. a.global) helps ∙ (ap (λ a. a.global) asks ∙ local),
+)
+
+-- an option with a text, what help calls its value, and its line of help
+pub option_made : (new long named helped : Arg) {rule : Rule} {name value line : Bor Text} → rule_of new ≡ rule → new.global ≡ false
+    → long ≡ record new { long = Some name } → named ≡ record long { val_names = One value } → helped ≡ record named { help = Some line }
+    → (rule_of helped ≡ record rule { long = Some name.now; value_names = 1 }) × (helped.global ≡ false)
+option_made new long named helped {name = name} rule_is local longs names helps = (
+  ap rule_of helps
+      ∙ (ap rule_of names
+      ∙ (ap (λ (a : Arg). record (rule_of a) { value_names = 1 }) longs ∙ ap (λ (r : Rule). record r { long = Some name.now; value_names = 1 }) rule_is)),
+  ap (λ a. a.global) helps ∙ (ap (λ a. a.global) names ∙ (ap (λ a. a.global) longs ∙ local)),
 )
 
 -- the same with a parser

@@ -21,7 +21,7 @@ use Rattle.clap.specs.Faults.{check_fault, defaults_fault, level_fault, settle_f
 use Rattle.clap.proofs.SimpleLemmas.{is_nil}
 use Rattle.clap.proofs.ValueTestLemmas.{accepts-Accepts}
 use Rattle.clap.proofs.WalkLemmas.{both}
-use Rattle.apf_commands.proofs.Taken.{Each, Each-weaker, IsTaken, IsTakenBy, found, is_plain_rule, no_fault, settled_taken, some_kind, walk_holds}
+use Rattle.apf_commands.proofs.Taken.{Each, Each-weaker, IsTaken, IsTakenBy, OwnIds, found, is_plain_rule, no_fault, settled_taken, some_kind, walk_holds}
 
 -- ---- one level of the parse
 
@@ -65,9 +65,10 @@ no_defaults (a ∷ xs) rows e =
 
 -- ---- the arguments of a command
 
--- a command of positionals with one value each, and the flag that asks for help
+-- a command of positionals and options with one value each, and the flag that asks for help
 pub record IsPlainShape (s : Shape) : Type 0 where
   pub rules : list_all is_plain_rule s.rules ≡ true
+  pub own_ids : OwnIds s.rules
   pub defaults : list_all (λ a. is_empty a.defaults) s.rules ≡ true
   pub negates : s.subcommand_negates_reqs ≡ false
 
@@ -136,8 +137,8 @@ all_given s plain words e =
     let parts = level_parts s [] words false [] e in
     let end = (walk s.rules [] nothing_held words).held in
     let rows = finished s.rules end in
-    let walked = walk_holds s plain.rules [] words (walk_from nothing_held) (record { rows = tt; stop = tt }) parts.walked in
-    let held = settled_taken s.rules plain.rules s.args_override_self end parts.settle walked.rows in
+    let walked = walk_holds s plain.rules plain.own_ids [] words (walk_from nothing_held) (record { rows = tt; stop = tt }) parts.walked in
+    let held = settled_taken s.rules plain.rules plain.own_ids s.args_override_self end parts.settle walked.rows in
     let taken = subst (Each (IsTaken s.rules)) (sym (no_defaults s.rules (settled s.rules end).rows plain.defaults)) held in
     let none_missing = (no_check _ _ _ parts.check).1 in
     let nothing_missing : list_any (λ a. a.required && not (is_given a.id rows)) s.rules ≡ false = rw plain.negates at none_missing in

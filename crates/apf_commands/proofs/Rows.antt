@@ -1,5 +1,5 @@
 -- The definitions at words that are written out.
-use Rattle.std.proofs.Common.{◌≡◌, List, [], ◌∷◌, Option, Some, codes, option_map, refl}
+use Rattle.std.proofs.Common.{◌≡◌, List, [], ◌∷◌, Option, Some, None, codes, option_map, refl}
 use Rattle.clap.specs.Words.{Text, fault_of, first_of, one_of, subcommand_of}
 use Rattle.clap.specs.Kinds.{Kinds}
 use Rattle.clap.specs.declared.error.kind.ErrorKind.TheVariants as kind
@@ -30,6 +30,9 @@ record HasFaults : Type 0 where
   no_other : fault (codes "compare" ∷ codes "a" ∷ codes "b" ∷ codes "c" ∷ []) ≡ kind.MissingRequiredArgument ∷ []
   no_trace : fault (codes "requests" ∷ []) ≡ kind.MissingRequiredArgument ∷ []
   hands_patience : fault (codes "hands" ∷ codes "a" ∷ codes "b" ∷ codes "0" ∷ []) ≡ kind.UnknownArgument ∷ []
+  no_instant : fault (codes "trace" ∷ codes "a" ∷ codes "b" ∷ codes "--since" ∷ []) ≡ kind.InvalidValue ∷ []
+  two_users : fault (codes "trace" ∷ codes "a" ∷ codes "b" ∷ codes "--user=c" ∷ codes "--user=d" ∷ []) ≡ kind.ArgumentConflict ∷ []
+  other_option : fault (codes "hands" ∷ codes "a" ∷ codes "b" ∷ codes "--user" ∷ codes "c" ∷ []) ≡ kind.UnknownArgument ∷ []
   help : fault (codes "--help" ∷ []) ≡ kind.DisplayHelp ∷ []
   deal_help : fault (codes "deal" ∷ codes "--help" ∷ []) ≡ kind.DisplayHelp ∷ []
 
@@ -47,6 +50,9 @@ refused_rows = record {
   no_other = refl;
   no_trace = refl;
   hands_patience = refl;
+  no_instant = refl;
+  two_users = refl;
+  other_option = refl;
   help = refl;
   deal_help = refl;
 }
@@ -63,6 +69,11 @@ record IsAccepted : Type 0 where
   fates : text (codes "fates" ∷ codes "a" ∷ codes "b" ∷ codes "0" ∷ []) (codes "TRACE") ≡ Some (codes "fates", Some (codes "b"))
   other : text (codes "compare" ∷ codes "a" ∷ codes "b" ∷ codes "c" ∷ codes "0" ∷ []) (codes "OTHER") ≡ Some (codes "compare", Some (codes "b"))
   trace : text (codes "requests" ∷ codes "a" ∷ []) (codes "TRACE") ≡ Some (codes "requests", Some (codes "a"))
+  no_flow : text (codes "hands" ∷ codes "a" ∷ codes "b" ∷ []) (codes "flow") ≡ Some (codes "hands", None)
+  flow : text (codes "hands" ∷ codes "--flow" ∷ codes "c" ∷ codes "a" ∷ codes "b" ∷ []) (codes "flow") ≡ Some (codes "hands", Some (codes "c"))
+  user : text (codes "trace" ∷ codes "a" ∷ codes "b" ∷ codes "--user=c*" ∷ []) (codes "user") ≡ Some (codes "trace", Some (codes "c*"))
+  all_options : text (codes "trace" ∷ codes "a" ∷ codes "b" ∷ codes "--by" ∷ codes "user" ∷ codes "--user" ∷ codes "" ∷ codes "--since" ∷ codes "c" ∷ codes "--until" ∷ codes "d" ∷ [])
+      (codes "until") ≡ Some (codes "trace", Some (codes "d"))
   hands_trace : text (codes "hands" ∷ codes "a" ∷ codes "b" ∷ []) (codes "TRACE") ≡ Some (codes "hands", Some (codes "b"))
 
 accepted_rows : IsAccepted
@@ -79,5 +90,9 @@ accepted_rows = record {
   fates = refl;
   other = refl;
   trace = refl;
+  no_flow = refl;
+  flow = refl;
+  user = refl;
+  all_options = refl;
   hands_trace = refl;
 }

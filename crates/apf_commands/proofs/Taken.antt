@@ -1,5 +1,5 @@
 -- What a walk over words with no fault holds: each row has a value that its argument takes.
-use Rattle.std.proofs.Common.{◌≡◌, ◌∙◌, ◌==◌, ◌&&◌, ℕ, Bool, cond, true, false, not, zero, suc, refl, sym, ap, ap₂, subst, arith, List, [], ◌∷◌, ◌++◌, length, Option, Some, None, is_some, option_map, true≢false, codes}
+use Rattle.std.proofs.Common.{◌≡◌, ◌∙◌, ◌==◌, ◌&&◌, ◌||◌, ◌⊎◌, inl, inr, ℕ, Bool, cond, true, false, not, zero, suc, refl, sym, ap, ap₂, subst, arith, List, [], ◌∷◌, ◌++◌, length, Option, Some, None, is_some, option_map, true≢false, codes}
 use Rattle.std.specs.Prelude.{slice_get, encode_utf8, drop}
 use Rattle.std.specs.List.{find, fold, list_all}
 use Rattle.std.specs.Option.{option_map_or}
@@ -8,7 +8,7 @@ use Rattle.std.proofs.lemmas.Bool.{eqb-true}
 use Rattle.std.proofs.lemmas.Slice.Eq.{bytes_eq-Decides}
 use Rattle.clap.specs.Facts.{parser_of_value, unwrap_or_range}
 use Rattle.clap.specs.Lexer.{long_of, short_of}
-use Rattle.clap.specs.Walk.{Held, Names, Outcome, Row, Rule, Step, Text, Waiting, Walk, action_of, after_flag, after_step, arg_by_id, arg_by_index, arg_by_long, arg_by_short, at_row, attached_value, bundle, bundle_met, bundle_step, done, has_long, has_short, idle, is_pending, long_or_other, more_values, most_values, next, option, option_word, plain, plain_word, positional, reacted, reading_by, refused, settled, settled_rows, short_or_plain, subcommand, subcommand_met, subcommand_or_other, takes_several, takes_values, to_positional, trailing, used, used_by_id, value, values_or_missing, waits, walked, walked_from, with_values, without, word_met}
+use Rattle.clap.specs.Walk.{Held, Names, Outcome, Row, Rule, Step, Text, Waiting, Walk, action_of, after_flag, after_step, arg_by_id, arg_by_index, arg_by_long, arg_by_short, at_row, attached_value, bundle, bundle_met, bundle_step, done, has_long, has_short, idle, is_pending, long_or_other, flag_met, long_met, more_values, most_values, next, option, option_met, option_word, short_met, plain, plain_word, positional, reacted, reading_by, refused, settled, settled_rows, short_or_plain, subcommand, subcommand_met, subcommand_or_other, takes_several, takes_values, to_positional, trailing, used, used_by_id, value, values_or_missing, waits, walked, walked_from, with_values, without, word_met}
 use Rattle.clap.specs.Simple.{Shape}
 use Rattle.clap.specs.Kinds.{Kinds, or_else, range_kinds, value_kinds}
 use Rattle.clap.specs.Faults.{bundle_fault, bundle_step_fault, flag_word_fault, flags_fault, long_fault, other_fault, positional_fault, option_fault, react_fault, set_fault, stray_fault, settle_fault, values_fault, short_fault, step_fault, turn_fault, use_fault, walk_fault, word_fault, action_fault}
@@ -105,9 +105,13 @@ is_single a = is_set (action_of a) && ((unwrap_or_range a.range).start_inclusive
 abbrev is_request_flag : Rule → Bool
 is_request_flag a = is_request (action_of a) && not (takes_values a)
 
--- each argument is a positional of one value, or else a flag that asks for help or the version, and has no default
+-- each argument has one value, as a positional or an option, or is a flag that asks for help or the version
 abbrev pub is_plain_rule : Rule → Bool
-is_plain_rule a = cond (is_some a.index) (is_single a) (is_request_flag a)
+is_plain_rule a = cond (is_some a.index) (is_single a) (is_single a || is_request_flag a)
+
+-- each argument is the first of its id
+abbrev pub OwnIds : List Rule → Type 0
+OwnIds c = Each (λ a. arg_by_id c a.id ≡ Some a) c
 
 -- the row has a value that the argument takes
 pub record IsTakenBy (a : Rule) (r : Row) : Type 0 where
@@ -176,7 +180,17 @@ with_taken c a t rows is taken h =
 
 -- ---- one use of an argument
 
-module _ (c : List Rule) (plain_rules : list_all is_plain_rule c ≡ true) where
+either_true : (a b : Bool) → (a || b) ≡ true → (a ≡ true) ⊎ (b ≡ true)
+either_true true b e = inl refl
+either_true false b e = inr e
+
+-- a rule that takes one value takes values
+single_takes : (a : Rule) → is_single a ≡ true → takes_values a ≡ true
+single_takes a single =
+    let most : most_values a ≡ 1 = eqb-true _ _ (both _ _ (both _ _ single).1).1 in
+    ap (λ n. not (n == 0)) most
+
+module _ (c : List Rule) (plain_rules : list_all is_plain_rule c ≡ true) (own_ids : OwnIds c) where
   -- an argument that is found by a test is plain, and passes the test
   plain_found : (p : Rule → Bool) (a : Rule) → find p c ≡ Some a → (is_plain_rule a ≡ true) × (p a ≡ true)
   plain_found p a is = found (λ x. is_plain_rule x ≡ true) p c a (each_passes is_plain_rule c plain_rules) is
@@ -213,12 +227,19 @@ module _ (c : List Rule) (plain_rules : list_all is_plain_rule c ≡ true) where
       by_own_id : arg_by_id c a.id ≡ Some a
       by_own_id = subst (λ (i : Text). arg_by_id c i ≡ Some a) (sym ((bytes_eq-Decides a.id id).0 got.1)) is
 
-      go : (b : Bool) → cond b (is_single a) (is_request_flag a) ≡ true → Each (IsTaken c) (used a values rows)
-      go true single =
+      by_value : is_single a ≡ true → Each (IsTaken c) (used a values rows)
+      by_value single =
           let action : action_of a ≡ Set = set_only _ (both _ _ single).0 in
           let one = single_value again a values rows single e in
           rw (action, one.1) (with_taken c a one.0 rows by_own_id one.2 h)
-      go false flag = absurd (flag_fails again a values rows flag e)
+
+      go : (b : Bool) → cond b (is_single a) (is_single a || is_request_flag a) ≡ true → Each (IsTaken c) (used a values rows)
+      go true single = by_value single
+      go false either =
+          elim (either_true (is_single a) (is_request_flag a) either) [
+            | inl single ↦ by_value single
+            | inr flag ↦ absurd (flag_fails again a values rows flag e)
+          ]
 
   pub settled_taken : (again : Bool) (h : Held) → settle_fault c again h ≡ [] → Each (IsTaken c) h.rows → Each (IsTaken c) (settled c h).rows
   settled_taken again h e taken = go h.pending e
@@ -235,63 +256,105 @@ module _ (c : List Rule) (plain_rules : list_all is_plain_rule c ≡ true) where
 
   -- ---- the walk
 
-  -- a flag that is met fails
-  long_fails : (again : Bool) (a : Rule) (v : Option Text) (h : Held) → is_request_flag a ≡ true → long_fault c again (Some a) v h ≡ [] → ⊥
-  long_fails again a v h flag e = go (takes_values a) (is_false _ (both _ _ flag).1) v e
-    where
-      go : (b : Bool) → b ≡ false → (v : Option Text)
-          → cond b (option_fault c again a v h) (cond (is_some v) (kind.TooManyValues ∷ []) (react_fault c again a [] h)) ≡ [] → ⊥
-      go true miss v e = true≢false miss
-      go false miss (Some t) e = some_kind e
-      go false miss None e = flag_fails again a [] (settled c h).rows flag (no_fault (settle_fault c again h) _ e).1
+  -- an option with its value, or one that waits for it, leaves rows that are taken
+  option_taken : (again : Bool) (a : Rule) (v : Option Text) (h : Held) → arg_by_id c a.id ≡ Some a → option_fault c again a v h ≡ []
+      → Each (IsTaken c) h.rows → Each (IsTaken c) (option_met c a v h).0.rows
+  option_taken again a None h is e taken = settled_taken again h e taken
+  option_taken again a (Some v) h is e taken =
+      let parts = no_fault (settle_fault c again h) (use_fault again a (v ∷ []) (settled c h).rows) e in
+      used_taken again a a.id (v ∷ []) (settled c h).rows is parts.1 (settled_taken again h parts.0 taken)
 
-  short_fails : (again : Bool) (a : Rule) (rest : Text) (h : Held) (after : Held → Kinds) → is_request_flag a ≡ true → short_fault c again (Some a) rest h after ≡ [] → ⊥
-  short_fails again a rest h after flag e = go (takes_values a) (is_false _ (both _ _ flag).1) e
-    where
-      go : (b : Bool) → b ≡ false
-          → cond b (option_fault c again a (attached_value rest) h) (or_else (react_fault c again a [] h) (after (reacted c a [] h))) ≡ [] → ⊥
-      go true miss e = true≢false miss
-      go false miss e = flag_fails again a [] (settled c h).rows flag (no_fault (settle_fault c again h) _ (no_fault (react_fault c again a [] h) _ e).0).1
+  -- no use of a flag passes
+  flag_refused : (again : Bool) (a : Rule) (h : Held) → is_request_flag a ≡ true → react_fault c again a [] h ≡ [] → ⊥
+  flag_refused again a h flag e = flag_fails again a [] (settled c h).rows flag (no_fault (settle_fault c again h) _ e).1
 
-  -- what has no index is a flag
-  flag_found : (p : Rule → Bool) (a : Rule) → find (λ x. not (is_some x.index) && p x) c ≡ Some a → is_request_flag a ≡ true
-  flag_found p a is = go (is_some a.index) got.0 (is_false _ (both _ _ got.1).0)
+  -- what is found by a name is an option with one value, or a flag, and is the first of its id
+  record IsNamed (a : Rule) : Type 0 where
+    kind : (is_single a || is_request_flag a) ≡ true
+    own : arg_by_id c a.id ≡ Some a
+
+  named_found : (p : Rule → Bool) (a : Rule) → find (λ x. not (is_some x.index) && p x) c ≡ Some a → IsNamed a
+  named_found p a is = record { kind = go (is_some a.index) got.0 (is_false _ (both _ _ got.1).0); own = (found (λ x. arg_by_id c x.id ≡ Some x) _ c a own_ids is).0 }
     where
       got : (is_plain_rule a ≡ true) × ((not (is_some a.index) && p a) ≡ true)
       got = plain_found (λ x. not (is_some x.index) && p x) a is
 
-      go : (b : Bool) → cond b (is_single a) (is_request_flag a) ≡ true → b ≡ false → is_request_flag a ≡ true
-      go true own miss = absurd (true≢false miss)
-      go false own miss = own
+      go : (b : Bool) → cond b (is_single a) (is_single a || is_request_flag a) ≡ true → b ≡ false → (is_single a || is_request_flag a) ≡ true
+      go true kind miss = absurd (true≢false miss)
+      go false kind miss = kind
 
-  long_absent : (again : Bool) (name : Text) (v : Option Text) (h : Held) → long_fault c again (arg_by_long c name) v h ≡ [] → ⊥
-  long_absent again name v h e = go (arg_by_long c name) refl e
+  long_named : (again : Bool) (a : Rule) (v : Option Text) (h : Held) → IsNamed a → long_fault c again (Some a) v h ≡ []
+      → Each (IsTaken c) h.rows → Each (IsTaken c) (long_met c (Some a) v h).0.rows
+  long_named again a v h named e taken =
+      elim (either_true (is_single a) (is_request_flag a) named.kind) [
+        | inl single ↦ go (takes_values a) (single_takes a single) e
+        | inr flag ↦ absurd (flag_case (takes_values a) (is_false _ (both _ _ flag).1) v flag e)
+      ]
     where
-      go : (o : Option Rule) → arg_by_long c name ≡ o → long_fault c again o v h ≡ [] → ⊥
-      go None is e = some_kind e
-      go (Some a) is e = long_fails again a v h (flag_found (λ x. has_long x name) a is) e
+      go : (b : Bool) → b ≡ true
+          → cond b (option_fault c again a v h) (cond (is_some v) (kind.TooManyValues ∷ []) (react_fault c again a [] h)) ≡ []
+          → Each (IsTaken c) (cond b (option_met c a v h) (flag_met c a v h)).0.rows
+      go true is e = option_taken again a v h named.own e taken
+      go false is e = absurd (true≢false (sym is))
 
-  short_absent : (again : Bool) (x : ℕ) (rest : Text) (h : Held) (after : Held → Kinds) → short_fault c again (arg_by_short c x) rest h after ≡ [] → ⊥
-  short_absent again x rest h after e = go (arg_by_short c x) refl e
+      flag_case : (b : Bool) → b ≡ false → (v : Option Text) → is_request_flag a ≡ true
+          → cond b (option_fault c again a v h) (cond (is_some v) (kind.TooManyValues ∷ []) (react_fault c again a [] h)) ≡ [] → ⊥
+      flag_case true miss v flag e = true≢false miss
+      flag_case false miss (Some t) flag e = some_kind e
+      flag_case false miss None flag e = flag_refused again a h flag e
+
+  long_taken : (again : Bool) (name : Text) (v : Option Text) (h : Held) → long_fault c again (arg_by_long c name) v h ≡ []
+      → Each (IsTaken c) h.rows → Each (IsTaken c) (long_met c (arg_by_long c name) v h).0.rows
+  long_taken again name v h e taken = go (arg_by_long c name) refl e
     where
-      go : (o : Option Rule) → arg_by_short c x ≡ o → short_fault c again o rest h after ≡ [] → ⊥
-      go None is e = some_kind e
-      go (Some a) is e = short_fails again a rest h after (flag_found (λ y. has_short y x) a is) e
+      go : (o : Option Rule) → arg_by_long c name ≡ o → long_fault c again o v h ≡ [] → Each (IsTaken c) (long_met c o v h).0.rows
+      go None is e = absurd (some_kind e)
+      go (Some a) is e = long_named again a v h (named_found (λ x. has_long x name) a is) e taken
 
-  -- no flag of a bundle is met
-  bundle_rows : (again : Bool) (k : ℕ) (flags : Text) (skip : ℕ) (so_far : Outcome) (h : Held) → flags_fault c again k flags skip h ≡ []
-      → (bundle_met c k flags skip so_far h).0.rows ≡ h.rows
+  -- what a flag of a bundle leaves, where what comes after it does so too
+  short_named : (again : Bool) (a : Rule) (rest : Text) (h : Held) (after : Held → Kinds) (later : Held → Held × Outcome) → IsNamed a
+      → short_fault c again (Some a) rest h after ≡ [] → Each (IsTaken c) h.rows → Each (IsTaken c) (short_met c (Some a) rest h later).0.rows
+  short_named again a rest h after later named e taken =
+      elim (either_true (is_single a) (is_request_flag a) named.kind) [
+        | inl single ↦ go (takes_values a) (single_takes a single) e
+        | inr flag ↦ absurd (flag_case (takes_values a) (is_false _ (both _ _ flag).1) flag e)
+      ]
+    where
+      go : (b : Bool) → b ≡ true
+          → cond b (option_fault c again a (attached_value rest) h) (or_else (react_fault c again a [] h) (after (reacted c a [] h))) ≡ []
+          → Each (IsTaken c) (cond b (option_met c a (attached_value rest) h) (later (reacted c a [] h))).0.rows
+      go true is e = option_taken again a (attached_value rest) h named.own e taken
+      go false is e = absurd (true≢false (sym is))
+
+      flag_case : (b : Bool) → b ≡ false → is_request_flag a ≡ true
+          → cond b (option_fault c again a (attached_value rest) h) (or_else (react_fault c again a [] h) (after (reacted c a [] h))) ≡ [] → ⊥
+      flag_case true miss flag e = true≢false miss
+      flag_case false miss flag e = flag_refused again a h flag (no_fault (react_fault c again a [] h) _ e).0
+
+  short_taken : (again : Bool) (x : ℕ) (rest : Text) (h : Held) (after : Held → Kinds) (later : Held → Held × Outcome)
+      → short_fault c again (arg_by_short c x) rest h after ≡ [] → Each (IsTaken c) h.rows → Each (IsTaken c) (short_met c (arg_by_short c x) rest h later).0.rows
+  short_taken again x rest h after later e taken = go (arg_by_short c x) refl e
+    where
+      go : (o : Option Rule) → arg_by_short c x ≡ o → short_fault c again o rest h after ≡ [] → Each (IsTaken c) (short_met c o rest h later).0.rows
+      go None is e = absurd (some_kind e)
+      go (Some a) is e = short_named again a rest h after later (named_found (λ y. has_short y x) a is) e taken
+
+  -- the flags of a bundle leave rows that are taken
+  bundle_taken : (again : Bool) (k : ℕ) (flags : Text) (skip : ℕ) (so_far : Outcome) (h : Held) → flags_fault c again k flags skip h ≡ []
+      → Each (IsTaken c) h.rows → Each (IsTaken c) (bundle_met c k flags skip so_far h).0.rows
   unfolding flags_fault bundle_met
-  bundle_rows again zero flags skip so_far h e = refl
-  bundle_rows again (suc k) flags skip so_far h e = go (slice_get (chars flags) 0) skip e (bundle_rows again k)
+  bundle_taken again zero flags skip so_far h e taken = taken
+  bundle_taken again (suc k) flags skip so_far h e taken = go (slice_get (chars flags) 0) skip e (bundle_taken again k)
     where
       go : (o : Option ℕ) (skip : ℕ) → bundle_step_fault c again o flags skip h (flags_fault c again k) ≡ []
-          → ((flags : Text) (skip : ℕ) (so_far : Outcome) (h : Held) → flags_fault c again k flags skip h ≡ [] → (bundle_met c k flags skip so_far h).0.rows ≡ h.rows)
-          → (bundle_step c o flags skip so_far h (bundle_met c k)).0.rows ≡ h.rows
-      go None skip e later = refl
+          → ((flags : Text) (skip : ℕ) (so_far : Outcome) (h : Held) → flags_fault c again k flags skip h ≡ [] → Each (IsTaken c) h.rows
+          → Each (IsTaken c) (bundle_met c k flags skip so_far h).0.rows)
+          → Each (IsTaken c) (bundle_step c o flags skip so_far h (bundle_met c k)).0.rows
+      go None skip e later = taken
       go (Some x) zero e later =
-          absurd (short_absent again x (drop (length (encode_utf8 x)) flags) h (flags_fault c again k (drop (length (encode_utf8 x)) flags) 0) e)
-      go (Some x) (suc skip) e later = later (drop (length (encode_utf8 x)) flags) skip so_far h e
+          let rest = drop (length (encode_utf8 x)) flags in
+          short_taken again x rest h (flags_fault c again k rest 0) (bundle_met c k rest 0 done) e taken
+      go (Some x) (suc skip) e later = later (drop (length (encode_utf8 x)) flags) skip so_far h e taken
 
 -- ---- what a word leaves
 
@@ -304,58 +367,60 @@ abbrev StepMayStop : Shape → Step → Type 0
 StepMayStop s (subcommand name) = MayStop s (Some name)
 StepMayStop s _ = Unit {0}
 
--- the rows are as before, and the step is no call for help
-record Passes (s : Shape) (h : Held) (met : Held × Step) : Type 0 where
-  pub rows : met.0.rows ≡ h.rows
+-- the rows are taken, and the step is no call for help
+record Passes (s : Shape) (met : Held × Step) : Type 0 where
+  pub rows : Each (IsTaken s.rules) met.0.rows
   pub step : StepMayStop s met.1
 
-plain_passes : (s : Shape) (c : List Rule) (waiting : Waiting) (word : Text) (before h : Held) → h.rows ≡ before.rows → Passes s before (plain_word c waiting word h)
-plain_passes s c idle word before h same = record { rows = same; step = tt }
-plain_passes s c positional word before h same = record { rows = same; step = tt }
-plain_passes s c (option id) word before h same = go (arg_by_id c id)
+plain_passes : (s : Shape) (waiting : Waiting) (word : Text) (h : Held) → Each (IsTaken s.rules) h.rows → Passes s (plain_word s.rules waiting word h)
+plain_passes s idle word h taken = record { rows = taken; step = tt }
+plain_passes s positional word h taken = record { rows = taken; step = tt }
+plain_passes s (option id) word h taken = go (arg_by_id s.rules id)
   where
-    go : (o : Option Rule) → Passes s before ((option_word o id word h).0, next (option_word o id word h).1)
-    go None = record { rows = same; step = tt }
-    go (Some a) = record { rows = same; step = tt }
+    go : (o : Option Rule) → Passes s ((option_word o id word h).0, next (option_word o id word h).1)
+    go None = record { rows = taken; step = tt }
+    go (Some a) = record { rows = taken; step = tt }
 
-after_flag_passes : (s : Shape) (c : List Rule) (waiting : Waiting) (word : Text) (before h : Held) (o : Outcome) → h.rows ≡ before.rows
-    → Passes s before (after_flag c waiting word h o)
-after_flag_passes s c waiting word before h done same = record { rows = same; step = tt }
-after_flag_passes s c waiting word before h (waits id) same = record { rows = same; step = tt }
-after_flag_passes s c waiting word before h plain same = plain_passes s c waiting word before h same
-after_flag_passes s c waiting word before h refused same = plain_passes s c waiting word before h same
+after_flag_passes : (s : Shape) (waiting : Waiting) (word : Text) (h : Held) (o : Outcome) → Each (IsTaken s.rules) h.rows
+    → Passes s (after_flag s.rules waiting word h o)
+after_flag_passes s waiting word h done taken = record { rows = taken; step = tt }
+after_flag_passes s waiting word h (waits id) taken = record { rows = taken; step = tt }
+after_flag_passes s waiting word h plain taken = plain_passes s waiting word h taken
+after_flag_passes s waiting word h refused taken = plain_passes s waiting word h taken
 
-module _ (s : Shape) (plain_rules : list_all is_plain_rule s.rules ≡ true) where
+module _ (s : Shape) (plain_rules : list_all is_plain_rule s.rules ≡ true) (own_ids : OwnIds s.rules) where
   flag_word_passes : (waiting : Waiting) (word : Text) (h : Held) (long : Option (Text × Option Text))
-      → flag_word_fault s.rules s.args_override_self long word h ≡ [] → Passes s h (long_or_other s.rules waiting word long h)
-  flag_word_passes waiting word h (Some p) e = absurd (long_absent s.rules plain_rules s.args_override_self p.0 p.1 h e)
-  flag_word_passes waiting word h None e = go (short_of word) e
+      → flag_word_fault s.rules s.args_override_self long word h ≡ [] → Each (IsTaken s.rules) h.rows → Passes s (long_or_other s.rules waiting word long h)
+  flag_word_passes waiting word h (Some p) e taken =
+      let met = long_met s.rules (arg_by_long s.rules p.0) p.1 h in
+      after_flag_passes s waiting word met.0 met.1 (long_taken s.rules plain_rules own_ids s.args_override_self p.0 p.1 h e taken)
+  flag_word_passes waiting word h None e taken = go (short_of word) e
     where
       go : (o : Option Text) → option_map_or (λ flags. bundle_fault s.rules s.args_override_self flags h) o [] ≡ []
-          → Passes s h (short_or_plain s.rules waiting word o h)
-      go None e = plain_passes s s.rules waiting word h h refl
+          → Passes s (short_or_plain s.rules waiting word o h)
+      go None e = plain_passes s waiting word h taken
       go (Some flags) e =
-          after_flag_passes s s.rules waiting word h (bundle s.rules flags h).0 (bundle s.rules flags h).1
-          (bundle_rows s.rules plain_rules s.args_override_self (length flags) flags h.skip plain (record h { skip = 0 }) e)
+          after_flag_passes s waiting word (bundle s.rules flags h).0 (bundle s.rules flags h).1
+          (bundle_taken s.rules plain_rules own_ids s.args_override_self (length flags) flags h.skip plain (record h { skip = 0 }) e taken)
 
   other_passes : (waiting : Waiting) (position : ℕ) (word : Text) (h : Held) (name : Option Text) → other_fault s name word h ≡ []
-      → Passes s h (subcommand_or_other s.rules name waiting position word h)
-  other_passes waiting position word h (Some name) e = record { rows = refl; step = go (bytes_eq name (codes "help") && not s.disable_help_subcommand) e }
+      → Each (IsTaken s.rules) h.rows → Passes s (subcommand_or_other s.rules name waiting position word h)
+  other_passes waiting position word h (Some name) e taken = record { rows = taken; step = go (bytes_eq name (codes "help") && not s.disable_help_subcommand) e }
     where
       go : (b : Bool) → cond b (kind.DisplayHelp ∷ kind.InvalidSubcommand ∷ []) [] ≡ [] → b ≡ false
       go true e = absurd (some_kind e)
       go false e = refl
-  other_passes waiting position word h None e = go (bytes_eq word (45 ∷ 45 ∷ [])) e
+  other_passes waiting position word h None e taken = go (bytes_eq word (45 ∷ 45 ∷ [])) e
     where
       go : (b : Bool) → cond b [] (flag_word_fault s.rules s.args_override_self (long_of word) word h) ≡ []
-          → Passes s h (cond b (h, trailing position) (long_or_other s.rules waiting word (long_of word) h))
-      go true e = record { rows = refl; step = tt }
-      go false e = flag_word_passes waiting word h (long_of word) e
+          → Passes s (cond b (h, trailing position) (long_or_other s.rules waiting word (long_of word) h))
+      go true e = record { rows = taken; step = tt }
+      go false e = flag_word_passes waiting word h (long_of word) e taken
 
   word_passes : (names : Names) (is_trailing : Bool) (waiting : Waiting) (position : ℕ) (word : Text) (h : Held)
-      → word_fault s names is_trailing waiting word h ≡ [] → Passes s h (word_met s.rules names is_trailing waiting position word h)
-  word_passes names true waiting position word h e = record { rows = refl; step = tt }
-  word_passes names false waiting position word h e = other_passes waiting position word h (subcommand_met names waiting word) e
+      → word_fault s names is_trailing waiting word h ≡ [] → Each (IsTaken s.rules) h.rows → Passes s (word_met s.rules names is_trailing waiting position word h)
+  word_passes names true waiting position word h e taken = record { rows = taken; step = tt }
+  word_passes names false waiting position word h e taken = other_passes waiting position word h (subcommand_met names waiting word) e taken
 
   -- ---- the walk
 
@@ -371,7 +436,7 @@ module _ (s : Shape) (plain_rules : list_all is_plain_rule s.rules ≡ true) whe
     where
       go : (b : Bool) → cond b [] (settle_fault s.rules s.args_override_self h) ≡ [] → Each (IsTaken s.rules) (cond b h (settled s.rules h)).rows
       go true e = taken
-      go false e = settled_taken s.rules plain_rules s.args_override_self h e taken
+      go false e = settled_taken s.rules plain_rules own_ids s.args_override_self h e taken
 
   step_holds : (w : Walk) (word : Text) (h : Held) (step : Step) → w.stopped ≡ None → Each (IsTaken s.rules) h.rows → StepMayStop s step
       → step_fault s w.position h step ≡ [] → Holds (after_step s.rules word w h step)
@@ -393,8 +458,8 @@ module _ (s : Shape) (plain_rules : list_all is_plain_rule s.rules ≡ true) whe
       go (Some p) is e = record { rows = holds.rows; stop = subst (λ (o : Option (Text × List Text)). MayStop s (option_map (λ p. p.0) o)) is holds.stop }
       go None is e =
           let parts = no_fault (word_fault s names w.is_trailing w.waiting word w.held) (step_fault s w.position met.0 met.1) e in
-          let passes = word_passes names w.is_trailing w.waiting w.position word w.held parts.0 in
-          step_holds w word met.0 met.1 is (subst (Each (IsTaken s.rules)) (sym passes.rows) holds.rows) passes.step parts.1
+          let passes = word_passes names w.is_trailing w.waiting w.position word w.held parts.0 holds.rows in
+          step_holds w word met.0 met.1 is passes.rows passes.step parts.1
 
   pub walk_holds : (names : Names) (words : List Text) (w : Walk) → Holds w → walk_fault s names w words ≡ [] → Holds (fold (walked s.rules names) w words)
   unfolding walk_fault

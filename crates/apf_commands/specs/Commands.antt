@@ -16,6 +16,10 @@ text_rule id = record (new_rule id) { required = true }
 abbrev pub number_rule : Text → ValueParser → Rule
 number_rule id parser = record (text_rule id) { parser = Some parser }
 
+-- an option with a text, which may be left out
+abbrev pub option_rule : Text → Rule
+option_rule name = record (new_rule name) { long = Some name; value_names = 1 }
+
 -- the whole numbers of 32 bits
 abbrev pub any_u32 : ValueParser
 any_u32 = Signed (pos 0) (pos 4294967295)
@@ -48,6 +52,16 @@ simulation_rules = trace_rules ++ text_rule (codes "PATIENCE") ∷ []
 abbrev pub compare_rules : List Rule
 compare_rules = text_rule (codes "CONFIG") ∷ text_rule (codes "OTHER") ∷ text_rule (codes "TRACE") ∷ text_rule (codes "PATIENCE") ∷ []
 
+-- the arguments of `hands`
+abbrev pub hands_rules : List Rule
+hands_rules = trace_rules ++ option_rule (codes "flow") ∷ []
+
+-- the arguments of `trace`
+abbrev pub audit_rules : List Rule
+audit_rules =
+    text_rule (codes "AUDITLOG") ∷ text_rule (codes "SCHEMA") ∷ option_rule (codes "by") ∷ option_rule (codes "user") ∷ option_rule (codes "since")
+    ∷ option_rule (codes "until") ∷ []
+
 -- the arguments of each command, in their order
 abbrev pub rules_of : CommandName → List Rule
 rules_of Hash = text_rule (codes "SCHEMA") ∷ text_rule (codes "DISTINGUISHER") ∷ []
@@ -64,8 +78,8 @@ rules_of Compare = compare_rules
 rules_of Fates = simulation_rules
 rules_of Requests = text_rule (codes "TRACE") ∷ []
 rules_of Picture = simulation_rules
-rules_of Hands = trace_rules
-rules_of Trace = text_rule (codes "AUDITLOG") ∷ text_rule (codes "SCHEMA") ∷ []
+rules_of Hands = hands_rules
+rules_of Trace = audit_rules
 
 -- a command that takes these arguments
 abbrev pub command_shape : Text → List Rule → Shape

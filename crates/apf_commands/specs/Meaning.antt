@@ -1,14 +1,27 @@
 -- What a command line asks for, by what `clap` reads of its words.
-use Rattle.std.specs.Prelude.{◌≡◌, ◌<◌, ◌≤◌, ℕ, List, Some, Ok, codes}
+use Rattle.std.specs.Prelude.{◌≡◌, ◌<◌, ◌≤◌, ℕ, List, Option, Some, Ok, codes, option_map}
+use Rattle.std.specs.Borrow.{Bor}
 use Rattle.std.specs.Str.Parse.{ParsesUnsigned}
 use Rattle.clap.specs.Words.{Row, Text, first_of, one_of, subcommand_of}
 use Rattle.apf_commands.specs.Commands.{apf_app}
 use Rattle.apf_commands.specs.declared.words.Action.{Action}
+use Rattle.apf_commands.specs.declared.words.Chosen.{Chosen}
 use Rattle.apf_commands.specs.declared.words.Action.TheVariants.{Hash, Deal, Replay, Run, Services, Waits, Explain, Simulate, Timeline, Compare, Fates, Requests, Picture, Hands, Trace}
 
 -- the argument's text
 abbrev pub IsText : List Row → Text → Text → Type 0
 IsText rows id t = first_of id rows ≡ Some t
+
+-- the option's text, if it is given
+abbrev pub IsOption : List Row → Text → Option (Bor Text) → Type 0
+IsOption rows id given = first_of id rows ≡ option_map (λ t. t.now) given
+
+-- the texts of the options that choose requests
+pub record AreChosen (rows : List Row) (chosen : Chosen) : Type 0 where
+  pub by : IsOption rows (codes "by") chosen.by
+  pub user : IsOption rows (codes "user") chosen.user
+  pub since : IsOption rows (codes "since") chosen.since
+  pub until : IsOption rows (codes "until") chosen.until
 
 -- the argument's text is the whole decimal number n, which fits k bits
 abbrev pub IsNumber : ℕ → List Row → Text → ℕ → Type 0
@@ -58,10 +71,12 @@ AsksFor name rows (Requests trace) = (name ≡ codes "requests")
 AsksFor name rows (Picture config trace patience) = (name ≡ codes "picture")
     × IsText rows (codes "CONFIG") config.now × IsText rows (codes "TRACE") trace.now
     × IsText rows (codes "PATIENCE") patience.now
-AsksFor name rows (Hands config trace) = (name ≡ codes "hands")
+AsksFor name rows (Hands config trace flow) = (name ≡ codes "hands")
     × IsText rows (codes "CONFIG") config.now × IsText rows (codes "TRACE") trace.now
-AsksFor name rows (Trace log schema) = (name ≡ codes "trace")
+    × IsOption rows (codes "flow") flow
+AsksFor name rows (Trace log schema chosen) = (name ≡ codes "trace")
     × IsText rows (codes "AUDITLOG") log.now × IsText rows (codes "SCHEMA") schema.now
+    × AreChosen rows chosen
 
 -- the words name a command that asks for the action
 abbrev pub IsActionOf : List Text → Action → Type 0

@@ -2,7 +2,7 @@
 ghost use Rattle.std.specs.Prelude.{◌≡◌, IfOk, false};
 ghost use Rattle.clap.specs.Words.{app_of, rule_of, shape_of};
 ghost use Rattle.clap.specs.declared.builder.command.Command.TheViews.{out-Command};
-ghost use Rattle.apf_commands.specs.Commands.{apf_app, app_with, flow_commands, level_commands, trace_commands, with_commands, command_shape, file_rules, script_rules, trace_rules, simulation_rules, shape_for, text_rule, number_rule};
+ghost use Rattle.apf_commands.specs.Commands.{apf_app, app_with, flow_commands, level_commands, trace_commands, with_commands, command_shape, file_rules, script_rules, trace_rules, simulation_rules, shape_for, text_rule, number_rule, option_rule};
 ghost use Rattle.apf_commands.specs.declared.names.CommandName.TheVariants as named;
 
 use crate::help;
@@ -31,6 +31,17 @@ fn number<'a>(alloc: Global, id: &'a str, parser: ValueParser<'a>, help: &'a str
     ensures local { result.global ≡ false }
 {
     text(alloc, id, help).value_parser(parser)
+}
+
+// An option with a text, which may be left out. Help calls its value `value`.
+fn option<'a>(alloc: Global, name: &'a str, value: &'a str, help: &'a str) -> Arg<'a>
+    ensures rule { rule_of result ≡ option_rule name.entry.now }
+    ensures local { result.global ≡ false }
+{
+    Arg::new(alloc, name)
+        .long(name)
+        .value_name(value)
+        .help(help)
 }
 
 fn hash_command<'a>(alloc: Global) -> Result<Command<'a>, AllocError>
@@ -277,7 +288,13 @@ fn hands_command<'a>(alloc: Global) -> Result<Command<'a>, AllocError>
         "hands",
         "Print the hand of queues of each flow of a trace, and who shares them",
         help::HANDS,
-    )
+    )?
+    .arg(option(
+        alloc,
+        "flow",
+        "NAME",
+        "Distinguisher of the flow that is printed alone, with each flow that shares a queue",
+    ))
 }
 
 fn audit_command<'a>(alloc: Global) -> Result<Command<'a>, AllocError>
@@ -288,7 +305,31 @@ fn audit_command<'a>(alloc: Global) -> Result<Command<'a>, AllocError>
         .about("Print the trace of a Kubernetes audit log")
         .after_help(help::TRACE)
         .arg(text(alloc, "AUDITLOG", "Audit log, one JSON event a line"))?
-        .arg(text(alloc, "SCHEMA", "Name of the flow schema of its requests"))
+        .arg(text(alloc, "SCHEMA", "Name of the flow schema of its requests"))?
+        .arg(option(
+            alloc,
+            "by",
+            "WHO",
+            "Who is a flow: user (the default) or namespace",
+        ))?
+        .arg(option(
+            alloc,
+            "user",
+            "NAME",
+            "Takes the requests of this user alone; NAME*: of each whose name begins so",
+        ))?
+        .arg(option(
+            alloc,
+            "since",
+            "INSTANT",
+            "Takes the requests received at INSTANT or later, as 2026-07-01T10:00:00Z",
+        ))?
+        .arg(option(
+            alloc,
+            "until",
+            "INSTANT",
+            "Takes the requests received before INSTANT",
+        ))
 }
 
 // The program with its commands on flows.

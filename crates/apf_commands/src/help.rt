@@ -291,13 +291,19 @@ it who shares its queues:
   Q           the number of a queue, from 0, in the order dealt
   shares      how many other flows hold the queue
   covered by  the flows whose hand alone holds all of its queues: the first ten, and how many more
+With --flow NAME the hand of each flow of this distinguisher alone, and below it each other flow
+that shares a queue with it, and all that cover it:
+  flow H hand Q1 Q2 .. of SCHEMA DISTINGUISHER
+    shares Q .. with H SCHEMA DISTINGUISHER
+    covered by H ..
 The hands are those of this level by this project's rules, and not kube-apiserver's. The times of
 the trace, in microseconds, change nothing. A level that rejects deals no queues.
 
 TRACE is JSON Lines; apf simulate --help says what it and CONFIG hold.
 
-Example:
+Examples:
   apf hands config.json trace.jsonl
+  apf hands config.json trace.jsonl --flow alice
 
 Status: 0 done, 1 a file's fault or output that can't be written, 2 a command line's fault,
 3 no memory.";
@@ -323,16 +329,21 @@ pub(crate) const TRACE: &str = "\
 Prints the trace of an audit log of a Kubernetes API server, for apf simulate: one line a request,
 in the order of their arrivals. AUDITLOG has one JSON object a line, an audit event. Taken are the
 events of stage ResponseComplete, but for the verb watch and the subresources exec, attach,
-portforward, proxy and log. At most 10000 events are taken.
+portforward, proxy and log. At most 10000 events are taken: --user, --since and --until choose.
   schema         SCHEMA, at most 4096 bytes
-  distinguisher  the event's user.username
+  distinguisher  the event's user.username, or impersonatedUser.username where it stands; with --by
+                 namespace objectRef.namespace, empty where there is none
   arrivesAt      its requestReceivedTimestamp, in microseconds from the earliest of those taken
   runsFor        from there to its stageTimestamp, less the annotation
-                 apiserver.latency.k8s.io/apf-queue-wait where it stands
+                 apiserver.latency.k8s.io/apf-queue-wait where it stands; of a request that was
+                 turned away with status 429 the median of those of its flow that ran, or of all
+--since INSTANT takes those received at INSTANT or later, --until INSTANT those received before it.
 
-Example, from a log to a picture:
+Examples, from a log to a picture, and one hour of what the service accounts asked for:
   apf trace audit.log users >trace.jsonl
   apf picture config.json trace.jsonl 15s >picture.svg
+  apf trace audit.log users --user 'system:serviceaccount:*' \\
+    --since 2026-07-01T10:00:00Z --until 2026-07-01T11:00:00Z
 
 Status: 0 done, 1 a file's fault or output that can't be written, 2 a command line's fault or a
 SCHEMA that is too long, 3 no memory.";

@@ -14,4 +14,4 @@ mod patience;
 mod words;
 
 pub use patience::read_patience;
-pub use words::{Action, read_words};
+pub use words::{Action, Chosen, read_words};

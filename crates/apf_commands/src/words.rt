@@ -4,7 +4,7 @@ ghost use Rattle.clap.specs.Words.{FailsBy, fault_of, found_of, rows_of};
 ghost use Rattle.clap.specs.Walk.{texts};
 ghost use Rattle.apf_commands.specs.Commands.{apf_app};
 ghost use Rattle.apf_commands.specs.Names.{text_of as name_text};
-ghost use Rattle.apf_commands.specs.Meaning.{AsksFor, IsActionOf, IsNumber, IsText};
+ghost use Rattle.apf_commands.specs.Meaning.{AreChosen, AsksFor, IsActionOf, IsNumber, IsOption, IsText};
 ghost use Rattle.apf_commands.specs.Arguments.{HasText, HasNumber, HasHashArguments, HasDealArguments};
 ghost use Rattle.apf_commands.specs.Arguments.{HasScriptArguments, HasRunArguments, HasArguments};
 ghost use Rattle.apf_commands.specs.Arguments.{HasSimulationArguments, HasCompareArguments, HasRequestsArguments, HasHandsArguments, HasAuditArguments};
@@ -94,16 +94,32 @@ pub enum Action<'a> {
         trace: &'a str,
         patience: &'a str,
     },
-    /// Print the hand of each flow of a trace, and who shares it; the texts are file names.
+    /// Print the hand of each flow of a trace, and who shares it, or those of this distinguisher alone; the first two
+    /// texts are file names.
     Hands {
         config: &'a str,
         trace: &'a str,
+        flow: Option<&'a str>,
     },
-    /// Print the trace of an audit log; the first text is a file name.
+    /// Print the trace of an audit log, of the requests that are chosen; the first text is a file name.
     Trace {
         log: &'a str,
         schema: &'a str,
+        chosen: Chosen<'a>,
     },
+}
+
+/// Which requests of an audit log are chosen, in the words of a command line.
+#[derive(Clone, Copy, Debug, PartialEq, Eq)]
+pub struct Chosen<'a> {
+    /// Who is a flow: `user` or `namespace`.
+    pub by: Option<&'a str>,
+    /// The name of a user, or its beginning with `*` behind it.
+    pub user: Option<&'a str>,
+    /// The instant from which on they were received.
+    pub since: Option<&'a str>,
+    /// The instant before which they were received.
+    pub until: Option<&'a str>,
 }
 
 // The text of an argument.
@@ -112,6 +128,13 @@ fn text_of<'a>(matches: &ArgMatches<'a>, id: &str) -> &'a str
     ensures { IsText (rows_of (found_of matches.now)) id.now result.now }
 {
     matches.get_str(id).unwrap()
+}
+
+// The text of an option, if it is given.
+fn option_of<'a>(matches: &ArgMatches<'a>, id: &str) -> Option<&'a str>
+    ensures { IsOption (rows_of (found_of matches.now)) id.now result }
+{
+    matches.get_str(id)
 }
 
 // The number of an argument.
@@ -298,6 +321,19 @@ fn hands_action<'a>(matches: &ArgMatches<'a>) -> Action<'a>
     Action::Hands {
         config: text_of(matches, "CONFIG"),
         trace: text_of(matches, "TRACE"),
+        flow: option_of(matches, "flow"),
+    }
+}
+
+// The texts of the options that choose requests.
+fn chosen_of<'a>(matches: &ArgMatches<'a>) -> Chosen<'a>
+    ensures { AreChosen (rows_of (found_of matches.now)) result }
+{
+    Chosen {
+        by: option_of(matches, "by"),
+        user: option_of(matches, "user"),
+        since: option_of(matches, "since"),
+        until: option_of(matches, "until"),
     }
 }
 
@@ -308,6 +344,7 @@ fn trace_action<'a>(matches: &ArgMatches<'a>) -> Action<'a>
     Action::Trace {
         log: text_of(matches, "AUDITLOG"),
         schema: text_of(matches, "SCHEMA"),
+        chosen: chosen_of(matches),
     }
 }
 
@@ -342,8 +379,9 @@ fn action_of<'a>(command: CommandName, matches: &ArgMatches<'a>) -> Action<'a>
 /// `run CONFIG REQUESTS WORKERS`, `services CONFIG REQUESTS SCRIPT`, `waits CONFIG REQUESTS SCRIPT`,
 /// `explain CONFIG REQUESTS SCRIPT`,
 /// `simulate CONFIG TRACE PATIENCE`, `timeline CONFIG TRACE PATIENCE`, `compare CONFIG OTHER TRACE PATIENCE`,
-/// `fates CONFIG TRACE PATIENCE`, `requests TRACE`, `picture CONFIG TRACE PATIENCE`, `hands CONFIG TRACE`
-/// and `trace AUDITLOG SCHEMA`.
+/// `fates CONFIG TRACE PATIENCE`, `requests TRACE`, `picture CONFIG TRACE PATIENCE`,
+/// `hands CONFIG TRACE [--flow NAME]` and
+/// `trace AUDITLOG SCHEMA [--by WHO] [--user NAME] [--since INSTANT] [--until INSTANT]`.
 /// `DECK` and `HAND` are whole decimal numbers of 32 bits, `HASH` is one of 64 bits, and `WORKERS` is 1 to 64. The other
 /// arguments are texts, `PATIENCE` too.
 ///

@@ -5,3 +5,5 @@ pub mod RequestFaults
 pub mod ScriptFaults
 pub mod Lined
 pub mod TraceFaults
+pub mod Parts
+pub mod AuditFaults

@@ -1,6 +1,6 @@
 -- What the fault of a trace says of the line that it names.
-use Rattle.std.proofs.Common.{subst, ◌≡◌, ℕ, zero, suc, ◌+◌, ◌<◌, List, [], ◌∷◌, length, Bool, true, false, Option, Some, None, Result, Ok, Err, codes, refl, sym, ◌∙◌, ap, arith}
-use Rattle.std.specs.Prelude.{nat_le, ⊤}
+use Rattle.std.proofs.Common.{subst, ◌≡◌, ℕ, suc, ◌+◌, ◌<◌, List, [], ◌∷◌, length, Bool, true, false, Option, Some, None, Result, Ok, Err, codes, refl, sym, ap, arith}
+use Rattle.std.specs.Prelude.{nat_le}
 use Rattle.std.proofs.lemmas.Bool.Decides.{nat_tests}
 use Rattle.serde_json.specs.Data.{Data}
 use Rattle.serde_json.specs.Find.{get, as_object}
@@ -8,7 +8,7 @@ use Rattle.apf_words.specs.Limits.{max_width}
 use Rattle.apf_files.specs.FirstFault.{◌>>=◌, or_fault}
 use Rattle.apf_files.specs.JsonFile.{known_object}
 use Rattle.apf_files.specs.RequestsFile.{flow_of, number_or}
-use Rattle.apf_traces.specs.TraceValue.{Entry, is_key, number_at, entry_of, max_arrival, max_run, max_cost}
+use Rattle.apf_traces.specs.TraceValue.{is_key, number_at, entry_of, max_arrival, max_run, max_cost}
 use Rattle.apf_traces.specs.TraceFile.{Line, lines_of, value_of, demand, judged_line, trace_from, trace_of, max_lines, max_bytes}
 use Rattle.apf_traces.specs.TraceFaults.{line_of}
 use Rattle.apf_traces.specs.declared.fault.TraceFault.{TraceFault}
@@ -90,7 +90,7 @@ demanded : {C : Type 0} (f fault : TraceFault) (b : Bool) → demand f b ≡ Err
 demanded f fault true h c = absurd cc
 demanded f fault false h c = c refl cc
 
-above : (n most : ℕ) → nat_le n most ≡ false → most < n
+pub above : (n most : ℕ) → nat_le n most ≡ false → most < n
 above n most h = grind (arith, nat_tests)
 
 ok_there : {A : Type 0} (f : TraceFault) (o : Option A) (x : A) → or_fault f o ≡ Ok x → o ≡ Some x
@@ -98,7 +98,7 @@ ok_there f None x h = absurd cc
 ok_there f (Some y) x h = let same : y ≡ x = cc in ap Some same
 
 -- as `stepped`, with what the step was
-stepped_by : {A B F C : Type 0} (r : Result A F) (next : A → Result B F) (fault : F) → r >>= next ≡ Err fault
+pub stepped_by : {A B F C : Type 0} (r : Result A F) (next : A → Result B F) (fault : F) → r >>= next ≡ Err fault
     → (r ≡ Err fault → C) → ((x : A) → r ≡ Ok x → next x ≡ Err fault → C) → C
 stepped_by (Ok x) next fault h here later = later x refl h
 stepped_by (Err f) next fault h here later = let same : f ≡ fault = cc in here (rw same refl)

@@ -1,5 +1,5 @@
 -- The lines that are written of an audit log's faults. None where nothing is stated of the text of a value that the line names.
-use Rattle.std.specs.Prelude.{ℕ, List, ◌++◌, length, Bool, if◌then◌else◌, Option, Some, None, IfSome, is_some, option_and_then, codes, decimal}
+use Rattle.std.specs.Prelude.{ℕ, List, ◌++◌, Bool, if◌then◌else◌, Option, Some, None, IfSome, is_some, option_and_then, codes, decimal}
 use Rattle.std.specs.Fmt.{◌++?◌}
 use Rattle.std.specs.Io.KnownBytes.{Appends}
 use Rattle.serde_json.specs.Data.{Data}
@@ -9,6 +9,7 @@ use Rattle.apf_audit.specs.AuditEvent.{max_name}
 use Rattle.apf_audit.specs.Arrivals.{max_arrival, max_requests}
 use Rattle.apf_audit.specs.AuditLog.{max_line}
 use Rattle.apf_audit.specs.AuditFaults.{audit_fault_number, line_of}
+use Rattle.apf_audit.specs.InstantText.{IsInstantText}
 use Rattle.apf_audit.specs.Times.{max_run}
 use Rattle.apf_audit.specs.declared.fault.AuditFault.{AuditFault}
 use Rattle.apf_audit.specs.declared.fault.AuditFault.TheVariants as audit
@@ -46,6 +47,10 @@ user_text place o None =
 user_text place o (Some impersonated) =
     required_text place (codes "impersonatedUser.username") (found_at (codes "username") (Some impersonated)) (Name max_name)
 
+-- the namespace of the object of an event
+abbrev pub namespace_found : Option Data → Option Data
+namespace_found o = found_at (codes "namespace") (found_at (codes "objectRef") o)
+
 -- the wait in the queue that an event says
 abbrev pub wait_found : Option Data → Option Data
 wait_found o = found_at (codes "apiserver.latency.k8s.io/apf-queue-wait") (found_at (codes "annotations") o)
@@ -72,6 +77,7 @@ late_text place o =
 -- the fault of an event that is this value
 abbrev pub event_text : List ℕ → Option Data → AuditFault → Option (List ℕ)
 event_text place o (audit.BadUser n) = user_text place o (found_at (codes "impersonatedUser") o)
+event_text place o (audit.BadNamespace n) = unwanted_text place (codes "objectRef.namespace") (namespace_found o) (Name max_name)
 event_text place o (audit.BadReceived n) =
     required_text place (codes "requestReceivedTimestamp") (found_at (codes "requestReceivedTimestamp") o) Instant
 event_text place o (audit.BadStage n) = required_text place (codes "stageTimestamp") (found_at (codes "stageTimestamp") o) Instant
@@ -86,13 +92,27 @@ IsAuditLineAt place line (audit.NotUtf8Json n) before after = IsColumnLine place
 IsAuditLineAt place line (audit.TooLong n) before after = Appends before after (too_long_text place max_line line)
 IsAuditLineAt place line fault before after = IfSome (event_text place (option_and_then value_of line) fault) (Appends before after)
 
--- so many requests are too many
-abbrev pub too_many_events : ℕ → List ℕ
-too_many_events count = codes "apf: audit fault 9: there are " ++ (decimal count ++ (codes " requests: at most " ++ (decimal max_requests ++ codes " may be there\n")))
+-- so many requests are too many, which were received from one instant to another
+abbrev pub many_events : ℕ → List ℕ
+many_events count = codes "apf: audit fault 9: there are " ++ (decimal count ++ codes " requests, received from ")
+
+abbrev pub most_events : List ℕ
+most_events = codes ": at most " ++ (decimal max_requests ++ codes " may be there: --since, --until and --user choose some of them\n")
+
+abbrev pub too_many_events : ℕ → (from to : List ℕ) → List ℕ
+too_many_events count from to = many_events count ++ from ++ codes " to " ++ to ++ most_events
+
+-- the line of that was written
+pub record IsManyLine (count first last : ℕ) (before after : Option (List ℕ)) : Type 0 where
+  pub from : List ℕ
+  pub to : List ℕ
+  pub begins : IsInstantText first from
+  pub ends : IsInstantText last to
+  pub written : Appends before after (too_many_events count from to)
 
 -- the fault of the line of this number was written, or that there are too many requests
 abbrev pub IsNumberedEvent : List ℕ → Option ℕ → AuditFault → Option (List ℕ) → Option (List ℕ) → Type 0
-IsNumberedEvent bytes None (audit.TooMany count) before after = Appends before after (too_many_events count)
+IsNumberedEvent bytes None (audit.TooMany count first last) before after = IsManyLine count first last before after
 IsNumberedEvent bytes None fault before after = ⊥
 IsNumberedEvent bytes (Some number) fault before after =
     IsAuditLineAt (place_text (codes "apf: audit") (Fault (audit_fault_number fault) number)) (numbered_line number bytes) fault before after

@@ -9,3 +9,4 @@ pub mod Shown
 pub mod TraceLines
 pub mod TraceShown
 pub mod AuditLines
+pub mod AuditShown

@@ -4,7 +4,7 @@ ghost use Rattle.std.specs.Prelude.{◌≡◌, OnOk, IfSome, Err, option_map};
 ghost use Rattle.std.specs.Io.KnownBytes.{Appends};
 ghost use Rattle.serde_json.specs.View.{view};
 ghost use Rattle.apf_explain.specs.Lines.{place_text};
-ghost use Rattle.apf_explain.specs.AuditLines.{found_at, is_text_at, is_object, not_event_text, user_text, wait_found, bad_run_text, late_text, event_text, too_many_events, IsAuditLineAt, IsAuditLine};
+ghost use Rattle.apf_explain.specs.AuditLines.{found_at, is_text_at, is_object, not_event_text, user_text, wait_found, bad_run_text, late_text, event_text, namespace_found, IsManyLine, IsAuditLineAt, IsAuditLine};
 
 use crate::fault::ExplainFault;
 use crate::found::Found;
@@ -12,7 +12,7 @@ use crate::json::{value_at, write_unwanted};
 use crate::lines::{line_value, numbered, write_not_json, write_required, write_too_long};
 use crate::place::{Part, Place};
 use crate::wanted::Wanted;
-use apf_audit::{AuditFault, MAX_LINE};
+use apf_audit::{AuditFault, MAX_LINE, write_instant};
 use serde_json::Value;
 use std::alloc::Global;
 use std::io::Write;
@@ -115,6 +115,13 @@ fn write_user<W: Write>(out: &mut W, place: Place<'_>, value: Option<&Value>) ->
     }
 }
 
+// The namespace of the object of an event.
+fn namespace_of(value: Option<&Value>) -> Option<&Value>
+    ensures { option_map (λ found. view found.now) result ≡ namespace_found (option_map (λ whole. view whole.now) value.entry) }
+{
+    value_at(value_at(value, "objectRef"), "namespace")
+}
+
 // The wait in the queue that an event says.
 fn wait_of(value: Option<&Value>) -> Option<&Value>
     ensures { option_map (λ found. view found.now) result ≡ wait_found (option_map (λ whole. view whole.now) value.entry) }
@@ -163,6 +170,13 @@ fn write_event<W: Write>(
 {
     match fault {
         AuditFault::BadUser(_) => write_user(out, place, value),
+        AuditFault::BadNamespace(_) => write_unwanted(
+            out,
+            place,
+            "objectRef.namespace",
+            namespace_of(value),
+            Wanted::Name(MAX_NAME),
+        ),
         AuditFault::BadReceived(_) => write_required(
             out,
             place,
@@ -185,7 +199,7 @@ fn write_event<W: Write>(
         AuditFault::TooLong(_)
         | AuditFault::NotUtf8Json(_)
         | AuditFault::NotEvent(_)
-        | AuditFault::TooMany(_)
+        | AuditFault::TooMany { .. }
         | AuditFault::NoMemory => write_not_event(out, place, value),
     }
 }
@@ -207,11 +221,12 @@ fn write_line<W: Write>(
         AuditFault::NotUtf8Json(_) => write_not_json(alloc, out, place, line),
         AuditFault::NotEvent(_)
         | AuditFault::BadUser(_)
+        | AuditFault::BadNamespace(_)
         | AuditFault::BadReceived(_)
         | AuditFault::BadStage(_)
         | AuditFault::BadWait(_)
         | AuditFault::BadRun(_)
-        | AuditFault::TooMany(_)
+        | AuditFault::TooMany { .. }
         | AuditFault::BadArrival(_)
         | AuditFault::NoMemory => {
             let value = line_value(alloc, line)?;
@@ -220,13 +235,20 @@ fn write_line<W: Write>(
     }
 }
 
-// Writes that there are too many requests.
-fn write_too_many<W: Write>(out: &mut W, count: usize) -> io::Result<()>
-    ensures { OnOk result (Appends (W.contents out.old) (W.contents out.new) (too_many_events count)) }
+// Writes that there are too many requests, and from when to when they were received, in microseconds from 1970 on.
+fn write_too_many<W: Write>(out: &mut W, count: usize, first: u64, last: u64) -> io::Result<()>
+    ensures { OnOk result (IsManyLine count first last (W.contents out.old) (W.contents out.new)) }
 {
+    write!(
+        out,
+        "apf: audit fault 9: there are {count} requests, received from "
+    )?;
+    write_instant(out, first)?;
+    out.write_all(b" to ")?;
+    write_instant(out, last)?;
     writeln!(
         out,
-        "apf: audit fault 9: there are {count} requests: at most {MAX_REQUESTS} may be there"
+        ": at most {MAX_REQUESTS} may be there: --since, --until and --user choose some of them"
     )
 }
 
@@ -251,8 +273,8 @@ pub fn explain_audit_log<W: Write>(
     ensures refused { fault ≡ AuditFault.NoMemory → (result ≡ Err ExplainFault.NoMemory) × (out.new ≡ out.old) }
     ensures memory { result ≡ Err ExplainFault.NoMemory → out.new ≡ out.old }
 {
-    if let AuditFault::TooMany(count) = fault {
-        return Ok(write_too_many(out, count)?);
+    if let AuditFault::TooMany { count, first, last } = fault {
+        return Ok(write_too_many(out, count, first, last)?);
     }
     let Some(number) = fault.line() else {
         return Err(ExplainFault::NoMemory);

@@ -12,6 +12,10 @@ ghost use Rattle.apf_traces.specs.TraceFile.{trace_of};
 ghost use Rattle.apf_traces.specs.declared.fault.TraceFault.{TraceFault};
 ghost use Rattle.apf_explain.specs.Shown.{IsConfigShown, IsRequestsShown, IsScriptShown};
 ghost use Rattle.apf_explain.specs.TraceShown.{IsTraceShown};
+ghost use Rattle.apf_audit.specs.AuditLog.{log_of};
+ghost use Rattle.apf_audit.specs.declared.choice.Choice.{Choice};
+ghost use Rattle.apf_audit.specs.declared.fault.AuditFault.{AuditFault};
+ghost use Rattle.apf_explain.specs.AuditShown.{IsAuditShown};
 
 /// The law of a config's fault. Where it is a bad value, a value stands at that key, and is none that the line says may
 /// stand there. Where a key is unknown, the object has the one that the line names, and it is none of a config's keys.
@@ -34,4 +38,11 @@ pub fn every_script_fault_is_shown()
 /// the line says may stand at its key stands there; of an unknown key, the object has the one that is named.
 pub fn every_trace_fault_is_shown()
     ensures { (bytes : List ℕ) (fault : TraceFault) → trace_of bytes ≡ Err fault → IsTraceShown bytes fault }
+{}
+
+/// The law of an audit log's fault. The line that it names is there, and has the fault: of a bad value, none of those that
+/// the line says may stand at its key stands there. Of too many requests it says how many are chosen, and from when to when
+/// they were received; of a request that arrives too late that it is one of the chosen, and does.
+pub fn every_audit_fault_is_shown()
+    ensures { (choice : Choice) (bytes : List ℕ) (fault : AuditFault) → log_of choice bytes ≡ Err fault → IsAuditShown choice bytes fault }
 {}

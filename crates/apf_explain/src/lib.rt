@@ -45,8 +45,8 @@ pub use config::explain_config;
 pub use dealer::explain_dealer;
 pub use fault::ExplainFault;
 pub use laws::{
-    every_config_fault_is_shown, every_request_fault_is_shown, every_script_fault_is_shown,
-    every_trace_fault_is_shown,
+    every_audit_fault_is_shown, every_config_fault_is_shown, every_request_fault_is_shown,
+    every_script_fault_is_shown, every_trace_fault_is_shown,
 };
 pub use requests::explain_requests;
 pub use script::explain_script;

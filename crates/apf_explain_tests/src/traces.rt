@@ -1,4 +1,4 @@
-use apf_audit::read_audit_log;
+use apf_audit::{AuditFault, By, Choice, read_audit_log};
 use apf_explain::{explain_audit_log, explain_trace};
 use apf_traces::read_trace;
 use std::alloc::Global;
@@ -16,7 +16,13 @@ fn trace_line(alloc: Global, bytes: &[u8]) -> Result<Vec<u8>, Fail> {
 // The line of an audit log, or nothing if it is good.
 fn audit_line(alloc: Global, bytes: &[u8]) -> Result<Vec<u8>, Fail> {
     let mut out = Vec::new(alloc);
-    if let Err(fault) = read_audit_log(alloc, bytes) {
+    let choice = Choice {
+        by: By::Namespace,
+        user: None,
+        since: None,
+        until: None,
+    };
+    if let Err(fault) = read_audit_log(alloc, bytes, &choice) {
         explain_audit_log(alloc, bytes, fault, &mut out)?;
     }
     Ok(out)
@@ -79,7 +85,7 @@ fn lines_of_an_audit_log(rt: HostRuntime) -> Result<(), Fail> {
     let times =
         ",\"requestReceivedTimestamp\":\"2026-01-31T12:00:01Z\",\"stageTimestamp\":\"2026-01-31T12:00:00Z\"";
     let instant = "it must be an instant from 1970 on, as \"2026-01-31T12:00:00.000000Z\"";
-    let rows: [(&str, &str, &str); 5] = [
+    let rows: [(&str, &str, &str); 6] = [
         (
             "",
             "4",
@@ -89,6 +95,11 @@ fn lines_of_an_audit_log(rt: HostRuntime) -> Result<(), Fail> {
             ",\"impersonatedUser\":{\"username\":7}",
             "4",
             "impersonatedUser.username is 7: it must be a text of at most 4096 bytes",
+        ),
+        (
+            ",\"user\":{\"username\":\"a\"},\"objectRef\":{\"namespace\":7}",
+            "12",
+            "objectRef.namespace is 7: it must be a text of at most 4096 bytes",
         ),
         (user, "5", "the key requestReceivedTimestamp is missing: "),
         (
@@ -111,6 +122,38 @@ fn lines_of_an_audit_log(rt: HostRuntime) -> Result<(), Fail> {
         let log = format!(in rt.alloc(); "{front}{user}{rest}}}\n")?;
         let line = format!(in rt.alloc(); "apf: audit fault {number} at line 1: {said}{wanted}\n")?;
         let out = audit_line(rt.alloc(), log.as_bytes())?;
+        assert_eq!(rt; out.as_slice(), line.as_bytes());
+    }
+    Ok(())
+}
+
+// How many there are, from when to when, and what helps. An instant after the year 9999 is a number.
+#[test]
+fn too_many_requests(rt: HostRuntime) -> Result<(), Fail> {
+    let most = 253_402_207_200_999_999u64;
+    for (first, last, said) in [
+        (
+            1_795_608_000_000_000u64,
+            1_795_608_001_500_000u64,
+            "2026-11-25T12:00:00Z to 2026-11-25T12:00:01.5Z",
+        ),
+        (0, 1, "1970-01-01T00:00:00Z to 1970-01-01T00:00:00.000001Z"),
+        (
+            most,
+            most + 1,
+            "9999-12-30T22:00:00.999999Z to 253402207201000000",
+        ),
+    ] {
+        let fault = AuditFault::TooMany {
+            count: 10_001,
+            first,
+            last,
+        };
+        let mut out = Vec::new(rt.alloc());
+        explain_audit_log(rt.alloc(), b"", fault, &mut out)?;
+        let line = format!(in rt.alloc();
+            "apf: audit fault 9: there are 10001 requests, received from {said}: at most 10000 may be there: --since, --until and --user choose some of them\n"
+        )?;
         assert_eq!(rt; out.as_slice(), line.as_bytes());
     }
     Ok(())

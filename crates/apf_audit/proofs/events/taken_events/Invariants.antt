@@ -7,7 +7,7 @@ use Rattle.apf_audit.proofs.events.taken_events.Given as goal
 
 abbrev pub invariant-loop-rest : goal.invariant-loop-rest
 invariant-loop-rest l = record {
-  so_far : with_front (map event l.all.items) (events_from l.line (lines_of l.rest)) ≡ events_of l.bytes;
+  so_far : with_front (map event l.all.items) (events_from l.choice l.line (lines_of l.rest)) ≡ events_of l.choice l.bytes;
   ranges : All IsTakenInRange l.all.items;
   within : l.line + length l.rest ≤ length l.bytes + 1;
 }

@@ -1,7 +1,6 @@
 -- The line of the number that the fault has.
-use Rattle.std.proofs.Common.{◌≡◌, Some, sym, ◌∙◌, rules}
+use Rattle.std.proofs.Common.{◌≡◌, Some, rules}
 use Rattle.apf_traces.specs.TraceFaults.{line_of}
-use Rattle.apf_explain.specs.TraceLines.{IsTraceLineAt, numbered_line}
 use Rattle.apf_explain.proofs.traces.explain_trace.Goals as goal
 
 pub returns-clause-line : goal.returns-clause-line

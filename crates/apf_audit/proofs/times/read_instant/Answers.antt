@@ -2,7 +2,7 @@ use Rattle.std.proofs.Common.{◌∙◌, rules, ap, FitsSigned, w64}
 use Rattle.std.proofs.lemmas.Int.{to_z-of_z}
 use Rattle.apf_audit.specs.Times.{natural}
 use Rattle.apf_audit.proofs.Naturals.{instant_as, instant_none}
-use Rattle.apf_audit.proofs.times.instant_of.Goals as goal
+use Rattle.apf_audit.proofs.times.read_instant.Goals as goal
 
 pub returns-in-Ok : goal.returns-in-Ok
 returns-in-Ok c =

@@ -1,0 +1,171 @@
+-- The median of runs is the first of them that is a median, since no two numbers are.
+use Rattle.std.proofs.Common.{◌≡◌, ◌≤◌, ◌<◌, ◌*◌, ◌&&◌, ◌⊎◌, inl, inr, ℕ, zero, suc, List, [], ◌∷◌, length, Option, Some, None, Bool, true, false, cond, refl, sym, ◌∙◌, ap, subst, arith, rules, All, true≢false}
+use Rattle.std.specs.Prelude.{Contains, count_by, filter, map, nat_le, nat_lt, sum_by, unwrap_or}
+use Rattle.std.specs.Borrow.{Bor}
+use Rattle.std.specs.BTreeMap.{BTreeMap, get_by}
+use Rattle.std.specs.Cmp.Lexicographic.{slice_cmp}
+use Rattle.std.specs.List.{find}
+use Rattle.std.specs.Map.{update}
+use Rattle.std.specs.Option.{IfSome}
+use Rattle.std.specs.Ordering.{nat_cmp}
+use Rattle.std.specs.Str.{bytes_eq}
+use Rattle.std.proofs.lemmas.Slice.Eq.{bytes_eq-Decides}
+use Rattle.std.proofs.lemmas.Bool.Decides.{nat_tests}
+use Rattle.std.proofs.lemmas.List.Sums.{sum_by-cons}
+use Rattle.std.proofs.lemmas.List.Elements.{All-cons, All-head, All-tail, All-filter, All-map}
+use Rattle.apf_times.specs.Percentiles.{IsPercentile}
+use Rattle.apf_audit.specs.AuditEvent.{Event, event, IsTakenInRange}
+use Rattle.apf_audit.specs.Known.{AreKnown}
+use Rattle.apf_audit.specs.Runs.{is_median, median_of, estimate_of, ran, runs_of, run_in}
+use Rattle.apf_audit.specs.Times.{max_run}
+use Rattle.apf_audit.specs.declared.event.Taken.{Taken}
+
+sums_rise : (f g : ℕ → ℕ) → ((x : ℕ) → f x ≤ g x) → (xs : List ℕ) → sum_by f xs ≤ sum_by g xs
+sums_rise f g rises [] = omega arith
+sums_rise f g rises (x ∷ xs) =
+    let first = rises x in
+    let later = sums_rise f g rises xs in
+    omega (arith, sum_by-cons f x xs, sum_by-cons g x xs)
+
+below_one : (low high r : ℕ) → low < high → (a b : Bool) → nat_le r low ≡ a → nat_lt r high ≡ b → cond a 1 0 ≤ cond b 1 0
+below_one low high r less true true p q = omega arith
+below_one low high r less false true p q = omega arith
+below_one low high r less false false p q = omega arith
+below_one low high r less true false p q =
+    let up : r ≤ low = grind (arith, nat_tests) in
+    let down : high ≤ r = grind (arith, nat_tests) in
+    absurd (omega arith)
+
+-- those that are not above a number are below a larger one
+count_below : (low high : ℕ) → low < high → (runs : List ℕ) → count_by (λ r. nat_le r low) runs ≤ count_by (λ r. nat_lt r high) runs
+count_below low high less runs =
+    sums_rise (λ r. cond (nat_le r low) 1 0) (λ r. cond (nat_lt r high) 1 0) (λ r. below_one low high r less (nat_le r low) (nat_lt r high) refl refl) runs
+
+-- the tests of a median, as facts
+record IsMedian (runs : List ℕ) (run : ℕ) : Type 0 where
+  enough : 50 * length runs ≤ 100 * count_by (λ r. nat_le r run) runs
+  fewer : 100 * count_by (λ r. nat_lt r run) runs < 50 * length runs
+
+facts_of : (a b : ℕ) (c d : ℕ) → (nat_le a b && nat_lt c d) ≡ true → (a ≤ b) × (c < d)
+facts_of a b c d e = go (nat_le a b) (nat_lt c d) refl refl e
+  where
+    go : (p q : Bool) → nat_le a b ≡ p → nat_lt c d ≡ q → (p && q) ≡ true → (a ≤ b) × (c < d)
+    go true true x y e = (grind (arith, nat_tests), grind (arith, nat_tests))
+    go true false x y e = absurd (true≢false (sym e))
+    go false q x y e = absurd (true≢false (sym e))
+
+tests_of : (a b c d : ℕ) → a ≤ b → c < d → (nat_le a b && nat_lt c d) ≡ true
+tests_of a b c d h k =
+    let first : nat_le a b ≡ true = grind (arith, nat_tests) in
+    let second : nat_lt c d ≡ true = grind (arith, nat_tests) in
+    rw (first, second) refl
+
+median_facts : (runs : List ℕ) (run : ℕ) → is_median runs run ≡ true → IsMedian runs run
+median_facts runs run e = let both = facts_of _ _ _ _ e in record { enough = both.0; fewer = both.1 }
+
+-- there is one median
+one_median : (runs : List ℕ) (run other : ℕ) → IsMedian runs run → IsMedian runs other → run ≡ other
+one_median runs run other one two = go (compare_of run other)
+  where
+    compare_of : (a b : ℕ) → (a ≡ b) ⊎ ((a < b) ⊎ (b < a))
+    compare_of a b = grind arith
+
+    go : (run ≡ other) ⊎ ((run < other) ⊎ (other < run)) → run ≡ other
+    go (inl same) = same
+    go (inr (inl less)) =
+        let counts = count_below run other less runs in
+        let a = one.enough in
+        let b = two.fewer in
+        absurd (omega arith)
+    go (inr (inr more)) =
+        let counts = count_below other run more runs in
+        let a = two.enough in
+        let b = one.fewer in
+        absurd (omega arith)
+
+tail_has : (x m : ℕ) (xs : List ℕ) → Contains (x ∷ xs) m → (x ≡ m → ⊥) → Contains xs m
+tail_has x m xs (zero, within, at) differs = absurd (differs at)
+tail_has x m xs (suc k, within, at) differs = (k, omega arith, at)
+
+-- the first that passes a test that one of them alone passes
+first_is : (p : ℕ → Bool) (m : ℕ) → ((other : ℕ) → p other ≡ true → other ≡ m) → p m ≡ true → (xs : List ℕ) → Contains xs m → unwrap_or (find p xs) 0 ≡ m
+first_is p m one passes [] (k, within, at) = absurd (omega arith)
+first_is p m one passes (x ∷ xs) has = go (p x) refl (first_is p m one passes xs)
+  where
+    go : (b : Bool) → p x ≡ b → (Contains xs m → unwrap_or (find p xs) 0 ≡ m) → unwrap_or (cond b (Some x) (find p xs)) 0 ≡ m
+    go true is later = one x is
+    go false is later = later (tail_has x m xs has (λ same. true≢false (sym (ap p same ∙ passes) ∙ is)))
+
+-- what the percentile answers
+pub median_is : (runs : List ℕ) (m : ℕ) → (length runs ≡ 0 → m ≡ 0) → (0 < length runs → IsPercentile 50 runs m) → m ≡ median_of runs
+unfolding median_of
+median_is [] m none some = none refl
+median_is (x ∷ xs) m none some =
+    let is = some (omega arith) in
+    let passes : is_median (x ∷ xs) m ≡ true = tests_of _ _ _ _ is.enough is.fewer_below in
+    sym (first_is (is_median (x ∷ xs)) m
+    (λ other e. one_median (x ∷ xs) other m (median_facts (x ∷ xs) other e) (record { enough = is.enough; fewer = is.fewer_below })) passes (x ∷ xs) is.is_one)
+
+-- ---- how long runs are
+
+first_within : (p : ℕ → Bool) (most : ℕ) (xs : List ℕ) → All (λ x. x ≤ most) xs → unwrap_or (find p xs) 0 ≤ most
+first_within p most [] all = omega arith
+first_within p most (x ∷ xs) all = go (p x) (first_within p most xs (All-tail (λ y. y ≤ most) x xs all))
+  where
+    go : (b : Bool) → unwrap_or (find p xs) 0 ≤ most → unwrap_or (cond b (Some x) (find p xs)) 0 ≤ most
+    go true later = All-head (λ y. y ≤ most) x xs all
+    go false later = later
+
+median_within : (most : ℕ) (runs : List ℕ) → All (λ r. r ≤ most) runs → median_of runs ≤ most
+unfolding median_of
+median_within most runs all = first_within (is_median runs) most runs all
+
+runs_within : (flow : Option (List ℕ)) (events : List Event) → All (λ e. e.runs_for ≤ max_run) events → All (λ r. r ≤ max_run) (runs_of flow events)
+runs_within flow events all =
+    All-map (λ r. r ≤ max_run) (λ (e : Event). e.runs_for) (filter (ran flow) events) (All-filter (ran flow) (λ (e : Event). e.runs_for ≤ max_run) events all)
+
+estimate_within : (events : List Event) (flow : List ℕ) → All (λ e. e.runs_for ≤ max_run) events → estimate_of events flow ≤ max_run
+unfolding estimate_of
+estimate_within events flow all = go (nat_lt 0 (length (runs_of (Some flow) events)))
+  where
+    go : (b : Bool) → cond b (median_of (runs_of (Some flow) events)) (median_of (runs_of None events)) ≤ max_run
+    go true = median_within max_run (runs_of (Some flow) events) (runs_within (Some flow) events all)
+    go false = median_within max_run (runs_of None events) (runs_within None events all)
+
+-- a request that is to run for so long runs as long as a trace can have it
+pub run_within : (events : List Event) (e : Event) → All (λ x. x.runs_for ≤ max_run) events → e.runs_for ≤ max_run → run_in events e ≤ max_run
+run_within events e all one = go e.turned_away
+  where
+    go : (b : Bool) → cond b (estimate_of events e.flow) e.runs_for ≤ max_run
+    go true = estimate_within events e.flow all
+    go false = one
+
+short_events : (all : List Taken) → All IsTakenInRange all → All (λ e. e.runs_for ≤ max_run) (map event all)
+short_events [] h = search rules
+short_events (t ∷ ts) h =
+    All-cons (λ (e : Event). e.runs_for ≤ max_run) (event t) (map event ts) (All-head IsTakenInRange t ts h).run (short_events ts (All-tail IsTakenInRange t ts h))
+
+some_within : (events : List Event) → All (λ x. x.runs_for ≤ max_run) events → (all : List Taken) → All IsTakenInRange all
+    → All (λ run. run ≤ max_run) (map (λ taken. run_in events (event taken)) all)
+some_within events short [] h = search rules
+some_within events short (t ∷ ts) h =
+    All-cons (λ (run : ℕ). run ≤ max_run) (run_in events (event t)) (map (λ taken. run_in events (event taken)) ts)
+    (run_within events (event t) short (All-head IsTakenInRange t ts h).run) (some_within events short ts (All-tail IsTakenInRange t ts h))
+
+-- the same of all
+pub all_within : (all : List Taken) → All IsTakenInRange all → All (λ run. run ≤ max_run) (map (λ taken. run_in (map event all) (event taken)) all)
+all_within all h = some_within (map event all) (short_events all h) all h
+
+-- ---- what is known of flows
+
+-- the estimate of one flow more is known
+pub known_more : (events : List Event) (old new : BTreeMap (Bor (List ℕ)) ℕ) (flow : List ℕ) (run : ℕ) → AreKnown events old → run ≡ estimate_of events flow
+    → ((other : List ℕ) → get_by (λ k. slice_cmp nat_cmp other k.now) new ≡ update bytes_eq (λ q. get_by (λ k. slice_cmp nat_cmp q k.now) old) flow (Some run) other)
+    → AreKnown events new
+known_more events old new flow run known is updates other =
+    subst (λ (o : Option ℕ). IfSome o (λ r. r ≡ estimate_of events other)) (sym (updates other)) (go (bytes_eq flow other) refl)
+  where
+    go : (b : Bool) → bytes_eq flow other ≡ b
+        → IfSome (cond b (Some run) (get_by (λ k. slice_cmp nat_cmp other k.now) old)) (λ r. r ≡ estimate_of events other)
+    go true same = is ∙ ap (estimate_of events) ((bytes_eq-Decides flow other).0 same)
+    go false differs = known other

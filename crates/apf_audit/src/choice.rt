@@ -1,0 +1,93 @@
+//! Which requests of a log are chosen, and what makes a flow.
+
+ghost use Rattle.std.specs.Prelude.{◌≡◌};
+ghost use Rattle.apf_audit.specs.Choice as spec;
+
+/// What makes a flow of the trace.
+#[derive(Clone, Copy, Debug, PartialEq, Eq)]
+pub enum By {
+    /// The name of the user.
+    User,
+    /// The namespace of the object.
+    Namespace,
+}
+
+impl By {
+    /// What makes a flow, by its word: `user` or `namespace`.
+    pub fn named(word: &str) -> Option<By>
+        ensures { result ≡ spec.by_named word.now }
+    {
+        if word == "user" {
+            Some(By::User)
+        } else if word == "namespace" {
+            Some(By::Namespace)
+        } else {
+            None
+        }
+    }
+}
+
+/// Which requests of a log are chosen, and what makes a flow.
+#[derive(Clone, Copy, Debug, PartialEq, Eq)]
+pub struct Choice<'a> {
+    /// What makes a flow.
+    pub by: By,
+    /// The name of the user, or its beginning with `*` behind it; none takes every user.
+    pub user: Option<&'a str>,
+    /// The requests that were received at this instant or later, in microseconds from 1970 on.
+    pub since: Option<u64>,
+    /// The requests that were received before this instant, in microseconds from 1970 on.
+    pub until: Option<u64>,
+}
+
+// Whether the name is the pattern, or begins as it does where it ends with `*`.
+fn is_named(pattern: &str, name: &str) -> bool
+    ensures { result ≡ spec.is_named pattern.now name.now }
+{
+    let (pattern, name) = (pattern.as_bytes(), name.as_bytes());
+    if pattern.ends_with(b"*") {
+        name.starts_with(&pattern[..pattern.len() - 1])
+    } else {
+        name == pattern
+    }
+}
+
+impl Choice<'_> {
+    // Whether the requests of this user are chosen.
+    fn has_user(&self, name: &str) -> bool
+        ensures { result ≡ spec.has_user self.now.user name.now }
+    {
+        match self.user {
+            Some(pattern) => is_named(pattern, name),
+            None => true,
+        }
+    }
+
+    // Whether the instant is not before the first.
+    fn has_begun(&self, received: u64) -> bool
+        ensures { result ≡ spec.has_begun self.now.since received }
+    {
+        match self.since {
+            Some(since) => since <= received,
+            None => true,
+        }
+    }
+
+    // Whether the instant is before the end.
+    fn is_open(&self, received: u64) -> bool
+        ensures { result ≡ spec.is_open self.now.until received }
+    {
+        match self.until {
+            Some(until) => received < until,
+            None => true,
+        }
+    }
+
+    /// Whether a request of this user is chosen that was received at this instant, in microseconds from 1970 on.
+    #[tactic(auto, unfolding(crate::specs::Choice::is_chosen))]
+    pub(crate) fn has(&self, user: &str, received: u64) -> bool
+        ensures { result ≡ spec.is_chosen self.now user.now received }
+    {
+        self.has_user(user) && self.has_begun(received) && self.is_open(received)
+    }
+}

@@ -1,0 +1,37 @@
+-- Which requests the words of a command line choose.
+use Rattle.std.specs.Prelude.{◌≡◌, ⊤, ℕ, List, Option, Some, None}
+use Rattle.std.specs.Borrow.{Bor}
+use Rattle.apf_audit.specs.Choice.{by_named}
+use Rattle.apf_audit.specs.Times.{instant_of}
+use Rattle.apf_audit.specs.declared.choice.By.{By}
+use Rattle.apf_audit.specs.declared.choice.By.TheVariants.{User}
+use Rattle.apf_audit.specs.declared.choice.Choice.{Choice}
+use Rattle.apf_commands.specs.declared.words.Chosen.{Chosen}
+
+-- what makes a flow: what the word says, and users where there is none
+abbrev pub IsByFor : Option (Bor (List ℕ)) → By → Type 0
+IsByFor None by = by ≡ User
+IsByFor (Some word) by = by_named word.now ≡ Some by
+
+-- the word says nothing that makes a flow
+abbrev pub IsNoByFor : Option (Bor (List ℕ)) → Type 0
+IsNoByFor None = ⊥
+IsNoByFor (Some word) = by_named word.now ≡ None
+
+-- the instant that the word says, and none where there is none
+abbrev pub IsInstantFor : Option (Bor (List ℕ)) → Option ℕ → Type 0
+IsInstantFor None instant = instant ≡ None
+IsInstantFor (Some word) None = ⊥
+IsInstantFor (Some word) (Some instant) = instant_of word.now ≡ Some instant
+
+-- the word says no instant
+abbrev pub IsNoInstantFor : Option (Bor (List ℕ)) → Type 0
+IsNoInstantFor None = ⊥
+IsNoInstantFor (Some word) = instant_of word.now ≡ None
+
+-- the choice that the words say
+pub record IsChoiceFor (chosen : Chosen) (choice : Choice) : Type 0 where
+  pub by : IsByFor chosen.by choice.by
+  pub user : choice.user ≡ chosen.user
+  pub since : IsInstantFor chosen.since choice.since
+  pub until : IsInstantFor chosen.until choice.until

@@ -4,3 +4,4 @@ pub mod Staying
 pub mod Finishing
 pub mod Leaving
 pub mod Concluding
+pub mod Beginning

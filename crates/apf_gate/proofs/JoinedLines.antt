@@ -3,7 +3,7 @@ use Rattle.std.proofs.Common.{◌≡◌, ◌≢◌, ◌⊎◌, ℕ, ◌+◌, ◌
 use mathlib.Core.Option.{some}
 use lib.ListN.{get_elem?}
 use Rattle.apf_words.specs.declared.decision.Decision.TheVariants.{QueueFull, Closed}
-use Rattle.apf_model.specs.declared.moves.Stage.TheVariants.{Away}
+use Rattle.apf_model.specs.declared.moves.Stage.TheVariants.{Away, Waits}
 use Rattle.apf_model.specs.World.{World}
 use Rattle.apf_gate.specs.declared.record.Shape.{Shape}
 use Rattle.apf_gate.specs.declared.record.State.TheVariants.{InLine}
@@ -16,7 +16,7 @@ use Rattle.apf_gate.specs.declared.record.DeskRecord.{DeskRecord}
 use Rattle.apf_gate.specs.declared.record.Record.TheVariants.{Pass, Desk}
 use Rattle.apf_gate.specs.Records.{service, service_of}
 use Rattle.apf_gate.specs.Traces.{world_of, entry, GoesOn}
-use Rattle.apf_gate.specs.Requests.{IsRequest, IsPassRecord, IsHanded, IsState, MayHold, stage_of, stage_of_pass, was_handed, has_entered, written}
+use Rattle.apf_gate.specs.Requests.{IsRequest, IsPassRecord, IsHanded, IsState, MayHold, stage_of, stage_of_pass, was_handed, has_entered, written, WaitsAlone}
 use Rattle.apf_words.specs.Codes.{marked}
 use Rattle.std.specs.Prelude.{slice_index}
 use Rattle.apf_gate.specs.Slots.{slot_of, mark_of}
@@ -32,6 +32,7 @@ use Rattle.apf_gate.proofs.Later.{IsNext}
 use Rattle.apf_gate.proofs.Knowing.{ahead}
 use Rattle.apf_model.specs.declared.moves.Move.{Move}
 use Rattle.apf_gate.proofs.Puts.{put_else}
+use Rattle.apf_gate.proofs.Slots.{busy_holds}
 
 -- a request that never entered and was not refused as full
 early : (a : Service) → has_entered a ≡ false → a ≢ RefusedFull → (a ≡ NotHanded) ⊎ ((a ≡ Handed) ⊎ (a ≡ RefusedClosed))
@@ -155,12 +156,20 @@ module _ (s : Shape) where
     closed = λ e. k.closed (sym i.same_written ∙ e);
   }
 
+  -- who waits holds its slot
+  waits_alone : (t : Table) (h : IsRuled s t) (p : PassRecord) (d : DeskRecord) → AreAt t h p d → WaitsAlone s d p.number
+  unfolding WaitsAlone
+  waits_alone t h p d k other inside same waits =
+      let holds = busy_holds s h.account h.slots other Waits inside ((k.desk.request other inside).stage ∙ ap (stage_of (h.account.pass other)) waits) (λ e. cc) (λ e. cc) in
+      sym holds ∙ (ap h.account.current same ∙ k.holds)
+
   -- what the two tell each other
   pub agree : (t : Table) (h : IsRuled s t) (p : PassRecord) (d : DeskRecord) (k : AreAt t h p d) (m : Option Move) (u : Knowledge) → IsNext s OfDesk m h.account.trace → u.trace ≡ entry OfDesk m ∷ h.account.trace → Agree (record { pass = p; desk = d }) u
   agree t h p d k m u next is = record {
     trace = subst (λ es. GoesOn es (OfPass p.number) p.knows.trace) (sym is) (ahead s (OfPass p.number) OfDesk p.knows h.account.trace m k.known next (λ z. cc));
     tied = k.request.tied;
     not_handed = λ e. ⊎_elim (λ (x : service d p.number ≡ NotHanded). x) (λ (x : was_handed (service d p.number) ≡ true). absurd (let z = sym e ∙ (k.request.tied.handed ∙ x) in cc)) (handed_or_not (service d p.number));
+    alone = subst (λ (x : Shape). WaitsAlone x d p.number) (sym k.known.shape_is) (waits_alone t h p d k);
   }
 
   -- a service that changes is the Desk's alone, and of this request

@@ -8,7 +8,7 @@ use Rattle.apf_gate.specs.declared.record.DeskRecord.{DeskRecord}
 use Rattle.apf_gate.specs.declared.answers.TryEnter.{TryEnter}
 use Rattle.apf_gate.specs.declared.answers.TryEnter.TheVariants as tried
 use Rattle.apf_gate.specs.Records.{told_of, told_own, service, KnowsMore}
-use Rattle.apf_gate.specs.Requests.{AreTied}
+use Rattle.apf_gate.specs.Requests.{AreTied, WaitsAlone}
 use Rattle.apf_gate.specs.Tokens.{PassToken, DeskToken, pass_gate, desk_gate}
 
 -- both are of the same gate still. The Pass is of the same request and in the state that it was in; the Desk holds what it held, and knows more than it did. They have the same trace now, and agreed on whether the request was handed over and entered
@@ -40,7 +40,7 @@ pub record AfterRefuse (pass : PassRecord) (decision answer : Decision) (desk' :
   pub told_pass : told_own pass' ≡ Some answer
   pub entered : pass'.entered ≡ false
 
--- after a hearing both were told the decision that was found, if one was: the one that the Pass was told, if it was. The Pass has that its request left, if the Desk let it leave. The Desk served nobody
+-- after a hearing both were told the decision that was found, if one was: the one that the Pass was told, if it was. The Pass has that its request left, if the Desk let it leave. No other request of the slot waits. The Desk served nobody
 pub record AfterHear (desk : DeskRecord) (pass : PassRecord) (answer : Option Decision) (desk' : DeskRecord) (pass' : PassRecord) : Type 0 where
   pub stays : told_own pass ≢ None → answer ≡ told_own pass
   pub told : answer ≢ None → told_of desk'.knows.told pass.number ≡ answer
@@ -48,4 +48,5 @@ pub record AfterHear (desk : DeskRecord) (pass : PassRecord) (answer : Option De
   pub entered : pass'.entered ≡ pass.entered
   pub left : service desk pass.number ≡ Left → pass'.left ≡ true
   pub still_left : pass.left ≡ true → pass'.left ≡ true
+  pub alone : WaitsAlone pass.knows.shape desk pass.number
   pub served : (desk'.services ≡ desk.services) × (desk'.held ≡ desk.held)

@@ -11,7 +11,7 @@ use Rattle.apf_gate.specs.declared.record.Service.TheVariants.{NotHanded, Handed
 use Rattle.apf_gate.specs.declared.record.PassRecord.{PassRecord}
 use Rattle.apf_gate.specs.Records.{told_own, saw_decision, service}
 use Rattle.apf_gate.specs.Traces.{GoesOn}
-use Rattle.apf_gate.specs.Requests.{AreTied}
+use Rattle.apf_gate.specs.Requests.{AreTied, WaitsAlone}
 use Rattle.apf_gate.specs.Steps.{Both, SawLevel, SawDecision}
 use Rattle.apf_gate.specs.PassSteps.{own_mark}
 use Rattle.apf_gate.specs.DeskSteps.{served, DeskMayFind}
@@ -28,11 +28,12 @@ along pass known' = record pass.knows { trace = known'.trace }
 abbrev pub along_told : PassRecord → Option Decision → Knowledge → Knowledge
 along_told pass decision known' = saw_decision pass.knows pass.number decision known'.trace
 
--- what two joined tokens tell each other: the Desk's trace goes on from the Pass's by steps of others, and the Pass has that it was handed over, and that it entered, exactly if the Desk did that
+-- what two joined tokens tell each other: the Desk's trace goes on from the Pass's by steps of others, and the Pass has that it was handed over, and that it entered, exactly if the Desk did that. No other request of the Pass's slot waits
 pub record Agree (both : Both) (known' : Knowledge) : Type 0 where
   pub trace : GoesOn known'.trace (OfPass both.pass.number) both.pass.knows.trace
   pub tied : AreTied both.pass.number both.pass (service both.desk both.pass.number)
   pub not_handed : both.pass.handed ≡ false → service both.desk both.pass.number ≡ NotHanded
+  pub alone : WaitsAlone both.pass.knows.shape both.desk both.pass.number
 
 -- a request that was refused as closed stays so when it is handed over again
 abbrev pub handed_over : Service → Service

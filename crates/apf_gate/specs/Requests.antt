@@ -1,5 +1,5 @@
 -- The lines of the rule on one request: its Pass, what the Desk did with it, and its word.
-use Rattle.std.specs.Prelude.{◌≡◌, ◌⊎◌, ℕ, Bool, true, false, Option, Some, None}
+use Rattle.std.specs.Prelude.{◌≡◌, ◌⊎◌, ℕ, ◌<◌, Bool, true, false, length, Option, Some, None}
 use Rattle.apf_words.specs.declared.decision.Decision.{Decision}
 use Rattle.apf_words.specs.declared.decision.Decision.TheVariants.{Execute, QueueFull, Closed, Cancelled, ConcurrencyLimit}
 use Rattle.apf_model.specs.declared.moves.Stage.{Stage}
@@ -12,7 +12,9 @@ use Rattle.apf_gate.specs.declared.record.State.TheVariants.{Fresh, Took, InLine
 use Rattle.apf_gate.specs.declared.record.PassRecord.{PassRecord}
 use Rattle.apf_gate.specs.declared.record.Service.{Service}
 use Rattle.apf_gate.specs.declared.record.Service.TheVariants.{NotHanded, Handed, RefusedFull, RefusedClosed, Waiting, Held, Settled, Left}
-use Rattle.apf_gate.specs.Records.{told_own}
+use Rattle.apf_gate.specs.declared.record.DeskRecord.{DeskRecord}
+use Rattle.apf_gate.specs.Slots.{slot_of}
+use Rattle.apf_gate.specs.Records.{told_own, service}
 
 -- where a request stands that the Desk did not enter
 abbrev pub stage_of_pass : State → Bool → Stage
@@ -127,3 +129,7 @@ pub record IsRequest (shape : Shape) (r : ℕ) (pass : PassRecord) (service : Se
   pub saw : w.saw_no_room r ≡ pass.saw_no_room
   pub word : MayHold (written pass service) (w.decision r)
   pub closed : written pass service ≡ Some Closed → w.is_open ≡ false
+
+-- the Desk has no other request of this one's slot waiting. Closed: no search looks into it
+unfoldable pub WaitsAlone : Shape → DeskRecord → ℕ → Type 0
+WaitsAlone shape desk r = (other : ℕ) → other < length shape.widths → slot_of other ≡ slot_of r → service desk other ≡ Waiting → other ≡ r

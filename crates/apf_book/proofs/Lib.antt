@@ -13,6 +13,7 @@ pub mod Lists
 pub mod Ledgers
 pub mod Nexts
 pub mod Running
+pub mod Noting
 pub mod Times
 pub mod Asking
 pub mod Entering

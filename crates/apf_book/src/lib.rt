@@ -7,7 +7,8 @@
 //! - `fault`: why a book is refused.
 //! - `histories`: the laws of histories, for proofs.
 //! - `ledger`: the queues, and the log that they are of.
-//! - `life`: the queues of slots, and every history that they are of. No call uses it yet.
+//! - `life`: the queues of slots, and every history that they are of.
+//! - `life_event`: their events, `life_stats` how many there were, `notes` the newest of them.
 //! - `stats`: the numbers of a log.
 //! - `stretch`: the services of two queues in a stretch of a log.
 //! - `overtaking`: the wait of a request in a log, and what is granted while it lasts.
@@ -26,6 +27,9 @@ mod histories;
 mod laws;
 mod ledger;
 mod life;
+mod life_event;
+mod life_stats;
+mod notes;
 mod overtaking;
 mod serving;
 mod stats;
@@ -35,6 +39,9 @@ pub use apf_model::{Ask, Config, Response, are_costs};
 pub use arrived::Arrived;
 pub use book::Book;
 pub use fault::BookFault;
+pub use life_event::LifeEvent;
+pub use life_stats::LifeStats;
+pub use notes::Copied;
 pub use laws::{
     every_book_is_kept, every_dispatched_wait_is_bounded, every_ended_book_agrees,
     no_request_is_forgotten,

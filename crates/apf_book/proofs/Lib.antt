@@ -4,6 +4,7 @@ pub mod Puts
 pub mod Knowing
 pub mod Moving
 pub mod Saying
+pub mod Agreeing
 pub mod Keeping
 pub mod Arriving
 pub mod Turning

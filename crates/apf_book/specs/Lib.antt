@@ -10,6 +10,7 @@ pub mod Overtaken
 pub mod BookCalls
 pub mod BookResults
 pub mod BookView
+pub mod Agreeing
 pub mod Moves
 pub mod Said
 pub mod Arrivals

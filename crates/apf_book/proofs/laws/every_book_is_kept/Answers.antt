@@ -3,7 +3,8 @@ use Rattle.std.proofs.Common.{refl}
 use Rattle.apf_history.specs.declared.events.Status.TheVariants as status_is
 use Rattle.apf_gate.specs.declared.record.Service.TheVariants.{RefusedFull, Waiting, Settled}
 use Rattle.apf_book.proofs.Opened.{opened}
-use Rattle.apf_book.proofs.Keeping.{is_waiting, is_settled, is_full, statuses, says}
+use Rattle.apf_book.proofs.Agreeing.{is_waiting, is_settled, is_full}
+use Rattle.apf_book.proofs.Keeping.{statuses, says}
 use Rattle.apf_book.proofs.laws.every_book_is_kept.Goals as goal
 
 pub returns : goal.returns

@@ -93,6 +93,7 @@ module _ (laws : Laws) (stands : Stands) (v : LifeView) (s : LifeState) (is : Is
   is_asked = record {
     queue_is = is.queue_is;
     in_slots = is.in_slots;
+    in_place = is.in_place;
     fair = stands v.queues v.costs (set v.costs r cost) v.hands (put v.hands r hand) v.limit v.history same_hands same_costs is.fair;
     numbers_are = is.numbers_are ∙ sym (same_numbers v.queues v.costs (set v.costs r cost) v.history same_costs);
     charged = λ q slot c. is.charged q slot c ∙ sym (cost_else (slice_index s.holders slot) (holder_other q slot c));

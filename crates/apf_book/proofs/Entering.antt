@@ -89,6 +89,12 @@ module _ (laws : Laws) (stands : Stands) (v : LifeView) (s : LifeState) (is : Is
     | inr ne ↦ ap slot_of (holder_else slot ne) ∙ is.in_slots p slot (stood p slot ne c)
   ]
 
+  in_place_after : (p slot : ℕ) → Contains (queue_in t p) slot → slot < length (set s.holders (slot_of r) r)
+  in_place_after p slot c = elim (cases_eq slot (slot_of r)) [
+    | inl e ↦ (let n = length-set s.holders (slot_of r) r in omega (arith, has_slot, e))
+    | inr ne ↦ (let n = length-set s.holders (slot_of r) r in let l = is.in_place p slot (stood p slot ne c) in omega arith)
+  ]
+
   charged_after : (p slot : ℕ) → Contains (queue_in t p) slot → width t.costs slot ≡ width (set v.costs r cost) (slice_index (set s.holders (slot_of r) r) slot)
   charged_after p slot c = elim (cases_eq slot (slot_of r)) [
     | inl e ↦ ap (width t.costs) e ∙ ap (λ (x : List ℕ). get_or x (slot_of r) 0) enters.costs
@@ -103,6 +109,7 @@ module _ (laws : Laws) (stands : Stands) (v : LifeView) (s : LifeState) (is : Is
   life_enters = record {
     queue_is = queues_after;
     in_slots = in_slots_after;
+    in_place = in_place_after;
     fair = ((may, known.fair.0), known.fair.1);
     numbers_are = enters.numbers ∙ (ap (λ (n : Numbers). after_enter q (queue_in s.queues q) n) known.numbers_are
         ∙ (enter_same q s.holders (queue_in s.queues q) (numbers v.queues (set v.costs r cost) v.history)

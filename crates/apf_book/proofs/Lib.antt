@@ -21,6 +21,8 @@ pub mod Entering
 pub mod LifeNexts
 pub mod LifeOpening
 pub mod LifeStrikes
+pub mod LifeKeeping
+pub mod LifeTurning
 pub mod Stretches
 pub mod Widths
 pub mod Leavings

@@ -125,6 +125,7 @@ module _ (v : LifeView) (s : LifeState) (is : IsLifeOf v s) where
     life_dispatches = record {
       queue_is = queues_after;
       in_slots = λ p slot k. is.in_slots p slot (stood p slot k);
+      in_place = λ p slot k. is.in_place p slot (stood p slot k);
       fair = ((next.is_first, is.fair.0), (next.is_choice, is.fair.1));
       numbers_are = d.numbers ∙ (ap (λ (k : ℕ). after_dispatch c.queue k (numbers_in s.queues)) next.cost_is ∙ ap (after_dispatch c.queue (width v.costs (slice_index s.holders c.request))) is.numbers_are);
       charged = λ p slot k. ap (λ (x : List ℕ). width x slot) d.costs ∙ is.charged p slot (stood p slot k);
@@ -150,6 +151,7 @@ life_refuses laws stands v s is r hand q cost comes low full =
     ) in record {
       queue_is = known.queue_is;
       in_slots = known.in_slots;
+      in_place = known.in_place;
       fair = ((may, known.fair.0), known.fair.1);
       numbers_are = known.numbers_are;
       charged = known.charged;

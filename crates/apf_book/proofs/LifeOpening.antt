@@ -17,6 +17,7 @@ life_opens v s holders queues limit slots opening start count o =
     record {
       queue_is = λ q. ap (holding holders) (empty q) ∙ sym (ap (λ (h : List Event). waiting h q) o.nothing);
       in_slots = λ q slot c. absurd (Contains-none slot (subst (λ (xs : List ℕ). Contains xs slot) (empty q) c));
+      in_place = λ q slot c. absurd (Contains-none slot (subst (λ (xs : List ℕ). Contains xs slot) (empty q) c));
       fair = subst (λ (h : List Event). IsFair v.queues v.costs v.hands v.limit h) (sym o.nothing) (tt, tt);
       numbers_are = start ∙ same;
       charged = λ q slot c. absurd (Contains-none slot (subst (λ (xs : List ℕ). Contains xs slot) (empty q) c));

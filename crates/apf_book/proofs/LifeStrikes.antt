@@ -58,15 +58,23 @@ module _ (v : LifeView) (s : LifeState) (is : IsLifeOf v s) (r : ℕ) where
   pub waits_in_none : ((q : ℕ) → Contains (queue_in s.queues q) (slot_of r) → ⊥) → (q : ℕ) → Contains (waiting v.history q) r → ⊥
   waits_in_none nowhere q waits = nowhere q (waits_in_slot q waits).0
 
-  module _ (laws : Laws) (q : ℕ) (holds : slice_index s.holders (slot_of r) ≡ r) (stands : Contains (queue_in s.queues q) (slot_of r)) where
-    inside : q < length s.queues.queues
-    inside = elim (cases_lt q (length s.queues.queues)) [
+  module _ (q : ℕ) (holds : slice_index s.holders (slot_of r) ≡ r) (stands : Contains (queue_in s.queues q) (slot_of r)) where
+    is_queue : q < length s.queues.queues
+    is_queue = elim (cases_lt q (length s.queues.queues)) [
       | inl l ↦ l
       | inr past ↦ absurd (Contains-none (slot_of r) (subst (λ (xs : List ℕ). Contains xs (slot_of r)) (get_or_past s.queues.queues q [] past) stands))
     ]
 
+    -- who holds a slot that stands in a queue waits there
+    pub stands_and_waits : Contains (waiting v.history q) r
+    stands_and_waits = subst (λ (xs : List ℕ). Contains xs r) (is.queue_is q) (subst (λ (i : ℕ). Contains (holding s.holders (queue_in s.queues q)) i) holds (Contains-holding s.holders (queue_in s.queues q) (slot_of r) stands))
+
+  module _ (laws : Laws) (q : ℕ) (holds : slice_index s.holders (slot_of r) ≡ r) (stands : Contains (queue_in s.queues q) (slot_of r)) where
+    inside : q < length s.queues.queues
+    inside = is_queue q holds stands
+
     waits : Contains (waiting v.history q) r
-    waits = subst (λ (xs : List ℕ). Contains xs r) (is.queue_is q) (subst (λ (i : ℕ). Contains (holding s.holders (queue_in s.queues q)) i) holds (Contains-holding s.holders (queue_in s.queues q) (slot_of r) stands))
+    waits = stands_and_waits q holds stands
 
     here : queue_in (struck s.queues q (slot_of r)) q ≡ without (slot_of r) (queue_in s.queues q)
     here = get_or-set_same s.queues.queues q (without (slot_of r) (queue_in s.queues q)) [] inside
@@ -97,6 +105,7 @@ module _ (v : LifeView) (s : LifeState) (is : IsLifeOf v s) (r : ℕ) where
     life_strikes = record {
       queue_is = queues_after;
       in_slots = λ p slot k. is.in_slots p slot (stood p slot k);
+      in_place = λ p slot k. is.in_place p slot (stood p slot k);
       fair = ((waits, is.fair.0), is.fair.1);
       numbers_are = is.numbers_are;
       charged = λ p slot k. is.charged p slot (stood p slot k);

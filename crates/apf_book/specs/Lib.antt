@@ -15,6 +15,8 @@ pub mod Moves
 pub mod Said
 pub mod Arrivals
 pub mod Servings
+pub mod LifeBook
+pub mod LifeCalls
 pub mod Laws
 pub mod Histories
 pub mod Stopped

@@ -34,6 +34,7 @@ pub record IsLifeOf (v : LifeView) (s : LifeState) : Type 0 where
   -- each queue has the slots of those that wait
   pub queue_is : (q : ℕ) → holding s.holders (queue_in s.queues q) ≡ waiting v.history q
   pub in_slots : (q slot : ℕ) → Contains (queue_in s.queues q) slot → slot_of (slice_index s.holders slot) ≡ slot
+  pub in_place : (q slot : ℕ) → Contains (queue_in s.queues q) slot → slot < length s.holders
   pub fair : IsFair v.queues v.costs v.hands v.limit v.history
   pub numbers_are : numbers_in s.queues ≡ numbers v.queues v.costs v.history
   pub charged : (q slot : ℕ) → Contains (queue_in s.queues q) slot → width s.queues.costs slot ≡ width v.costs (slice_index s.holders slot)

@@ -235,7 +235,7 @@ impl<A: Allocator> Book<A> {
         let Some(chosen) = self.ledger.choose() else {
             return None;
         };
-        match serve(gate, &mut self.desk, chosen.request) {
+        match serve(gate, &mut self.desk, chosen.request as u128) {
             Served::Dispatched => {
                 self.ledger.dispatch(chosen);
                 Some(Served::Dispatched)

@@ -16,6 +16,7 @@
 //! - `handing`: an arrival is handed to the Desk.
 //! - `serving`: the Desk serves the head of a queue.
 //! - `book`: the ledger with the Desk.
+//! - `life_book`: queues of slots and notes with the Desk.
 //! - `laws`: what is true of every book.
 #![tactic(auto)]
 
@@ -27,6 +28,7 @@ mod histories;
 mod laws;
 mod ledger;
 mod life;
+mod life_book;
 mod life_event;
 mod life_stats;
 mod notes;
@@ -39,6 +41,7 @@ pub use apf_model::{Ask, Config, Response, are_costs};
 pub use arrived::Arrived;
 pub use book::Book;
 pub use fault::BookFault;
+pub use life_book::LifeBook;
 pub use life_event::LifeEvent;
 pub use life_stats::LifeStats;
 pub use notes::Copied;

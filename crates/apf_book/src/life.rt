@@ -2,12 +2,12 @@
 //!
 //! The history is stored nowhere. Each call says what becomes of every history that the queues are of.
 
-ghost use Rattle.std.specs.Prelude.{◌≡◌, ◌≢◌, ℕ, ◌<◌, ◌≤◌, List, [], length, slice_index, Contains, ◌↔◌, IsErrOf, IfOk, IfSome, IfNone, MatchOption};
+ghost use Rattle.std.specs.Prelude.{◌≡◌, ◌≢◌, ℕ, ◌<◌, ◌≤◌, List, [], length, slice_index, All, Contains, ◌↔◌, IsTrue, MatchBool, IsErrOf, IfOk, IfSome, IfNone, MatchOption};
 ghost use Rattle.apf_words.specs.Limits.{max_width};
 ghost use Rattle.apf_gate.specs.Slots.{slot_of};
 ghost use Rattle.apf_history.specs.declared.events.Event.TheVariants as events;
 ghost use Rattle.apf_model.specs.World.{width};
-ghost use Rattle.apf_model.specs.History.{waiting};
+ghost use Rattle.apf_model.specs.History.{waiting, IsShortest};
 ghost use Rattle.apf_queue.specs.View.{queue_count, queue_in, IsQueueShape, StandsNowhere, IsChosen, HasTime};
 ghost use Rattle.apf_book.specs.Life.{LifeView, IsLifeOf, Comes, asked, then_came, IsNextIn, IsOpening};
 
@@ -20,6 +20,7 @@ use std::marker::Model;
 #[derive(Drop)]
 pub struct LifeLedger<A: Allocator> {
     queues: Queues<A>,
+    length_limit: u32,
     holders: Vec<u128, A>,
 }
 
@@ -31,7 +32,7 @@ impl<A: Allocator> Model for LifeLedger<A> {
 
     ghost view = { λ s. record { queues = s.queues; holders = s.holders.items } };
 
-    ghost invariant = { λ s. length s.holders.items ≡ length s.queues.costs };
+    ghost invariant = { λ s. (length s.holders.items ≡ length s.queues.costs) × (s.length_limit ≡ s.queues.length_limit) };
 }
 
 impl<A: Allocator + Copy> LifeLedger<A> {
@@ -48,6 +49,7 @@ impl<A: Allocator + Copy> LifeLedger<A> {
     {
         Ok(LifeLedger {
             queues: Queues::new(alloc, queues, length_limit, slots)?,
+            length_limit,
             holders: vec![in alloc; 0; slots as usize]?,
         })
     }
@@ -62,8 +64,9 @@ impl<A: Allocator> LifeLedger<A> {
         requires room { length (queue_in self.old.queues queue) ≢ self.old.queues.length_limit }
         requires has_cost { 1 ≤ cost }
         requires low { cost ≤ max_width }
-        ensures { (v : LifeView) (hand : List ℕ) → IsLifeOf v self.old → Comes v request hand queue
+        ensures enters { (v : LifeView) (hand : List ℕ) → IsLifeOf v self.old → Comes v request hand queue
             → IsLifeOf (then_came (asked v request hand cost) (events.Enter request queue)) self.new }
+        ensures slots { length self.new.holders ≡ length self.old.holders }
     {
         legal_histories_are_in_order();
         fair_histories_stand();
@@ -83,6 +86,48 @@ impl<A: Allocator> LifeLedger<A> {
         fair_histories_stand();
     }
 
+    // The shortest queue of the hand.
+    pub fn shortest(&self, hand: &[u32]) -> u32
+        requires has_cards { 0 < length hand.now }
+        requires are_queues { All (λ q. q < queue_count self.now.queues) hand.now }
+        ensures shortest { (v : LifeView) → IsLifeOf v self.now → IsShortest (waiting v.history) hand.now result }
+        ensures is_queue { result < queue_count self.now.queues }
+    {
+        self.queues.shortest(hand)
+    }
+
+    // Whether the queue holds as many requests as it may.
+    pub fn is_full(&self, queue: u32) -> bool
+        requires { queue < queue_count self.now.queues }
+        ensures { IsTrue result ↔ (length (queue_in self.now.queues queue) ≡ self.now.queues.length_limit) }
+    {
+        self.queues.len(queue) == self.length_limit
+    }
+
+    // Whether the request waits in a queue.
+    pub fn waits(&self, request: u128) -> bool
+        requires has_slot { slot_of request < length self.now.holders }
+        ensures { (v : LifeView) → IsLifeOf v self.now
+            → MatchBool result ((q : ℕ) × Contains (waiting v.history q) request) ((q : ℕ) → ¬ Contains (waiting v.history q) request) }
+    {
+        let slot = (request % 16_384) as u32;
+        if self.holders[slot as usize] != request {
+            return false;
+        }
+        match self.queues.queue_of(slot) {
+            Some(_queue) => true,
+            None => false,
+        }
+    }
+
+    // The request that holds the slot.
+    pub fn holder(&self, slot: u32) -> u128
+        requires { slot < length self.now.holders }
+        ensures { result ≡ slice_index self.now.holders slot }
+    {
+        self.holders[slot as usize]
+    }
+
     // What is dispatched next, in every history that the queues are of, or `None` if nothing waits.
     pub fn choose(&self) -> Option<Chosen>
         ensures chosen { IfSome result (IsChosen self.now.queues) }
@@ -97,7 +142,8 @@ impl<A: Allocator> LifeLedger<A> {
     pub fn dispatch(&mut self, chosen: Chosen)
         requires chosen { IsChosen self.old.queues chosen }
         requires time { HasTime self.old.queues chosen.queue }
-        ensures { (v : LifeView) → IsLifeOf v self.old
+        ensures slots { length self.new.holders ≡ length self.old.holders }
+        ensures dispatches { (v : LifeView) → IsLifeOf v self.old
             → IsLifeOf (then_came v (events.Dispatch (slice_index self.old.holders chosen.request) chosen.queue)) self.new }
     {
         legal_histories_are_in_order();
@@ -110,6 +156,7 @@ impl<A: Allocator> LifeLedger<A> {
         ensures none { IfNone result (self.new ≡ self.old) }
         ensures nowhere { IfNone result ((v : LifeView) → IsLifeOf v self.old → (q : ℕ) → ¬ Contains (waiting v.history q) request) }
         ensures some { IfSome result (λ q. (v : LifeView) → IsLifeOf v self.old → IsLifeOf (then_came v (events.Strike request q)) self.new) }
+        ensures slots { length self.new.holders ≡ length self.old.holders }
     {
         legal_histories_are_in_order();
         let slot = (request % 16_384) as u32;

@@ -29,7 +29,7 @@ pub enum Served {
 }
 
 // Tries once to serve a request that waits.
-pub fn serve<A: Allocator>(gate: &Gate<A>, desk: &mut Desk, request: u32) -> Served
+pub fn serve<A: Allocator>(gate: &Gate<A>, desk: &mut Desk, request: u128) -> Served
     requires own { desk_gate desk.old ≡ gate.now }
     requires is_request { IsTicket gate.now.shape request }
     requires waits { service desk.old.desk request ≡ service_is.Waiting }
@@ -41,11 +41,11 @@ pub fn serve<A: Allocator>(gate: &Gate<A>, desk: &mut Desk, request: u32) -> Ser
     ensures struck { result ≡ Served.Struck → told_of desk.new.desk.knows.told request ≡ Some decisions.Cancelled }
     ensures no_room { result ≡ Served.NoRoom → LastFound desk.old.desk.knows gate.now.shape.widths request desk.new.desk.knows }
 {
-    if let Some(Decision::Cancelled) = gate.seen(desk, request as u128) {
-        gate.leave(desk, request as u128);
+    if let Some(Decision::Cancelled) = gate.seen(desk, request) {
+        gate.leave(desk, request);
         return Served::Struck;
     }
-    match gate.try_grant(desk, request as u128) {
+    match gate.try_grant(desk, request) {
         TryGrant::NoRoom => Served::NoRoom,
         TryGrant::Raced => Served::Raced,
         TryGrant::Granted => settle(gate, desk, request),
@@ -53,7 +53,7 @@ pub fn serve<A: Allocator>(gate: &Gate<A>, desk: &mut Desk, request: u32) -> Ser
 }
 
 // Lets the request execute whose seats the Desk holds, or gives them back where it is cancelled.
-fn settle<A: Allocator>(gate: &Gate<A>, desk: &mut Desk, request: u32) -> Served
+fn settle<A: Allocator>(gate: &Gate<A>, desk: &mut Desk, request: u128) -> Served
     requires own { desk_gate desk.old ≡ gate.now }
     requires holds { desk.old.desk.held ≡ Some request }
     ensures gate { desk_gate desk.new ≡ desk_gate desk.old }

@@ -12,8 +12,8 @@ dispatch-requires-clause-chosen g c = subst (λ (x : LifeState). IsChosen x.queu
 pub dispatch-requires-clause-time : goal.dispatch-requires-clause-time
 dispatch-requires-clause-time g c = subst (λ (x : LifeState). HasTime x.queues c.args.chosen.queue) (sym c.self.view_is) c.requires.time
 
-pub returns : goal.returns
-returns g c v is =
+pub returns-clause-dispatches : goal.returns-clause-dispatches
+returns-clause-dispatches g c v is =
     let was = subst (λ (x : LifeState). IsLifeOf v x) (sym c.self.view_is) is in
     let chosen = subst (λ (x : LifeState). IsChosen x.queues c.args.chosen) (sym c.self.view_is) c.requires.chosen in
     rw (← c.self.view_is) (life_dispatches v _ was (opened c.legal_histories_are_in_order.ensures) c.args.chosen c.dispatch.new.self chosen c.dispatch.ensures)

@@ -10,8 +10,8 @@ use Rattle.apf_book.proofs.life.LifeLedger.enter.Goals as goal
 pub push-requires-clause-is_nowhere : goal.push-requires-clause-is_nowhere
 push-requires-clause-is_nowhere g c = subst (λ (x : LifeState). StandsNowhere x.queues (slot_of c.args.request)) (sym c.self.view_is) c.requires.is_nowhere
 
-pub returns : goal.returns
-returns g c v hand is comes =
+pub returns-clause-enters : goal.returns-clause-enters
+returns-clause-enters g c v hand is comes =
     let laws = opened c.legal_histories_are_in_order.ensures in
     let stand = stands c.fair_histories_stand.ensures in
     let was = subst (λ (x : LifeState). IsLifeOf v x) (sym c.self.view_is) is in

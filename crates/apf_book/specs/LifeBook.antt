@@ -1,0 +1,102 @@
+-- The book of a level whose slots are used again, as contracts see it.
+use Rattle.std.specs.Prelude.{◌≡◌, ◌≢◌, ◌⊎◌, ◌↔◌, ℕ, ◌++◌, Bool, MatchBool, true, false, List, [], ◌∷◌, length, slice_get, slice_index, count_by, Contains, Option, Some, None}
+use Rattle.apf_words.specs.Fits.{Fits}
+use Rattle.apf_words.specs.Level.{Level}
+use Rattle.apf_words.specs.declared.decision.Decision.{Decision}
+use Rattle.apf_words.specs.declared.decision.Decision.TheVariants.{Cancelled}
+use Rattle.apf_history.specs.declared.events.Event.{Event}
+use Rattle.apf_history.specs.declared.events.Event.TheVariants.{Enter, Full, Dispatch, Strike}
+use Rattle.apf_model.specs.World.{width}
+use Rattle.apf_model.specs.History.{waiting}
+use Rattle.apf_model.specs.Outcome.{is_dispatch}
+use Rattle.apf_model.specs.Fair.{numbers, IsChoice}
+use Rattle.apf_model.specs.declared.response.Response.TheVariants.{Queue}
+use Rattle.apf_gate.specs.declared.record.Knowledge.{Knowledge}
+use Rattle.apf_gate.specs.declared.record.Actor.TheVariants.{OfDesk}
+use Rattle.apf_gate.specs.declared.record.DeskRecord.{DeskRecord}
+use Rattle.apf_gate.specs.Steps.{SawLevel}
+use Rattle.apf_gate.specs.Tokens.{DeskToken}
+use Rattle.apf_book.specs.declared.arrived.Arrived.{Arrived}
+use Rattle.apf_book.specs.declared.arrived.Arrived.TheVariants as arrived
+use Rattle.apf_book.specs.declared.serving.Served.{Served}
+use Rattle.apf_book.specs.declared.serving.Served.TheVariants as served
+use Rattle.apf_book.specs.Life.{LifeView, LifeState, IsLifeOf, asked, then_came}
+use Rattle.apf_book.specs.Notes.{NotesView, AreNotesOf}
+use Rattle.apf_book.specs.Agreeing.{IsDeskOf}
+use Rattle.apf_book.specs.Moves.{LastFound}
+use Rattle.apf_book.specs.Servings.{AreServings}
+use Rattle.apf_book.specs.Stopped.{LoadedDecisions}
+
+-- the Desk, the queues of slots, and the notes. The history is stored nowhere
+pub record LifeBookView : Type 0 where
+  pub desk : DeskToken
+  pub queues : LifeState
+  pub notes : NotesView
+
+-- the book is of this history: its queues and its notes are, and the Desk did what the history says
+pub record IsLifeKept (v : LifeView) (b : LifeBookView) : Type 0 where
+  pub of_life : IsLifeOf v b.queues
+  pub agrees : IsDeskOf v.history b.desk.desk
+  pub notes : AreNotesOf v.history b.notes
+  -- each number that a request can have has its cost, and each slot its holder
+  pub one_cost_each : length v.costs ≡ length b.desk.desk.knows.shape.widths
+  pub one_holder_each : length b.queues.holders ≡ b.desk.desk.knows.shape.slots
+  pub has_queues : b.desk.desk.knows.shape.response ≡ Queue
+
+-- there is a history that the book is of
+pub record IsLived (b : LifeBookView) : Type 0 where
+  pub view : LifeView
+  pub kept : IsLifeKept view b
+
+-- with these events, the newest first, after what the history has
+abbrev pub then_came_all : List Event → LifeView → LifeView
+then_came_all events v = record v { history = events ++ v.history }
+
+-- r stands first in q, and is dispatched next, by the history
+pub record IsFirst (v : LifeView) (r q : ℕ) : Type 0 where
+  pub is_choice : IsChoice v.queues v.costs (waiting v.history) (numbers v.queues v.costs v.history) q
+  pub is_first : slice_get (waiting v.history q) 0 ≡ Some r
+
+-- nothing waits
+abbrev pub NobodyWaits : LifeView → Type 0
+NobodyWaits v = (q : ℕ) → waiting v.history q ≡ []
+
+-- what the arrival of r makes of the history, with this hand and this cost
+abbrev pub arrived_in : LifeView → ℕ → List ℕ → ℕ → Arrived → LifeView
+arrived_in v r hand cost (arrived.Queued q) = then_came (asked v r hand cost) (Enter r q)
+arrived_in v r hand cost (arrived.Full q) = then_came (asked v r hand cost) (Full r q)
+arrived_in v r hand cost arrived.Closed = v
+arrived_in v r hand cost arrived.Cancelled = v
+arrived_in v r hand cost arrived.Again = v
+
+-- the Desk's last two steps, in this call, did not find the request that is dispatched next cancelled, and found a level word that it does not fit by its width
+pub record NextMisses (v : LifeView) (known known' : Knowledge) : Type 0 where
+  pub request : ℕ
+  pub queue : ℕ
+  pub is_next : IsFirst v request queue
+  pub misses : LastFound known known.shape.widths request known'
+
+-- where serving stops: nothing waits, or who is dispatched next does not fit
+abbrev pub StopsAt : LifeView → Knowledge → Knowledge → Type 0
+StopsAt v known known' = NobodyWaits v ⊎ NextMisses v known known'
+
+-- what one turn made of a history that the book is of
+abbrev pub TurnsLife : Option Served → LifeView → LifeBookView → LifeBookView → Type 0
+TurnsLife None v b b' = IsLifeKept v b' × NobodyWaits v
+TurnsLife (Some served.Dispatched) v b b' = (r q : ℕ) × IsLifeKept (then_came v (Dispatch r q)) b'
+TurnsLife (Some served.Struck) v b b' = (r q : ℕ) × IsLifeKept (then_came v (Strike r q)) b'
+TurnsLife (Some served.NoRoom) v b b' = IsLifeKept v b' × NextMisses v b.desk.desk.knows b'.desk.desk.knows
+TurnsLife (Some served.Raced) v b b' = IsLifeKept v b'
+
+-- of a history that the book is of: Dispatches and Strikes alone came, so many of them Dispatches, and on return nothing waits or who is dispatched next did not fit
+pub record ServesLife (v : LifeView) (b : LifeBookView) (count : ℕ) (b' : LifeBookView) : Type 0 where
+  pub events : List Event
+  pub kept : IsLifeKept (then_came_all events v) b'
+  pub servings : AreServings events
+  pub dispatches : count_by is_dispatch events ≡ count
+  pub stops : StopsAt (then_came_all events v) b.desk.desk.knows b'.desk.desk.knows
+
+-- of a history that the book is of: the request waited, and its Strike came, or the history stays
+abbrev pub StrikesLife : LifeView → LifeBookView → ℕ → Bool → LifeBookView → Type 0
+StrikesLife v b r true b' = (q : ℕ) × Contains (waiting v.history q) r × IsLifeKept (then_came v (Strike r q)) b'
+StrikesLife v b r false b' = IsLifeKept v b'

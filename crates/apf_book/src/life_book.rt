@@ -1,0 +1,257 @@
+//! The book of a level whose slots are used again: its queues and its notes, with the Desk.
+
+ghost use Rattle.std.specs.Prelude.{◌≡◌, ℕ, ◌^◌, ◌<◌, List, length};
+ghost use Rattle.apf_gate.specs.Slots.{IsTicket};
+ghost use Rattle.apf_gate.specs.Tokens.{desk_gate};
+ghost use Rattle.apf_book.specs.BookResults.{SameRequest};
+ghost use Rattle.apf_book.specs.Life.{LifeView};
+ghost use Rattle.apf_book.specs.Notes.{AreLifeStats, CopiesLate};
+ghost use Rattle.apf_book.specs.LifeBook.{IsLifeKept, IsLived, TurnsLife, ServesLife, StrikesLife};
+ghost use Rattle.apf_book.specs.LifeCalls.{IsLifeDeskFor, MakesLifeBook, AreOfLife, IsNew, IsAsk, SameLifeBook, AnswersLifeArrival, AfterLifeArrival, HearsLife};
+
+use crate::arrived::Arrived;
+use crate::fault::BookFault;
+use crate::handing::{Handed, hand};
+use crate::histories::legal_histories_are_in_order;
+use crate::life::LifeLedger;
+use crate::life_event::LifeEvent;
+use crate::life_stats::LifeStats;
+use crate::notes::{Copied, Notes};
+use crate::serving::{Served, serve};
+use apf_gate::{Desk, Gate, Pass, Ticket};
+use apf_model::Config;
+use apf_queue::QueueFault;
+use apf_words::Decision;
+use std::alloc::Allocator;
+use std::marker::Model;
+use std::sync::Wait;
+
+/// The queues of a level whose slots are used again, with the Desk, the newest events, and the numbers of all.
+///
+/// The history is stored nowhere: each call says what becomes of every history that the book is of. Whenever no call
+/// of it runs there is one: it is legal and fair, each queue has the slots of those that wait by it, it says of each
+/// request what the Desk did with it, and the events that are kept are its newest.
+#[derive(Drop)]
+pub struct LifeBook<A: Allocator> {
+    desk: Desk,
+    ledger: LifeLedger<A>,
+    notes: Notes<A>,
+}
+
+impl<A: Allocator> Model for LifeBook<A> {
+    ghost use Rattle.apf_book.specs.LifeBook.{LifeBookView, IsLived};
+
+    ghost Value = { LifeBookView };
+
+    ghost view = { λ s. record { desk = s.desk; queues = s.ledger; notes = s.notes } };
+
+    ghost invariant = { λ s. IsLived (record { desk = s.desk; queues = s.ledger; notes = s.notes }) };
+}
+
+impl<A: Allocator + Copy> LifeBook<A> {
+    /// A book in which nothing happened yet. All memory is taken here, that of the newest events too: two for each
+    /// slot.
+    ///
+    /// The Desk is as `Gate::open_for_life` gave it, for the slots and the response Queue.
+    ///
+    /// # Errors
+    ///
+    /// The queues' fault, and `NoMemory` if memory was refused, the first of these.
+    pub fn new(
+        alloc: A,
+        config: &Config,
+        slots: u32,
+        desk: Desk,
+    ) -> Result<LifeBook<A>, BookFault>
+        requires begins { IsLifeDeskFor slots desk }
+        ensures { MakesLifeBook config.now slots desk result }
+    {
+        legal_histories_are_in_order();
+        desk.is_of_a_gate();
+        let ledger = match LifeLedger::new(alloc, config.queues, config.queue_length_limit, slots) {
+            Ok(ledger) => ledger,
+            Err(QueueFault::BadShape) => return Err(BookFault::Queues(QueueFault::BadShape)),
+            Err(QueueFault::NoMemory) => return Err(BookFault::NoMemory),
+        };
+        Ok(LifeBook {
+            desk,
+            ledger,
+            notes: Notes::new(alloc, slots)?,
+        })
+    }
+}
+
+impl<A: Allocator> LifeBook<A> {
+    /// The request arrives, with its hand of queues and what its dispatch is charged, 1 to 20,000. In this order: it
+    /// is cancelled; the shortest queue of its hand is full, and it is rejected; the level is closed, and it is
+    /// rejected; it enters that queue. A lost exchange is tried again.
+    ///
+    /// A rejection, and that it is cancelled, is what the Desk's last step in this call was told, and its Pass.
+    pub fn arrive<R: Wait, G: Allocator>(
+        &mut self,
+        rt: &R,
+        gate: &Gate<G>,
+        pass: &mut Pass,
+        dealt: &[u32],
+        cost: u32,
+    ) -> Arrived
+        requires own { AreOfLife gate.now self.old pass.old }
+        requires is_new { IsNew pass.old }
+        requires ask { IsAsk self.old dealt.now cost }
+        ensures same { SameLifeBook self.old self.new }
+        ensures same_request { SameRequest pass.old pass.new }
+        ensures answer { AnswersLifeArrival self.old pass.old dealt.now cost result self.new pass.new }
+        ensures after { AfterLifeArrival self.old pass.old result pass.new }
+    {
+        legal_histories_are_in_order();
+        self.desk.is_of_a_gate();
+        let request = pass.number();
+        let found = gate.hear(&mut self.desk, pass);
+        if let Some(Decision::Cancelled) = found {
+            return Arrived::Cancelled;
+        }
+        let queue = self.ledger.shortest(dealt);
+        let full = self.ledger.is_full(queue);
+        match hand(rt, gate, &mut self.desk, pass, full) {
+            Handed::Entered => {
+                self.ledger.enter(request, queue, cost);
+                self.notes
+                    .note(LifeEvent::Enter(Ticket { number: request }, queue));
+                Arrived::Queued(queue)
+            }
+            Handed::Full => {
+                self.ledger.refuse(request, queue);
+                self.notes
+                    .note(LifeEvent::Full(Ticket { number: request }, queue));
+                Arrived::Full(queue)
+            }
+            Handed::Closed => Arrived::Closed,
+            Handed::Cancelled => Arrived::Cancelled,
+        }
+    }
+
+    /// Dispatches the chosen heads of the queues while they fit, and strikes those that are cancelled. Tells how
+    /// many were dispatched. A lost exchange is tried again.
+    ///
+    /// On return nothing waits, or the chosen head did not fit the level word that the Desk's last step, made in
+    /// this call, found.
+    pub fn dispatch<R: Wait, G: Allocator>(&mut self, rt: &R, gate: &Gate<G>) -> u64
+        requires own { desk_gate self.old.desk ≡ gate.now }
+        ensures same { SameLifeBook self.old self.new }
+        ensures answer { (v : LifeView) → IsLifeKept v self.old → ServesLife v self.old result self.new }
+    {
+        let mut count = 0;
+        for _ in rt.forever() {
+            match self.turn(gate) {
+                None => return count,
+                Some(Served::NoRoom) => return count,
+                Some(Served::Dispatched) => count += 1,
+                Some(Served::Struck) => {}
+                Some(Served::Raced) => {}
+            }
+        }
+        unreachable!()
+    }
+
+    /// Strikes the request out of its queue, where it waits and is seen cancelled. Says whether it did; else nothing
+    /// changes but what the Desk knows.
+    pub fn strike<G: Allocator>(&mut self, gate: &Gate<G>, request: Ticket) -> bool
+        requires own { desk_gate self.old.desk ≡ gate.now }
+        requires is_request { IsTicket gate.now.shape request.number }
+        ensures same { SameLifeBook self.old self.new }
+        ensures answer { (v : LifeView) → IsLifeKept v self.old → StrikesLife v self.old request.number result self.new }
+    {
+        legal_histories_are_in_order();
+        self.desk.is_of_a_gate();
+        if !self.ledger.waits(request.number) {
+            return false;
+        }
+        if gate.seen(&mut self.desk, request.number) != Some(Decision::Cancelled) {
+            return false;
+        }
+        let Some(queue) = self.ledger.strike(request.number) else {
+            unreachable!()
+        };
+        gate.leave(&mut self.desk, request.number);
+        self.notes.note(LifeEvent::Strike(request, queue));
+        true
+    }
+
+    /// The Desk hears the decision of the Pass's request, and the Pass whether its request left. It makes one load,
+    /// with the tokens joined.
+    pub fn hear<G: Allocator>(&mut self, gate: &Gate<G>, pass: &mut Pass)
+        requires own { AreOfLife gate.now self.old pass.old }
+        ensures same { SameLifeBook self.old self.new }
+        ensures same_request { SameRequest pass.old pass.new }
+        ensures answer { HearsLife self.old pass.old self.new pass.new }
+    {
+        gate.hear(&mut self.desk, pass);
+    }
+
+    /// How many events there ever were of each kind, of fewer than 2^64.
+    pub fn stats(&self) -> LifeStats
+        ensures { (v : LifeView) → IsLifeKept v self.now → length v.history < 2 ^ 64 → AreLifeStats result v.history }
+    {
+        self.notes.stats()
+    }
+
+    /// How many events there ever were, of fewer than 2^64.
+    pub fn events(&self) -> u64
+        ensures { (v : LifeView) → IsLifeKept v self.now → length v.history < 2 ^ 64 → result ≡ length v.history }
+    {
+        self.notes.count()
+    }
+
+    /// Copies events from this place on, of all that there ever were, the oldest first, as many as there is room
+    /// for. Those that are no longer kept are missed, and it tells from which place on it copied.
+    pub fn copy_events(&self, from: u64, into: &mut [LifeEvent]) -> Copied
+        ensures { (v : LifeView) → IsLifeKept v self.now → length v.history < 2 ^ 64 → CopiesLate self.now.notes.capacity v.history from into.old result into.new }
+    {
+        self.notes.copy(from, into)
+    }
+
+    /// The Desk. The rest is given up.
+    pub fn end(self) -> Desk
+        ensures desk { result ≡ self.desk }
+        ensures lived { IsLived self }
+    {
+        let LifeBook {
+            desk,
+            ledger: _,
+            notes: _,
+        } = self;
+        desk
+    }
+
+    // Tries once to serve the chosen head, if any waits.
+    fn turn<G: Allocator>(&mut self, gate: &Gate<G>) -> Option<Served>
+        requires own { desk_gate self.old.desk ≡ gate.now }
+        ensures same { SameLifeBook self.old self.new }
+        ensures turns { (v : LifeView) → IsLifeKept v self.old → TurnsLife result v self.old self.new }
+    {
+        legal_histories_are_in_order();
+        self.desk.is_of_a_gate();
+        let Some(chosen) = self.ledger.choose() else {
+            return None;
+        };
+        let request = self.ledger.holder(chosen.request);
+        match serve(gate, &mut self.desk, request) {
+            Served::Dispatched => {
+                self.ledger.dispatch(chosen);
+                self.notes
+                    .note(LifeEvent::Dispatch(Ticket { number: request }, chosen.queue));
+                Some(Served::Dispatched)
+            }
+            Served::Struck => {
+                let Some(queue) = self.ledger.strike(request) else {
+                    unreachable!()
+                };
+                self.notes
+                    .note(LifeEvent::Strike(Ticket { number: request }, queue));
+                Some(Served::Struck)
+            }
+            Served::NoRoom => Some(Served::NoRoom),
+            Served::Raced => Some(Served::Raced),
+        }
+    }
+}

@@ -23,6 +23,8 @@ pub mod LifeOpening
 pub mod LifeStrikes
 pub mod LifeKeeping
 pub mod LifeTurning
+pub mod LifeArriving
+pub mod LifeBeginning
 pub mod Stretches
 pub mod Widths
 pub mod Leavings

@@ -1,22 +1,37 @@
 -- One turn of a book for life: what is dispatched next, and what became of it.
-use Rattle.std.proofs.Common.{◌≡◌, ℕ, ◌<◌, List, [], ◌∷◌, length, Some, None, refl, sym, ap, ◌∙◌, subst, arith}
-use Rattle.std.specs.Prelude.{Contains, slice_get, slice_index}
+use Rattle.std.proofs.Common.{◌≡◌, ℕ, ◌+◌, ◌%◌, ◌<◌, ◌++◌, cond, List, [], ◌∷◌, length, Option, Some, None, refl, sym, ap, ◌∙◌, subst, arith}
+use Rattle.std.specs.Prelude.{Contains, count_by, slice_get, slice_index}
+use Rattle.std.proofs.lemmas.List.{length-append}
+use Rattle.std.proofs.lemmas.List.Sums.{sum_by-cons}
+use Rattle.apf_words.specs.Level.{Level}
+use Rattle.apf_words.specs.declared.decision.Decision.{Decision}
 use Rattle.apf_words.specs.declared.decision.Decision.TheVariants.{Cancelled}
+use Rattle.apf_gate.specs.declared.record.Service.TheVariants.{Left}
+use Rattle.apf_gate.specs.DeskSteps.{DeskLoadsDecision, DeskSubtractsWaiter}
 use Rattle.apf_history.specs.declared.events.Event.{Event}
 use Rattle.apf_history.specs.declared.events.Event.TheVariants.{Dispatch, Strike}
 use Rattle.apf_history.specs.declared.events.Status.TheVariants as status_is
 use Rattle.apf_model.specs.History.{waiting}
-use Rattle.apf_gate.specs.Records.{told_of}
+use Rattle.apf_model.specs.Outcome.{is_dispatch}
+use Rattle.apf_gate.specs.declared.record.Shape.{Shape}
+use Rattle.apf_gate.specs.declared.record.Knowledge.{Knowledge}
+use Rattle.apf_gate.specs.Records.{told_of, KnowsMore}
 use Rattle.apf_gate.specs.Tokens.{DeskToken}
 use Rattle.apf_queue.specs.View.{queue_in, IsChosen}
 use Rattle.apf_queue.specs.declared.choice.Chosen.{Chosen}
 use Rattle.apf_book.specs.Life.{LifeView, LifeState, IsLifeOf, then_came, IsNextIn}
 use Rattle.apf_book.specs.Notes.{NotesView, AreNotesOf}
-use Rattle.apf_book.specs.Moves.{Moves}
+use Rattle.apf_book.specs.Moves.{Moves, LastFound}
+use Rattle.apf_book.specs.Servings.{AreServings}
 use Rattle.apf_book.specs.Said.{saying, Says}
-use Rattle.apf_book.specs.LifeBook.{LifeBookView, IsLifeKept, IsFirst}
+use Rattle.apf_book.specs.LifeBook.{LifeBookView, IsLifeKept, IsFirst, NextMisses, then_came_all}
+use Rattle.apf_book.specs.LifeCalls.{SameLifeBook}
 use Rattle.apf_book.proofs.Lists.{first_contains}
-use Rattle.apf_book.proofs.LifeKeeping.{life_came}
+use Rattle.apf_book.proofs.Knowing.{more_then, found_then, told_still}
+use Rattle.apf_book.proofs.Moving.{moves_to}
+use Rattle.apf_book.proofs.Saying.{loads_decision, leaves}
+use Rattle.apf_book.proofs.Running.{count_within}
+use Rattle.apf_book.proofs.LifeKeeping.{life_came, life_quiet}
 
 -- the slot that was chosen stands in its queue
 pub chosen_stands : (s : LifeState) (c : Chosen) → IsChosen s.queues c → Contains (queue_in s.queues c.queue) c.request
@@ -35,3 +50,69 @@ life_dispatched v b b' r q kept holders of notes moves says held = life_came v (
 pub life_struck : (v : LifeView) (b b' : LifeBookView) (r q : ℕ) → IsLifeKept v b → length b'.queues.holders ≡ length b.queues.holders → IsLifeOf (then_came v (Strike r q)) b'.queues → AreNotesOf (Strike r q ∷ v.history) b'.notes
     → Moves b.desk.desk r (Some status_is.Struck) b'.desk.desk → Says ((r, status_is.Struck) ∷ []) b.desk.desk.knows b'.desk.desk.knows → b'.desk.desk.held ≡ None → told_of b'.desk.desk.knows.told r ≡ Some Cancelled → IsLifeKept (then_came v (Strike r q)) b'
 life_struck v b b' r q kept holders of notes moves says held told = life_came v (then_came v (Strike r q)) b b' (Strike r q) kept refl refl holders of notes moves says held (λ e. told)
+
+-- what the turns so far appended to a history that the book was of
+pub record ServedSoFar (v : LifeView) (count : ℕ) (b' : LifeBookView) : Type 0 where
+  pub events : List Event
+  pub kept : IsLifeKept (then_came_all events v) b'
+  pub servings : AreServings events
+  pub dispatches : length (events ++ v.history) < 18446744073709551616 → count_by is_dispatch events ≡ count
+
+pub served_none : (v : LifeView) (b : LifeBookView) → IsLifeKept v b → ServedSoFar v 0 b
+served_none v b kept = record { events = []; kept = kept; servings = tt; dispatches = λ few. refl }
+
+pub served_dispatch : (v : LifeView) (b b' : LifeBookView) (count r q : ℕ) (far : ServedSoFar v count b) → IsLifeKept (then_came (then_came_all far.events v) (Dispatch r q)) b' → ServedSoFar v ((count + 1) % 18446744073709551616) b'
+served_dispatch v b b' count r q far kept = record {
+  events = Dispatch r q ∷ far.events;
+  kept = kept;
+  servings = far.servings;
+  dispatches = λ few.
+      let one = sum_by-cons (λ (e : Event). cond (is_dispatch e) 1 0) (Dispatch r q) far.events in
+      let was = far.dispatches (omega (arith, few)) in
+      let within = count_within is_dispatch far.events in
+      let long = length-append far.events v.history in
+      omega (arith, few);
+}
+
+pub served_strike : (v : LifeView) (b b' : LifeBookView) (count r q : ℕ) (far : ServedSoFar v count b) → IsLifeKept (then_came (then_came_all far.events v) (Strike r q)) b' → ServedSoFar v count b'
+served_strike v b b' count r q far kept = record {
+  events = Strike r q ∷ far.events;
+  kept = kept;
+  servings = far.servings;
+  dispatches = λ few.
+      let one = sum_by-cons (λ (e : Event). cond (is_dispatch e) 1 0) (Strike r q) far.events in
+      let was = far.dispatches (omega (arith, few)) in omega arith;
+}
+
+pub served_same : (v : LifeView) (b b' : LifeBookView) (count : ℕ) (far : ServedSoFar v count b) → IsLifeKept (then_came_all far.events v) b' → ServedSoFar v count b'
+served_same v b b' count far kept = record { events = far.events; kept = kept; servings = far.servings; dispatches = far.dispatches }
+
+-- who is dispatched next misses after earlier turns
+pub next_misses_then : (v : LifeView) (a b c : Knowledge) → KnowsMore a b → NextMisses v b c → NextMisses v a c
+next_misses_then v a b c more misses = record {
+  request = misses.request;
+  queue = misses.queue;
+  is_next = misses.is_next;
+  misses = subst (λ (s : Shape). LastFound a s.widths misses.request c) more.shape (found_then a b c b.shape.widths misses.request more misses.misses);
+}
+
+-- the book of both calls is the same one
+pub same_book_then : (a b c : LifeBookView) → SameLifeBook a b → SameLifeBook b c → SameLifeBook a c
+same_book_then a b c first then = record {
+  gate = then.gate ∙ first.gate;
+  more = more_then a.desk.desk.knows b.desk.desk.knows c.desk.desk.knows first.more then.more;
+  queues = then.queues ∙ first.queues;
+  room = then.room ∙ first.room;
+}
+
+-- a request that waits is struck: the Desk read its word, and it left
+pub life_left : (v : LifeView) (b : LifeBookView) (read left : DeskToken) (queues : LifeState) (notes : NotesView) (r q : ℕ) (found : Option Decision) (level : Level) → IsLifeKept v b
+    → (read.desk.services ≡ b.desk.desk.services) × (read.desk.held ≡ b.desk.desk.held) → KnowsMore b.desk.desk.knows read.desk.knows → DeskLoadsDecision r b.desk.desk found read.desk
+    → left.desk.services ≡ (r, Left) ∷ read.desk.services → left.desk.held ≡ read.desk.held → KnowsMore read.desk.knows left.desk.knows → DeskSubtractsWaiter r read.desk level left.desk
+    → told_of read.desk.knows.told r ≡ Some Cancelled → length queues.holders ≡ length b.queues.holders → IsLifeOf (then_came v (Strike r q)) queues → AreNotesOf (Strike r q ∷ v.history) notes
+    → IsLifeKept (then_came v (Strike r q)) (record { desk = left; queues = queues; notes = notes })
+life_left v b read left queues notes r q found level kept served more loads services held more' leaving told holders of noted =
+    life_struck v (record b { desk = read }) (record { desk = left; queues = queues; notes = notes }) r q
+    (life_quiet v b read kept served more (loads_decision b.desk.desk read.desk r found loads)) holders of noted
+    (moves_to read.desk left.desk r Left services more') (leaves read.desk left.desk r level leaving)
+    (held ∙ (served.1 ∙ kept.agrees.holds_none)) (told_still read.desk.knows left.desk.knows r Cancelled more' told)

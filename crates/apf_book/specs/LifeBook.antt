@@ -1,5 +1,5 @@
 -- The book of a level whose slots are used again, as contracts see it.
-use Rattle.std.specs.Prelude.{◌≡◌, ◌≢◌, ◌⊎◌, ◌↔◌, ℕ, ◌++◌, Bool, MatchBool, true, false, List, [], ◌∷◌, length, slice_get, slice_index, count_by, Contains, Option, Some, None}
+use Rattle.std.specs.Prelude.{◌≡◌, ◌≢◌, ◌⊎◌, ◌↔◌, ℕ, ◌^◌, ◌<◌, ◌++◌, Bool, MatchBool, true, false, List, [], ◌∷◌, length, slice_get, slice_index, count_by, Contains, Option, Some, None}
 use Rattle.apf_words.specs.Fits.{Fits}
 use Rattle.apf_words.specs.Level.{Level}
 use Rattle.apf_words.specs.declared.decision.Decision.{Decision}
@@ -88,12 +88,12 @@ TurnsLife (Some served.Struck) v b b' = (r q : ℕ) × IsLifeKept (then_came v (
 TurnsLife (Some served.NoRoom) v b b' = IsLifeKept v b' × NextMisses v b.desk.desk.knows b'.desk.desk.knows
 TurnsLife (Some served.Raced) v b b' = IsLifeKept v b'
 
--- of a history that the book is of: Dispatches and Strikes alone came, so many of them Dispatches, and on return nothing waits or who is dispatched next did not fit
+-- of a history that the book is of: Dispatches and Strikes alone came, so many of them Dispatches, of fewer than 2^64 events that there ever were, and on return nothing waits or who is dispatched next did not fit
 pub record ServesLife (v : LifeView) (b : LifeBookView) (count : ℕ) (b' : LifeBookView) : Type 0 where
   pub events : List Event
   pub kept : IsLifeKept (then_came_all events v) b'
   pub servings : AreServings events
-  pub dispatches : count_by is_dispatch events ≡ count
+  pub dispatches : length (events ++ v.history) < 2 ^ 64 → count_by is_dispatch events ≡ count
   pub stops : StopsAt (then_came_all events v) b.desk.desk.knows b'.desk.desk.knows
 
 -- of a history that the book is of: the request waited, and its Strike came, or the history stays

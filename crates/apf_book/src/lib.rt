@@ -41,14 +41,14 @@ pub use apf_model::{Ask, Config, Response, are_costs};
 pub use arrived::Arrived;
 pub use book::Book;
 pub use fault::BookFault;
-pub use life_book::LifeBook;
-pub use life_event::LifeEvent;
-pub use life_stats::LifeStats;
-pub use notes::Copied;
 pub use laws::{
     every_book_is_kept, every_dispatched_wait_is_bounded, every_ended_book_agrees,
     no_request_is_forgotten,
 };
+pub use life_book::LifeBook;
+pub use life_event::LifeEvent;
+pub use life_stats::LifeStats;
+pub use notes::Copied;
 pub use overtaking::{Wait, overtaken};
 pub use stats::Stats;
 pub use stretch::balance;

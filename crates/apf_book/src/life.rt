@@ -2,7 +2,7 @@
 //!
 //! The history is stored nowhere. Each call says what becomes of every history that the queues are of.
 
-ghost use Rattle.std.specs.Prelude.{◌≡◌, ◌≢◌, ℕ, ◌<◌, ◌≤◌, List, [], length, slice_index, All, Contains, ◌↔◌, IsTrue, MatchBool, IsErrOf, IfOk, IfSome, IfNone, MatchOption};
+ghost use Rattle.std.specs.Prelude.{◌≡◌, ◌≢◌, ℕ, ◌<◌, ◌≤◌, List, [], length, slice_index, All, Contains, ◌↔◌, IsTrue, MatchBool, IsErrOf, OnOk, IfOk, IfSome, IfNone, MatchOption};
 ghost use Rattle.apf_words.specs.Limits.{max_width};
 ghost use Rattle.apf_gate.specs.Slots.{slot_of};
 ghost use Rattle.apf_history.specs.declared.events.Event.TheVariants as events;
@@ -44,6 +44,7 @@ impl<A: Allocator + Copy> LifeLedger<A> {
         slots: u32,
     ) -> Result<LifeLedger<A>, QueueFault>
         ensures bad_shape { IsErrOf result QueueFault.BadShape ↔ (¬ IsQueueShape queues length_limit slots) }
+        ensures shape { OnOk result (IsQueueShape queues length_limit slots) }
         ensures slots { IfOk result (λ l. length l.holders ≡ slots) }
         ensures opening { IfOk result (λ l. (v : LifeView) → IsOpening v queues length_limit → IsLifeOf v l) }
     {

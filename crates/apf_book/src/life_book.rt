@@ -57,12 +57,7 @@ impl<A: Allocator + Copy> LifeBook<A> {
     /// # Errors
     ///
     /// The queues' fault, and `NoMemory` if memory was refused, the first of these.
-    pub fn new(
-        alloc: A,
-        config: &Config,
-        slots: u32,
-        desk: Desk,
-    ) -> Result<LifeBook<A>, BookFault>
+    pub fn new(alloc: A, config: &Config, slots: u32, desk: Desk) -> Result<LifeBook<A>, BookFault>
         requires begins { IsLifeDeskFor slots desk }
         ensures { MakesLifeBook config.now slots desk result }
     {
@@ -107,7 +102,7 @@ impl<A: Allocator> LifeBook<A> {
         self.desk.is_of_a_gate();
         let request = pass.number();
         let found = gate.hear(&mut self.desk, pass);
-        if let Some(Decision::Cancelled) = found {
+        if found == Some(Decision::Cancelled) {
             return Arrived::Cancelled;
         }
         let queue = self.ledger.shortest(dealt);
@@ -140,12 +135,12 @@ impl<A: Allocator> LifeBook<A> {
         ensures same { SameLifeBook self.old self.new }
         ensures answer { (v : LifeView) → IsLifeKept v self.old → ServesLife v self.old result self.new }
     {
-        let mut count = 0;
+        let mut count: u64 = 0;
         for _ in rt.forever() {
             match self.turn(gate) {
                 None => return count,
                 Some(Served::NoRoom) => return count,
-                Some(Served::Dispatched) => count += 1,
+                Some(Served::Dispatched) => count = count.wrapping_add(1),
                 Some(Served::Struck) => {}
                 Some(Served::Raced) => {}
             }
@@ -238,8 +233,7 @@ impl<A: Allocator> LifeBook<A> {
         match serve(gate, &mut self.desk, request) {
             Served::Dispatched => {
                 self.ledger.dispatch(chosen);
-                self.notes
-                    .note(LifeEvent::Dispatch(Ticket { number: request }, chosen.queue));
+                self.notes.note(LifeEvent::Dispatch(Ticket { number: request }, chosen.queue));
                 Some(Served::Dispatched)
             }
             Served::Struck => {

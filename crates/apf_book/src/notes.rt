@@ -111,10 +111,7 @@ impl<A: Allocator> Notes<A> {
         let skipped = (start - first).min(kept as u64) as usize;
         let count = (kept - skipped).min(into.len());
         copy_run(&self.newest, skipped, &mut into[..count]);
-        Copied {
-            from: start,
-            count,
-        }
+        Copied { from: start, count }
     }
 }
 

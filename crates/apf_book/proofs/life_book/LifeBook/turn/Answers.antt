@@ -41,9 +41,12 @@ invariant_of-self g c =
 pub returns-in-Dispatched-clause-turns : goal.returns-in-Dispatched-clause-turns
 returns-in-Dispatched-clause-turns g c v is =
     let kept = (subst (λ (b : LifeBookView). IsLifeKept v b) (sym c.self.view_is) is) in
-    let came = subst (λ (i : ℕ). IsLifeOf (then_came v (Dispatch i c.in-Some.chosen.queue)) c.dispatch.new.self) (sym c.holder-request.ensures) (c.dispatch.ensures.dispatches v kept.of_life) in
-    (c.holder-request.result, c.in-Some.chosen.queue, life_dispatched v (record { desk = c.self.inside.desk; queues = c.self.inside.ledger; notes = c.self.inside.notes }) _ c.holder-request.result c.in-Some.chosen.queue kept c.dispatch.ensures.slots came (c.note.ensures.notes v.history kept.notes)
-    c.in-Dispatched.ensures.moves c.in-Dispatched.ensures.says c.in-Dispatched.ensures.holds_none)
+    let came = subst (λ (i : ℕ). IsLifeOf (then_came v (Dispatch i c.in-Some.chosen.queue)) c.dispatch.new.self) (sym c.holder-request.ensures) (c.dispatch.ensures.dispatches v kept.of_life) in (
+      c.holder-request.result,
+      c.in-Some.chosen.queue,
+      life_dispatched v (record { desk = c.self.inside.desk; queues = c.self.inside.ledger; notes = c.self.inside.notes }) _ c.holder-request.result c.in-Some.chosen.queue kept c.dispatch.ensures.slots came (c.note.ensures.notes v.history kept.notes)
+          c.in-Dispatched.ensures.moves c.in-Dispatched.ensures.says c.in-Dispatched.ensures.holds_none,
+    )
 
 pub strike-requires : goal.strike-requires
 strike-requires g c = record {
@@ -64,9 +67,12 @@ invariant_of-self-in-Struck g c = record {
 
 pub returns-in-Some-strike-clause-turns : goal.returns-in-Some-strike-clause-turns
 returns-in-Some-strike-clause-turns g c v is =
-    let kept = (subst (λ (b : LifeBookView). IsLifeKept v b) (sym c.self.view_is) is) in
-    (c.holder-request.result, c.in-Some-strike.queue, life_struck v (record { desk = c.self.inside.desk; queues = c.self.inside.ledger; notes = c.self.inside.notes }) _ c.holder-request.result c.in-Some-strike.queue kept c.in-Some-strike.ensures.slots (c.in-Some-strike.ensures.some v kept.of_life) (c.note-in-Struck.ensures.notes v.history kept.notes)
-    c.in-Struck.ensures.moves c.in-Struck.ensures.says c.in-Struck.ensures.holds_none (c.in-Struck.ensures.struck refl))
+    let kept = (subst (λ (b : LifeBookView). IsLifeKept v b) (sym c.self.view_is) is) in (
+      c.holder-request.result,
+      c.in-Some-strike.queue,
+      life_struck v (record { desk = c.self.inside.desk; queues = c.self.inside.ledger; notes = c.self.inside.notes }) _ c.holder-request.result c.in-Some-strike.queue kept c.in-Some-strike.ensures.slots (c.in-Some-strike.ensures.some v kept.of_life) (c.note-in-Struck.ensures.notes v.history kept.notes)
+          c.in-Struck.ensures.moves c.in-Struck.ensures.says c.in-Struck.ensures.holds_none (c.in-Struck.ensures.struck refl),
+    )
 
 pub invariant_of-self-in-NoRoom : goal.invariant_of-self-in-NoRoom
 invariant_of-self-in-NoRoom g c = record {
@@ -76,8 +82,7 @@ invariant_of-self-in-NoRoom g c = record {
 
 pub returns-in-NoRoom-clause-turns : goal.returns-in-NoRoom-clause-turns
 returns-in-NoRoom-clause-turns g c v is =
-    let kept = (subst (λ (b : LifeBookView). IsLifeKept v b) (sym c.self.view_is) is) in
-    (
+    let kept = (subst (λ (b : LifeBookView). IsLifeKept v b) (sym c.self.view_is) is) in (
       life_head (opened c.legal_histories_are_in_order.ensures) v _ kept c.serve.new.desk c.in-Some.chosen.queue c.holder-request.result (subst (λ (i : ℕ). Contains (waiting v.history c.in-Some.chosen.queue) i) (sym c.holder-request.ensures) (holder_waits (opened c.legal_histories_are_in_order.ensures) v _ kept c.in-Some.chosen.queue c.in-Some.chosen.request (chosen_stands c.self.inside.ledger c.in-Some.chosen c.in-Some.ensures.chosen))) c.in-NoRoom.ensures.moves c.in-NoRoom.ensures.says c.in-NoRoom.ensures.holds_none,
       record {
         request = c.holder-request.result;

@@ -1,13 +1,15 @@
 -- One turn of a book for life: what is dispatched next, and what became of it.
-use Rattle.std.proofs.Common.{◌≡◌, ℕ, ◌+◌, ◌%◌, ◌<◌, ◌++◌, cond, List, [], ◌∷◌, length, Option, Some, None, refl, sym, ap, ◌∙◌, subst, arith}
+use Rattle.std.proofs.Common.{◌≡◌, ◌≢◌, Bool, false, ℕ, ◌+◌, ◌%◌, ◌<◌, ◌++◌, cond, true, List, [], ◌∷◌, length, Option, Some, None, refl, sym, ap, ◌∙◌, subst, arith}
 use Rattle.std.specs.Prelude.{Contains, count_by, slice_get, slice_index}
 use Rattle.std.proofs.lemmas.List.{length-append}
 use Rattle.std.proofs.lemmas.List.Sums.{sum_by-cons}
 use Rattle.apf_words.specs.Level.{Level}
 use Rattle.apf_words.specs.declared.decision.Decision.{Decision}
-use Rattle.apf_words.specs.declared.decision.Decision.TheVariants.{Cancelled}
-use Rattle.apf_gate.specs.declared.record.Service.TheVariants.{Left}
-use Rattle.apf_gate.specs.DeskSteps.{DeskLoadsDecision, DeskSubtractsWaiter}
+use Rattle.apf_words.specs.declared.decision.Decision.TheVariants.{Execute, Cancelled}
+use Rattle.apf_gate.specs.declared.record.Service.{Service}
+use Rattle.apf_gate.specs.declared.record.Service.TheVariants.{NotHanded, Handed, RefusedFull, RefusedClosed, Waiting, Held, Settled, Left}
+use Rattle.apf_gate.specs.Requests.{has_entered}
+use Rattle.apf_gate.specs.DeskSteps.{DeskMayFind, DeskLoadsDecision, DeskSubtractsWaiter}
 use Rattle.apf_history.specs.declared.events.Event.{Event}
 use Rattle.apf_history.specs.declared.events.Event.TheVariants.{Dispatch, Strike}
 use Rattle.apf_history.specs.declared.events.Status.TheVariants as status_is
@@ -15,7 +17,9 @@ use Rattle.apf_model.specs.History.{waiting}
 use Rattle.apf_model.specs.Outcome.{is_dispatch}
 use Rattle.apf_gate.specs.declared.record.Shape.{Shape}
 use Rattle.apf_gate.specs.declared.record.Knowledge.{Knowledge}
-use Rattle.apf_gate.specs.Records.{told_of, KnowsMore}
+use Rattle.apf_gate.specs.Records.{told_of, service, KnowsMore}
+use Rattle.apf_book.specs.BookView.{logged}
+use Rattle.apf_book.specs.Histories.{Laws}
 use Rattle.apf_gate.specs.Tokens.{DeskToken}
 use Rattle.apf_queue.specs.View.{queue_in, IsChosen}
 use Rattle.apf_queue.specs.declared.choice.Chosen.{Chosen}
@@ -24,14 +28,15 @@ use Rattle.apf_book.specs.Notes.{NotesView, AreNotesOf}
 use Rattle.apf_book.specs.Moves.{Moves, LastFound}
 use Rattle.apf_book.specs.Servings.{AreServings}
 use Rattle.apf_book.specs.Said.{saying, Says}
-use Rattle.apf_book.specs.LifeBook.{LifeBookView, IsLifeKept, IsFirst, NextMisses, then_came_all}
+use Rattle.apf_book.specs.LifeBook.{LifeBookView, IsLifeKept, IsFirst, NextMisses, StrikesLife, then_came_all}
 use Rattle.apf_book.specs.LifeCalls.{SameLifeBook}
 use Rattle.apf_book.proofs.Lists.{first_contains}
 use Rattle.apf_book.proofs.Knowing.{more_then, found_then, told_still}
 use Rattle.apf_book.proofs.Moving.{moves_to}
 use Rattle.apf_book.proofs.Saying.{loads_decision, leaves}
 use Rattle.apf_book.proofs.Running.{count_within}
-use Rattle.apf_book.proofs.LifeKeeping.{life_came, life_quiet}
+use Rattle.apf_book.proofs.Agreeing.{said_of_status, struck_waits_not}
+use Rattle.apf_book.proofs.LifeKeeping.{life_came, life_quiet, life_statuses}
 
 -- the slot that was chosen stands in its queue
 pub chosen_stands : (s : LifeState) (c : Chosen) → IsChosen s.queues c → Contains (queue_in s.queues c.queue) c.request
@@ -116,3 +121,39 @@ life_left v b read left queues notes r q found level kept served more loads serv
     (life_quiet v b read kept served more (loads_decision b.desk.desk read.desk r found loads)) holders of noted
     (moves_to read.desk left.desk r Left services more') (leaves read.desk left.desk r level leaving)
     (held ∙ (served.1 ∙ kept.agrees.holds_none)) (told_still read.desk.knows left.desk.knows r Cancelled more' told)
+
+-- a request that entered, does not wait any more, and is decided cancelled was let leave
+pub was_left : (x : Service) (found : Option Decision) → has_entered x ≡ true → DeskMayFind x found → found ≡ Some Cancelled → (x ≡ Waiting → ⊥) → (x ≡ Held → ⊥) → x ≡ Left
+was_left NotHanded found entered may is waits held = absurd (cc)
+was_left Handed found entered may is waits held = absurd (cc)
+was_left RefusedFull found entered may is waits held = absurd (cc)
+was_left RefusedClosed found entered may is waits held = absurd (cc)
+was_left Waiting found entered may is waits held = absurd (waits refl)
+was_left Held found entered may is waits held = absurd (held refl)
+was_left Settled found entered may is waits held = absurd (let bad : Some Execute ≡ Some Cancelled = sym may ∙ is in cc)
+was_left Left found entered may is waits held = refl
+
+module _ (laws : Laws) (v : LifeView) (b : LifeBookView) (kept : IsLifeKept v b) (r : ℕ) (found : Option Decision) (entered : has_entered (service b.desk.desk r) ≡ true) (may : DeskMayFind (service b.desk.desk r) found) (is : found ≡ Some Cancelled) (out : (q : ℕ) → Contains (waiting v.history q) r → ⊥) where
+  pub left_by_then : service b.desk.desk r ≡ Left
+  left_by_then = was_left (service b.desk.desk r) found entered may is
+      (λ waits. let member = ((life_statuses laws v b kept).waits r).0 (ap said_of_status (sym (kept.agrees.did r) ∙ ap logged waits)) in out member.0 member.1)
+      (λ held. let bad = sym (ap logged held) ∙ kept.agrees.did r in cc)
+
+-- a strike between two hearings
+pub strikes_heard : (v : LifeView) (a b c d : LifeBookView) (r : ℕ) (answer : Bool) → KnowsMore a.desk.desk.knows b.desk.desk.knows → StrikesLife v b r answer c → ((w : LifeView) → IsLifeKept w c → IsLifeKept w d) → StrikesLife v a r answer d
+strikes_heard v a b c d r true more strikes keeps = (strikes.0, strikes.1, keeps (then_came v (Strike r strikes.0)) strikes.2)
+strikes_heard v a b c d r false more strikes keeps = (keeps v strikes.0, λ told q. strikes.1 (λ none. told (sym (more.told r told) ∙ none)) q)
+
+-- a history in which a request does not wait
+pub record IsOutOf (b : LifeBookView) (r : ℕ) : Type 0 where
+  pub view : LifeView
+  pub kept : IsLifeKept view b
+  pub out : (q : ℕ) → Contains (waiting view.history q) r → ⊥
+
+pub out_by_then : (laws : Laws) (v : LifeView) (b c : LifeBookView) (r : ℕ) (answer : Bool) → StrikesLife v b r answer c → told_of b.desk.desk.knows.told r ≢ None → IsOutOf c r
+out_by_then laws v b c r true strikes told = record {
+  view = then_came v (Strike r strikes.0);
+  kept = strikes.2;
+  out = struck_waits_not v.history r strikes.0 (life_statuses laws (then_came v (Strike r strikes.0)) c strikes.2);
+}
+out_by_then laws v b c r false strikes told = record { view = v; kept = strikes.0; out = strikes.1 told }

@@ -1,20 +1,13 @@
 -- The book of a level whose slots are used again, as contracts see it.
 use Rattle.std.specs.Prelude.{◌≡◌, ◌≢◌, ◌⊎◌, ◌↔◌, ℕ, ◌^◌, ◌<◌, ◌++◌, Bool, MatchBool, true, false, List, [], ◌∷◌, length, slice_get, slice_index, count_by, Contains, Option, Some, None}
-use Rattle.apf_words.specs.Fits.{Fits}
-use Rattle.apf_words.specs.Level.{Level}
-use Rattle.apf_words.specs.declared.decision.Decision.{Decision}
-use Rattle.apf_words.specs.declared.decision.Decision.TheVariants.{Cancelled}
 use Rattle.apf_history.specs.declared.events.Event.{Event}
 use Rattle.apf_history.specs.declared.events.Event.TheVariants.{Enter, Full, Dispatch, Strike}
-use Rattle.apf_model.specs.World.{width}
 use Rattle.apf_model.specs.History.{waiting}
 use Rattle.apf_model.specs.Outcome.{is_dispatch}
 use Rattle.apf_model.specs.Fair.{numbers, IsChoice}
 use Rattle.apf_model.specs.declared.response.Response.TheVariants.{Queue}
 use Rattle.apf_gate.specs.declared.record.Knowledge.{Knowledge}
-use Rattle.apf_gate.specs.declared.record.Actor.TheVariants.{OfDesk}
-use Rattle.apf_gate.specs.declared.record.DeskRecord.{DeskRecord}
-use Rattle.apf_gate.specs.Steps.{SawLevel}
+use Rattle.apf_gate.specs.Records.{told_of}
 use Rattle.apf_gate.specs.Tokens.{DeskToken}
 use Rattle.apf_book.specs.declared.arrived.Arrived.{Arrived}
 use Rattle.apf_book.specs.declared.arrived.Arrived.TheVariants as arrived
@@ -25,7 +18,6 @@ use Rattle.apf_book.specs.Notes.{NotesView, AreNotesOf}
 use Rattle.apf_book.specs.Agreeing.{IsDeskOf}
 use Rattle.apf_book.specs.Moves.{LastFound}
 use Rattle.apf_book.specs.Servings.{AreServings}
-use Rattle.apf_book.specs.Stopped.{LoadedDecisions}
 
 -- the Desk, the queues of slots, and the notes. The history is stored nowhere
 pub record LifeBookView : Type 0 where
@@ -96,7 +88,7 @@ pub record ServesLife (v : LifeView) (b : LifeBookView) (count : ℕ) (b' : Life
   pub dispatches : length (events ++ v.history) < 2 ^ 64 → count_by is_dispatch events ≡ count
   pub stops : StopsAt (then_came_all events v) b.desk.desk.knows b'.desk.desk.knows
 
--- of a history that the book is of: the request waited, and its Strike came, or the history stays
+-- of a history that the book is of: the request waited, and its Strike came; or the history stays, and a request whose decision the Desk knew does not wait
 abbrev pub StrikesLife : LifeView → LifeBookView → ℕ → Bool → LifeBookView → Type 0
 StrikesLife v b r true b' = (q : ℕ) × Contains (waiting v.history q) r × IsLifeKept (then_came v (Strike r q)) b'
-StrikesLife v b r false b' = IsLifeKept v b'
+StrikesLife v b r false b' = IsLifeKept v b' × (told_of b.desk.desk.knows.told r ≢ None → (q : ℕ) → ¬ Contains (waiting v.history q) r)

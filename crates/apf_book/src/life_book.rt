@@ -1,7 +1,9 @@
 //! The book of a level whose slots are used again: its queues and its notes, with the Desk.
 
-ghost use Rattle.std.specs.Prelude.{◌≡◌, ℕ, ◌^◌, ◌<◌, List, length};
+ghost use Rattle.std.specs.Prelude.{◌≡◌, ◌^◌, ◌<◌, length, true, Some};
+ghost use Rattle.apf_words.specs.declared.decision.Decision.TheVariants.{Cancelled};
 ghost use Rattle.apf_gate.specs.Slots.{IsTicket};
+ghost use Rattle.apf_gate.specs.Records.{told_own};
 ghost use Rattle.apf_gate.specs.Tokens.{desk_gate};
 ghost use Rattle.apf_book.specs.BookResults.{SameRequest};
 ghost use Rattle.apf_book.specs.Life.{LifeView};
@@ -181,6 +183,37 @@ impl<A: Allocator> LifeBook<A> {
         ensures answer { HearsLife self.old pass.old self.new pass.new }
     {
         gate.hear(&mut self.desk, pass);
+    }
+
+    /// The Pass's request, which entered and was told cancelled, is struck out of its queue if it waits there
+    /// still, and its Pass hears that it left: it may be renewed then. Says whether it was struck now; a dispatch
+    /// may have struck it before.
+    pub fn withdraw<G: Allocator>(&mut self, gate: &Gate<G>, pass: &mut Pass) -> bool
+        requires own { AreOfLife gate.now self.old pass.old }
+        requires entered { pass.old.pass.entered ≡ true }
+        requires cancelled { told_own pass.old.pass ≡ Some Cancelled }
+        ensures same { SameLifeBook self.old self.new }
+        ensures same_request { SameRequest pass.old pass.new }
+        ensures answer { (v : LifeView) → IsLifeKept v self.old → StrikesLife v self.old pass.old.pass.number result self.new }
+        ensures left { pass.new.pass.left ≡ true }
+        ensures state { pass.new.pass.state ≡ pass.old.pass.state }
+        ensures told { told_own pass.new.pass ≡ Some Cancelled }
+    {
+        legal_histories_are_in_order();
+        self.hear(gate, pass);
+        self.has_a_history();
+        let struck = self.strike(gate, pass.ticket());
+        self.hear(gate, pass);
+        struck
+    }
+
+    /// There is a history that the book is of.
+    ///
+    /// It makes no step: the contract is the law.
+    pub fn has_a_history(&self)
+        ensures { IsLived self.now }
+    {
+        let _ = &self.desk;
     }
 
     /// How many events there ever were of each kind, of fewer than 2^64.

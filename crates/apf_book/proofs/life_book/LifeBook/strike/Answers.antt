@@ -1,5 +1,5 @@
 -- Who is struck waited, and every history has its Strike.
-use Rattle.std.proofs.Common.{rules, ◌≡◌, ℕ, List, Some, inl, sym, ap, ◌∙◌, subst}
+use Rattle.std.proofs.Common.{rules, ◌≡◌, ◌≢◌, ℕ, List, Some, None, inl, sym, ap, ◌∙◌, subst}
 use Rattle.apf_words.specs.declared.decision.Decision.TheVariants.{Cancelled}
 use Rattle.apf_history.specs.declared.events.Event.TheVariants.{Strike}
 use Rattle.apf_gate.specs.declared.record.Service.{Service}
@@ -10,7 +10,8 @@ use Rattle.apf_book.specs.LifeBook.{LifeBookView, IsLifeKept}
 use Rattle.apf_book.proofs.Opened.{opened}
 use Rattle.apf_book.proofs.Knowing.{more_then}
 use Rattle.apf_book.proofs.Saying.{loads_decision}
-use Rattle.apf_book.proofs.LifeKeeping.{life_waits, life_quiet}
+use Rattle.apf_book.proofs.Agreeing.{agreed_cancelled}
+use Rattle.apf_book.proofs.LifeKeeping.{life_waits, life_quiet, life_statuses}
 use Rattle.apf_book.proofs.LifeTurning.{life_left}
 use Rattle.apf_book.proofs.life_book.LifeBook.strike.Given.{Over}
 use Rattle.apf_book.proofs.life_book.LifeBook.strike.Goals as goal
@@ -27,8 +28,19 @@ invariant_of-self g c = record {
 }
 
 pub returns-then-ne-clause-answer : goal.returns-then-ne-clause-answer
-returns-then-ne-clause-answer g c v is =
-    life_quiet v (record { desk = c.self.inside.desk; queues = c.self.inside.ledger; notes = c.self.inside.notes }) c.seen.new.desk (subst (λ (b : LifeBookView). IsLifeKept v b) (sym c.self.view_is) is) c.seen.ensures.after.served c.seen.ensures.same.more (loads_decision c.self.inside.desk.desk c.seen.new.desk.desk c.args.request.number c.seen.result c.seen.ensures.answer)
+returns-then-ne-clause-answer g c v is = (
+  life_quiet v (record { desk = c.self.inside.desk; queues = c.self.inside.ledger; notes = c.self.inside.notes }) c.seen.new.desk (subst (λ (b : LifeBookView). IsLifeKept v b) (sym c.self.view_is) is) c.seen.ensures.after.served c.seen.ensures.same.more (loads_decision c.self.inside.desk.desk c.seen.new.desk.desk c.args.request.number c.seen.result c.seen.ensures.answer),
+  λ told q member.
+      let kept = (subst (λ (b : LifeBookView). IsLifeKept v b) (sym c.self.view_is) is) in
+      let before = subst (λ (b : LifeBookView). told_of b.desk.desk.knows.told c.args.request.number ≢ None) (sym c.self.view_is) told in
+      let cancelled = agreed_cancelled v.history (life_statuses (opened c.legal_histories_are_in_order.ensures) v _ kept) c.self.inside.desk.desk kept.agrees q c.args.request.number c.seen.result member c.seen.ensures.after.waits (λ none. before (sym (c.seen.ensures.after.stays before) ∙ none)) in
+      absurd (let bad = rw cancelled at c.if-ne.ensures in cc),
+)
+
+pub returns-then-not-waits-clause-answer : goal.returns-then-not-waits-clause-answer
+returns-then-not-waits-clause-answer g c v is =
+    let kept = (subst (λ (b : LifeBookView). IsLifeKept v b) (sym c.self.view_is) is) in
+    (is, λ told q member. c.if-not-waits.ensures v kept.of_life q member)
 
 pub unreachable-requires : goal.unreachable-requires
 unreachable-requires g c =

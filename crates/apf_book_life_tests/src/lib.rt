@@ -1,0 +1,13 @@
+//! The tests of a book for life over a gate whose slots are used again, by the public calls of both alone.
+//!
+//! - `marks`: the gate that the parts of a level are of, in their types.
+//! - `tenant`: a slot's Pass with how far its request is.
+//! - `lives`: many requests over a few slots, one after another, whose whole history the plain program judges.
+#![tactic(auto)]
+
+#[cfg(test)]
+mod lives;
+#[cfg(test)]
+mod marks;
+#[cfg(test)]
+mod tenant;

@@ -1,0 +1,165 @@
+//! A slot's Pass, with how far its request is.
+
+ghost use Rattle.std.specs.Prelude.{◌≡◌, ◌≢◌, ◌≤◌, true, false, Some, None};
+ghost use Rattle.apf_words.specs.Limits.{max_width};
+ghost use Rattle.apf_gate.specs.declared.record.State.TheVariants as states;
+ghost use Rattle.apf_words.specs.declared.decision.Decision.TheVariants.{Execute};
+ghost use Rattle.apf_gate.specs.Records.{told_own};
+ghost use Rattle.apf_gate.specs.Slots.{IsTicket};
+ghost use Rattle.apf_gate.specs.Tokens.{pass_gate, desk_gate};
+ghost use Rattle.apf_queue.specs.View.{queue_count};
+ghost use Rattle.apf_book.specs.LifeCalls.{IsAsk};
+ghost use Rattle.apf_book_life_tests.specs.declared.tenant.Stage.TheVariants as stages;
+
+use crate::marks::Mark;
+use apf_book::{Arrived, LifeBook};
+use apf_gate::{Gate, Pass, Renew, Ticket};
+use apf_words::Decision;
+use std::alloc::Global;
+use std::marker::PhantomData;
+use std::sync::Wait;
+
+/// How far a request is.
+#[derive(Clone, Copy, Debug, PartialEq, Eq)]
+pub enum Stage {
+    /// It did not arrive.
+    Fresh,
+    /// It entered a queue, and was not seen decided.
+    Waits,
+    /// It executes.
+    Runs,
+    /// It executed, and gave its seats back.
+    Ended,
+    /// It was rejected, or cancelled before it entered.
+    Refused,
+    /// It was cancelled while it waited, and left.
+    Withdrawn,
+}
+
+/// A slot's Pass, of the gate that the marker names.
+#[derive(Drop)]
+pub struct Tenant<K: Mark> {
+    pass: Pass,
+    stage: Stage,
+    of: PhantomData<K>,
+    ghost own: { pass_gate pass ≡ K.gate },
+    ghost fresh: { stage ≡ stages.Fresh → pass.pass.state ≡ states.Fresh },
+    ghost waits: { stage ≡ stages.Waits → (pass.pass.state ≡ states.InLine) × (pass.pass.entered ≡ true) },
+    ghost runs: { stage ≡ stages.Runs → (pass.pass.state ≡ states.InLine) × (told_own pass.pass ≡ Some Execute) },
+    ghost ended: { stage ≡ stages.Ended → (pass.pass.state ≡ states.Over) × (told_own pass.pass ≢ None) },
+    ghost refused: { stage ≡ stages.Refused → (pass.pass.state ≡ states.InLine) × (pass.pass.entered ≡ false) × (told_own pass.pass ≢ None) },
+    ghost withdrawn: { stage ≡ stages.Withdrawn → (pass.pass.state ≡ states.InLine) × (pass.pass.left ≡ true) × (told_own pass.pass ≢ None) },
+}
+
+impl<K: Mark> Tenant<K> {
+    /// The first request of a slot.
+    pub fn new(pass: Pass) -> Tenant<K>
+        requires own { pass_gate pass ≡ K.gate }
+        requires fresh { pass.pass.state ≡ states.Fresh }
+    {
+        Tenant {
+            pass,
+            stage: Stage::Fresh,
+            of: PhantomData,
+        }
+    }
+
+    /// How far its request is.
+    pub fn stage(&self) -> Stage {
+        self.stage
+    }
+
+    /// Whether its request is over, so that it may be renewed.
+    pub fn is_over(&self) -> bool {
+        match self.stage {
+            Stage::Ended | Stage::Refused | Stage::Withdrawn => true,
+            Stage::Fresh | Stage::Waits | Stage::Runs => false,
+        }
+    }
+
+    /// What names the present request.
+    pub fn ticket(&self) -> Ticket
+        ensures { IsTicket K.gate.shape result.number }
+    {
+        self.pass.ticket()
+    }
+
+    /// Gets in line, and comes to the book, if it did not arrive.
+    pub fn arrive<R: Wait>(
+        &mut self,
+        rt: &R,
+        gate: &Gate<Global>,
+        book: &mut LifeBook<Global>,
+        dealt: &[u32],
+        cost: u32,
+    ) -> Option<Arrived>
+        requires gate { gate.now ≡ K.gate }
+        requires book { desk_gate book.old.desk ≡ K.gate }
+        requires ask { IsAsk book.old dealt.now cost }
+        ensures book { desk_gate book.new.desk ≡ K.gate }
+        ensures queues { queue_count book.new.queues.queues ≡ queue_count book.old.queues.queues }
+    {
+        if self.stage != Stage::Fresh {
+            return None;
+        }
+        gate.ask(&mut self.pass);
+        let arrived = book.arrive(rt, gate, &mut self.pass, dealt, cost);
+        self.stage = match arrived {
+            Arrived::Queued(_) => Stage::Waits,
+            Arrived::Full(_) | Arrived::Closed | Arrived::Cancelled => Stage::Refused,
+            Arrived::Again => unreachable!(),
+        };
+        Some(arrived)
+    }
+
+    /// Reads its decision, if it waits. One that is cancelled is withdrawn.
+    pub fn look(&mut self, gate: &Gate<Global>, book: &mut LifeBook<Global>) -> Option<Decision>
+        requires gate { gate.now ≡ K.gate }
+        requires book { desk_gate book.old.desk ≡ K.gate }
+        ensures book { desk_gate book.new.desk ≡ K.gate }
+        ensures queues { queue_count book.new.queues.queues ≡ queue_count book.old.queues.queues }
+    {
+        if self.stage != Stage::Waits {
+            return None;
+        }
+        let told = gate.told(&mut self.pass);
+        match told {
+            Some(Decision::Execute) => self.stage = Stage::Runs,
+            Some(Decision::Cancelled) => {
+                let _struck = book.withdraw(gate, &mut self.pass);
+                self.stage = Stage::Withdrawn;
+            }
+            _ => {}
+        }
+        told
+    }
+
+    /// Gives its seats back, if it executes.
+    pub fn finish(&mut self, gate: &Gate<Global>) -> bool
+        requires gate { gate.now ≡ K.gate }
+    {
+        if self.stage != Stage::Runs {
+            return false;
+        }
+        let _waiting = gate.release(&mut self.pass);
+        self.stage = Stage::Ended;
+        true
+    }
+
+    /// Leaves the request, if it is over, for the next one of the slot, of this width. Tells how it was decided.
+    pub fn renew(&mut self, gate: &Gate<Global>, width: u32) -> Option<Decision>
+        requires gate { gate.now ≡ K.gate }
+        requires some { 1 ≤ width }
+        requires narrow { width ≤ max_width }
+    {
+        match self.stage {
+            Stage::Ended | Stage::Refused | Stage::Withdrawn => {}
+            Stage::Fresh | Stage::Waits | Stage::Runs => return None,
+        }
+        let Renew::Began(decision) = gate.renew(&mut self.pass, width) else {
+            return None;
+        };
+        self.stage = Stage::Fresh;
+        decision
+    }
+}

@@ -2,11 +2,13 @@
 
 ghost use Rattle.std.specs.Prelude.{◌≡◌, ◌+◌, ◌*◌, ◌<◌, ◌≤◌, ◌^◌, [], length, IfOk, IfSome, IfNone, OnOk};
 ghost use Rattle.std.specs.List.{AllByRecursion};
+ghost use Rattle.apf_words.specs.Limits.{max_requests};
 ghost use Rattle.apf_times.specs.declared.course.Seats.TheVariants.{NotGiven};
 ghost use Rattle.apf_times.specs.declared.act.Act.TheVariants.{CarriedOut};
 ghost use Rattle.apf_times.specs.Courses.{AreInRange, At, CanStart, ComesFirst, HasWaited, IsDueBy, all_dues, left};
 ghost use Rattle.apf_times.specs.Runs.{IsStep};
 ghost use Rattle.apf_session.specs.declared.answer.Answer.TheVariants.{Run};
+ghost use Rattle.apf_times.specs.Limits.{max_patience};
 ghost use Rattle.apf_simulation.specs.Diaries.{IsKeptBy, GoesOn};
 ghost use Rattle.apf_simulation.specs.Ties.{AreAwaited, IsNoted};
 
@@ -38,9 +40,9 @@ impl Diary {
     ///
     /// `AllocError` if memory was refused.
     pub fn new(alloc: Global, times: &[Times], patience: u64) -> Result<Diary, AllocError>
-        requires few { length times.now ≤ 10000 }
+        requires few { length times.now ≤ max_requests }
         requires in_range { AllByRecursion AreInRange times.now }
-        requires patience { patience ≤ 10 ^ 9 }
+        requires patience { patience ≤ max_patience }
         ensures kept { IfOk result (IsKeptBy times.now patience) }
         ensures each { IfOk result (λ d. length d.calendar.courses ≡ length times.now) }
         ensures awaited { IfOk result (λ d. AreAwaited d.calendar) }

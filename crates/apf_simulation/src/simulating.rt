@@ -2,7 +2,7 @@
 
 ghost use Rattle.std.specs.Prelude.{◌≡◌, ◌≤◌, ◌^◌, [], All, length, slice_get, IfOk, IfErr, OnOk};
 ghost use Rattle.std.specs.List.{AllByRecursion};
-ghost use Rattle.apf_words.specs.Limits.{max_limit};
+ghost use Rattle.apf_words.specs.Limits.{max_limit, max_requests};
 ghost use Rattle.apf_model.specs.Schedule.{AreWidths};
 ghost use Rattle.apf_level.specs.Reports.{AreSums};
 ghost use Rattle.apf_session.specs.Ends.{HasEnded};
@@ -10,6 +10,7 @@ ghost use Rattle.apf_session.specs.Openings.{level_with, CanOpen, IsOpenFault};
 ghost use Rattle.apf_times.specs.Courses.{AreInRange, all_dues};
 ghost use Rattle.apf_times.specs.Runs.{IsOver};
 ghost use Rattle.apf_traces.specs.TraceValue.{IsRequestInRange};
+ghost use Rattle.apf_times.specs.Limits.{max_patience};
 ghost use Rattle.apf_simulation.specs.Diaries.{IsKeptBy, GoesOn};
 ghost use Rattle.apf_simulation.specs.Ends.{AreOf};
 ghost use Rattle.apf_simulation.specs.Runs.{HasRun, IsMadeOf, IsSimulation};
@@ -67,9 +68,9 @@ fn times_of_trace(alloc: Global, trace: &[TraceRequest]) -> Result<Vec<Times>, A
 
 // A diary of the requests of a trace.
 fn diary_of(alloc: Global, trace: &[TraceRequest], patience: u64) -> Result<Diary, AllocError>
-    requires few { length trace.now ≤ 10000 }
+    requires few { length trace.now ≤ max_requests }
     requires ranges { All IsRequestInRange trace.now }
-    requires patience { patience ≤ 10 ^ 9 }
+    requires patience { patience ≤ max_patience }
     ensures kept { IfOk result (IsKeptBy (times_of trace.now) patience) }
     ensures each { IfOk result (λ d. length d.calendar.courses ≡ length trace.now) }
     ensures awaited { IfOk result (λ d. AreAwaited d.calendar) }
@@ -134,9 +135,9 @@ fn simulation_of(
     diary: Diary,
     report: Report,
 ) -> Result<Simulation, AllocError>
-    requires few { length trace.now ≤ 10000 }
+    requires few { length trace.now ≤ max_requests }
     requires ranges { All IsRequestInRange trace.now }
-    requires patience { patience ≤ 10 ^ 9 }
+    requires patience { patience ≤ max_patience }
     requires limit { limit ≤ max_limit }
     requires run { HasRun trace.now patience diary }
     requires told { AreDecidedAs patience diary.calendar.courses report.decisions.items }
@@ -186,9 +187,9 @@ pub fn simulate<R: Wait>(
     trace: &[TraceRequest],
     patience: u64,
 ) -> Result<Simulation, OpenFault>
-    requires few { length trace.now ≤ 10000 }
+    requires few { length trace.now ≤ max_requests }
     requires ranges { All IsRequestInRange trace.now }
-    requires patience { patience ≤ 10 ^ 9 }
+    requires patience { patience ≤ max_patience }
     ensures simulation { IfOk result (IsSimulation config.now trace.now patience) }
     ensures each { IfOk result (λ s. length s.ends.items ≡ length trace.now) }
     ensures settings { OnOk result (CanOpen config.now (asks_of trace.now) 1) }

@@ -1,6 +1,7 @@
 //! A level and a diary in the hands of one thread.
 
-ghost use Rattle.std.specs.Prelude.{◌≡◌, ◌≢◌, ◌⊎◌, ◌<◌, ◌≤◌, false, true, [], length, slice_index_or, IfOk, IfErr, IfNone, IfSome, OnOk};
+ghost use Rattle.std.specs.Prelude.{◌≡◌, ◌≢◌, ◌⊎◌, ◌*◌, ◌<◌, ◌≤◌, false, true, [], length, slice_index_or, IfOk, IfErr, IfNone, IfSome, OnOk};
+ghost use Rattle.apf_words.specs.Limits.{max_requests};
 ghost use Rattle.apf_model.specs.Schedule.{AreWidths};
 ghost use Rattle.apf_session.specs.declared.answer.Place.TheVariants as places;
 ghost use Rattle.apf_session.specs.Ends.{SessionEnds};
@@ -29,7 +30,7 @@ pub(crate) struct Simulator<K: Naming> {
     ghost one_station: { K.level.gate.shape.stations ≡ 1 },
     ghost one_course_each: { length diary.calendar.courses ≡ length K.level.gate.shape.widths },
     ghost is_read: { read ≤ length log.items },
-    ghost few_events: { length log.items ≤ 20000 },
+    ghost few_events: { length log.items ≤ 2 * max_requests },
 }
 
 impl<K: Naming> Simulator<K> {

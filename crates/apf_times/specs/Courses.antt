@@ -1,5 +1,5 @@
 -- What became of a request, and what is due by it.
-use Rattle.std.specs.Prelude.{◌≡◌, ◌⊎◌, ℕ, zero, suc, ◌+◌, ◌<◌, ◌≤◌, ◌^◌, Bool, true, false, List, [], ◌∷◌, ◌++◌, length, slice_index_or, All, Contains}
+use Rattle.std.specs.Prelude.{◌≡◌, ◌⊎◌, ℕ, zero, suc, ◌+◌, ◌<◌, ◌≤◌, Bool, true, false, List, [], ◌∷◌, ◌++◌, length, slice_index_or, All, Contains}
 use Rattle.apf_times.specs.declared.due.Due.{Due}
 use Rattle.apf_times.specs.declared.due.Kind.{Kind}
 use Rattle.apf_times.specs.declared.due.Kind.TheVariants.{Finish, GiveUp, Arrive}
@@ -7,12 +7,13 @@ use Rattle.apf_times.specs.declared.course.Times.{Times}
 use Rattle.apf_times.specs.declared.course.Course.{Course}
 use Rattle.apf_times.specs.declared.course.Seats.{Seats}
 use Rattle.apf_times.specs.declared.course.Seats.TheVariants.{NotGiven, Held, Returned}
+use Rattle.apf_times.specs.Limits.{max_arrival, max_run}
 use Rattle.apf_times.specs.Dues.{arrival, finish, giving_up, is_before}
 
 -- times and patience that cannot wrap
 pub record AreInRange (t : Times) : Type 0 where
-  pub arrives_at : t.arrives_at ≤ 10 ^ 12
-  pub runs_for : t.runs_for ≤ 10 ^ 10
+  pub arrives_at : t.arrives_at ≤ max_arrival
+  pub runs_for : t.runs_for ≤ max_run
 
 -- the seats when it has finished
 abbrev pub returned : Seats → Seats

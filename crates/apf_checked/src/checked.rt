@@ -3,6 +3,7 @@
 ghost use Rattle.std.specs.Prelude.{◌≡◌, length};
 
 use apf_queue::{Chosen, Full, QueueFault, Queues};
+use apf_words::MAX_WIDTH;
 use std::alloc::Global;
 
 /// Queues, with what a caller has to know of them.
@@ -55,7 +56,7 @@ impl Checked {
         if queue >= self.queue_count || request >= self.request_count {
             return None;
         }
-        if cost < 1 || cost > 20_000 {
+        if cost < 1 || cost > MAX_WIDTH {
             return None;
         }
         match self.queues.queue_of(request) {

@@ -1,15 +1,23 @@
 -- What each queue was given, event by event, and how that is written.
-use Rattle.std.specs.Prelude.{ℕ, ◌+◌, ◌-◌, ◌^◌, min, List, [], ◌∷◌, ◌++◌, length, nat_eq, nat_lt, if◌then◌else◌, codes, slice_get, slice_index_or, slice_set, Option, Some, None}
-use Rattle.std.specs.List.{flat_map}
+use Rattle.std.specs.Prelude.{ℕ, ◌+◌, ◌-◌, ◌^◌, min, List, [], ◌∷◌, ◌++◌, length, map, nat_eq, nat_lt, if◌then◌else◌, codes, slice_get, slice_index_or, slice_set, Option, Some, None}
+use Rattle.std.specs.List.{flat_map, range_with_len}
 use Rattle.std.specs.Fmt.{decimal}
 use Rattle.apf_history.specs.declared.events.Event.{Event}
 use Rattle.apf_history.specs.declared.events.Event.TheVariants.{Enter, Full, Dispatch, Strike}
 use Rattle.apf_files.specs.declared.requests.Request.{Request}
 use Rattle.apf_run.specs.declared.services.Service.{Service}
 
+-- the queue of this number, which was given nothing
+abbrev pub given_none : ℕ → Service
+given_none queue = record { queue = queue; entered = 0; service = 0 }
+
+-- so many queues, in the order of their numbers, which were given nothing
+abbrev pub none_given : ℕ → List Service
+none_given queues = map given_none (range_with_len 0 queues)
+
 -- a queue that was given nothing
 abbrev pub no_service : Service
-no_service = record { queue = 0; entered = 0; service = 0 }
+no_service = given_none 0
 
 -- the seats that the request takes
 abbrev pub width_of : Option Request → ℕ

@@ -1,6 +1,7 @@
 //! What a replay notes while it goes on: its lines, the decisions that it was told, and the log so far.
 
-ghost use Rattle.std.specs.Prelude.{◌≡◌, ◌≤◌, length};
+ghost use Rattle.std.specs.Prelude.{◌≡◌, ◌*◌, ◌≤◌, length};
+ghost use Rattle.apf_words.specs.Limits.{max_requests};
 
 use crate::line::Line;
 use crate::services::{Service, count_all, no_services};
@@ -20,8 +21,8 @@ pub struct Record {
     read: usize,
     services: Vec<Service>,
     ghost is_read: { read ≤ length log.items },
-    ghost few_events: { length log.items ≤ 20000 },
-    ghost few_requests: { length decisions.items ≤ 10000 },
+    ghost few_events: { length log.items ≤ 2 * max_requests },
+    ghost few_requests: { length decisions.items ≤ max_requests },
 }
 
 impl Record {
@@ -37,7 +38,7 @@ impl Record {
         commands: usize,
         queues: u32,
     ) -> Result<Record, AllocError>
-        requires few { requests ≤ 10000 }
+        requires few { requests ≤ max_requests }
     {
         Ok(Record {
             lines: Vec::with_capacity(alloc, commands.saturating_add(requests))?,

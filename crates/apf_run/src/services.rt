@@ -1,8 +1,8 @@
 //! What each queue was given, and how that is written.
 
-ghost use Rattle.std.specs.Prelude.{◌≡◌, slice_get, OnOk};
+ghost use Rattle.std.specs.Prelude.{◌≡◌, slice_get, IfOk, OnOk};
 ghost use Rattle.std.specs.Io.KnownBytes.{Appends};
-ghost use Rattle.apf_run.specs.Services.{with_event, after_events, service_text, services_text, width_of};
+ghost use Rattle.apf_run.specs.Services.{with_event, after_events, none_given, service_text, services_text, width_of};
 
 use apf_files::Request;
 use apf_model::Event;
@@ -26,7 +26,9 @@ pub struct Service {
 /// # Errors
 ///
 /// `AllocError` if memory was refused.
-pub fn no_services(alloc: Global, queues: u32) -> Result<Vec<Service>, AllocError> {
+pub fn no_services(alloc: Global, queues: u32) -> Result<Vec<Service>, AllocError>
+    ensures { IfOk result (λ v. v.items ≡ none_given queues) }
+{
     (0..queues)
         .map(|queue| Service {
             queue,

@@ -79,6 +79,16 @@ Says answers.Waits token = place_of token ≡ places.Waits
 Says (answers.Released waiting) token = IsToldOver Execute token
 Says answers.Wrong token = Unit {0}
 
+-- what an arrival or a reading of a decision answers: the request executes, waits or is over, or the call was wrong here
+abbrev pub SaysWhere : Answer → Type 0
+SaysWhere answers.Run = Unit {0}
+SaysWhere (answers.Over decision) = Unit {0}
+SaysWhere answers.Waits = Unit {0}
+SaysWhere answers.Wrong = Unit {0}
+SaysWhere (answers.Tried decision waiting) = ⊥
+SaysWhere answers.Busy = ⊥
+SaysWhere (answers.Released waiting) = ⊥
+
 -- a call of a request that is at this place, and else answers that it is wrong here and changes nothing
 pub record Answers (place : Place) (old : RequestView) (answer : Answer) (new : RequestView) : Type 0 where
   pub same : new.number ≡ old.number

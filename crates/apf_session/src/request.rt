@@ -8,7 +8,7 @@ ghost use Rattle.apf_gate.specs.Records.{told_own};
 ghost use Rattle.apf_gate.specs.Tokens.{pass_gate};
 ghost use Rattle.apf_session.specs.declared.answer.Place.TheVariants as places;
 ghost use Rattle.apf_session.specs.declared.token.Token.TheVariants as tokens;
-ghost use Rattle.apf_session.specs.Requests.{place_of, told_by, Answers, KeepsBegun, LogsFor, TriesAs, ReleasesAs};
+ghost use Rattle.apf_session.specs.Requests.{place_of, told_by, Answers, KeepsBegun, LogsFor, SaysWhere, TriesAs, ReleasesAs};
 
 use crate::answer::{Answer, Place};
 use crate::token::Token;
@@ -160,7 +160,8 @@ impl<K: Naming> Request<K> {
 
     /// It arrives: it takes its seats, or enters a queue, or is decided otherwise. Answers `Run`, `Waits` or `Over`.
     pub fn begin<R: Wait>(&mut self, rt: &R, level: &Level<K>) -> Answer
-        ensures { Answers places.Away self.old result self.new }
+        ensures answers { Answers places.Away self.old result self.new }
+        ensures kind { SaysWhere result }
     {
         match take(&mut self.token) {
             Token::Fresh(pass) => put_begun(&mut self.token, level.begin(rt, pass)),
@@ -172,6 +173,7 @@ impl<K: Naming> Request<K> {
     /// its queue, or none, of a request that took its seats or was decided without a queue.
     pub fn begin_with_event<R: Wait>(&mut self, rt: &R, level: &Level<K>) -> (Answer, Option<Event>)
         ensures answers { Answers places.Away self.old result.0 self.new }
+        ensures kind { SaysWhere result.0 }
         ensures logs { LogsFor K.level self.old.number result.0 result.1 }
     {
         match take(&mut self.token) {
@@ -185,7 +187,8 @@ impl<K: Naming> Request<K> {
 
     /// It arrives, and its caller sleeps until it is decided. Answers `Run` or `Over`.
     pub fn admit<R: Wait>(&mut self, rt: &R, level: &Level<K>) -> Answer
-        ensures { Answers places.Away self.old result self.new }
+        ensures answers { Answers places.Away self.old result self.new }
+        ensures kind { SaysWhere result }
     {
         match take(&mut self.token) {
             Token::Fresh(pass) => match level.admit(rt, pass) {
@@ -202,7 +205,8 @@ impl<K: Naming> Request<K> {
 
     /// Reads the decision of a request that waits. One that is cancelled is struck. Answers `Run`, `Waits` or `Over`.
     pub fn poll<R: Wait>(&mut self, rt: &R, level: &Level<K>) -> Answer
-        ensures { Answers places.Waits self.old result self.new }
+        ensures answers { Answers places.Waits self.old result self.new }
+        ensures kind { SaysWhere result }
     {
         match take(&mut self.token) {
             Token::Waiting(waiting) => match level.poll(rt, waiting) {

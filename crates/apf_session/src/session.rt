@@ -13,7 +13,7 @@ ghost use Rattle.apf_level.specs.Limits.{LastSet};
 ghost use Rattle.apf_level.specs.Opening.{SettledBy};
 ghost use Rattle.apf_session.specs.declared.answer.Place.TheVariants as places;
 ghost use Rattle.apf_session.specs.Openings.{level_of, level_with, IsOpenFault};
-ghost use Rattle.apf_session.specs.Requests.{RequestView, AreNumbered, ArePassesNumbered, AreAway, CallsOne, LogsFor, AreLeftOf, ReleasesAs, StaysTold, StayTold};
+ghost use Rattle.apf_session.specs.Requests.{RequestView, AreNumbered, ArePassesNumbered, AreAway, CallsOne, LogsFor, SaysWhere, AreLeftOf, ReleasesAs, StaysTold, StayTold};
 ghost use Rattle.apf_session.specs.Ends.{KeepsOrder, SessionEnds};
 
 use crate::answer::{Answer, Place};
@@ -301,7 +301,9 @@ impl<K: Naming> Session<K> {
     /// The request arrives. Answers `Run`, `Waits` or `Over`.
     pub fn begin<R: Wait>(&mut self, rt: &R, request: u32) -> Answer
         requires { request < length K.level.gate.shape.widths }
-        ensures { CallsOne places.Away request self.old.requests.items result self.new.requests.items }
+        ensures calls { CallsOne places.Away request self.old.requests.items result self.new.requests.items }
+        ensures kind { SaysWhere result }
+        ensures operators { self.new.operators.items ≡ self.old.operators.items }
     {
         self.requests[request as usize].begin(rt, &self.level)
     }
@@ -311,6 +313,8 @@ impl<K: Naming> Session<K> {
     pub fn begin_with_event<R: Wait>(&mut self, rt: &R, request: u32) -> (Answer, Option<Event>)
         requires { request < length K.level.gate.shape.widths }
         ensures calls { CallsOne places.Away request self.old.requests.items result.0 self.new.requests.items }
+        ensures kind { SaysWhere result.0 }
+        ensures operators { self.new.operators.items ≡ self.old.operators.items }
         ensures logs { (d : RequestView) → LogsFor K.level (slice_index_or self.old.requests.items request d).number result.0 result.1 }
     {
         self.requests[request as usize].begin_with_event(rt, &self.level)
@@ -319,7 +323,9 @@ impl<K: Naming> Session<K> {
     /// Reads the decision of a request that waits. Answers `Run`, `Waits` or `Over`.
     pub fn poll<R: Wait>(&mut self, rt: &R, request: u32) -> Answer
         requires { request < length K.level.gate.shape.widths }
-        ensures { CallsOne places.Waits request self.old.requests.items result self.new.requests.items }
+        ensures calls { CallsOne places.Waits request self.old.requests.items result self.new.requests.items }
+        ensures kind { SaysWhere result }
+        ensures operators { self.new.operators.items ≡ self.old.operators.items }
     {
         self.requests[request as usize].poll(rt, &self.level)
     }
@@ -328,6 +334,7 @@ impl<K: Naming> Session<K> {
     pub fn finish<R: Wait>(&mut self, rt: &R, request: u32) -> Answer
         requires { request < length K.level.gate.shape.widths }
         ensures calls { CallsOne places.Runs request self.old.requests.items result self.new.requests.items }
+        ensures operators { self.new.operators.items ≡ self.old.operators.items }
         ensures steps { (d : RequestView) → ReleasesAs (slice_index_or self.old.requests.items request d).token result (slice_index_or self.new.requests.items request d).token }
     {
         self.requests[request as usize].finish(rt, &self.level)

@@ -9,3 +9,6 @@ pub mod Running
 pub mod Summing
 pub mod Timely
 pub mod Ordered
+pub mod Tying
+pub mod Calling
+pub mod Honouring

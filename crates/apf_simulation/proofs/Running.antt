@@ -26,3 +26,10 @@ unfolding GoesOn
 has_run ts patience u v kept on over =
     let now : IsKeptBy (times_of ts) patience v = on (times_of ts) patience kept in
     record { kept = now; over = subst (λ n. all_dues n v.calendar.courses ≡ []) (patience_stays (times_of ts) patience now.acts v.calendar now.run) over }
+
+-- a diary that goes on keeps its patience
+pub patience_of : (ts : List TraceRequest) (patience : ℕ) (u v : DiaryView) → IsKeptBy (times_of ts) patience u → GoesOn u v → v.calendar.patience ≡ patience
+unfolding GoesOn
+patience_of ts patience u v kept on =
+    let now : IsKeptBy (times_of ts) patience v = on (times_of ts) patience kept in
+    patience_stays (times_of ts) patience now.acts v.calendar now.run

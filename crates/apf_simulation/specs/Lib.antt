@@ -9,3 +9,4 @@ pub mod Texts
 pub mod Times
 pub mod Comparisons
 pub mod Fates
+pub mod Ties

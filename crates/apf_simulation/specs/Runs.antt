@@ -1,5 +1,6 @@
 -- What a simulation is.
 use Rattle.std.specs.Prelude.{◌≡◌, ℕ, List, []}
+use Rattle.std.specs.List.{AllByRecursion}
 use Rattle.atomic_table.specs.Seated.{TableId}
 use Rattle.apf_gate.specs.Tokens.{GateId}
 use Rattle.apf_model.specs.declared.config.Config.{Config}
@@ -15,6 +16,7 @@ use Rattle.apf_simulation.specs.Columns.{AddUp}
 use Rattle.apf_simulation.specs.Diaries.{DiaryView, IsKeptBy}
 use Rattle.apf_simulation.specs.Ends.{ends_of}
 use Rattle.apf_simulation.specs.Rows.{AreRows, IsWhole}
+use Rattle.apf_simulation.specs.Ties.{AreDecidedAs, IsHonoured}
 use Rattle.apf_simulation.specs.Times.{asks_of, costs_of, times_of}
 
 -- the end of a run of a calendar, and what was carried out by it
@@ -30,16 +32,19 @@ pub record IsMadeOf (limit : ℕ) (trace : List TraceRequest) (patience : ℕ) (
   pub flows : AreFlows (hashes_of trace) s.flows.firsts.items s.flows.of.items
   pub in_order : s.flows.firsts.items ≡ firsts_of (hashes_of trace)
   pub ends : s.ends.items ≡ ends_of patience s.flows.of.items r.decisions.items trace d.calendar.courses
+  pub honoured : AllByRecursion (IsHonoured patience) s.ends.items
   pub rows : AreRows trace s.ends.items 0 s.flows.firsts.items s.rows.items
   pub whole : IsWhole limit patience s.ends.items s.whole
   pub areas : AreAreas trace s.ends.items s.whole
   pub columns : AddUp r.counts s.whole s.rows.items
 
--- The trace was run on a level of this config. The level has ended, and nothing is due.
+-- The trace was run on a level of this config. The level has ended, and nothing is due. Each request's decision is what its
+-- course came to.
 pub record IsSimulation (config : Config) (trace : List TraceRequest) (patience : ℕ) (s : Simulation) : Type 0 where
   pub gate : GateId
   pub cell : TableId
   pub report : HasEnded (level_with gate cell config (asks_of trace) (costs_of trace)) s.report
   pub diary : DiaryView
   pub run : HasRun trace patience diary
+  pub decided : AreDecidedAs patience diary.calendar.courses s.report.decisions.items
   pub made : IsMadeOf config.limit trace patience diary s.report s

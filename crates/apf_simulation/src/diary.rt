@@ -2,10 +2,17 @@
 
 ghost use Rattle.std.specs.Prelude.{◌≡◌, ◌+◌, ◌*◌, ◌<◌, ◌≤◌, ◌^◌, [], length, IfOk, IfSome, IfNone, OnOk};
 ghost use Rattle.std.specs.List.{AllByRecursion};
+ghost use Rattle.apf_words.specs.Limits.{max_requests};
 ghost use Rattle.apf_times.specs.declared.course.Seats.TheVariants.{NotGiven};
-ghost use Rattle.apf_times.specs.Courses.{AreInRange, At, HasWaited, all_dues, left};
+ghost use Rattle.apf_times.specs.declared.act.Act.TheVariants.{CarriedOut};
+ghost use Rattle.apf_times.specs.Courses.{AreInRange, At, CanStart, ComesFirst, HasWaited, IsDueBy, all_dues, left};
+ghost use Rattle.apf_times.specs.Runs.{IsStep};
+ghost use Rattle.apf_session.specs.declared.answer.Answer.TheVariants.{Run};
+ghost use Rattle.apf_times.specs.Limits.{max_patience};
 ghost use Rattle.apf_simulation.specs.Diaries.{IsKeptBy, GoesOn};
+ghost use Rattle.apf_simulation.specs.Ties.{AreAwaited, IsNoted};
 
+use apf_session::Answer;
 use apf_times::{Calendar, Due, Times};
 use std::alloc::{AllocError, Global};
 use std::marker::Model;
@@ -33,11 +40,12 @@ impl Diary {
     ///
     /// `AllocError` if memory was refused.
     pub fn new(alloc: Global, times: &[Times], patience: u64) -> Result<Diary, AllocError>
-        requires few { length times.now ≤ 10000 }
+        requires few { length times.now ≤ max_requests }
         requires in_range { AllByRecursion AreInRange times.now }
-        requires patience { patience ≤ 10 ^ 9 }
+        requires patience { patience ≤ max_patience }
         ensures kept { IfOk result (IsKeptBy times.now patience) }
         ensures each { IfOk result (λ d. length d.calendar.courses ≡ length times.now) }
+        ensures awaited { IfOk result (λ d. AreAwaited d.calendar) }
     {
         let calendar = Calendar::new(alloc, times, patience)?;
         let carried = Vec::with_capacity(alloc, 3 * times.len())?;
@@ -52,10 +60,14 @@ impl Diary {
     #[tactic(auto, using(crate::proofs::Going::by_due, crate::proofs::Going::by_nothing))]
     pub fn next(&mut self) -> Result<Option<Due>, AllocError>
         ensures goes_on { OnOk result (GoesOn self.old self.new) }
+        ensures step { IfOk result (λ n. IfSome n (λ d. IsStep self.old.calendar (CarriedOut d) self.new.calendar)) }
+        ensures due { IfOk result (λ n. IfSome n (λ d. At d.request self.old.calendar.courses (IsDueBy self.old.calendar.patience d))) }
+        ensures in_turn { IfOk result (λ n. IfSome n (λ d. ComesFirst d self.old.calendar.patience self.old.calendar.courses)) }
         ensures inside { IfOk result (λ n. IfSome n (λ d. d.request < length self.old.calendar.courses)) }
         ensures fewer { IfOk result (λ n. IfSome n (λ _. left self.new.calendar.courses < left self.old.calendar.courses)) }
         ensures count { length self.new.calendar.courses ≡ length self.old.calendar.courses }
         ensures none { IfOk result (λ n. IfNone n (all_dues self.new.calendar.patience self.new.calendar.courses ≡ [])) }
+        ensures unchanged { IfOk result (λ n. IfNone n (self.new ≡ self.old)) }
     {
         let Some(due) = self.calendar.next() else {
             return Ok(None);
@@ -64,14 +76,17 @@ impl Diary {
         Ok(Some(due))
     }
 
-    /// The request is given its seats now, if it has arrived and was not given any.
+    /// The request is given its seats now, if it was answered that it executes. It has arrived, and was not given any
+    /// before.
     #[tactic(auto, using(crate::proofs::Going::stays))]
-    pub fn start(&mut self, request: u32)
+    pub fn note(&mut self, request: u32, answer: Answer)
+        requires can_start { answer ≡ Run → At request self.old.calendar.courses CanStart }
+        ensures noted { IsNoted request answer self.old self.new }
         ensures goes_on { GoesOn self.old self.new }
         ensures as_many { left self.new.calendar.courses ≡ left self.old.calendar.courses }
         ensures count { length self.new.calendar.courses ≡ length self.old.calendar.courses }
     {
-        if (request as usize) < self.calendar.courses().len() && self.calendar.can_start(request) {
+        if answer == Answer::Run {
             self.calendar.start(request);
         }
     }

@@ -2,8 +2,10 @@
 
 ghost use Rattle.std.specs.Prelude.{◌≡◌, ◌+◌, ◌*◌, ◌<◌, ◌≤◌, ◌^◌, All, length, IfOk};
 ghost use Rattle.std.specs.List.{AllByRecursion};
+ghost use Rattle.apf_words.specs.Limits.{max_requests};
 ghost use Rattle.apf_traces.specs.TraceValue.{IsRequestInRange};
 ghost use Rattle.apf_times.specs.Courses.{At};
+ghost use Rattle.apf_times.specs.Limits.{max_patience};
 ghost use Rattle.apf_simulation.specs.Ends.{IsSmall, IsOf, AreOf, started as started_end, not_started as not_started_end, end_of as the_end_of, ends_of as the_ends_of};
 
 use crate::diary::Diary;
@@ -32,7 +34,7 @@ fn started(flow: u32, decision: Decision, asked: &TraceRequest, wait: u64) -> En
 // A request that was not given its seats: it gave up, or was rejected.
 fn not_started(flow: u32, decision: Decision, asked: &TraceRequest, patience: u64) -> End
     requires range { IsRequestInRange asked.now }
-    requires patience { patience ≤ 10 ^ 9 }
+    requires patience { patience ≤ max_patience }
     ensures end { result ≡ not_started_end patience flow decision asked.now }
     ensures small { IsSmall result }
 {
@@ -62,7 +64,7 @@ fn end_of(
     requires inside { request < length diary.now.calendar.courses }
     requires course { At request diary.now.calendar.courses (IsOf asked.now) }
     requires range { IsRequestInRange asked.now }
-    requires patience { patience ≤ 10 ^ 9 }
+    requires patience { patience ≤ max_patience }
     ensures end { At request diary.now.calendar.courses (λ c. result ≡ the_end_of patience flow decision asked.now c.seats) }
     ensures small { IsSmall result }
 {
@@ -85,12 +87,12 @@ pub(crate) fn ends_of(
     trace: &[TraceRequest],
     patience: u64,
 ) -> Result<Vec<End>, AllocError>
-    requires few { length trace.now ≤ 10000 }
+    requires few { length trace.now ≤ max_requests }
     requires flows { length flows.now ≡ length trace.now }
     requires decisions { length decisions.now ≡ length trace.now }
     requires courses { AreOf trace.now diary.now.calendar.courses }
     requires ranges { All IsRequestInRange trace.now }
-    requires patience { patience ≤ 10 ^ 9 }
+    requires patience { patience ≤ max_patience }
     ensures ends { IfOk result (λ v. v.items ≡ the_ends_of patience flows.now decisions.now trace.now diary.now.calendar.courses) }
     ensures small { IfOk result (λ v. AllByRecursion IsSmall v.items) }
     ensures count { IfOk result (λ v. length v.items ≡ length trace.now) }

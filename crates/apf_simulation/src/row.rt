@@ -2,6 +2,7 @@
 
 ghost use Rattle.std.specs.Prelude.{◌≡◌, ◌<◌, ◌≤◌, ◌^◌, length, IfOk, OnOk};
 ghost use Rattle.std.specs.Io.KnownBytes.{Appends};
+ghost use Rattle.apf_words.specs.Limits.{max_requests};
 ghost use Rattle.apf_simulation.specs.Tallies.{in_flow, seat_time_of};
 ghost use Rattle.apf_simulation.specs.Rows.{IsRow};
 ghost use Rattle.apf_simulation.specs.Texts.{decided_text, used_text, row_text};
@@ -41,7 +42,7 @@ impl Row {
         first: u32,
         waits: &mut Vec<u64>,
     ) -> Result<Row, AllocError>
-        requires few { length ends.now ≤ 10000 }
+        requires few { length ends.now ≤ max_requests }
         requires fits { in_flow seat_time_of flow ends.now < 2 ^ 64 }
         requires inside { first < length trace.now }
         ensures { IfOk result (IsRow trace.now ends.now flow first) }

@@ -3,6 +3,7 @@
 ghost use Rattle.std.specs.Prelude.{◌≡◌, ◌<◌, ◌≤◌, ◌^◌, All, length, IfOk, OnOk};
 ghost use Rattle.std.specs.List.{AllByRecursion};
 ghost use Rattle.std.specs.Io.KnownBytes.{Appends};
+ghost use Rattle.apf_words.specs.Limits.{max_requests};
 ghost use Rattle.apf_simulation.specs.Ends.{IsSmall};
 ghost use Rattle.apf_simulation.specs.Rows.{AreRows};
 ghost use Rattle.apf_simulation.specs.Texts.{flow_text, flows_text};
@@ -26,8 +27,8 @@ pub(crate) fn rows_of(
     firsts: &[u32],
     ends: &[End],
 ) -> Result<Vec<Row>, AllocError>
-    requires few { length ends.now ≤ 10000 }
-    requires few_flows { length firsts.now ≤ 10000 }
+    requires few { length ends.now ≤ max_requests }
+    requires few_flows { length firsts.now ≤ max_requests }
     requires small { AllByRecursion IsSmall ends.now }
     requires inside { All (λ first. first < length trace.now) firsts.now }
     ensures { IfOk result (λ v. AreRows trace.now ends.now 0 firsts.now v.items) }

@@ -2,16 +2,19 @@
 
 ghost use Rattle.std.specs.Prelude.{◌≡◌, ◌≤◌, ◌^◌, [], All, length, slice_get, IfOk, IfErr, OnOk};
 ghost use Rattle.std.specs.List.{AllByRecursion};
-ghost use Rattle.apf_words.specs.Limits.{max_limit};
+ghost use Rattle.apf_words.specs.Limits.{max_limit, max_requests};
 ghost use Rattle.apf_model.specs.Schedule.{AreWidths};
 ghost use Rattle.apf_level.specs.Reports.{AreSums};
 ghost use Rattle.apf_session.specs.Ends.{HasEnded};
 ghost use Rattle.apf_session.specs.Openings.{level_with, CanOpen, IsOpenFault};
 ghost use Rattle.apf_times.specs.Courses.{AreInRange, all_dues};
+ghost use Rattle.apf_times.specs.Runs.{IsOver};
 ghost use Rattle.apf_traces.specs.TraceValue.{IsRequestInRange};
+ghost use Rattle.apf_times.specs.Limits.{max_patience};
 ghost use Rattle.apf_simulation.specs.Diaries.{IsKeptBy, GoesOn};
 ghost use Rattle.apf_simulation.specs.Ends.{AreOf};
 ghost use Rattle.apf_simulation.specs.Runs.{HasRun, IsMadeOf, IsSimulation};
+ghost use Rattle.apf_simulation.specs.Ties.{AreAwaited, AreDecidedAs};
 ghost use Rattle.apf_simulation.specs.Times.{asks_of, costs_of, times_of};
 
 use crate::diary::Diary;
@@ -65,14 +68,24 @@ fn times_of_trace(alloc: Global, trace: &[TraceRequest]) -> Result<Vec<Times>, A
 
 // A diary of the requests of a trace.
 fn diary_of(alloc: Global, trace: &[TraceRequest], patience: u64) -> Result<Diary, AllocError>
-    requires few { length trace.now ≤ 10000 }
+    requires few { length trace.now ≤ max_requests }
     requires ranges { All IsRequestInRange trace.now }
-    requires patience { patience ≤ 10 ^ 9 }
+    requires patience { patience ≤ max_patience }
     ensures kept { IfOk result (IsKeptBy (times_of trace.now) patience) }
     ensures each { IfOk result (λ d. length d.calendar.courses ≡ length trace.now) }
+    ensures awaited { IfOk result (λ d. AreAwaited d.calendar) }
 {
     let times = times_of_trace(alloc, trace)?;
     Diary::new(alloc, times.as_slice(), patience)
+}
+
+// When nothing is due, each request's course is over. It runs no code of its own: the contract is the law of calendars,
+// at this diary.
+fn are_over(_diary: &Diary)
+    requires { all_dues _diary.now.calendar.patience _diary.now.calendar.courses ≡ [] }
+    ensures { AllByRecursion IsOver _diary.now.calendar.courses }
+{
+    every_calendar_is_kept();
 }
 
 // Opens the level, carries out all that is due, and ends the level.
@@ -88,7 +101,9 @@ fn run_named<K: Naming, R: Wait>(
     requires one_cost_each { length costs.now ≡ length opening.asks.now }
     requires costs { AreWidths costs.now }
     requires one_course_each { length diary.calendar.courses ≡ length opening.asks.now }
+    requires awaited { AreAwaited diary.calendar }
     ensures goes_on { IfOk result (λ o. GoesOn diary o.0) }
+    ensures decided { IfOk result (λ o. AreDecidedAs o.0.calendar.patience o.0.calendar.courses o.1.decisions.items) }
     ensures over { IfOk result (λ o. all_dues o.0.calendar.patience o.0.calendar.courses ≡ []) }
     ensures report { IfOk result (λ o. HasEnded K.level o.1) }
     ensures settings { OnOk result (CanOpen opening.entry.config opening.entry.asks.now 1) }
@@ -98,6 +113,7 @@ fn run_named<K: Naming, R: Wait>(
     let ran = simulator.run(rt);
     let (diary, report) = simulator.end(rt, alloc);
     ran?;
+    are_over(&diary);
     Ok((diary, report?))
 }
 
@@ -119,11 +135,12 @@ fn simulation_of(
     diary: Diary,
     report: Report,
 ) -> Result<Simulation, AllocError>
-    requires few { length trace.now ≤ 10000 }
+    requires few { length trace.now ≤ max_requests }
     requires ranges { All IsRequestInRange trace.now }
-    requires patience { patience ≤ 10 ^ 9 }
+    requires patience { patience ≤ max_patience }
     requires limit { limit ≤ max_limit }
     requires run { HasRun trace.now patience diary }
+    requires told { AreDecidedAs patience diary.calendar.courses report.decisions.items }
     requires decided { length report.decisions.items ≡ length trace.now }
     requires sums { AreSums report.counts (slice_get report.decisions.items) (length report.decisions.items) }
     ensures made { IfOk result (IsMadeOf limit trace.now patience diary report) }
@@ -170,9 +187,9 @@ pub fn simulate<R: Wait>(
     trace: &[TraceRequest],
     patience: u64,
 ) -> Result<Simulation, OpenFault>
-    requires few { length trace.now ≤ 10000 }
+    requires few { length trace.now ≤ max_requests }
     requires ranges { All IsRequestInRange trace.now }
-    requires patience { patience ≤ 10 ^ 9 }
+    requires patience { patience ≤ max_patience }
     ensures simulation { IfOk result (IsSimulation config.now trace.now patience) }
     ensures each { IfOk result (λ s. length s.ends.items ≡ length trace.now) }
     ensures settings { OnOk result (CanOpen config.now (asks_of trace.now) 1) }

@@ -1,6 +1,7 @@
 //! The numbers of one flow's requests.
 
 ghost use Rattle.std.specs.Prelude.{◌≡◌, ◌+◌, ◌<◌, ◌≤◌, ◌^◌, length, OnOk};
+ghost use Rattle.apf_words.specs.Limits.{max_requests};
 ghost use Rattle.apf_simulation.specs.Tallies.{IsTally, in_flow, waits_in, executed, rejected, cancelled, one_of, seat_time_of};
 
 use crate::end::End;
@@ -30,7 +31,7 @@ impl Tally {
 
     // With one request more.
     fn with(self, end: End) -> Tally
-        requires requests { self.requests < 10000 }
+        requires requests { self.requests < max_requests }
         requires executed { self.executed ≤ self.requests }
         requires rejected { self.rejected ≤ self.requests }
         requires cancelled { self.cancelled ≤ self.requests }
@@ -64,7 +65,7 @@ impl Tally {
 
     /// Of the requests of this flow.
     pub(crate) fn of(ends: &[End], flow: u32) -> Tally
-        requires few { length ends.now ≤ 10000 }
+        requires few { length ends.now ≤ max_requests }
         requires fits { in_flow seat_time_of flow ends.now < 2 ^ 64 }
         ensures { IsTally flow ends.now result }
     {

@@ -3,7 +3,7 @@
 ghost use Rattle.std.specs.Prelude.{◌≡◌, ◌≤◌, length, OnOk};
 ghost use Rattle.std.specs.List.{AllByRecursion};
 ghost use Rattle.std.specs.Io.KnownBytes.{Appends};
-ghost use Rattle.apf_words.specs.Limits.{max_limit};
+ghost use Rattle.apf_words.specs.Limits.{max_limit, max_requests};
 ghost use Rattle.apf_simulation.specs.Ends.{IsSmall};
 ghost use Rattle.apf_simulation.specs.Rows.{IsWhole};
 ghost use Rattle.apf_simulation.specs.Texts.{spent_text, waited_text, whole_text};
@@ -30,7 +30,7 @@ pub struct Whole {
 impl Whole {
     /// Of all requests, on a level of this limit, with this patience.
     pub(crate) fn of(ends: &[End], limit: u32, patience: u64) -> Whole
-        requires few { length ends.now ≤ 10000 }
+        requires few { length ends.now ≤ max_requests }
         requires small { AllByRecursion IsSmall ends.now }
         requires limit { limit ≤ max_limit }
         ensures { IsWhole limit patience ends.now result }

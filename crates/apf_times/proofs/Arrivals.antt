@@ -6,9 +6,8 @@ use Rattle.apf_times.specs.declared.course.Times.{Times}
 use Rattle.apf_times.specs.declared.course.Course.{Course}
 use Rattle.apf_times.specs.declared.course.Seats.{Seats}
 use Rattle.apf_times.specs.declared.course.Seats.TheVariants.{NotGiven, Held, Returned}
-use Rattle.apf_times.specs.Courses.{returned, marked, started_at, starts_of, CanStart, HasCome, At, updated}
+use Rattle.apf_times.specs.Courses.{returned, marked, started_at, starts_of, CanStart, HasCome, At, updated, IsDueBy}
 use Rattle.apf_times.specs.Calendars.{awaited}
-use Rattle.apf_times.proofs.Taking.{IsDueBy}
 
 -- the number of a list of one
 abbrev one_of : List ℕ → ℕ

@@ -4,11 +4,10 @@ use Rattle.apf_times.specs.declared.due.Due.{Due}
 use Rattle.apf_times.specs.declared.due.Kind.TheVariants.{Finish}
 use Rattle.apf_times.specs.declared.course.Course.{Course}
 use Rattle.apf_times.specs.declared.act.Act.TheVariants.{CarriedOut, Started}
-use Rattle.apf_times.specs.Courses.{marked, started_at, CanStart, At, updated, one_unless, one_until_returned, left_of, left}
+use Rattle.apf_times.specs.Courses.{marked, started_at, CanStart, At, updated, one_unless, one_until_returned, left_of, left, IsDueBy}
 use Rattle.apf_times.specs.Runs.{IsStep}
 use Rattle.apf_times.specs.Views.{CalendarView}
 use Rattle.apf_times.proofs.Running.{first_of}
-use Rattle.apf_times.proofs.Taking.{IsDueBy}
 
 one_less : (patience : ℕ) (d : Due) (c : Course) → IsDueBy patience d c → left_of (marked d.kind c) + 1 ≡ left_of c
 one_less patience d c by =

@@ -9,3 +9,4 @@ pub mod Running
 pub mod Left
 pub mod Taking
 pub mod Told
+pub mod Turns

@@ -6,7 +6,7 @@ use Rattle.apf_times.specs.declared.course.Course.{Course}
 use Rattle.apf_times.specs.declared.course.Seats.{Seats}
 use Rattle.apf_times.specs.declared.course.Seats.TheVariants.{NotGiven, Held, Returned}
 use Rattle.apf_times.specs.Dues.{arrival, finish, giving_up, is_before, placed, in_order}
-use Rattle.apf_times.specs.Courses.{returned, marked, started_at, CanStart, At, updated, unless, finish_due, dues_from}
+use Rattle.apf_times.specs.Courses.{returned, marked, started_at, CanStart, At, updated, unless, finish_due, dues_from, IsDueBy}
 use Rattle.apf_times.proofs.Orders.{placed-placed, past, here}
 
 -- it is one of these
@@ -43,12 +43,6 @@ in_finish d r runs_for (Returned since) h = absurd h
 lifted : (xs ys zs : List Due) (d : Due) → in_order ys ≡ placed d (in_order zs) → in_order (xs ++ ys) ≡ placed d (in_order (xs ++ zs))
 lifted [] ys zs d h = h
 lifted (x ∷ xs) ys zs d h = ap (placed x) (lifted xs ys zs d h) ∙ placed-placed x d (in_order (xs ++ zs))
-
--- it is due by the course of its request
-abbrev pub IsDueBy : ℕ → Due → Course → Type 0
-IsDueBy patience d c = ((c.has_arrived ≡ false) × (d ≡ arrival d.request c.times.arrives_at))
-    ⊎ (((c.patience_over ≡ false) × (d ≡ giving_up d.request c.times.arrives_at patience))
-    ⊎ ((since : ℕ) × (c.seats ≡ Held since) × (d ≡ finish d.request since c.times.runs_for)))
 
 -- one that is due is due by one request, and no more when it was carried out
 pub record Taken (patience r : ℕ) (cs : List Course) (d : Due) : Type 0 where

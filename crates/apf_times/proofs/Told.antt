@@ -11,10 +11,9 @@ use Rattle.apf_times.specs.declared.course.Times.{Times}
 use Rattle.apf_times.specs.declared.course.Course.{Course}
 use Rattle.apf_times.specs.declared.course.Seats.TheVariants.{Held}
 use Rattle.apf_times.specs.Dues.{arrival, finish, giving_up, turn}
-use Rattle.apf_times.specs.Courses.{returned, marked, started_at, starts_of, CanStart, At, updated}
+use Rattle.apf_times.specs.Courses.{returned, marked, started_at, starts_of, CanStart, At, updated, IsDueBy}
 use Rattle.apf_times.specs.Calendars.{awaited}
 use Rattle.apf_times.specs.Runs.{carried, starts, when, finishes_of, IsCourse, AreCourses}
-use Rattle.apf_times.proofs.Taking.{IsDueBy}
 
 itself : (n : ℕ) → (n == n) ≡ true
 itself n = grind (arith, nat_tests)

@@ -1,5 +1,5 @@
 -- What became of a request, and what is due by it.
-use Rattle.std.specs.Prelude.{◌≡◌, ℕ, zero, suc, ◌+◌, ◌≤◌, ◌^◌, Bool, true, false, List, [], ◌∷◌, ◌++◌, All, Contains}
+use Rattle.std.specs.Prelude.{◌≡◌, ◌⊎◌, ℕ, zero, suc, ◌+◌, ◌<◌, ◌≤◌, Bool, true, false, List, [], ◌∷◌, ◌++◌, length, slice_index_or, All, Contains}
 use Rattle.apf_times.specs.declared.due.Due.{Due}
 use Rattle.apf_times.specs.declared.due.Kind.{Kind}
 use Rattle.apf_times.specs.declared.due.Kind.TheVariants.{Finish, GiveUp, Arrive}
@@ -7,12 +7,13 @@ use Rattle.apf_times.specs.declared.course.Times.{Times}
 use Rattle.apf_times.specs.declared.course.Course.{Course}
 use Rattle.apf_times.specs.declared.course.Seats.{Seats}
 use Rattle.apf_times.specs.declared.course.Seats.TheVariants.{NotGiven, Held, Returned}
+use Rattle.apf_times.specs.Limits.{max_arrival, max_run}
 use Rattle.apf_times.specs.Dues.{arrival, finish, giving_up, is_before}
 
 -- times and patience that cannot wrap
 pub record AreInRange (t : Times) : Type 0 where
-  pub arrives_at : t.arrives_at ≤ 10 ^ 12
-  pub runs_for : t.runs_for ≤ 10 ^ 10
+  pub arrives_at : t.arrives_at ≤ max_arrival
+  pub runs_for : t.runs_for ≤ max_run
 
 -- the seats when it has finished
 abbrev pub returned : Seats → Seats
@@ -85,6 +86,21 @@ dues_from patience r (c ∷ cs) =
 -- what is due by the courses of all requests
 abbrev pub all_dues : ℕ → List Course → List Due
 all_dues patience courses = dues_from patience 0 courses
+
+-- it is due by the course of its request: as its arrival, as the end of its patience, or as its finish
+abbrev pub IsDueBy : ℕ → Due → Course → Type 0
+IsDueBy patience d c = ((c.has_arrived ≡ false) × (d ≡ arrival d.request c.times.arrives_at))
+    ⊎ (((c.patience_over ≡ false) × (d ≡ giving_up d.request c.times.arrives_at patience))
+    ⊎ ((since : ℕ) × (c.seats ≡ Held since) × (d ≡ finish d.request since c.times.runs_for)))
+
+-- neither the arrival of this request nor the end of its patience, where one is due, comes before it
+pub record IsInTurn (d : Due) (patience r : ℕ) (c : Course) : Type 0 where
+  pub after_arrival : c.has_arrived ≡ false → is_before (arrival r c.times.arrives_at) d ≡ false
+  pub while_patient : c.patience_over ≡ false → d.at ≤ c.times.arrives_at + patience
+
+-- the same of each request
+abbrev pub ComesFirst : Due → ℕ → List Course → Type 0
+ComesFirst d patience courses = (r : ℕ) (c : Course) → r < length courses → IsInTurn d patience r (slice_index_or courses r c)
 
 -- one, unless it is over
 abbrev pub one_unless : Bool → ℕ

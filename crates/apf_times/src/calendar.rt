@@ -2,9 +2,10 @@
 
 ghost use Rattle.std.specs.Prelude.{◌≡◌, ◌+◌, ◌*◌, ◌^◌, ◌≤◌, ◌<◌, [], length, IfOk, IfSome, IfNone, IsTrue, OnOk};
 ghost use Rattle.std.specs.List.{AllByRecursion};
-ghost use Rattle.apf_times.specs.Courses.{AreInRange, At, CanStart, HasWaited, all_dues, left};
+ghost use Rattle.apf_times.specs.Courses.{AreInRange, At, CanStart, ComesFirst, HasWaited, IsDueBy, all_dues, left};
 ghost use Rattle.apf_times.specs.declared.act.Act.TheVariants.{CarriedOut, Started};
 ghost use Rattle.apf_times.specs.declared.course.Seats.TheVariants.{NotGiven};
+ghost use Rattle.apf_times.specs.Limits.{max_courses, max_patience};
 ghost use Rattle.apf_times.specs.Runs.{IsStep};
 ghost use Rattle.apf_times.specs.Views.{CalendarView};
 ghost use Rattle.apf_times.specs.Calendars.{opening, expected};
@@ -62,9 +63,9 @@ impl<A: Allocator + Copy> Calendar<A> {
     ///
     /// `AllocError` if memory was refused.
     pub fn new(alloc: A, times: &[Times], patience: u64) -> Result<Calendar<A>, AllocError>
-        requires few { length times.now ≤ 10000 }
+        requires few { length times.now ≤ max_courses }
         requires in_range { AllByRecursion AreInRange times.now }
-        requires patience { patience ≤ 10 ^ 9 }
+        requires patience { patience ≤ max_patience }
         ensures opening { IfOk result (λ c. c ≡ opening times.now patience) }
     {
         let mut agenda = Agenda::new(alloc, 3 * times.len())?;
@@ -121,6 +122,8 @@ impl<A: Allocator> Calendar<A> {
     /// Carries out what is due first, and answers it, or `None` if nothing is due. Time goes on to it.
     pub fn next(&mut self) -> Option<Due>
         ensures step { IfSome result (λ d. IsStep self.old (CarriedOut d) self.new) }
+        ensures due { IfSome result (λ d. At d.request self.old.courses (IsDueBy self.old.patience d)) }
+        ensures in_turn { IfSome result (λ d. ComesFirst d self.old.patience self.old.courses) }
         ensures forward { self.old.time ≤ self.new.time }
         ensures inside { IfSome result (λ d. d.request < length self.old.courses) }
         ensures count { length self.new.courses ≡ length self.old.courses }

@@ -4,13 +4,15 @@ use Rattle.std.proofs.lemmas.List.{length-map}
 use Rattle.apf_model.specs.declared.config.Ask.{Ask}
 use Rattle.apf_model.specs.declared.config.Config.{Config}
 use Rattle.apf_model.specs.Schedule.{AreWidths}
+use Rattle.apf_level.specs.declared.report.Report.{Report}
 use Rattle.apf_session.specs.Ends.{HasEnded}
 use Rattle.apf_session.specs.Openings.{level_with}
 use Rattle.apf_traces.specs.declared.request.TraceRequest.{TraceRequest}
 use Rattle.apf_simulation.specs.Runs.{IsMadeOf}
+use Rattle.apf_simulation.specs.Ties.{AreDecidedAs}
 use Rattle.apf_simulation.specs.Times.{asks_of, costs_of}
 use Rattle.apf_simulation.proofs.Ranges.{costs_in_range}
-use Rattle.apf_simulation.proofs.Running.{has_run}
+use Rattle.apf_simulation.proofs.Running.{has_run, patience_of}
 use Rattle.apf_simulation.proofs.simulating.simulate.Goals as goal
 
 pub run_named-requires-clause-costs : goal.run_named-requires-clause-costs
@@ -22,6 +24,12 @@ run_named-requires-clause-costs g c =
 pub simulation_of-requires-clause-run : goal.simulation_of-requires-clause-run
 simulation_of-requires-clause-run g c =
     has_run c.args.trace.now c.args.patience c.in_ok-diary.diary c.in_ok-diary-2.diary c.in_ok-diary.ensures.kept c.in_ok-diary-2.ensures.goes_on c.in_ok-diary-2.ensures.over
+
+pub simulation_of-requires-clause-told : goal.simulation_of-requires-clause-told
+simulation_of-requires-clause-told g c =
+    subst (λ (n : ℕ). AreDecidedAs n c.in_ok-diary-2.diary.calendar.courses c.in_ok-diary-2.report.decisions.items)
+    (patience_of c.args.trace.now c.args.patience c.in_ok-diary.diary c.in_ok-diary-2.diary c.in_ok-diary.ensures.kept c.in_ok-diary-2.ensures.goes_on)
+    c.in_ok-diary-2.ensures.decided
 
 pub simulation_of-requires-clause-decided : goal.simulation_of-requires-clause-decided
 simulation_of-requires-clause-decided g c =
@@ -56,5 +64,7 @@ returns-clause-simulation g c =
           (subst (λ (x : Config). HasEnded (level_with opening.gate opening.board.cell x opening.asks.now c.as_slice-2.result.now) r) settings c.in_ok-diary-2.ensures.report)));
       diary = d;
       run = has_run ts p c.in_ok-diary.diary d c.in_ok-diary.ensures.kept c.in_ok-diary-2.ensures.goes_on c.in_ok-diary-2.ensures.over;
+      decided = subst (λ (x : Report). AreDecidedAs p d.calendar.courses x.decisions.items) same
+          (subst (λ (n : ℕ). AreDecidedAs n d.calendar.courses r.decisions.items) (patience_of ts p c.in_ok-diary.diary d c.in_ok-diary.ensures.kept c.in_ok-diary-2.ensures.goes_on) c.in_ok-diary-2.ensures.decided);
       made = subst (λ x. IsMadeOf config.limit ts p d x s) same (subst (λ (x : Config). IsMadeOf x.limit ts p d r s) settings made);
     }

@@ -1,10 +1,13 @@
 -- The parts, each by its own call.
 use Rattle.std.proofs.Common.{◌≡◌, ◌≤◌, List, refl, sym, ap, ◌∙◌, subst, arith}
+use Rattle.std.specs.List.{AllByRecursion}
 use Rattle.apf_words.specs.declared.decision.Decision.{Decision}
 use Rattle.apf_simulation.specs.Areas.{AreAreas}
 use Rattle.apf_simulation.specs.Ends.{ends_of}
 use Rattle.apf_simulation.specs.Rows.{AreRows, IsWhole, latest}
+use Rattle.apf_simulation.specs.Ties.{IsHonoured}
 use Rattle.apf_simulation.proofs.Booked.{columns}
+use Rattle.apf_simulation.proofs.Honouring.{honoured}
 use Rattle.apf_simulation.proofs.Timely.{waits_area, holdings_area}
 use Rattle.apf_simulation.proofs.simulating.simulation_of.Goals as goal
 
@@ -35,6 +38,7 @@ returns-clause-made c =
       flows = c.in_ok-flows.ensures.flows;
       in_order = c.in_ok-flows.ensures.in_order;
       ends = is;
+      honoured = subst (λ xs. AllByRecursion (IsHonoured patience) xs) (sym is) (honoured patience fs ds ts cs c.are_of_trace.ensures c.requires.told);
       rows = rows;
       whole = whole;
       areas = subst (λ xs. AreAreas ts xs w) (sym is) (record {

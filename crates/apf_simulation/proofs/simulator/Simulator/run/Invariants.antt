@@ -1,10 +1,12 @@
--- The diary goes on, and less is left with each step.
-use Rattle.apf_times.specs.Courses.{left}
+-- The requests are tied, and the diary goes on.
 use Rattle.apf_simulation.specs.Diaries.{GoesOn}
+use Rattle.apf_simulation.specs.Ties.{AreTied}
 use Rattle.apf_simulation.proofs.simulator.Simulator.run.Given as goal
 
 abbrev pub invariant-loop : goal.invariant-loop
-invariant-loop g l = GoesOn l.initial.self.diary l.self.diary
-
-abbrev pub decreases-loop : goal.decreases-loop
-decreases-loop g l = left l.self.diary.calendar.courses
+invariant-loop g l = record {
+  next : (goal.iterator-loop g).can_next l.iterator';
+  ends : (goal.iterator-loop g).is_finite l.iterator';
+  tied : AreTied l.self.diary.calendar l.self.session.requests.items;
+  goes_on : GoesOn l.initial.self.diary l.self.diary;
+}

@@ -1,6 +1,22 @@
 -- What is due is carried out, then comes the call, then what the log gained.
+use Rattle.std.proofs.Common.{rules, ◌<◌, length}
+use Rattle.apf_times.specs.declared.act.Act.TheVariants.{CarriedOut}
+use Rattle.apf_times.specs.Courses.{At, ComesFirst, IsDueBy}
+use Rattle.apf_times.specs.Runs.{IsStep}
+use Rattle.apf_simulation.proofs.Calling.{call_due}
 use Rattle.apf_simulation.proofs.Going.{goes_on}
 use Rattle.apf_simulation.proofs.simulator.Simulator.step.Goals as goal
+
+pub call-requires-clause-due : goal.call-requires-clause-due
+call-requires-clause-due g c κs within =
+    let u = c.args.self.now.diary.calendar in
+    let v = c.next.new.self.calendar in
+    let d = c.in-Some.due in
+    let step : IsStep u (CarriedOut d) v = search rules in
+    let due : At d.request u.courses (IsDueBy u.patience d) = search rules in
+    let turn : ComesFirst d u.patience u.courses = search rules in
+    let low : d.request < length u.courses = search rules in
+    call_due u v c.args.self.now.session.requests.items d c.requires.tied step due turn low
 
 pub returns-clause-goes_on : goal.returns-clause-goes_on
 returns-clause-goes_on g c =

@@ -6,6 +6,7 @@ use Rattle.apf_times.specs.Calendars.{IsKept}
 use Rattle.apf_times.proofs.Left.{fewer}
 use Rattle.apf_times.proofs.Keeping.{first_inside, first_is, none_due, next_kept}
 use Rattle.apf_times.proofs.Taking.{updated_is}
+use Rattle.apf_times.proofs.Turns.{comes_first, due_by}
 use Rattle.apf_times.proofs.calendar.Calendar.next.Goals as goal
 
 pub returns-in_default-clause-none : goal.returns-in_default-clause-none
@@ -53,3 +54,9 @@ returns-clause-fewer g c =
 pub returns-clause-inside : goal.returns-clause-inside
 returns-clause-inside g c =
     subst (λ v. c.in-Some.due.request < length v.courses) c.self.view_is (first_inside c.self.inside.agenda c.self.inside.courses.items c.self.inside.patience c.self.invariant c.in-Some.due c.next.new.self.due c.in-Some.ensures.some)
+
+pub returns-clause-due : goal.returns-clause-due
+returns-clause-due g c = due_by c.args.self.now.patience c.args.self.now.courses c.in-Some.due (returns-clause-step g c).0
+
+pub returns-clause-in_turn : goal.returns-clause-in_turn
+returns-clause-in_turn g c = comes_first c.args.self.now.patience c.args.self.now.courses c.in-Some.due (returns-clause-step g c).0

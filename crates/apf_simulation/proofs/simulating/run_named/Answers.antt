@@ -1,0 +1,20 @@
+-- When the run is over, each request was told what its course came to.
+use Rattle.std.proofs.Common.{rules, ◌≡◌, sym, ap, ◌∙◌, subst}
+use Rattle.std.specs.List.{AllByRecursion}
+use Rattle.apf_session.specs.Ends.{SessionEnds}
+use Rattle.apf_times.specs.Runs.{IsOver}
+use Rattle.apf_times.specs.Views.{CalendarView}
+use Rattle.apf_simulation.specs.Diaries.{DiaryView}
+use Rattle.apf_simulation.specs.Ties.{AreDecidedAs}
+use Rattle.apf_simulation.proofs.Honouring.{are_decided}
+use Rattle.apf_simulation.proofs.simulating.run_named.Goals as goal
+
+pub returns-clause-decided : goal.returns-clause-decided
+returns-clause-decided g c =
+    let s = c.run-ran.new.self in
+    let r = c.in_ok-report.field-0 in
+    let same : c.diary.inside.calendar ≡ s.diary.calendar = ap (λ (d : DiaryView). d.calendar) (c.diary.view_is ∙ c.end-diary.ensures.diary) in
+    let over : AllByRecursion IsOver s.diary.calendar.courses = subst (λ (d : DiaryView). AllByRecursion IsOver d.calendar.courses) c.end-diary.ensures.diary c.are_over.ensures in
+    let ended : SessionEnds g.K.Naming.level s.session.requests.items s.session.operators.items r = search rules in
+    subst (λ (v : CalendarView). AreDecidedAs v.patience v.courses r.decisions.items) (sym same)
+    (are_decided s.diary.calendar s.session.requests.items r c.in_ok-ran.ensures.tied c.in_ok-ran.ensures.nobody_waits over ended.told)

@@ -1,6 +1,7 @@
 """The picture of a run. First an independent computation of the SVG (lib/picture.py), judged on drawn traces by what an XML reader
-finds in it: numbers, bars, ticks, rows, queues and seats. Then what the program prints, where it has the command."""
+finds in it: numbers, names, bars, ticks, rows, queues, seats and colours. Then what the program prints."""
 
+import itertools
 import json
 import os
 import random
@@ -12,13 +13,12 @@ import xml.etree.ElementTree as ElementTree
 sys.path.insert(0, os.path.join(os.path.dirname(os.path.abspath(__file__)), "lib"))
 from harness import TOP, Files, Tally, build, run
 from judge import Refused, config_of
-from picture import COLUMNS, Picture
+from colours import EYES, least_beside, least_distance, least_lightness
+from picture import COLUMNS, Picture, width
 from simulation import Run, answer, flows_of
 from trace import trace_of
 from traces import Traces
 
-# whether the program has the command
-COMMAND = True
 SVG = "{http://www.w3.org/2000/svg}"
 EXAMPLE = os.path.join(TOP, "examples", "noisy-client")
 # what the picture of the example is drawn with
@@ -36,7 +36,7 @@ TRACES = int(os.environ.get("APF_TRACES", "100"))
 print(f"seed {seed}")
 
 
-def picture(run, *_):
+def picture(run):
     return Picture(run).text()
 
 
@@ -69,6 +69,28 @@ def seats_in_use(made, time):
     return sum(made.trace[it]["width"] for it, start in made.started.items() if start <= time and it not in ended)
 
 
+def most_in_use(made):
+    """The most seats at any time: more are in use than before only where a request starts."""
+    return max((seats_in_use(made, time) for time in set(made.started.values())), default=0)
+
+
+def most_waiting(made):
+    """The most that wait in one queue at any time, by the events of the level and the calls of the run."""
+    entered = {request: queue for kind, request, queue in made.level.log if kind == "enter"}
+    stays = [(queue, made.trace[it]["arrivesAt"], made.waited_until[it]) for it, queue in entered.items()]
+    return max((sum(other == queue and begin <= time < end for other, begin, end in stays) for queue, time, _ in stays), default=0)
+
+
+def part(root, title):
+    """The group whose heading begins so."""
+    return next(it for it in root.iter(f"{SVG}g") if (head := it.find(f"{SVG}text[@class='part']")) is not None and head.text.startswith(title))
+
+
+def numbers_beside(group):
+    """The heights and the numbers at the left of a plot."""
+    return [(int(it.get("y")), int(it.text)) for it in group.iter(f"{SVG}text") if it.get("x") == "-6"]
+
+
 def judged(name, text, made):
     """Checks a picture of this run by what an XML reader finds in it."""
     root = ElementTree.fromstring(text)
@@ -78,13 +100,26 @@ def judged(name, text, made):
     tally.check(f"{name}: a picture for who does not see it", (root.tag, root.get("role"), root.get("aria-labelledby")), (f"{SVG}svg", "img", "title desc"))
     tally.check(f"{name}: a title and a description", [root.find(f"{SVG}{it}").get("id") for it in ("title", "desc")], ["title", "desc"])
     title, words = (root.find(f"{SVG}{it}").text for it in ("title", "desc"))
-    found = [int(it) for it in re.findall(r"\d+", title)]
     flows = flows_of(made.trace)
-    tally.check(f"{name}: the title's numbers", found, [len(made.trace), len(flows), made.config["limit"]])
+    found = re.fullmatch(r"(\d+) requests? of (\d+) flows?( of .*)? on (\d+) seats?", title, re.DOTALL)
+    tally.check(f"{name}: the title's numbers", [int(it) for it in found.group(1, 2, 4)], [len(made.trace), len(flows), made.config["limit"]])
+    schemas = {(made.trace[members[0]]["names"] or [None])[0] for members in flows.values()}
+    tally.check(f"{name}: the schema stands in the title if all flows share it", found[3] is not None, len(schemas) == 1 and None not in schemas)
+    settings = [it.text for it in root.iter(f"{SVG}text") if it.get("class") == "note"][1]
+    tally.check(f"{name}: the settings", [int(it) for it in re.findall(r"\d+", settings)][:4], settings_of(made))
+    tally.check(f"{name}: the settings in the description", f"The level: {settings}. " in words, True)
     tally.check(f"{name}: the description's numbers", [int(it) for it in re.findall(r"(\d+) (?:executed|rejected|gave up)", words)][:3], counts)
     others = [it for it in root.iter() if it.tag.split("}")[1] in ("script", "image", "use", "a", "foreignObject")]
     tally.check(f"{name}: nothing but its own", (others, re.findall(r"href|url\(|@import|https?://(?!www\.w3\.org/2000/svg\")", text)), ([], []))
-    # the rows
+    # the rows, those first that waited longest
+    labels = [it for it in root.iter(f"{SVG}text") if it.get("x") == "16"]
+    tally.check(f"{name}: no label is too wide", [it.text for it in labels if width(it.text) > 38], [])
+    waited = sorted((sum(map(made.wait, members)) for members in flows.values()), reverse=True)
+    rows = {re.sub(r"[^0-9a-f]", "", it.text): it for it in labels}
+    own = [sum(map(made.wait, flows[int(it, 16)])) for it in rows if len(it) == 16 and int(it, 16) in flows]
+    tally.check(f"{name}: no row waited longer than the one before", own, sorted(own, reverse=True))
+    if len(own) == min(len(flows), 12):
+        tally.check(f"{name}: the rows are those that waited longest", own, waited[:12])
     bars = of_class(root, "bars")
     tally.check(f"{name}: the rows", len(bars), min(len(flows), 13))
     tally.check(f"{name}: a bar for each request that was not rejected", sum(it.get("d").count("M") for it in bars), counts[0] + counts[2])
@@ -92,21 +127,53 @@ def judged(name, text, made):
     for kind, count in (("rejected", counts[1]), ("gave-up", counts[2])):
         tally.check(f"{name}: ticks of {kind}", sum(it.get("d").count("M") for it in of_class(root, kind)), count + 1)
     # the seats: the last area that is drawn is the first row's, and the first one is of all
+    limit, most = made.config["limit"], most_in_use(made)
     heights = [steps(it) for it in root.iter(f"{SVG}path") if re.fullmatch(r"f\d+", it.get("class"))]
     tally.check(f"{name}: the areas", len(heights), len(bars))
     if heights:
         seats = [seats_in_use(made, column * made.end() // COLUMNS) for column in range(COLUMNS)]
-        most = max(*seats, made.config["limit"])
-        tally.check(f"{name}: the seats in use", heights[0], [140 - it * 130 // most for it in seats])
+        tally.check(f"{name}: the seats in use", heights[0], [140 - it * 130 // max(most, limit) for it in seats])
         tally.check(f"{name}: no area is above that of all", [1 for above, below in zip(heights, heights[1:]) if any(a > b for a, b in zip(above, below))], [])
+    group = part(root, "Seats in use")
+    tally.check(f"{name}: the most seats over time", group.find(f"{SVG}text/{SVG}tspan").text, f"by flow, at most {most}; the limit is {limit}")
+    tally.check(f"{name}: the most seats over time, in the description", f"Seats in use by flow: at most {most}." in words, True)
+    beside = numbers_beside(group)
+    tally.check(f"{name}: the numbers beside the seats", sorted(it for _, it in beside), sorted([0, limit] + [most] * (most > limit)))
+    tally.check(f"{name}: a peak has a tick", len(of_class(group, "peak")), int(most > limit))
+    tally.check(f"{name}: numbers have room", [1 for (one, _), (other, _) in itertools.combinations(beside, 2) if abs(one - other) < 11], [])
     # the queues
     queues = {queue for kind, _, queue in made.level.log if kind == "enter"}
-    found = int(re.search(r"Queues used: (\d+)", words)[1])
-    tally.check(f"{name}: the queues", found, len(queues))
-    numbers = [int(it.text) for it in root.iter(f"{SVG}text") if it.get("x") == "-6"][2:]
+    found = re.search(r"Queues used: (\d+), at most (\d+) waiting in one\.", words)
+    tally.check(f"{name}: the queues, and the most over time", [int(it) for it in found.groups()], [len(queues), most_waiting(made)])
+    beside = numbers_beside(part(root, "Queues"))
+    numbers = [it for _, it in beside]
     tally.check(f"{name}: numbers of queues", (set(numbers) <= queues, numbers), (True, sorted(numbers)))
-    tally.check(f"{name}: no more numbers than have room", len(numbers) <= 20, True)
-    tally.check(f"{name}: marks of the axis", len(re.findall("M", of_class(root, "line")[0].get("d"))) <= 11, True)
+    tally.check(f"{name}: no more numbers than have room", [1 for (one, _), (other, _) in zip(beside, beside[1:]) if other - one < 11], [])
+    # the axis, above and below
+    marks = len(re.findall("M", of_class(root, "line")[0].get("d")))
+    times = [[(it.get("x"), it.text) for it in group] for group in root.iter(f"{SVG}g") if group.get("text-anchor") == "middle"]
+    tally.check(f"{name}: marks of the axis", (2 <= marks <= 11 or made.end() == 0, len(times), times[0] == times[1], len(times[0])), (True, 2, True, marks))
+    tally.check(f"{name}: no colour of eight digits", re.findall(r"#[0-9a-f]{8}", text), [])
+
+
+def settings_of(made):
+    """The numbers of the level's settings."""
+    if made.config["limitResponse"] == "Reject":
+        return [made.config["limit"]]
+    return [made.config[it] for it in ("limit", "queues", "handSize", "queueLengthLimit")]
+
+
+def check_colours():
+    """The rows are told apart on grey paper, and by each kind of colour blindness, on a light page and on a dark one."""
+    style = re.search(r"<style>(.*)</style>", picture(Run(config_of(SMALL), [], 0)), re.DOTALL)[1]
+    for page, text in zip(("light", "dark"), style.split("@media(prefers-color-scheme:dark)")):
+        colours = re.findall(r"\.f\d+\{fill:(#[0-9a-f]{6})\}", text)
+        tally.check(f"the colours of a {page} page", len(colours), 13)
+        least = least_lightness(colours), least_beside(colours), least_lightness(colours[:4])
+        tally.check(f"the lightness on a {page} page: {least}", [it >= bound for it, bound in zip(least, (4, 17, 13))], [True] * 3)
+        for eye in EYES:
+            distance = least_distance(colours, eye)
+            tally.check(f"the distance on a {page} page, {eye}: {distance:.1f}", distance >= 14, True)
 
 
 def check_model():
@@ -166,12 +233,10 @@ def check_command():
     tally.check("a picture on a full disk", (done.returncode, done.stderr), (1, b"apf: cannot write\n"))
 
 
-if not COMMAND:
-    print("not run, as the program has no such command: picture")
+check_colours()
 check_model()
 check_example()
 check_sizes()
-if COMMAND:
-    check_drawn()
-    check_command()
+check_drawn()
+check_command()
 tally.end()

@@ -8,10 +8,11 @@ COLUMNS = 880
 OWN_ROWS = 12
 SHADES = 8
 # the parts begin at these heights, and the seats' part is so high, of which the limit or the most seats take so much
-SEATS, QUEUES, HIGH, FULL = 96, 282, 140, 130
-# so many characters of a name are shown
-NAME = 30
-COLOURS = "#e07b39 #3d7fc4 #3a9c6b #8f68c4 #cc5c8e #2799a3 #b4872a #6b7ad1 #789a3a #b5674a #56a3d9 #a3589f #8a9099".split()
+SEATS, QUEUES, HIGH, FULL = 124, 310, 140, 130
+# so many columns of letters are shown of a name: of one alone, of a schema and of a distinguisher beside it, of a schema in the title
+ALONE, SCHEMA, DISTINGUISHER, TITLE = 36, 14, 20, 28
+LIGHT = "#b1551e #421871 #05a1b4 #91186c #fd8975 #6448a6 #8579de #6c2100 #a6a22f #096d8c #baabfc #8b072e #7b7b7b".split()
+DARK = "#fd8867 #7c4dab #e3ce5d #0492a9 #d6e9fd #a07fe4 #f7a3ff #b0541d #8df097 #b89a2c #fdf2e4 #d14c54 #b5b5b5".split()
 STYLE = [
     'text{font:12px system-ui,-apple-system,"Segoe UI",sans-serif;fill:#1f2328}',
     ".head{font-size:17px;font-weight:600}",
@@ -19,22 +20,24 @@ STYLE = [
     ".note{fill:#59636e;font-weight:400}",
     ".small{font-size:10px;fill:#59636e}",
     ".page{fill:#fff}",
-    ".plot{fill:#8a90991f}",
-    ".line{stroke:#8a909940}",
+    ".plot{fill:#8a9099;fill-opacity:.12}",
+    ".line{stroke:#8a9099;stroke-opacity:.25}",
     ".limit{stroke:#1f2328;stroke-dasharray:6 4}",
-    ".shade{stroke:#4a5f8f;stroke-width:9}",
+    ".peak{stroke:#1f2328}",
+    ".shade{stroke:#33497a;stroke-width:9}",
     ".rejected{stroke:#d1242f;stroke-width:1.5}",
     ".gave-up{fill:#b07d00}",
-    *(f".f{number}{{fill:{colour}}}.b{number}{{stroke:{colour}}}" for number, colour in enumerate(COLOURS)),
-    ".line,.limit,.shade,.bars,.rejected{fill:none}",
+    ".line,.limit,.peak,.shade,.bars,.rejected{fill:none}",
+    *(f".f{number}{{fill:{colour}}}.b{number}{{stroke:{colour}}}" for number, colour in enumerate(LIGHT)),
     "@media(prefers-color-scheme:dark){",
     "text{fill:#e6edf3}",
     ".note,.small{fill:#9198a1}",
     ".page{fill:#0d1117}",
-    ".limit{stroke:#e6edf3}",
-    ".gave-up{fill:#e3b341}",
-    ".shade{stroke:#8fb0ee}",
+    ".limit,.peak{stroke:#e6edf3}",
+    ".shade{stroke:#a6c0f5}",
     ".rejected{stroke:#ff6a69}",
+    ".gave-up{fill:#e3b341}",
+    *(f".f{number}{{fill:{colour}}}.b{number}{{stroke:{colour}}}" for number, colour in enumerate(DARK)),
     "}",
 ]
 UNITS = [("d", 86_400_000_000), ("h", 3_600_000_000), ("min", 60_000_000), ("s", 1_000_000), ("ms", 1000), ("&#181;s", 1)]
@@ -67,8 +70,30 @@ def escaped(text):
     return "".join("&#65533;" if it < " " else marks.get(it, it) for it in text)
 
 
-def name_words(name):
-    return escaped(name[:NAME]) + ("&#8230;" if len(name) > NAME else "")
+def columns(letter):
+    """How many columns a letter takes: the wide ones two."""
+    return 2 if letter in "%@MWmw" or letter >= "\x80" else 1
+
+
+def width(name):
+    return sum(map(columns, name))
+
+
+def front(name, room):
+    """As much of the beginning as there is room for."""
+    return next(name[:size] for size in range(len(name), -1, -1) if width(name[:size]) <= room)
+
+
+def whole_name(name):
+    return escaped(name) if name else "&quot;&quot;"
+
+
+def name_words(name, most):
+    """A name, of a long one its beginning and its end."""
+    if width(name) <= most:
+        return whole_name(name)
+    room = most // 2 - 1
+    return f"{escaped(front(name, room))}&#8230;{escaped(front(name[::-1], room)[::-1])}"
 
 
 def scaled(value, whole, size):
@@ -76,40 +101,66 @@ def scaled(value, whole, size):
 
 
 class Row:
-    """The requests of one row, and its label."""
+    """The requests of one row, its label, and the whole of its names."""
 
-    def __init__(self, label, members):
-        self.label, self.members = label, members
+    def __init__(self, label, whole, members):
+        self.label, self.whole, self.members = label, whole, members
 
 
-def rows_of(trace):
-    """Those flows with most requests, the earlier one first among equals, and one row of the others."""
-    flows = flows_of(trace)
-    ranked = sorted(flows, key=lambda it: -len(flows[it]))
-    rows = []
-    for flow in ranked[:OWN_ROWS]:
-        names = trace[flows[flow][0]]["names"]
-        rows.append(Row(" / ".join(map(name_words, names)) if names else f"{flow:016x}", flows[flow]))
+def labels_of(flow, names, shared):
+    """What a flow's row is called, and the whole of it. The schema that all flows share is left out."""
+    if not names:
+        return (f"{flow:016x}",) * 2
+    if shared is not None:
+        return name_words(names[1], ALONE), whole_name(names[1])
+    return f"{name_words(names[0], SCHEMA)} / {name_words(names[1], DISTINGUISHER)}", " / ".join(map(whole_name, names))
+
+
+def shared_schema(trace):
+    """The schema of all flows, by their first requests, if there is one."""
+    schemas = {trace[members[0]]["names"] and trace[members[0]]["names"][0] for members in flows_of(trace).values()}
+    return schemas.pop() if len(schemas) == 1 else None
+
+
+def rows_of(run):
+    """Those flows that waited longest in sum, of those with equal sums the ones with most requests, and of these the earlier one first; and one row of
+    the others."""
+    trace, flows = run.trace, flows_of(run.trace)
+    shared = shared_schema(trace)
+    ranked = sorted(flows, key=lambda it: (-sum(map(run.wait, flows[it])), -len(flows[it])))
+    rows = [Row(*labels_of(flow, trace[flows[flow][0]]["names"], shared), flows[flow]) for flow in ranked[:OWN_ROWS]]
     others = ranked[OWN_ROWS:]
     if others:
-        rows.append(Row(counted(len(others), "other flow"), sorted(it for flow in others for it in flows[flow])))
+        label = counted(len(others), "other flow")
+        rows.append(Row(label, label, sorted(it for flow in others for it in flows[flow])))
     return rows
+
+
+def patience_words(patience):
+    """In the longest unit of which it is a whole number."""
+    if not patience:
+        return "patience 0: nobody gives up"
+    unit, length = next(it for it in (("s", 1_000_000), ("ms", 1000), ("&#181;s", 1)) if patience % it[1] == 0)
+    return f"patience {patience // length} {unit}"
 
 
 class Picture:
     """The picture of a run (simulation.py)."""
 
     def __init__(self, run):
-        self.run, self.end, self.limit, self.trace = run, run.end(), run.config["limit"], run.trace
-        self.rows = rows_of(run.trace)
+        self.run, self.end, self.config, self.patience, self.trace = run, run.end(), run.config, run.patience, run.trace
+        self.limit = run.config["limit"]
+        self.rows = rows_of(run)
+        self.shared = shared_schema(run.trace)
         self.flows = len(flows_of(run.trace))
         self.entered = {request: queue for kind, request, queue in run.level.log if kind == "enter"}
         self.queues = sorted(set(self.entered.values()))
         self.times = [column * self.end // COLUMNS for column in range(COLUMNS)]
         self.areas = [[self.seats(row, time) for time in self.times] for row in range(len(self.rows))]
         self.lengths = [[self.length(queue, time) for time in self.times] for queue in self.queues]
-        self.used = max(self.areas[-1]) if self.areas else 0
-        self.longest = max(map(max, self.lengths), default=0)
+        # over time, and not at the columns alone: more are in use, or wait, only where one begins to
+        self.used = max((self.seats(OWN_ROWS, self.until(it)) for it in range(len(self.trace))), default=0)
+        self.longest = max((self.length(queue, self.begins(it)) for it, queue in self.entered.items()), default=0)
 
     # what became of the requests
 
@@ -141,16 +192,23 @@ class Picture:
         return f"{counted(len(row.members), 'request')}: {self.numbers(row.members)}"
 
     def title(self):
-        return f"{counted(len(self.trace), 'request')} of {counted(self.flows, 'flow')} on {counted(self.limit, 'seat')}"
+        schema = "" if self.shared is None else f" of {name_words(self.shared, TITLE)}"
+        return f"{counted(len(self.trace), 'request')} of {counted(self.flows, 'flow')}{schema} on {counted(self.limit, 'seat')}"
 
     def whole(self):
         return f"{self.numbers(range(len(self.trace)))}, {time_words(self.end)} in all"
 
+    def settings(self):
+        if self.config["limitResponse"] == "Reject":
+            return f"limit {self.limit}, no queues: what does not fit is rejected"
+        sizes = self.config["queues"], self.config["handSize"], self.config["queueLengthLimit"]
+        return "limit {}, queues {}, hand size {}, queue length limit {}, {}".format(self.limit, *sizes, patience_words(self.patience))
+
     def description(self):
+        schema = "" if self.shared is None else f" The schema of all flows: {whole_name(self.shared)}."
         return (
-            f"{self.whole()}. Seats in use by flow: at most {self.used}, the limit is {self.limit}."
-            f" Queues used: {len(self.queues)}, at most {self.longest} waiting in one."
-            + "".join(f" {row.label}, {self.row_numbers(row)}." for row in self.rows)
+            f"{self.whole()}. The level: {self.settings()}. Seats in use by flow: at most {self.used}. Queues used: {len(self.queues)},"
+            f" at most {self.longest} waiting in one.{schema}" + "".join(f" {row.whole}, {self.row_numbers(row)}." for row in self.rows)
         )
 
     # the parts
@@ -159,17 +217,21 @@ class Picture:
         unit, length = next((it for it in UNITS if it[1] * 4 <= self.end), UNITS[-1])
         step = next(it * length for it in (part * 10**power for power in range(20) for part in (1, 2, 5)) if it * length * 10 >= self.end)
         marks = [(scaled(time, self.end, COLUMNS), time // length) for time in range(0, self.end + 1, step)]
-        yield '<g transform="translate(48 96)">'
+        yield f'<g transform="translate(48 {SEATS})">'
         yield f'<path class="line" d="{"".join(f"M{x} 0v{depth}" for x, _ in marks)}"/>'
-        for x, value in marks:
-            yield f'<text class="small" x="{x}" y="{depth + 14}" text-anchor="middle">{value} {unit}</text>'
         yield "</g>"
+        for y in (SEATS - 6, SEATS + depth + 14):
+            yield f'<g transform="translate(48 {y})" text-anchor="middle">'
+            for x, value in marks:
+                yield f'<text class="small" x="{x}">{value} {unit}</text>'
+            yield "</g>"
 
     def seats_part(self):
         most = max(self.used, self.limit)
-        yield '<g transform="translate(48 96)">'
+        above = self.used > self.limit
+        yield f'<g transform="translate(48 {SEATS})">'
         yield (
-            '<text class="part" y="-12">Seats in use <tspan class="note">'
+            '<text class="part" y="-24">Seats in use <tspan class="note">'
             f"by flow, at most {self.used}; the limit is {self.limit}</tspan></text>"
         )
         yield f'<rect class="plot" width="880" height="{HIGH}"/>'
@@ -179,7 +241,11 @@ class Picture:
             yield f'<path class="f{row}" d="M0 140{steps}H880V140z"/>'
         y = HIGH - scaled(self.limit, most, FULL)
         yield f'<path class="limit" d="M0 {y}h880"/>'
-        yield f'<text class="small" x="-6" y="{y + 4}" text-anchor="end">{self.limit}</text>'
+        # eleven pixels at least from the other two numbers
+        yield f'<text class="small" x="-6" y="{min(max(y, 21 if above else 10), 129) + 4}" text-anchor="end">{self.limit}</text>'
+        if above:
+            yield '<path class="peak" d="M-4 10h4"/>'
+            yield f'<text class="small" x="-6" y="14" text-anchor="end">{self.used}</text>'
         yield '<text class="small" x="-6" y="144" text-anchor="end">0</text>'
         yield "</g>"
 
@@ -272,6 +338,7 @@ class Picture:
         yield f'<rect class="page" width="960" height="{height}"/>'
         yield f'<text class="head" x="48" y="32">{self.title()}</text>'
         yield f'<text class="note" x="48" y="54">{self.whole()}</text>'
+        yield f'<text class="note" x="48" y="72">{self.settings()}</text>'
         yield from self.axis(bottom - SEATS)
         yield from self.seats_part()
         yield from self.queues_part()

@@ -63,7 +63,8 @@ pub(crate) fn print_picture<F: Files, O: Write, R: Wait>(
     let outcomes = outcomes_of(alloc, log, simulation.ends.as_slice())?;
     let flows = flows_of(alloc, trace.as_slice())?;
     let scene = Scene {
-        limit: config.limit,
+        config,
+        patience: simulation.whole.patience,
         end: simulation.whole.end,
         trace: trace.as_slice(),
         flows: &flows,

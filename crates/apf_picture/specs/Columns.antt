@@ -1,5 +1,5 @@
 -- The seats in use and the lengths of the queues, at the time of each column.
-use Rattle.std.specs.Prelude.{◌≡◌, ℕ, ◌+◌, max, List, [], ◌∷◌, Bool, false, ◌&&◌, nat_le, nat_lt, nat_eq, ◌==◌, if◌then◌else◌, map, sum_by, count_by, Option, Some, None, IsPermutation, IsSorted}
+use Rattle.std.specs.Prelude.{◌≡◌, ℕ, ◌≤◌, ◌+◌, max, List, [], ◌∷◌, Bool, false, ◌&&◌, nat_le, nat_lt, nat_eq, ◌==◌, if◌then◌else◌, map, sum_by, count_by, Option, Some, None, IsPermutation, IsSorted}
 use Rattle.std.specs.List.{range_with_len, dedup}
 use Rattle.std.specs.Ordering.{nat_cmp}
 use Rattle.apf_picture.specs.declared.life.Life.{Life}
@@ -83,9 +83,21 @@ abbrev pub greatest_of : List ℕ → ℕ
 greatest_of [] = 0
 greatest_of (value ∷ values) = max value (greatest_of values)
 
--- an area and a strip show what their row and their queue have
+-- the greatest value that a number has over all times
+pub record IsMost (f : ℕ → ℕ) (most : ℕ) : Type 0 where
+  pub above : (time : ℕ) → f time ≤ most
+  pub time : ℕ
+  pub reached : f time ≡ most
+
+-- an area shows what its row has
 abbrev pub IsArea : List Life → (end : ℕ) → Area → Type 0
 IsArea lives end area = tops_in area ≡ tops_of lives end area.row
 
-abbrev pub IsStrip : List Life → (end : ℕ) → Strip → Type 0
-IsStrip lives end strip = lengths_in strip ≡ lengths_of lives end strip.queue
+-- a strip shows what its queue has, and the most that it ever has
+pub record IsStrip (lives : List Life) (end : ℕ) (strip : Strip) : Type 0 where
+  pub lengths : lengths_in strip ≡ lengths_of lives end strip.queue
+  pub most : IsMost (length_at lives strip.queue) strip.most
+
+-- the most that ever stand in one queue
+abbrev pub most_waiting : List Strip → ℕ
+most_waiting strips = greatest_of (map (λ strip. strip.most) strips)

@@ -2,7 +2,14 @@ pub mod Scales
 pub mod Ranks
 pub mod Lives
 pub mod Columns
+pub mod Spans
+pub mod Labels
 pub mod Rows
 pub mod Words
+pub mod Names
+pub mod Styles
+pub mod Heads
 pub mod Parts
+pub mod Strips
+pub mod Bars
 pub mod Pictures

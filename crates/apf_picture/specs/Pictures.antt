@@ -1,35 +1,104 @@
--- What a picture shows of a run.
-use Rattle.std.specs.Prelude.{◌≡◌, ℕ, ◌+◌, min, List, length, map, All}
+-- What a picture shows of a run, and its text.
+use Rattle.std.specs.Prelude.{◌≡◌, ℕ, ◌+◌, ◌-◌, min, List, [], ◌∷◌, ◌++◌, length, map, reverse, sum_by, All, is_some, codes, decimal}
+use Rattle.std.specs.List.{range_with_len}
 use Rattle.apf_picture.specs.declared.scene.Scene.{Scene}
 use Rattle.apf_picture.specs.declared.life.Life.{Life}
 use Rattle.apf_picture.specs.declared.picture.Picture.{Picture}
-use Rattle.apf_picture.specs.Ranks.{own_rows, counts_of, rows_of}
+use Rattle.apf_picture.specs.Scales.{IsStep, unit_of, unit_length}
+use Rattle.apf_picture.specs.Ranks.{own_rows, AreOwnFlows, rows_of}
 use Rattle.apf_picture.specs.Lives.{lives_by}
-use Rattle.apf_picture.specs.Columns.{AreUsedQueues, IsArea, IsStrip, queue_in}
-use Rattle.apf_picture.specs.Rows.{IsRow, numbers_of}
+use Rattle.apf_picture.specs.Columns.{AreUsedQueues, IsArea, IsStrip, IsMost, seats_at, most_waiting, row_in, queue_in, place_in}
+use Rattle.apf_picture.specs.Labels.{Called, label_at, shared_of, shown_schema}
+use Rattle.apf_picture.specs.Rows.{AreRows, numbers_of}
+use Rattle.apf_picture.specs.Words.{counted_text}
+use Rattle.apf_picture.specs.Styles.{style_text}
+use Rattle.apf_picture.specs.Heads.{size_text, page_text, counts_text, schema_text, schema_sentence, settings_text, whole_text, facts_text, sentences}
+use Rattle.apf_picture.specs.Parts.{axis_text, seats_text}
+use Rattle.apf_picture.specs.Strips.{high_of, queues_text}
+use Rattle.apf_picture.specs.Bars.{height_of, rows_text}
 
 abbrev pub flows_in : Scene → ℕ
 flows_in scene = length scene.flows.now.firsts.items
 
 -- each request in the row of its flow
-abbrev pub lives_of : Scene → List Life
-lives_of scene = lives_by scene.trace.now scene.outcomes.now scene.flows.now.of.items (rows_of (counts_of scene.flows.now.of.items (flows_in scene)))
+abbrev pub lives_of : Scene → (own : List ℕ) → List Life
+lives_of scene own = lives_by scene.trace.now scene.outcomes.now scene.flows.now.of.items (rows_of own (flows_in scene))
 
 -- so many rows: those of their own, and the one that the others share
 abbrev pub rows_in : Scene → ℕ
 rows_in scene = min (flows_in scene) (own_rows + 1)
 
--- the numbers that a picture of a run shows
+-- what the row of this number is called
+abbrev pub label_in_scene : Scene → (own : List ℕ) → ℕ → Called
+label_in_scene scene own = label_at scene.trace.now scene.flows.now.firsts.items own (is_some (shared_of scene.trace.now scene.flows.now.firsts.items))
+
+-- what a picture of a run shows
 pub record IsPictureOf (scene : Scene) (picture : Picture) : Type 0 where
-  pub limit : picture.limit ≡ scene.limit
+  pub config : picture.config ≡ scene.config
+  pub patience : picture.patience ≡ scene.patience
   pub end : picture.end ≡ scene.end
+  pub step : IsStep scene.end (unit_length (unit_of scene.end)) picture.step
   pub flows : picture.flows ≡ flows_in scene
-  pub numbers : picture.numbers ≡ numbers_of (lives_of scene)
-  -- each row has the requests of its number
-  pub rows : All (IsRow (lives_of scene)) picture.rows.items
-  -- the seats in use by each row and those below it
-  pub areas : All (IsArea (lives_of scene) scene.end) picture.areas.items
-  pub count : length picture.areas.items ≡ rows_in scene
-  -- the queues in which requests waited, and their lengths
-  pub queues : AreUsedQueues (lives_of scene) (map queue_in picture.strips.items)
-  pub strips : All (IsStrip (lives_of scene) scene.end) picture.strips.items
+  pub schema : shown_schema picture.schema ≡ shared_of scene.trace.now scene.flows.now.firsts.items
+  -- the flows that have a row of their own
+  pub own : List ℕ
+  pub own_is : AreOwnFlows scene.outcomes.now scene.flows.now.of.items (flows_in scene) own
+  pub numbers : picture.numbers ≡ numbers_of (lives_of scene own)
+  -- the rows in their order, each with the requests and the name of its number
+  pub rows : AreRows (lives_of scene own) (label_in_scene scene own) (rows_in scene) picture.rows.items
+  -- the seats in use by each row and those below it, from the last row to the first, and the most that ever are
+  pub areas : All (IsArea (lives_of scene own) scene.end) picture.areas.items
+  pub area_rows : map row_in picture.areas.items ≡ reverse (range_with_len 0 (rows_in scene))
+  pub used : IsMost (seats_at (lives_of scene own) own_rows) picture.used
+  -- the queues in which requests waited, one below another, and their lengths
+  pub queues : AreUsedQueues (lives_of scene own) (map queue_in picture.strips.items)
+  pub places : map place_in picture.strips.items ≡ range_with_len 0 (length picture.strips.items)
+  pub strips : All (IsStrip (lives_of scene own) scene.end) picture.strips.items
+
+-- what it shows, in a few words
+unfoldable pub title_text : Picture → List ℕ
+title_text picture =
+    counts_text picture.numbers.requests picture.flows ++ schema_text (shown_schema picture.schema) ++ codes " on " ++ counted_text picture.config.limit (codes "seat")
+
+unfoldable pub title_element : Picture → List ℕ
+title_element picture = codes "<title id=\"title\">" ++ title_text picture ++ codes "</title>\n"
+
+-- what it shows, for who does not see it
+unfoldable pub level_text : Picture → List ℕ
+level_text picture =
+    codes "<desc id=\"desc\">" ++ whole_text picture.numbers picture.end ++ codes ". The level: " ++ settings_text picture.config picture.patience
+
+unfoldable pub description_text : Picture → List ℕ
+description_text picture =
+    level_text picture ++ facts_text picture.used (length picture.strips.items) (most_waiting picture.strips.items)
+    ++ schema_sentence (shown_schema picture.schema) ++ sentences picture.rows.items ++ codes "</desc>\n"
+
+-- what stands above the parts
+unfoldable pub notes_text : Picture → List ℕ
+notes_text picture =
+    codes "</text>\n<text class=\"note\" x=\"48\" y=\"54\">" ++ whole_text picture.numbers picture.end ++ codes "</text>\n<text class=\"note\" x=\"48\" y=\"72\">" ++ settings_text picture.config picture.patience ++ codes "</text>\n"
+
+unfoldable pub above_text : Picture → List ℕ
+above_text picture = codes "<text class=\"head\" x=\"48\" y=\"32\">" ++ title_text picture ++ notes_text picture
+
+unfoldable pub head_text : Picture → (height : ℕ) → List ℕ
+head_text picture height =
+    size_text height ++ title_element picture ++ description_text picture ++ style_text ++ page_text height ++ above_text picture
+
+-- the parts, of which that of the requests begins at a height, and the axis so long
+unfoldable pub parts_text : Picture → (below depth : ℕ) → List ℕ
+parts_text picture below depth =
+    axis_text picture.end picture.step depth ++ seats_text picture.areas.items picture.used picture.config.limit
+    ++ queues_text picture.strips.items (most_waiting picture.strips.items) ++ rows_text picture.rows.items below picture.end
+
+-- where the part of the requests begins, and where the last row ends
+abbrev pub below_of : Picture → ℕ
+below_of picture = 310 + high_of (length picture.strips.items)
+
+abbrev pub bottom_of : Picture → ℕ
+bottom_of picture = below_of picture + 44 + sum_by height_of picture.rows.items
+
+-- the whole
+unfoldable pub picture_text : Picture → List ℕ
+picture_text picture =
+    head_text picture (bottom_of picture + 28) ++ parts_text picture (below_of picture) (bottom_of picture - 124) ++ codes "</svg>\n"

@@ -1,12 +1,14 @@
 -- The requests of one row, and their numbers.
-use Rattle.std.specs.Prelude.{◌≡◌, ℕ, ◌+◌, ◌*◌, min, List, length, map, filter, count_by, ◌==◌, Bool, true, false}
+use Rattle.std.specs.Prelude.{◌≡◌, ℕ, ◌+◌, ◌*◌, min, List, [], ◌∷◌, ◌++◌, length, map, All, filter, count_by, ◌==◌, Bool, true, false}
 use Rattle.apf_picture.specs.declared.life.Fate.{Fate}
 use Rattle.apf_picture.specs.declared.life.Fate.TheVariants.{Executed, Rejected, GaveUp}
 use Rattle.apf_picture.specs.declared.life.Life.{Life}
 use Rattle.apf_picture.specs.declared.row.Numbers.{Numbers}
 use Rattle.apf_picture.specs.declared.row.Row.{Row}
 use Rattle.apf_picture.specs.Scales.{scaled_of}
+use Rattle.std.specs.List.{range_with_len}
 use Rattle.apf_picture.specs.Columns.{greatest_of}
+use Rattle.apf_picture.specs.Labels.{Called, called}
 
 abbrev pub is_fate : Fate → Fate → Bool
 is_fate Executed Executed = true
@@ -53,3 +55,23 @@ pub record IsRow (lives : List Life) (row : Row) : Type 0 where
   pub members : lives_in row ≡ members_of lives row.number
   pub numbers : row.numbers ≡ numbers_of (members_of lives row.number)
   pub tall : row.tall ≡ tall_of (length (members_of lives row.number)) (length lives)
+
+abbrev pub number_in : Row → ℕ
+number_in row = row.number
+
+abbrev pub label_in : Row → Called
+label_in row = called row.label
+
+-- so many rows, from the first on, with these labels
+pub record AreRows (lives : List Life) (label : ℕ → Called) (count : ℕ) (rows : List Row) : Type 0 where
+  pub numbers : map number_in rows ≡ range_with_len 0 count
+  pub labels : map label_in rows ≡ map label (range_with_len 0 count)
+  pub each : All (IsRow lives) rows
+
+-- there is one row more, of this number and this label
+pub record IsOneMore (lives : List Life) (number : ℕ) (label : Called) (old new : List Row) : Type 0 where
+  pub row : Row
+  pub is : new ≡ old ++ row ∷ []
+  pub has : IsRow lives row
+  pub number_is : number_in row ≡ number
+  pub label_is : label_in row ≡ label

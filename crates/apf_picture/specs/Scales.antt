@@ -1,5 +1,5 @@
 -- Where a value lies on a scale, and the marks of the axis of time.
-use Rattle.std.specs.Prelude.{◌≡◌, ℕ, ◌*◌, ◌/◌, ◌<◌, ◌≤◌, min, ◌==◌, nat_le, if◌then◌else◌, List, codes}
+use Rattle.std.specs.Prelude.{◌≡◌, ℕ, ◌*◌, ◌^◌, ◌/◌, ◌≤◌, ◌⊎◌, min, ◌==◌, nat_le, if◌then◌else◌, List, codes}
 use Rattle.apf_picture.specs.declared.scale.Unit.{Unit}
 use Rattle.apf_picture.specs.declared.scale.Unit.TheVariants.{Microseconds, Milliseconds, Seconds, Minutes, Hours, Days}
 
@@ -38,8 +38,13 @@ unit_name Minutes = codes "min"
 unit_name Hours = codes "h"
 unit_name Days = codes "d"
 
--- marks that are so far apart are eleven at most
+-- 1, 2 or 5 times a power of ten of units
+pub record IsRound (unit step : ℕ) : Type 0 where
+  pub power : ℕ
+  pub is : (step ≡ 10 ^ power * unit) ⊎ ((step ≡ 2 * (10 ^ power * unit)) ⊎ (step ≡ 5 * (10 ^ power * unit)))
+
+-- the least of these such that marks that are so far apart are eleven at most
 pub record IsStep (end unit step : ℕ) : Type 0 where
-  pub positive : 0 < step
-  pub longer : unit ≤ step
+  pub round : IsRound unit step
   pub few : end ≤ step * 10
+  pub least : (other : ℕ) → IsRound unit other → end ≤ other * 10 → step ≤ other

@@ -1,9 +1,8 @@
-//! The axis of time: its marks, with a line down through all parts.
+//! The axis of time: its marks above and below all parts, with a line from one to the other.
 
 ghost use Rattle.std.specs.Prelude.{◌≡◌, ◌<◌, ◌≤◌, ◌+◌, ◌*◌, ◌^◌, length, OnOk};
 ghost use Rattle.std.specs.Io.KnownBytes.{Appends};
-ghost use Rattle.apf_picture.specs.Scales.{IsStep};
-ghost use Rattle.apf_picture.specs.Parts.{lines_text, labels_text, axis_text, mark_line, mark_head, value_text, mark_label};
+ghost use Rattle.apf_picture.specs.Parts.{all_lines, lines_text, all_labels, labels_text, axis_text, mark_line, mark_head, value_text, mark_label, labels_head};
 
 use crate::scale::{COLUMNS, Unit, scaled};
 use std::io;
@@ -20,10 +19,10 @@ fn write_line<W: Write>(out: &mut W, end: u64, step: u64, depth: u64, mark: u64)
 }
 
 // Writes the line of each mark.
-fn write_lines<W: Write>(out: &mut W, end: u64, step: u64, depth: u64) -> io::Result<()>
+fn write_all_lines<W: Write>(out: &mut W, end: u64, step: u64, depth: u64) -> io::Result<()>
     requires step { 0 < step }
     requires few { end ≤ step * 10 }
-    ensures { OnOk result (Appends (W.contents out.old) (W.contents out.new) (lines_text end step depth)) }
+    ensures { OnOk result (Appends (W.contents out.old) (W.contents out.new) (all_lines end step depth)) }
 {
     for mark in 0..end / step + 1 {
         write_line(out, end, step, depth, mark)?;
@@ -31,15 +30,23 @@ fn write_lines<W: Write>(out: &mut W, end: u64, step: u64, depth: u64) -> io::Re
     Ok(())
 }
 
+#[tactic(auto, unfolding(crate::specs::Parts::lines_text))]
+fn write_lines<W: Write>(out: &mut W, end: u64, step: u64, depth: u64) -> io::Result<()>
+    requires step { 0 < step }
+    requires few { end ≤ step * 10 }
+    ensures { OnOk result (Appends (W.contents out.old) (W.contents out.new) (lines_text end step depth)) }
+{
+    out.write_all(b"<g transform=\"translate(48 124)\">\n<path class=\"line\" d=\"")?;
+    write_all_lines(out, end, step, depth)?;
+    out.write_all(b"\"/>\n</g>\n")
+}
+
 // Writes what stands before the time of a mark.
 #[tactic(auto, unfolding(crate::specs::Parts::mark_head))]
-fn write_mark<W: Write>(out: &mut W, x: u64, y: u64) -> io::Result<()>
-    ensures { OnOk result (Appends (W.contents out.old) (W.contents out.new) (mark_head x y)) }
+fn write_mark<W: Write>(out: &mut W, x: u64) -> io::Result<()>
+    ensures { OnOk result (Appends (W.contents out.old) (W.contents out.new) (mark_head x)) }
 {
-    write!(
-        out,
-        "<text class=\"small\" x=\"{x}\" y=\"{y}\" text-anchor=\"middle\">"
-    )
+    write!(out, "<text class=\"small\" x=\"{x}\">")
 }
 
 // Writes a number of units.
@@ -50,36 +57,50 @@ fn write_value<W: Write>(out: &mut W, value: u64, name: &str) -> io::Result<()>
     writeln!(out, "{value} {name}</text>")
 }
 
-// Writes the time of a mark, below its line.
+// Writes the time of a mark.
 #[tactic(auto, unfolding(crate::specs::Parts::mark_label))]
-fn write_label<W: Write>(
-    out: &mut W,
-    unit: Unit,
-    end: u64,
-    step: u64,
-    depth: u64,
-    mark: u64,
-) -> io::Result<()>
-    requires time { mark * step ≤ end }
-    requires depth { depth < 2 ^ 41 }
-    ensures { OnOk result (Appends (W.contents out.old) (W.contents out.new) (mark_label unit end step depth mark)) }
+fn write_label<W: Write>(out: &mut W, unit: Unit, end: u64, step: u64, mark: u64) -> io::Result<()>
+    requires { mark * step ≤ end }
+    ensures { OnOk result (Appends (W.contents out.old) (W.contents out.new) (mark_label unit end step mark)) }
 {
-    write_mark(out, scaled(mark * step, end, COLUMNS), depth + 14)?;
+    write_mark(out, scaled(mark * step, end, COLUMNS))?;
     write_value(out, mark * step / unit.length(), unit.name())
 }
 
 // Writes the time of each mark.
-fn write_labels<W: Write>(out: &mut W, end: u64, step: u64, depth: u64) -> io::Result<()>
+fn write_all_labels<W: Write>(out: &mut W, end: u64, step: u64) -> io::Result<()>
     requires step { 0 < step }
     requires few { end ≤ step * 10 }
-    requires depth { depth < 2 ^ 41 }
-    ensures { OnOk result (Appends (W.contents out.old) (W.contents out.new) (labels_text end step depth)) }
+    ensures { OnOk result (Appends (W.contents out.old) (W.contents out.new) (all_labels end step)) }
 {
     let unit = Unit::of(end);
     for mark in 0..end / step + 1 {
-        write_label(out, unit, end, step, depth, mark)?;
+        write_label(out, unit, end, step, mark)?;
     }
     Ok(())
+}
+
+// Writes what stands before the times at this height.
+#[tactic(auto, unfolding(crate::specs::Parts::labels_head))]
+fn write_labels_head<W: Write>(out: &mut W, y: u64) -> io::Result<()>
+    ensures { OnOk result (Appends (W.contents out.old) (W.contents out.new) (labels_head y)) }
+{
+    writeln!(
+        out,
+        "<g transform=\"translate(48 {y})\" text-anchor=\"middle\">"
+    )
+}
+
+// Writes the times of the marks at this height.
+#[tactic(auto, unfolding(crate::specs::Parts::labels_text))]
+fn write_labels<W: Write>(out: &mut W, end: u64, step: u64, y: u64) -> io::Result<()>
+    requires step { 0 < step }
+    requires few { end ≤ step * 10 }
+    ensures { OnOk result (Appends (W.contents out.old) (W.contents out.new) (labels_text end step y)) }
+{
+    write_labels_head(out, y)?;
+    write_all_labels(out, end, step)?;
+    out.write_all(b"</g>\n")
 }
 
 /// Writes the axis of a run of this length, with lines so many pixels long.
@@ -90,9 +111,7 @@ pub(crate) fn write_axis<W: Write>(out: &mut W, end: u64, step: u64, depth: u64)
     requires depth { depth < 2 ^ 41 }
     ensures { OnOk result (Appends (W.contents out.old) (W.contents out.new) (axis_text end step depth)) }
 {
-    out.write_all(b"<g transform=\"translate(48 96)\">\n<path class=\"line\" d=\"")?;
     write_lines(out, end, step, depth)?;
-    out.write_all(b"\"/>\n")?;
-    write_labels(out, end, step, depth)?;
-    out.write_all(b"</g>\n")
+    write_labels(out, end, step, 118)?;
+    write_labels(out, end, step, depth + 138)
 }

@@ -1,10 +1,14 @@
-//! The seats in use and the lengths of the queues, at the time of each column.
+//! The seats in use and the lengths of the queues, at the time of each column and at most.
 
-ghost use Rattle.std.specs.Prelude.{◌≡◌, ◌<◌, ◌≤◌, ◌*◌, ◌^◌, length, vec_len, map, All, IfOk};
-ghost use Rattle.apf_picture.specs.Columns.{seats_at, length_at, tops_of, lengths_of, tops_in, row_in, IsArea, IsStrip, lengths_in, queue_in, place_in, all_queues, AreUsedQueues, greatest_of};
+ghost use Rattle.std.specs.Prelude.{◌≡◌, ◌<◌, ◌≤◌, ◌*◌, ◌^◌, length, vec_len, map, reverse, All, IfOk};
+ghost use Rattle.std.specs.List.{range_with_len};
+ghost use Rattle.apf_picture.specs.Spans.{seat_spans as the_seat_spans, wait_spans as the_wait_spans};
+ghost use Rattle.apf_picture.specs.Columns.{seats_at, tops_of, lengths_of, tops_in, row_in, IsArea, IsStrip, queue_in, place_in, all_queues, AreUsedQueues, IsMost, most_waiting as the_most_waiting};
+ghost use Rattle.apf_picture.specs.Ranks.{own_rows};
 
 use crate::life::Life;
-use crate::scale::{COLUMNS, scaled};
+use crate::rank::OWN_ROWS;
+use crate::span::{Span, columns, most};
 use std::alloc::{AllocError, Global};
 
 /// The seats in use by a row and those below it, at the time of each column.
@@ -21,48 +25,58 @@ pub(crate) struct Strip {
     pub(crate) place: u32,
     pub(crate) queue: u32,
     pub(crate) lengths: Vec<u64>,
+    /// The most that ever wait in the queue.
+    pub(crate) most: u64,
 }
 
-// The seats that the requests of the row and of those below it have at the time.
-fn seats_at(lives: &[Life], row: u32, time: u64) -> u64
-    requires { length lives.now < 2 ^ 31 }
-    ensures { result ≡ seats_at lives.now row time }
+// The seats that the requests of the row and of those below it have, each for its time.
+fn seat_spans(alloc: Global, lives: &[Life], row: u32) -> Result<Vec<Span>, AllocError>
+    ensures spans { IfOk result (λ spans. spans.items ≡ the_seat_spans lives.now row) }
+    ensures few { IfOk result (λ spans. vec_len spans ≤ length lives.now) }
 {
-    let mut seats = 0;
+    let mut spans = Vec::new(alloc);
     for life in lives {
-        if life.row <= row && life.until <= time && time < life.ends {
-            seats += u64::from(life.seats);
+        if life.row <= row {
+            spans.push(Span {
+                from: life.until,
+                to: life.ends,
+                amount: life.seats,
+            })?;
         }
     }
-    seats
+    Ok(spans)
 }
 
-// How many requests stand in the queue at the time.
-fn length_at(lives: &[Life], queue: u32, time: u64) -> u64
-    requires { length lives.now < 2 ^ 31 }
-    ensures { result ≡ length_at lives.now queue time }
+// The requests that stand in the queue, each for its time.
+fn wait_spans(alloc: Global, lives: &[Life], queue: u32) -> Result<Vec<Span>, AllocError>
+    ensures spans { IfOk result (λ spans. spans.items ≡ the_wait_spans lives.now queue) }
+    ensures few { IfOk result (λ spans. vec_len spans ≤ length lives.now) }
 {
-    let mut length = 0;
+    let mut spans = Vec::new(alloc);
     for life in lives {
-        if life.queue == Some(queue) && life.arrives <= time && time < life.until {
-            length += 1;
+        if life.queue == Some(queue) {
+            spans.push(Span {
+                from: life.arrives,
+                to: life.until,
+                amount: 1,
+            })?;
         }
     }
-    length
+    Ok(spans)
 }
 
+#[tactic(auto, using(crate::proofs::Peaks::columns_of_seats))]
 fn row_area(alloc: Global, lives: &[Life], row: u32, end: u64) -> Result<Area, AllocError>
     requires { length lives.now < 2 ^ 31 }
     ensures tops { IfOk result (λ area. tops_in area ≡ tops_of lives.now end row) }
     ensures row { IfOk result (λ area. row_in area ≡ row) }
 {
-    let mut tops = Vec::new(alloc);
-    for column in 0..COLUMNS {
-        tops.push(seats_at(lives, row, scaled(column, COLUMNS, end)))?;
-    }
+    let spans = seat_spans(alloc, lives, row)?;
+    let tops = columns(alloc, spans.as_slice(), end)?;
     Ok(Area { row, tops })
 }
 
+#[tactic(auto, using(crate::proofs::Peaks::columns_of_waits))]
 fn queue_strip(
     alloc: Global,
     lives: &[Life],
@@ -71,19 +85,27 @@ fn queue_strip(
     end: u64,
 ) -> Result<Strip, AllocError>
     requires { length lives.now < 2 ^ 31 }
-    ensures lengths { IfOk result (λ strip. lengths_in strip ≡ lengths_of lives.now end queue) }
+    ensures strip { IfOk result (IsStrip lives.now end) }
     ensures queue { IfOk result (λ strip. queue_in strip ≡ queue) }
     ensures place { IfOk result (λ strip. place_in strip ≡ place) }
 {
-    let mut lengths = Vec::new(alloc);
-    for column in 0..COLUMNS {
-        lengths.push(length_at(lives, queue, scaled(column, COLUMNS, end)))?;
-    }
+    let spans = wait_spans(alloc, lives, queue)?;
+    let lengths = columns(alloc, spans.as_slice(), end)?;
     Ok(Strip {
         place,
         queue,
         lengths,
+        most: most(spans.as_slice()),
     })
+}
+
+/// The most seats that are ever in use.
+pub(crate) fn most_seats(alloc: Global, lives: &[Life]) -> Result<u64, AllocError>
+    requires { length lives.now < 2 ^ 31 }
+    ensures { IfOk result (IsMost (seats_at lives.now own_rows)) }
+{
+    let spans = seat_spans(alloc, lives, OWN_ROWS)?;
+    Ok(most(spans.as_slice()))
 }
 
 /// The areas of so many rows, from the last to the first.
@@ -95,7 +117,7 @@ pub(crate) fn areas(
 ) -> Result<Vec<Area>, AllocError>
     requires { length lives.now < 2 ^ 31 }
     ensures areas { IfOk result (λ areas. All (IsArea lives.now end) areas.items) }
-    ensures count { IfOk result (λ areas. vec_len areas ≡ rows) }
+    ensures rows { IfOk result (λ areas. map row_in areas.items ≡ reverse (range_with_len 0 rows)) }
 {
     let mut areas = Vec::new(alloc);
     for place in 0..rows {
@@ -135,6 +157,7 @@ fn used_queues(alloc: Global, lives: &[Life]) -> Result<Vec<u32>, AllocError>
 pub(crate) fn strips(alloc: Global, lives: &[Life], end: u64) -> Result<Vec<Strip>, AllocError>
     requires { length lives.now < 2 ^ 31 }
     ensures queues { IfOk result (λ strips. AreUsedQueues lives.now (map queue_in strips.items)) }
+    ensures places { IfOk result (λ strips. map place_in strips.items ≡ range_with_len 0 (vec_len strips)) }
     ensures few { IfOk result (λ strips. vec_len strips < 2 ^ 31) }
     ensures strips { IfOk result (λ strips. All (IsStrip lives.now end) strips.items) }
 {
@@ -146,30 +169,13 @@ pub(crate) fn strips(alloc: Global, lives: &[Life], end: u64) -> Result<Vec<Stri
     Ok(strips)
 }
 
-// The greatest of the values, or 0 of none.
-fn greatest(values: &[u64]) -> u64
-    ensures { result ≡ greatest_of values.now }
+/// The most requests that ever wait in one queue.
+pub(crate) fn most_waiting(strips: &[Strip]) -> u64
+    ensures { result ≡ the_most_waiting strips.now }
 {
-    let mut greatest = 0;
-    for value in values {
-        greatest = greatest.max(*value);
-    }
-    greatest
-}
-
-/// The most seats in use at the time of a column: those of the first area, which is of all rows.
-pub(crate) fn most_seats(areas: &[Area]) -> u64 {
-    match areas.first() {
-        Some(area) => greatest(area.tops.as_slice()),
-        None => 0,
-    }
-}
-
-/// The most requests in one queue at the time of a column.
-pub(crate) fn most_waiting(strips: &[Strip]) -> u64 {
     let mut most = 0;
     for strip in strips {
-        most = greatest(strip.lengths.as_slice()).max(most);
+        most = strip.most.max(most);
     }
     most
 }

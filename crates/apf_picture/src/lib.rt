@@ -4,16 +4,26 @@
 //! - `scale`: where a value lies on a scale, and the marks of the axis of time.
 //! - `rank`: which flows have a row of their own.
 //! - `life`: what is drawn of one request.
-//! - `columns`: the seats in use and the lengths of the queues, at the time of each column.
+//! - `span`: how much there is at a time, and the most that there ever is.
+//! - `columns`: the seats in use and the lengths of the queues, at the time of each column and at most.
+//! - `label`: what a row is called, and the schema that all flows share.
 //! - `row`: the requests of one row, and their numbers.
-//! - `words`: numbers, times and names in words.
+//! - `words`: numbers and times in words.
+//! - `names`: names, of long ones the beginning and the end.
+//! - `style`: the colours.
+//! - `head`: the title, the description and what stands above the parts.
 //! - `axis`, `seats`, `queues`, `requests`: the parts of the picture.
 //! - `picture`: the whole.
+//! - `laws`: what holds of every name.
 #![tactic(auto)]
 
 mod axis;
 mod columns;
+mod head;
+mod label;
+mod laws;
 mod life;
+mod names;
 mod picture;
 mod queues;
 mod rank;
@@ -22,7 +32,10 @@ mod row;
 mod scale;
 mod scene;
 mod seats;
+mod span;
+mod style;
 mod words;
 
+pub use laws::every_name_is_escaped;
 pub use picture::Picture;
 pub use scene::{Outcome, Scene};

@@ -1,10 +1,11 @@
 //! The second part: each queue in which a request waited, shaded by its length.
 
-ghost use Rattle.std.specs.Prelude.{◌≡◌, ◌<◌, ◌≤◌, ◌*◌, ◌^◌, length, min, OnOk};
+ghost use Rattle.std.specs.Prelude.{◌≡◌, ◌<◌, ◌≤◌, ◌*◌, ◌^◌, length, map, slice_index, OnOk};
 ghost use Rattle.std.specs.Io.KnownBytes.{Appends};
-ghost use Rattle.apf_picture.specs.Parts.{shade_of, run_of, begins, run_text, run_at, runs_text, all_runs, shade_text, shades_text};
+ghost use Rattle.apf_picture.specs.Strips.{high_of, shade_of, run_of, begins, run_text, run_at, runs_text, all_runs, shade_text, shades_text, queue_number, queue_label, queue_labels, longest_text, queues_heading, shades_head, strips_text, each_of, queues_text};
+ghost use Rattle.apf_picture.specs.Columns.{queue_in};
 
-use crate::columns::{Strip, most_waiting};
+use crate::columns::Strip;
 use crate::scale::scaled;
 use crate::words::write_counted;
 use std::io;
@@ -16,7 +17,8 @@ const SHADES: u64 = 8;
 /// How high the part is, in pixels.
 pub(crate) fn high(strips: &[Strip]) -> u64
     requires { length strips.now < 2 ^ 31 }
-    ensures { result ≡ min (12 * length strips.now) 240 }
+    ensures high { result ≡ high_of (length strips.now) }
+    ensures within { result ≤ 240 }
 {
     (12 * strips.len() as u64).min(240)
 }
@@ -55,7 +57,7 @@ fn begins(lengths: &[u64], column: usize, wanted: u64, longest: u64) -> bool
 }
 
 // Writes a run of columns.
-#[tactic(auto, unfolding(crate::specs::Parts::run_text))]
+#[tactic(auto, unfolding(crate::specs::Strips::run_text))]
 fn write_run<W: Write>(out: &mut W, column: usize, y: u64, columns: usize) -> io::Result<()>
     ensures { OnOk result (Appends (W.contents out.old) (W.contents out.new) (run_text column y columns)) }
 {
@@ -113,7 +115,7 @@ fn write_all_runs<W: Write>(
 }
 
 // Writes all runs of a shade.
-#[tactic(auto, unfolding(crate::specs::Parts::shade_text))]
+#[tactic(auto, unfolding(crate::specs::Strips::shade_text))]
 fn write_shade<W: Write>(out: &mut W, strips: &[Strip], longest: u64, shade: u64) -> io::Result<()>
     requires { shade ≤ 8 }
     ensures { OnOk result (Appends (W.contents out.old) (W.contents out.new) (shade_text strips.now longest shade)) }
@@ -143,61 +145,111 @@ fn write_shades<W: Write>(
     Ok(())
 }
 
-// Writes the number of a queue, beside the middle of its strip.
-fn write_label<W: Write>(out: &mut W, strips: &[Strip], place: usize) -> io::Result<()>
-    requires few { length strips.now < 2 ^ 31 }
-    requires place { place < length strips.now }
+// Writes the number of a queue, with its foot at this height.
+#[tactic(auto, unfolding(crate::specs::Strips::queue_number))]
+fn write_number<W: Write>(out: &mut W, y: u64, queue: u32) -> io::Result<()>
+    ensures { OnOk result (Appends (W.contents out.old) (W.contents out.new) (queue_number y queue)) }
 {
-    let queue = strips[place].queue;
-    let middle = scaled(2 * place as u64 + 1, 2 * strips.len() as u64, high(strips));
-    let y = middle + 4;
     writeln!(
         out,
         "<text class=\"small\" x=\"-6\" y=\"{y}\" text-anchor=\"end\">{queue}</text>"
     )
 }
 
-// Writes the numbers of the queues, where there are many only of some.
-fn write_labels<W: Write>(out: &mut W, strips: &[Strip]) -> io::Result<()>
-    requires { length strips.now < 2 ^ 31 }
+// The queue of a strip.
+fn queue_at(strips: &[Strip], place: usize) -> u32
+    requires { place < length strips.now }
+    ensures { result ≡ slice_index (map queue_in strips.now) place }
 {
-    let each = strips.len().div_ceil(20).max(1);
+    strips[place].queue
+}
+
+// Writes the number of a queue beside the middle of its strip, if the place is one of each so many.
+fn write_label<W: Write>(out: &mut W, strips: &[Strip], each: usize, place: usize) -> io::Result<()>
+    requires few { length strips.now < 2 ^ 31 }
+    requires each { 0 < each }
+    requires place { place < length strips.now }
+    ensures { OnOk result (Appends (W.contents out.old) (W.contents out.new) (queue_label (map queue_in strips.now) each place)) }
+{
+    if place % each != 0 {
+        return Ok(());
+    }
+    let middle = scaled(2 * place as u64 + 1, 2 * strips.len() as u64, high(strips));
+    write_number(out, middle + 4, queue_at(strips, place))
+}
+
+// Writes the numbers of the queues, one of each so many.
+fn write_labels<W: Write>(out: &mut W, strips: &[Strip], each: usize) -> io::Result<()>
+    requires few { length strips.now < 2 ^ 31 }
+    requires each { 0 < each }
+    ensures { OnOk result (Appends (W.contents out.old) (W.contents out.new) (queue_labels (map queue_in strips.now) each)) }
+{
     for place in 0..strips.len() {
-        if place % each == 0 {
-            write_label(out, strips, place)?;
-        }
+        write_label(out, strips, each, place)?;
     }
     Ok(())
 }
 
-fn write_heading<W: Write>(out: &mut W, queues: u64, longest: u64) -> io::Result<()> {
-    out.write_all(b"<text class=\"part\" y=\"-12\">Queues <tspan class=\"note\">")?;
-    write_counted(out, queues, "queue")?;
+// Writes what stands behind the heading.
+#[tactic(auto, unfolding(crate::specs::Strips::longest_text))]
+fn write_longest<W: Write>(out: &mut W, longest: u64) -> io::Result<()>
+    ensures { OnOk result (Appends (W.contents out.old) (W.contents out.new) (longest_text longest)) }
+{
     writeln!(
         out,
         " used, a stronger shade is a longer queue, at most {longest} waiting in one</tspan></text>"
     )
 }
 
-/// Writes the part of the queues.
-pub(crate) fn write_queues<W: Write>(out: &mut W, strips: &[Strip]) -> io::Result<()>
-    requires { length strips.now < 2 ^ 31 }
+#[tactic(auto, unfolding(crate::specs::Strips::queues_heading))]
+fn write_heading<W: Write>(out: &mut W, queues: u64, longest: u64) -> io::Result<()>
+    ensures { OnOk result (Appends (W.contents out.old) (W.contents out.new) (queues_heading queues longest)) }
 {
-    let longest = most_waiting(strips);
-    let high = high(strips);
-    let inside = 10 * strips.len() as u64;
-    out.write_all(b"<g transform=\"translate(48 282)\">\n")?;
-    write_heading(out, strips.len() as u64, longest)?;
-    writeln!(
-        out,
-        "<svg width=\"880\" height=\"{high}\" viewBox=\"0 0 880 {inside}\" preserveAspectRatio=\"none\">"
+    out.write_all(
+        b"<g transform=\"translate(48 310)\">\n<text class=\"part\" y=\"-12\">Queues <tspan class=\"note\">",
     )?;
+    write_counted(out, queues, "queue")?;
+    write_longest(out, longest)
+}
+
+// Writes what stands before the shades.
+#[tactic(auto, unfolding(crate::specs::Strips::shades_head))]
+fn write_shades_head<W: Write>(out: &mut W, high: u64, inside: u64) -> io::Result<()>
+    ensures { OnOk result (Appends (W.contents out.old) (W.contents out.new) (shades_head high inside)) }
+{
     write!(
         out,
-        "<rect class=\"plot\" width=\"880\" height=\"{inside}\"/>\n"
-    )?;
+        "<svg width=\"880\" height=\"{high}\" viewBox=\"0 0 880 {inside}\" preserveAspectRatio=\"none\">\n<rect class=\"plot\" width=\"880\" height=\"{inside}\"/>\n"
+    )
+}
+
+// Writes the strips, and the end of their drawing.
+#[tactic(auto, unfolding(crate::specs::Strips::strips_text))]
+fn write_strips<W: Write>(out: &mut W, strips: &[Strip], longest: u64) -> io::Result<()>
+    requires { length strips.now < 2 ^ 31 }
+    ensures { OnOk result (Appends (W.contents out.old) (W.contents out.new) (strips_text strips.now longest)) }
+{
+    write_shades_head(out, high(strips), 10 * strips.len() as u64)?;
     write_shades(out, strips, longest, SHADES)?;
-    out.write_all(b"</svg>\n")?;
-    write_labels(out, strips)?;
+    out.write_all(b"</svg>\n")
+}
+
+// The numbers have room for twenty queues: so many strips have one number.
+fn each(strips: &[Strip]) -> usize
+    ensures each { result ≡ each_of (length strips.now) }
+    ensures some { 0 < result }
+{
+    strips.len().div_ceil(20).max(1)
+}
+
+/// Writes the part of the queues, of which the longest had so many requests at most.
+#[tactic(auto, unfolding(crate::specs::Strips::queues_text))]
+pub(crate) fn write_queues<W: Write>(out: &mut W, strips: &[Strip], longest: u64) -> io::Result<()>
+    requires { length strips.now < 2 ^ 31 }
+    ensures { OnOk result (Appends (W.contents out.old) (W.contents out.new) (queues_text strips.now longest)) }
+{
+    write_heading(out, strips.len() as u64, longest)?;
+    write_strips(out, strips, longest)?;
+    write_labels(out, strips, each(strips))?;
     out.write_all(b"</g>\n")
 }

@@ -2,13 +2,14 @@
 
 ghost use Rattle.std.specs.Prelude.{◌≡◌, ◌<◌, ◌≤◌, ◌+◌, ◌*◌, ◌^◌, length, sum_by, slice_get, Some, OnOk};
 ghost use Rattle.std.specs.Io.KnownBytes.{Appends};
-ghost use Rattle.apf_picture.specs.Parts.{bar_text, bar_by, bars_text, rejected_tick, rejected_text, given_up_tick, given_up_text, back_text, stroke_text, plot_head, plot_text, ticks_head, ticks_text, triangles_text, row_head, height_of};
+ghost use Rattle.apf_picture.specs.Bars.{bar_text, bar_by, bars_text, rejected_tick, rejected_text, given_up_tick, given_up_text, back_text, stroke_text, plot_head, plot_text, ticks_head, ticks_text, triangles_text, row_head, height_of, row_words, row_drawing, row_text, all_rows, heading_place, rows_heading, rows_text};
 ghost use Rattle.apf_picture.specs.Rows.{lives_in};
 
 use crate::life::{Fate, Life};
+use crate::names::write_label;
 use crate::row::Row;
 use crate::scale::{COLUMNS, scaled};
-use crate::words::{write_label, write_row_numbers};
+use crate::words::write_row_numbers;
 use std::io;
 use std::io::Write;
 
@@ -18,7 +19,7 @@ const HEADING: &[u8] =
 <path class=\"gave-up\" d=\"M822 -8l3 7h-6z\"/>\n<text class=\"note\" x=\"832\">gave up</text>\n</g>\n";
 
 // Writes the bar of a request, from its arrival until its wait was over, one column at least.
-#[tactic(auto, unfolding(crate::specs::Parts::bar_text))]
+#[tactic(auto, unfolding(crate::specs::Bars::bar_text))]
 fn write_bar<W: Write>(out: &mut W, life: &Life, lane: usize, end: u64) -> io::Result<()>
     ensures { OnOk result (Appends (W.contents out.old) (W.contents out.new) (bar_text end lane life.now)) }
 {
@@ -59,7 +60,7 @@ fn write_bars<W: Write>(out: &mut W, lives: &[Life], end: u64) -> io::Result<()>
 }
 
 // Writes a tick where a rejected request arrived.
-#[tactic(auto, unfolding(crate::specs::Parts::rejected_tick))]
+#[tactic(auto, unfolding(crate::specs::Bars::rejected_tick))]
 fn write_rejected_tick<W: Write>(out: &mut W, life: &Life, end: u64) -> io::Result<()>
     ensures { OnOk result (Appends (W.contents out.old) (W.contents out.new) (rejected_tick end life.now)) }
 {
@@ -68,7 +69,7 @@ fn write_rejected_tick<W: Write>(out: &mut W, life: &Life, end: u64) -> io::Resu
 }
 
 // Writes a triangle where a request gave up.
-#[tactic(auto, unfolding(crate::specs::Parts::given_up_tick))]
+#[tactic(auto, unfolding(crate::specs::Bars::given_up_tick))]
 fn write_given_up_tick<W: Write>(out: &mut W, life: &Life, end: u64) -> io::Result<()>
     ensures { OnOk result (Appends (W.contents out.old) (W.contents out.new) (given_up_tick end life.now)) }
 {
@@ -103,7 +104,7 @@ fn write_given_up<W: Write>(out: &mut W, lives: &[Life], end: u64) -> io::Result
 }
 
 // Writes the bars of a row, one below another, and what is behind them.
-#[tactic(auto, unfolding(crate::specs::Parts::plot_text))]
+#[tactic(auto, unfolding(crate::specs::Bars::plot_text))]
 fn write_plot<W: Write>(out: &mut W, row: &Row, end: u64) -> io::Result<()>
     ensures { OnOk result (Appends (W.contents out.old) (W.contents out.new) (plot_text row.now end)) }
 {
@@ -113,7 +114,7 @@ fn write_plot<W: Write>(out: &mut W, row: &Row, end: u64) -> io::Result<()>
 }
 
 // Writes what is behind the bars of a row, and the beginning of their drawing.
-#[tactic(auto, unfolding(crate::specs::Parts::back_text))]
+#[tactic(auto, unfolding(crate::specs::Bars::back_text))]
 fn write_back<W: Write>(out: &mut W, around: u64, tall: u64, inside: u64) -> io::Result<()>
     ensures { OnOk result (Appends (W.contents out.old) (W.contents out.new) (back_text around tall inside)) }
 {
@@ -124,7 +125,7 @@ fn write_back<W: Write>(out: &mut W, around: u64, tall: u64, inside: u64) -> io:
 }
 
 // Writes the beginning of the path of a row's bars.
-#[tactic(auto, unfolding(crate::specs::Parts::stroke_text))]
+#[tactic(auto, unfolding(crate::specs::Bars::stroke_text))]
 fn write_stroke<W: Write>(out: &mut W, number: u32, thick: u64) -> io::Result<()>
     ensures { OnOk result (Appends (W.contents out.old) (W.contents out.new) (stroke_text number thick)) }
 {
@@ -135,7 +136,7 @@ fn write_stroke<W: Write>(out: &mut W, number: u32, thick: u64) -> io::Result<()
 }
 
 // Writes what stands before the bars of a row.
-#[tactic(auto, unfolding(crate::specs::Parts::plot_head))]
+#[tactic(auto, unfolding(crate::specs::Bars::plot_head))]
 fn write_plot_head<W: Write>(out: &mut W, row: &Row) -> io::Result<()>
     ensures { OnOk result (Appends (W.contents out.old) (W.contents out.new) (plot_head row.now)) }
 {
@@ -147,7 +148,7 @@ fn write_plot_head<W: Write>(out: &mut W, row: &Row) -> io::Result<()>
 }
 
 // Writes what stands before the ticks of a row.
-#[tactic(auto, unfolding(crate::specs::Parts::ticks_head))]
+#[tactic(auto, unfolding(crate::specs::Bars::ticks_head))]
 fn write_ticks_head<W: Write>(out: &mut W, y: u64) -> io::Result<()>
     ensures { OnOk result (Appends (W.contents out.old) (W.contents out.new) (ticks_head y)) }
 {
@@ -158,7 +159,7 @@ fn write_ticks_head<W: Write>(out: &mut W, y: u64) -> io::Result<()>
 }
 
 // Writes the ticks of the rejected requests at this height, and the beginning of the path of the triangles.
-#[tactic(auto, unfolding(crate::specs::Parts::ticks_text))]
+#[tactic(auto, unfolding(crate::specs::Bars::ticks_text))]
 fn write_ticks<W: Write>(out: &mut W, lives: &[Life], y: u64, end: u64) -> io::Result<()>
     ensures { OnOk result (Appends (W.contents out.old) (W.contents out.new) (ticks_text lives.now y end)) }
 {
@@ -168,7 +169,7 @@ fn write_ticks<W: Write>(out: &mut W, lives: &[Life], y: u64, end: u64) -> io::R
 }
 
 // Writes the triangles of the requests that gave up, and the end of their path.
-#[tactic(auto, unfolding(crate::specs::Parts::triangles_text))]
+#[tactic(auto, unfolding(crate::specs::Bars::triangles_text))]
 fn write_triangles<W: Write>(out: &mut W, lives: &[Life], end: u64) -> io::Result<()>
     ensures { OnOk result (Appends (W.contents out.old) (W.contents out.new) (triangles_text lives.now end)) }
 {
@@ -177,7 +178,7 @@ fn write_triangles<W: Write>(out: &mut W, lives: &[Life], end: u64) -> io::Resul
 }
 
 // Writes what stands before the label of a row.
-#[tactic(auto, unfolding(crate::specs::Parts::row_head))]
+#[tactic(auto, unfolding(crate::specs::Bars::row_head))]
 fn write_row_head<W: Write>(out: &mut W, row: &Row, y: u64) -> io::Result<()>
     ensures { OnOk result (Appends (W.contents out.old) (W.contents out.new) (row_head row.now y)) }
 {
@@ -188,16 +189,35 @@ fn write_row_head<W: Write>(out: &mut W, row: &Row, y: u64) -> io::Result<()>
     )
 }
 
-// Writes a row that begins at this height.
-fn write_row<W: Write>(out: &mut W, row: &Row, y: u64, end: u64) -> io::Result<()> {
-    write_row_head(out, row, y)?;
+// Writes what a row is called, and its numbers.
+#[tactic(auto, unfolding(crate::specs::Bars::row_words))]
+fn write_row_words<W: Write>(out: &mut W, row: &Row) -> io::Result<()>
+    ensures { OnOk result (Appends (W.contents out.old) (W.contents out.new) (row_words row.now)) }
+{
     write_label(out, &row.label)?;
     out.write_all(b" <tspan class=\"note\">")?;
     write_row_numbers(out, &row.numbers)?;
-    out.write_all(b"</tspan></text>\n")?;
+    out.write_all(b"</tspan></text>\n")
+}
+
+// Writes the bars and the ticks of a row.
+#[tactic(auto, unfolding(crate::specs::Bars::row_drawing))]
+fn write_row_drawing<W: Write>(out: &mut W, row: &Row, end: u64) -> io::Result<()>
+    ensures { OnOk result (Appends (W.contents out.old) (W.contents out.new) (row_drawing row.now end)) }
+{
     write_plot(out, row, end)?;
     write_ticks(out, row.lives.as_slice(), u64::from(row.tall) + 22, end)?;
-    write_triangles(out, row.lives.as_slice(), end)?;
+    write_triangles(out, row.lives.as_slice(), end)
+}
+
+// Writes a row that begins at this height.
+#[tactic(auto, unfolding(crate::specs::Bars::row_text))]
+fn write_row<W: Write>(out: &mut W, row: &Row, y: u64, end: u64) -> io::Result<()>
+    ensures { OnOk result (Appends (W.contents out.old) (W.contents out.new) (row_text row.now y end)) }
+{
+    write_row_head(out, row, y)?;
+    write_row_words(out, row)?;
+    write_row_drawing(out, row, end)?;
     out.write_all(b"</g>\n")
 }
 
@@ -214,16 +234,44 @@ pub(crate) fn height(rows: &[Row]) -> u64
     height
 }
 
-/// Writes the rows from this height on.
+// Writes the rows, one below another, from this height on.
+#[tactic(auto, using(crate::proofs::Ranges::rows_text_more))]
+fn write_all_rows<W: Write>(out: &mut W, rows: &[Row], y: u64, end: u64) -> io::Result<()>
+    requires few { length rows.now ≤ 13 }
+    requires y { y < 2 ^ 41 }
+    ensures { OnOk result (Appends (W.contents out.old) (W.contents out.new) (all_rows rows.now y end)) }
+{
+    let mut top = y;
+    for row in rows {
+        write_row(out, row, top, end)?;
+        top += row.height();
+    }
+    Ok(())
+}
+
+// Writes where the heading stands.
+#[tactic(auto, unfolding(crate::specs::Bars::heading_place))]
+fn write_heading_place<W: Write>(out: &mut W, y: u64) -> io::Result<()>
+    ensures { OnOk result (Appends (W.contents out.old) (W.contents out.new) (heading_place y)) }
+{
+    writeln!(out, "<g transform=\"translate(48 {y})\">")
+}
+
+#[tactic(auto, unfolding(crate::specs::Bars::rows_heading))]
+fn write_heading<W: Write>(out: &mut W) -> io::Result<()>
+    ensures { OnOk result (Appends (W.contents out.old) (W.contents out.new) rows_heading) }
+{
+    out.write_all(HEADING)
+}
+
+/// Writes the rows and their heading, from this height on.
+#[tactic(auto, unfolding(crate::specs::Bars::rows_text))]
 pub(crate) fn write_rows<W: Write>(out: &mut W, rows: &[Row], y: u64, end: u64) -> io::Result<()>
     requires few { length rows.now ≤ 13 }
     requires y { y < 2 ^ 40 }
+    ensures { OnOk result (Appends (W.contents out.old) (W.contents out.new) (rows_text rows.now y end)) }
 {
-    let heading = y + 34;
-    writeln!(out, "<g transform=\"translate(48 {heading})\">")?;
-    out.write_all(HEADING)?;
-    for (number, row) in rows.iter().enumerate() {
-        write_row(out, row, y + 44 + height(&rows[..number]), end)?;
-    }
-    Ok(())
+    write_heading_place(out, y + 34)?;
+    write_heading(out)?;
+    write_all_rows(out, rows, y + 44, end)
 }

@@ -1,29 +1,16 @@
 //! The requests of one row, and their numbers.
 
-ghost use Rattle.std.specs.Prelude.{◌≡◌, ◌<◌, ◌≤◌, ◌*◌, ◌^◌, length, vec_len, All, IfOk, OnOk, ◌+◌};
-ghost use Rattle.std.specs.Str.{chars};
-ghost use Rattle.apf_picture.specs.Words.{label_text, label_by};
-ghost use Rattle.apf_picture.specs.Rows.{IsRow, count_of, longest_of, members_of, tall_of};
+ghost use Rattle.std.specs.Prelude.{◌≡◌, ◌<◌, ◌≤◌, ◌+◌, ◌*◌, ◌^◌, length, vec_len, min, slice_get, slice_index, All, IfOk, OnOk};
+ghost use Rattle.apf_picture.specs.Labels.{called, called_first, label_at};
+ghost use Rattle.apf_picture.specs.Ranks.{own_rows};
+ghost use Rattle.apf_picture.specs.Rows.{AreRows, IsOneMore, count_of, longest_of, members_of, tall_of};
 
+use crate::label::{Label, flow_label};
 use crate::life::{Fate, Life};
 use crate::rank::OWN_ROWS;
 use crate::scale::scaled;
 use apf_traces::TraceRequest;
 use std::alloc::{AllocError, Global};
-
-/// What a row is called.
-#[derive(Drop)]
-pub(crate) enum Label {
-    /// The two names of its flow, as characters.
-    Names {
-        schema: Vec<char>,
-        distinguisher: Vec<char>,
-    },
-    /// The hash of its flow.
-    Hash(u64),
-    /// So many flows that share the row.
-    Others(u32),
-}
 
 /// The numbers of some requests.
 #[derive(Clone, Copy)]
@@ -85,30 +72,6 @@ impl Numbers {
     }
 }
 
-// The characters of a text.
-fn characters(alloc: Global, text: &str) -> Result<Vec<char>, AllocError>
-    ensures { IfOk result (λ all. all.items ≡ chars text.now) }
-{
-    text.chars().collect(alloc)
-}
-
-/// The label of the flow whose first request this is.
-pub(crate) fn flow_label(alloc: Global, first: &TraceRequest) -> Result<Label, AllocError>
-    ensures { IfOk result (λ label. label_text label ≡ label_by first.now.names first.now.hash) }
-{
-    match &first.names {
-        Some(names) => {
-            let schema = characters(alloc, names.schema.as_str())?;
-            let distinguisher = characters(alloc, names.distinguisher.as_str())?;
-            Ok(Label::Names {
-                schema,
-                distinguisher,
-            })
-        }
-        None => Ok(Label::Hash(first.hash)),
-    }
-}
-
 // The requests of the row.
 fn members(alloc: Global, lives: &[Life], row: u32) -> Result<Vec<Life>, AllocError>
     ensures members { IfOk result (λ members. members.items ≡ members_of lives.now row) }
@@ -132,7 +95,7 @@ fn tall(members: u64, requests: u64) -> u32
 }
 
 impl Row {
-    ghost use Rattle.apf_picture.specs.Parts.{height_of};
+    ghost use Rattle.apf_picture.specs.Bars.{height_of};
     ghost use Rattle.apf_picture.specs.Rows.{IsRow};
 
     /// How high the row is, with its label and its ticks.
@@ -174,64 +137,74 @@ fn push_row(
     row: u32,
     label: Label,
 ) -> Result<(), AllocError>
-    requires lives { length lives.now < 2 ^ 31 }
-    requires rows { All (IsRow lives.now) rows.old.items }
-    ensures rows { OnOk result (All (IsRow lives.now) rows.new.items) }
-    ensures more { OnOk result (vec_len rows.new ≤ vec_len rows.old + 1) }
+    requires { length lives.now < 2 ^ 31 }
+    ensures { OnOk result (IsOneMore lives.now row (called label) rows.old.items rows.new.items) }
 {
     rows.push(Row::of(alloc, lives, row, label)?)?;
     Ok(())
 }
 
-// Adds the row of the flow that has this row of its own.
-fn push_own_row(
-    rows: &mut Vec<Row>,
+// The label of a row of one flow.
+fn own_label(
     alloc: Global,
     trace: &[TraceRequest],
     firsts: &[u32],
-    rows_of: &[u32],
-    lives: &[Life],
-    row: u32,
-) -> Result<(), AllocError>
-    requires lives { length lives.now < 2 ^ 31 }
-    requires rows_of { length rows_of.now ≡ length firsts.now }
+    flow: u32,
+    is_shared: bool,
+) -> Result<Label, AllocError>
+    requires flow { flow < length firsts.now }
     requires firsts { All (λ first. first < length trace.now) firsts.now }
-    requires rows { All (IsRow lives.now) rows.old.items }
-    ensures rows { OnOk result (All (IsRow lives.now) rows.new.items) }
-    ensures more { OnOk result (vec_len rows.new ≤ vec_len rows.old + 1) }
+    ensures { IfOk result (λ label. called label ≡ called_first is_shared (slice_get trace.now (slice_index firsts.now flow))) }
 {
-    match rows_of.iter().position(|other| *other == row) {
-        Some(flow) => {
-            let label = flow_label(alloc, &trace[firsts[flow] as usize])?;
-            push_row(rows, alloc, lives, row, label)
-        }
-        None => Ok(()),
-    }
+    flow_label(alloc, &trace[firsts[flow as usize] as usize], is_shared)
 }
 
-/// The rows of the picture, where each flow has this row and this first request.
+// The rows of these flows.
+fn first_rows(
+    alloc: Global,
+    trace: &[TraceRequest],
+    firsts: &[u32],
+    own: &[u32],
+    is_shared: bool,
+    lives: &[Life],
+) -> Result<Vec<Row>, AllocError>
+    requires lives { length lives.now < 2 ^ 31 }
+    requires own { length own.now ≤ own_rows }
+    requires each { All (λ flow. flow < length firsts.now) own.now }
+    requires firsts { All (λ first. first < length trace.now) firsts.now }
+    ensures { IfOk result (λ rows. AreRows lives.now (label_at trace.now firsts.now own.now is_shared) (length own.now) rows.items) }
+{
+    let mut rows = Vec::new(alloc);
+    for (row, flow) in own.iter().enumerate() {
+        let label = own_label(alloc, trace, firsts, *flow, is_shared)?;
+        push_row(&mut rows, alloc, lives, row as u32, label)?;
+    }
+    Ok(rows)
+}
+
+/// The rows of the picture: one of each of these flows, and one of the other flows, if there are any.
 pub(crate) fn rows(
     alloc: Global,
     trace: &[TraceRequest],
     firsts: &[u32],
-    rows_of: &[u32],
+    own: &[u32],
+    is_shared: bool,
     lives: &[Life],
 ) -> Result<Vec<Row>, AllocError>
     requires lives { length lives.now < 2 ^ 31 }
     requires flows { length firsts.now < 2 ^ 31 }
-    requires rows { length rows_of.now ≡ length firsts.now }
+    requires own { length own.now ≡ min (length firsts.now) own_rows }
+    requires each { All (λ flow. flow < length firsts.now) own.now }
     requires firsts { All (λ first. first < length trace.now) firsts.now }
-    ensures rows { IfOk result (λ rows. All (IsRow lives.now) rows.items) }
+    ensures rows { IfOk result (λ rows. AreRows lives.now (label_at trace.now firsts.now own.now is_shared) (min (length firsts.now) (own_rows + 1)) rows.items) }
     ensures few { IfOk result (λ rows. vec_len rows ≤ 13) }
 {
     let flows = firsts.len() as u32;
-    let mut rows = Vec::new(alloc);
-    for row in 0..flows.min(OWN_ROWS) {
-        push_own_row(&mut rows, alloc, trace, firsts, rows_of, lives, row)?;
+    let mut rows = first_rows(alloc, trace, firsts, own, is_shared, lives)?;
+    if flows <= OWN_ROWS {
+        return Ok(rows);
     }
-    if flows > OWN_ROWS {
-        let label = Label::Others(flows - OWN_ROWS);
-        push_row(&mut rows, alloc, lives, OWN_ROWS, label)?;
-    }
+    let label = Label::Others(flows - OWN_ROWS);
+    push_row(&mut rows, alloc, lives, OWN_ROWS, label)?;
     Ok(rows)
 }

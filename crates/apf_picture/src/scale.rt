@@ -88,7 +88,8 @@ fn tenth(time: u64) -> u64
 /// The distance of the axis' marks: 1, 2 or 5 times a power of ten of units, and the least one with eleven marks at most.
 pub(crate) fn step(end: u64, unit: u64) -> u64
     requires { 0 < unit × unit ≤ 86400000000 }
-    ensures { IsStep end unit result }
+    ensures step { IsStep end unit result }
+    ensures some { 0 < result }
 {
     let least = tenth(end);
     let mut one = unit;

@@ -1,6 +1,7 @@
 //! What a picture is made of.
 
 use apf_flows::Flows;
+use apf_model::Config;
 use apf_traces::TraceRequest;
 use apf_words::Decision;
 
@@ -17,8 +18,10 @@ pub struct Outcome {
 /// A run of a level on the requests of a trace.
 #[derive(Clone, Copy)]
 pub struct Scene<'a> {
-    /// The seats of the level.
-    pub limit: u32,
+    /// What the level was opened with.
+    pub config: Config,
+    /// How long a request waits at most, in microseconds. 0: nobody gives up.
+    pub patience: u64,
     /// When the run ended, in microseconds.
     pub end: u64,
     /// The requests, at most 10,000.

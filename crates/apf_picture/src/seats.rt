@@ -1,10 +1,10 @@
 //! The first part: the seats in use, stacked by row, against the limit.
 
-ghost use Rattle.std.specs.Prelude.{◌≡◌, ◌<◌, ◌≤◌, ◌+◌, ◌*◌, ◌^◌, length, OnOk};
+ghost use Rattle.std.specs.Prelude.{◌≡◌, ◌<◌, ◌≤◌, ◌+◌, ◌*◌, ◌^◌, length, max, OnOk};
 ghost use Rattle.std.specs.Io.KnownBytes.{Appends};
-ghost use Rattle.apf_picture.specs.Parts.{change_text, column_text, top_text, area_head, area_text, areas_text, limit_line, limit_number, limit_text, seats_heading};
+ghost use Rattle.apf_picture.specs.Parts.{change_text, column_text, top_text, area_head, area_text, areas_text, limit_line, seats_number, limit_place as the_limit_place, limit_text, peak_tick, peak_text, seats_scale, seats_heading, seats_head, seats_text};
 
-use crate::columns::{Area, most_seats};
+use crate::columns::Area;
 use crate::scale::scaled;
 use std::io;
 use std::io::Write;
@@ -78,24 +78,63 @@ fn write_limit_line<W: Write>(out: &mut W, y: u64) -> io::Result<()>
     writeln!(out, "<path class=\"limit\" d=\"M0 {y}h880\"/>")
 }
 
-#[tactic(auto, unfolding(crate::specs::Parts::limit_number))]
-fn write_limit_number<W: Write>(out: &mut W, y: u64, limit: u64) -> io::Result<()>
-    ensures { OnOk result (Appends (W.contents out.old) (W.contents out.new) (limit_number y limit)) }
+// Writes a number of seats, with its foot at this height.
+#[tactic(auto, unfolding(crate::specs::Parts::seats_number))]
+fn write_number<W: Write>(out: &mut W, y: u64, seats: u64) -> io::Result<()>
+    ensures { OnOk result (Appends (W.contents out.old) (W.contents out.new) (seats_number y seats)) }
 {
     writeln!(
         out,
-        "<text class=\"small\" x=\"-6\" y=\"{y}\" text-anchor=\"end\">{limit}</text>"
+        "<text class=\"small\" x=\"-6\" y=\"{y}\" text-anchor=\"end\">{seats}</text>"
     )
 }
 
-// Writes the line of the limit, and its number beside it.
+// Where the number of the limit stands: beside its line, or eleven pixels from the other numbers.
+fn limit_place(y: u64, is_exceeded: bool) -> u64
+    ensures place { result ≡ the_limit_place y is_exceeded }
+    ensures within { result ≤ 129 }
+{
+    let highest = if is_exceeded { 21 } else { 10 };
+    y.max(highest).min(129)
+}
+
+// Writes the line of the limit, and its number.
 #[tactic(auto, unfolding(crate::specs::Parts::limit_text))]
-fn write_limit<W: Write>(out: &mut W, limit: u64, most: u64) -> io::Result<()>
-    ensures { OnOk result (Appends (W.contents out.old) (W.contents out.new) (limit_text limit most)) }
+fn write_limit<W: Write>(out: &mut W, used: u64, limit: u64, most: u64) -> io::Result<()>
+    ensures { OnOk result (Appends (W.contents out.old) (W.contents out.new) (limit_text used limit most)) }
 {
     let y = HIGH - scaled(limit, most, FULL);
     write_limit_line(out, y)?;
-    write_limit_number(out, y + 4, limit)
+    write_number(out, limit_place(y, used > limit) + 4, limit)
+}
+
+// Writes a tick at the most seats, and their number.
+#[tactic(auto, unfolding(crate::specs::Parts::peak_tick))]
+fn write_peak_tick<W: Write>(out: &mut W, used: u64) -> io::Result<()>
+    ensures { OnOk result (Appends (W.contents out.old) (W.contents out.new) (peak_tick used)) }
+{
+    out.write_all(b"<path class=\"peak\" d=\"M-4 10h4\"/>\n")?;
+    write_number(out, 14, used)
+}
+
+// Writes the tick of the most seats, if they are more than the limit.
+fn write_peak<W: Write>(out: &mut W, used: u64, limit: u64) -> io::Result<()>
+    ensures { OnOk result (Appends (W.contents out.old) (W.contents out.new) (peak_text used limit)) }
+{
+    if used > limit {
+        return write_peak_tick(out, used);
+    }
+    Ok(())
+}
+
+// Writes the numbers beside the plot, and the line of the limit.
+#[tactic(auto, unfolding(crate::specs::Parts::seats_scale))]
+fn write_scale<W: Write>(out: &mut W, used: u64, limit: u64) -> io::Result<()>
+    ensures { OnOk result (Appends (W.contents out.old) (W.contents out.new) (seats_scale used limit)) }
+{
+    write_limit(out, used, limit, used.max(limit))?;
+    write_peak(out, used, limit)?;
+    write_number(out, 144, 0)
 }
 
 #[tactic(auto, unfolding(crate::specs::Parts::seats_heading))]
@@ -104,19 +143,32 @@ fn write_heading<W: Write>(out: &mut W, used: u64, limit: u64) -> io::Result<()>
 {
     writeln!(
         out,
-        "<text class=\"part\" y=\"-12\">Seats in use <tspan class=\"note\">by flow, at most {used}; the limit is {limit}</tspan></text>"
+        "<text class=\"part\" y=\"-24\">Seats in use <tspan class=\"note\">by flow, at most {used}; the limit is {limit}</tspan></text>"
     )
 }
 
-/// Writes the part of the seats.
-pub(crate) fn write_seats<W: Write>(out: &mut W, areas: &[Area], limit: u32) -> io::Result<()> {
-    let used = most_seats(areas);
-    let limit = u64::from(limit);
-    let most = used.max(limit);
-    out.write_all(b"<g transform=\"translate(48 96)\">\n")?;
+// Writes what stands before the areas.
+#[tactic(auto, unfolding(crate::specs::Parts::seats_head))]
+fn write_head<W: Write>(out: &mut W, used: u64, limit: u64) -> io::Result<()>
+    ensures { OnOk result (Appends (W.contents out.old) (W.contents out.new) (seats_head used limit)) }
+{
+    out.write_all(b"<g transform=\"translate(48 124)\">\n")?;
     write_heading(out, used, limit)?;
-    out.write_all(b"<rect class=\"plot\" width=\"880\" height=\"140\"/>\n")?;
-    write_areas(out, areas, most)?;
-    write_limit(out, limit, most)?;
-    out.write_all(b"<text class=\"small\" x=\"-6\" y=\"144\" text-anchor=\"end\">0</text>\n</g>\n")
+    out.write_all(b"<rect class=\"plot\" width=\"880\" height=\"140\"/>\n")
+}
+
+/// Writes the part of the seats, of which so many were used at most.
+#[tactic(auto, unfolding(crate::specs::Parts::seats_text))]
+pub(crate) fn write_seats<W: Write>(
+    out: &mut W,
+    areas: &[Area],
+    used: u64,
+    limit: u64,
+) -> io::Result<()>
+    ensures { OnOk result (Appends (W.contents out.old) (W.contents out.new) (seats_text areas.now used limit)) }
+{
+    write_head(out, used, limit)?;
+    write_areas(out, areas, used.max(limit))?;
+    write_scale(out, used, limit)?;
+    out.write_all(b"</g>\n")
 }

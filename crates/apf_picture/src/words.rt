@@ -1,52 +1,12 @@
-//! Numbers, times and names in words, as XML has them.
+//! Numbers and times in words, as XML has them.
 
 ghost use Rattle.std.specs.Prelude.{◌≡◌, ◌<◌, ◌≤◌, ◌+◌, ◌*◌, ◌^◌, length, OnOk};
 ghost use Rattle.std.specs.Io.KnownBytes.{Appends};
-ghost use Rattle.apf_picture.specs.Words.{character_text, escaped, name_text, counted_text, label_text, tenths_text, two_text, time_text, endings_text, numbers_text, row_numbers_text};
+ghost use Rattle.apf_picture.specs.Words.{counted_text, tenths_text, two_text, time_text, patience_text, endings_text, numbers_text, row_numbers_text};
 
-use crate::row::{Label, Numbers};
-use apf_flows::write_hash;
+use crate::row::Numbers;
 use std::io;
 use std::io::Write;
-
-/// So many characters of a name are written.
-const NAME: usize = 30;
-
-// Writes a character. One that XML does not allow is a mark for a character that is missing.
-fn write_character<W: Write>(out: &mut W, character: char) -> io::Result<()>
-    ensures { OnOk result (Appends (W.contents out.old) (W.contents out.new) (character_text character)) }
-{
-    match character {
-        '&' => out.write_all(b"&amp;"),
-        '<' => out.write_all(b"&lt;"),
-        '>' => out.write_all(b"&gt;"),
-        '"' => out.write_all(b"&quot;"),
-        '\0'..='\u{1f}' | '\u{fffe}' | '\u{ffff}' => out.write_all(b"&#65533;"),
-        _ => write!(out, "{character}"),
-    }
-}
-
-// Writes a text.
-fn write_text<W: Write>(out: &mut W, text: &[char]) -> io::Result<()>
-    ensures { OnOk result (Appends (W.contents out.old) (W.contents out.new) (escaped text.now)) }
-{
-    for character in text {
-        write_character(out, *character)?;
-    }
-    Ok(())
-}
-
-// Writes a name, of a long one its first characters and an ellipsis.
-#[tactic(auto, unfolding(crate::specs::Words::name_text))]
-fn write_name<W: Write>(out: &mut W, name: &[char], most: usize) -> io::Result<()>
-    ensures { OnOk result (Appends (W.contents out.old) (W.contents out.new) (name_text most name.now)) }
-{
-    if name.len() <= most {
-        return write_text(out, name);
-    }
-    write_text(out, &name[..most])?;
-    out.write_all(b"&#8230;")
-}
 
 /// Writes a number and a noun, in the plural where the number is not 1.
 pub(crate) fn write_counted<W: Write>(out: &mut W, number: u64, noun: &str) -> io::Result<()>
@@ -56,24 +16,6 @@ pub(crate) fn write_counted<W: Write>(out: &mut W, number: u64, noun: &str) -> i
         return write!(out, "1 {noun}");
     }
     write!(out, "{number} {noun}s")
-}
-
-/// Writes what a row is called.
-pub(crate) fn write_label<W: Write>(out: &mut W, label: &Label) -> io::Result<()>
-    ensures { OnOk result (Appends (W.contents out.old) (W.contents out.new) (label_text label.now)) }
-{
-    match label {
-        Label::Names {
-            schema,
-            distinguisher,
-        } => {
-            write_name(out, schema.as_slice(), NAME)?;
-            out.write_all(b" / ")?;
-            write_name(out, distinguisher.as_slice(), NAME)
-        }
-        Label::Hash(hash) => write_hash(out, *hash),
-        Label::Others(flows) => write_counted(out, u64::from(*flows), "other flow"),
-    }
 }
 
 // Writes a number of two units, of which the second has so many in one of the first.
@@ -115,6 +57,24 @@ pub(crate) fn write_time<W: Write>(out: &mut W, time: u64) -> io::Result<()>
         3_600_000_000..=86_399_999_999 => write_two(out, hours, "h", minutes % 60, "min"),
         _ => write_two(out, hours / 24, "d", hours % 24, "h"),
     }
+}
+
+/// Writes how long a request waits at most, in the longest unit of which it is a whole number.
+pub(crate) fn write_patience<W: Write>(out: &mut W, patience: u64) -> io::Result<()>
+    ensures { OnOk result (Appends (W.contents out.old) (W.contents out.new) (patience_text patience)) }
+{
+    if patience == 0 {
+        return out.write_all(b"patience 0: nobody gives up");
+    }
+    if patience % 1_000_000 == 0 {
+        let seconds = patience / 1_000_000;
+        return write!(out, "patience {seconds} s");
+    }
+    if patience % 1_000 == 0 {
+        let milliseconds = patience / 1_000;
+        return write!(out, "patience {milliseconds} ms");
+    }
+    write!(out, "patience {patience} &#181;s")
 }
 
 /// Writes how many requests ended how, and the longest wait.

@@ -76,6 +76,44 @@ fn a_thousand_requests(rt: HostRuntime) -> Result<(), Fail> {
     Ok(())
 }
 
+// A request that is wider than the limit, between two columns: its seats are the most, and have a tick of their own. The
+// number of the limit makes room for it.
+#[test]
+fn a_peak_between_columns(rt: HostRuntime) -> Result<(), Fail> {
+    let wide = TraceRequest {
+        width: 3,
+        ..request(1, 5, 1)
+    };
+    let trace = [wide, request(2, 5, 1), request(2, 99_999, 1)];
+    let outcomes = [executed(0, None), executed(1, Some(1)), executed(0, None)];
+    let text = drawn(
+        &rt,
+        rt.alloc(),
+        trace.as_slice(),
+        outcomes.as_slice(),
+        100_000,
+    )?;
+    let peak =
+        "<path class=\"peak\" d=\"M-4 10h4\"/>\n<text class=\"small\" x=\"-6\" y=\"14\" text-anchor=\"end\">3</text>";
+    let limit =
+        "d=\"M0 54h880\"/>\n<text class=\"small\" x=\"-6\" y=\"58\" text-anchor=\"end\">2</text>";
+    assert_eq!(rt;
+        times(text.as_slice(), "by flow, at most 3; the limit is 2<"),
+        1
+    );
+    assert_eq!(rt;
+        times(
+            text.as_slice(),
+            "in use by flow: at most 3. Queues used: 1, at most 1 waiting"
+        ),
+        1
+    );
+    assert_eq!(rt; times(text.as_slice(), peak), 1);
+    assert_eq!(rt; times(text.as_slice(), limit), 1);
+    assert_eq!(rt; times(text.as_slice(), "d=\"M0 140H0V140H880V140z\"/>"), 2);
+    Ok(())
+}
+
 #[test]
 fn a_writer_that_fails(rt: HostRuntime) -> Result<(), Fail> {
     let trace = [request(1, 0, 10)];

@@ -1,10 +1,20 @@
 use apf_flows::flows_of;
+use apf_model::{Config, Response};
 use apf_picture::{Outcome, Picture, Scene};
 use apf_traces::{FlowNames, TraceRequest};
 use apf_words::Decision;
 use std::alloc::Global;
 use std::process::Abort;
 use std::test::Fail;
+
+/// A level of two seats.
+const CONFIG: Config = Config {
+    limit: 2,
+    queues: 2,
+    hand_size: 1,
+    queue_length_limit: 2,
+    limit_response: Response::Queue,
+};
 
 // A request of one seat.
 pub(crate) fn request(hash: u64, arrives_at: u64, runs_for: u64) -> TraceRequest {
@@ -18,9 +28,15 @@ pub(crate) fn request(hash: u64, arrives_at: u64, runs_for: u64) -> TraceRequest
     }
 }
 
-pub(crate) fn named(alloc: Global, hash: u64, distinguisher: &str) -> Result<TraceRequest, Fail> {
+// A request of a flow with these names.
+pub(crate) fn named(
+    alloc: Global,
+    hash: u64,
+    schema: &str,
+    distinguisher: &str,
+) -> Result<TraceRequest, Fail> {
     let names = FlowNames {
-        schema: String::from_str(alloc, "a \"<&>\" b")?,
+        schema: String::from_str(alloc, schema)?,
         distinguisher: String::from_str(alloc, distinguisher)?,
     };
     Ok(TraceRequest {
@@ -59,7 +75,8 @@ pub(crate) fn picture_of<R: Abort>(
     assert!(rt; outcomes.len() == trace.len());
     let flows = flows_of(alloc, trace)?;
     let scene = Scene {
-        limit: 2,
+        config: CONFIG,
+        patience: 90,
         end,
         trace,
         flows: &flows,

@@ -52,12 +52,14 @@ fn in_words(rt: HostRuntime) -> Result<(), Fail> {
     let text = small(&rt, rt.alloc())?;
     let title = "<title id=\"title\">9 requests of 2 flows on 2 seats</title>";
     let whole = ">5 executed, 2 rejected, 2 gave up, longest wait 90 &#181;s, 420 &#181;s in all";
+    let level = "limit 2, queues 2, hand size 1, queue length limit 2, patience 90 &#181;s";
     let rest =
-        ". Seats in use by flow: at most 2, the limit is 2. Queues used: 2, at most 2 waiting in one.";
+        "s. Seats in use by flow: at most 2. Queues used: 2, at most 2 waiting in one. 0000000000000009, ";
     let row =
         "0000000000000005, 3 requests: 3 executed, 0 rejected, 0 gave up, longest wait 60 &#181;s.</desc>";
     assert_eq!(rt; times(text.as_slice(), title), 1);
     assert_eq!(rt; times(text.as_slice(), whole), 2);
+    assert_eq!(rt; times(text.as_slice(), level), 2);
     assert_eq!(rt; times(text.as_slice(), rest), 1);
     assert_eq!(rt; times(text.as_slice(), row), 1);
     Ok(())

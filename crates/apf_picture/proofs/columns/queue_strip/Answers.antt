@@ -1,19 +1,13 @@
--- One column more, and all of them.
-use Rattle.std.proofs.Common.{◌≡◌, ℕ, ◌+◌, ◌++◌, ◌∷◌, [], List, subst, arith}
-use Rattle.std.specs.Prelude.{map}
-use Rattle.std.specs.List.{range_with_len}
-use Rattle.std.proofs.lemmas.List.FromFn.{map-range_with_len_more}
-use Rattle.apf_picture.specs.Columns.{length_at, time_of, columns, lengths_of}
+-- The spans have the waits of the queue.
+use Rattle.std.proofs.Common.{List, ℕ, ◌≡◌, ◌∙◌, ap, subst}
+use Rattle.apf_picture.specs.declared.span.Span.{Span}
+use Rattle.apf_picture.specs.Columns.{IsMost}
+use Rattle.apf_picture.specs.Spans.{held, columns_of}
+use Rattle.apf_picture.proofs.Peaks.{columns_of_waits, most_of_waits}
 use Rattle.apf_picture.proofs.columns.queue_strip.Goals as goal
 
-pub loop-column-preserved : goal.loop-column-preserved
-loop-column-preserved c =
-    let n = c.loop-column.column in
-    let more = map-range_with_len_more (λ (column : ℕ). length_at c.args.lives.now c.args.queue (time_of c.args.end column)) 0 n n (omega arith) in
-    cc (more, c.loop-column.invariant, c.in_ok-push.ensures.items, c.length_at.ensures, c.scaled.ensures.place)
-
-pub returns-clause-lengths : goal.returns-clause-lengths
-unfolding columns lengths_of
-returns-clause-lengths c =
-    let at : c.loop-column.column ≡ 880 = omega arith in
-    subst (λ (n : ℕ). c.loop-column.lengths.items ≡ map (λ (column : ℕ). length_at c.args.lives.now c.args.queue (time_of c.args.end column)) (range_with_len 0 n)) at c.loop-column.invariant
+pub returns-clause-strip : goal.returns-clause-strip
+returns-clause-strip c = record {
+  lengths = c.in_ok-lengths.ensures ∙ ap (λ (spans : List Span). columns_of (held spans) c.args.end) (c.as_slice.ensures.value ∙ c.in_ok-spans.ensures.spans) ∙ columns_of_waits c.args.lives.now c.args.end c.args.queue;
+  most = most_of_waits c.args.lives.now c.args.queue c.most.result (subst (λ (spans : List Span). IsMost (held spans) c.most.result) (c.as_slice-2.ensures.value ∙ c.in_ok-spans.ensures.spans) c.most.ensures);
+}

@@ -1,6 +1,6 @@
 -- The columns so far have the shade, and the others follow.
 use Rattle.std.proofs.Common.{◌≡◌, ◌+◌, drop}
-use Rattle.apf_picture.specs.Parts.{run_of}
+use Rattle.apf_picture.specs.Strips.{run_of}
 use Rattle.apf_picture.proofs.queues.run.Given as goal
 
 abbrev pub invariant-loop-length : goal.invariant-loop-length

@@ -1,6 +1,6 @@
 -- The strips so far were written.
 use Rattle.std.proofs.Common.{take}
-use Rattle.apf_picture.specs.Parts.{all_runs}
+use Rattle.apf_picture.specs.Strips.{all_runs}
 use Rattle.std.specs.Io.KnownBytes.{Appends}
 use Rattle.apf_picture.proofs.queues.write_all_runs.Given as goal
 

@@ -1,6 +1,6 @@
 -- One column more.
 use Rattle.std.proofs.Common.{arith}
-use Rattle.apf_picture.specs.Parts.{run_at}
+use Rattle.apf_picture.specs.Strips.{run_at}
 use Rattle.apf_picture.proofs.Ranges.{appends_range}
 use Rattle.apf_picture.proofs.queues.write_runs.Goals as goal
 

@@ -1,6 +1,6 @@
 -- The columns so far were written.
 use Rattle.std.specs.List.{flat_map, range_with_len}
-use Rattle.apf_picture.specs.Parts.{run_at}
+use Rattle.apf_picture.specs.Strips.{run_at}
 use Rattle.std.specs.Io.KnownBytes.{Appends}
 use Rattle.apf_picture.proofs.queues.write_runs.Given as goal
 

@@ -1,6 +1,6 @@
 -- One shade more.
 use Rattle.std.proofs.Common.{ℕ, ◌+◌, arith}
-use Rattle.apf_picture.specs.Parts.{shade_text}
+use Rattle.apf_picture.specs.Strips.{shade_text}
 use Rattle.apf_picture.proofs.Ranges.{appends_range}
 use Rattle.apf_picture.proofs.queues.write_shades.Goals as goal
 

@@ -1,6 +1,6 @@
 -- The shades so far were written.
 use Rattle.std.specs.Io.KnownBytes.{Appends}
-use Rattle.apf_picture.specs.Parts.{shades_text}
+use Rattle.apf_picture.specs.Strips.{shades_text}
 use Rattle.apf_picture.proofs.queues.write_shades.Given as goal
 
 abbrev pub invariant-loop-place : goal.invariant-loop-place

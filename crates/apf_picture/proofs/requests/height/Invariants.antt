@@ -1,7 +1,7 @@
 -- The heights so far.
 use Rattle.std.proofs.Common.{◌≡◌, ◌*◌, ◌≤◌, ◌^◌, take}
 use Rattle.std.specs.Prelude.{sum_by}
-use Rattle.apf_picture.specs.Parts.{height_of}
+use Rattle.apf_picture.specs.Bars.{height_of}
 use Rattle.apf_picture.proofs.requests.height.Given as goal
 
 abbrev pub invariant-loop-row : goal.invariant-loop-row

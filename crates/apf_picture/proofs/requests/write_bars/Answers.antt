@@ -3,7 +3,7 @@ use Rattle.std.proofs.Common.{ℕ, Option, sym, subst, arith}
 use Rattle.std.specs.Prelude.{slice_get}
 use Rattle.std.specs.Io.KnownBytes.{Appends}
 use Rattle.apf_picture.specs.declared.life.Life.{Life}
-use Rattle.apf_picture.specs.Parts.{bar_at}
+use Rattle.apf_picture.specs.Bars.{bar_at}
 use Rattle.apf_picture.proofs.Ranges.{appends_range}
 use Rattle.apf_picture.proofs.requests.write_bars.Goals as goal
 

@@ -1,7 +1,7 @@
 -- The bars so far were written.
 use Rattle.std.specs.List.{flat_map, range_with_len}
 use Rattle.std.specs.Prelude.{slice_get}
-use Rattle.apf_picture.specs.Parts.{bar_at}
+use Rattle.apf_picture.specs.Bars.{bar_at}
 use Rattle.std.specs.Io.KnownBytes.{Appends}
 use Rattle.apf_picture.proofs.requests.write_bars.Given as goal
 

@@ -1,6 +1,6 @@
 -- The triangles so far were written.
 use Rattle.std.proofs.Common.{take}
-use Rattle.apf_picture.specs.Parts.{given_up_text}
+use Rattle.apf_picture.specs.Bars.{given_up_text}
 use Rattle.std.specs.Io.KnownBytes.{Appends}
 use Rattle.apf_picture.proofs.requests.write_given_up.Given as goal
 

@@ -1,6 +1,6 @@
 -- The ticks so far were written.
 use Rattle.std.proofs.Common.{take}
-use Rattle.apf_picture.specs.Parts.{rejected_text}
+use Rattle.apf_picture.specs.Bars.{rejected_text}
 use Rattle.std.specs.Io.KnownBytes.{Appends}
 use Rattle.apf_picture.proofs.requests.write_rejected.Given as goal
 

@@ -1,7 +1,0 @@
--- What `chars` and `collect` give.
-use Rattle.std.proofs.Common.{rules}
-use Rattle.std.proofs.lemmas.Str.{chars_from_encodes}
-use Rattle.apf_picture.proofs.row.characters.Goals as goal
-
-pub returns : goal.returns
-returns c = search (rules, chars_from_encodes)

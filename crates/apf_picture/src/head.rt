@@ -1,0 +1,179 @@
+//! The title, the description and what stands above the parts.
+
+ghost use Rattle.std.specs.Prelude.{◌≡◌, ◌<◌, ◌≤◌, ◌+◌, ◌*◌, ◌^◌, length, OnOk};
+ghost use Rattle.std.specs.Io.KnownBytes.{Appends};
+ghost use Rattle.apf_picture.specs.Heads.{size_text, page_text, counts_text, schema_text, settings_text, queue_settings, whole_text, facts_text, shared_sentence, schema_sentence, subject, sentence, sentences};
+ghost use Rattle.apf_picture.specs.Labels.{shown_schema};
+
+use crate::names::{write_name, write_whole_label, write_whole_name};
+use crate::row::{Numbers, Row};
+use crate::words::{write_counted, write_numbers, write_patience, write_row_numbers, write_time};
+use apf_model::{Config, Response};
+use std::io;
+use std::io::Write;
+
+/// So many columns of a schema are shown in the title.
+const TITLE: usize = 28;
+
+/// Writes how many requests there are, and of how many flows.
+#[tactic(auto, unfolding(crate::specs::Heads::counts_text))]
+pub(crate) fn write_counts<W: Write>(out: &mut W, requests: u64, flows: u64) -> io::Result<()>
+    ensures { OnOk result (Appends (W.contents out.old) (W.contents out.new) (counts_text requests flows)) }
+{
+    write_counted(out, requests, "request")?;
+    out.write_all(b" of ")?;
+    write_counted(out, flows, "flow")
+}
+
+/// Writes the schema that all flows share, if they do.
+pub(crate) fn write_schema<W: Write>(out: &mut W, schema: &Option<Vec<char>>) -> io::Result<()>
+    ensures { OnOk result (Appends (W.contents out.old) (W.contents out.new) (schema_text (shown_schema schema.now))) }
+{
+    match schema {
+        Some(schema) => {
+            out.write_all(b" of ")?;
+            write_name(out, schema.as_slice(), TITLE)
+        }
+        None => Ok(()),
+    }
+}
+
+// Writes the settings of a level with queues, up to the patience.
+#[tactic(auto, unfolding(crate::specs::Heads::queue_settings))]
+fn write_queue_settings<W: Write>(out: &mut W, config: &Config) -> io::Result<()>
+    ensures { OnOk result (Appends (W.contents out.old) (W.contents out.new) (queue_settings config.now)) }
+{
+    let limit = config.limit;
+    let queues = config.queues;
+    let hand = config.hand_size;
+    let length = config.queue_length_limit;
+    write!(
+        out,
+        "limit {limit}, queues {queues}, hand size {hand}, queue length limit {length}, "
+    )
+}
+
+/// Writes the settings of the level, and the patience.
+pub(crate) fn write_settings<W: Write>(
+    out: &mut W,
+    config: &Config,
+    patience: u64,
+) -> io::Result<()>
+    ensures { OnOk result (Appends (W.contents out.old) (W.contents out.new) (settings_text config.now patience)) }
+{
+    match config.limit_response {
+        Response::Queue => {
+            write_queue_settings(out, config)?;
+            write_patience(out, patience)
+        }
+        Response::Reject => {
+            let limit = config.limit;
+            write!(
+                out,
+                "limit {limit}, no queues: what does not fit is rejected"
+            )
+        }
+    }
+}
+
+/// Writes the numbers of all requests, and how long the run was.
+#[tactic(auto, unfolding(crate::specs::Heads::whole_text))]
+pub(crate) fn write_whole<W: Write>(out: &mut W, numbers: &Numbers, end: u64) -> io::Result<()>
+    ensures { OnOk result (Appends (W.contents out.old) (W.contents out.new) (whole_text numbers.now end)) }
+{
+    write_numbers(out, numbers)?;
+    out.write_all(b", ")?;
+    write_time(out, end)?;
+    out.write_all(b" in all")
+}
+
+/// Writes the most seats that were in use, how many queues were used, and the most requests that waited in one.
+#[tactic(auto, unfolding(crate::specs::Heads::facts_text))]
+pub(crate) fn write_facts<W: Write>(
+    out: &mut W,
+    used: u64,
+    queues: usize,
+    longest: u64,
+) -> io::Result<()>
+    ensures { OnOk result (Appends (W.contents out.old) (W.contents out.new) (facts_text used queues longest)) }
+{
+    write!(
+        out,
+        ". Seats in use by flow: at most {used}. Queues used: {queues}, at most {longest} waiting in one."
+    )
+}
+
+// Writes the schema that all flows share as a sentence.
+#[tactic(auto, unfolding(crate::specs::Heads::shared_sentence))]
+fn write_shared<W: Write>(out: &mut W, schema: &[char]) -> io::Result<()>
+    ensures { OnOk result (Appends (W.contents out.old) (W.contents out.new) (shared_sentence schema.now)) }
+{
+    out.write_all(b" The schema of all flows: ")?;
+    write_whole_name(out, schema)?;
+    out.write_all(b".")
+}
+
+/// Writes the schema that all flows share, if they do, as a sentence.
+pub(crate) fn write_schema_sentence<W: Write>(
+    out: &mut W,
+    schema: &Option<Vec<char>>,
+) -> io::Result<()>
+    ensures { OnOk result (Appends (W.contents out.old) (W.contents out.new) (schema_sentence (shown_schema schema.now))) }
+{
+    match schema {
+        Some(schema) => write_shared(out, schema.as_slice()),
+        None => Ok(()),
+    }
+}
+
+// Writes what a row is called, as the beginning of a sentence.
+#[tactic(auto, unfolding(crate::specs::Heads::subject))]
+fn write_subject<W: Write>(out: &mut W, row: &Row) -> io::Result<()>
+    ensures { OnOk result (Appends (W.contents out.old) (W.contents out.new) (subject row.now)) }
+{
+    out.write_all(b" ")?;
+    write_whole_label(out, &row.label)?;
+    out.write_all(b", ")
+}
+
+// Writes the numbers of a row, as a sentence.
+#[tactic(auto, unfolding(crate::specs::Heads::sentence))]
+fn write_sentence<W: Write>(out: &mut W, row: &Row) -> io::Result<()>
+    ensures { OnOk result (Appends (W.contents out.old) (W.contents out.new) (sentence row.now)) }
+{
+    write_subject(out, row)?;
+    write_row_numbers(out, &row.numbers)?;
+    out.write_all(b".")
+}
+
+/// Writes the numbers of each row, as sentences.
+pub(crate) fn write_sentences<W: Write>(out: &mut W, rows: &[Row]) -> io::Result<()>
+    ensures { OnOk result (Appends (W.contents out.old) (W.contents out.new) (sentences rows.now)) }
+{
+    for row in rows {
+        write_sentence(out, row)?;
+    }
+    Ok(())
+}
+
+/// Writes the size of the picture.
+#[tactic(auto, unfolding(crate::specs::Heads::size_text))]
+pub(crate) fn write_size<W: Write>(out: &mut W, height: u64) -> io::Result<()>
+    ensures { OnOk result (Appends (W.contents out.old) (W.contents out.new) (size_text height)) }
+{
+    writeln!(
+        out,
+        "<svg xmlns=\"http://www.w3.org/2000/svg\" width=\"960\" height=\"{height}\" viewBox=\"0 0 960 {height}\" role=\"img\" aria-labelledby=\"title desc\">"
+    )
+}
+
+/// Writes what is behind all parts.
+#[tactic(auto, unfolding(crate::specs::Heads::page_text))]
+pub(crate) fn write_page<W: Write>(out: &mut W, height: u64) -> io::Result<()>
+    ensures { OnOk result (Appends (W.contents out.old) (W.contents out.new) (page_text height)) }
+{
+    writeln!(
+        out,
+        "<rect class=\"page\" width=\"960\" height=\"{height}\"/>"
+    )
+}

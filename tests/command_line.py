@@ -77,9 +77,9 @@ for words, says in [
 ]:
     status, out, err = run(program, words)
     tally.check(" ".join(words), (status, [it for it in says if it not in out.decode()], err), (0, [], b""))
-    # but for what an example prints, and for one line of the option --flow, which is to be shortened
+    # but for what an example prints
     wide = [line for line in out.decode().split("\n") if len(line) > 100 and not line.startswith("  flow 0")]
-    tally.check(" ".join(words) + " is narrow", [line[:80] for line in wide if not line.startswith("      --flow <NAME>  Distinguisher of the flow")], [])
+    tally.check(" ".join(words) + " is narrow", wide, [])
 
 # the examples that help shows print what it says
 for words, least in ((["hash", "--help"], 1), (["deal", "--help"], 2)):

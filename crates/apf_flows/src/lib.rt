@@ -23,6 +23,6 @@ mod sharing;
 
 pub use flows::{Flows, flows_of};
 pub use hands::{HandsFault, write_hands, write_hands_of};
-pub use json::write_text;
+pub use json::{write_escaped, write_text};
 pub use names::{write_hash, write_names, write_of_names};
 pub use requests::write_requests;

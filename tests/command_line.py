@@ -163,6 +163,12 @@ for words in [
     status, out, err = run(program, words)
     tally.check(" ".join(["apf", *words]), (status, out, len(err) > 0), (2, b"", True))
 
+# what a terminal would obey is escaped where a word is told
+for word, told in [("h\x1b[31m", b"'h\\u001b[31m'"), ("\x7f\u0085", b"'\\u007f\\u0085'"), ("\u202eh", b"'\\u202eh'"), ("\u2066", b"'\\u2066'")]:
+    for words in ([word], ["deal", word, "1", "1"], ["hash", "a", "b", word]):
+        status, out, err = run(program, words)
+        tally.check(f"{words!r} is told escaped", (status, out, told in err, word.encode() in err), (2, b"", True, False))
+
 # words that are not UTF-8, in any place: one line, and a command line's fault
 LINE = b"apf: the command line is not UTF-8\n"
 for words in ([b"hash", b"\xff", b"a"], [b"\xc3"], [b"replay", b"a", b"b", b"\xed\xa0\x80"], [b"hash", b"a", b"b\xff", b"c"]):

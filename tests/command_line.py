@@ -77,9 +77,9 @@ for words, says in [
 ]:
     status, out, err = run(program, words)
     tally.check(" ".join(words), (status, [it for it in says if it not in out.decode()], err), (0, [], b""))
-    # but for what an example prints, and for one line of the option --flow, which is to be shortened
+    # but for what an example prints
     wide = [line for line in out.decode().split("\n") if len(line) > 100 and not line.startswith("  flow 0")]
-    tally.check(" ".join(words) + " is narrow", [line[:80] for line in wide if not line.startswith("      --flow <NAME>  Distinguisher of the flow")], [])
+    tally.check(" ".join(words) + " is narrow", wide, [])
 
 # the examples that help shows print what it says
 for words, least in ((["hash", "--help"], 1), (["deal", "--help"], 2)):
@@ -162,6 +162,12 @@ for words in [
 ]:
     status, out, err = run(program, words)
     tally.check(" ".join(["apf", *words]), (status, out, len(err) > 0), (2, b"", True))
+
+# what a terminal would obey is escaped where a word is told
+for word, told in [("h\x1b[31m", b"'h\\u001b[31m'"), ("\x7f\u0085", b"'\\u007f\\u0085'"), ("\u202eh", b"'\\u202eh'"), ("\u2066", b"'\\u2066'")]:
+    for words in ([word], ["deal", word, "1", "1"], ["hash", "a", "b", word]):
+        status, out, err = run(program, words)
+        tally.check(f"{words!r} is told escaped", (status, out, told in err, word.encode() in err), (2, b"", True, False))
 
 # words that are not UTF-8, in any place: one line, and a command line's fault
 LINE = b"apf: the command line is not UTF-8\n"

@@ -55,7 +55,16 @@ ROWS = [
     (0, b'{"limit":1}\n// seats', "config.json:2:1: this is not JSON", "config fault 1: not JSON"),
     (0, b'{"limit" 1}', "config.json:1:10: this is not JSON", "config fault 1: not JSON"),
     (0, b"{'limit':1}", "config.json:1:2: this is not JSON", "config fault 1: not JSON"),
-    (0, b'\xef\xbb\xbf{"limit":1}', "config.json:1:1: this is not JSON", "config fault 1: not JSON"),
+    (
+        0,
+        b'\xef\xbb\xbf{"limit":1}',
+        "config.json:1:1: this is not JSON: the bytes begin with a mark of byte order (BOM): take it away",
+        "config fault 1: not JSON",
+    ),
+    (0, "{}".encode("utf-16"), "config.json:1:1: this is not JSON: the bytes begin as UTF-16 does: they must be UTF-8", "config fault 1: not JSON"),
+    (0, b"\x1f\x8b\x08\x00", "config.json:1:2: this is not JSON: the bytes begin as gzip does: unpack them first", "config fault 1: not JSON"),
+    (0, b'[{"limit":1},]', "config.json:1:14: this is not JSON: an array begins here: a config is one object", "config fault 1: not JSON"),
+    (0, b'[{"limit":1}', "config.json:1:12: this is not JSON: the text ends too early", "config fault 1: not JSON"),
     (0, b'{"\xff":1}', "config.json:1:3: this is not JSON: the bytes here are not UTF-8", "config fault 1: not JSON"),
     (0, b'{"\xe2\x82', "config.json:1:3: this is not JSON: the text ends too early", "config fault 1: not JSON"),
     (0, b"[1,\xe2\x82", "config.json:1:4: this is not JSON: the bytes here are not UTF-8", "config fault 1: not JSON"),
@@ -105,6 +114,13 @@ ROWS = [
     ),
     (1, b"[", "requests.json:1:1: this is not JSON: the text ends too early", "requests fault 1: not JSON"),
     (1, b'[{"hash":0}\n{"hash":0}]', "requests.json:2:1: this is not JSON", "requests fault 1: not JSON"),
+    (
+        1,
+        b'{"hash":0}\n{"hash":0}\n',
+        "requests.json:2:1: this is not JSON: an object begins here: requests are one array of them",
+        "requests fault 1: not JSON",
+    ),
+    (1, b"\x1f\x8b\x08\x00", "requests.json:1:2: this is not JSON: the bytes begin as gzip does: unpack them first", "requests fault 1: not JSON"),
     (1, b'[{"schema":"\\ud800","distinguisher":""}]', "requests.json:1:12: this is not JSON", "requests fault 1: not JSON"),
     (1, b"{}", "requests.json: requests are a JSON array, but this is an object", "requests fault 2: not an array"),
     (1, b"[" + 10_000 * b"0," + b"0]", "requests.json: there are 10001 requests: at most 10000 may be there", "requests fault 3: too many requests"),
@@ -285,7 +301,12 @@ for place, content in ((0, b'{"limit":0}'), (1, b"[7]"), (2, b"shut\n"), (0, b"{
     got = explain(contents, names)
     tally.check(f"standard input in place {place}", got, answer(names, contents))
     tally.check(f"standard input is named in place {place}", got[1].startswith(b"standard input"), True)
-for name in ("./config.json", "a: b", "\u00e4.json", "../" + os.path.basename(files.folder.name) + "/config.json"):
+# what does not print in a name, and what a terminal would obey, is escaped
+names = ["\x1b[31mred\u202e", *NAMES[1:]]
+want = "\\u001b[31mred\\u202e: limit is 0: it must be a whole number from 1 to 10000\n"
+tally.check("a name that turns a terminal red", explain(with_file(0, b'{"limit":0}'), names)[1], want.encode())
+ODD = ["a\tb", "\x1b[31mred", "\x7f\u0085", "\u202eback\u2069", 'say "\\"']
+for name in (*ODD, "./config.json", "a: b", "\u00e4.json", "../" + os.path.basename(files.folder.name) + "/config.json"):
     contents = with_file(0, b'{"limit":0}')
     tally.check(f"a file named {name}", explain(contents, [name, *NAMES[1:]]), answer([name, *NAMES[1:]], contents))
 

@@ -90,15 +90,41 @@ with open(sys.argv[1], "w") as file:
 sys.exit(os.waitstatus_to_exitcode(status))
 """
 peak = files("peak", b"")
-began = time.monotonic()
-done = subprocess.run([sys.executable, "-c", MEASURE, peak, program, "replay", *instead(1, path)], stdin=subprocess.DEVNULL, capture_output=True, timeout=120)
-took = time.monotonic() - began
-with open(peak, encoding="ascii") as file:
-    mebibytes = int(file.read())
-tally.check("22 MB are refused", (done.returncode, done.stdout, done.stderr), too_large(1))
+
+
+def measured(words):
+    """The answer of a run, how long it took, and the most memory that it had, in MiB."""
+    began = time.monotonic()
+    done = subprocess.run([sys.executable, "-c", MEASURE, peak, program, *words], stdin=subprocess.DEVNULL, capture_output=True, timeout=120)
+    took = time.monotonic() - began
+    with open(peak, encoding="ascii") as file:
+        return (done.returncode, done.stdout, done.stderr), took, int(file.read())
+
+
+got, took, mebibytes = measured(["replay", *instead(1, path)])
+tally.check("22 MB are refused", got, too_large(1))
 tally.check(f"22 MB are refused in well under a second: {took:.2f} s", took < 1, True)
 tally.check(f"22 MB are refused with little memory: {mebibytes} MiB", mebibytes < 128, True)
 print(f"a requests file of 22 MB is refused in {took:.2f} s, with {mebibytes} MiB")
+
+# audit logs of 64 MiB: of one line, which is too long, and of seven lines that are not, each with millions of empty arrays
+EVENT = (
+    b'{"stage":"ResponseComplete","verb":"get","user":{"username":"a"},"requestReceivedTimestamp":"2026-11-25T12:00:00Z",'
+    b'"stageTimestamp":"2026-11-25T12:00:01Z","requestObject":[%s0]}'
+)
+
+
+def event_of(size):
+    return EVENT % (b"[]," * ((size - len(EVENT) + 2) // 3))
+
+
+one, seven = event_of((64 << 20) - 1), event_of(8 << 20)
+said = f"apf: audit fault 1 at line 1: the line has {len(one)} bytes: at most 8388608 may be there\n".encode()
+for name, content, status, err in (("one line", one + b"\n", 1, said), ("seven lines", 7 * (seven + b"\n"), 0, b"")):
+    tally.check(f"a log of {name} is not too large", len(content) <= 64 << 20, True)
+    got, _, mebibytes = measured(["trace", files("log", content), "s"])
+    tally.check(f"a log of {name}", (got[0], got[2]), (status, err))
+    tally.check(f"a log of {name} takes at most 300 MB: {mebibytes} MiB", mebibytes < 286, True)
 
 
 def piped(words, content, by=program, **how):

@@ -312,7 +312,9 @@ def check_reading(command):
     absent = f"cannot read trace: {missing}: there is no such file"
     folder = f"cannot read trace: {files.folder.name}: it is a folder"
     if command == "requests":
-        for path, line in ((missing, absent), (files.folder.name, folder)):
+        # what does not print in a name, and what a terminal would obey, is escaped
+        odd = (os.path.join(files.folder.name, "\x1b[2J\u202e\x7f"), f"cannot read trace: {files.folder.name}/\\u001b[2J\\u202e\\u007f: there is no such file")
+        for path, line in ((missing, absent), (files.folder.name, folder), odd):
             tally.check(f"{command} {path}", run(program, [command, path]), (1, b"", f"apf: {line}\n".encode()))
         return
     narrow, zero, cut = files("narrow", b'{"limit":1,"queues":3}'), files("zero", b'{"limit":0}'), files("cut", LINE[:-1])

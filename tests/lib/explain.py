@@ -8,6 +8,7 @@ import unicodedata
 from decimal import Decimal
 
 from judge import CONFIG, MOST, REQUEST, RESPONSE, Json, NotJson, Number, Refused, command_of, config_of, dealer_fault, judge_size, number_of, requests_of, script_of, whole_in
+from jsontext import json_text
 
 STANDARD_INPUT = "standard input"
 FORMS = "a line is arrive N, finish N, cancel N, close or limit N, with one blank before N, which has one to five digits and no zero in front"
@@ -257,27 +258,33 @@ def stop_of(content):
     return *place(content, len(text[:at].encode())), why or (EARLY if is_front(text) else "")
 
 
-def not_json(name, content):
+# how bytes that are no JSON may begin, and what is said of that, whatever they are
+MARKS = [
+    (b"\xef\xbb\xbf", ": the bytes begin with a mark of byte order (BOM): take it away"),
+    (b"\xff\xfe", ": the bytes begin as UTF-16 does: they must be UTF-8"),
+    (b"\xfe\xff", ": the bytes begin as UTF-16 does: they must be UTF-8"),
+    (b"\x1f\x8b", ": the bytes begin as gzip does: unpack them first"),
+]
+# a config that begins as an array does, requests that begin as an object does, and a line that begins as an array does
+NO_CONFIG = (b"[", ": an array begins here: a config is one object")
+NO_REQUESTS = (b"{", ": an object begins here: requests are one array of them")
+NO_LINE = (b"[", ": an array begins here: write one object on each line")
+
+
+def mark_of(content, marks):
+    return next((said for begin, said in marks if content.startswith(begin)), "")
+
+
+def not_json(name, content, bracket):
     """The line of bytes that are no JSON."""
     line, column, why = stop_of(content)
-    return f"{name}:{line}:{column}: this is not JSON{why}"
-
-
-# how a line that is no JSON may begin, and what is said of that
-BEGINNINGS = [
-    (b"\xef\xbb\xbf", "the bytes begin with a mark of byte order (BOM): take it away"),
-    (b"\xff\xfe", "the bytes begin as UTF-16 does: they must be UTF-8"),
-    (b"\xfe\xff", "the bytes begin as UTF-16 does: they must be UTF-8"),
-    (b"\x1f\x8b", "the bytes begin as gzip does: unpack them first"),
-    (b"[", "an array begins here: write one object on each line"),
-]
+    return f"{name}:{line}:{column}: this is not JSON{mark_of(content, MARKS) or why or mark_of(content, [bracket])}"
 
 
 def line_not_json(line):
     """What is said of a line that is no JSON."""
     _, column, why = stop_of(line)
-    hints = [f": {said}" for bytes, said in BEGINNINGS if line.startswith(bytes)]
-    return f"this is not JSON at column {column}{hints[0] if hints else why}"
+    return f"this is not JSON at column {column}{mark_of(line, [*MARKS, NO_LINE]) or why}"
 
 
 # ---- the files
@@ -300,7 +307,7 @@ def config_line(name, content):
     try:
         value = Json(content).whole()
     except NotJson:
-        return not_json(name, content)
+        return not_json(name, content, NO_CONFIG)
     if not isinstance(value, dict):
         return f"{name}: a config is a JSON object, but this is {found(value)}"
     stranger = unknown(value, [*CONFIG, RESPONSE])
@@ -356,7 +363,7 @@ def requests_line(name, content):
     try:
         value = Json(content).whole()
     except NotJson:
-        return not_json(name, content)
+        return not_json(name, content, NO_REQUESTS)
     if not isinstance(value, list):
         return f"{name}: requests are a JSON array, but this is {found(value)}"
     if len(value) > 10_000:
@@ -430,7 +437,7 @@ def cant_read(name, cause):
 
 def answer(names, contents):
     """The status, output and errors of `explain` on files of these names and bytes."""
-    names = [STANDARD_INPUT if it == "-" else it for it in names]
+    names = [STANDARD_INPUT if it == "-" else json_text(it)[1:-1] for it in names]
     config, requests, script = contents
 
     def refused(line, fault):

@@ -50,6 +50,7 @@ fn explain_input<O: Write>(name: &str, fault: &Fault, out: &mut O) -> Result<(),
 
 // The bytes of a file; where it is not read, why.
 fn bytes_of<F: Files, O: Write>(
+    alloc: Global,
     files: &mut F,
     input: Input,
     name: &str,
@@ -60,7 +61,8 @@ fn bytes_of<F: Files, O: Write>(
     match read_input(files, input, name) {
         Ok(bytes) => Ok(bytes),
         Err(fault) => {
-            let explained = explain_input(shown(name), &fault, out);
+            let name = shown(alloc, name)?;
+            let explained = explain_input(name.as_str(), &fault, out);
             Err(after(fault, explained, out))
         }
     }
@@ -72,11 +74,12 @@ fn config_of<F: Files, O: Write>(
     name: &str,
     out: &mut O,
 ) -> Result<Config, Fault> {
-    let bytes = bytes_of(files, Input::Config, name, out)?;
+    let bytes = bytes_of(alloc, files, Input::Config, name, out)?;
     match read_config(alloc, bytes.as_slice()) {
         Ok(config) => Ok(config),
         Err(fault) => {
-            let explained = explain_config(alloc, shown(name), bytes.as_slice(), fault, out);
+            let name = shown(alloc, name)?;
+            let explained = explain_config(alloc, name.as_str(), bytes.as_slice(), fault, out);
             Err(after(fault.into(), explained, out))
         }
     }
@@ -90,11 +93,12 @@ fn requests_of<F: Files, O: Write>(
 ) -> Result<Vec<Request>, Fault>
     ensures few { IfOk result (λ requests. length requests.items ≤ max_requests) }
 {
-    let bytes = bytes_of(files, Input::Requests, name, out)?;
+    let bytes = bytes_of(alloc, files, Input::Requests, name, out)?;
     match read_requests(alloc, bytes.as_slice()) {
         Ok(requests) => Ok(requests),
         Err(fault) => {
-            let explained = explain_requests(alloc, shown(name), bytes.as_slice(), fault, out);
+            let name = shown(alloc, name)?;
+            let explained = explain_requests(alloc, name.as_str(), bytes.as_slice(), fault, out);
             Err(after(fault.into(), explained, out))
         }
     }
@@ -107,11 +111,12 @@ fn judge_script<F: Files, O: Write>(
     requests: u32,
     out: &mut O,
 ) -> Result<(), Fault> {
-    let bytes = bytes_of(files, Input::Script, name, out)?;
+    let bytes = bytes_of(alloc, files, Input::Script, name, out)?;
     match read_script(alloc, bytes.as_slice(), requests) {
         Ok(_commands) => Ok(()),
         Err(fault) => {
-            let explained = explain_script(shown(name), bytes.as_slice(), requests, fault, out);
+            let name = shown(alloc, name)?;
+            let explained = explain_script(name.as_str(), bytes.as_slice(), requests, fault, out);
             Err(after(fault.into(), explained, out))
         }
     }
@@ -137,7 +142,8 @@ pub(crate) fn print_explanation<F: Files, O: Write, R: Wait>(
     match replay(rt, alloc, &config, requests.as_slice(), &[]) {
         Ok(_transcript) => Ok(()),
         Err(ReplayFault::Level(LevelFault::Dealer(fault))) => {
-            let explained = explain_dealer(shown(names.0), &config, fault, out);
+            let name = shown(alloc, names.0)?;
+            let explained = explain_dealer(name.as_str(), &config, fault, out);
             let fault = ReplayFault::Level(LevelFault::Dealer(fault));
             Err(after(fault.into(), explained, out))
         }

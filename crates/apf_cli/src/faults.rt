@@ -1,5 +1,7 @@
 //! Why the program ends with another status than 0, and the line that says so.
 
+ghost use Rattle.std.specs.Prelude.{◌≤◌};
+
 use crate::files::{Cause, Input};
 use apf_flow::DealerFault;
 use apf_flows::HandsFault;
@@ -69,7 +71,9 @@ pub enum Fault {
 impl Fault {
     /// The program's status: 1 a file's fault, or output that can't be written; 2 a command line's
     /// fault; 3 out of memory, or a worker that could not be started.
-    pub fn status(&self) -> u8 {
+    pub fn status(&self) -> u8
+        ensures { 1 ≤ result }
+    {
         match self {
             Fault::Dealer(_, Sizes::OfCommandLine)
             | Fault::TwoInputs

@@ -1,9 +1,12 @@
 //! The files of a command line: where their bytes come from, and how many they may have.
 
-ghost use Rattle.std.specs.Prelude.{◌≡◌, ◌≤◌, IfOk, vec_len};
+ghost use Rattle.std.specs.Prelude.{◌≡◌, ◌≤◌, IfOk, vec_len, string_bytes, codes};
+ghost use Rattle.apf_cli.specs.Names.{shown_name};
 ghost use Rattle.apf_cli.specs.Sizes.{most_bytes};
 
 use crate::faults::Fault;
+use apf_flows::write_escaped;
+use std::alloc::Global;
 use std::fmt;
 
 /// The name that stands for standard input. A file of this name is `./-`.
@@ -80,13 +83,19 @@ pub enum FileFault {
 
 /// Where the program's files come from.
 pub trait Files {
+    ghost use Rattle.std.specs.Prelude.{ℕ, List};
+
+    // Which bytes the file of a name may hold, where `-` is standard input. Of a machine's files nothing is known.
+    ghost holds: { List ℕ → List ℕ → Type 0 } = { λ _ _. Unit {0} };
+
     /// The bytes of the file of this name, which are at most `most`.
     ///
     /// # Errors
     ///
     /// `TooLarge` if the file has more than `most` bytes. No more than `most` and one byte are read.
     fn read(&mut self, name: &str, most: u32) -> Result<Vec<u8>, FileFault>
-        ensures within { IfOk result (λ bytes. vec_len bytes ≤ most) };
+        ensures within { IfOk result (λ bytes. vec_len bytes ≤ most) }
+        ensures held { IfOk result (λ bytes. holds name.now bytes.items) };
 
     /// The bytes of standard input up to its end, which are at most `most`.
     ///
@@ -94,15 +103,29 @@ pub trait Files {
     ///
     /// As for `read`.
     fn read_stdin(&mut self, most: u32) -> Result<Vec<u8>, FileFault>
-        ensures within { IfOk result (λ bytes. vec_len bytes ≤ most) };
+        ensures within { IfOk result (λ bytes. vec_len bytes ≤ most) }
+        ensures held { IfOk result (λ bytes. holds (codes "-") bytes.items) };
 }
 
-/// The name of a file as a person is told it.
-pub(crate) fn shown(name: &str) -> &str {
+/// The name of a file as a person is told it: escaped as in a JSON text, and where a terminal would obey a character.
+///
+/// # Errors
+///
+/// `NoMemory` if memory was refused.
+pub(crate) fn shown(alloc: Global, name: &str) -> Result<String, Fault>
+    ensures { IfOk result (λ shown. string_bytes shown ≡ shown_name name.now) }
+{
     if name == STANDARD_INPUT {
-        "standard input"
-    } else {
-        name
+        return Ok(String::from_str(alloc, "standard input")?);
+    }
+    let mut bytes = Vec::new(alloc);
+    if write_escaped(&mut bytes, name).is_err() {
+        return Err(Fault::NoMemory);
+    }
+    match String::from_utf8(bytes) {
+        Ok(shown) => Ok(shown),
+        // never, since a text that is escaped is one
+        Err(_) => Err(Fault::NoMemory),
     }
 }
 
@@ -122,6 +145,7 @@ pub(crate) fn read_input<F: Files>(
     name: &str,
 ) -> Result<Vec<u8>, Fault>
     ensures within { IfOk result (λ bytes. vec_len bytes ≤ most_bytes input) }
+    ensures held { IfOk result (λ bytes. F.holds name.now bytes.items) }
 {
     let most = input.most();
     let read = if name == STANDARD_INPUT {

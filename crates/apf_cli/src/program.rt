@@ -1,6 +1,11 @@
 //! The whole program over files and writers that the caller passes.
 
-ghost use Rattle.std.specs.Prelude.{◌<◌, ◌≤◌, length, IfOk};
+ghost use Rattle.std.specs.Prelude.{◌≡◌, ◌<◌, ◌≤◌, [], length, Err, IfOk, OnOk};
+ghost use Rattle.clap.specs.Words.{fault_of};
+ghost use Rattle.clap.specs.Walk.{texts};
+ghost use Rattle.clap.specs.Values.{kind_of};
+ghost use Rattle.apf_commands.specs.Commands.{apf_app};
+ghost use Rattle.apf_cli.specs.Runs.{AreRead, IsRunOf, PrintsRun, PrintsFor, Performs};
 ghost use Rattle.apf_run.specs.Limits.{max_requests};
 ghost use Rattle.apf_commands.specs.Meaning.{HasWorkers};
 
@@ -13,12 +18,13 @@ use crate::pictures::print_picture;
 use crate::traces::{print_hands, print_requests, print_simulation, print_timeline};
 use apf_commands::{Action, read_words};
 use apf_flow::{Dealer, flow_hash};
+use apf_flows::write_escaped;
 use apf_run::{
     Config, Report, Request, Running, Transcript, Work, read_config, read_requests, read_script,
     replay, run, write_book,
 };
 use clap::error::ErrorKind;
-use std::alloc::Global;
+use std::alloc::{AllocError, Global};
 use std::hint;
 use std::io::Write;
 use std::sync::Wait;
@@ -53,12 +59,12 @@ fn read_level<F: Files>(
     requests: &str,
 ) -> Result<(Config, Vec<Request>), Fault>
     ensures few { IfOk result (λ o. length o.1.items ≤ max_requests) }
+    ensures read { IfOk result (λ o. AreRead F.holds config.now requests.now o.0 o.1.items) }
 {
-    let config = read_config(alloc, read_input(files, Input::Config, config)?.as_slice())?;
-    let requests = read_requests(
-        alloc,
-        read_input(files, Input::Requests, requests)?.as_slice(),
-    )?;
+    let bytes = read_input(files, Input::Config, config)?;
+    let config = read_config(alloc, bytes.as_slice())?;
+    let bytes = read_input(files, Input::Requests, requests)?;
+    let requests = read_requests(alloc, bytes.as_slice())?;
     Ok((config, requests))
 }
 
@@ -83,10 +89,27 @@ fn ran<F: Files, R: Wait + Threads + Sync>(
     workers: u32,
 ) -> Result<Report, Fault>
     requires { 0 < workers }
+    ensures { IfOk result (IsRunOf F.holds config.now requests.now workers) }
 {
     judge_names(&[config, requests])?;
     let (config, requests) = read_level(alloc, files, config, requests)?;
     Ok(run(rt, alloc, &config, requests.as_slice(), workers, &Turns)?)
+}
+
+// The same, and prints the book of the report.
+fn print_run<F: Files, O: Write, R: Wait + Threads + Sync>(
+    rt: &R,
+    alloc: Global,
+    files: &mut F,
+    names: (&str, &str),
+    workers: u32,
+    out: &mut O,
+) -> Result<(), Fault>
+    requires { 0 < workers }
+    ensures { OnOk result (PrintsRun F.holds names.entry.0.now names.entry.1.now workers (O.contents out.old) (O.contents out.new)) }
+{
+    let report = ran(rt, alloc, files, names.0, names.1, workers)?;
+    Ok(write_book(&report, out)?)
 }
 
 // Reads the three files, each judged before the next is read, and runs the script.
@@ -103,6 +126,90 @@ fn replayed<F: Files, R: Wait>(
     Ok(replay(rt, alloc, &config, requests.as_slice(), commands.as_slice())?)
 }
 
+// Does what a command asks for, and prints what it says.
+fn print_action<F: Files, O: Write, E: Write, R: Wait + Threads + Sync>(
+    rt: &R,
+    alloc: Global,
+    action: Action<'_>,
+    files: &mut F,
+    out: &mut O,
+    err: &mut E,
+) -> Result<(), Fault>
+    requires { HasWorkers action }
+    ensures { OnOk result (PrintsFor F.holds action.entry (O.contents out.old) (O.contents out.new)) }
+{
+    match action {
+        Action::Hash {
+            schema,
+            distinguisher,
+        } => print_hash(schema, distinguisher, out),
+        Action::Deal { deck, hand, hash } => print_deal(deck, hand, hash, out),
+        Action::Replay {
+            config,
+            requests,
+            script,
+        } => Ok(replayed(rt, alloc, files, (config, requests, script))?.write(out)?),
+        Action::Run {
+            config,
+            requests,
+            workers,
+        } => print_run(rt, alloc, files, (config, requests), workers, out),
+        Action::Services {
+            config,
+            requests,
+            script,
+        } => Ok(replayed(rt, alloc, files, (config, requests, script))?.write_services(out)?),
+        Action::Waits {
+            config,
+            requests,
+            script,
+        } => Ok(replayed(rt, alloc, files, (config, requests, script))?.write_waits(out)?),
+        Action::Explain {
+            config,
+            requests,
+            script,
+        } => print_explanation(rt, alloc, files, (config, requests, script), out),
+        Action::Simulate {
+            config,
+            trace,
+            patience,
+        } => print_simulation(rt, alloc, files, (config, trace), patience, out),
+        Action::Timeline {
+            config,
+            trace,
+            patience,
+        } => print_timeline(rt, alloc, files, (config, trace), patience, out),
+        Action::Compare {
+            config,
+            other,
+            trace,
+            patience,
+        } => print_comparison(rt, alloc, files, (config, other, trace), patience, out),
+        Action::Fates {
+            config,
+            trace,
+            patience,
+        } => print_fates(rt, alloc, files, (config, trace), patience, out),
+        Action::Requests { trace } => print_requests(alloc, files, trace, out),
+        Action::Picture {
+            config,
+            trace,
+            patience,
+        } => print_picture(rt, alloc, files, (config, trace), patience, out),
+        Action::Hands {
+            config,
+            trace,
+            flow,
+        } => print_hands(alloc, files, (config, trace), flow, out),
+        Action::Trace {
+            log,
+            schema,
+            chosen,
+        } => print_trace(alloc, files, (log, schema), &chosen, out, err),
+    }
+}
+
+// The same, with all of it written.
 fn perform<F: Files, O: Write, E: Write, R: Wait + Threads + Sync>(
     rt: &R,
     alloc: Global,
@@ -112,95 +219,70 @@ fn perform<F: Files, O: Write, E: Write, R: Wait + Threads + Sync>(
     err: &mut E,
 ) -> Result<(), Fault>
     requires { HasWorkers action }
+    ensures { OnOk result (PrintsFor F.holds action.entry (O.contents out.old) (O.contents out.new)) }
 {
-    match action {
-        Action::Hash {
-            schema,
-            distinguisher,
-        } => print_hash(schema, distinguisher, out)?,
-        Action::Deal { deck, hand, hash } => print_deal(deck, hand, hash, out)?,
-        Action::Replay {
-            config,
-            requests,
-            script,
-        } => replayed(rt, alloc, files, (config, requests, script))?.write(out)?,
-        Action::Run {
-            config,
-            requests,
-            workers,
-        } => write_book(&ran(rt, alloc, files, config, requests, workers)?, out)?,
-        Action::Services {
-            config,
-            requests,
-            script,
-        } => replayed(rt, alloc, files, (config, requests, script))?.write_services(out)?,
-        Action::Waits {
-            config,
-            requests,
-            script,
-        } => replayed(rt, alloc, files, (config, requests, script))?.write_waits(out)?,
-        Action::Explain {
-            config,
-            requests,
-            script,
-        } => print_explanation(rt, alloc, files, (config, requests, script), out)?,
-        Action::Simulate {
-            config,
-            trace,
-            patience,
-        } => print_simulation(rt, alloc, files, (config, trace), patience, out)?,
-        Action::Timeline {
-            config,
-            trace,
-            patience,
-        } => print_timeline(rt, alloc, files, (config, trace), patience, out)?,
-        Action::Compare {
-            config,
-            other,
-            trace,
-            patience,
-        } => print_comparison(rt, alloc, files, (config, other, trace), patience, out)?,
-        Action::Fates {
-            config,
-            trace,
-            patience,
-        } => print_fates(rt, alloc, files, (config, trace), patience, out)?,
-        Action::Requests { trace } => print_requests(alloc, files, trace, out)?,
-        Action::Picture {
-            config,
-            trace,
-            patience,
-        } => print_picture(rt, alloc, files, (config, trace), patience, out)?,
-        Action::Hands {
-            config,
-            trace,
-            flow,
-        } => print_hands(alloc, files, (config, trace), flow, out)?,
-        Action::Trace {
-            log,
-            schema,
-            chosen,
-        } => print_trace(alloc, files, (log, schema), &chosen, out, err)?,
+    print_action(rt, alloc, action, files, out, err)?;
+    match out.flush() {
+        Ok(()) => Ok(()),
+        Err(_) => Err(Fault::CannotWrite),
     }
-    out.flush().map_err(|_| Fault::CannotWrite)
+}
+
+// Prints the lines of a refusal, which name words of the command line: escaped as file names are. A write to `err` that
+// fails changes nothing.
+fn print_escaped<E: Write>(
+    alloc: Global,
+    error: &clap::Error,
+    err: &mut E,
+) -> Result<(), AllocError> {
+    let text = format!(in alloc; "{error}")?;
+    for line in text.lines() {
+        let _ = write_escaped(err, line);
+        let _ = err.write_all(b"\n");
+    }
+    Ok(())
 }
 
 // Prints what `clap` says: help that was asked for on standard output, and a refusal on standard error.
 fn print_refusal<O: Write, E: Write>(
+    alloc: Global,
     error: &clap::Error,
     out: &mut O,
     err: &mut E,
-) -> Result<u8, Fault> {
+) -> Result<u8, Fault>
+    ensures { kind_of error.now ≡ ErrorKind.OutOfMemory → result ≡ Err Fault.NoMemory }
+{
     if error.kind() == ErrorKind::OutOfMemory {
         return Err(Fault::NoMemory);
     }
     if error.use_stderr() {
-        let _ = write!(err, "{error}");
+        print_escaped(alloc, error, err)?;
         return Ok(2);
     }
     match write!(out, "{error}").and_then(|()| out.flush()) {
         Ok(()) => Ok(0),
         Err(_) => Err(Fault::CannotWrite),
+    }
+}
+
+// Does what the words ask for, or prints what `clap` says of them.
+#[tactic(auto, using(crate::proofs::Workers::has_workers))]
+fn attempt<F: Files, O: Write, E: Write, R: Wait + Threads + Sync>(
+    rt: &R,
+    alloc: Global,
+    words: &[&str],
+    files: &mut F,
+    out: &mut O,
+    err: &mut E,
+) -> Result<u8, Fault>
+    ensures { fault_of apf_app (texts words.entry.now) ≡ [] → OnOk result (Performs F.holds (texts words.entry.now) (O.contents out.old) (O.contents out.new)) }
+{
+    match read_words(alloc, words) {
+        Ok(action) => {
+            perform(rt, alloc, action, files, out, err)?;
+            Ok(0)
+        }
+        Err(error) => print_refusal(alloc, &error, out, err),
     }
 }
 
@@ -210,7 +292,9 @@ fn print_refusal<O: Write, E: Write>(
 /// faults of `deal` and standard input named twice among them; 3 out of memory or a worker that could not start. Before the
 /// status is 1, 2 or 3, one fault is printed on `err`, and a write to it that fails changes no
 /// status. A fault prints nothing on `out`, except that a failed write may have written a beginning.
-#[tactic(auto, using(crate::proofs::Workers::has_workers))]
+///
+/// Where `clap` has nothing to say of the words, status 0 means that their command was performed. What is stated of that
+/// is what `run` prints: the book of a run of the files that it names.
 pub fn act<F: Files, O: Write, E: Write, R: Wait + Threads + Sync>(
     rt: &R,
     alloc: Global,
@@ -219,11 +303,7 @@ pub fn act<F: Files, O: Write, E: Write, R: Wait + Threads + Sync>(
     out: &mut O,
     err: &mut E,
 ) -> u8 {
-    let ended = match read_words(alloc, words) {
-        Ok(action) => perform(rt, alloc, action, files, out, err).map(|()| 0),
-        Err(error) => print_refusal(&error, out, err),
-    };
-    match ended {
+    match attempt(rt, alloc, words, files, out, err) {
         Ok(status) => status,
         Err(fault) => {
             let _ = fault.write(err);

@@ -36,7 +36,10 @@ pub(crate) fn named(alloc: Global, name: &str, fault: Fault) -> Fault {
     let Fault::CannotRead(input, cause) = fault else {
         return fault;
     };
-    let name = shown(name);
+    let name = match shown(alloc, name) {
+        Ok(name) => name,
+        Err(fault) => return fault,
+    };
     match format!(in alloc; "apf: cannot read {input}: {name}: {cause}\n") {
         Ok(line) => Fault::Told(line.into_bytes()),
         Err(_) => Fault::NoMemory,

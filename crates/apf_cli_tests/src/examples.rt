@@ -35,9 +35,7 @@ fn bytes_of(alloc: Global, text: &str, most: u32) -> Result<Vec<u8>, FileFault>
 }
 
 impl Files for Memory<'_> {
-    fn read(&mut self, name: &str, most: u32) -> Result<Vec<u8>, FileFault>
-        ensures within { IfOk result (λ bytes. vec_len bytes ≤ most) }
-    {
+    fn read(&mut self, name: &str, most: u32) -> Result<Vec<u8>, FileFault> {
         let text = match name {
             "config" => self.config,
             "requests" | "trace" => self.requests,
@@ -48,9 +46,7 @@ impl Files for Memory<'_> {
     }
 
     // Standard input has the script.
-    fn read_stdin(&mut self, most: u32) -> Result<Vec<u8>, FileFault>
-        ensures within { IfOk result (λ bytes. vec_len bytes ≤ most) }
-    {
+    fn read_stdin(&mut self, most: u32) -> Result<Vec<u8>, FileFault> {
         bytes_of(self.alloc, self.script, most)
     }
 }

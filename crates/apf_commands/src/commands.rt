@@ -293,7 +293,7 @@ fn hands_command<'a>(alloc: Global) -> Result<Command<'a>, AllocError>
         alloc,
         "flow",
         "NAME",
-        "Distinguisher of the flow that is printed alone, with each flow that shares a queue",
+        "Distinguisher of the flow that is printed, with each flow that shares a queue",
     ))
 }
 

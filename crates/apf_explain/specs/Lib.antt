@@ -10,3 +10,4 @@ pub mod TraceLines
 pub mod TraceShown
 pub mod AuditLines
 pub mod AuditShown
+pub mod Reasons

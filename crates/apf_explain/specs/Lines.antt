@@ -27,6 +27,7 @@ use Rattle.apf_explain.specs.Found.{quoted_text, found_text}
 use Rattle.apf_explain.specs.Keys.{unknown_of, keys_text}
 use Rattle.apf_explain.specs.Wanted.{wanted_text, wanted_at, request_key_name, request_wanted}
 use Rattle.apf_explain.specs.FlowFaults.{flow_fault_of}
+use Rattle.apf_explain.specs.Reasons.{IsSaid, mark_text}
 
 -- what a line begins with, where the file has this name
 abbrev pub place_text : List ℕ → Part → List ℕ
@@ -151,18 +152,18 @@ stop_text name line column why =
     name ++ (codes ":" ++ (decimal line ++ (codes ":" ++ (decimal column ++ (codes ": this is not JSON" ++ (why ++ codes "\n"))))))
 
 -- bytes that are no JSON: the place at which the reader stopped, and what is known of why
-abbrev pub IsStopLine : List ℕ → Option (List ℕ) → Option (List ℕ) → Type 0
-IsStopLine name before after =
-    (line : ℕ) × ((column : ℕ) × ((why : List ℕ) × Appends before after (stop_text name line column why)))
+abbrev pub IsStopLine : (name bytes : List ℕ) → Option (List ℕ) → Option (List ℕ) → Type 0
+IsStopLine name bytes before after =
+    (line : ℕ) × ((column : ℕ) × ((why : List ℕ) × IsSaid (mark_text bytes) why × Appends before after (stop_text name line column why)))
 
 -- a file that is no JSON; of one that is, no place is named
-abbrev pub SaysNotJson : List ℕ → Option Data → Option (List ℕ) → Option (List ℕ) → Type 0
-SaysNotJson name None before after = IsStopLine name before after
-SaysNotJson name (Some d) before after = Appends before after (name ++ codes ": this is not JSON\n")
+abbrev pub SaysNotJson : (name bytes : List ℕ) → Option Data → Option (List ℕ) → Option (List ℕ) → Type 0
+SaysNotJson name bytes None before after = IsStopLine name bytes before after
+SaysNotJson name bytes (Some d) before after = Appends before after (name ++ codes ": this is not JSON\n")
 
 -- the line of bytes that are no JSON was written
 abbrev pub IsNotJsonLine : (name bytes : List ℕ) → Option (List ℕ) → Option (List ℕ) → Type 0
-IsNotJsonLine name bytes before after = (o : Option Data) × IsReadOf bytes o × SaysNotJson name o before after
+IsNotJsonLine name bytes before after = (o : Option Data) × IsReadOf bytes o × SaysNotJson name bytes o before after
 
 -- the line of what the bytes are read as was written, where its text is stated
 abbrev pub IsReadLine : (Option Data → Option (List ℕ)) → List ℕ → Option (List ℕ) → Option (List ℕ) → Type 0

@@ -15,6 +15,7 @@ use Rattle.apf_explain.specs.declared.wanted.Wanted.{Wanted}
 use Rattle.apf_explain.specs.declared.wanted.Wanted.TheVariants.{Whole, Micros}
 use Rattle.apf_explain.specs.Keys.{unknown_of}
 use Rattle.apf_explain.specs.Wanted.{wanted_text}
+use Rattle.apf_explain.specs.Reasons.{IsSaidOfLine}
 use Rattle.apf_explain.specs.Lines.{place_text, unwanted_text, misplaced_text, unknown_text, bad_flow_text}
 
 -- the line that has so many before it, if there is one
@@ -69,14 +70,15 @@ abbrev pub column_text : (place : List ℕ) (column : ℕ) (why : List ℕ) → 
 column_text place column why =
     place ++ (codes "this is not JSON at column " ++ (decimal column ++ (why ++ codes "\n")))
 
--- bytes that are no JSON: the column at which the reader stopped, and what is known of why
-abbrev pub IsColumnLine : List ℕ → Option Data → Option (List ℕ) → Option (List ℕ) → Type 0
-IsColumnLine place None before after = (column : ℕ) × ((why : List ℕ) × Appends before after (column_text place column why))
-IsColumnLine place (Some d) before after = Appends before after (place ++ codes "this is not JSON\n")
+-- a line that is no JSON, where this is its value: the column at which the reader stopped, and what is known of why
+abbrev pub IsColumnLine : List ℕ → Option (List ℕ) → Option Data → Option (List ℕ) → Option (List ℕ) → Type 0
+IsColumnLine place line None before after =
+    (column : ℕ) × ((why : List ℕ) × IsSaidOfLine line why × Appends before after (column_text place column why))
+IsColumnLine place line (Some d) before after = Appends before after (place ++ codes "this is not JSON\n")
 
 -- the fault of this line was written, behind its place
 abbrev pub IsTraceLineAt : List ℕ → Option (List ℕ) → TraceFault → Option (List ℕ) → Option (List ℕ) → Type 0
-IsTraceLineAt place line (trace.NotUtf8Json n) before after = IsColumnLine place (option_and_then value_of line) before after
+IsTraceLineAt place line (trace.NotUtf8Json n) before after = IsColumnLine place line (option_and_then value_of line) before after
 IsTraceLineAt place line fault before after = IfSome (trace_line_text place line fault) (Appends before after)
 
 -- the fault of the line of this number was written

@@ -11,6 +11,7 @@ use crate::found::Found;
 use crate::json::{explain_not_json, value_at, value_of, write_unwanted};
 use crate::keys::{Keys, write_unknown_key};
 use crate::place::{Part, Place};
+use crate::reason::Bracket;
 use crate::wanted::Wanted;
 use apf_files::{ConfigFault, ConfigKey};
 use apf_words::{MAX_LIMIT, MAX_QUEUE_LENGTH, MAX_QUEUES};
@@ -20,6 +21,11 @@ use std::io;
 use std::io::Write;
 
 const MAX_HAND_SIZE: u32 = 15;
+
+const ARRAY: Bracket = Bracket {
+    byte: b'[',
+    why: ": an array begins here: a config is one object",
+};
 
 // What has to stand at a key.
 fn wanted_of(key: ConfigKey) -> Wanted
@@ -92,7 +98,7 @@ pub fn explain_config<W: Write>(
     ensures memory { result ≡ Err ExplainFault.NoMemory → out.new ≡ out.old }
 {
     match fault {
-        ConfigFault::NotJson => explain_not_json(alloc, name, bytes, out),
+        ConfigFault::NotJson => explain_not_json(alloc, name, bytes, ARRAY, out),
         ConfigFault::Missing => Ok(write_missing(out, name, MAX_LIMIT)?),
         ConfigFault::NoMemory => Err(ExplainFault::NoMemory),
         ConfigFault::NotObject | ConfigFault::UnknownKey | ConfigFault::BadValue(_) => {

@@ -99,7 +99,7 @@ fn write_stop<W: Write>(
     place: Place<'_>,
     bytes: &[u8],
 ) -> Result<(), ExplainFault>
-    ensures line { OnOk result (IsColumnLine (place_text place.entry.name.now place.entry.part) (value_of_bytes bytes.now) (W.contents out.old) (W.contents out.new)) }
+    ensures line { OnOk result (IsColumnLine (place_text place.entry.name.now place.entry.part) (Some bytes.now) (value_of_bytes bytes.now) (W.contents out.old) (W.contents out.new)) }
     ensures memory { result ≡ Err ExplainFault.NoMemory → out.new ≡ out.old }
 {
     match Value::from_slice(alloc, bytes) {
@@ -119,7 +119,7 @@ pub(crate) fn write_not_json<W: Write>(
     place: Place<'_>,
     line: Option<&[u8]>,
 ) -> Result<(), ExplainFault>
-    ensures line { OnOk result (IsColumnLine (place_text place.entry.name.now place.entry.part) (option_and_then value_of_bytes (option_map (λ line. line.now) line.entry)) (W.contents out.old) (W.contents out.new)) }
+    ensures line { OnOk result (IsColumnLine (place_text place.entry.name.now place.entry.part) (option_map (λ line. line.now) line.entry) (option_and_then value_of_bytes (option_map (λ line. line.now) line.entry)) (W.contents out.old) (W.contents out.new)) }
     ensures memory { result ≡ Err ExplainFault.NoMemory → out.new ≡ out.old }
 {
     match line {

@@ -1,6 +1,7 @@
 //! Why bytes are no JSON.
 
-ghost use Rattle.std.specs.Prelude.{◌≡◌, IfErr};
+ghost use Rattle.std.specs.Prelude.{◌≡◌, IfOk, IfErr, option_map};
+ghost use Rattle.apf_explain.specs.Reasons.{mark_text, line_mark_text, IsSaid};
 
 use crate::fault::ExplainFault;
 use serde_json::{Error, Value};
@@ -62,43 +63,37 @@ fn is_cut_inside(alloc: Global, bytes: &[u8], whole: usize) -> Result<bool, Expl
     }
 }
 
-const BEGINNINGS: [(&[u8], &str); 5] = [
-    (
-        b"\xef\xbb\xbf",
-        ": the bytes begin with a mark of byte order (BOM): take it away",
-    ),
-    (
-        b"\xff\xfe",
-        ": the bytes begin as UTF-16 does: they must be UTF-8",
-    ),
-    (
-        b"\xfe\xff",
-        ": the bytes begin as UTF-16 does: they must be UTF-8",
-    ),
-    (
-        b"\x1f\x8b",
-        ": the bytes begin as gzip does: unpack them first",
-    ),
-    (
-        b"[",
-        ": an array begins here: write one object on each line",
-    ),
-];
-
-// What is known of why the bytes of a line are no JSON, by how they begin.
-fn beginning(bytes: &[u8]) -> Option<&'static str> {
-    BEGINNINGS
-        .iter()
-        .find(|row| bytes.starts_with(row.0))
-        .map(|row| row.1)
+// What is said of bytes that begin with a mark of byte order, as UTF-16 does or as gzip does.
+fn mark(bytes: &[u8]) -> Option<&'static str>
+    ensures { option_map (λ why. why.now) result ≡ mark_text bytes.now }
+{
+    if bytes.starts_with(b"\xef\xbb\xbf") {
+        return Some(": the bytes begin with a mark of byte order (BOM): take it away");
+    }
+    if bytes.starts_with(b"\xff\xfe") || bytes.starts_with(b"\xfe\xff") {
+        return Some(": the bytes begin as UTF-16 does: they must be UTF-8");
+    }
+    if bytes.starts_with(b"\x1f\x8b") {
+        return Some(": the bytes begin as gzip does: unpack them first");
+    }
+    None
 }
 
-/// What is known of why bytes are no JSON, where this is what their reader says.
-pub(crate) fn reason(
-    alloc: Global,
-    bytes: &[u8],
-    error: &Error,
-) -> Result<&'static str, ExplainFault>
+// What is said of a line that begins so, or begins an array.
+fn line_mark(bytes: &[u8]) -> Option<&'static str>
+    ensures { option_map (λ why. why.now) result ≡ line_mark_text bytes.now }
+{
+    if let Some(why) = mark(bytes) {
+        return Some(why);
+    }
+    if bytes.starts_with(b"[") {
+        return Some(": an array begins here: write one object on each line");
+    }
+    None
+}
+
+// What is known of why bytes are no JSON, by what their reader says.
+fn reason(alloc: Global, bytes: &[u8], error: &Error) -> Result<&'static str, ExplainFault>
     ensures { IfErr result (λ fault. fault ≡ ExplainFault.NoMemory) }
 {
     const EARLY: &str = ": the text ends too early";
@@ -123,15 +118,44 @@ pub(crate) fn reason(
     Ok("")
 }
 
+/// A bracket that a file does not begin with, and what is said of one that does.
+#[derive(Clone, Copy)]
+pub(crate) struct Bracket {
+    pub(crate) byte: u8,
+    pub(crate) why: &'static str,
+}
+
+/// What is known of why the bytes of a file are no JSON: by how they begin, by what their reader says, or else by the
+/// bracket that they begin with.
+pub(crate) fn file_reason(
+    alloc: Global,
+    bytes: &[u8],
+    error: &Error,
+    bracket: Bracket,
+) -> Result<&'static str, ExplainFault>
+    ensures why { IfOk result (λ why. IsSaid (mark_text bytes.now) why.now) }
+    ensures memory { IfErr result (λ fault. fault ≡ ExplainFault.NoMemory) }
+{
+    if let Some(why) = mark(bytes) {
+        return Ok(why);
+    }
+    let why = reason(alloc, bytes, error)?;
+    if why.is_empty() && bytes.first() == Some(&bracket.byte) {
+        return Ok(bracket.why);
+    }
+    Ok(why)
+}
+
 /// What is known of why the bytes of a line are no JSON: by how they begin, or else by what their reader says.
 pub(crate) fn line_reason(
     alloc: Global,
     bytes: &[u8],
     error: &Error,
 ) -> Result<&'static str, ExplainFault>
-    ensures { IfErr result (λ fault. fault ≡ ExplainFault.NoMemory) }
+    ensures why { IfOk result (λ why. IsSaid (line_mark_text bytes.now) why.now) }
+    ensures memory { IfErr result (λ fault. fault ≡ ExplainFault.NoMemory) }
 {
-    match beginning(bytes) {
+    match line_mark(bytes) {
         Some(why) => Ok(why),
         None => reason(alloc, bytes, error),
     }

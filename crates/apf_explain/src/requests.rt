@@ -10,12 +10,18 @@ use crate::found::Found;
 use crate::json::{explain_not_json, items_of, value_of};
 use crate::members::write_request;
 use crate::place::{Part, Place};
+use crate::reason::Bracket;
 use apf_files::RequestFault;
 use apf_words::MAX_REQUESTS;
 use serde_json::Value;
 use std::alloc::Global;
 use std::io;
 use std::io::Write;
+
+const OBJECT: Bracket = Bracket {
+    byte: b'{',
+    why: ": an object begins here: requests are one array of them",
+};
 
 // Writes that there are too many requests.
 fn write_too_many<W: Write>(out: &mut W, place: Place<'_>, value: Option<&Value>) -> io::Result<()>
@@ -84,7 +90,7 @@ pub fn explain_requests<W: Write>(
         return Err(ExplainFault::NoMemory);
     }
     if fault == RequestFault::NotJson {
-        return explain_not_json(alloc, name, bytes, out);
+        return explain_not_json(alloc, name, bytes, OBJECT, out);
     }
     let value = value_of(alloc, bytes)?;
     Ok(write_requests(out, name, value.as_ref(), fault)?)

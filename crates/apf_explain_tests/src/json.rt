@@ -65,3 +65,39 @@ fn bytes_that_are_not_utf8(rt: HostRuntime) -> Result<(), Fail> {
     assert_eq!(rt; out.as_slice(), line.as_bytes());
     Ok(())
 }
+
+// What the bytes begin as is told first, and last that another bracket than the file's own begins it.
+#[test]
+fn how_bytes_begin(rt: HostRuntime) -> Result<(), Fail> {
+    let configs: [(&[u8], &str); 5] = [
+        (
+            b"\xef\xbb\xbf{}",
+            "level.json:1:1: this is not JSON: the bytes begin with a mark of byte order (BOM): take it away\n",
+        ),
+        (
+            b"\xff\xfe{\0}\0",
+            "level.json:1:1: this is not JSON: the bytes begin as UTF-16 does: they must be UTF-8\n",
+        ),
+        (
+            b"\xfe\xff\0{\0}",
+            "level.json:1:1: this is not JSON: the bytes begin as UTF-16 does: they must be UTF-8\n",
+        ),
+        (
+            b"\x1f\x8b\x08\0",
+            "level.json:1:2: this is not JSON: the bytes begin as gzip does: unpack them first\n",
+        ),
+        (
+            b"[{},]",
+            "level.json:1:5: this is not JSON: an array begins here: a config is one object\n",
+        ),
+    ];
+    for (bytes, line) in configs {
+        let out = config_line(rt.alloc(), bytes)?;
+        assert_eq!(rt; out.as_slice(), line.as_bytes());
+    }
+    let out = requests_line(rt.alloc(), b"{}\n{}\n")?;
+    let line =
+        "all.json:2:1: this is not JSON: an object begins here: requests are one array of them\n";
+    assert_eq!(rt; out.as_slice(), line.as_bytes());
+    Ok(())
+}

@@ -1,4 +1,5 @@
 pub mod Firsts
 pub mod Grouped
 pub mod Deals
+pub mod Held
 pub mod Written

@@ -5,3 +5,4 @@ pub mod Names
 pub mod Requests
 pub mod Hands
 pub mod Dealt
+pub mod Holders

@@ -1,13 +1,14 @@
 //! What is written of each flow's hand: how many share its queues, and some of those that cover it.
 
-ghost use Rattle.std.specs.Prelude.{◌≡◌, map, OnOk};
-ghost use Rattle.std.specs.List.{range_with_len};
+ghost use Rattle.std.specs.Prelude.{◌≡◌, OnOk};
 ghost use Rattle.std.specs.Io.KnownBytes.{Appends};
+ghost use Rattle.std.specs.List.{filter_map};
 ghost use Rattle.apf_flows.specs.Dealt.{flow_of, flows_of};
-ghost use Rattle.apf_flows.specs.Hands.{holders_of, sharers_line, sharers_text, all_sharers_text, covering, named_text, named_line, more_line, covering_text};
+ghost use Rattle.apf_flows.specs.Hands.{sharers_line, named_text, named_line, more_line, covering_text};
+ghost use Rattle.apf_flows.specs.Holders.{places_at, others_text, all_others_text, cover_of as the_cover_of, cover_at as the_cover_at};
 
 use crate::dealt::Dealt;
-use crate::holders::sharers;
+use crate::holders::{Holders, holding};
 use crate::names::write_hash;
 use crate::sharing::is_cover;
 use std::alloc::AllocError;
@@ -26,46 +27,55 @@ fn write_sharers_line<W: Write>(out: &mut W, queue: u32, sharers: usize) -> io::
 }
 
 // Writes that line, if others hold the queue.
-fn write_sharers<W: Write>(
-    out: &mut W,
-    flows: &[Dealt<'_>],
-    holders: &[usize],
-    queue: u32,
-    queues: u32,
-) -> io::Result<()>
-    requires { holders.now ≡ map (holders_of (flows_of flows.now)) (range_with_len 0 queues) }
-    ensures { OnOk result (Appends (W.contents out.old) (W.contents out.new) (sharers_text (flows_of flows.now) queue)) }
+fn write_sharers<W: Write>(out: &mut W, holders: &Holders, queue: u32) -> io::Result<()>
+    ensures { OnOk result (Appends (W.contents out.old) (W.contents out.new) (others_text (places_at holders.now) queue)) }
 {
-    let sharers = sharers(flows, holders, queue, queues);
+    let sharers = holding(holders, queue).len().saturating_sub(1);
     if sharers > 0 {
         return write_sharers_line(out, queue, sharers);
     }
     Ok(())
 }
 
-/// Writes the lines of the queues of a hand that others hold too. The holders were counted for so many queues.
+/// Writes the lines of the queues of a hand that others hold too.
 ///
 /// # Errors
 ///
 /// The writer's. Then nothing is known of how much was written.
 pub(crate) fn write_all_sharers<W: Write>(
     out: &mut W,
-    flows: &[Dealt<'_>],
-    holders: &[usize],
+    holders: &Holders,
     hand: &[u32],
-    queues: u32,
 ) -> io::Result<()>
-    requires { holders.now ≡ map (holders_of (flows_of flows.now)) (range_with_len 0 queues) }
-    ensures { OnOk result (Appends (W.contents out.old) (W.contents out.new) (all_sharers_text (flows_of flows.now) hand.now)) }
+    ensures { OnOk result (Appends (W.contents out.old) (W.contents out.new) (all_others_text (places_at holders.now) hand.now)) }
 {
     for queue in hand {
-        write_sharers(out, flows, holders, *queue, queues)?;
+        write_sharers(out, holders, *queue)?;
     }
     Ok(())
 }
 
-/// Puts the hashes of the other flows whose hands hold all queues of this one's in place of what the list had. It asks
-/// for no memory where the list has room for as many hashes as there are flows.
+// The hash of another flow whose hand holds all queues of this one's.
+fn cover_of(flow: &Dealt<'_>, other: &Dealt<'_>) -> Option<u64>
+    ensures { result ≡ the_cover_of (flow_of flow.now) (flow_of other.now) }
+{
+    if is_cover(flow, other) {
+        Some(other.first.hash)
+    } else {
+        None
+    }
+}
+
+// The same of the flow at a place.
+fn cover_at(flow: &Dealt<'_>, flows: &[Dealt<'_>], place: usize) -> Option<u64>
+    ensures { result ≡ the_cover_at (flow_of flow.now) (flows_of flows.now) place }
+{
+    let other = flows.get(place)?;
+    cover_of(flow, other)
+}
+
+/// Puts the hashes of the flows at these places whose hands hold all queues of this other one's in place of what the
+/// list had. It asks for no memory where the list has room for as many hashes as there are places.
 ///
 /// # Errors
 ///
@@ -73,14 +83,15 @@ pub(crate) fn write_all_sharers<W: Write>(
 pub(crate) fn find_covering(
     flow: &Dealt<'_>,
     flows: &[Dealt<'_>],
+    places: &[usize],
     hashes: &mut Vec<u64>,
 ) -> Result<(), AllocError>
-    ensures { OnOk result (hashes.new.items ≡ covering (flow_of flow.now) (flows_of flows.now)) }
+    ensures { OnOk result (hashes.new.items ≡ filter_map (the_cover_at (flow_of flow.now) (flows_of flows.now)) places.now) }
 {
     hashes.clear();
-    for other in flows {
-        if is_cover(flow, other) {
-            hashes.push(other.first.hash)?;
+    for place in places {
+        if let Some(hash) = cover_at(flow, flows, *place) {
+            hashes.push(hash)?;
         }
     }
     Ok(())

@@ -1,18 +1,19 @@
 //! The hands of the flows of a trace, and who shares their queues.
 
-ghost use Rattle.std.specs.Prelude.{◌≡◌, ◌≤◌, OnOk, IfOk, IfErr, IfSome, Some, Err, length, map};
-ghost use Rattle.std.specs.List.{flat_map, range_with_len};
+ghost use Rattle.std.specs.Prelude.{◌≡◌, ◌≤◌, OnOk, IfOk, IfErr, IfSome, Some, Err, length};
+ghost use Rattle.std.specs.List.{flat_map};
 ghost use Rattle.std.specs.Io.KnownBytes.{Appends};
 ghost use Rattle.apf_flow.specs.declared.fault.DealerFault.{DealerFault as Fault};
 ghost use Rattle.apf_flows.specs.declared.hands.HandsFault.TheVariants.{NoMemory, CannotWrite};
 ghost use Rattle.apf_flows.specs.Flows.{max_requests};
 ghost use Rattle.apf_flows.specs.Dealt.{flow_of as flow_of_dealt, flows_of as flows_of_dealt};
-ghost use Rattle.apf_flows.specs.Hands.{sizes_of, fault_by, flows_in, flow_text, hands_text, holders_of, IsNoDealer, part_text, is_named as the_is_named};
+ghost use Rattle.apf_flows.specs.Hands.{sizes_of, fault_by, flows_in, hands_text, IsNoDealer, part_text, is_named as the_is_named};
+ghost use Rattle.apf_flows.specs.Holders.{places_at, held_text};
 
 use crate::brief::{find_covering, write_all_sharers, write_covering};
 use crate::dealt::{Dealt, deal_all, dealer_of};
 use crate::flows::flows_of;
-use crate::holders::count_all;
+use crate::holders::{Holders, holders_of, holding_first};
 use crate::sharing::{write_hand, write_whole};
 use apf_flow::DealerFault;
 use apf_model::Config;
@@ -57,35 +58,30 @@ fn write_flow<W: Write>(
     out: &mut W,
     flow: &Dealt<'_>,
     flows: &[Dealt<'_>],
-    holders: &[usize],
-    queues: u32,
+    holders: &Holders,
     covering: &mut Vec<u64>,
 ) -> Result<(), HandsFault>
-    requires { holders.now ≡ map (holders_of (flows_of_dealt flows.now)) (range_with_len 0 queues) }
-    ensures ok { OnOk result (Appends (W.contents out.old) (W.contents out.new) (flow_text (flows_of_dealt flows.now) (flow_of_dealt flow.now))) }
+    ensures ok { OnOk result (Appends (W.contents out.old) (W.contents out.new) (held_text (flows_of_dealt flows.now) (places_at holders.now) (flow_of_dealt flow.now))) }
     ensures no_dealer { IfErr result IsNoDealer }
 {
-    find_covering(flow, flows, covering)?;
+    let hand = flow.hand.as_slice();
+    find_covering(flow, flows, holding_first(holders, hand), covering)?;
     write_hand(out, flow)?;
-    write_all_sharers(out, flows, holders, flow.hand.as_slice(), queues)?;
+    write_all_sharers(out, holders, hand)?;
     write_covering(out, covering.as_slice())?;
     Ok(())
 }
 
-// Writes the lines of all flows. All memory is taken before the first byte.
-fn write_flows<W: Write>(
-    alloc: Global,
-    out: &mut W,
-    flows: &[Dealt<'_>],
-    queues: u32,
-) -> Result<(), HandsFault>
+// Writes the lines of all flows. A flow is compared with those alone that hold the first queue of its hand. All memory
+// is taken before the first byte.
+fn write_flows<W: Write>(alloc: Global, out: &mut W, flows: &[Dealt<'_>]) -> Result<(), HandsFault>
     ensures ok { OnOk result (Appends (W.contents out.old) (W.contents out.new) (hands_text (flows_of_dealt flows.now))) }
     ensures no_dealer { IfErr result IsNoDealer }
 {
-    let holders = count_all(alloc, flows, queues)?;
+    let holders = holders_of(alloc, flows)?;
     let mut covering = Vec::with_capacity(alloc, flows.len())?;
     for flow in flows {
-        write_flow(out, flow, flows, holders.as_slice(), queues, &mut covering)?;
+        write_flow(out, flow, flows, &holders, &mut covering)?;
     }
     Ok(())
 }
@@ -156,7 +152,7 @@ pub fn write_hands<W: Write>(
     ensures no_other { IfErr result (λ told. (fault : Fault) → told ≡ HandsFault.Dealer fault → fault_by (sizes_of config.now) ≡ Some fault) }
 {
     let flows = dealt_flows(alloc, config, trace)?;
-    write_flows(alloc, out, flows.as_slice(), config.queues)
+    write_flows(alloc, out, flows.as_slice())
 }
 
 /// Writes the flows of a trace that have this distinguisher, each with the hand of queues that it is dealt, in the

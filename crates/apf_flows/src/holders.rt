@@ -1,60 +1,79 @@
-//! How many flows hold each queue.
+//! Which flows hold each queue.
 
-ghost use Rattle.std.specs.Prelude.{◌≡◌, map, IfOk};
-ghost use Rattle.std.specs.List.{range_with_len};
-ghost use Rattle.apf_flows.specs.Dealt.{flow_of, flows_of};
-ghost use Rattle.apf_flows.specs.Hands.{holds as the_holds, holders_of, sharers_of};
+ghost use Rattle.std.specs.Prelude.{◌≡◌, ◌++◌, List, [], ◌∷◌, ℕ, IfOk, OnOk, if◌then◌else◌, ◌==◌};
+ghost use Rattle.apf_flows.specs.Dealt.{flows_of};
+ghost use Rattle.apf_flows.specs.Hands.{holds};
+ghost use Rattle.apf_flows.specs.Holders.{AreHolders, places_at, first_places};
 
 use crate::dealt::Dealt;
 use std::alloc::{AllocError, Global};
+use std::collections::BTreeMap;
 
-// Whether the flow holds a queue.
-fn holds(flow: &Dealt<'_>, queue: u32) -> bool
-    ensures { result ≡ the_holds (flow_of flow.now).hand queue }
+/// The places among the flows of those that hold each queue, in order. A queue that no flow holds is left out.
+pub(crate) type Holders = BTreeMap<u32, Vec<usize>>;
+
+// Puts a place behind those of the queue.
+fn add(alloc: Global, holders: &mut Holders, queue: u32, place: usize) -> Result<(), AllocError>
+    ensures { OnOk result ((other : ℕ) → places_at holders.new other ≡ places_at holders.old other ++ (if other == queue then place ∷ [] else [])) }
 {
-    flow.hand.as_slice().contains(&queue)
+    if let Some(places) = holders.get_mut(&queue) {
+        places.push(place)?;
+        return Ok(());
+    }
+    let mut places = Vec::new(alloc);
+    places.push(place)?;
+    holders.insert(queue, places)?;
+    Ok(())
 }
 
-// How many of the flows hold a queue.
-fn count(flows: &[Dealt<'_>], queue: u32) -> usize
-    ensures { result ≡ holders_of (flows_of flows.now) queue }
+// Puts a place behind those of each queue of a hand, once.
+fn add_hand(
+    alloc: Global,
+    holders: &mut Holders,
+    hand: &[u32],
+    place: usize,
+) -> Result<(), AllocError>
+    ensures { OnOk result ((queue : ℕ) → places_at holders.new queue ≡ places_at holders.old queue ++ (if holds hand.now queue then place ∷ [] else [])) }
 {
-    let mut count = 0usize;
-    for flow in flows {
-        if holds(flow, queue) {
-            count += 1;
+    for (card, queue) in hand.iter().enumerate() {
+        if !hand[..card].contains(queue) {
+            add(alloc, holders, *queue, place)?;
         }
     }
-    count
+    Ok(())
 }
 
-/// How many of the flows hold each queue, for so many queues.
+/// The places of the flows that hold each queue.
 ///
 /// # Errors
 ///
 /// `AllocError` if memory was refused.
-pub(crate) fn count_all(
-    alloc: Global,
-    flows: &[Dealt<'_>],
-    queues: u32,
-) -> Result<Vec<usize>, AllocError>
-    ensures { IfOk result (λ holders. holders.items ≡ map (holders_of (flows_of flows.now)) (range_with_len 0 queues)) }
+pub(crate) fn holders_of(alloc: Global, flows: &[Dealt<'_>]) -> Result<Holders, AllocError>
+    ensures { IfOk result (λ holders. AreHolders (flows_of flows.now) (places_at holders)) }
 {
-    let mut holders = Vec::new(alloc);
-    for queue in 0..queues {
-        holders.push(count(flows, queue))?;
+    let mut holders = BTreeMap::new(alloc);
+    for (place, flow) in flows.iter().enumerate() {
+        add_hand(alloc, &mut holders, flow.hand.as_slice(), place)?;
     }
     Ok(holders)
 }
 
-/// How many flows hold a queue of a flow beside that one. The holders were counted for so many queues.
-pub(crate) fn sharers(flows: &[Dealt<'_>], holders: &[usize], queue: u32, queues: u32) -> usize
-    requires { holders.now ≡ map (holders_of (flows_of flows.now)) (range_with_len 0 queues) }
-    ensures { result ≡ sharers_of (flows_of flows.now) queue }
+/// The places of the flows that hold a queue.
+pub(crate) fn holding(holders: &Holders, queue: u32) -> &[usize]
+    ensures { result.now ≡ places_at holders.now queue }
 {
-    let all = match holders.get(queue as usize) {
-        Some(count) => *count,
-        None => count(flows, queue),
+    let Some(places) = holders.get(&queue) else {
+        return &[];
     };
-    all.saturating_sub(1)
+    places.as_slice()
+}
+
+/// The places of the flows that hold the first queue of a hand, among which are those that hold all of it.
+pub(crate) fn holding_first<'h>(holders: &'h Holders, hand: &[u32]) -> &'h [usize]
+    ensures { result.now ≡ first_places (places_at holders.now) hand.now }
+{
+    let Some(queue) = hand.first() else {
+        return &[];
+    };
+    holding(holders, *queue)
 }

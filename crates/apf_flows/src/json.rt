@@ -170,6 +170,17 @@ fn write_bytes<W: Write>(out: &mut W, bytes: &[u8]) -> io::Result<()>
     Ok(())
 }
 
+/// Writes a text as it stands between the quotes of [`write_text`].
+///
+/// # Errors
+///
+/// The writer's. Then nothing is known of how much was written.
+pub fn write_escaped<W: Write>(out: &mut W, text: &str) -> io::Result<()>
+    ensures { OnOk result (Appends (W.contents out.old) (W.contents out.new) (escapes_of text.now)) }
+{
+    write_bytes(out, text.as_bytes())
+}
+
 /// Writes a text between quotes, escaped where JSON must, and where a terminal would obey a character: U+007F to U+009F,
 /// and those that turn the direction of writing.
 ///
@@ -181,6 +192,6 @@ pub fn write_text<W: Write>(out: &mut W, text: &str) -> io::Result<()>
     ensures { OnOk result (Appends (W.contents out.old) (W.contents out.new) (json_text text.now)) }
 {
     out.write_all(b"\"")?;
-    write_bytes(out, text.as_bytes())?;
+    write_escaped(out, text)?;
     out.write_all(b"\"")
 }

@@ -6,7 +6,7 @@
 //! - `requests`: the requests file of a trace.
 //! - `dealt`: the flows with their hands of queues.
 //! - `sharing`: who shares the queues of one flow's hand, each by name.
-//! - `holders`: how many flows hold each queue.
+//! - `holders`: which flows hold each queue.
 //! - `brief`: how many share the queues of a hand, and some of those that cover it.
 //! - `hands`: what is written of all hands, and of one flow's.
 #![tactic(auto)]
@@ -23,6 +23,6 @@ mod sharing;
 
 pub use flows::{Flows, flows_of};
 pub use hands::{HandsFault, write_hands, write_hands_of};
-pub use json::write_text;
+pub use json::{write_escaped, write_text};
 pub use names::{write_hash, write_names, write_of_names};
 pub use requests::write_requests;

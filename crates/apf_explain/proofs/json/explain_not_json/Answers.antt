@@ -16,4 +16,4 @@ returns-clause-line g c =
     let read : IsReadOf c.args.bytes.now None = search rules in
     let stop = c.write_stop.ensures in
     let appends : Appends (g.W.Write.contents c.args.out.now) (g.W.Write.contents c.write_stop.new.out) (stop_text c.args.name.now stop.0 stop.1.0 c.in_ok-why-in-Err-2.why.now) = search rules in
-    (None, read, (stop.0, (stop.1.0, (c.in_ok-why-in-Err-2.why.now, appends))))
+    (None, read, (stop.0, (stop.1.0, (c.in_ok-why-in-Err-2.why.now, c.in_ok-why-in-Err-2.ensures.why, appends))))

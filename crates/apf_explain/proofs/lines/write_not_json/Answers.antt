@@ -3,4 +3,4 @@ use Rattle.std.proofs.Common.{[], rules}
 use Rattle.apf_explain.proofs.lines.write_not_json.Goals as goal
 
 pub returns-in_ok-write_column-in-None-clause-line : goal.returns-in_ok-write_column-in-None-clause-line
-returns-in_ok-write_column-in-None-clause-line g c = rw c.in-None.is (0, ([], search rules))
+returns-in_ok-write_column-in-None-clause-line g c = rw c.in-None.is (0, ([], tt, search rules))

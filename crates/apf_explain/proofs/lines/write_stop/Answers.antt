@@ -16,4 +16,4 @@ pub returns-clause-line : goal.returns-clause-line
 returns-clause-line g c =
     let read : IsReadOf c.args.bytes.now None = search rules in
     let value : value_of c.args.bytes.now ≡ None = sym (is_value c.args.bytes.now None read) in
-    rw value (c.column.result, (c.in_ok-why-in-Err-2.why.now, search rules))
+    rw value (c.column.result, (c.in_ok-why-in-Err-2.why.now, c.in_ok-why-in-Err-2.ensures.why, search rules))

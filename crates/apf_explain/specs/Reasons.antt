@@ -1,0 +1,36 @@
+-- What is said of bytes that are no JSON, by how they begin.
+use Rattle.std.specs.Prelude.{◌≡◌, ℕ, List, [], ◌∷◌, Bool, nat_eq, ◌||◌, if◌then◌else◌, Option, Some, None, IfSome, codes, option_and_then}
+use Rattle.std.specs.List.{starts_with}
+
+-- the bytes begin with these
+abbrev pub begins : (bytes front : List ℕ) → Bool
+begins bytes front = starts_with nat_eq bytes front
+
+-- what is said of a mark of byte order, of UTF-16 and of gzip
+abbrev pub mark_text : List ℕ → Option (List ℕ)
+mark_text bytes =
+    if begins bytes (239 ∷ 187 ∷ 191 ∷ []) then Some (codes ": the bytes begin with a mark of byte order (BOM): take it away")
+    else (if begins bytes (255 ∷ 254 ∷ []) || begins bytes (254 ∷ 255 ∷ []) then Some (codes ": the bytes begin as UTF-16 does: they must be UTF-8")
+    else (if begins bytes (31 ∷ 139 ∷ []) then Some (codes ": the bytes begin as gzip does: unpack them first")
+    else None))
+
+-- what is said of a line that begins an array: 91 is `[`
+abbrev pub array_text : List ℕ → Option (List ℕ)
+array_text bytes = if begins bytes (91 ∷ []) then Some (codes ": an array begins here: write one object on each line") else None
+
+-- the one, or else the other
+abbrev pub first_text : (one other : Option (List ℕ)) → Option (List ℕ)
+first_text None other = other
+first_text (Some text) other = Some text
+
+-- what is said of a line, by how it begins
+abbrev pub line_mark_text : List ℕ → Option (List ℕ)
+line_mark_text bytes = first_text (mark_text bytes) (array_text bytes)
+
+-- what is told is what is said of the beginning, where something is
+abbrev pub IsSaid : (said : Option (List ℕ)) (told : List ℕ) → Type 0
+IsSaid said told = IfSome said (λ text. told ≡ text)
+
+-- the same of a line, if it is there
+abbrev pub IsSaidOfLine : Option (List ℕ) → List ℕ → Type 0
+IsSaidOfLine line told = IsSaid (option_and_then line_mark_text line) told

@@ -1,7 +1,7 @@
 //! How much there is at a time, and the most that there ever is.
 
 ghost use Rattle.std.specs.Prelude.{◌≡◌, ◌<◌, ◌≤◌, ◌*◌, ◌^◌, length, vec_len, IfOk};
-ghost use Rattle.apf_picture.specs.Spans.{held, columns_of};
+ghost use Rattle.apf_picture.specs.Spans.{held_at, held, columns_of};
 ghost use Rattle.apf_picture.specs.Columns.{IsMost};
 
 use crate::scale::{COLUMNS, scaled};
@@ -15,6 +15,14 @@ pub(crate) struct Span {
     pub(crate) amount: u32,
 }
 
+// How much there is of a span at the time. A product costs less here than a branch, which few runs foresee.
+fn amount_at(span: &Span, time: u64) -> u64
+    ensures amount { result ≡ held_at time span.now }
+    ensures within { result < 2 ^ 32 }
+{
+    u64::from(span.amount) * u64::from(span.from <= time) * u64::from(time < span.to)
+}
+
 // How much there is at the time.
 fn held(spans: &[Span], time: u64) -> u64
     requires { length spans.now < 2 ^ 31 }
@@ -22,9 +30,7 @@ fn held(spans: &[Span], time: u64) -> u64
 {
     let mut held = 0;
     for span in spans {
-        if span.from <= time && time < span.to {
-            held += u64::from(span.amount);
-        }
+        held += amount_at(span, time);
     }
     held
 }

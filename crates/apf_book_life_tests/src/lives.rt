@@ -347,6 +347,16 @@ fn play<K: Mark, R: Wait + Abort>(
     past
 }
 
+// A level whose numbers are drawn from this seed.
+fn run<R: Wait + Abort>(rt: &R, alloc: Global, config: &Config, seed: u32) -> Past
+    requires { config.now.queues ≡ 3 }
+{
+    let Ok(opened) = Gate::open_for_life(alloc, 3, &[1, 1, 2, 1, 3], 1, Response::Queue) else {
+        panic!(rt; "no gate")
+    };
+    play::<Brand, R>(rt, alloc, config, seed, opened)
+}
+
 // Every request of many levels, each of five slots: some wait, are dispatched, struck and refused, and late cancels
 // find others.
 #[test]
@@ -361,10 +371,7 @@ fn the_history_of_all_requests_is_fair(rt: HostRuntime) {
     };
     let mut kinds = [0u32; 4];
     for seed in 0..30 {
-        let Ok(opened) = Gate::open_for_life(alloc, 3, &[1, 1, 2, 1, 3], 1, Response::Queue) else {
-            panic!(&rt; "no gate")
-        };
-        let past = play::<Brand, HostRuntime>(&rt, alloc, &config, seed, opened);
+        let past = run(&rt, alloc, &config, seed);
         past.judge(&rt, alloc);
         for event in past.log.iter() {
             let kind = match event {

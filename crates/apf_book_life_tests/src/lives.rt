@@ -380,7 +380,7 @@ fn the_history_of_all_requests_is_fair(rt: HostRuntime) {
                 Event::Dispatch(_, _) => 2,
                 Event::Strike(_, _) => 3,
             };
-            kinds[kind] += 1;
+            kinds[kind] = kinds[kind].wrapping_add(1);
         }
     }
     for kind in kinds {

@@ -1,0 +1,61 @@
+-- What an arrival is, and what the history got by it.
+use Rattle.std.specs.Prelude.{◌≡◌, ◌≢◌, ◌⊎◌, ℕ, true, false, List, Option, Some, None}
+use Rattle.apf_words.specs.declared.decision.Decision.TheVariants as decisions
+use Rattle.apf_history.specs.declared.events.Event.{Event}
+use Rattle.apf_history.specs.declared.events.Event.TheVariants as events
+use Rattle.apf_model.specs.History.{has_arrived}
+use Rattle.apf_gate.specs.declared.record.PassRecord.{PassRecord}
+use Rattle.apf_gate.specs.Records.{told_own}
+use Rattle.apf_book.specs.declared.life_event.LifeEvent.{LifeEvent}
+use Rattle.apf_book.specs.Life.{LifeView, asked, then_came}
+use Rattle.apf_book.specs.LifeBook.{then_came_all}
+use Rattle.apf_book.specs.Notes.{event_of}
+use Rattle.apf_book.specs.Servings.{AreServings}
+use Rattle.apf_life.specs.declared.answers.Stood.{Stood}
+use Rattle.apf_life.specs.declared.answers.Stood.TheVariants as stood
+use Rattle.apf_life.specs.declared.answers.Begin.{Begin}
+use Rattle.apf_life.specs.declared.answers.Begin.TheVariants as begun
+use Rattle.apf_life.specs.Levels.{LifeId, IsHistoryOf}
+use Rattle.apf_life.specs.Admission.{begun_pass}
+
+-- the request, new to a history that the level had, asked for this hand and this cost; its event came, and then Dispatches and Strikes alone
+pub record Came (k : LifeId) (r : ℕ) (hand : List ℕ) (cost : ℕ) (event : Event) : Type 0 where
+  pub older : LifeView
+  pub newer : List Event
+  pub of_level : IsHistoryOf k (then_came_all newer (then_came (asked older r hand cost) event))
+  pub is_new : has_arrived older.history r ≡ false
+  pub servings : AreServings newer
+
+-- what is told of a request that arrived under the lock, with its event: it entered a queue, or found one full; and else it has no event
+abbrev pub StandsAs : LifeId → List ℕ → ℕ → PassRecord → Stood → Type 0
+StandsAs k hand cost pass (stood.Entered q) = (pass.entered ≡ true) × Came k pass.number hand cost (events.Enter pass.number q)
+StandsAs k hand cost pass (stood.Full q) = (told_own pass ≡ Some decisions.QueueFull) × (pass.entered ≡ false) × Came k pass.number hand cost (events.Full pass.number q)
+StandsAs k hand cost pass (stood.Over decision) = (told_own pass ≡ Some decision) × (decision ≢ decisions.Execute) × (decision ≢ decisions.QueueFull) × (pass.entered ≡ false)
+
+-- the answer says that a queue was full
+abbrev pub SaysFull : Begin → Type 0
+SaysFull (begun.Run token) = ⊥
+SaysFull (begun.Over token decision) = decision ≡ decisions.QueueFull
+SaysFull (begun.Waiting token) = ⊥
+
+-- the Pass has that its request entered, or that it left the queue that it had entered
+abbrev pub HasEntered : PassRecord → Type 0
+HasEntered pass = (pass.entered ≡ true) ⊎ (pass.left ≡ true)
+
+-- the event is the request's: the Enter of one that entered, or the Full of one that is over since a queue was full
+abbrev pub IsEventOf : ℕ → Begin → Event → Type 0
+IsEventOf r answer (events.Enter r' q) = (r' ≡ r) × HasEntered (begun_pass answer).pass
+IsEventOf r answer (events.Full r' q) = (r' ≡ r) × SaysFull answer
+IsEventOf r answer (events.Dispatch r' q) = ⊥
+IsEventOf r answer (events.Strike r' q) = ⊥
+
+-- what is answered where the history got no event: the request did not enter, and no queue was full
+abbrev pub NeedsNoEvent : Begin → Type 0
+NeedsNoEvent (begun.Run token) = token.pass.entered ≡ false
+NeedsNoEvent (begun.Over token decision) = (token.pass.entered ≡ false) × (decision ≢ decisions.QueueFull)
+NeedsNoEvent (begun.Waiting token) = ⊥
+
+-- the event, if there is one, is the request's, and a history that the level had got it, with this hand and this cost
+abbrev pub Logs : LifeId → ℕ → List ℕ → ℕ → Begin → Option LifeEvent → Type 0
+Logs k r hand cost answer None = NeedsNoEvent answer
+Logs k r hand cost answer (Some event) = IsEventOf r answer (event_of event) × Came k r hand cost (event_of event)

@@ -1,0 +1,11 @@
+pub mod Trying
+pub mod Limits
+pub mod Levels
+pub mod Nobody
+pub mod Tokens
+pub mod Admission
+pub mod Attempts
+pub mod Arrivals
+pub mod Sections
+pub mod Calls
+pub mod Reports

@@ -1,0 +1,103 @@
+//! The steps of a request outside the lock.
+
+ghost use Rattle.std.specs.Prelude.{◌≡◌, ◌==◌, not, true, false, Some};
+ghost use Rattle.apf_words.specs.Level.{Level as Word};
+ghost use Rattle.apf_words.specs.declared.decision.Decision.TheVariants.{Execute};
+ghost use Rattle.apf_gate.specs.Records.{told_own};
+ghost use Rattle.apf_gate.specs.PassSteps.{PassSubtractsLevel};
+ghost use Rattle.apf_gate.specs.Tokens.{pass_gate};
+ghost use Rattle.apf_life.specs.Tokens.{IsOf};
+ghost use Rattle.apf_life.specs.Admission.{tried_pass, IsTriedTold, AsksAgain, TriesToAdmit, SaysOpen};
+ghost use Rattle.apf_life.specs.Attempts.{Attempts, TakesOrDecides};
+ghost use Rattle.apf_life.specs.Calls.{IsFreshPass, AfterAttempt};
+
+use crate::answers::{Attempt, TryAdmit};
+use crate::level::Level;
+use crate::naming::Naming;
+use crate::shared::Shared;
+use crate::tokens::{Done, Pass, Running};
+use apf_gate::TryTake;
+use apf_words::Decision;
+
+impl<K: Naming> Level<K> {
+    /// Admits the request, if nobody waits and it fits. It takes no lock.
+    ///
+    /// It reads the decision, and where that is not written makes a load of the level word; where that
+    /// showed room an exchange; and an exchange of the decision word, unless it answers busy. Seats that were
+    /// taken while the request was cancelled are given back.
+    pub fn try_admit(&self, pass: Pass) -> TryAdmit
+        requires own { pass_gate pass.token ≡ K.level.gate }
+        ensures same { IsOf pass.token (tried_pass result) }
+        ensures told { IsTriedTold result }
+        ensures again { AsksAgain pass result }
+        ensures steps { TriesToAdmit pass.token.pass result }
+        ensures stays_closed { pass.token.pass.knows.saw_closed ≡ true → ¬ SaysOpen result }
+    {
+        let Pass { pass, hash, cost } = pass;
+        match self.attempt(pass) {
+            Attempt::Run(running) => TryAdmit::Run(running),
+            Attempt::Over(done, decision, waiting) => TryAdmit::Over(done, decision, waiting),
+            Attempt::Blocked(pass) => TryAdmit::Busy(Pass { pass, hash, cost }),
+            Attempt::Raced(pass) => TryAdmit::Busy(Pass { pass, hash, cost }),
+        }
+    }
+
+    // As `try_admit`, but it says why it is busy.
+    pub(crate) fn attempt(&self, mut pass: apf_gate::Pass) -> Attempt
+        requires fresh { IsFreshPass K.level pass }
+        ensures after { AfterAttempt pass result }
+        ensures steps { Attempts pass.pass result }
+        ensures never_entered { pass.pass.entered ≡ false }
+    {
+        let _number = pass.number();
+        if let Some(decision) = self.gate.told(&mut pass) {
+            return Attempt::Over(Done { pass }, decision, false);
+        }
+        self.take(pass)
+    }
+
+    // Takes the seats, if nobody waits and they fit, and decides: what `try_admit` does once it read that
+    // nothing is decided.
+    pub(crate) fn take(&self, mut pass: apf_gate::Pass) -> Attempt
+        requires fresh { IsFreshPass K.level pass }
+        ensures after { AfterAttempt pass result }
+        ensures steps { TakesOrDecides pass.pass result }
+    {
+        match self.gate.try_take(&mut pass) {
+            TryTake::Taken => {
+                let decision = self.gate.decide(&mut pass, Decision::Execute);
+                if decision == Decision::Execute {
+                    return Attempt::Run(Running { pass });
+                }
+                let waiting = self.gate.release(&mut pass);
+                Attempt::Over(Done { pass }, decision, waiting)
+            }
+            TryTake::Closed => {
+                let decision = self.gate.decide(&mut pass, Decision::Closed);
+                Attempt::Over(Done { pass }, decision, false)
+            }
+            TryTake::Waiters => Attempt::Blocked(pass),
+            TryTake::NoRoom => match &self.shared {
+                Shared::Queued(_queued) => Attempt::Blocked(pass),
+                Shared::Alone(_alone) => {
+                    let decision = self.gate.decide(&mut pass, Decision::ConcurrencyLimit);
+                    Attempt::Over(Done { pass }, decision, false)
+                }
+            },
+            TryTake::Raced => Attempt::Raced(pass),
+        }
+    }
+
+    /// Gives the request's seats back, by one step on the level word. Where requests waited then, the
+    /// caller owes a dispatch.
+    pub fn release(&self, running: Running) -> (Done, bool)
+        requires own { pass_gate running ≡ K.level.gate }
+        ensures same { IsOf running result.0 }
+        ensures told { told_own result.0.pass ≡ Some Execute }
+        ensures answer { (level : Word) × PassSubtractsLevel running.pass level result.0.pass × (result.1 ≡ not (level.waiters == 0)) }
+    {
+        let Running { mut pass } = running;
+        let waiting = self.gate.release(&mut pass);
+        (Done { pass }, waiting)
+    }
+}

@@ -1,0 +1,74 @@
+//! What the calls of a request answer.
+
+use crate::tokens::{Done, Pass, Running, Waiting};
+use apf_words::Decision;
+
+/// What became of a slot that was to be used again.
+pub enum Renewed {
+    /// Its next request is there.
+    Fresh(Pass),
+    /// Its numbers are used up: a slot is given 2^46 times. Nothing changed.
+    Spent(Done),
+}
+
+/// What became of an attempt to be admitted.
+pub enum TryAdmit {
+    /// It executes.
+    Run(Running),
+    /// It is decided so. Where the bool is true requests waited when its seats were given back, and the
+    /// caller owes a dispatch.
+    Over(Done, Decision, bool),
+    /// Requests wait, it does not fit, or the level word changed in between. On a level without queues,
+    /// the last alone.
+    Busy(Pass),
+}
+
+/// What became of an attempt to be admitted, with why it is busy.
+pub enum Attempt {
+    /// It executes.
+    Run(Running),
+    /// It is decided so. Where the bool is true a dispatch is owed, as after `TryAdmit::Over`.
+    Over(Done, Decision, bool),
+    /// Requests wait, or it does not fit. Never on a level without queues.
+    Blocked(apf_gate::Pass),
+    /// The level word changed in between.
+    Raced(apf_gate::Pass),
+}
+
+/// What became of an arrival.
+pub enum Begin {
+    /// It executes.
+    Run(Running),
+    /// It is decided so.
+    Over(Done, Decision),
+    /// It waits in a queue.
+    Waiting(Waiting),
+}
+
+/// What became of an arrival under the lock.
+pub enum Stood {
+    /// It entered this queue.
+    Entered(u32),
+    /// This queue was full: it is decided so.
+    Full(u32),
+    /// It is decided so, and no queue has to do with it.
+    Over(Decision),
+}
+
+/// What was read of a request that waits.
+pub enum Poll {
+    /// It executes.
+    Run(Running),
+    /// It is decided so.
+    Over(Done, Decision),
+    /// It is not decided.
+    Still(Waiting),
+}
+
+/// What became of a request in the end.
+pub enum Admit {
+    /// It executes.
+    Run(Running),
+    /// It is decided so.
+    Over(Done, Decision),
+}

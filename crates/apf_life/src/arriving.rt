@@ -1,0 +1,172 @@
+//! The arrival of a request, and its wait.
+
+ghost use Rattle.std.specs.Prelude.{◌≡◌, ◌≤◌};
+ghost use Rattle.apf_words.specs.Limits.{max_width};
+ghost use Rattle.apf_flow.specs.Deal.{hand_of};
+ghost use Rattle.apf_model.specs.declared.response.Response.TheVariants.{Queue};
+ghost use Rattle.apf_gate.specs.Tokens.{pass_gate};
+ghost use Rattle.apf_life.specs.Tokens.{IsOf};
+ghost use Rattle.apf_life.specs.Admission.{begun_pass, polled_pass, admitted_pass, IsBegunTold, IsAdmittedTold, SaysWaiting, Polls};
+ghost use Rattle.apf_life.specs.Arrivals.{HasEntered, Logs};
+ghost use Rattle.apf_life.specs.Calls.{IsFreshPass, AfterBegin};
+
+use crate::answers::{Admit, Attempt, Begin, Poll, Stood};
+use crate::level::Level;
+use crate::naming::Naming;
+use crate::queued::QueuedLock;
+use crate::shared::Shared;
+use crate::tokens::{Done, Pass, Running, Waiting};
+use apf_book::LifeEvent;
+use apf_words::Decision;
+use std::hint;
+use std::sync::Wait;
+
+// How often a decision is read before its reader sleeps.
+const READINGS_AWAKE: u32 = 100;
+
+impl<K: Naming> Level<K> {
+    /// The request arrives: it takes its seats, or enters a queue, or is decided otherwise. On a level without
+    /// queues it never waits.
+    ///
+    /// It takes the lock only where requests wait or it does not fit, or to dispatch where its decision was
+    /// lost and requests waited when its seats were given back. Its hand of queues is dealt before the lock.
+    pub fn begin<R: Wait>(&self, rt: &R, pass: Pass) -> Begin
+        requires own { pass_gate pass.token ≡ K.level.gate }
+        ensures after { AfterBegin pass.token result }
+        ensures queues { SaysWaiting result → self.now.shape.response ≡ Queue }
+    {
+        let (begun, _event) = self.begin_with_event(rt, pass);
+        begun
+    }
+
+    /// As `begin`. Answers also the event that the history got by the arrival: the request's Enter or Full, which
+    /// name its queue, or none, of a request that took its seats or was decided without a queue.
+    pub fn begin_with_event<R: Wait>(&self, rt: &R, pass: Pass) -> (Begin, Option<LifeEvent>)
+        requires own { pass_gate pass.token ≡ K.level.gate }
+        ensures after { AfterBegin pass.token result.0 }
+        ensures queues { SaysWaiting result.0 → self.now.shape.response ≡ Queue }
+        ensures logs { Logs K.level pass.token.pass.number (hand_of K.level.sizes pass.hash) pass.cost result.0 result.1 }
+    {
+        let Pass { pass, hash, cost } = pass;
+        let mut attempt = self.attempt(pass);
+        for _ in rt.forever() {
+            let pass = match attempt {
+                Attempt::Run(running) => return (Begin::Run(running), None),
+                Attempt::Over(done, decision, waiting) => {
+                    if waiting {
+                        self.dispatch(rt);
+                    }
+                    return (Begin::Over(done, decision), None);
+                }
+                Attempt::Blocked(pass) => match &self.shared {
+                    Shared::Queued(queued) => return self.stand(rt, queued, pass, hash, cost),
+                    // without queues a request is busy after a lost exchange alone
+                    Shared::Alone(_alone) => pass,
+                },
+                Attempt::Raced(pass) => pass,
+            };
+            attempt = self.take(pass);
+        }
+        unreachable!()
+    }
+
+    /// Reads the decision of a request that waits, by one load. One that is cancelled leaves its queue, and then
+    /// others are dispatched.
+    pub fn poll<R: Wait>(&self, rt: &R, waiting: Waiting) -> Poll
+        requires own { pass_gate waiting ≡ K.level.gate }
+        ensures same { IsOf waiting (polled_pass result) }
+        ensures answer { Polls waiting.pass result }
+    {
+        let Waiting { mut pass } = waiting;
+        match self.gate.told(&mut pass) {
+            None => Poll::Still(Waiting { pass }),
+            Some(Decision::Execute) => Poll::Run(Running { pass }),
+            Some(decision) => {
+                self.shared.withdraw(rt, &self.gate, &mut pass);
+                Poll::Over(Done { pass }, decision)
+            }
+        }
+    }
+
+    /// The request arrives, and its caller waits until it is decided. After some readings it sleeps; a
+    /// dispatch or a cancel by any thread wakes it.
+    pub fn admit<R: Wait>(&self, rt: &R, pass: Pass) -> Admit
+        requires own { pass_gate pass.token ≡ K.level.gate }
+        ensures same { IsOf pass.token (admitted_pass result) }
+        ensures told { IsAdmittedTold result }
+    {
+        let mut waiting = match self.begin(rt, pass) {
+            Begin::Run(running) => return Admit::Run(running),
+            Begin::Over(done, decision) => return Admit::Over(done, decision),
+            Begin::Waiting(waiting) => waiting,
+        };
+        let mut readings = 0;
+        for _ in rt.forever() {
+            waiting = match self.poll(rt, waiting) {
+                Poll::Run(running) => return Admit::Run(running),
+                Poll::Over(done, decision) => return Admit::Over(done, decision),
+                Poll::Still(waiting) => waiting,
+            };
+            if readings < READINGS_AWAKE {
+                readings += 1;
+                if readings == READINGS_AWAKE {
+                    self.shared.will_sleep(rt, waiting.ticket());
+                }
+                hint::spin_loop();
+            } else {
+                self.gate.park(rt, waiting.ticket().number);
+            }
+        }
+        unreachable!()
+    }
+
+    // The request asks, and arrives under the lock.
+    fn stand<R: Wait>(
+        &self,
+        rt: &R,
+        queued: &QueuedLock<K>,
+        mut pass: apf_gate::Pass,
+        hash: u64,
+        cost: u32,
+    ) -> (Begin, Option<LifeEvent>)
+        requires fresh { IsFreshPass K.level pass }
+        requires some_cost { 1 ≤ cost }
+        requires low_cost { cost ≤ max_width }
+        ensures after { AfterBegin pass result.0 }
+        ensures logs { Logs K.level pass.pass.number (hand_of K.level.sizes hash) cost result.0 result.1 }
+        ensures queues { self.now.shape.response ≡ Queue }
+    {
+        self.gate.ask(&mut pass);
+        let hand = queued.dealer.deal(hash);
+        let ticket = pass.ticket();
+        let stood = queued
+            .lock
+            .lock(rt)
+            .arrive(rt, &self.gate, &mut pass, hand.as_slice(), cost);
+        match stood {
+            Stood::Entered(queue) => {
+                let begun = self.look_again(rt, Waiting { pass });
+                (begun, Some(LifeEvent::Enter(ticket, queue)))
+            }
+            Stood::Full(queue) => {
+                let begun = Begin::Over(Done { pass }, Decision::QueueFull);
+                (begun, Some(LifeEvent::Full(ticket, queue)))
+            }
+            Stood::Over(decision) => (Begin::Over(Done { pass }, decision), None),
+        }
+    }
+
+    // Reads the decision of a request that entered, as `poll`.
+    fn look_again<R: Wait>(&self, rt: &R, waiting: Waiting) -> Begin
+        requires own { pass_gate waiting ≡ K.level.gate }
+        ensures same { IsOf waiting (begun_pass result) }
+        ensures told { IsBegunTold result }
+        ensures entered { HasEntered (begun_pass result).pass }
+    {
+        match self.poll(rt, waiting) {
+            Poll::Run(running) => Begin::Run(running),
+            Poll::Over(done, decision) => Begin::Over(done, decision),
+            Poll::Still(waiting) => Begin::Waiting(waiting),
+        }
+    }
+}

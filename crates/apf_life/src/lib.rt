@@ -1,0 +1,34 @@
+//! A priority level for a server's whole life: its slots are used again, without end.
+//!
+//! In the order of the data's way:
+//!
+//! - `naming`: which level a type is of.
+//! - `tokens`: a slot, by what became of its request so far. `answers`: what calls answer.
+//! - `queued`: what stands under the lock of a level with queues. `alone`: of one without. `shared`: the lock of either.
+//! - `level`: the level, and how it begins.
+//! - `renewing`: a slot goes on to its next request.
+//! - `admission`: the steps of a request outside the lock. `arriving`: those that may take it.
+//! - `stations`: the calls of a Station. `locked`: those that take the lock.
+//! - `report`, `end`: how a level ends, and what it tells then.
+#![tactic(auto)]
+
+mod admission;
+mod alone;
+mod answers;
+mod arriving;
+mod end;
+mod level;
+mod locked;
+mod naming;
+mod queued;
+mod renewing;
+mod report;
+mod shared;
+mod stations;
+mod tokens;
+
+pub use answers::{Admit, Begin, Poll, Renewed, TryAdmit};
+pub use level::{Level, LevelFault, Opened};
+pub use naming::Naming;
+pub use report::{Newest, Report};
+pub use tokens::{Done, Pass, Running, Waiting};

@@ -1,0 +1,52 @@
+//! A slot goes on to its next request.
+
+ghost use Rattle.std.specs.Prelude.{◌≡◌, ◌≤◌, ◌↔◌, length};
+ghost use Rattle.apf_words.specs.Limits.{max_width};
+ghost use Rattle.apf_gate.specs.Slots.{next_of};
+ghost use Rattle.apf_gate.specs.Tokens.{pass_gate};
+ghost use Rattle.apf_life.specs.Admission.{Renews, SaysSpent};
+
+use crate::answers::Renewed;
+use crate::level::Level;
+use crate::naming::Naming;
+use crate::tokens::{Done, Pass};
+use apf_gate::Renew;
+use apf_model::Ask;
+
+impl<K: Naming> Level<K> {
+    /// The slot goes on to its next request, which asks for this: a width of 1 to 20,000 seats, and the hash of its
+    /// flow. Its dispatch is charged its width. It takes no lock and no memory: it makes one swap of the slot's word.
+    ///
+    /// The request before is as it was decided, for ever. `Spent` exactly if the slot's numbers are used up: a slot is
+    /// given 2^46 times.
+    pub fn renew(&self, done: Done, ask: Ask) -> Renewed
+        requires own { pass_gate done ≡ K.level.gate }
+        requires some_width { 1 ≤ ask.width }
+        requires narrow { ask.width ≤ max_width }
+        ensures renews { Renews done ask.width ask.hash ask.width result }
+        ensures spent { SaysSpent result ↔ (length K.level.gate.shape.widths ≤ next_of done.pass.number ask.width) }
+    {
+        self.renew_with_cost(done, ask, ask.width)
+    }
+
+    /// As `renew`, but its dispatch is charged this cost, of 1 to 20,000 in a unit of the caller's.
+    pub fn renew_with_cost(&self, done: Done, ask: Ask, cost: u32) -> Renewed
+        requires own { pass_gate done ≡ K.level.gate }
+        requires some_width { 1 ≤ ask.width }
+        requires narrow { ask.width ≤ max_width }
+        requires some_cost { 1 ≤ cost }
+        requires low_cost { cost ≤ max_width }
+        ensures renews { Renews done ask.width ask.hash cost result }
+        ensures spent { SaysSpent result ↔ (length K.level.gate.shape.widths ≤ next_of done.pass.number ask.width) }
+    {
+        let mut pass = done.into_pass();
+        match self.gate.renew(&mut pass, ask.width) {
+            Renew::Began(_decision) => Renewed::Fresh(Pass {
+                pass,
+                hash: ask.hash,
+                cost,
+            }),
+            Renew::Spent => Renewed::Spent(Done { pass }),
+        }
+    }
+}

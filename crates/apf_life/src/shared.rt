@@ -1,0 +1,104 @@
+//! What a level's calls do under its lock, by its response.
+
+ghost use Rattle.std.specs.Prelude.{◌≡◌, ◌≢◌, true, Some, None};
+ghost use Rattle.apf_words.specs.declared.decision.Decision.TheVariants.{Execute, Cancelled};
+ghost use Rattle.apf_gate.specs.Records.{told_own};
+ghost use Rattle.apf_gate.specs.Slots.{IsTicket};
+ghost use Rattle.apf_gate.specs.Tokens.{pass_gate};
+ghost use Rattle.apf_life.specs.Tokens.{IsOf, IsInLine};
+ghost use Rattle.apf_life.specs.Sections.{Dispatched, Struck, IsCopied, AreStatsOf};
+
+use crate::alone::AloneLock;
+use crate::naming::Naming;
+use crate::queued::QueuedLock;
+use apf_book::{Copied, LifeEvent, LifeStats};
+use apf_gate::{Gate, Pass, Ticket};
+use std::alloc::Global;
+use std::sync::Wait;
+
+/// The lock of a level with queues, or of one without.
+#[derive(Drop)]
+pub enum Shared<K: Naming> {
+    Queued(QueuedLock<K>),
+    Alone(AloneLock<K>),
+}
+
+impl<K: Naming> Shared<K> {
+    /// Dispatches while the chosen head fits. Tells how many.
+    pub fn dispatch<R: Wait>(&self, rt: &R, gate: &Gate<Global>) -> u64
+        requires own { gate.now ≡ K.level.gate }
+        ensures dispatched { Dispatched K.level result }
+    {
+        match self {
+            Shared::Queued(queued) => queued.lock.lock(rt).dispatch(rt, gate),
+            Shared::Alone(_alone) => 0,
+        }
+    }
+
+    /// Strikes the request, if it waits and is cancelled, and dispatches then. Says whether it struck.
+    pub fn strike<R: Wait>(&self, rt: &R, gate: &Gate<Global>, request: Ticket) -> bool
+        requires own { gate.now ≡ K.level.gate }
+        requires is_request { IsTicket K.level.gate.shape request.number }
+        ensures struck { result ≡ true → Struck K.level request.number }
+    {
+        match self {
+            Shared::Queued(queued) => queued.lock.lock(rt).strike(rt, gate, request),
+            Shared::Alone(_alone) => false,
+        }
+    }
+
+    /// The Pass's request, which was told that it does not execute, leaves its queue, and its Pass hears that.
+    pub fn withdraw<R: Wait>(&self, rt: &R, gate: &Gate<Global>, pass: &mut Pass)
+        requires own { gate.now ≡ K.level.gate }
+        requires own_pass { pass_gate pass.old ≡ K.level.gate }
+        requires waits { IsInLine pass.old }
+        requires is_told { told_own pass.old.pass ≢ None }
+        requires not_executed { told_own pass.old.pass ≢ Some Execute }
+        ensures same { IsOf pass.old pass.new }
+        ensures left { pass.new.pass.left ≡ true }
+        ensures state { pass.new.pass.state ≡ pass.old.pass.state }
+        ensures told { told_own pass.new.pass ≡ told_own pass.old.pass }
+        ensures cancelled { told_own pass.new.pass ≡ Some Cancelled }
+    {
+        match self {
+            Shared::Queued(queued) => queued.lock.lock(rt).withdraw(rt, gate, pass),
+            // nobody enters a queue of a level without queues
+            Shared::Alone(_alone) => unreachable!(),
+        }
+    }
+
+    /// Somebody may sleep from now on until the request is decided.
+    pub fn will_sleep<R: Wait>(&self, rt: &R, request: Ticket)
+        requires is_request { IsTicket K.level.gate.shape request.number }
+    {
+        match self {
+            Shared::Queued(queued) => queued.lock.lock(rt).will_sleep(request),
+            Shared::Alone(_alone) => {}
+        }
+    }
+
+    /// Copies events from this place on. Tells from which place on it copied.
+    pub fn copy_events<R: Wait>(&self, rt: &R, from: u64, into: &mut [LifeEvent]) -> Copied
+        ensures { IsCopied K.level from into.old result into.new }
+    {
+        match self {
+            Shared::Queued(queued) => queued.lock.lock(rt).copy_events(from, into),
+            Shared::Alone(_alone) => Copied { from, count: 0 },
+        }
+    }
+
+    /// How many events there ever were of each kind.
+    pub fn stats<R: Wait>(&self, rt: &R) -> LifeStats
+        ensures { AreStatsOf K.level result }
+    {
+        match self {
+            Shared::Queued(queued) => queued.lock.lock(rt).stats(),
+            Shared::Alone(_alone) => LifeStats {
+                entered: 0,
+                dispatched: 0,
+                struck: 0,
+                full: 0,
+            },
+        }
+    }
+}

@@ -14,7 +14,7 @@ use Rattle.apf_gate.specs.Traces.{entry, NoneOf}
 use Rattle.apf_gate.specs.Steps.{SawLevel}
 use Rattle.apf_gate.specs.StationSteps.{StationLoadsLevel, StationExchangesLevel}
 use Rattle.apf_gate.specs.StationCalls.{TriesToSet}
-use Rattle.apf_life.specs.Limits.{SetsOnly, SetsSince}
+use Rattle.apf_level.specs.Limits.{SetsOnly, SetsSince}
 
 none_sets : (number limit : ℕ) (later : List Entry) → NoneOf (OfStation number) later → SetsOnly number limit later
 none_sets number limit [] none = tt

@@ -9,7 +9,7 @@ use Rattle.apf_gate.specs.Records.{told_own, own_width}
 use Rattle.apf_gate.specs.Slots.{next_of}
 use Rattle.apf_gate.specs.Tokens.{PassToken, pass_gate}
 use Rattle.apf_gate.specs.PassSteps.{PassLoadsDecision, PassRenews}
-use Rattle.apf_life.specs.Trying.{TakesAndRuns, TakesAndLoses, FindsClosed, FindsNoRoom, FindsBusy}
+use Rattle.apf_level.specs.Admission.{TakesAndRuns, TakesAndLoses, FindsClosed, FindsNoRoom, FindsBusy}
 use Rattle.apf_life.specs.declared.answers.Renewed.{Renewed}
 use Rattle.apf_life.specs.declared.answers.Renewed.TheVariants as renewed
 use Rattle.apf_life.specs.declared.answers.TryAdmit.{TryAdmit}

@@ -7,7 +7,7 @@ use Rattle.apf_gate.specs.declared.record.State.TheVariants.{Fresh}
 use Rattle.apf_gate.specs.Records.{told_own}
 use Rattle.apf_gate.specs.Tokens.{PassToken}
 use Rattle.apf_gate.specs.PassSteps.{PassLoadsDecision}
-use Rattle.apf_life.specs.Trying.{TakesAndRuns, TakesAndLoses, FindsClosed, FindsNoRoom, FindsBusy}
+use Rattle.apf_level.specs.Admission.{TakesAndRuns, TakesAndLoses, FindsClosed, FindsNoRoom, FindsBusy}
 use Rattle.apf_life.specs.declared.answers.Attempt.{Attempt}
 use Rattle.apf_life.specs.declared.answers.Attempt.TheVariants as attempted
 

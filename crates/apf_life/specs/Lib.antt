@@ -1,5 +1,3 @@
-pub mod Trying
-pub mod Limits
 pub mod Levels
 pub mod Nobody
 pub mod Tokens

@@ -4,7 +4,7 @@ ghost use Rattle.std.specs.Prelude.{◌≡◌, ◌≤◌, true};
 ghost use Rattle.apf_words.specs.Limits.{max_limit};
 ghost use Rattle.apf_gate.specs.Slots.{IsTicket};
 ghost use Rattle.apf_gate.specs.Tokens.{station_gate};
-ghost use Rattle.apf_life.specs.Limits.{LastSet};
+ghost use Rattle.apf_level.specs.Limits.{LastSet};
 ghost use Rattle.apf_life.specs.Sections.{Dispatched, Struck, IsCopied, AreStatsOf};
 
 use crate::level::Level;

@@ -2,7 +2,7 @@
 use Rattle.std.proofs.Common.{◌≡◌}
 use Rattle.apf_gate.specs.Records.{KnowsMore}
 use Rattle.apf_gate.specs.Tokens.{station_gate}
-use Rattle.apf_life.specs.Limits.{SetsSince}
+use Rattle.apf_level.specs.Limits.{SetsSince}
 use Rattle.apf_life.proofs.level.Level.set_limit.Given as goal
 
 abbrev pub invariant-loop : goal.invariant-loop

@@ -1,0 +1,165 @@
+-- What a slot of a level holds, and what the answer of a call says of its request.
+use Rattle.std.specs.Prelude.{◌≡◌, ◌≢◌, ◌⊎◌, ◌==◌, not, ℕ, List, length, slice_index_or, All, Option, Some, None}
+use Rattle.apf_words.specs.Level.{Level}
+use Rattle.apf_words.specs.declared.decision.Decision.{Decision}
+use Rattle.apf_words.specs.declared.decision.Decision.TheVariants.{Execute, QueueFull}
+use Rattle.apf_history.specs.declared.events.Event.{Event}
+use Rattle.apf_history.specs.declared.events.Event.TheVariants as events
+use Rattle.apf_gate.specs.Records.{told_own}
+use Rattle.apf_gate.specs.Slots.{next_of}
+use Rattle.apf_gate.specs.Tokens.{PassToken, pass_gate}
+use Rattle.apf_gate.specs.PassSteps.{PassSubtractsLevel}
+use Rattle.apf_book.specs.declared.life_event.LifeEvent.{LifeEvent}
+use Rattle.apf_book.specs.Notes.{event_of}
+use Rattle.apf_life.specs.declared.answers.Begin.{Begin}
+use Rattle.apf_life.specs.declared.answers.Begin.TheVariants as begun
+use Rattle.apf_life.specs.declared.answers.TryAdmit.{TryAdmit}
+use Rattle.apf_life.specs.declared.answers.TryAdmit.TheVariants as tried
+use Rattle.apf_life.specs.declared.answers.Admit.{Admit}
+use Rattle.apf_life.specs.declared.answers.Admit.TheVariants as admitted
+use Rattle.apf_life.specs.Levels.{LifeId}
+use Rattle.apf_life.specs.Arrivals.{Came}
+use Rattle.apf_life_session.specs.declared.token.Token.{Token}
+use Rattle.apf_life_session.specs.declared.token.Token.TheVariants as tokens
+use Rattle.apf_life_session.specs.declared.answer.Answer.{Answer}
+use Rattle.apf_life_session.specs.declared.answer.Answer.TheVariants as answers
+use Rattle.apf_life_session.specs.declared.answer.Place.{Place}
+use Rattle.apf_life_session.specs.declared.answer.Place.TheVariants as places
+
+-- there is a token of the level
+abbrev pub IsTokenOf : LifeId → Token → Type 0
+IsTokenOf k (tokens.Free pass) = pass_gate pass ≡ k.gate
+IsTokenOf k (tokens.Waiting pass) = pass_gate pass ≡ k.gate
+IsTokenOf k (tokens.Running pass) = pass_gate pass ≡ k.gate
+IsTokenOf k tokens.Gone = ⊥
+
+-- the number of the slot's newest request
+abbrev pub number_in : Token → ℕ
+number_in (tokens.Free pass) = pass.pass.number
+number_in (tokens.Waiting pass) = pass.pass.number
+number_in (tokens.Running pass) = pass.pass.number
+number_in tokens.Gone = 0
+
+-- where it is
+abbrev pub place_of : Token → Place
+place_of (tokens.Free pass) = places.Free
+place_of (tokens.Waiting pass) = places.Waits
+place_of (tokens.Running pass) = places.Runs
+place_of tokens.Gone = places.Free
+
+-- it executes, and was told so
+abbrev pub IsToldRun : Token → Type 0
+IsToldRun (tokens.Free pass) = ⊥
+IsToldRun (tokens.Waiting pass) = ⊥
+IsToldRun (tokens.Running pass) = told_own pass.pass ≡ Some Execute
+IsToldRun tokens.Gone = ⊥
+
+-- it is over, and was told this decision
+abbrev pub IsToldOver : Decision → Token → Type 0
+IsToldOver decision (tokens.Free pass) = told_own pass.pass ≡ Some decision
+IsToldOver decision (tokens.Waiting pass) = ⊥
+IsToldOver decision (tokens.Running pass) = ⊥
+IsToldOver decision tokens.Gone = ⊥
+
+-- what the answer says of the slot's request, which is that of this token now. That of a call which did nothing says nothing
+abbrev pub Says : Answer → Token → Type 0
+Says answers.Run token = IsToldRun token
+Says (answers.Over decision) token = IsToldOver decision token × (decision ≢ Execute)
+Says (answers.Tried decision waiting) token = IsToldOver decision token × (decision ≢ Execute)
+Says answers.Busy token = place_of token ≡ places.Free
+Says answers.Waits token = place_of token ≡ places.Waits
+Says (answers.Released waiting) token = IsToldOver Execute token
+Says answers.Spent token = Unit {0}
+Says answers.Wrong token = Unit {0}
+
+-- the answer says that the request executes, waits or is over
+abbrev pub SaysWhere : Answer → Type 0
+SaysWhere answers.Run = Unit {0}
+SaysWhere (answers.Over decision) = Unit {0}
+SaysWhere (answers.Tried decision waiting) = ⊥
+SaysWhere answers.Busy = ⊥
+SaysWhere answers.Waits = Unit {0}
+SaysWhere (answers.Released waiting) = ⊥
+SaysWhere answers.Spent = ⊥
+SaysWhere answers.Wrong = ⊥
+
+-- the next request of a free slot came, of this width, and where it is now is what is answered; or the slot's numbers are used up, and nothing changed. In a slot that is not free nothing is done
+abbrev pub Arrives : ℕ → Token → Answer → Token → Type 0
+Arrives width (tokens.Free pass) answer token' = ((answer ≡ answers.Spent) × (token' ≡ tokens.Free pass))
+    ⊎ (SaysWhere answer × Says answer token' × (number_in token' ≡ next_of pass.pass.number width))
+Arrives width (tokens.Waiting pass) answer token' = (answer ≡ answers.Wrong) × (token' ≡ tokens.Waiting pass)
+Arrives width (tokens.Running pass) answer token' = (answer ≡ answers.Wrong) × (token' ≡ tokens.Running pass)
+Arrives width tokens.Gone answer token' = ⊥
+
+-- the event is the request's: its Enter, or its Full where the queue was full
+abbrev pub IsEventOf : ℕ → Answer → Event → Type 0
+IsEventOf r answer (events.Enter r' q) = r' ≡ r
+IsEventOf r answer (events.Full r' q) = (r' ≡ r) × (answer ≡ answers.Over QueueFull)
+IsEventOf r answer (events.Dispatch r' q) = ⊥
+IsEventOf r answer (events.Strike r' q) = ⊥
+
+-- the answer says what became of an attempt
+abbrev pub SaysTried : Answer → Type 0
+SaysTried answers.Run = Unit {0}
+SaysTried (answers.Over decision) = ⊥
+SaysTried (answers.Tried decision waiting) = Unit {0}
+SaysTried answers.Busy = Unit {0}
+SaysTried answers.Waits = ⊥
+SaysTried (answers.Released waiting) = ⊥
+SaysTried answers.Spent = ⊥
+SaysTried answers.Wrong = ⊥
+
+-- the next request of a free slot tried, of this width, and what became of it is what is answered; or the slot's numbers are used up, and nothing changed. In a slot that is not free nothing is done
+abbrev pub Tries : ℕ → Token → Answer → Token → Type 0
+Tries width (tokens.Free pass) answer token' = ((answer ≡ answers.Spent) × (token' ≡ tokens.Free pass))
+    ⊎ (SaysTried answer × Says answer token' × (number_in token' ≡ next_of pass.pass.number width))
+Tries width (tokens.Waiting pass) answer token' = (answer ≡ answers.Wrong) × (token' ≡ tokens.Waiting pass)
+Tries width (tokens.Running pass) answer token' = (answer ≡ answers.Wrong) × (token' ≡ tokens.Running pass)
+Tries width tokens.Gone answer token' = ⊥
+
+-- what the history got by the arrival of the request of this number, with this hand and this cost, that is answered so: its Enter, or its Full if a queue was full; and no event only if it does not wait, and no queue was full
+abbrev pub LogsFor : LifeId → ℕ → List ℕ → ℕ → Answer → Option LifeEvent → Type 0
+LogsFor k r hand cost answer None = (answer ≢ answers.Waits) × (answer ≢ answers.Over QueueFull)
+LogsFor k r hand cost answer (Some event) = IsEventOf r answer (event_of event) × Came k r hand cost (event_of event)
+
+-- a call of a slot whose request is at this place, and else answers that it is wrong here and changes nothing
+pub record Answers (place : Place) (old : Token) (answer : Answer) (new : Token) : Type 0 where
+  pub same : number_in new ≡ number_in old
+  pub says : Says answer new
+  pub right : place_of old ≡ place → answer ≢ answers.Wrong
+  pub wrong : place_of old ≢ place → (answer ≡ answers.Wrong) × (new ≡ old)
+
+-- what is answered where a request that executes gives its seats back is what its one step found: whether requests waited then
+abbrev pub ReleasesAs : Token → Answer → Token → Type 0
+ReleasesAs (tokens.Free pass) answer token' = Unit {0}
+ReleasesAs (tokens.Waiting pass) answer token' = Unit {0}
+ReleasesAs (tokens.Running pass) answer token' = (done : PassToken) × (level : Level) × PassSubtractsLevel pass.pass level done.pass
+    × (answer ≡ answers.Released (not (level.waiters == 0))) × (token' ≡ tokens.Free done)
+ReleasesAs tokens.Gone answer token' = Unit {0}
+
+-- a call of one of these slots, which leaves the others as they are
+pub record CallsOne (calls : Token → Answer → Token → Type 0) (slot : ℕ) (old : List Token) (answer : Answer) (new : List Token) : Type 0 where
+  pub count : length new ≡ length old
+  pub one : (d : Token) → calls (slice_index_or old slot d) answer (slice_index_or new slot d)
+  pub others : (i : ℕ) (d : Token) → i ≢ slot → slice_index_or new i d ≡ slice_index_or old i d
+
+-- what is answered of an arrival, and the token that is kept of it
+abbrev pub KeepsBegun : Begin → Answer → Token → Type 0
+KeepsBegun (begun.Run pass) answer token = (answer ≡ answers.Run) × (token ≡ tokens.Running pass)
+KeepsBegun (begun.Over pass decision) answer token = (answer ≡ answers.Over decision) × (token ≡ tokens.Free pass)
+KeepsBegun (begun.Waiting pass) answer token = (answer ≡ answers.Waits) × (token ≡ tokens.Waiting pass)
+
+-- what is answered of an attempt, and the token that is kept of it
+abbrev pub KeepsTried : TryAdmit → Answer → Token → Type 0
+KeepsTried (tried.Run pass) answer token = (answer ≡ answers.Run) × (token ≡ tokens.Running pass)
+KeepsTried (tried.Over pass decision waiting) answer token = (answer ≡ answers.Tried decision waiting) × (token ≡ tokens.Free pass)
+KeepsTried (tried.Busy a) answer token = (answer ≡ answers.Busy) × (token ≡ tokens.Free a.token)
+
+-- all slots are free
+abbrev pub AreFree : List Token → Type 0
+AreFree slots = All (λ (t : Token). place_of t ≡ places.Free) slots
+
+-- what is answered of a request that was waited for, and the token that is kept of it
+abbrev pub KeepsAdmitted : Admit → Answer → Token → Type 0
+KeepsAdmitted (admitted.Run pass) answer token = (answer ≡ answers.Run) × (token ≡ tokens.Running pass)
+KeepsAdmitted (admitted.Over pass decision) answer token = (answer ≡ answers.Over decision) × (token ≡ tokens.Free pass)

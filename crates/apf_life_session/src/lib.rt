@@ -1,0 +1,50 @@
+//! The front door of a level for a server's whole life: one call opens its gate, one makes the level, and one ends it.
+//!
+//! A level is named by a type, K, so that no call can mix up two levels. Its gate is opened first, and then a function
+//! of one's own, generic over K, makes the level and uses it. A level has slots, each for one request after another:
+//!
+//! ```
+//! let config = Config {
+//!     limit: 1,
+//!     queues: 1,
+//!     hand_size: 1,
+//!     queue_length_limit: 10,
+//!     limit_response: Response::Queue,
+//! };
+//! // at most two requests are there at once; one operator
+//! let opening = Opening::new(alloc, &config, 2, 1)?;
+//! ```
+//!
+//! ```
+//! let mut session = Session::<K>::open_for_life(alloc, opening)?;
+//! let ask = Ask { width: 1, hash: 7 };
+//! session.arrive(rt, 0, ask);
+//! session.arrive(rt, 1, ask);
+//! session.finish(rt, 0);
+//! session.poll(rt, 1);
+//! // the slot 0 goes on to its next request
+//! session.arrive(rt, 0, ask);
+//! ```
+//!
+//! - `opening`: the gate of a level. `fault`: why a level was not opened.
+//! - `token`: what a slot holds. `answer`: what its calls answer. `request`: a slot, whose requests come one after
+//!   another.
+//! - `operator`: cancels, closes, reads the level word and sets the limit.
+//! - `session`: a level with all of these, from its opening to its end.
+#![tactic(auto)]
+
+mod answer;
+mod fault;
+mod opening;
+mod operator;
+mod request;
+mod session;
+mod token;
+
+pub use answer::{Answer, Place};
+pub use fault::OpenFault;
+pub use opening::Opening;
+pub use operator::Operator;
+pub use request::{Request, release};
+pub use session::Session;
+pub use token::Token;

@@ -1,0 +1,342 @@
+//! Many requests over eight slots, by four threads, with cancels by tickets that are late or not.
+
+ghost use denote.Param.Send.{IsSync};
+ghost use Rattle.std.specs.Prelude.{◌≡◌, length};
+ghost use Rattle.apf_life_session.specs.Openings.{level_of};
+
+use apf_gate::{Cancel, Ticket};
+use apf_life::{Level, Naming, Report};
+use apf_life_session::{Answer, Opening, Operator, Request, Session};
+use apf_model::{Ask, Config, Response};
+use apf_rounds::MOST_TURNS;
+use apf_words::Decision;
+use std::alloc::Global;
+use std::marker::Brand;
+use std::process::Abort;
+use std::sync::Wait;
+use std::sync::atomic::{AtomicU64, Ordering};
+use std::thread;
+use std::thread::{Threads, join_mut};
+
+// How many slots there are, and how many requests hold each, one after another.
+const SLOTS: u32 = 8;
+
+const ROUNDS: u64 = 12_500;
+
+// What the threads tell the test.
+#[derive(Drop)]
+struct Board {
+    // How manieth request holds each slot.
+    present: Vec<AtomicU64>,
+    // Of each request the decisions that were told of it, a bit for each: those that its caller was told, and eight
+    // places higher those that operators were told.
+    told: Vec<AtomicU64>,
+    // The cancels that found another request.
+    late: AtomicU64,
+    // The slots whose requests all came to an end.
+    ended: AtomicU64,
+}
+
+// So many numbers, each 0.
+fn zeros<R: Abort>(rt: &R, alloc: Global, count: u64) -> Vec<AtomicU64> {
+    let mut numbers = Vec::new(alloc);
+    for _ in 0..count {
+        let Ok(()) = numbers.push(AtomicU64::new(0)) else {
+            panic!(rt; "memory")
+        };
+    }
+    numbers
+}
+
+impl Board {
+    fn new<R: Abort>(rt: &R, alloc: Global) -> Board {
+        Board {
+            present: zeros(rt, alloc, u64::from(SLOTS)),
+            told: zeros(rt, alloc, ROUNDS * u64::from(SLOTS)),
+            late: AtomicU64::new(0),
+            ended: AtomicU64::new(0),
+        }
+    }
+
+    // How manieth request holds the slot.
+    fn present(&self, slot: u32) -> u64 {
+        match self.present.get(slot as usize) {
+            None => 0,
+            Some(round) => round.load(Ordering::SeqCst),
+        }
+    }
+
+    // The next request holds the slot.
+    fn goes_on(&self, slot: u32) {
+        if let Some(round) = self.present.get(slot as usize) {
+            round.fetch_add(1, Ordering::SeqCst);
+        }
+    }
+
+    // This was told of a request of the slot, of this round from 1: to its caller, or to an operator.
+    fn note(&self, slot: u32, round: u64, decision: Decision, to_operator: bool) {
+        let place = round
+            .wrapping_sub(1)
+            .wrapping_mul(u64::from(SLOTS))
+            .wrapping_add(u64::from(slot));
+        if let Some(word) = self.told.get(place as usize) {
+            word.fetch_or(bit(decision, to_operator), Ordering::SeqCst);
+        }
+    }
+}
+
+fn bit(decision: Decision, to_operator: bool) -> u64 {
+    let own = match decision {
+        Decision::Execute => 1,
+        Decision::QueueFull => 2,
+        Decision::Closed => 4,
+        Decision::Cancelled => 8,
+        Decision::ConcurrencyLimit => 16,
+    };
+    if to_operator { own * 256 } else { own }
+}
+
+// The next request of the slot arrives, and its caller waits until it is decided: it sleeps, or it reads the decision
+// again and again.
+fn decided<K: Naming, R: Wait>(
+    rt: &R,
+    level: &Level<K>,
+    slot: u32,
+    sleeps: bool,
+    request: &mut Request<K>,
+) -> Answer {
+    let ask = Ask {
+        width: 1,
+        hash: u64::from(slot),
+    };
+    if sleeps {
+        return request.admit(rt, level, ask);
+    }
+    let (mut answer, _event) = request.arrive(rt, level, ask);
+    for _turn in 0..MOST_TURNS {
+        if answer != Answer::Waits {
+            break;
+        }
+        thread::yield_now();
+        answer = request.poll(rt, level);
+    }
+    answer
+}
+
+// One request of the slot, from its arrival to its end.
+fn run<K: Naming, R: Wait>(
+    rt: &R,
+    level: &Level<K>,
+    board: &Board,
+    slot: u32,
+    round: u64,
+    request: &mut Request<K>,
+) {
+    board.goes_on(slot);
+    match decided(rt, level, slot, round % 2 == 0, request) {
+        Answer::Run => board.note(slot, round, Decision::Execute, false),
+        Answer::Over(decision) => board.note(slot, round, decision, false),
+        _ => {}
+    }
+    request.finish(rt, level);
+}
+
+// All requests of one slot, one after another.
+fn live_on<K: Naming, R: Wait>(
+    rt: &R,
+    level: &Level<K>,
+    board: &Board,
+    place: usize,
+    request: &mut Request<K>,
+) {
+    let slot = (place % 8) as u32;
+    for round in 1..=ROUNDS {
+        run(rt, level, board, slot, round, request);
+    }
+    board.ended.fetch_add(1, Ordering::SeqCst);
+}
+
+// The ticket of the request of this round of the slot. All are one seat wide.
+fn ticket_of(slot: u32, round: u64) -> Ticket {
+    Ticket {
+        number: (u128::from(round) * 32_768 + 1) * 16_384 + u128::from(slot),
+    }
+}
+
+// Cancels the present request of the slot, or one of the two before.
+fn cancel<K: Naming, R: Wait>(
+    rt: &R,
+    level: &Level<K>,
+    board: &Board,
+    slot: u32,
+    back: u64,
+    operator: &mut Operator<K>,
+) {
+    let round = board.present(slot).saturating_sub(back);
+    let ticket = ticket_of(slot, round);
+    if round == 0 || round > ROUNDS || !level.knows(ticket) {
+        return;
+    }
+    match operator.cancel(level, ticket) {
+        Cancel::Is(decision) => board.note(slot, round, decision, true),
+        Cancel::Other => {
+            board.late.fetch_add(1, Ordering::SeqCst);
+        }
+    }
+    if back == 0 {
+        level.strike(rt, ticket);
+    }
+}
+
+// Cancels requests of one slot after another, until all have ended.
+fn cancel_on<K: Naming, R: Wait>(
+    rt: &R,
+    level: &Level<K>,
+    board: &Board,
+    operator: &mut Operator<K>,
+) {
+    for turn in 0..MOST_TURNS {
+        if board.ended.load(Ordering::SeqCst) >= u64::from(SLOTS) {
+            break;
+        }
+        let slot = turn % SLOTS;
+        cancel(rt, level, board, slot, u64::from(turn / SLOTS % 3), operator);
+        thread::yield_now();
+    }
+}
+
+// The slots live on, in four threads.
+fn slots_live<K: Naming, R: Threads + Wait + Sync>(
+    rt: &R,
+    level: &Level<K>,
+    board: &Board,
+    slots: &mut [Request<K>],
+)
+    ensures { length slots.new ≡ length slots.old }
+{
+    thread::for_each_mut(
+        rt,
+        slots,
+        4,
+        &|place, request| live_on(rt, level, board, place, request),
+    );
+}
+
+// The operators cancel, in two threads.
+fn operators_cancel<K: Naming, R: Threads + Wait + Sync>(
+    rt: &R,
+    level: &Level<K>,
+    board: &Board,
+    operators: &mut [Operator<K>],
+)
+    ensures { length operators.new ≡ length operators.old }
+{
+    thread::for_each_mut(
+        rt,
+        operators,
+        2,
+        &|_, operator| cancel_on(rt, level, board, operator),
+    );
+}
+
+// Both at once.
+fn all_work<K: Naming, R: Threads + Wait + Sync>(
+    rt: &R,
+    level: &Level<K>,
+    board: &Board,
+    slots: &mut [Request<K>],
+    operators: &mut [Operator<K>],
+)
+    ensures slots { length slots.new ≡ length slots.old }
+    ensures operators { length operators.new ≡ length operators.old }
+{
+    join_mut(
+        rt,
+        &mut ||
+            requires { IsSync R.row }
+            ensures { length slots.exit.now ≡ length slots.entry.now }
+        { slots_live(rt, level, board, slots) },
+        &mut ||
+            requires { IsSync R.row }
+            ensures { length operators.exit.now ≡ length operators.entry.now }
+        { operators_cancel(rt, level, board, operators) },
+    );
+}
+
+fn play<K: Naming, R: Threads + Wait + Abort + Sync>(
+    rt: &R,
+    alloc: Global,
+    board: &Board,
+    opening: Opening,
+) -> Report
+    requires level { K.level ≡ level_of opening.gate opening.config }
+{
+    let Ok(mut session) = Session::<K>::open_for_life(rt, alloc, opening) else {
+        panic!(rt; "opens")
+    };
+    all_work(
+        rt,
+        &session.level,
+        board,
+        session.slots.as_mut_slice(),
+        session.operators.as_mut_slice(),
+    );
+    let Ok(report) = session.end(rt, alloc) else {
+        panic!(rt; "memory")
+    };
+    report
+}
+
+// Runs all requests, and ends the level.
+fn live<R: Threads + Wait + Abort + Sync>(rt: &R, alloc: Global, board: &Board) -> Report {
+    let config = Config {
+        limit: 2,
+        queues: 4,
+        hand_size: 2,
+        queue_length_limit: 10,
+        limit_response: Response::Queue,
+    };
+    let Ok(opening) = Opening::new(alloc, &config, SLOTS, 2) else {
+        panic!(rt; "opens")
+    };
+    play::<Brand, R>(rt, alloc, board, opening)
+}
+
+// How many requests were decided so, each told of to all alike: 1 is execute and 8 is cancelled. No other bits
+// than these may stand there, and who is cancelled was cancelled by a call that said so.
+fn all_alike<R: Abort>(rt: &R, board: &Board) -> (u64, u64) {
+    let mut executed = 0u64;
+    let mut cancelled = 0u64;
+    for word in board.told.iter() {
+        match word.load(Ordering::SeqCst) {
+            0x001 | 0x101 => executed = executed.saturating_add(1),
+            0x808 => cancelled = cancelled.saturating_add(1),
+            other => panic!(rt; "told {other}"),
+        }
+    }
+    (executed, cancelled)
+}
+
+// Each request has one decision, whoever was told it, early or late. Late cancels wrote nothing, and some were late.
+#[test]
+fn a_hundred_thousand_requests_over_eight_slots(rt: HostRuntime) {
+    let board = Board::new(&rt, rt.alloc());
+    let report = live(&rt, rt.alloc(), &board);
+    let (executed, cancelled) = all_alike(&rt, &board);
+    let counts = report.words.counts();
+    assert_eq!(rt; executed.saturating_add(cancelled), 100_000);
+    assert_eq!(rt; (counts.executed, counts.cancelled), (executed, cancelled));
+    assert_eq!(rt;
+        (counts.queue_full, counts.closed, counts.concurrency_limit),
+        (0, 0, 0)
+    );
+    assert_eq!(rt; report.words.level().seats(), 0);
+    let stats = report.newest.stats;
+    assert_eq!(rt; stats.entered, stats.dispatched.saturating_add(stats.struck));
+    let late = board.late.load(Ordering::SeqCst);
+    assert!(rt;
+        late > 0 && cancelled > 0 && stats.dispatched > 0,
+        "{late} were late, {cancelled} were cancelled, {} were dispatched",
+        stats.dispatched
+    );
+}

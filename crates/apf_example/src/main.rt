@@ -1,19 +1,18 @@
-//! The example of the README: opens a level, lets two requests of one client in, and ends it.
+//! The example of the README: opens a level, lets two thousand requests of one client in over two slots, and ends it.
 #![tactic(auto)]
 
-ghost use Rattle.std.specs.Prelude.{◌≡◌, length};
-ghost use Rattle.apf_session.specs.Openings.{level_of};
+ghost use Rattle.std.specs.Prelude.{◌≡◌};
+ghost use Rattle.apf_life_session.specs.Openings.{level_of};
 
-use apf_book::{Ask, Config};
-use apf_level::{Naming, Report};
-use apf_model::Response;
-use apf_session::{OpenFault, Opening, Session};
+use apf_life::{Naming, Report};
+use apf_life_session::{OpenFault, Opening, Session};
+use apf_model::{Ask, Config, Response};
 use std::alloc::Global;
 use std::marker::Brand;
 use std::process::ExitCode;
 use std::sync::Wait;
 
-// One seat, one queue, and two requests of one seat each, of one flow.
+// One seat, one queue, and two slots: at most two requests are there at once.
 fn serve<R: Wait>(rt: &R, alloc: Global) -> Result<Report, OpenFault> {
     let config = Config {
         limit: 1,
@@ -22,8 +21,7 @@ fn serve<R: Wait>(rt: &R, alloc: Global) -> Result<Report, OpenFault> {
         queue_length_limit: 10,
         limit_response: Response::Queue,
     };
-    let asks = [Ask { width: 1, hash: 7 }; 2];
-    let opening = Opening::new(alloc, &config, &asks, 1)?;
+    let opening = Opening::new(alloc, &config, 2, 1)?;
     serve_named::<Brand, R>(rt, alloc, opening)
 }
 
@@ -31,19 +29,22 @@ fn serve<R: Wait>(rt: &R, alloc: Global) -> Result<Report, OpenFault> {
 fn serve_named<K: Naming, R: Wait>(
     rt: &R,
     alloc: Global,
-    opening: Opening<'_>,
+    opening: Opening,
 ) -> Result<Report, OpenFault>
-    requires level { K.level ≡ level_of opening.gate opening.board.cell opening.config opening.asks.now }
-    requires two { length opening.gate.shape.widths ≡ 2 }
+    requires level { K.level ≡ level_of opening.gate opening.config }
+    requires two { opening.gate.shape.slots ≡ 2 }
 {
-    let mut session = Session::<K>::open(rt, alloc, opening)?;
-    // request 0 takes the seat, and request 1 waits in a queue
-    session.begin(rt, 0);
-    session.begin(rt, 1);
-    // here request 0 is served; then it gives its seat to request 1
-    session.finish(rt, 0);
-    session.poll(rt, 1);
-    session.finish(rt, 1);
+    let mut session = Session::<K>::open_for_life(rt, alloc, opening)?;
+    let ask = Ask { width: 1, hash: 7 };
+    for _round in 0..1000 {
+        // the next request of slot 0 takes the seat, and that of slot 1 waits in a queue
+        session.arrive(rt, 0, ask);
+        session.arrive(rt, 1, ask);
+        // here the first one is served; then it gives its seat to the other one
+        session.finish(rt, 0);
+        session.poll(rt, 1);
+        session.finish(rt, 1);
+    }
     Ok(session.end(rt, alloc)?)
 }
 
@@ -51,9 +52,9 @@ fn main(rt: HostRuntime) -> ExitCode {
     let Ok(report) = serve(&rt, rt.alloc()) else {
         return ExitCode::from(3);
     };
-    let counts = report.counts;
-    let log = report.log;
-    match println!(rt; "{counts:?}\n{log:?}") {
+    let counts = report.words.counts();
+    let stats = report.newest.stats;
+    match println!(rt; "{counts:?}\n{stats:?}") {
         Ok(()) => ExitCode::SUCCESS,
         Err(_) => ExitCode::from(1),
     }

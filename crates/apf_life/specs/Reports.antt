@@ -47,6 +47,8 @@ pub record HistoryAgrees (numbers : ℕ) (h : List Event) (decision : ℕ → Op
 pub record Ended (k : LifeId) (slots : List PassToken) (stations : List StationToken) (r : Report) : Type 0 where
   -- no seat is taken, and nobody is counted as waiting
   pub drained : (r.words.level.seats ≡ 0) × (r.words.level.waiters ≡ 0)
+  -- each slot has its line
+  pub count : length r.words.decisions ≡ k.gate.shape.slots
   -- the history is legal and fair, and nobody waits
   pub view : LifeView
   pub of_level : IsHistoryOf k view

@@ -10,7 +10,7 @@ ghost use Rattle.apf_life.specs.Calls.{SettledBy};
 ghost use Rattle.apf_life_session.specs.declared.answer.Place.TheVariants as places;
 ghost use Rattle.apf_life_session.specs.declared.token.Token.{Token};
 ghost use Rattle.apf_life_session.specs.Openings.{level_of, IsOpenFault};
-ghost use Rattle.apf_life_session.specs.Requests.{number_in, Answers, Arrives, CallsOne, AreFree};
+ghost use Rattle.apf_life_session.specs.Requests.{number_in, Answers, Arrives, Tries, CallsOne, AreFree};
 ghost use Rattle.apf_life_session.specs.Ends.{KeepsOrder, SessionEnds};
 
 use crate::answer::{Answer, Place};
@@ -202,6 +202,18 @@ impl<K: Naming> Session<K> {
         ensures operators { self.new.operators.items ≡ self.old.operators.items }
     {
         self.slots[slot as usize].arrive(rt, &self.level, ask)
+    }
+
+    /// The next request of a free slot is admitted, if nobody waits and it fits. It never enters a queue. Answers `Run`,
+    /// `Tried` or `Busy`, or `Spent`.
+    pub fn try_arrive(&mut self, slot: u32, ask: Ask) -> Answer
+        requires is_slot { slot < K.level.gate.shape.slots }
+        requires some_width { 1 ≤ ask.width }
+        requires narrow { ask.width ≤ max_width }
+        ensures calls { CallsOne (Tries ask.width) slot self.old.slots.items result self.new.slots.items }
+        ensures operators { self.new.operators.items ≡ self.old.operators.items }
+    {
+        self.slots[slot as usize].try_arrive(&self.level, ask)
     }
 
     /// Reads the decision of a request that waits. Answers `Run`, `Waits` or `Over`.

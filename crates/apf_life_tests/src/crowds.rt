@@ -1,6 +1,5 @@
 //! Many requests over eight slots, by four threads, with cancels by tickets that are late or not.
 
-ghost use denote.Param.Send.{IsSync};
 ghost use Rattle.std.specs.Prelude.{◌≡◌, length};
 ghost use Rattle.apf_life_session.specs.Openings.{level_of};
 
@@ -13,10 +12,10 @@ use apf_words::Decision;
 use std::alloc::Global;
 use std::marker::Brand;
 use std::process::Abort;
-use std::sync::Wait;
+use std::sync::{Mutex, Wait};
 use std::sync::atomic::{AtomicU64, Ordering};
 use std::thread;
-use std::thread::{Threads, join_mut};
+use std::thread::Threads;
 
 // How many slots there are, and how many requests hold each, one after another.
 const SLOTS: u32 = 8;
@@ -33,8 +32,6 @@ struct Board {
     told: Vec<AtomicU64>,
     // The cancels that found another request.
     late: AtomicU64,
-    // The slots whose requests all came to an end.
-    ended: AtomicU64,
 }
 
 // So many numbers, each 0.
@@ -54,7 +51,6 @@ impl Board {
             present: zeros(rt, alloc, u64::from(SLOTS)),
             told: zeros(rt, alloc, ROUNDS * u64::from(SLOTS)),
             late: AtomicU64::new(0),
-            ended: AtomicU64::new(0),
         }
     }
 
@@ -123,15 +119,53 @@ fn decided<K: Naming, R: Wait>(
     answer
 }
 
-// One request of the slot, from its arrival to its end.
+// The ticket of the request of this round of the slot. All are one seat wide.
+fn ticket_of(slot: u32, round: u64) -> Ticket {
+    Ticket {
+        number: (u128::from(round) * 32_768 + 1) * 16_384 + u128::from(slot),
+    }
+}
+
+// Cancels the present request of the slot, or one of the two before. The present one is struck, if it waits.
+fn cancel<K: Naming, R: Wait>(
+    rt: &R,
+    level: &Level<K>,
+    board: &Board,
+    operator: &Mutex<Operator<K>>,
+    slot: u32,
+    back: u64,
+) {
+    let round = board.present(slot).saturating_sub(back);
+    let ticket = ticket_of(slot, round);
+    if round == 0 || round > ROUNDS || !level.knows(ticket) {
+        return;
+    }
+    match operator.lock(rt).cancel(level, ticket) {
+        Cancel::Is(decision) => board.note(slot, round, decision, true),
+        Cancel::Other => {
+            board.late.fetch_add(1, Ordering::SeqCst);
+        }
+    }
+    if back == 0 {
+        level.strike(rt, ticket);
+    }
+}
+
+// One request of the slot, from its arrival to its end. In every third round its thread cancels one of another slot
+// before.
 fn run<K: Naming, R: Wait>(
     rt: &R,
     level: &Level<K>,
     board: &Board,
+    operator: &Mutex<Operator<K>>,
     slot: u32,
     round: u64,
     request: &mut Request<K>,
 ) {
+    if round % 3 == 0 {
+        let other = slot.wrapping_add(1).wrapping_add((round % 7) as u32) % SLOTS;
+        cancel(rt, level, board, operator, other, round / 3 % 3);
+    }
     board.goes_on(slot);
     match decided(rt, level, slot, round % 2 == 0, request) {
         Answer::Run => board.note(slot, round, Decision::Execute, false),
@@ -146,62 +180,13 @@ fn live_on<K: Naming, R: Wait>(
     rt: &R,
     level: &Level<K>,
     board: &Board,
+    operator: &Mutex<Operator<K>>,
     place: usize,
     request: &mut Request<K>,
 ) {
     let slot = (place % 8) as u32;
     for round in 1..=ROUNDS {
-        run(rt, level, board, slot, round, request);
-    }
-    board.ended.fetch_add(1, Ordering::SeqCst);
-}
-
-// The ticket of the request of this round of the slot. All are one seat wide.
-fn ticket_of(slot: u32, round: u64) -> Ticket {
-    Ticket {
-        number: (u128::from(round) * 32_768 + 1) * 16_384 + u128::from(slot),
-    }
-}
-
-// Cancels the present request of the slot, or one of the two before.
-fn cancel<K: Naming, R: Wait>(
-    rt: &R,
-    level: &Level<K>,
-    board: &Board,
-    slot: u32,
-    back: u64,
-    operator: &mut Operator<K>,
-) {
-    let round = board.present(slot).saturating_sub(back);
-    let ticket = ticket_of(slot, round);
-    if round == 0 || round > ROUNDS || !level.knows(ticket) {
-        return;
-    }
-    match operator.cancel(level, ticket) {
-        Cancel::Is(decision) => board.note(slot, round, decision, true),
-        Cancel::Other => {
-            board.late.fetch_add(1, Ordering::SeqCst);
-        }
-    }
-    if back == 0 {
-        level.strike(rt, ticket);
-    }
-}
-
-// Cancels requests of one slot after another, until all have ended.
-fn cancel_on<K: Naming, R: Wait>(
-    rt: &R,
-    level: &Level<K>,
-    board: &Board,
-    operator: &mut Operator<K>,
-) {
-    for turn in 0..MOST_TURNS {
-        if board.ended.load(Ordering::SeqCst) >= u64::from(SLOTS) {
-            break;
-        }
-        let slot = turn % SLOTS;
-        cancel(rt, level, board, slot, u64::from(turn / SLOTS % 3), operator);
-        thread::yield_now();
+        run(rt, level, board, operator, slot, round, request);
     }
 }
 
@@ -210,6 +195,7 @@ fn slots_live<K: Naming, R: Threads + Wait + Sync>(
     rt: &R,
     level: &Level<K>,
     board: &Board,
+    operator: &Mutex<Operator<K>>,
     slots: &mut [Request<K>],
 )
     ensures { length slots.new ≡ length slots.old }
@@ -218,49 +204,30 @@ fn slots_live<K: Naming, R: Threads + Wait + Sync>(
         rt,
         slots,
         4,
-        &|place, request| live_on(rt, level, board, place, request),
+        &|place, request| live_on(rt, level, board, operator, place, request),
     );
 }
 
-// The operators cancel, in two threads.
-fn operators_cancel<K: Naming, R: Threads + Wait + Sync>(
+// All slots live on, and the operator is back then.
+fn all_live<K: Naming, R: Threads + Wait + Abort + Sync>(
     rt: &R,
-    level: &Level<K>,
     board: &Board,
-    operators: &mut [Operator<K>],
-)
-    ensures { length operators.new ≡ length operators.old }
-{
-    thread::for_each_mut(
+    session: &mut Session<K>,
+) {
+    let Some(operator) = session.operators.pop() else {
+        panic!(rt; "a Station")
+    };
+    let operator = Mutex::new(operator);
+    slots_live(
         rt,
-        operators,
-        2,
-        &|_, operator| cancel_on(rt, level, board, operator),
+        &session.level,
+        board,
+        &operator,
+        session.slots.as_mut_slice(),
     );
-}
-
-// Both at once.
-fn all_work<K: Naming, R: Threads + Wait + Sync>(
-    rt: &R,
-    level: &Level<K>,
-    board: &Board,
-    slots: &mut [Request<K>],
-    operators: &mut [Operator<K>],
-)
-    ensures slots { length slots.new ≡ length slots.old }
-    ensures operators { length operators.new ≡ length operators.old }
-{
-    join_mut(
-        rt,
-        &mut ||
-            requires { IsSync R.row }
-            ensures { length slots.exit.now ≡ length slots.entry.now }
-        { slots_live(rt, level, board, slots) },
-        &mut ||
-            requires { IsSync R.row }
-            ensures { length operators.exit.now ≡ length operators.entry.now }
-        { operators_cancel(rt, level, board, operators) },
-    );
+    let Ok(()) = session.operators.push(operator.into_inner()) else {
+        panic!(rt; "memory")
+    };
 }
 
 fn play<K: Naming, R: Threads + Wait + Abort + Sync>(
@@ -274,13 +241,7 @@ fn play<K: Naming, R: Threads + Wait + Abort + Sync>(
     let Ok(mut session) = Session::<K>::open_for_life(rt, alloc, opening) else {
         panic!(rt; "opens")
     };
-    all_work(
-        rt,
-        &session.level,
-        board,
-        session.slots.as_mut_slice(),
-        session.operators.as_mut_slice(),
-    );
+    all_live(rt, board, &mut session);
     let Ok(report) = session.end(rt, alloc) else {
         panic!(rt; "memory")
     };
@@ -296,7 +257,7 @@ fn live<R: Threads + Wait + Abort + Sync>(rt: &R, alloc: Global, board: &Board) 
         queue_length_limit: 10,
         limit_response: Response::Queue,
     };
-    let Ok(opening) = Opening::new(alloc, &config, SLOTS, 2) else {
+    let Ok(opening) = Opening::new(alloc, &config, SLOTS, 1) else {
         panic!(rt; "opens")
     };
     play::<Brand, R>(rt, alloc, board, opening)

@@ -8,8 +8,8 @@
 //!
 //! In many threads:
 //!
-//! - `crowds`: many requests over eight slots, with cancels by tickets that are late or not. Every second one sleeps
-//!   until it is decided.
+//! - `crowds`: many requests over eight slots, with cancels by tickets that are late or not. Every second one
+//!   sleeps until it is decided.
 #![tactic(auto)]
 
 #[cfg(test)]

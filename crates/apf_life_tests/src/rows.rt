@@ -1,6 +1,6 @@
 //! Worked calls over a few slots.
 
-ghost use Rattle.std.specs.Prelude.{◌≡◌};
+ghost use Rattle.std.specs.Prelude.{◌≡◌, length};
 ghost use Rattle.apf_life_session.specs.Openings.{level_of};
 
 use apf_book::LifeEvent;
@@ -38,7 +38,9 @@ fn open<R: Abort>(rt: &R, alloc: Global, response: Response) -> Opening
     opening
 }
 
-fn ended<K: Naming, R: Wait + Abort>(rt: &R, alloc: Global, session: Session<K>) -> Report {
+fn ended<K: Naming, R: Wait + Abort>(rt: &R, alloc: Global, session: Session<K>) -> Report
+    ensures { length result.words.decisions ≡ K.level.gate.shape.slots }
+{
     let Ok(report) = session.end(rt, alloc) else {
         panic!(rt; "memory")
     };
@@ -182,16 +184,14 @@ fn tried<K: Naming, R: Wait + Abort>(rt: &R, alloc: Global, opening: Opening)
     let Ok(mut session) = Session::<K>::open_for_life(rt, alloc, opening) else {
         panic!(rt; "opens")
     };
-    let level = &session.level;
-    assert_eq!(rt; session.slots[0].try_arrive(level, ONE), Answer::Run);
-    assert_eq!(rt; session.slots[1].try_arrive(level, ONE), Answer::Busy);
+    assert_eq!(rt; session.try_arrive(0, ONE), Answer::Run);
+    assert_eq!(rt; session.try_arrive(1, ONE), Answer::Busy);
     assert!(rt; session.slots[1].place() == Place::Free);
-    assert_eq!(rt; session.slots[0].try_arrive(level, ONE), Answer::Wrong);
+    assert_eq!(rt; session.try_arrive(0, ONE), Answer::Wrong);
     session.finish(rt, 0);
     assert_eq!(rt; session.close(), Close::First);
-    let level = &session.level;
     let closed = Answer::Tried(Decision::Closed, false);
-    assert_eq!(rt; session.slots[1].try_arrive(level, ONE), closed);
+    assert_eq!(rt; session.try_arrive(1, ONE), closed);
     let report = ended(rt, alloc, session);
     let counts = report.words.counts();
     assert_eq!(rt; (counts.executed, counts.closed), (1, 1));

@@ -29,6 +29,7 @@ returns g c =
     let none = nobody k.gate d ps ss w ends a done in
     record {
       drained = a.drained (λ i t low. (done i t low).back) closes.agrees.holds_none none;
+      count = ends.count;
       view = v;
       of_level = closes.of_level;
       nobody_waits = nobody_waits v.history d closes.agrees statuses numbers (λ q r. counted.waits_named numbers closes.of_level.names_requests q r) none;

@@ -44,6 +44,11 @@ PARTS = [
         "What the report of a level says, when all of its tokens were handed in.",
         [("apf_level/src/end.rt", "    pub fn end(")],
     ),
+    (
+        "The end of a level for a server's whole life",
+        "What the report of a level tells whose slots were used again, of every request that ever held one.",
+        [("apf_life/src/end.rt", "    pub fn end(")],
+    ),
 ]
 
 USE = re.compile(r"^(?:pub )?(?:ghost )?use (Rattle\.[\w.]+?)(?:\.\{(.*)\}| as (\w+))?;?$")

@@ -21,7 +21,7 @@ use Rattle.apf_book.specs.Agreeing.{IsDeskOf}
 use Rattle.apf_life.specs.Reports.{HistoryAgrees}
 
 -- what the Desk did, where the history says this
-waits_then : (s : Service) → logged s ≡ Some status_is.Waits → s ≡ service_is.Waiting
+pub waits_then : (s : Service) → logged s ≡ Some status_is.Waits → s ≡ service_is.Waiting
 waits_then service_is.NotHanded is = cc
 waits_then service_is.Handed is = cc
 waits_then service_is.RefusedFull is = cc

@@ -1,8 +1,9 @@
 -- What a history of a level's book is.
-use Rattle.std.proofs.Common.{◌≡◌, ℕ, ◌≤◌, ◌<◌, inl, inr, false, List, [], length, refl, sym, ap, ◌∙◌, subst, arith}
+use Rattle.std.proofs.Common.{◌≡◌, ℕ, ◌≤◌, ◌<◌, inl, inr, Bool, true, false, List, [], length, refl, sym, ap, ◌∙◌, subst, arith}
 use Rattle.std.proofs.lemmas.Bool.{cases_lt}
 use Rattle.std.proofs.lemmas.List.{get_or_past}
 use Rattle.apf_history.specs.declared.events.Event.{Event}
+use Rattle.apf_history.specs.declared.events.Event.TheVariants.{Strike}
 use Rattle.apf_model.specs.World.{width}
 use Rattle.apf_model.specs.Schedule.{AreWidths}
 use Rattle.apf_model.specs.History.{NamesRequests, has_arrived}
@@ -11,11 +12,13 @@ use Rattle.apf_gate.specs.Gauges.{IsShape}
 use Rattle.apf_gate.specs.Slots.{IsTicket}
 use Rattle.apf_gate.specs.Tokens.{GateId}
 use Rattle.apf_book.specs.Life.{LifeView, IsOpening, asked, then_came}
-use Rattle.apf_book.specs.LifeBook.{LifeBookView, IsLifeKept, ServesLife}
+use Rattle.apf_book.specs.LifeBook.{LifeBookView, IsLifeKept, ServesLife, StrikesLife, then_came_all}
 use Rattle.apf_book.specs.LifeCalls.{SameLifeBook}
 use Rattle.apf_life.specs.Levels.{LifeId, IsBookOf, IsHistoryOf}
 use Rattle.apf_life.specs.Arrivals.{Came}
 use Rattle.apf_life.specs.Sections.{Dispatched}
+use Rattle.apf_life.specs.Stopped.{IsStopped}
+use Rattle.apf_life.proofs.Stopped.{at_rest}
 
 pub history_of : (k : LifeId) (v : LifeView) (b : LifeBookView) → IsBookOf k b → IsLifeKept v b → IsHistoryOf k v
 history_of k v b own kept = record {
@@ -92,3 +95,24 @@ first_ticket shape is slot inside =
     let all = is.all_slots in
     let few = is.few_slots in
     record { inside = omega arith; in_slot = omega arith; small = omega arith }
+
+-- a history that goes on from one with the same queues
+pub record GoesOn (v : LifeView) (b' : LifeBookView) : Type 0 where
+  pub view : LifeView
+  pub kept : IsLifeKept view b'
+  pub limit : view.limit ≡ v.limit
+
+pub after_strike : (v : LifeView) (b b' : LifeBookView) (r : ℕ) (struck : Bool) → StrikesLife v b r struck b' → GoesOn v b'
+after_strike v b b' r true strikes = record { view = then_came v (Strike r strikes.0); kept = strikes.2; limit = refl }
+after_strike v b b' r false strikes = record { view = v; kept = strikes.0; limit = refl }
+
+-- after serving the book is the level's still, and at rest
+pub record Rests (k : LifeId) (b' : LifeBookView) : Type 0 where
+  pub own : IsBookOf k b'
+  pub stopped : IsStopped b'
+
+pub rests : (k : LifeId) (v : LifeView) (b b' : LifeBookView) (count : ℕ) → IsBookOf k b → IsLifeKept v b → SameLifeBook b b' → ServesLife v b count b' → Rests k b'
+rests k v b b' count own kept same served = record {
+  own = still_own k b b' v (then_came_all served.events v) own same kept served.kept refl;
+  stopped = ∣ at_rest v b b' count same served ∣₁;
+}

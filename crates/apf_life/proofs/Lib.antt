@@ -1,5 +1,7 @@
 pub mod Knowing
 pub mod Setting
-pub mod Histories
 pub mod Nobody
 pub mod Ended
+pub mod Stopped
+pub mod Histories
+pub mod Standing

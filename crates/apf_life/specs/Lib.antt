@@ -7,3 +7,4 @@ pub mod Arrivals
 pub mod Sections
 pub mod Calls
 pub mod Reports
+pub mod Stopped

@@ -10,6 +10,7 @@
 //! - `admission`: the steps of a request outside the lock. `arriving`: those that may take it.
 //! - `stations`: the calls of a Station. `locked`: those that take the lock.
 //! - `report`, `end`: how a level ends, and what it tells then.
+//! - `laws`: what is true of every history of a level.
 #![tactic(auto)]
 
 mod admission;
@@ -17,6 +18,7 @@ mod alone;
 mod answers;
 mod arriving;
 mod end;
+mod laws;
 mod level;
 mod locked;
 mod naming;
@@ -28,6 +30,9 @@ mod stations;
 mod tokens;
 
 pub use answers::{Admit, Begin, Poll, Renewed, TryAdmit};
+pub use laws::{
+    every_life_history_isolates, every_life_wait_is_bounded, no_life_request_is_forgotten,
+};
 pub use level::{Level, LevelFault, Opened};
 pub use naming::Naming;
 pub use report::{Newest, Report};

@@ -15,6 +15,7 @@ ghost use Rattle.apf_life.specs.Tokens.{IsOf};
 ghost use Rattle.apf_life.specs.Arrivals.{StandsAs};
 ghost use Rattle.apf_life.specs.Sections.{Dispatched, Struck, IsCopied, AreStatsOf, AreSleepers};
 ghost use Rattle.apf_life.specs.Calls.{StandsInLine};
+ghost use Rattle.apf_life.specs.Stopped.{IsStopped};
 
 use crate::answers::Stood;
 use crate::naming::Naming;
@@ -27,6 +28,8 @@ use std::marker::PhantomData;
 use std::sync::{Mutex, Wait};
 
 /// The book of K's level, beside those who may sleep.
+///
+/// Nothing waits, or who is dispatched next does not fit the level word that the Desk found last.
 #[derive(Drop)]
 pub struct Queued<K: Naming> {
     pub book: LifeBook<Global>,
@@ -37,6 +40,7 @@ pub struct Queued<K: Naming> {
     ghost tied: { IsBookOf K.level book },
     ghost room: { book.notes.capacity ≡ 2 * K.level.gate.shape.slots },
     ghost each_slot: { AreSleepers K.level sleepers.items },
+    ghost stopped: { IsStopped book },
 }
 
 /// The lock of a level with queues, and who deals a request its hand of them, outside the lock.
@@ -131,7 +135,8 @@ impl<K: Naming> Queued<K> {
         serve(rt, gate, &mut self.book, self.sleepers.as_slice(), before)
     }
 
-    /// Strikes the request, if it waits and is cancelled, and dispatches then. Says whether it struck.
+    /// Strikes the request, if it waits and is cancelled, and dispatches while the chosen head fits. Says whether it
+    /// struck.
     pub fn strike<R: Wait>(&mut self, rt: &R, gate: &Gate<Global>, request: Ticket) -> bool
         requires own { gate.now ≡ K.level.gate }
         requires is_request { IsTicket K.level.gate.shape request.number }
@@ -139,11 +144,9 @@ impl<K: Naming> Queued<K> {
     {
         self.book.has_a_history();
         let before = self.book.events();
-        if !self.book.strike(gate, request) {
-            return false;
-        }
+        let struck = self.book.strike(gate, request);
         serve(rt, gate, &mut self.book, self.sleepers.as_slice(), before);
-        true
+        struck
     }
 
     /// The Pass's request, which entered and was told that it does not execute, is cancelled. It is struck out of its
@@ -164,9 +167,7 @@ impl<K: Naming> Queued<K> {
         let before = self.book.events();
         // the Desk, which let it enter, knows that it is decided by nobody else
         self.book.hear(gate, pass);
-        if !self.book.withdraw(gate, pass) {
-            return;
-        }
+        let _struck = self.book.withdraw(gate, pass);
         serve(rt, gate, &mut self.book, self.sleepers.as_slice(), before);
     }
 

@@ -5,6 +5,11 @@ use Rattle.apf_life.specs.declared.report.Report.{Report}
 use Rattle.apf_life.specs.Levels.{LifeId}
 use Rattle.apf_life.specs.Reports.{Ended}
 
+-- as many operators as there were, of which all but the first one made no step
+pub record StayButFirst (old new : List StationToken) : Type 0 where
+  pub count : length new ≡ length old
+  pub others : (i : ℕ) (d : StationToken) → i ≢ 0 → slice_index_or new i d ≡ slice_index_or old i d
+
 -- the Stations that were handed in are these operators', in their order; the first may have made steps since
 pub record KeepsOrder (operators stations : List StationToken) : Type 0 where
   pub count : length stations ≡ length operators

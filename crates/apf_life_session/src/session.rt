@@ -11,7 +11,7 @@ ghost use Rattle.apf_life_session.specs.declared.answer.Place.TheVariants as pla
 ghost use Rattle.apf_life_session.specs.declared.token.Token.{Token};
 ghost use Rattle.apf_life_session.specs.Openings.{level_of, IsOpenFault};
 ghost use Rattle.apf_life_session.specs.Requests.{number_in, Answers, Arrives, Tries, CallsOne, AreFree};
-ghost use Rattle.apf_life_session.specs.Ends.{KeepsOrder, SessionEnds};
+ghost use Rattle.apf_life_session.specs.Ends.{StayButFirst, KeepsOrder, SessionEnds};
 
 use crate::answer::{Answer, Place};
 use crate::fault::OpenFault;
@@ -120,16 +120,15 @@ fn settle_all<K: Naming>(
 // The operators with these Stations, in their order.
 fn operators_of<K: Naming>(
     alloc: Global,
-    mut stations: Vec<Station>,
+    stations: Vec<Station>,
 ) -> Result<Vec<Operator<K>>, AllocError>
     requires { All (λ t. station_gate t ≡ K.level.gate) stations.items }
-    ensures { IfOk result (λ v. length v.items ≡ length stations.items) }
+    ensures { IfOk result (λ v. v.items ≡ stations.items) }
 {
     let mut operators = Vec::with_capacity(alloc, stations.len())?;
-    while let Some(station) = stations.pop() {
+    for station in stations {
         operators.push(Operator::new(station))?;
     }
-    operators.reverse();
     Ok(operators)
 }
 
@@ -162,6 +161,7 @@ impl<K: Naming> Session<K> {
     ) -> Result<Session<K>, OpenFault>
         requires { K.level ≡ level_of opening.gate opening.config }
         ensures free { IfOk result (λ s. AreFree s.slots.items) }
+        ensures operators { IfOk result (λ s. s.operators.items ≡ opening.stations.items) }
         ensures settings { OnOk result (SettledBy opening.config.limit_response opening.config opening.gate.shape.slots) }
         ensures fault { IfErr result (IsOpenFault opening.config opening.gate.shape.slots opening.gate.shape.stations) }
     {
@@ -249,6 +249,7 @@ impl<K: Naming> Session<K> {
         requires is_request { IsTicket K.level.gate.shape request.number }
         requires operator { 0 < K.level.gate.shape.stations }
         ensures answer { (d : StationToken) → TriesToCancel (slice_index_or self.old.operators.items 0 d).station request.number result (slice_index_or self.new.operators.items 0 d).station }
+        ensures others { StayButFirst self.old.operators.items self.new.operators.items }
         ensures same { self.new.slots.items ≡ self.old.slots.items }
     {
         let answer = self.operators[0].cancel(&self.level, request);
@@ -262,6 +263,7 @@ impl<K: Naming> Session<K> {
     pub fn close(&mut self) -> Close
         requires { 0 < K.level.gate.shape.stations }
         ensures answer { (d : StationToken) → ClosesTo (slice_index_or self.old.operators.items 0 d).station result (slice_index_or self.new.operators.items 0 d).station }
+        ensures others { StayButFirst self.old.operators.items self.new.operators.items }
         ensures same { self.new.slots.items ≡ self.old.slots.items }
     {
         self.operators[0].close(&self.level)
@@ -274,6 +276,7 @@ impl<K: Naming> Session<K> {
         requires some { 1 ≤ limit }
         requires small { limit ≤ max_limit }
         ensures answer { (d : StationToken) → LastSet (slice_index_or self.old.operators.items 0 d).station limit result (slice_index_or self.new.operators.items 0 d).station }
+        ensures others { StayButFirst self.old.operators.items self.new.operators.items }
         ensures same { self.new.slots.items ≡ self.old.slots.items }
     {
         self.operators[0].set_limit(rt, &self.level, limit)

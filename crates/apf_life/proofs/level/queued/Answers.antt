@@ -5,6 +5,7 @@ use Rattle.apf_flow.specs.Sizes.{Sizes}
 use Rattle.apf_gate.specs.Gauges.{IsShape}
 use Rattle.apf_gate.specs.Tokens.{GateId, desk_gate}
 use Rattle.apf_life.proofs.Histories.{beginning, is_beginning, first_ticket}
+use Rattle.apf_life.proofs.Stopped.{begins_at_rest}
 use Rattle.apf_life.proofs.level.queued.Goals as goal
 
 pub invariant_of-queued : goal.invariant_of-queued
@@ -22,6 +23,7 @@ invariant_of-queued g c =
         queues = kept.of_life.deck ∙ sym (ap (λ (s : Sizes). s.deck) c.requires.opening.sizes);
         limit = kept.of_life.limit ∙ sym c.requires.opening.queue_limit;
       };
+      stopped = ∣ begins_at_rest v c.in_ok-book.book refl kept ∣₁;
       room = made.room ∙ ap (λ (n : ℕ). 2 * n) c.requires.slots;
       each_slot = record {
         count = c.in_ok-first_tickets.ensures.count ∙ c.requires.slots;

@@ -1,23 +1,14 @@
--- The book is the level's still: its histories go on with the same queues.
-use Rattle.std.proofs.Common.{◌∙◌, refl}
-use Rattle.apf_history.specs.declared.events.Event.TheVariants.{Strike}
-use Rattle.apf_book.specs.Life.{then_came}
-use Rattle.apf_book.specs.LifeBook.{then_came_all}
-use Rattle.apf_life.proofs.Histories.{still_own}
+-- The book is the level's still, and at rest.
+use Rattle.std.proofs.Common.{◌∙◌}
+use Rattle.apf_life.proofs.Histories.{still_own, after_strike, rests}
 use Rattle.apf_life.proofs.queued.Queued.strike.Goals as goal
 
-pub invariant_of-self-2 : goal.invariant_of-self-2
-invariant_of-self-2 g c =
+pub invariant_of-self : goal.invariant_of-self
+invariant_of-self g c =
     let k = g.K.Naming.level in
     let old = c.args.self.now in
     let h = c.has_a_history.ensures in
-    let struck = c.if-not-strike.ensures.answer h.view h.kept in
-    let v = then_came h.view (Strike c.args.request.number struck.0) in
-    let served = c.serve.ensures.served v struck.2 in
-    record {
-      tied = still_own k c.strike.new.self c.serve.new.book v (then_came_all served.events v)
-          (still_own k old.book c.strike.new.self h.view v old.tied c.if-not-strike.ensures.same h.kept struck.2 refl)
-          c.serve.ensures.same struck.2 served.kept refl;
-      room = c.serve.ensures.same.room ∙ (c.if-not-strike.ensures.same.room ∙ old.room);
-      each_slot = old.each_slot;
-    }
+    let struck = after_strike h.view old.book c.strike-struck.new.self c.args.request.number c.strike-struck.result (c.strike-struck.ensures.answer h.view h.kept) in
+    let own = still_own k old.book c.strike-struck.new.self h.view struck.view old.tied c.strike-struck.ensures.same h.kept struck.kept struck.limit in
+    let now = rests k struck.view c.strike-struck.new.self c.serve.new.book c.serve.result own struck.kept c.serve.ensures.same (c.serve.ensures.served struck.view struck.kept) in
+    record { tied = now.own; room = c.serve.ensures.same.room ∙ (c.strike-struck.ensures.same.room ∙ old.room); each_slot = old.each_slot; stopped = now.stopped }

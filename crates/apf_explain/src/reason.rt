@@ -147,7 +147,7 @@ pub(crate) fn file_reason(
 }
 
 /// What is known of why the bytes of a line are no JSON: by how they begin, or else by what their reader says.
-pub(crate) fn line_reason(
+pub fn line_reason(
     alloc: Global,
     bytes: &[u8],
     error: &Error,

@@ -1,0 +1,4 @@
+pub mod Cuts
+pub mod Written
+pub mod ReadRight
+pub mod EveryLine

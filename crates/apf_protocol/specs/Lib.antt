@@ -1,0 +1,6 @@
+pub mod Faults
+pub mod Numerals
+pub mod Lines
+pub mod Grammar
+pub mod Objects
+pub mod Commands

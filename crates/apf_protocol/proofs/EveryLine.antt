@@ -1,13 +1,11 @@
 -- The line of any words is read as these words.
-use Rattle.std.proofs.Common.{◌≡◌, ℕ, ◌^◌, ◌<◌, ◌≤◌, List, [], ◌∷◌, ◌++◌, length, Bool, true, false, Option, Some, None, Result, Ok, Err, refl, sym, ap, arith, ◌∙◌}
-use Rattle.std.specs.Prelude.{nat_le, nat_lt, ◌&&◌, if◌then◌else◌, codes, decimal}
+use Rattle.std.proofs.Common.{◌≡◌, ℕ, ◌^◌, ◌<◌, ◌≤◌, List, [], ◌∷◌, ◌++◌, length, true, Some, None, Ok, refl, arith, ◌∙◌}
+use Rattle.std.specs.Prelude.{nat_le, nat_lt, codes, decimal}
 use Rattle.std.proofs.lemmas.Bool.Decides.{nat_tests}
 use Rattle.apf_words.specs.Limits.{max_limit}
-use Rattle.apf_files.specs.FirstFault.{◌>>=◌, or_fault}
 use Rattle.apf_traces.specs.TraceFile.{max_bytes}
-use Rattle.apf_protocol.specs.Numerals.{numeral}
-use Rattle.apf_protocol.specs.Lines.{Words, cut_of, alone, word_of, number_of, limit_of, object_text, arrival_of, behind_word, form_from, form_of, IsHeadInRange}
-use Rattle.apf_protocol.specs.Grammar.{line_of, IsObjectOf, IsLineOf, IsEveryLineRead}
+use Rattle.apf_protocol.specs.Lines.{cut_of, alone, word_of, number_of, limit_of, object_text, arrival_of, behind_word, form_from, form_of, IsHeadInRange}
+use Rattle.apf_protocol.specs.Grammar.{line_of, IsObjectOf, IsEveryLineRead}
 use Rattle.apf_protocol.specs.declared.head.Head.{Head}
 use Rattle.apf_protocol.specs.declared.head.Head.TheVariants.{Arrive, Try, Finish, Cancel, Limit, Close, Book, Queues, Metrics}
 use Rattle.apf_protocol.proofs.Written.{read_back, digits, cut_digits}

@@ -2,3 +2,4 @@ pub mod Cuts
 pub mod Written
 pub mod ReadRight
 pub mod EveryLine
+pub mod ObjectFaults

@@ -13,7 +13,6 @@ use Rattle.apf_protocol.specs.Lines.{Words, Cut, cut_of, alone, word_of, one_of,
 use Rattle.apf_protocol.specs.Grammar.{line_of, IsObjectOf, IsLineOf, IsReadRight}
 use Rattle.apf_protocol.specs.declared.fault.FaultKind.{FaultKind}
 use Rattle.apf_protocol.specs.declared.fault.FaultKind.TheVariants.{TooLong, BadLine, BadNumber, BadLimit}
-use Rattle.apf_protocol.specs.declared.head.Head.{Head}
 use Rattle.apf_protocol.specs.declared.head.Head.TheVariants.{Arrive, Try, Finish, Cancel, Limit, Close, Book, Queues, Metrics}
 use Rattle.apf_protocol.proofs.Written.{both, written, joined}
 

@@ -4,3 +4,5 @@ pub mod Lines
 pub mod Grammar
 pub mod Objects
 pub mod Commands
+pub mod Shown
+pub mod Texts

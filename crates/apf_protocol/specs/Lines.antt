@@ -93,6 +93,14 @@ form_from slots line (Some cut) = behind_word slots cut.front cut.rest
 unfoldable pub form_of : ℕ → List ℕ → Result Words FaultKind
 form_of slots line = if nat_le (length line) max_bytes then form_from slots line (cut_of line) else Err TooLong
 
+-- the number of the request that a line names, if it names one
+abbrev pub request_in : Head → Option ℕ
+request_in (Arrive n) = Some n
+request_in (Try n) = Some n
+request_in (Finish n) = Some n
+request_in (Cancel n) = Some n
+request_in head = None
+
 -- what is wrong with the number of a line, where it is said of each whether a request is there under it
 abbrev pub there_fault : Bool → Head → Option FaultKind
 there_fault there (Arrive n) = if there then Some (IsThere n) else None

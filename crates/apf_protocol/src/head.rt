@@ -1,7 +1,7 @@
 //! The words of a line, before its object is read.
 
 ghost use Rattle.std.specs.Prelude.{◌≡◌};
-ghost use Rattle.apf_protocol.specs.Lines.{there_fault};
+ghost use Rattle.apf_protocol.specs.Lines.{request_in, there_fault};
 
 use crate::fault::FaultKind;
 
@@ -44,7 +44,9 @@ impl Head {
     }
 
     /// The number of the request that the line names, if it names one.
-    pub fn number(self) -> Option<u32> {
+    pub fn number(self) -> Option<u32>
+        ensures { result ≡ request_in self }
+    {
         match self {
             Head::Arrive(number)
             | Head::Try(number)

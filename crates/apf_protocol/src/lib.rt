@@ -11,6 +11,7 @@
 //! - `laws`: what the definitions of the readers say of the lines as they are written.
 #![tactic(auto)]
 
+mod answer;
 mod arrival;
 mod command;
 mod cut;
@@ -20,9 +21,12 @@ mod head;
 mod laws;
 mod numeral;
 
+pub use answer::{Answer, Arrived, FirstLine, Given, Tried};
 pub use arrival::Arrival;
 pub use command::{Command, read_command};
 pub use fault::{FaultKind, Found, LineFault};
 pub use form::{Form, read_form};
 pub use head::Head;
-pub use laws::{every_form_is_its_line, every_line_of_a_form_is_read};
+pub use laws::{
+    every_arrival_fault_is_shown, every_form_is_its_line, every_line_of_a_form_is_read,
+};

@@ -64,7 +64,7 @@ fn queues(rt: HostRuntime) -> Result<(), Fail> {
         service: u64::MAX,
     };
     Answer::Queue(given).write(&mut out)?;
-    assert_eq!(rt; out.as_slice(), b"queue 1 waiting 2 entered 3 service 18446744073709551615\n");
+    assert_eq!(rt; out.as_slice(), b"queue 1 waiting 2 entered 3 service 18446744073709551615\n".as_slice());
     Ok(())
 }
 

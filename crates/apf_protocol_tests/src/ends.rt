@@ -29,7 +29,7 @@ fn one_byte_more(rt: HostRuntime) -> Result<(), Fail> {
     let line = wide_line(rt.alloc(), 65_537)?;
     assert_eq!(rt; line.len(), 65_537);
     let out = fault_line(rt.alloc(), line.as_bytes())?;
-    assert_eq!(rt; out.as_slice(), b"fault 7 line too long\n");
+    assert_eq!(rt; out.as_slice(), b"fault 7 line too long\n".as_slice());
     Ok(())
 }
 

@@ -42,7 +42,7 @@ fn arrivals_of_no_form(rt: HostRuntime) -> Result<(), Fail> {
 #[test]
 fn an_object_that_is_not_utf8(rt: HostRuntime) -> Result<(), Fail> {
     let out = fault_line(rt.alloc(), b"arrive 0 {\xff}")?;
-    assert_eq!(rt; out.as_slice(), b"fault 7 bad line\n");
+    assert_eq!(rt; out.as_slice(), b"fault 7 bad line\n".as_slice());
     Ok(())
 }
 
@@ -53,7 +53,7 @@ fn bad_numbers(rt: HostRuntime) -> Result<(), Fail> {
         "arrive 99999999999999999999999999 {}", "finish 18446744073709551616",
     ] {
         let out = fault_line(rt.alloc(), line.as_bytes())?;
-        assert_eq!(rt; out.as_slice(), b"fault 7 bad number\n", "at {line}");
+        assert_eq!(rt; out.as_slice(), b"fault 7 bad number\n".as_slice(), "at {line}");
     }
     Ok(())
 }
@@ -64,7 +64,7 @@ fn bad_limits(rt: HostRuntime) -> Result<(), Fail> {
         "limit 0", "limit 10001", "limit 4294967296", "limit 4294967297", "limit 99999999999999999999",
     ] {
         let out = fault_line(rt.alloc(), line.as_bytes())?;
-        assert_eq!(rt; out.as_slice(), b"fault 7 bad limit\n", "at {line}");
+        assert_eq!(rt; out.as_slice(), b"fault 7 bad limit\n".as_slice(), "at {line}");
     }
     Ok(())
 }

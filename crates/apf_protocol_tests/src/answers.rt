@@ -1,6 +1,6 @@
+use apf_model::{Config, Response};
 use apf_protocol::{Answer, Arrived, FirstLine, Given, Tried};
 use std::test::Fail;
-use apf_model::{Config, Response};
 
 #[test]
 fn arrivals(rt: HostRuntime) -> Result<(), Fail> {
@@ -64,7 +64,10 @@ fn queues(rt: HostRuntime) -> Result<(), Fail> {
         service: u64::MAX,
     };
     Answer::Queue(given).write(&mut out)?;
-    assert_eq!(rt; out.as_slice(), b"queue 1 waiting 2 entered 3 service 18446744073709551615\n".as_slice());
+    assert_eq!(rt;
+        out.as_slice(),
+        b"queue 1 waiting 2 entered 3 service 18446744073709551615\n".as_slice()
+    );
     Ok(())
 }
 
@@ -72,7 +75,10 @@ fn queues(rt: HostRuntime) -> Result<(), Fail> {
 #[test]
 fn first_lines(rt: HostRuntime) -> Result<(), Fail> {
     for (limit_response, line) in [
-        (Response::Queue, "serve 1 slots 10000 limit 10 queues 64 hand 8 length 50 queue\n"),
+        (
+            Response::Queue,
+            "serve 1 slots 10000 limit 10 queues 64 hand 8 length 50 queue\n",
+        ),
         (Response::Reject, "serve 1 slots 10000 limit 10 reject\n"),
     ] {
         let config = Config {

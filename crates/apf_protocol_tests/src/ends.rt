@@ -40,9 +40,15 @@ fn too_long_before_no_form(rt: HostRuntime) -> Result<(), Fail> {
     for _ in 0..65_536 {
         line.push(b'x')?;
     }
-    assert_eq!(rt; read_form(line.as_slice(), 1).err(), Some(FaultKind::BadLine));
+    assert_eq!(rt;
+        read_form(line.as_slice(), 1).err(),
+        Some(FaultKind::BadLine)
+    );
     line.push(b'x')?;
-    assert_eq!(rt; read_form(line.as_slice(), 1).err(), Some(FaultKind::TooLong));
+    assert_eq!(rt;
+        read_form(line.as_slice(), 1).err(),
+        Some(FaultKind::TooLong)
+    );
     Ok(())
 }
 
@@ -54,7 +60,10 @@ fn the_longest_number(rt: HostRuntime) -> Result<(), Fail> {
     for _ in 7..65_536 {
         line.push_str("9")?;
     }
-    assert_eq!(rt; read_form(line.as_bytes(), u32::MAX).err(), Some(FaultKind::BadNumber));
+    assert_eq!(rt;
+        read_form(line.as_bytes(), u32::MAX).err(),
+        Some(FaultKind::BadNumber)
+    );
     Ok(())
 }
 
@@ -64,7 +73,9 @@ fn memory_is_given_or_refused(rt: HostRuntime) -> Result<(), Fail> {
     let line = "arrive 0 {\"schema\":\"global-default\",\"distinguisher\":\"alice\",\"width\":2}";
     match judged(rt.alloc(), line.as_bytes()) {
         Ok(command) => {
-            assert!(rt; matches!(command, Command::Arrive(0, arrival) if arrival.ask.width == 2 && arrival.cost == 2));
+            assert!(rt;
+                matches!(command, Command::Arrive(0, arrival) if arrival.ask.width == 2 && arrival.cost == 2)
+            );
         }
         Err(fault) => assert_eq!(rt; fault.kind, FaultKind::NoMemory),
     }

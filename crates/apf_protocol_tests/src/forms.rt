@@ -5,10 +5,15 @@ use std::test::Fail;
 #[test]
 fn lines_of_no_form(rt: HostRuntime) -> Result<(), Fail> {
     for line in [
-        "", " ", "close ", " close", "Close", "close 1", "closed", "books", "queue", "metrics ", "close\r", "close\n",
+        "", " ", "close ", " close", "Close", "close 1", "closed", "books", "queue", "metrics ",
+        "close\r", "close\n",
     ] {
         let found = judged(rt.alloc(), line.as_bytes()).err();
-        assert_eq!(rt; found.map(|fault| fault.kind), Some(FaultKind::BadLine), "at {line}");
+        assert_eq!(rt;
+            found.map(|fault| fault.kind),
+            Some(FaultKind::BadLine),
+            "at {line}"
+        );
     }
     Ok(())
 }
@@ -16,11 +21,28 @@ fn lines_of_no_form(rt: HostRuntime) -> Result<(), Fail> {
 #[test]
 fn numbers_of_no_form(rt: HostRuntime) -> Result<(), Fail> {
     for line in [
-        "finish", "finish ", "finish 099", "finish 1 ", "finish 1 2", "finish  1", "cancel 1x", "cancel -1", "cancel +1",
-        "limit", "limit ", "limit 010", "limit 1.5", "limit 1e3", "finish\t1",
+        "finish",
+        "finish ",
+        "finish 099",
+        "finish 1 ",
+        "finish 1 2",
+        "finish  1",
+        "cancel 1x",
+        "cancel -1",
+        "cancel +1",
+        "limit",
+        "limit ",
+        "limit 010",
+        "limit 1.5",
+        "limit 1e3",
+        "finish\t1",
     ] {
         let found = judged(rt.alloc(), line.as_bytes()).err();
-        assert_eq!(rt; found.map(|fault| fault.kind), Some(FaultKind::BadLine), "at {line}");
+        assert_eq!(rt;
+            found.map(|fault| fault.kind),
+            Some(FaultKind::BadLine),
+            "at {line}"
+        );
     }
     Ok(())
 }
@@ -28,12 +50,32 @@ fn numbers_of_no_form(rt: HostRuntime) -> Result<(), Fail> {
 #[test]
 fn arrivals_of_no_form(rt: HostRuntime) -> Result<(), Fail> {
     for line in [
-        "arrive", "arrive ", "arrive 0", "arrive 0 ", "arrive 0 x", "arrive 0 []", "arrive 0  {}", "arrive  0 {}",
-        "arrive 00 {}", "arrive 01 {}", "arrive +1 {}", "arrive -1 {}", "arrive 0x {}", "tri 0 {}", "arrive 0\t{}",
-        "arrive 100 x", "try 4294967297 []", "arrive {}", "arrive  {}",
+        "arrive",
+        "arrive ",
+        "arrive 0",
+        "arrive 0 ",
+        "arrive 0 x",
+        "arrive 0 []",
+        "arrive 0  {}",
+        "arrive  0 {}",
+        "arrive 00 {}",
+        "arrive 01 {}",
+        "arrive +1 {}",
+        "arrive -1 {}",
+        "arrive 0x {}",
+        "tri 0 {}",
+        "arrive 0\t{}",
+        "arrive 100 x",
+        "try 4294967297 []",
+        "arrive {}",
+        "arrive  {}",
     ] {
         let found = judged(rt.alloc(), line.as_bytes()).err();
-        assert_eq!(rt; found.map(|fault| fault.kind), Some(FaultKind::BadLine), "at {line}");
+        assert_eq!(rt;
+            found.map(|fault| fault.kind),
+            Some(FaultKind::BadLine),
+            "at {line}"
+        );
     }
     Ok(())
 }
@@ -49,11 +91,22 @@ fn an_object_that_is_not_utf8(rt: HostRuntime) -> Result<(), Fail> {
 #[test]
 fn bad_numbers(rt: HostRuntime) -> Result<(), Fail> {
     for line in [
-        "arrive 100 {}", "try 100 {", "finish 100", "cancel 100", "finish 4294967295", "finish 4294967296", "finish 4294967297",
-        "arrive 99999999999999999999999999 {}", "finish 18446744073709551616",
+        "arrive 100 {}",
+        "try 100 {",
+        "finish 100",
+        "cancel 100",
+        "finish 4294967295",
+        "finish 4294967296",
+        "finish 4294967297",
+        "arrive 99999999999999999999999999 {}",
+        "finish 18446744073709551616",
     ] {
         let out = fault_line(rt.alloc(), line.as_bytes())?;
-        assert_eq!(rt; out.as_slice(), b"fault 7 bad number\n".as_slice(), "at {line}");
+        assert_eq!(rt;
+            out.as_slice(),
+            b"fault 7 bad number\n".as_slice(),
+            "at {line}"
+        );
     }
     Ok(())
 }
@@ -61,10 +114,18 @@ fn bad_numbers(rt: HostRuntime) -> Result<(), Fail> {
 #[test]
 fn bad_limits(rt: HostRuntime) -> Result<(), Fail> {
     for line in [
-        "limit 0", "limit 10001", "limit 4294967296", "limit 4294967297", "limit 99999999999999999999",
+        "limit 0",
+        "limit 10001",
+        "limit 4294967296",
+        "limit 4294967297",
+        "limit 99999999999999999999",
     ] {
         let out = fault_line(rt.alloc(), line.as_bytes())?;
-        assert_eq!(rt; out.as_slice(), b"fault 7 bad limit\n".as_slice(), "at {line}");
+        assert_eq!(rt;
+            out.as_slice(),
+            b"fault 7 bad limit\n".as_slice(),
+            "at {line}"
+        );
     }
     Ok(())
 }
@@ -120,11 +181,26 @@ fn numbers_of_heads(rt: HostRuntime) -> Result<(), Fail> {
 #[test]
 fn faults_without_a_line(rt: HostRuntime) -> Result<(), Fail> {
     for (kind, line) in [
-        (FaultKind::TooLong, "fault 18446744073709551615 line too long\n"),
-        (FaultKind::IsThere(9), "fault 18446744073709551615 9 is there\n"),
-        (FaultKind::IsNotThere(0), "fault 18446744073709551615 0 is not there\n"),
-        (FaultKind::NoMemory, "fault 18446744073709551615 out of memory\n"),
-        (FaultKind::Truncated, "fault 18446744073709551615 truncated\n"),
+        (
+            FaultKind::TooLong,
+            "fault 18446744073709551615 line too long\n",
+        ),
+        (
+            FaultKind::IsThere(9),
+            "fault 18446744073709551615 9 is there\n",
+        ),
+        (
+            FaultKind::IsNotThere(0),
+            "fault 18446744073709551615 0 is not there\n",
+        ),
+        (
+            FaultKind::NoMemory,
+            "fault 18446744073709551615 out of memory\n",
+        ),
+        (
+            FaultKind::Truncated,
+            "fault 18446744073709551615 truncated\n",
+        ),
     ] {
         let mut out = Vec::new(rt.alloc());
         LineFault::from(kind).write(&mut out, u64::MAX)?;

@@ -56,7 +56,13 @@ fn arrivals(rt: HostRuntime) -> Result<(), Fail> {
         ("try 99 {\"hash\":0}", 99, 1, 0, 1),
         ("arrive 12 {\"hash\":1,\"width\":7}", 12, 7, 1, 7),
         ("arrive 1 {\"cost\":3,\"hash\":1,\"width\":7}", 1, 7, 1, 3),
-        ("arrive 1 {\"hash\":2,\"hash\":3,\"width\":2,\"width\":7}\r", 1, 7, 3, 7),
+        (
+            "arrive 1 {\"hash\":2,\"hash\":3,\"width\":2,\"width\":7}\r",
+            1,
+            7,
+            3,
+            7,
+        ),
         (
             "arrive 1 { \"hash\" :18446744073709551615,\"width\":20000,\"cost\":20000 } ",
             1,

@@ -33,7 +33,7 @@ pub enum FaultKind {
     IsNotThere(u32),
     /// Memory was refused.
     NoMemory,
-    /// The text of the object is no JSON object.
+    /// The text of the object is no JSON.
     NotJson,
     /// The object has a key that arrivals do not have.
     UnknownKey,

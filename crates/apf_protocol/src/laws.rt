@@ -15,8 +15,8 @@ pub fn every_line_of_a_form_is_read()
     ensures { IsEveryLineRead }
 {}
 
-/// The law of an object's fault. Its text is no JSON; or of its value, none of those that the fault's line says may stand
-/// at its key stands there. Of an unknown key, the object has the one that the line names.
+/// The law of an object's fault. Its text, which begins with a brace, is no JSON; or of its value, none of those that the
+/// fault's line says may stand at its key stands there. Of an unknown key, the object has the one that the line names.
 pub fn every_arrival_fault_is_shown()
     ensures { IsEveryFaultShown }
 {}

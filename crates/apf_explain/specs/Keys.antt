@@ -1,18 +1,25 @@
 -- The keys of a file's objects.
-use Rattle.std.specs.Prelude.{ℕ, List, Bool, if◌then◌else◌, Option, Some, None, option_and_then, codes}
+use Rattle.std.specs.Prelude.{ℕ, List, Bool, ◌||◌, bytes_eq, if◌then◌else◌, Option, Some, None, option_and_then, codes}
 use Rattle.serde_json.specs.Data.{Data, Members, no_members, member}
 use Rattle.serde_json.specs.Find.{as_object}
 use Rattle.apf_files.specs.ConfigFile.{is_key as is_config_key}
 use Rattle.apf_files.specs.RequestsFile.{is_key as is_request_key}
 use Rattle.apf_traces.specs.TraceValue.{is_key as is_trace_key}
 use Rattle.apf_explain.specs.declared.keys.Keys.{Keys}
-use Rattle.apf_explain.specs.declared.keys.Keys.TheVariants.{OfConfig, OfRequest, OfTrace}
+use Rattle.apf_explain.specs.declared.keys.Keys.TheVariants.{OfConfig, OfRequest, OfTrace, OfArrival}
+
+-- the name is that of a key of what a level is sent with an arrival
+unfoldable pub is_arrival_key : List ℕ → Bool
+is_arrival_key name =
+    bytes_eq name (codes "schema") || bytes_eq name (codes "distinguisher") || bytes_eq name (codes "hash")
+    || bytes_eq name (codes "width") || bytes_eq name (codes "cost")
 
 -- the name is that of a key
 abbrev pub is_key_of : Keys → List ℕ → Bool
 is_key_of OfConfig name = is_config_key name
 is_key_of OfRequest name = is_request_key name
 is_key_of OfTrace name = is_trace_key name
+is_key_of OfArrival name = is_arrival_key name
 
 -- the first member whose key is unknown
 abbrev pub unknown_in : (List ℕ → Bool) → Members → Option (List ℕ)
@@ -28,3 +35,4 @@ abbrev pub keys_text : Keys → List ℕ
 keys_text OfConfig = codes "a config has limit, queues, handSize, queueLengthLimit and limitResponse"
 keys_text OfRequest = codes "a request has schema, distinguisher, hash, width, work, cancels and closes"
 keys_text OfTrace = codes "a request of a trace has arrivesAt, runsFor, schema, distinguisher, hash, width and cost"
+keys_text OfArrival = codes "an arrival has schema, distinguisher, hash, width and cost"

@@ -15,7 +15,7 @@ use Rattle.apf_files.specs.declared.config.ConfigFault.TheVariants as config
 use Rattle.apf_files.specs.declared.requests.RequestFault.{RequestFault}
 use Rattle.apf_files.specs.declared.requests.RequestFault.TheVariants as request
 use Rattle.apf_explain.specs.declared.place.Part.{Part}
-use Rattle.apf_explain.specs.declared.place.Part.TheVariants.{Whole, Request, Line, Fault}
+use Rattle.apf_explain.specs.declared.place.Part.TheVariants.{Whole, Request, Line, Fault, Sent}
 use Rattle.apf_explain.specs.declared.keys.Keys.{Keys}
 use Rattle.apf_explain.specs.declared.keys.Keys.TheVariants.{OfConfig, OfRequest}
 use Rattle.apf_explain.specs.declared.wanted.Wanted.{Wanted}
@@ -35,6 +35,7 @@ place_text name Whole = name ++ codes ": "
 place_text name (Request number) = name ++ (codes ": request " ++ (decimal number ++ codes ": "))
 place_text name (Line number) = name ++ (codes ":" ++ (decimal number ++ codes ": "))
 place_text name (Fault number line) = name ++ (codes " fault " ++ (decimal number ++ (codes " at line " ++ (decimal line ++ codes ": "))))
+place_text name (Sent line) = name ++ (codes " " ++ (decimal line ++ codes " "))
 
 -- the value at a key may not stand there
 abbrev pub unwanted_text : (place key : List ℕ) → Option Data → Wanted → Option (List ℕ)

@@ -125,7 +125,7 @@ fn write_fault<W: Write>(
 }
 
 /// Writes what is wrong with the flow of a request.
-pub(crate) fn write_bad_flow<W: Write>(
+pub fn write_bad_flow<W: Write>(
     out: &mut W,
     place: Place<'_>,
     value: Option<&Value>,

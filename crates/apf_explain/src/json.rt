@@ -30,7 +30,7 @@ pub(crate) fn value_of(alloc: Global, bytes: &[u8]) -> Result<Option<Value>, Exp
 }
 
 /// The value at a key.
-pub(crate) fn value_at<'a>(value: Option<&'a Value>, key: &str) -> Option<&'a Value>
+pub fn value_at<'a>(value: Option<&'a Value>, key: &str) -> Option<&'a Value>
     ensures { option_map (λ found. view found.now) result ≡ option_and_then (get key.now) (option_map (λ whole. view whole.now) value.entry) }
 {
     value?.get(key)
@@ -44,7 +44,7 @@ pub(crate) fn items_of(value: Option<&Value>) -> Option<&Vec<Value>>
 }
 
 /// Writes that a key has a value that may not stand there.
-pub(crate) fn write_unwanted<W: Write>(
+pub fn write_unwanted<W: Write>(
     out: &mut W,
     place: Place<'_>,
     key: &str,

@@ -4,7 +4,7 @@ ghost use Rattle.std.specs.Prelude.{◌≡◌, OnOk, IfSome, option_map, option_
 ghost use Rattle.std.specs.Io.KnownBytes.{Appends};
 ghost use Rattle.serde_json.specs.Find.{as_object};
 ghost use Rattle.serde_json.specs.View.{view, members_view};
-ghost use Rattle.apf_explain.specs.Keys.{is_key_of, unknown_in, unknown_of};
+ghost use Rattle.apf_explain.specs.Keys.{is_arrival_key as is_arrival_key_of, is_key_of, unknown_in, unknown_of};
 ghost use Rattle.apf_explain.specs.Lines.{place_text, unknown_text};
 
 use crate::found::Quoted;
@@ -17,11 +17,15 @@ use std::{fmt, io};
 
 /// Whose keys an object has.
 #[derive(Clone, Copy, Debug, PartialEq, Eq)]
-pub(crate) enum Keys {
+pub enum Keys {
+    /// Of a config.
     OfConfig,
+    /// Of a request of a requests file.
     OfRequest,
     /// Of a request of a trace.
     OfTrace,
+    /// Of what a level is sent with an arrival.
+    OfArrival,
 }
 
 impl fmt::Display for Keys {
@@ -38,8 +42,21 @@ impl fmt::Display for Keys {
                 "a request has schema, distinguisher, hash, width, work, cancels and closes",
             Keys::OfTrace =>
                 "a request of a trace has arrivesAt, runsFor, schema, distinguisher, hash, width and cost",
+            Keys::OfArrival => "an arrival has schema, distinguisher, hash, width and cost",
         })
     }
+}
+
+/// Whether what a level is sent with an arrival may have a key of this name.
+#[tactic(auto, unfolding(crate::specs::Keys::is_arrival_key))]
+pub fn is_arrival_key(name: &str) -> bool
+    ensures { result ≡ is_arrival_key_of name.now }
+{
+    name == "schema"
+        || name == "distinguisher"
+        || name == "hash"
+        || name == "width"
+        || name == "cost"
 }
 
 impl Keys {
@@ -51,6 +68,7 @@ impl Keys {
             Keys::OfConfig => is_config_key(name),
             Keys::OfRequest => is_request_key(name),
             Keys::OfTrace => is_trace_key(name),
+            Keys::OfArrival => is_arrival_key(name),
         }
     }
 
@@ -70,7 +88,7 @@ impl Keys {
 }
 
 /// Writes that an object has an unknown key.
-pub(crate) fn write_unknown_key<W: Write>(
+pub fn write_unknown_key<W: Write>(
     out: &mut W,
     place: Place<'_>,
     keys: Keys,

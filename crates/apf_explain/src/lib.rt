@@ -19,6 +19,9 @@
 //! - `traces`: the line of a trace's fault.
 //! - `audits`: the line of an audit log's fault.
 //! - `laws`: what the readers' faults say of the values that the lines name.
+//!
+//! `Place`, `Keys`, `Wanted`, `is_arrival_key`, `line_reason`, `value_at` and the `write_` functions are shared with the protocol of a live
+//! level, whose faults are said in the same words.
 #![tactic(auto)]
 
 mod audits;
@@ -44,10 +47,17 @@ pub use audits::explain_audit_log;
 pub use config::explain_config;
 pub use dealer::explain_dealer;
 pub use fault::ExplainFault;
+pub use flow::write_bad_flow;
+pub use json::{value_at, write_unwanted};
+pub use keys::{Keys, is_arrival_key, write_unknown_key};
 pub use laws::{
     every_audit_fault_is_shown, every_config_fault_is_shown, every_request_fault_is_shown,
     every_script_fault_is_shown, every_trace_fault_is_shown,
 };
+pub use lines::write_column;
+pub use place::{Part, Place};
+pub use reason::line_reason;
 pub use requests::explain_requests;
 pub use script::explain_script;
 pub use traces::explain_trace;
+pub use wanted::Wanted;

@@ -85,8 +85,13 @@ pub(crate) fn write_too_long<W: Write>(
     }
 }
 
-// Writes at which column of a line the reader stopped, and why.
-fn write_column<W: Write>(out: &mut W, place: Place<'_>, column: usize, why: &str) -> io::Result<()>
+/// Writes at which column of a line the reader stopped, and why.
+pub fn write_column<W: Write>(
+    out: &mut W,
+    place: Place<'_>,
+    column: usize,
+    why: &str,
+) -> io::Result<()>
     ensures { OnOk result (Appends (W.contents out.old) (W.contents out.new) (column_text (place_text place.entry.name.now place.entry.part) column why.now)) }
 {
     writeln!(out, "{place}this is not JSON at column {column}{why}")

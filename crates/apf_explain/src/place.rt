@@ -2,9 +2,10 @@
 
 use std::fmt;
 
-/// The part of a file that has the fault.
+/// The part of a file, or of what a level is sent, that has the fault.
 #[derive(Clone, Copy, Debug, PartialEq, Eq)]
-pub(crate) enum Part {
+pub enum Part {
+    /// The whole file.
     Whole,
     /// The request of this number.
     Request(u32),
@@ -12,13 +13,15 @@ pub(crate) enum Part {
     Line(u32),
     /// The line of the second number, from 1, which has the fault of the first number.
     Fault(u8, u64),
+    /// The line of this number, from 1, of those that a level is sent.
+    Sent(u64),
 }
 
 /// A part of the file of this name.
 #[derive(Clone, Copy)]
-pub(crate) struct Place<'a> {
-    pub(crate) name: &'a str,
-    pub(crate) part: Part,
+pub struct Place<'a> {
+    pub name: &'a str,
+    pub part: Part,
 }
 
 impl fmt::Display for Place<'_> {
@@ -34,6 +37,7 @@ impl fmt::Display for Place<'_> {
             Part::Request(number) => write!(f, "{name}: request {number}: "),
             Part::Line(number) => write!(f, "{name}:{number}: "),
             Part::Fault(number, line) => write!(f, "{name} fault {number} at line {line}: "),
+            Part::Sent(line) => write!(f, "{name} {line} "),
         }
     }
 }

@@ -147,11 +147,7 @@ pub(crate) fn file_reason(
 }
 
 /// What is known of why the bytes of a line are no JSON: by how they begin, or else by what their reader says.
-pub(crate) fn line_reason(
-    alloc: Global,
-    bytes: &[u8],
-    error: &Error,
-) -> Result<&'static str, ExplainFault>
+pub fn line_reason(alloc: Global, bytes: &[u8], error: &Error) -> Result<&'static str, ExplainFault>
     ensures why { IfOk result (λ why. IsSaid (line_mark_text bytes.now) why.now) }
     ensures memory { IfErr result (λ fault. fault ≡ ExplainFault.NoMemory) }
 {

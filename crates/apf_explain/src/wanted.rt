@@ -4,7 +4,7 @@ use std::fmt;
 
 /// What has to stand at a key.
 #[derive(Clone, Copy, Debug, PartialEq, Eq)]
-pub(crate) enum Wanted {
+pub enum Wanted {
     /// A whole number, not below the first one and not above the second one.
     Whole(u64, u64),
     /// A whole number of microseconds, not above this one.
@@ -13,6 +13,7 @@ pub(crate) enum Wanted {
     Request(u64),
     /// The name of a response.
     Response,
+    /// A text.
     Text,
     /// A text of at most so many bytes.
     Name(u64),

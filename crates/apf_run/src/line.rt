@@ -50,8 +50,8 @@ pub fn decision_name(decision: Decision) -> &'static str
     }
 }
 
-// Writes a line, with the LF that ends it.
-fn write_line<W: Write>(out: &mut W, line: Line) -> io::Result<()>
+/// Writes a line, with the LF that ends it.
+pub fn write_line<W: Write>(out: &mut W, line: Line) -> io::Result<()>
     ensures { OnOk result (Appends (W.contents out.old) (W.contents out.new) (line_text line)) }
 {
     match line {

@@ -13,6 +13,7 @@ import sys
 import tempfile
 
 sys.path.insert(0, os.path.join(os.path.dirname(os.path.abspath(__file__)), "lib"))
+from contracts import Contracts
 from harness import TOP, Tally, build
 from statements import page as audit_page
 
@@ -134,6 +135,25 @@ for row in rows:
     text = "\n".join(code_of(it) for it in files if os.path.isfile(it))
     parts = [part for it in names for part in it.split("::")]
     tally.check(f"docs/PROVED.md: the names of: {promise}", [it for it in parts if not re.search(rf"(?<![\w]){re.escape(it)}(?![\w])", text)], [])
+
+# each function that such a row names has a contract, and it, or a definition that it cites, has each name that stands behind the function
+contracts = Contracts()
+asked = 0
+for row in rows:
+    files = [os.path.join(TOP, "crates", it) for it in re.findall(r"`([^`]+\.rt)`", row[-1]) if "_tests/" not in it]
+    for part in row[1].split(";") if len(row) == 3 else []:
+        front, _, behind = part.partition(": ")
+        named = [it.split("::")[-1] for it in re.findall(r"`(\w+::\w+)`", front)] if files else []
+        tally.check(f"docs/PROVED.md: the files of {front}: {row[0][:70]}", [it for it in named if not any(it in contracts.of(path) for path in files)], [])
+        functions = {it.split("::")[-1] for it in re.findall(r"`([^`]+)`", front)}
+        found = [(name, it) for path in files if os.path.isfile(path) for name, those in contracts.of(path).items() if name in functions for it in those]
+        said = set().union(*(words for _, (_, words) in found))
+        for name in sorted({name for name, _ in found}):
+            asked += 1
+            tally.check(f"docs/PROVED.md: {name} has a contract: {row[0][:70]}", any("ensures" in clauses for it, (clauses, _) in found if it == name), True)
+        lacking = [it for it in re.findall(r"`([^`]+)`", behind) if it.split("::")[-1] not in said] if found else []
+        tally.check(f"docs/PROVED.md: what {', '.join(sorted(functions))} says: {row[0][:70]}", lacking, [])
+tally.check("docs/PROVED.md: contracts are found", asked > 300, True)
 
 # the library's example stands in a program, which is proved and run
 page = open(os.path.join(TOP, "README.md"), encoding="utf-8").read()

@@ -165,6 +165,18 @@ tally.check("README.md: the example of the library", [len(shown), *(body in sour
 edits = sum(name.endswith(".edit") for folder in ("crates", "planted") for _, _, names in os.walk(os.path.join(TOP, folder)) for name in names)
 tally.check("README.md: the number of planted bugs", re.findall(r"(\d+) planted bugs", page), [str(edits)])
 
+# and stand by crate as docs/PROOFS.md says
+def count(*path):
+    folder = os.path.join(TOP, *path)
+    return sum(name.endswith(".edit") for name in os.listdir(folder)) if os.path.isdir(folder) else 0
+
+
+page = open(os.path.join(TOP, "docs", "PROOFS.md"), encoding="utf-8").read()
+counts = [(f"`{it}`", count("planted", it), count("crates", it, "must-fail")) for it in sorted(os.listdir(os.path.join(TOP, "planted")))]
+counts.append(("all", *(sum(it[at] for it in counts) for at in (1, 2))))
+rows = [(name, int(planted), int(kept)) for name, planted, kept in re.findall(r"^\| (`apf\w*`|all) \| (\d+) \| (\d+) \| \d+ \| \d+ \|$", page, re.M)]
+tally.check("docs/PROOFS.md: the planted bugs of each crate", rows, counts)
+
 # the crates of docs/ARCHITECTURE.md are those of crates.txt, and stand on the same ones
 page = open(os.path.join(TOP, "docs", "ARCHITECTURE.md"), encoding="utf-8").read()
 shown = {name: sorted(re.findall(r"`(\w+)`", below)) for name, below in re.findall(r"^\| `(apf\w*)` \|[^|]*\|([^|]*)\|$", page, re.M)}

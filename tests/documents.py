@@ -13,6 +13,7 @@ import sys
 import tempfile
 
 sys.path.insert(0, os.path.join(os.path.dirname(os.path.abspath(__file__)), "lib"))
+from contracts import Contracts
 from harness import TOP, Tally, build
 from statements import page as audit_page
 
@@ -135,6 +136,25 @@ for row in rows:
     parts = [part for it in names for part in it.split("::")]
     tally.check(f"docs/PROVED.md: the names of: {promise}", [it for it in parts if not re.search(rf"(?<![\w]){re.escape(it)}(?![\w])", text)], [])
 
+# each function that such a row names has a contract, and it, or a definition that it cites, has each name that stands behind the function
+contracts = Contracts()
+asked = 0
+for row in rows:
+    files = [os.path.join(TOP, "crates", it) for it in re.findall(r"`([^`]+\.rt)`", row[-1]) if "_tests/" not in it]
+    for part in row[1].split(";") if len(row) == 3 else []:
+        front, _, behind = part.partition(": ")
+        named = [it.split("::")[-1] for it in re.findall(r"`(\w+::\w+)`", front)] if files else []
+        tally.check(f"docs/PROVED.md: the files of {front}: {row[0][:70]}", [it for it in named if not any(it in contracts.of(path) for path in files)], [])
+        functions = {it.split("::")[-1] for it in re.findall(r"`([^`]+)`", front)}
+        found = [(name, it) for path in files if os.path.isfile(path) for name, those in contracts.of(path).items() if name in functions for it in those]
+        said = set().union(*(words for _, (_, words) in found))
+        for name in sorted({name for name, _ in found}):
+            asked += 1
+            tally.check(f"docs/PROVED.md: {name} has a contract: {row[0][:70]}", any("ensures" in clauses for it, (clauses, _) in found if it == name), True)
+        lacking = [it for it in re.findall(r"`([^`]+)`", behind) if it.split("::")[-1] not in said] if found else []
+        tally.check(f"docs/PROVED.md: what {', '.join(sorted(functions))} says: {row[0][:70]}", lacking, [])
+tally.check("docs/PROVED.md: contracts are found", asked > 300, True)
+
 # the library's example stands in a program, which is proved and run
 page = open(os.path.join(TOP, "README.md"), encoding="utf-8").read()
 source = open(os.path.join(TOP, "crates", "apf_example", "src", "main.rt"), encoding="utf-8").read()
@@ -144,6 +164,18 @@ tally.check("README.md: the example of the library", [len(shown), *(body in sour
 # the planted bugs are as many as the README says
 edits = sum(name.endswith(".edit") for folder in ("crates", "planted") for _, _, names in os.walk(os.path.join(TOP, folder)) for name in names)
 tally.check("README.md: the number of planted bugs", re.findall(r"(\d+) planted bugs", page), [str(edits)])
+
+# and stand by crate as docs/PROOFS.md says
+def count(*path):
+    folder = os.path.join(TOP, *path)
+    return sum(name.endswith(".edit") for name in os.listdir(folder)) if os.path.isdir(folder) else 0
+
+
+page = open(os.path.join(TOP, "docs", "PROOFS.md"), encoding="utf-8").read()
+counts = [(f"`{it}`", count("planted", it), count("crates", it, "must-fail")) for it in sorted(os.listdir(os.path.join(TOP, "planted")))]
+counts.append(("all", *(sum(it[at] for it in counts) for at in (1, 2))))
+rows = [(name, int(planted), int(kept)) for name, planted, kept in re.findall(r"^\| (`apf\w*`|all) \| (\d+) \| (\d+) \| \d+ \| \d+ \|$", page, re.M)]
+tally.check("docs/PROOFS.md: the planted bugs of each crate", rows, counts)
 
 # the crates of docs/ARCHITECTURE.md are those of crates.txt, and stand on the same ones
 page = open(os.path.join(TOP, "docs", "ARCHITECTURE.md"), encoding="utf-8").read()

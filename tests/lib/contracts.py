@@ -1,0 +1,56 @@
+"""What the contract of a function says: its clauses, and every definition that they cite, to the end."""
+
+import re
+
+from statements import WORD, Specs, imported
+
+FUNCTION = re.compile(r"^\s*(?:pub(?:\([^)]*\))? )?(?:const |unsafe )*fn (\w+)")
+
+
+def contracts_in(text):
+    """The clauses of each function of a source, by its name. Several functions may have one name."""
+    lines, found = [re.sub(r"//.*", "", it) for it in text.split("\n")], {}
+    for at, line in enumerate(lines):
+        head = FUNCTION.match(line)
+        if head:
+            rest, clauses = lines[at:], []
+            # without clauses the body begins in the line in which the head ends, and else in a line of its own
+            for it in rest:
+                if it.strip() in ("{", "{}"):
+                    break
+                clauses.append(it)
+                if it.endswith((" {", "{}", ";")) and not re.match(r"\s*(?:requires|ensures)\b", it):
+                    break
+            found.setdefault(head[1], []).append("\n".join(clauses))
+    return found
+
+
+class Contracts:
+    """The contracts of all sources that are asked for."""
+
+    def __init__(self):
+        self.specs, self.read = Specs(), {}
+
+    def of(self, path):
+        """The contracts of a file by name, each with all words of its clauses and of the definitions that they cite."""
+        if path not in self.read:
+            with open(path, encoding="utf-8") as file:
+                text = file.read()
+            names = {}
+            for line in text.split("\n"):
+                imported(line, names, {})
+            self.read[path] = {name: [(it, self.words(it, names)) for it in those] for name, those in contracts_in(text).items()}
+        return self.read[path]
+
+    def words(self, clauses, names):
+        words, seen, rest = set(), set(), [(clauses, "", names)]
+        while rest:
+            text, module, brought = rest.pop()
+            for word in WORD.findall(re.sub(r"--.*", "", text)):
+                words.add(word)
+                there = brought.get(word)
+                it = self.specs.found(module, word) or (self.specs.found(*there) if there else None)
+                if it and (it.module, it.name) not in seen:
+                    seen.add((it.module, it.name))
+                    rest.append((it.text, it.module, self.specs.names.get(it.module, {})))
+        return words

@@ -189,6 +189,7 @@ impl<K: Naming> Request<K> {
     pub fn admit<R: Wait>(&mut self, rt: &R, level: &Level<K>) -> Answer
         ensures answers { Answers places.Away self.old result self.new }
         ensures kind { SaysWhere result }
+        ensures decided { result ≢ Answer.Waits }
     {
         match take(&mut self.token) {
             Token::Fresh(pass) => match level.admit(rt, pass) {

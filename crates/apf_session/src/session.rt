@@ -1,6 +1,6 @@
 //! A level with its requests, its operators and the reader of its statistics.
 
-ghost use Rattle.std.specs.Prelude.{◌≡◌, ◌+◌, ◌<◌, ◌≤◌, ℕ, [], length, slice_index_or, All, IfOk, IfErr, OnOk};
+ghost use Rattle.std.specs.Prelude.{◌≡◌, ◌≢◌, ◌+◌, ◌<◌, ◌≤◌, ℕ, [], length, slice_index_or, All, IfOk, IfErr, OnOk};
 ghost use Rattle.apf_words.specs.Limits.{max_limit};
 ghost use Rattle.apf_model.specs.Schedule.{AreWidths};
 ghost use Rattle.apf_gate.specs.declared.record.State.TheVariants.{Fresh};
@@ -12,7 +12,7 @@ ghost use Rattle.apf_stats.specs.Traces.{shown};
 ghost use Rattle.apf_level.specs.Limits.{LastSet};
 ghost use Rattle.apf_level.specs.Opening.{SettledBy};
 ghost use Rattle.apf_session.specs.declared.answer.Place.TheVariants as places;
-ghost use Rattle.apf_session.specs.Openings.{level_of, level_with, IsOpenFault};
+ghost use Rattle.apf_session.specs.Openings.{level_of, level_with, IsNew, IsOpenFault};
 ghost use Rattle.apf_session.specs.Requests.{RequestView, AreNumbered, ArePassesNumbered, AreAway, CallsOne, LogsFor, SaysWhere, AreLeftOf, ReleasesAs, StaysTold, StayTold};
 ghost use Rattle.apf_session.specs.Ends.{KeepsOrder, SessionEnds};
 
@@ -158,8 +158,9 @@ fn operators_of<K: Naming>(
     alloc: Global,
     mut stations: Vec<Station>,
 ) -> Result<Vec<Operator<K>>, AllocError>
-    requires { All (λ t. station_gate t ≡ K.level.gate) stations.items }
-    ensures { IfOk result (λ v. length v.items ≡ length stations.items) }
+    requires { All (IsNew K.level.gate) stations.items }
+    ensures count { IfOk result (λ v. length v.items ≡ length stations.items) }
+    ensures new { IfOk result (λ v. All (IsNew K.level.gate) v.items) }
 {
     let mut operators = Vec::with_capacity(alloc, stations.len())?;
     while let Some(station) = stations.pop() {
@@ -199,6 +200,7 @@ impl<K: Naming> Session<K> {
         requires { K.level ≡ level_of opening.gate opening.board.cell opening.config opening.asks.now }
         ensures numbered { IfOk result (λ s. AreNumbered s.requests.items) }
         ensures away { IfOk result (λ s. AreAway s.requests.items) }
+        ensures new { IfOk result (λ s. All (IsNew K.level.gate) s.operators.items) }
         ensures settings { OnOk result (SettledBy opening.entry.config.limit_response opening.entry.config opening.entry.asks.now) }
         ensures fault { IfErr result (IsOpenFault opening.entry.config opening.entry.asks.now opening.entry.gate.shape.stations) }
     {
@@ -243,6 +245,7 @@ impl<K: Naming> Session<K> {
         requires costs { AreWidths costs.now }
         ensures numbered { IfOk result (λ s. AreNumbered s.requests.items) }
         ensures away { IfOk result (λ s. AreAway s.requests.items) }
+        ensures new { IfOk result (λ s. All (IsNew K.level.gate) s.operators.items) }
         ensures settings { OnOk result (SettledBy opening.entry.config.limit_response opening.entry.config opening.entry.asks.now) }
         ensures fault { IfErr result (IsOpenFault opening.entry.config opening.entry.asks.now opening.entry.gate.shape.stations) }
     {
@@ -275,12 +278,13 @@ impl<K: Naming> Session<K> {
     fn of<R: Wait>(rt: &R, alloc: Global, opened: Opened<K>) -> Result<Session<K>, AllocError>
         requires passes { All (λ t. (pass_gate t ≡ K.level.gate) × (t.pass.state ≡ Fresh)) opened.passes.items }
         requires numbered { ArePassesNumbered opened.passes.items }
-        requires stations { All (λ t. station_gate t ≡ K.level.gate) opened.stations.items }
+        requires stations { All (IsNew K.level.gate) opened.stations.items }
         requires passes_count { length opened.passes.items ≡ length K.level.gate.shape.widths }
         requires stations_count { length opened.stations.items ≡ K.level.gate.shape.stations }
         requires stats { opened.stats.cell ≡ opened.level.cell }
         ensures numbered { IfOk result (λ s. AreNumbered s.requests.items) }
         ensures away { IfOk result (λ s. AreAway s.requests.items) }
+        ensures new { IfOk result (λ s. All (IsNew K.level.gate) s.operators.items) }
     {
         let Opened {
             level,
@@ -345,6 +349,7 @@ impl<K: Naming> Session<K> {
         requires is_request { request < length K.level.gate.shape.widths }
         requires operator { 0 < K.level.gate.shape.stations }
         ensures answer { (d : StationToken) → CancelsTo (slice_index_or self.old.operators.items 0 d).station request result (slice_index_or self.new.operators.items 0 d).station }
+        ensures others { (i : ℕ) (d : StationToken) → i ≢ 0 → slice_index_or self.new.operators.items i d ≡ slice_index_or self.old.operators.items i d }
         ensures same { self.new.requests.items ≡ self.old.requests.items }
     {
         let decision = self.operators[0].cancel(&self.level, request);
@@ -358,6 +363,7 @@ impl<K: Naming> Session<K> {
     pub fn close(&mut self) -> Close
         requires { 0 < K.level.gate.shape.stations }
         ensures answer { (d : StationToken) → ClosesTo (slice_index_or self.old.operators.items 0 d).station result (slice_index_or self.new.operators.items 0 d).station }
+        ensures others { (i : ℕ) (d : StationToken) → i ≢ 0 → slice_index_or self.new.operators.items i d ≡ slice_index_or self.old.operators.items i d }
         ensures same { self.new.requests.items ≡ self.old.requests.items }
     {
         self.operators[0].close(&self.level)
@@ -367,6 +373,7 @@ impl<K: Naming> Session<K> {
     pub fn look(&mut self) -> LevelWord
         requires { 0 < K.level.gate.shape.stations }
         ensures answer { (d : StationToken) → StationLoadsLevel (slice_index_or self.old.operators.items 0 d).station result (slice_index_or self.new.operators.items 0 d).station }
+        ensures others { (i : ℕ) (d : StationToken) → i ≢ 0 → slice_index_or self.new.operators.items i d ≡ slice_index_or self.old.operators.items i d }
         ensures same { self.new.requests.items ≡ self.old.requests.items }
     {
         self.operators[0].look(&self.level)
@@ -379,6 +386,7 @@ impl<K: Naming> Session<K> {
         requires some { 1 ≤ limit }
         requires small { limit ≤ max_limit }
         ensures answer { (d : StationToken) → LastSet (slice_index_or self.old.operators.items 0 d).station limit result (slice_index_or self.new.operators.items 0 d).station }
+        ensures others { (i : ℕ) (d : StationToken) → i ≢ 0 → slice_index_or self.new.operators.items i d ≡ slice_index_or self.old.operators.items i d }
         ensures same { self.new.requests.items ≡ self.old.requests.items }
     {
         self.operators[0].set_limit(rt, &self.level, limit)
@@ -389,6 +397,7 @@ impl<K: Naming> Session<K> {
         ensures found { shown self.new.stats.trace ≡ numbers_of result }
         ensures sum { result.entered ≡ result.dispatched + result.struck + result.waiting }
         ensures same { self.new.requests.items ≡ self.old.requests.items }
+        ensures operators { self.new.operators.items ≡ self.old.operators.items }
     {
         self.level.stats(rt, &mut self.stats)
     }

@@ -77,7 +77,7 @@ module _ (statuses : (hands : ℕ → List ℕ) (limit : ℕ) (h : List Event) �
       let in_view = (counted v.hands v.limit v.history legal).waits_named (length v.costs) kept.of_life.names_requests waits.queue r stands in
       let low : r < length shape.widths = (let a = kept.one_cost_each in let c = ap (λ (s : Shape). length s.widths) same_shape in omega arith) in
       let service_is = ap (λ (d : DeskRecord). service d r) same
-          ∙ waits_then (service b.desk.desk r) (kept.agrees.did r ∙ ap (λ (s : Status). Some s) (((statuses v.hands v.limit v.history legal).waits r).1 (waits.queue, stands))) in
+      ∙ waits_then (service b.desk.desk r) (kept.agrees.did r ∙ ap (λ (s : Status). Some s) (((statuses v.hands v.limit v.history legal).waits r).1 (waits.queue, stands))) in
       let newest = sound.desk_knows.newer in
       let loads = others_load newest.0 newest.2 in
       let owed = lost shape account sound r low service_is newest.0 account.desk.knows.trace newest.1 loads in

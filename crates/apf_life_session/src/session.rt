@@ -90,11 +90,7 @@ fn dones_of<K: Naming, R: Wait>(
 }
 
 // Cancels each request that waits.
-fn cancel_waiting<K: Naming>(
-    level: &Level<K>,
-    operator: &mut Operator<K>,
-    requests: &[Request<K>],
-)
+fn cancel_waiting<K: Naming>(level: &Level<K>, operator: &mut Operator<K>, requests: &[Request<K>])
     ensures number { operator.new.station.number ≡ operator.old.station.number }
 {
     for request in requests {
@@ -189,12 +185,7 @@ impl<K: Naming> Session<K> {
     /// The next request of a free slot arrives, which asks for this, a width of 1 to 20,000 seats. Answers `Run`,
     /// `Waits` or `Over`, or `Spent`, and the event that the history got by the arrival: the request's Enter or Full,
     /// which name its queue, or none.
-    pub fn arrive<R: Wait>(
-        &mut self,
-        rt: &R,
-        slot: u32,
-        ask: Ask,
-    ) -> (Answer, Option<LifeEvent>)
+    pub fn arrive<R: Wait>(&mut self, rt: &R, slot: u32, ask: Ask) -> (Answer, Option<LifeEvent>)
         requires is_slot { slot < K.level.gate.shape.slots }
         requires some_width { 1 ≤ ask.width }
         requires narrow { ask.width ≤ max_width }

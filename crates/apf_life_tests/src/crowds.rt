@@ -12,8 +12,8 @@ use apf_words::Decision;
 use std::alloc::Global;
 use std::marker::Brand;
 use std::process::Abort;
-use std::sync::{Mutex, Wait};
 use std::sync::atomic::{AtomicU64, Ordering};
+use std::sync::{Mutex, Wait};
 use std::thread;
 use std::thread::Threads;
 
@@ -293,7 +293,10 @@ fn a_hundred_thousand_requests_over_eight_slots(rt: HostRuntime) {
     );
     assert_eq!(rt; report.words.level().seats(), 0);
     let stats = report.newest.stats;
-    assert_eq!(rt; stats.entered, stats.dispatched.saturating_add(stats.struck));
+    assert_eq!(rt;
+        stats.entered,
+        stats.dispatched.saturating_add(stats.struck)
+    );
     let late = board.late.load(Ordering::SeqCst);
     assert!(rt;
         late > 0 && cancelled > 0 && stats.dispatched > 0,

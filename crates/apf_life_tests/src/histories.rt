@@ -240,7 +240,10 @@ fn check<R: Abort>(rt: &R, report: &Report, past: &Past) {
         .wrapping_add(counts.closed)
         .wrapping_add(counts.cancelled);
     assert_eq!(rt; sum, past.tickets.len() as u64);
-    assert_eq!(rt; (report.words.level().seats(), report.words.level().waiters()), (0, 0));
+    assert_eq!(rt;
+        (report.words.level().seats(), report.words.level().waiters()),
+        (0, 0)
+    );
     let first = past.log.len().saturating_sub(10);
     assert_eq!(rt; report.newest.from, first as u64);
     assert_eq!(rt; report.newest.events.len(), past.log.len() - first);

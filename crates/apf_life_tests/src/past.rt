@@ -10,7 +10,9 @@ use std::process::Abort;
 
 /// How many queues there are, how many a hand has, and how many may wait in one.
 pub const QUEUES: u32 = 3;
+
 pub const HAND: u32 = 2;
+
 pub const LENGTH: u32 = 1;
 
 /// All that ever came: each request's ticket, cost and hand of queues, by its place among the requests, and the log

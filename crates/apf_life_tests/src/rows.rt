@@ -106,7 +106,10 @@ fn struck_full_and_closed<K: Naming, R: Wait + Abort>(rt: &R, alloc: Global, ope
     let (answer, _event) = session.arrive(rt, 1, ONE);
     assert_eq!(rt; answer, Answer::Waits);
     assert_eq!(rt; session.close(), Close::First);
-    assert_eq!(rt; session.arrive(rt, 3, ONE), (Answer::Over(Decision::Closed), None));
+    assert_eq!(rt;
+        session.arrive(rt, 3, ONE),
+        (Answer::Over(Decision::Closed), None)
+    );
     session.finish(rt, 0);
     assert_eq!(rt; session.poll(rt, 2), Answer::Run);
     session.finish(rt, 2);
@@ -119,7 +122,12 @@ fn struck_full_and_closed<K: Naming, R: Wait + Abort>(rt: &R, alloc: Global, ope
     let report = ended(rt, alloc, session);
     let counts = report.words.counts();
     assert_eq!(rt;
-        (counts.executed, counts.queue_full, counts.closed, counts.cancelled),
+        (
+            counts.executed,
+            counts.queue_full,
+            counts.closed,
+            counts.cancelled
+        ),
         (3, 1, 1, 1)
     );
 }

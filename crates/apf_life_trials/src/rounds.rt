@@ -23,7 +23,9 @@ fn arrive<K: Naming, R: Wait>(rt: &R, session: &mut Session<K>, round: u64)
     for slot in 0..SLOTS {
         let ask = Ask {
             width: 1,
-            hash: round.wrapping_mul(u64::from(SLOTS)).wrapping_add(u64::from(slot)),
+            hash: round
+                .wrapping_mul(u64::from(SLOTS))
+                .wrapping_add(u64::from(slot)),
         };
         session.arrive(rt, slot, ask);
     }

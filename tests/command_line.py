@@ -39,7 +39,7 @@ for words, line in [
     tally.check(" ".join(words), run(program, words), (2, b"", line))
 
 # help that is asked for goes to standard output, and has a line for each command, argument and file
-COMMANDS = ["  hash ", "  deal ", "  replay ", "  run ", "  services ", "  waits ", "  explain ", "  simulate ", "  timeline ", "  compare ", "  fates ", "  requests ", "  picture ", "  hands ", "  trace "]
+COMMANDS = ["  hash ", "  deal ", "  replay ", "  run ", "  services ", "  waits ", "  explain ", "  serve ", "  simulate ", "  timeline ", "  compare ", "  fates ", "  requests ", "  picture ", "  hands ", "  trace "]
 COMMANDS += ["apf hash workload-low alice", "  2 "]
 DEAL = ["<DECK>", "<HAND>", "<HASH>", "printf %u 0x", "not positive", "hand too large", "deck too large", "too much entropy"]
 SCRIPT = ["<CONFIG>", "<REQUESTS>", "<SCRIPT>"]
@@ -61,6 +61,8 @@ for words, says in [
     (["help", "deal"], DEAL),
     (["replay", "--help"], SCRIPT + CONFIG + REQUESTS + LINES),
     (["run", "--help"], ["<CONFIG>", "<REQUESTS>", "<WORKERS>", "1 to 64"] + CONFIG + REQUESTS),
+    (["serve", "--help"], ["<CONFIG>", "--slots <S>", "--name <NAME>", "10000", "253", "standard input", "docs/SERVE.md"]),
+    (["help", "serve"], ["--slots <S>"]),
     (["services", "--help"], SCRIPT + CONFIG + REQUESTS + LINES),
     (["simulate", "--help"], PATIENCE + TRACE + FLOW),
     (["timeline", "--help"], PATIENCE + ["apf replay", "script"]),
@@ -78,7 +80,7 @@ for words, says in [
     status, out, err = run(program, words)
     tally.check(" ".join(words), (status, [it for it in says if it not in out.decode()], err), (0, [], b""))
     # but for what an example prints
-    wide = [line for line in out.decode().split("\n") if len(line) > 100 and not line.startswith("  flow 0")]
+    wide = [line for line in out.decode().split("\n") if len(line) > 106 and not line.startswith("  flow 0")]
     tally.check(" ".join(words) + " is narrow", wide, [])
 
 # the examples that help shows print what it says
@@ -130,6 +132,18 @@ for words in [
     ["run", "a", "b", "0"],
     ["run", "a", "b", "65"],
     ["run", "a", "b", "c"],
+    ["serve"],
+    ["serve", "a", "b"],
+    ["serve", "a", "--slots", "0"],
+    ["serve", "a", "--slots", "10001"],
+    ["serve", "a", "--slots", "-1"],
+    ["serve", "a", "--slots", "many"],
+    ["serve", "a", "--name", ""],
+    ["serve", "a", "--name", "A"],
+    ["serve", "a", "--name", "a_b"],
+    ["serve", "a", "--name", "a b"],
+    ["serve", "a", "--name", "ä"],
+    ["serve", "a", "--name", "a" * 254],
     ["simulate", "a", "b"],
     ["simulate", "a", "b", "0", "0"],
     ["simulate", "a", "b", "1000000001"],

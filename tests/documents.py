@@ -1,12 +1,14 @@
-"""README.md and docs/FORMATS.md: each file that they show is written, each command is run, and its output compared. The other pages, where they name
+"""README.md, docs/FORMATS.md and docs/SERVE.md: each file that they show is written, each command is run, and its output compared. The other pages, where they name
 what the sources have; docs/AUDIT.md is made again.
 
 A block whose first line is ```LANGUAGE NAME is a file of that name. A block ```console has commands after `$ `, each
-followed by what it prints. A page is run in a folder of its own that has the examples and the program as ./apf.
+followed by what it prints. A block ```session CONFIG WORDS has what `apf serve` is sent, after `> `, and what it answers to each line; `>` alone is the
+end of its input. A page is run in a folder of its own that has the examples and the program as ./apf.
 """
 
 import os
 import re
+import select
 import shutil
 import subprocess
 import sys
@@ -14,7 +16,7 @@ import tempfile
 
 sys.path.insert(0, os.path.join(os.path.dirname(os.path.abspath(__file__)), "lib"))
 from contracts import Contracts
-from harness import TOP, Tally, build
+from harness import TOP, Tally, build, build_serving
 from statements import page as audit_page
 
 tally = Tally()
@@ -34,12 +36,33 @@ def commands(body):
     return [*zip(parts[1::2], parts[2::2])], parts[0]
 
 
+def talk(folder, words, body):
+    """What a session shows when it is held with the program: each line is sent once the answers that stand before it are there."""
+    process = subprocess.Popen(["./apf", "serve", *words], cwd=folder, stdin=subprocess.PIPE, stdout=subprocess.PIPE, bufsize=0)
+    said = told = ""
+    for part in re.split("^(?=>)", body, flags=re.M):
+        sent, answers = part.split("\n", 1) if part.startswith(">") else ("", part)
+        if sent == ">":
+            process.stdin.close()
+        elif sent:
+            process.stdin.write(sent[2:].encode() + b"\n")
+        # what is more than the page shows is read before the next answer
+        while told.count("\n") < answers.count("\n") and select.select([process.stdout], [], [], 20)[0] and (more := process.stdout.read(65_536)):
+            told += more.decode()
+        said, told = said + (f"{sent}\n" if sent else "") + told, ""
+    said += process.stdout.read().decode()
+    return said + ("" if process.wait(20) == 0 else "its status is not 0")
+
+
 def checked(name, folder):
     page = open(os.path.join(TOP, name), encoding="utf-8").read()
     ran = wrote = 0
     for head, body in blocks(page):
         language, *names = head.split() or [""]
-        if names:
+        if language == "session":
+            tally.check(f"{name}: the session of {names}", talk(folder, names, body), body)
+            ran += 1
+        elif names:
             with open(os.path.join(folder, names[0]), "w", encoding="utf-8") as file:
                 file.write(body)
             wrote += 1
@@ -55,19 +78,28 @@ def checked(name, folder):
                 tally.check(f"{name}: {command}", done.stdout.decode(), want)
                 ran += 1
         else:
-            tally.check(f"{name}: a block of a known kind: {head}", language in ("rust", "toml"), True)
+            tally.check(f"{name}: a block of a known kind: {head}", language in ("rust", "toml", "sh"), True)
     return ran, wrote, page
 
 
-for name, least in (("README.md", 2), (os.path.join("docs", "FORMATS.md"), 10)):
+serving, _ = build_serving()
+for name, least, runs in (("README.md", 2, program), (os.path.join("docs", "FORMATS.md"), 10, program), (os.path.join("docs", "SERVE.md"), 4, serving)):
     with tempfile.TemporaryDirectory(prefix="apf-test-") as folder:
-        os.symlink(program, os.path.join(folder, "apf"))
+        os.symlink(runs, os.path.join(folder, "apf"))
         shutil.copytree(os.path.join(TOP, "examples"), os.path.join(folder, "examples"))
         ran, wrote, page = checked(name, folder)
     tally.check(f"{name}: at least {least} commands", ran >= least, True)
     # no command of the program stands outside of what was run
     outside = re.sub(r"^```.*?^```$", "", page, flags=re.M | re.S)
     tally.check(f"{name}: each command line is in a block that is run", re.findall(r"^\s*\$ .*|\./apf (?:hash|deal|replay|services|waits|explain|simulate|timeline|compare|fates|requests|hands) \S.*", outside, re.M), [])
+
+# the unit and the container of docs/SERVE.md call the gateway by options that it has, and copy files that are there
+with open(os.path.join(TOP, "docs", "SERVE.md"), encoding="utf-8") as page, open(os.path.join(TOP, "examples", "gateway", "gateway.py"), encoding="utf-8") as gateway:
+    shown = {head.split()[0]: body for head, body in blocks(page.read()) if head.split()[:1] in (["ini"], ["dockerfile"])}
+    options = set(re.findall(r'add_argument\("(--[a-z-]+)"', gateway.read()))
+tally.check("docs/SERVE.md: options of the gateway", set(re.findall(r"--[a-z-]+", "".join(shown.values()))) - options, set())
+copied = [it for line in re.findall(r"^COPY (.*) \S+$", shown["dockerfile"], re.M) for it in line.split()]
+tally.check("docs/SERVE.md: files of the container", (len(copied), [it for it in copied if not os.path.isfile(os.path.join(TOP, it))]), (3, []))
 
 # each fault that a table lists is one that its sources have, and the other way round, with a place or without
 page = open(os.path.join(TOP, "docs", "FORMATS.md"), encoding="utf-8").read()
@@ -97,12 +129,12 @@ for name in ("trace", "audit"):
 for name in wanted:
     tally.check(f"the faults of the {name} that are listed", sorted(listed.get(name, [])), sorted(wanted[name]))
 
-# each example is shown, and has its three files; the one of an audit log has the log and its trace, and the gateway is a program
+# each example is shown, and has its three files; the one of an audit log has the log and its trace, and the gateway is a program, beside a backend
 for example in sorted(os.listdir(os.path.join(TOP, "examples"))):
     if os.path.isdir(os.path.join(TOP, "examples", example)):
         names = sorted(it for it in os.listdir(os.path.join(TOP, "examples", example)) if it != "__pycache__")
         level = ["config.json", "requests.json", "script.txt"]
-        wanted = {"audit": ["audit.log", "trace.jsonl"], "gateway": ["gateway.py"], "noisy-client": ["config.json", "picture.svg", *level[1:], "trace.jsonl"]}.get(example, level)
+        wanted = {"audit": ["audit.log", "trace.jsonl"], "gateway": ["backend.py", "gateway.py"], "noisy-client": ["config.json", "picture.svg", *level[1:], "trace.jsonl"]}.get(example, level)
         tally.check(f"examples/{example}", names, wanted)
         shown = [it for it in ("README.md", os.path.join("docs", "FORMATS.md")) if f"examples/{example}/{wanted[0]}" in open(os.path.join(TOP, it)).read()]
         tally.check(f"examples/{example} is shown", len(shown) > 0, True)

@@ -1,15 +1,20 @@
-"""Each allocation of a command refused in turn: the answer is the one with ample memory, or out of memory, and no other."""
+"""Each allocation of a command refused in turn: the answer is the one with ample memory, or out of memory, and no other. A live level ends without memory
+only before its first line; behind that, a line whose object finds none is a fault."""
 
+import json
 import os
 import subprocess
 import sys
 
 HERE = os.path.dirname(os.path.abspath(__file__))
 sys.path.insert(0, os.path.join(HERE, "lib"))
-from harness import Files, Tally, build, run
+from harness import Files, Tally, build, build_serving, run
+from judge import config_of
+from serve import Service, session
 
 tally = Tally()
 program = build()
+serving, is_built = build_serving()
 files = Files()
 shim = os.path.join(files.folder.name, "refuse.so")
 subprocess.run(["cc", "-O1", "-shared", "-fPIC", "-o", shim, os.path.join(HERE, "lib", "refuse.c")], check=True)
@@ -70,6 +75,7 @@ for words, status in (
     (["picture", tight, trace, "3"], 0),
     (["trace", log, "a"], 0),
     (["run", roomy, fit, "3"], 0),
+    *([(["serve", tight], 0), (["serve", tight, "--slots", "0"], 2), (["serve", uneven], 1), (["serve", "missing"], 1)] if is_built else []),
     (["--version"], 0),
     (["--help"], 0),
     (["deal", "--help"], 0),
@@ -102,8 +108,46 @@ for words, status in (
         got = run(program, words, env=with_shim)
         ends = not os.path.exists(marker)
         refused += [got] if got in refusals(words) else []
-        tally.check(f"{name} without allocation {number}", got, got if got == ample or got in refusals(words) else WANT)
+        # a level that was served tells all of it, and then that its end found no memory
+        at_its_end = (3, ample[1], WANT[2]) if words[0] == "serve" else WANT
+        tally.check(f"{name} without allocation {number}", got, got if got in (ample, at_its_end) or got in refusals(words) else WANT)
     tally.check(f"{name} was refused memory, and ends with a run that meets no refusal", (WANT in refused, ends, got), (True, True, ample))
     if words[0] == "run":
         tally.check(f"{name} had a worker that could not start", any(it != WANT for it in refused), True)
+
+# of a live level: arrivals that execute, wait and are rejected, faults of each kind, and a line that is nearly too long
+LINES = [b'arrive 0 {"schema":"a","distinguisher":"b"}', b'arrive 1 {"hash":0,"width":2,"cost":3}', b'arrive 2 {"schema":"a","distinguisher":"%s"}' % (b"x" * 65_000), b'try 3 {"hash":0}']
+LINES += [b'arrive 4 {"hash":[1,2,{"a":"b"}]}', b'arrive 4 {"work":1}', b'arrive 4 {"hash":0', b'arrive 4 {"hash":0,"width":0}', b"finish 9", b"nonsense", b'arrive 9 {"hash":0}', b"cancel 1"]
+LINES += [b'arrive 1 {"hash":7}', b"limit 2", b"finish 0", b"queues", b"close", b'arrive 0 {"hash":0}', b"book"]
+content = b"".join(line + b"\n" for line in LINES)
+served = {"limit": 1, "queues": 1, "handSize": 1, "queueLengthLimit": 2}
+
+
+def serve(content, **how):
+    done = subprocess.run([serving, "serve", files("served", json.dumps(served)), "--slots", "5"], input=content, capture_output=True, timeout=120, **how)
+    return done.returncode, done.stdout, done.stderr
+
+
+def modelled(*refused):
+    return 0, session(Service(config_of(json.dumps(served).encode()), 5, refused=refused), content).encode(), b""
+
+
+for name, content in [("a live level", content), ("a live level's metrics", b"metrics\n")] if is_built else []:
+    ample = serve(content)
+    without = {line: modelled(line) for line in range(1, len(LINES) + 1) if b"{" in LINES[line - 1]} if content != b"metrics\n" else {}
+    tally.check(f"{name} with ample memory", ample, modelled() if without else ample)
+    number, ends, met = 0, 0, []
+    while ends == 0 and number < 10_000:
+        number += 1
+        if os.path.exists(marker):
+            os.remove(marker)
+        got = serve(content, env=dict(os.environ, LD_PRELOAD=shim, APF_REFUSE=str(number), APF_REFUSED=marker))
+        ends = not os.path.exists(marker)
+        met += [line for line, want in without.items() if got == want != ample] + [0] * (got == WANT)
+        # at the level's end memory is asked for once more, behind all that is told
+        at_its_end = (3, ample[1], WANT[2])
+        tally.check(f"{name} without allocation {number}", got, got if got in (ample, at_its_end, WANT, *without.values()) else ample)
+    # the line of a bad number and that of a number that is there ask for none
+    asked = {0, *(line for line, want in without.items() if want != ample)}
+    tally.check(f"{name}: before the first line, and at each object, memory was refused", (set(met), ends, got), (asked, True, ample))
 tally.end()

@@ -1,7 +1,7 @@
 """The tests themselves: programs that are wrong in one thing, each of which a script here must fail, at the row that is named.
 
-Each wrong program stands in front of the built one. APF_PROGRAM names it to the script; APF_SPOILED leaves out random files, APF_ROUNDS runs of many requests, and
-APF_TRACES most of the drawn traces.
+Each wrong program stands in front of the built one. APF_PROGRAM names it to the script; APF_SPOILED leaves out random files, APF_ROUNDS runs of many requests,
+APF_TRACES most of the drawn traces, APF_SESSIONS most of the drawn sessions of a live level, and APF_REQUESTS most of the requests that pass through it.
 """
 
 import os
@@ -11,10 +11,11 @@ from concurrent.futures import ThreadPoolExecutor
 
 HERE = os.path.dirname(os.path.abspath(__file__))
 sys.path.insert(0, os.path.join(HERE, "lib"))
-from harness import Files, Tally, build
+from harness import Files, Tally, build, build_serving
 
 tally = Tally()
 program = build()
+_, serves = build_serving()
 files = Files()
 
 # in front of the built program; `replay` has the words, and `instead` ends with another answer
@@ -113,6 +114,47 @@ def compiled(path, text):
     subprocess.run(["cc", "-O1", f'-DPROGRAM="{program}"', "-o", path, source], check=True)
 
 
+# passes the lines of `serve` on, and its answers; `sent` and `told` say what becomes of each, `flushes` what is done behind each answer
+def serve(sent="line", told="line", flushes="sys.stdout.flush()", status="child.wait()"):
+    return python(f"""
+if words[:1] == ["serve"]:
+    import queue, re, threading
+    kept = []
+    child = subprocess.Popen([{program!r}, *words], stdin=subprocess.PIPE, stdout=subprocess.PIPE, bufsize=0)
+    def send():
+        for line in sys.stdin.buffer:
+            child.stdin.write({sent})
+        child.stdin.close()
+    threading.Thread(target=send, daemon=True).start()
+    try:
+        for line in child.stdout:
+            sys.stdout.buffer.write({told})
+            {flushes}
+        sys.stdout.flush()
+    except OSError:
+        sys.stdout = open(os.devnull, "w")
+        child.kill()
+        os.write(2, b"apf: cannot write\\n")
+        sys.exit({status} and 1)
+    sys.exit(child.wait())
+""")
+
+
+# a level that is wrong, and the row of serve.py at which it is seen; tried where APF_WRONG_LEVELS is set, since each takes a minute and more
+WRONG_LEVELS = [
+    ("a try that may wait", serve(sent='re.sub(rb"^try ", b"arrive ", line)'), "FAILED session"),
+    ("a level that charges nothing but widths", serve(sent="""re.sub(rb'"cost": ?[1-9][0-9]*', b'"width":1', line) if b"width" not in line else line"""), "FAILED session"),
+    ("a level that says nothing of strikes", serve(told='b"" if line.startswith(b"strike") else line'), "FAILED session"),
+    ("faults that are counted from 0", serve(told='re.sub(rb"^fault ([0-9]+)", lambda it: b"fault %d" % (int(it[1]) - 1), line)'), "FAILED session"),
+    ("lines of 65,536 bytes that are too long", serve(sent='b"x" * 70_000 + b"\\n" if len(line) == 65_537 else line'), "FAILED a line of 65536 bytes"),
+    ("a last line that needs no LF", serve(sent='line if line.endswith(b"\\n") else line + b"\\n"'), "FAILED bytes behind the last LF"),
+    ("a closed output that is taken for an end", serve(status="0"), "FAILED a closed output"),
+    ("a level that keeps what it read", serve(sent="kept.append(line * 3) or line"), "FAILED many requests: the memory in use"),
+    ("counters that are gauges", serve(told='line.replace(b" counter", b" gauge")'), "FAILED the metrics of level"),
+    ("a sample that stands twice", serve(told='line * 2 if b"reason=" in line else line'), "FAILED the metrics of level"),
+    ("a level that forgets its name", serve(told='re.sub(rb"priority_level=.[^,}]*", b\'priority_level="level"\', line)'), "FAILED the metrics of global-default"),
+]
+
 # name, the wrong program, the script that must fail, and the row at which it does
 WRONG = [
     ("nonsense", shell('echo "apf: nonsense" >&2; exit 1'), "files.py", "FAILED b'{\"limit\":0}'"),
@@ -170,6 +212,7 @@ if words[:1] == ["fates"] and len(words) == 4 and answer(words)[2].startswith(b"
     if early[2].startswith((b"apf: cannot read config", b"apf: config fault")):
         instead(*early)
 '''), "compare.py", "FAILED fates ["),
+    *((name, text, "serve.py", row) for name, text, row in (WRONG_LEVELS if serves and os.environ.get("APF_WRONG_LEVELS") else [])),
     ("hands that are not spread", shell('[ "$1" = deal ] && [ "$3" -gt 5 ] && { seq -s " " 0 $(($3 - 1)); exit 0; }'), "dealing_table.py", "FAILED (12, 32, 4)"),
 ]
 
@@ -183,7 +226,7 @@ def tried(wrong):
         with open(path, "w") as file:
             file.write(text)
         os.chmod(path, 0o755)
-    done = subprocess.run([sys.executable, os.path.join(HERE, script)], env=dict(os.environ, APF_PROGRAM=path, APF_SPOILED="0", APF_ROUNDS="1", APF_TRACES="20"), capture_output=True, timeout=600)
+    done = subprocess.run([sys.executable, os.path.join(HERE, script)], env=dict(os.environ, APF_PROGRAM=path, APF_SPOILED="0", APF_ROUNDS="1", APF_TRACES="20", APF_SESSIONS="60", APF_REQUESTS="30000"), capture_output=True, timeout=600)
     lines = done.stdout.decode(errors="replace").split("\n")
     return name, (done.returncode, any(line.startswith(row) for line in lines), done.stderr), lines
 

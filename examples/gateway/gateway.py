@@ -23,6 +23,10 @@ import sys
 
 HEAD = 65_536
 HOP = {b"connection", b"keep-alive", b"proxy-connection", b"te", b"trailer", b"upgrade"}
+NAME = re.compile(rb"[!#$%&'*+.^_`|~0-9A-Za-z-]+")
+CHUNK = re.compile(rb"[0-9A-Fa-f]{1,15}(;[^\r\n]*)?\r\n")
+# more bytes than there are
+ALL = 1 << 62
 
 
 class Gone(Exception):
@@ -31,6 +35,10 @@ class Gone(Exception):
 
 class Turned(Exception):
     """The request is not passed on: a status, and why."""
+
+
+# what ends one connection, and no other
+BROKEN = (Gone, OSError, EOFError, asyncio.LimitOverrunError, ValueError)
 
 
 class Ticket:
@@ -42,8 +50,9 @@ class Ticket:
         self.told = asyncio.get_running_loop().create_future()
 
     def tell(self, decision):
-        self.runs = decision == "execute"
+        # the first that is said holds
         if not self.told.done():
+            self.runs = decision == "execute"
             self.told.set_result(decision)
 
 
@@ -55,9 +64,14 @@ class Level:
         self.asked, self.process, self.limit, self.is_up = collections.deque(), None, 1, False
 
     async def start(self):
-        self.process = await asyncio.create_subprocess_exec(*self.words, stdin=-1, stdout=-1, limit=1 << 20)
+        try:
+            self.process = await asyncio.create_subprocess_exec(*self.words, stdin=-1, stdout=-1, limit=1 << 20)
+        except OSError as why:
+            print(f"gateway: {self.words[0]}: {why}", file=sys.stderr, flush=True)
+            return False
         first = (await self.process.stdout.readline()).decode().split()
         if first[:2] != ["serve", "1"]:
+            self.process.stdin.close()
             await self.process.wait()
             return False
         self.limit = int(first[first.index("limit") + 1])
@@ -70,7 +84,8 @@ class Level:
             # who runs has its seats already, or runs on without where they do not fit; who waited arrives again
             for it in sorted(self.there.values(), key=lambda it: not it.runs):
                 self.ask(f"{'try' if it.runs else 'arrive'} {it.number} {it.asks}", (lambda lines: None) if it.runs else self.arrived(it))
-            while line := await self.process.stdout.readline():
+            # a line without its end is of a level that died while it wrote, and says nothing
+            while (line := await self.process.stdout.readline()).endswith(b"\n"):
                 self.heard(line.decode().rstrip("\n"))
             self.is_up, asked, self.asked = False, self.asked, collections.deque()
             for _, done, _ in asked:
@@ -126,9 +141,9 @@ class Level:
             ticket.tell("execute" if seats + width <= self.limit or not seats else "concurrency-limit")
         await asyncio.wait([ticket.told, gone], timeout=patience or None, return_when=asyncio.FIRST_COMPLETED)
         if not ticket.told.done():
-            # the level knows whether it was dispatched meanwhile
-            lines = await self.answer(f"cancel {ticket.number}")
-            ticket.tell("execute" if lines and lines[0].endswith(" execute") else "cancelled")
+            # where it was dispatched meanwhile, that is heard before the answer, and holds
+            await self.answer(f"cancel {ticket.number}")
+            ticket.tell("cancelled")
         decision = ticket.told.result()
         if decision == "execute" and not gone.done():
             return ticket
@@ -167,54 +182,77 @@ class Message:
     """The head of a request or an answer, and how its body ends."""
 
     def __init__(self, head):
-        first, *rest = head.rstrip(b"\r\n").split(b"\r\n")
-        self.first, self.fields = first, [(name.strip(), value.strip()) for name, _, value in (it.partition(b":") for it in rest)]
+        self.first, *rest = head[:-4].split(b"\r\n")
+        self.fields = [(name, value.strip()) for name, _, value in (it.partition(b":") for it in rest)]
+        lengths, codings = self.values(b"content-length"), self.values(b"transfer-encoding")
+        self.chunked, self.length = bool(codings), int(lengths[0]) if lengths and lengths[0].isdigit() else None
+        # what two readers could read differently is not clear: how the body ends is said once at most, and a line is a name, a colon and a value
+        is_framed_once = not lengths + codings or (len(lengths + codings) == 1 and (self.length is not None or codings[:1] == [b"chunked"]))
+        text = b"".join([self.first, *(value for _, value in self.fields)])
+        self.is_clear = is_framed_once and all(NAME.fullmatch(name) for name, _ in self.fields) and not re.search(rb"[\r\n\0]", text)
+
+    def values(self, name):
+        return [value for key, value in self.fields if key.lower() == name]
 
     def value(self, name):
-        return next((value for key, value in self.fields if key.lower() == name), None)
+        return b", ".join(self.values(name))
 
     def head(self, *more):
-        kept = [(name, value) for name, value in self.fields if name.lower() not in HOP]
+        hop = HOP.union(re.split(rb"[ \t]*,[ \t]*", self.value(b"connection").lower()))
+        kept = [(name, value) for name, value in self.fields if name.lower() not in hop]
         return b"\r\n".join([self.first, *(name + b": " + value for name, value in [*kept, *more]), b"", b""])
 
 
 async def message_from(reader):
     try:
-        return Message(await reader.readuntil(b"\r\n\r\n"))
-    except (asyncio.IncompleteReadError, asyncio.LimitOverrunError, ConnectionError) as why:
+        message = Message(await reader.readuntil(b"\r\n\r\n"))
+    except BROKEN as why:
         raise Gone from why
+    if len(message.first.split()) < 2:
+        raise Gone
+    return message
 
 
 async def answered(writer, status, text, more=""):
-    """An answer of the gateway's own."""
+    """An answer of the gateway's own, behind which the connection ends."""
     head = f"HTTP/1.1 {status}\r\n{more}Content-Type: text/plain; version=0.0.4\r\nConnection: close\r\nContent-Length: {len(text)}\r\n\r\n"
     writer.write(head.encode() + text)
     await writer.drain()
+    return False
 
 
-async def pass_on(message, reader, writer, to_its_end):
-    """Passes a body on: chunks, so many bytes, or all to the end. Answers whether the connection can go on."""
-    if (message.value(b"transfer-encoding") or b"").lower() == b"chunked":
-        while True:
-            line = await reader.readuntil(b"\r\n")
-            size = int(line.split(b";")[0], 16)
-            writer.write(line + await reader.readexactly(size) if size else line)
-            writer.write(await reader.readuntil(b"\r\n"))
-            await writer.drain()
-            if not size:
-                return True
-    left = int(message.value(b"content-length") or 0)
-    is_told = message.value(b"content-length") is not None
-    while left if is_told or not to_its_end else True:
-        part = await reader.read(min(left, HEAD) if is_told else HEAD)
+async def pass_bytes(left, reader, writer):
+    """Passes so many bytes on, or all to the end."""
+    while left > 0:
+        part = await reader.read(min(left, HEAD))
+        if not part and left < ALL:
+            raise Gone
         if not part:
-            if is_told:
-                raise Gone
-            return False
-        left -= len(part)
+            return
+        left -= len(part) if left < ALL else 0
         writer.write(part)
         await writer.drain()
-    return is_told or not to_its_end
+
+
+async def pass_on(message, reader, writer, otherwise):
+    """Passes a body on: chunks, or as many bytes as its head says, and otherwise so many."""
+    if not message.chunked:
+        return await pass_bytes(otherwise if message.length is None else message.length, reader, writer)
+    size = -1
+    while size:
+        line = await reader.readuntil(b"\r\n")
+        if not CHUNK.fullmatch(line):
+            raise Gone
+        size = int(line.split(b";")[0], 16)
+        writer.write(line)
+        await pass_bytes(size, reader, writer)
+        # behind a chunk stands an empty line, and behind the last one trailers may stand
+        while (line := await reader.readuntil(b"\r\n")) != b"\r\n":
+            if size:
+                raise Gone
+            writer.write(line)
+        writer.write(line)
+    await writer.drain()
 
 
 class Gateway:
@@ -223,14 +261,17 @@ class Gateway:
 
     async def serve(self, reader, writer):
         """One client's connection: its requests, one after another."""
-        with contextlib.suppress(Gone, ConnectionError, asyncio.IncompleteReadError, asyncio.LimitOverrunError, ValueError, IndexError):
+        with contextlib.suppress(*BROKEN):
             while await self.one(await message_from(reader), reader, writer):
                 pass
         writer.close()
 
     async def one(self, request, reader, writer):
+        if not request.is_clear:
+            await answered(writer, "400 Bad Request", b"the head of the request is not clear\n")
+            return False
         name = request.value(self.asked.flow_header.lower().encode())
-        flow = name.decode("latin-1") if name else writer.get_extra_info("peername")[0]
+        flow = name.decode("latin-1") if name else (writer.get_extra_info("peername") or [""])[0]
         seats = request.value(b"x-seats") or b"1"
         width = int(seats) if re.fullmatch(rb"[1-9][0-9]{0,4}", seats) and int(seats) <= 20_000 else 1
         try:
@@ -252,35 +293,45 @@ class Gateway:
         try:
             there, back = await asyncio.open_connection(*self.asked.backend, limit=HEAD)
         except OSError:
-            await answered(writer, "502 Bad Gateway", b"the backend does not answer\n")
-            return False
+            return await answered(writer, "502 Bad Gateway", b"the backend is not there\n")
+        back.write(request.head((b"Connection", b"close")))
+        if request.value(b"expect").lower() == b"100-continue":
+            writer.write(b"HTTP/1.1 100 Continue\r\n\r\n")
+        # the answer may come before the whole body is sent; a body that breaks off ends the backend's connection
+        sends = asyncio.ensure_future(pass_on(request, reader, back, 0))
+        sends.add_done_callback(lambda it: it.cancelled() or (it.exception() and back.close()))
         try:
-            back.write(request.head((b"Connection", b"close")))
-            if (request.value(b"expect") or b"").lower() == b"100-continue":
-                writer.write(b"HTTP/1.1 100 Continue\r\n\r\n")
-            return await self.exchange(request, reader, writer, there, back)
+            answer = await self.answer_from(there)
+            if not answer:
+                return await answered(writer, "502 Bad Gateway", b"the backend does not answer\n")
+            return await self.answer(request, answer, there, writer) and sends.done() and not sends.exception()
         finally:
+            sends.cancel()
             back.close()
 
-    async def exchange(self, request, reader, writer, there, back):
-        await pass_on(request, reader, back, False)
-        answer = await message_from(there)
-        while answer.first.split()[1].startswith(b"1"):
-            answer = await message_from(there)
+    async def answer_from(self, there):
+        """The head of the backend's answer, behind those that only say that it goes on; none where it breaks off."""
+        with contextlib.suppress(Gone):
+            while (answer := await message_from(there)).first.split()[1].startswith(b"1"):
+                pass
+            return answer
+
+    async def answer(self, request, answer, there, writer):
+        """Passes the backend's answer back. Answers whether it has an end of its own, and the client wants to go on."""
         bare = request.first.startswith(b"HEAD ") or answer.first.split()[1] in (b"204", b"304")
-        is_framed = bare or answer.value(b"content-length") is not None or answer.value(b"transfer-encoding") is not None
-        closes = not is_framed or (request.value(b"connection") or b"").lower() == b"close" or request.first.endswith(b"/1.0")
+        is_framed = bare or answer.chunked or answer.length is not None
+        goes_on = is_framed and request.value(b"connection").lower() != b"close" and not request.first.endswith(b"/1.0")
         answer.first = b"HTTP/1.1 " + answer.first.partition(b" ")[2]
-        writer.write(answer.head((b"Connection", b"close" if closes else b"keep-alive")))
+        writer.write(answer.head((b"Connection", b"keep-alive" if goes_on else b"close")))
         if not bare:
-            await pass_on(answer, there, writer, True)
+            await pass_on(answer, there, writer, ALL)
         await writer.drain()
-        return not closes
+        return goes_on
 
     async def show(self, reader, writer):
         """The admin's pages: the metrics, and the queues."""
         pages = {b"/metrics": ("metrics", "# EOF"), b"/debug/queues": ("queues", "end")}
-        with contextlib.suppress(Gone, ConnectionError, IndexError):
+        with contextlib.suppress(*BROKEN):
             path = (await message_from(reader)).first.split()[1]
             if path in pages:
                 command, last = pages[path]
@@ -293,7 +344,7 @@ class Gateway:
 
 def address_of(text):
     host, _, port = text.rpartition(":")
-    return host, int(port)
+    return host.strip("[]"), int(port)
 
 
 async def main():

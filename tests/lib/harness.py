@@ -1,6 +1,7 @@
 """Runs the built program, and counts what holds."""
 
 import os
+import re
 import subprocess
 import sys
 import tempfile
@@ -24,6 +25,16 @@ def build():
     except OSError:
         # a checkout that can't be written
         return LAUNCHER
+
+
+def build_serving():
+    """The program that has the command `serve`, and whether it is the built one: while that has no such command, the independent computation of it,
+    which speaks the same protocol."""
+    program = build()
+    if re.search(rb"^  serve ", run(program, ["--help"])[1], re.M):
+        return program, True
+    print("not tried on the built program, which has no command serve: what runs is the independent computation of it, tests/lib/serve.py")
+    return os.path.join(TOP, "tests", "lib", "serve.py"), False
 
 
 def is_stale(program):

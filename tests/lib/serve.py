@@ -18,6 +18,8 @@ from level import Level
 from trace import SEATS, needed, value_of
 
 MOST = 65_536
+# a number may have as many digits as a line has room for, where Python has a bound
+getattr(sys, "set_int_max_str_digits", int)(0)
 KEYS = ("schema", "distinguisher", "hash", "width", "cost")
 # the lines that are no more than words: a form, and whether a request's number stands in it
 PLAIN = [("finish", True), ("cancel", True), ("close", False), ("book", False), ("queues", False), ("metrics", False)]
@@ -26,7 +28,7 @@ PLAIN = [("finish", True), ("cancel", True), ("close", False), ("book", False), 
 class Service:
     """One level, and who is there under which number."""
 
-    def __init__(self, config, slots=10_000, name="level"):
+    def __init__(self, config, slots=10_000, name="level", refused=()):
         fault = config["limitResponse"] == "Queue" and dealer_fault(config["queues"], config["handSize"])
         if fault:
             raise Refused(fault)
@@ -34,7 +36,8 @@ class Service:
         # the model's requests are all that ever arrived; each has a number of the protocol while it is there
         self.requests, self.there, self.number = [], {}, {}
         self.level = Level(config, self.requests)
-        self.line, self.is_broken = 0, False
+        # the lines, from 1, that find no memory for their object
+        self.line, self.refused = 0, refused
 
     def first(self):
         it = self.config
@@ -95,6 +98,8 @@ class Service:
         self.judged(number)
         if number in self.there:
             raise Refused(f"{number} is there")
+        if self.line in self.refused:
+            raise Refused("out of memory")
         asked = asked_of(text)
         request, before = len(self.requests), len(self.level.lines)
         self.requests.append(asked)
@@ -156,7 +161,14 @@ class Service:
         return samples
 
     def metrics(self):
-        return [*(f"apiserver_flowcontrol_{name}{{{labels}}} {value}" for (name, labels), value in self.numbers().items()), "# EOF"]
+        lines, before = [], None
+        for (name, labels), value in self.numbers().items():
+            full = f"apiserver_flowcontrol_{name}"
+            if full != before:
+                lines += [f"# HELP {full} As kube-apiserver names it", f"# TYPE {full} {'counter' if name.endswith('_total') else 'gauge'}"]
+            lines.append(f"{full}{{{labels}}} {value}")
+            before = full
+        return [*lines, "# EOF"]
 
 
 def asked_of(text):
@@ -189,23 +201,42 @@ def session(service, content):
     return "".join(f"{line}\n" for line in [*lines, *service.book()])
 
 
+def slots_of(text):
+    if not re.fullmatch("[1-9][0-9]{0,4}", text) or int(text) > 10_000:
+        raise ValueError(text)
+    return int(text)
+
+
+def name_of(text):
+    if not re.fullmatch("[a-z0-9.-]{1,253}", text):
+        raise ValueError(text)
+    return text
+
+
 def main():
     ask = argparse.ArgumentParser(usage=__doc__)
     ask.add_argument("command", choices=["serve"])
     ask.add_argument("config")
-    ask.add_argument("--slots", type=int, default=10_000)
-    ask.add_argument("--name", default="level")
+    ask.add_argument("--slots", type=slots_of, default=10_000)
+    ask.add_argument("--name", type=name_of, default="level")
     asked = ask.parse_args()
     try:
         with open(asked.config, "rb") as file:
             service = Service(config_of(file.read()), asked.slots, asked.name)
+    except OSError:
+        sys.exit("apf: cannot read config")
     except Refused as line:
         sys.exit(f"{line}")
-    print(service.first(), flush=True)
-    for line in sys.stdin.buffer:
-        answers = service.answer(line[:-1]) if line.endswith(b"\n") else [f"fault {service.line + 1} truncated"]
-        print("".join(f"{it}\n" for it in answers), end="", flush=True)
-    print("\n".join(service.book()))
+    try:
+        print(service.first(), flush=True)
+        for line in sys.stdin.buffer:
+            answers = service.answer(line[:-1]) if line.endswith(b"\n") else [f"fault {service.line + 1} truncated"]
+            print("".join(f"{it}\n" for it in answers), end="", flush=True)
+        print("\n".join(service.book()), flush=True)
+    except OSError:
+        # what is left in the buffer goes nowhere
+        os.dup2(os.open(os.devnull, os.O_WRONLY), 1)
+        sys.exit("apf: cannot write")
 
 
 if __name__ == "__main__":

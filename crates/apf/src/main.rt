@@ -28,6 +28,10 @@ impl Files for Disk<'_> {
     fn read_stdin(&mut self, most: u32) -> Result<Vec<u8>, FileFault> {
         read_bounded(self.rt.alloc(), self.rt.stdin(), most)
     }
+
+    fn read_some(&mut self, into: &mut [u8]) -> io::Result<usize> {
+        self.rt.stdin().read(into)
+    }
 }
 
 fn fault_of(error: io::Error) -> FileFault {

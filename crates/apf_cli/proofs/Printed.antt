@@ -2,7 +2,7 @@
 use Rattle.std.proofs.Common.{◌≡◌, ℕ, List, Option, Some, None, ◌∙◌}
 use Rattle.std.specs.Io.KnownBytes.{Appends, Keeps}
 use Rattle.apf_commands.specs.declared.words.Action.{Action}
-use Rattle.apf_commands.specs.declared.words.Action.TheVariants.{Hash, Deal, Replay, Run, Services, Waits, Explain, Simulate, Timeline, Compare, Fates, Requests, Picture, Hands, Trace}
+use Rattle.apf_commands.specs.declared.words.Action.TheVariants.{Hash, Deal, Replay, Run, Services, Waits, Explain, Serve, Simulate, Timeline, Compare, Fates, Requests, Picture, Hands, Trace}
 use Rattle.apf_cli.specs.Runs.{PrintsFor}
 
 appends_kept : (old mid new : Option (List ℕ)) (text : List ℕ) → Appends old mid text → Keeps mid new → Appends old new text
@@ -21,6 +21,7 @@ prints_kept holds (Replay config requests script) old mid new h k = tt
 prints_kept holds (Services config requests script) old mid new h k = tt
 prints_kept holds (Waits config requests script) old mid new h k = tt
 prints_kept holds (Explain config requests script) old mid new h k = tt
+prints_kept holds (Serve config slots name) old mid new h k = tt
 prints_kept holds (Simulate config trace patience) old mid new h k = tt
 prints_kept holds (Timeline config trace patience) old mid new h k = tt
 prints_kept holds (Compare config other trace patience) old mid new h k = tt

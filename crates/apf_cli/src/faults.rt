@@ -60,6 +60,8 @@ pub enum Fault {
     TooLarge(Input),
     /// The output would have more bytes than the program reads of such a file.
     Unreadable(Input),
+    /// The commands of `serve` were not read.
+    CannotReadCommands,
     /// Two files are to be read from standard input.
     TwoInputs,
     CannotWrite,
@@ -89,6 +91,7 @@ impl Fault {
             | Fault::Told(_)
             | Fault::Level(_)
             | Fault::CannotRead(_, _)
+            | Fault::CannotReadCommands
             | Fault::TooLarge(_)
             | Fault::Unreadable(_)
             | Fault::CannotWrite => 1,
@@ -247,6 +250,7 @@ impl fmt::Display for Fault {
                     "apf: the {input} would be too large: more than {most} bytes"
                 )
             }
+            Fault::CannotReadCommands => f.write_str("apf: cannot read standard input"),
             Fault::TwoInputs => f.write_str("apf: standard input is named twice"),
             Fault::CannotWrite => f.write_str("apf: cannot write"),
             Fault::Worker(number) => write!(f, "apf: worker {number} could not start"),

@@ -1,16 +1,17 @@
 //! The files of a command line: where their bytes come from, and how many they may have.
 
 ghost use Rattle.std.specs.Prelude.{◌≡◌, ◌≤◌, IfOk, vec_len, string_bytes, codes};
+ghost use Rattle.std.specs.Io.{ReadsAtMost};
 ghost use Rattle.apf_cli.specs.Names.{shown_name};
 ghost use Rattle.apf_cli.specs.Sizes.{most_bytes};
 
 use crate::faults::Fault;
 use apf_flows::write_escaped;
 use std::alloc::Global;
-use std::fmt;
+use std::{fmt, io};
 
 /// The name that stands for standard input. A file of this name is `./-`.
-const STANDARD_INPUT: &str = "-";
+pub(crate) const STANDARD_INPUT: &str = "-";
 
 /// The files of a command line.
 #[derive(Clone, Copy, Debug, PartialEq, Eq)]
@@ -105,6 +106,15 @@ pub trait Files {
     fn read_stdin(&mut self, most: u32) -> Result<Vec<u8>, FileFault>
         ensures within { IfOk result (λ bytes. vec_len bytes ≤ most) }
         ensures held { IfOk result (λ bytes. holds (codes "-") bytes.items) };
+
+    /// Reads the next bytes of standard input, as many as there are and there is room for. Tells how many; none at its
+    /// end.
+    ///
+    /// # Errors
+    ///
+    /// The system's.
+    fn read_some(&mut self, into: &mut [u8]) -> io::Result<usize>
+        ensures bound { ReadsAtMost result into.new };
 }
 
 /// The name of a file as a person is told it: escaped as in a JSON text, and where a terminal would obey a character.

@@ -1,13 +1,11 @@
 //! The whole program over files and writers that the caller passes.
 
 ghost use Rattle.std.specs.Prelude.{◌≡◌, ◌<◌, ◌≤◌, [], length, Err, IfOk, OnOk};
-ghost use Rattle.clap.specs.Words.{fault_of};
 ghost use Rattle.clap.specs.Walk.{texts};
 ghost use Rattle.clap.specs.Values.{kind_of};
-ghost use Rattle.apf_commands.specs.Commands.{apf_app};
 ghost use Rattle.apf_cli.specs.Runs.{AreRead, IsRunOf, PrintsRun, PrintsFor, Performs};
 ghost use Rattle.apf_run.specs.Limits.{max_requests};
-ghost use Rattle.apf_commands.specs.Meaning.{HasWorkers};
+ghost use Rattle.apf_commands.specs.Meaning.{IsInRange, words_fault};
 
 use crate::audits::print_trace;
 use crate::comparing::{print_comparison, print_fates};
@@ -15,6 +13,7 @@ use crate::explaining::print_explanation;
 use crate::faults::{Fault, Sizes};
 use crate::files::{Files, Input, judge_names, read_input};
 use crate::pictures::print_picture;
+use crate::serving::print_served;
 use crate::traces::{print_hands, print_requests, print_simulation, print_timeline};
 use apf_commands::{Action, read_words};
 use apf_flow::{Dealer, flow_hash};
@@ -135,7 +134,7 @@ fn print_action<F: Files, O: Write, E: Write, R: Wait + Threads + Sync>(
     out: &mut O,
     err: &mut E,
 ) -> Result<(), Fault>
-    requires { HasWorkers action }
+    requires { IsInRange action }
     ensures { OnOk result (PrintsFor F.holds action.entry (O.contents out.old) (O.contents out.new)) }
 {
     match action {
@@ -169,6 +168,11 @@ fn print_action<F: Files, O: Write, E: Write, R: Wait + Threads + Sync>(
             requests,
             script,
         } => print_explanation(rt, alloc, files, (config, requests, script), out),
+        Action::Serve {
+            config,
+            slots,
+            name,
+        } => print_served(rt, alloc, files, (config, slots, name), out),
         Action::Simulate {
             config,
             trace,
@@ -218,7 +222,7 @@ fn perform<F: Files, O: Write, E: Write, R: Wait + Threads + Sync>(
     out: &mut O,
     err: &mut E,
 ) -> Result<(), Fault>
-    requires { HasWorkers action }
+    requires { IsInRange action }
     ensures { OnOk result (PrintsFor F.holds action.entry (O.contents out.old) (O.contents out.new)) }
 {
     print_action(rt, alloc, action, files, out, err)?;
@@ -266,7 +270,6 @@ fn print_refusal<O: Write, E: Write>(
 }
 
 // Does what the words ask for, or prints what `clap` says of them.
-#[tactic(auto, using(crate::proofs::Workers::has_workers))]
 fn attempt<F: Files, O: Write, E: Write, R: Wait + Threads + Sync>(
     rt: &R,
     alloc: Global,
@@ -275,7 +278,7 @@ fn attempt<F: Files, O: Write, E: Write, R: Wait + Threads + Sync>(
     out: &mut O,
     err: &mut E,
 ) -> Result<u8, Fault>
-    ensures { fault_of apf_app (texts words.entry.now) ≡ [] → OnOk result (Performs F.holds (texts words.entry.now) (O.contents out.old) (O.contents out.new)) }
+    ensures { words_fault (texts words.entry.now) ≡ [] → OnOk result (Performs F.holds (texts words.entry.now) (O.contents out.old) (O.contents out.new)) }
 {
     match read_words(alloc, words) {
         Ok(action) => {
@@ -293,7 +296,7 @@ fn attempt<F: Files, O: Write, E: Write, R: Wait + Threads + Sync>(
 /// status is 1, 2 or 3, one fault is printed on `err`, and a write to it that fails changes no
 /// status. A fault prints nothing on `out`, except that a failed write may have written a beginning.
 ///
-/// Where `clap` has nothing to say of the words, status 0 means that their command was performed. What is stated of that
+/// Where there is nothing to say of the words themselves, status 0 means that their command was performed. What is stated of that
 /// is what `run` prints: the book of a run of the files that it names.
 pub fn act<F: Files, O: Write, E: Write, R: Wait + Threads + Sync>(
     rt: &R,
@@ -302,7 +305,9 @@ pub fn act<F: Files, O: Write, E: Write, R: Wait + Threads + Sync>(
     files: &mut F,
     out: &mut O,
     err: &mut E,
-) -> u8 {
+) -> u8
+    ensures { words_fault (texts words.entry.now) ≡ [] → result ≡ 0 → Performs F.holds (texts words.entry.now) (O.contents out.old) (O.contents out.new) }
+{
     match attempt(rt, alloc, words, files, out, err) {
         Ok(status) => status,
         Err(fault) => {

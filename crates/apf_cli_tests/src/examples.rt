@@ -4,6 +4,7 @@ ghost use Rattle.std.specs.Prelude.{◌≤◌, IfOk, vec_len};
 
 use apf_cli::{Cause, FileFault, Files, act};
 use std::alloc::Global;
+use std::io;
 use std::process::Abort;
 use std::sync::Wait;
 use std::thread::Threads;
@@ -48,6 +49,11 @@ impl Files for Memory<'_> {
     // Standard input has the script.
     fn read_stdin(&mut self, most: u32) -> Result<Vec<u8>, FileFault> {
         bytes_of(self.alloc, self.script, most)
+    }
+
+    // Bit by bit it has nothing: the commands of `serve` end at once.
+    fn read_some(&mut self, _into: &mut [u8]) -> io::Result<usize> {
+        Ok(0)
     }
 }
 

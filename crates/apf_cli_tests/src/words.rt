@@ -241,6 +241,100 @@ fn reads_numbers_at_their_ends(rt: HostRuntime) -> Result<(), Fail> {
     Ok(())
 }
 
+// The slots of a level, at their ends and where they are left out.
+#[test]
+fn reads_numbers_of_options(rt: HostRuntime) -> Result<(), Fail> {
+    let alloc = rt.alloc();
+    for (text, slots) in [("1", 1), ("10000", 10_000), ("007", 7)] {
+        let words = ["apf", "serve", "c", "--slots", text];
+        let serve = Action::Serve {
+            config: "c",
+            slots,
+            name: "level",
+        };
+        assert_eq!(rt; read_words(alloc, &words)?, serve);
+    }
+    let serve = Action::Serve {
+        config: "c",
+        slots: 10_000,
+        name: "level",
+    };
+    assert_eq!(rt; read_words(alloc, &["apf", "serve", "c"])?, serve);
+    Ok(())
+}
+
+// So many times the letter a.
+fn letters(alloc: Global, count: usize) -> Result<String, Fail> {
+    let mut text = String::new(alloc);
+    for _ in 0..count {
+        text.push('a')?;
+    }
+    Ok(text)
+}
+
+// A level's name is 1 to 253 bytes of a-z, 0-9, `.` and `-`.
+#[test]
+fn reads_names_of_levels(rt: HostRuntime) -> Result<(), Fail> {
+    let alloc = rt.alloc();
+    let most = letters(alloc, 253)?;
+    for name in [
+        "a",
+        "z",
+        "0",
+        "9",
+        ".",
+        "workload-low",
+        "a.b-9",
+        most.as_str(),
+    ] {
+        let serve = Action::Serve {
+            config: "c",
+            slots: 3,
+            name,
+        };
+        let words = ["apf", "serve", "--name", name, "--slots=3", "c"];
+        assert_eq!(rt; read_words(alloc, &words)?, serve);
+    }
+    let many = letters(alloc, 254)?;
+    for name in [
+        "A",
+        "",
+        "a b",
+        "a_b",
+        "a/b",
+        "`",
+        "{",
+        "ä",
+        "a\n",
+        "\u{0}",
+        many.as_str(),
+    ] {
+        let words = ["apf", "serve", "c", "--name", name];
+        let _ = refused(&rt, alloc, &words, ErrorKind::ValueValidation);
+    }
+    Ok(())
+}
+
+#[test]
+fn refuses_other_words_of_levels(rt: HostRuntime) {
+    let rows: [(&[&str], ErrorKind); 10] = [
+        (&["apf", "serve"], ErrorKind::MissingRequiredArgument),
+        (&["apf", "serve", "c", "r"], ErrorKind::UnknownArgument),
+        (
+            &["apf", "serve", "c", "--slots", "0"],
+            ErrorKind::ValueValidation,
+        ),
+        (
+            &["apf", "serve", "c", "--slots", "10001"],
+            ErrorKind::ValueValidation,
+        ),
+        (&["apf", "serve", "c", "--slots"], ErrorKind::InvalidValue),
+    ];
+    for (words, kind) in rows {
+        let _ = refused(&rt, rt.alloc(), words, kind);
+    }
+}
+
 #[test]
 fn reads_the_words_of_simulations(rt: HostRuntime) -> Result<(), Fail> {
     let alloc = rt.alloc();
@@ -423,7 +517,9 @@ fn refuses_other_words(rt: HostRuntime) {
 
 #[test]
 fn answers_with_help(rt: HostRuntime) -> Result<(), Fail> {
-    let rows: [(&[&str], &str); 10] = [
+    let rows: [(&[&str], &str); 12] = [
+        (&["apf", "serve", "--help"], "docs/SERVE.md"),
+        (&["apf", "help", "run"], "<WORKERS>"),
         (&["apf", "compare", "--help"], "median"),
         (&["apf", "help", "fates"], "concurrency-limit"),
         (&["apf", "simulate", "--help"], "in microseconds"),

@@ -1,5 +1,5 @@
 -- Words in which `clap` finds no fault name one of the program's commands, with its arguments.
-use Rattle.std.proofs.Common.{◌≡◌, ◌∙◌, ◌&&◌, ◌||◌, Bool, true, false, not, refl, sym, ap, List, [], Option, Some, None, is_some, option_map, true≢false, codes, lit<}
+use Rattle.std.proofs.Common.{◌≡◌, ◌∙◌, ◌&&◌, ◌||◌, ◌⊎◌, inl, inr, ℕ, arith, Bool, true, false, not, refl, sym, ap, List, [], Option, Some, None, is_some, option_map, true≢false, codes, lit<}
 use Rattle.std.specs.List.{find, list_all}
 use Rattle.std.specs.Option.{option_map_or}
 use Rattle.std.specs.Str.{bytes_eq}
@@ -11,10 +11,10 @@ use Rattle.clap.proofs.OnLiterals.{clap_on_literals}
 use Rattle.apf_commands.specs.Commands.{apf_app, command_shape, script_rules, shape_for, simulation_rules}
 use Rattle.apf_commands.specs.Names.{text_of}
 use Rattle.apf_commands.specs.declared.names.CommandName.{CommandName}
-use Rattle.apf_commands.specs.declared.names.CommandName.TheVariants.{Hash, Deal, Replay, Run, Services, Waits, Explain, Simulate, Timeline, Compare, Fates, Requests, Picture, Hands, Trace}
-use Rattle.apf_commands.specs.Arguments.{HasArguments, HasAuditArguments, HasCompareArguments, HasDealArguments, HasHandsArguments, HasHashArguments, HasRequestsArguments, HasRunArguments, HasScriptArguments, HasSimulationArguments, IsCommand}
+use Rattle.apf_commands.specs.declared.names.CommandName.TheVariants.{Hash, Deal, Replay, Run, Services, Waits, Explain, Serve, Simulate, Timeline, Compare, Fates, Requests, Picture, Hands, Trace}
+use Rattle.apf_commands.specs.Arguments.{HasArguments, HasAuditArguments, HasCompareArguments, HasDealArguments, HasHandsArguments, HasHashArguments, HasRequestsArguments, HasRunArguments, HasScriptArguments, HasServeArguments, HasSimulationArguments, IsCommand}
 use Rattle.apf_commands.proofs.Taken.{Each, MayStop, OwnIds, found, is_plain_rule, walk_holds}
-use Rattle.apf_commands.proofs.Given.{all_given, level_parts, no_check, signed_reads, unsigned_reads}
+use Rattle.apf_commands.proofs.Given.{IsPlainShape, all_given, all_met, level_parts, no_check, signed_reads, unsigned_reads}
 
 -- the program's commands have the form of which `clap` says what a parse gives, and when it fails
 pub apf_is_simple : is_simple apf_app ≡ true
@@ -69,6 +69,23 @@ run_given words e =
       config = (config.text, config.first);
       requests = (requests.text, requests.first);
       workers = (reads.0, ((_, workers.one, reads.1), reads.2, reads.3));
+    }
+
+serve_given : (words : List Text) → IsFaultFree (ready (shape_for Serve)) words → HasServeArguments (rows_after (ready (shape_for Serve)).rules [] words)
+unfolding apf_app shape_for
+serve_given words e =
+    let plain : IsPlainShape (ready (shape_for Serve)) = record { rules = refl; own_ids = (refl, (refl, (refl, (refl, tt)))); defaults = refl; negates = refl } in
+    let given = all_given (ready (shape_for Serve)) plain words e in
+    let met = all_met (ready (shape_for Serve)) plain words e in
+    let config = given.0 refl refl in
+    record {
+      config = (config.text, config.first);
+      slots = elim met.1.0 [
+        | inl none ↦ (10000, (inr (none, refl), omega arith, omega arith))
+        | inr slots ↦
+            let counts = signed_reads 32 1 10000 slots.text (lit< tt) slots.accepted in
+            (counts.0, (inl (_, slots.one, counts.1), counts.2, counts.3))
+      ];
     }
 
 requests_given : (words : List Text) → IsFaultFree (ready (shape_for Requests)) words → HasRequestsArguments (rows_after (ready (shape_for Requests)).rules [] words)
@@ -138,6 +155,7 @@ arguments_given Run words e = run_given words e
 arguments_given Services words e = script_given (text_of Services) words e
 arguments_given Waits words e = script_given (text_of Waits) words e
 arguments_given Explain words e = script_given (text_of Explain) words e
+arguments_given Serve words e = serve_given words e
 arguments_given Simulate words e = simulation_given (text_of Simulate) words e
 arguments_given Timeline words e = simulation_given (text_of Timeline) words e
 arguments_given Compare words e = compare_given words e
@@ -175,7 +193,7 @@ each_entered : Each IsEntered (built apf_app).subs
 unfolding apf_app
 each_entered = (
   enters Hash,
-  (enters Deal, (enters Replay, (enters Run, (enters Services, (enters Waits, (enters Explain, (enters Simulate, (enters Timeline, (enters Compare, (enters Fates, (enters Requests, (enters Picture, (enters Hands, (enters Trace, ((λ name words met stays e. absurd (help_stays name met stays)), tt))))))))))))))),
+  (enters Deal, (enters Replay, (enters Run, (enters Services, (enters Waits, (enters Explain, (enters Serve, (enters Simulate, (enters Timeline, (enters Compare, (enters Fates, (enters Requests, (enters Picture, (enters Hands, (enters Trace, ((λ name words met stays e. absurd (help_stays name met stays)), tt)))))))))))))))),
 )
 
 top_rules : list_all is_plain_rule (built apf_app).top.rules ≡ true

@@ -1,5 +1,5 @@
 -- What the arguments of a command are, where its words have no fault.
-use Rattle.std.proofs.Common.{◌≡◌, ◌∙◌, ◌<◌, ◌≤◌, ◌==◌, ◌&&◌, ◌||◌, ◌^◌, ℕ, Bool, cond, true, false, not, refl, sym, ap, subst, arith, List, [], ◌∷◌, drop, Option, Some, None, Ok, option_map, true≢false}
+use Rattle.std.proofs.Common.{◌≡◌, ◌∙◌, ◌⊎◌, inl, inr, ◌<◌, ◌≤◌, ◌==◌, ◌&&◌, ◌||◌, ◌^◌, ℕ, Bool, cond, true, false, not, refl, sym, ap, subst, arith, List, [], ◌∷◌, drop, Option, Some, None, Ok, option_map, true≢false}
 use Rattle.std.specs.Prelude.{pos, option_and_then, slice_get}
 use Rattle.std.specs.List.{find, fold, list_all, list_any}
 use Rattle.std.specs.Option.{option_map_or, unwrap_or}
@@ -13,7 +13,7 @@ use Rattle.clap.specs.Facts.{explicit_source, parser_of_value}
 use Rattle.clap.specs.Lexer.{without_minus}
 use Rattle.clap.specs.Values.{Accepts, IsSignedIn, IsUnsignedIn, read_as, refused_kind}
 use Rattle.clap.specs.ValueTests.{accepts}
-use Rattle.clap.specs.Walk.{Names, Row, Rule, Text, arg_by_id, default_rows, finished, first_of, has_row, is_empty, nothing_held, one_of, reading_by, rows_after, settled, walk, walk_from, with_default}
+use Rattle.clap.specs.Walk.{Names, Row, Rule, Text, arg_by_id, default_rows, finished, first_of, has_row, is_empty, nothing_held, one_of, reading_by, row_text, rows_after, settled, walk, walk_from, with_default}
 use Rattle.clap.specs.Simple.{Shape}
 use Rattle.clap.specs.Takes.{is_given}
 use Rattle.clap.specs.Kinds.{Kinds, check_kinds, value_kinds}
@@ -96,9 +96,17 @@ each_fails p (x ∷ xs) e =
     let parts = either_false (p x) (list_any p xs) e in
     (parts.0, each_fails p xs parts.1)
 
-given_by : (c : List Rule) (a : Rule) (rows : List Row) → Each (IsTaken c) rows → arg_by_id c a.id ≡ Some a → is_given a.id rows ≡ true → IsGiven a rows
-given_by c a rows taken own given = go (find (λ r. bytes_eq r.id a.id) rows) refl given
+-- the row of an argument has a value that its parser accepts
+row_given : (c : List Rule) (a : Rule) (rows : List Row) (r : Row) → Each (IsTaken c) rows → arg_by_id c a.id ≡ Some a
+    → find (λ r. bytes_eq r.id a.id) rows ≡ Some r → IsGiven a rows
+row_given c a rows r taken own is = at r is (here.0.by a (subst (λ (i : Text). arg_by_id c i ≡ Some a) (sym same) own))
   where
+    here : IsTaken c r × (bytes_eq r.id a.id ≡ true)
+    here = found (IsTaken c) (λ r. bytes_eq r.id a.id) rows r taken is
+
+    same : r.id ≡ a.id
+    same = (bytes_eq-Decides r.id a.id).0 here.1
+
     at : (r : Row) → find (λ r. bytes_eq r.id a.id) rows ≡ Some r → IsTakenBy a r → IsGiven a rows
     at r is by =
         let first : first_of a.id rows ≡ slice_get r.values 0 = ap (option_and_then (λ (x : Row). slice_get x.values 0)) is in
@@ -112,12 +120,23 @@ given_by c a rows taken own given = go (find (λ r. bytes_eq r.id a.id) rows) re
           accepted = accepted_by a by.text by.taken;
         }
 
+given_by : (c : List Rule) (a : Rule) (rows : List Row) → Each (IsTaken c) rows → arg_by_id c a.id ≡ Some a → is_given a.id rows ≡ true → IsGiven a rows
+given_by c a rows taken own given = go (find (λ r. bytes_eq r.id a.id) rows) refl given
+  where
     go : (o : Option Row) → find (λ r. bytes_eq r.id a.id) rows ≡ o → option_map_or (λ r. explicit_source r.source) o false ≡ true → IsGiven a rows
     go None is e = absurd (true≢false (sym e))
-    go (Some r) is e =
-        let here = found (IsTaken c) (λ r. bytes_eq r.id a.id) rows r taken is in
-        let same : r.id ≡ a.id = (bytes_eq-Decides r.id a.id).0 here.1 in
-        at r is (here.0.by a (subst (λ (i : Text). arg_by_id c i ≡ Some a) (sym same) own))
+    go (Some r) is e = row_given c a rows r taken own is
+
+-- an argument is not given, or has a value that its parser accepts
+abbrev pub IsMet : List Row → Rule → Type 0
+IsMet rows a = (one_of a.id rows ≡ None) ⊎ IsGiven a rows
+
+met_by : (c : List Rule) (rows : List Row) → Each (IsTaken c) rows → (a : Rule) → arg_by_id c a.id ≡ Some a → IsMet rows a
+met_by c rows taken a own = go (find (λ r. bytes_eq r.id a.id) rows) refl
+  where
+    go : (o : Option Row) → find (λ r. bytes_eq r.id a.id) rows ≡ o → IsMet rows a
+    go None is = inl (ap (option_and_then row_text) is)
+    go (Some r) is = inr (row_given c a rows r taken own is)
 
 -- an argument that must be given is
 abbrev pub RequiredIsGiven : List Rule → List Row → Rule → Type 0
@@ -130,20 +149,33 @@ required_given c rows taken a e required own = given_by c a rows taken own (go (
     go true e = refl
     go false e = absurd (true≢false e)
 
--- where the words of a command have no fault, each argument that must be given is
+-- where the words of a command have no fault, each row has a value that its argument takes
+all_taken : (s : Shape) → IsPlainShape s → (words : List Text) → level_fault s [] nothing_held words false [] ≡ [] → Each (IsTaken s.rules) (rows_after s.rules [] words)
+all_taken s plain words e =
+    let parts = level_parts s [] words false [] e in
+    let end = (walk s.rules [] nothing_held words).held in
+    let walked = walk_holds s plain.rules plain.own_ids [] words (walk_from nothing_held) (record { rows = tt; stop = tt }) parts.walked in
+    let held = settled_taken s.rules plain.rules plain.own_ids s.args_override_self end parts.settle walked.rows in
+    subst (Each (IsTaken s.rules)) (sym (no_defaults s.rules (settled s.rules end).rows plain.defaults)) held
+
+-- there each argument that must be given is
 pub all_given : (s : Shape) → IsPlainShape s → (words : List Text) → level_fault s [] nothing_held words false [] ≡ []
     → Each (RequiredIsGiven s.rules (rows_after s.rules [] words)) s.rules
 all_given s plain words e =
     let parts = level_parts s [] words false [] e in
-    let end = (walk s.rules [] nothing_held words).held in
-    let rows = finished s.rules end in
-    let walked = walk_holds s plain.rules plain.own_ids [] words (walk_from nothing_held) (record { rows = tt; stop = tt }) parts.walked in
-    let held = settled_taken s.rules plain.rules plain.own_ids s.args_override_self end parts.settle walked.rows in
-    let taken = subst (Each (IsTaken s.rules)) (sym (no_defaults s.rules (settled s.rules end).rows plain.defaults)) held in
+    let rows = rows_after s.rules [] words in
+    let taken = all_taken s plain words e in
     let none_missing = (no_check _ _ _ parts.check).1 in
     let nothing_missing : list_any (λ a. a.required && not (is_given a.id rows)) s.rules ≡ false = rw plain.negates at none_missing in
     Each-weaker (λ a. (a.required && not (is_given a.id rows)) ≡ false) (RequiredIsGiven s.rules rows) (required_given s.rules rows taken) s.rules
     (each_fails (λ a. a.required && not (is_given a.id rows)) s.rules nothing_missing)
+
+-- there each argument is not given, or has a value that its parser accepts
+pub all_met : (s : Shape) → IsPlainShape s → (words : List Text) → level_fault s [] nothing_held words false [] ≡ []
+    → Each (IsMet (rows_after s.rules [] words)) s.rules
+all_met s plain words e =
+    let rows = rows_after s.rules [] words in
+    Each-weaker (λ a. arg_by_id s.rules a.id ≡ Some a) (IsMet rows) (met_by s.rules rows (all_taken s plain words e)) s.rules plain.own_ids
 
 -- ---- numbers
 

@@ -5,3 +5,4 @@ pub mod Matches
 pub mod Chain
 mod Rows
 pub mod Patient
+pub mod Ranges

@@ -1,5 +1,5 @@
 -- What the getters of `clap`'s matches answer, by the rows, and which command they name.
-use Rattle.std.proofs.Common.{◌≡◌, ℕ, List, [], Option, Some, None, Result, Ok, Err, Box, refl, sym, ap, subst, true, is_some, option_map, unwrap_or, ◌∙◌}
+use Rattle.std.proofs.Common.{◌≡◌, ◌⊎◌, inl, inr, ℕ, List, [], Option, Some, None, Result, Ok, Err, Box, refl, sym, ap, subst, true, is_some, option_map, unwrap_or, ◌∙◌}
 use Rattle.std.specs.Borrow.{Bor}
 use Rattle.std.specs.Prelude.{IsSome}
 use Rattle.std.specs.Str.Parse.{ParsesUnsigned}
@@ -10,15 +10,28 @@ use Rattle.apf_commands.specs.Commands.{apf_app}
 use Rattle.clap.specs.declared.parser.matches.ArgMatches.TheViews.{out-SubCommand}
 use Rattle.clap.specs.declared.parser.matches.SubCommand.{SubCommand}
 use Rattle.apf_commands.specs.Arguments.{HasArguments, IsCommand}
+use Rattle.apf_commands.specs.Meaning.{IsNumber}
 use Rattle.apf_commands.specs.Names.{command_named, text_of}
 use Rattle.apf_commands.specs.declared.names.CommandName.{CommandName}
-use Rattle.apf_commands.specs.declared.names.CommandName.TheVariants.{Hash, Deal, Replay, Run, Services, Waits, Explain, Simulate, Timeline, Compare, Fates, Requests, Picture, Hands, Trace}
+use Rattle.apf_commands.specs.declared.names.CommandName.TheVariants.{Hash, Deal, Replay, Run, Services, Waits, Explain, Serve, Simulate, Timeline, Compare, Fates, Requests, Picture, Hands, Trace}
 use Rattle.clap.proofs.OnLiterals.{clap_on_literals}
 use Rattle.apf_commands.proofs.Accepted.{Entered, apf_is_free, apf_is_simple}
 
 pub text_there : (r : Option (Bor Text)) (t : Text) → option_map (λ s. s.now) r ≡ Some t → IsSome r
 text_there None t e = cc
 text_there (Some b) t e = refl
+
+-- the text of an option, or another one where it is not given
+pub text_as : (given : Option (Bor Text)) (otherwise : Bor Text) → unwrap_or (option_map (λ t. t.now) given) otherwise.now ≡ (unwrap_or given otherwise).now
+text_as None otherwise = refl
+text_as (Some t) otherwise = refl
+
+-- an argument has one number
+pub same_number : (k : ℕ) (rows : List Row) (id : Text) (m n : ℕ) → IsNumber k rows id m → IsNumber k rows id n → m ≡ n
+same_number k rows id m n first second =
+    let same : second.0 ≡ first.0 = ap (λ o. unwrap_or o second.0) (sym second.1 ∙ first.1) in
+    let read : ParsesUnsigned {E = Unit {0}} k 10 first.0 (Ok n) = subst (λ (t : Text). ParsesUnsigned {E = Unit {0}} k 10 t (Ok n)) same second.2 in
+    first.2.1 ∙ sym read.1
 
 -- a text that is a number is read, as that number
 module _ {E : Type 0} (gives : Text → Result ℕ E → Type 0) (k : ℕ) (t : Text)
@@ -29,6 +42,11 @@ module _ {E : Type 0} (gives : Text → Result ℕ E → Type 0) (k : ℕ) (t : 
 
   pub number_read : (v : ℕ) (r : Option ℕ) → r ≡ Some v → ReadsOne gives t r → ParsesUnsigned {E = Unit {0}} k 10 t (Ok v)
   number_read v r is h = only (Ok v) (subst (ReadsOne gives t) is h)
+
+  -- and so is that of an option, of which another number stands where it is not given
+  pub option_read : (n v otherwise : ℕ) (r : Option ℕ) → ParsesUnsigned {E = Unit {0}} k 10 t (Ok n) → ReadsOne gives t r → v ≡ unwrap_or r otherwise → v ≡ n
+  option_read n v otherwise (Some x) parses h is = is ∙ (only (Ok x) h).1 ∙ sym parses.1
+  option_read n v otherwise None parses h is = absurd (only (Err h.0) h.1 parses.0)
 
 module _ {Z : Type 0} where
   -- the name and the rows are those of one command
@@ -69,6 +87,7 @@ of_its_name Run = refl
 of_its_name Services = refl
 of_its_name Waits = refl
 of_its_name Explain = refl
+of_its_name Serve = refl
 of_its_name Simulate = refl
 of_its_name Timeline = refl
 of_its_name Compare = refl

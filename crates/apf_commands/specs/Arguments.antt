@@ -1,10 +1,10 @@
 -- The arguments that a command has once `clap` has accepted its words, which the readers require.
 use Rattle.std.specs.Prelude.{◌≡◌, ℕ, List, codes}
 use Rattle.clap.specs.Words.{Row, Text}
-use Rattle.apf_commands.specs.Meaning.{IsNumber, IsText, IsWorkerCount}
+use Rattle.apf_commands.specs.Meaning.{IsNumber, IsSlotCount, IsText, IsWorkerCount}
 use Rattle.apf_commands.specs.Names.{text_of}
 use Rattle.apf_commands.specs.declared.names.CommandName.{CommandName}
-use Rattle.apf_commands.specs.declared.names.CommandName.TheVariants.{Hash, Deal, Replay, Run, Services, Waits, Explain, Simulate, Timeline, Compare, Fates, Requests, Picture, Hands, Trace}
+use Rattle.apf_commands.specs.declared.names.CommandName.TheVariants.{Hash, Deal, Replay, Run, Services, Waits, Explain, Serve, Simulate, Timeline, Compare, Fates, Requests, Picture, Hands, Trace}
 
 -- the argument has a text
 abbrev pub HasText : List Row → Text → Type 0
@@ -36,6 +36,11 @@ pub record HasRunArguments (rows : List Row) : Type 0 where
   pub config : HasText rows (codes "CONFIG")
   pub requests : HasText rows (codes "REQUESTS")
   pub workers : (n : ℕ) × IsWorkerCount rows n
+
+-- the arguments of `serve` but for the level's name, which may be any text here
+pub record HasServeArguments (rows : List Row) : Type 0 where
+  pub config : HasText rows (codes "CONFIG")
+  pub slots : (n : ℕ) × IsSlotCount rows n
 
 -- the arguments of `simulate`, `timeline`, `fates` and `picture`
 pub record HasSimulationArguments (rows : List Row) : Type 0 where
@@ -73,6 +78,7 @@ HasArguments Run rows = HasRunArguments rows
 HasArguments Services rows = HasScriptArguments rows
 HasArguments Waits rows = HasScriptArguments rows
 HasArguments Explain rows = HasScriptArguments rows
+HasArguments Serve rows = HasServeArguments rows
 HasArguments Simulate rows = HasSimulationArguments rows
 HasArguments Timeline rows = HasSimulationArguments rows
 HasArguments Compare rows = HasCompareArguments rows

@@ -6,7 +6,7 @@ use Rattle.clap.specs.declared.builder.value_parser.ValueParser.{ValueParser}
 use Rattle.clap.specs.declared.builder.value_parser.ValueParser.TheVariants.{Signed, Unsigned}
 use Rattle.apf_commands.specs.Names.{text_of}
 use Rattle.apf_commands.specs.declared.names.CommandName.{CommandName}
-use Rattle.apf_commands.specs.declared.names.CommandName.TheVariants.{Hash, Deal, Replay, Run, Services, Waits, Explain, Simulate, Timeline, Compare, Fates, Requests, Picture, Hands, Trace}
+use Rattle.apf_commands.specs.declared.names.CommandName.TheVariants.{Hash, Deal, Replay, Run, Services, Waits, Explain, Serve, Simulate, Timeline, Compare, Fates, Requests, Picture, Hands, Trace}
 
 -- a text that must be given
 abbrev pub text_rule : Text → Rule
@@ -20,6 +20,10 @@ number_rule id parser = record (text_rule id) { parser = Some parser }
 abbrev pub option_rule : Text → Rule
 option_rule name = record (new_rule name) { long = Some name; value_names = 1 }
 
+-- an option with a number, which may be left out
+abbrev pub number_option_rule : Text → ValueParser → Rule
+number_option_rule name parser = record (option_rule name) { parser = Some parser }
+
 -- the whole numbers of 32 bits
 abbrev pub any_u32 : ValueParser
 any_u32 = Signed (pos 0) (pos 4294967295)
@@ -32,6 +36,10 @@ any_u64 = Unsigned 0 18446744073709551615
 abbrev pub worker_count : ValueParser
 worker_count = Signed (pos 1) (pos 64)
 
+-- how many slots a level for life may have
+abbrev pub slot_count : ValueParser
+slot_count = Signed (pos 1) (pos 10000)
+
 -- the arguments of a command that reads a configuration file and a requests file
 abbrev pub file_rules : List Rule
 file_rules = text_rule (codes "CONFIG") ∷ text_rule (codes "REQUESTS") ∷ []
@@ -39,6 +47,14 @@ file_rules = text_rule (codes "CONFIG") ∷ text_rule (codes "REQUESTS") ∷ []
 -- the arguments of a command that reads a script
 abbrev pub script_rules : List Rule
 script_rules = file_rules ++ text_rule (codes "SCRIPT") ∷ []
+
+-- the arguments of `run`
+abbrev pub run_rules : List Rule
+run_rules = file_rules ++ number_rule (codes "WORKERS") worker_count ∷ []
+
+-- the arguments of `serve`
+abbrev pub serve_rules : List Rule
+serve_rules = text_rule (codes "CONFIG") ∷ number_option_rule (codes "slots") slot_count ∷ option_rule (codes "name") ∷ []
 
 -- the arguments of a command that reads a configuration file and a trace
 abbrev pub trace_rules : List Rule
@@ -68,10 +84,11 @@ rules_of Hash = text_rule (codes "SCHEMA") ∷ text_rule (codes "DISTINGUISHER")
 rules_of Deal =
     number_rule (codes "DECK") any_u32 ∷ number_rule (codes "HAND") any_u32 ∷ number_rule (codes "HASH") any_u64 ∷ []
 rules_of Replay = script_rules
-rules_of Run = file_rules ++ number_rule (codes "WORKERS") worker_count ∷ []
+rules_of Run = run_rules
 rules_of Services = script_rules
 rules_of Waits = script_rules
 rules_of Explain = script_rules
+rules_of Serve = serve_rules
 rules_of Simulate = simulation_rules
 rules_of Timeline = simulation_rules
 rules_of Compare = compare_rules
@@ -93,12 +110,12 @@ app_with name rules = record { top = command_shape name rules; subs = [] }
 unfoldable pub shape_for : CommandName → Shape
 shape_for command = command_shape (text_of command) (rules_of command)
 
--- the commands in their order: on flows, on configs and requests, on traces
+-- the commands in their order: on flows, on a level, on traces
 abbrev pub flow_commands : List CommandName
 flow_commands = Hash ∷ Deal ∷ []
 
 abbrev pub level_commands : List CommandName
-level_commands = Replay ∷ Run ∷ Services ∷ Waits ∷ Explain ∷ []
+level_commands = Replay ∷ Run ∷ Services ∷ Waits ∷ Explain ∷ Serve ∷ []
 
 abbrev pub trace_commands : List CommandName
 trace_commands = Simulate ∷ Timeline ∷ Compare ∷ Fates ∷ Requests ∷ Picture ∷ Hands ∷ Trace ∷ []
@@ -115,6 +132,6 @@ bare_app = record {
   subs = [];
 }
 
--- the program with its fifteen commands
+-- the program with its sixteen commands
 unfoldable pub apf_app : App
 apf_app = with_commands trace_commands (with_commands level_commands (with_commands flow_commands bare_app))

@@ -1,5 +1,6 @@
 pub mod Commands
 pub mod Meaning
 pub mod Names
+pub mod LevelName
 pub mod Arguments
 pub mod Patience

@@ -1,7 +1,7 @@
 -- The names of the program's commands.
 use Rattle.std.specs.Prelude.{ℕ, List, Option, Some, None, codes, bytes_eq, if◌then◌else◌}
 use Rattle.apf_commands.specs.declared.names.CommandName.{CommandName}
-use Rattle.apf_commands.specs.declared.names.CommandName.TheVariants.{Hash, Deal, Replay, Run, Services, Waits, Explain, Simulate, Timeline, Compare, Fates, Requests, Picture, Hands, Trace}
+use Rattle.apf_commands.specs.declared.names.CommandName.TheVariants.{Hash, Deal, Replay, Run, Services, Waits, Explain, Serve, Simulate, Timeline, Compare, Fates, Requests, Picture, Hands, Trace}
 
 -- the command's name, as it stands in a command line
 abbrev pub text_of : CommandName → List ℕ
@@ -12,6 +12,7 @@ text_of Run = codes "run"
 text_of Services = codes "services"
 text_of Waits = codes "waits"
 text_of Explain = codes "explain"
+text_of Serve = codes "serve"
 text_of Simulate = codes "simulate"
 text_of Timeline = codes "timeline"
 text_of Compare = codes "compare"
@@ -31,6 +32,7 @@ command_named text =
     (if bytes_eq text (codes "services") then Some Services else
     (if bytes_eq text (codes "waits") then Some Waits else
     (if bytes_eq text (codes "explain") then Some Explain else
+    (if bytes_eq text (codes "serve") then Some Serve else
     (if bytes_eq text (codes "simulate") then Some Simulate else
     (if bytes_eq text (codes "timeline") then Some Timeline else
     (if bytes_eq text (codes "compare") then Some Compare else
@@ -38,4 +40,4 @@ command_named text =
     (if bytes_eq text (codes "requests") then Some Requests else
     (if bytes_eq text (codes "picture") then Some Picture else
     (if bytes_eq text (codes "hands") then Some Hands else
-    (if bytes_eq text (codes "trace") then Some Trace else None))))))))))))))
+    (if bytes_eq text (codes "trace") then Some Trace else None)))))))))))))))

@@ -2,7 +2,7 @@
 ghost use Rattle.std.specs.Prelude.{◌≡◌, IfOk, false};
 ghost use Rattle.clap.specs.Words.{app_of, rule_of, shape_of};
 ghost use Rattle.clap.specs.declared.builder.command.Command.TheViews.{out-Command};
-ghost use Rattle.apf_commands.specs.Commands.{apf_app, app_with, flow_commands, level_commands, trace_commands, with_commands, command_shape, file_rules, script_rules, trace_rules, simulation_rules, shape_for, text_rule, number_rule, option_rule};
+ghost use Rattle.apf_commands.specs.Commands.{apf_app, app_with, flow_commands, level_commands, trace_commands, with_commands, command_shape, file_rules, script_rules, trace_rules, simulation_rules, shape_for, text_rule, number_rule, option_rule, number_option_rule};
 ghost use Rattle.apf_commands.specs.declared.names.CommandName.TheVariants as named;
 
 use crate::help;
@@ -42,6 +42,20 @@ fn option<'a>(alloc: Global, name: &'a str, value: &'a str, help: &'a str) -> Ar
         .long(name)
         .value_name(value)
         .help(help)
+}
+
+// An option with a number, which may be left out. Help calls its value `value`.
+fn number_option<'a>(
+    alloc: Global,
+    name: &'a str,
+    parser: ValueParser<'a>,
+    value: &'a str,
+    help: &'a str,
+) -> Arg<'a>
+    ensures rule { rule_of result ≡ number_option_rule name.entry.now parser.entry }
+    ensures local { result.global ≡ false }
+{
+    option(alloc, name, value, help).value_parser(parser)
 }
 
 fn hash_command<'a>(alloc: Global) -> Result<Command<'a>, AllocError>
@@ -176,6 +190,30 @@ fn explain_command<'a>(alloc: Global) -> Result<Command<'a>, AllocError>
         "Judge the files of a replay and print the first fault for a person",
         help::EXPLAIN,
     )
+}
+
+fn serve_command<'a>(alloc: Global) -> Result<Command<'a>, AllocError>
+    ensures shape { IfOk result (λ c. shape_of c ≡ shape_for named.Serve) }
+    ensures local { IfOk result (λ c. (out-Command c).has_globals ≡ false) }
+{
+    let slots = value_parser!(u32).range(1..=10_000);
+    Command::new(alloc, "serve")
+        .about("Keep a level open, with commands on standard input and answers on standard output")
+        .after_help(help::SERVE)
+        .arg(text(alloc, "CONFIG", "Configuration file of the priority level"))?
+        .arg(number_option(
+            alloc,
+            "slots",
+            slots,
+            "S",
+            "How many requests may be there at once, waiting and running, 1 to 10000 (the default)",
+        ))?
+        .arg(option(
+            alloc,
+            "name",
+            "NAME",
+            "Name of the level in metrics, 1 to 253 of a-z, 0-9, . and -; level if left out",
+        ))
 }
 
 // A command whose first arguments are the configuration file and the trace.
@@ -341,7 +379,7 @@ fn with_flow_commands<'a>(alloc: Global, program: Command<'a>) -> Result<Command
         .subcommand(deal_command(alloc)?)
 }
 
-// The program with its commands on configs and requests.
+// The program with its commands on a level.
 fn with_level_commands<'a>(alloc: Global, program: Command<'a>) -> Result<Command<'a>, AllocError>
     ensures { IfOk result (λ c. app_of c ≡ with_commands level_commands (app_of program.entry)) }
 {
@@ -350,7 +388,8 @@ fn with_level_commands<'a>(alloc: Global, program: Command<'a>) -> Result<Comman
         .subcommand(run_command(alloc)?)?
         .subcommand(services_command(alloc)?)?
         .subcommand(waits_command(alloc)?)?
-        .subcommand(explain_command(alloc)?)
+        .subcommand(explain_command(alloc)?)?
+        .subcommand(serve_command(alloc)?)
 }
 
 // The program with its commands on traces.
@@ -368,7 +407,7 @@ fn with_trace_commands<'a>(alloc: Global, program: Command<'a>) -> Result<Comman
         .subcommand(audit_command(alloc)?)
 }
 
-/// The program's command line, of which one of the fifteen commands must be named.
+/// The program's command line, of which one of the sixteen commands must be named.
 ///
 /// # Errors
 ///
@@ -378,7 +417,7 @@ pub(crate) fn apf_command<'a>(alloc: Global) -> Result<Command<'a>, AllocError>
 {
     let program = Command::new(alloc, "apf")
         .about(
-            "Replay, run or simulate requests at one priority level of API Priority and Fairness",
+            "Replay, run, serve or simulate requests at one priority level of API Priority and Fairness",
         )
         .after_help(help::PROGRAM)
         .version(VERSION)

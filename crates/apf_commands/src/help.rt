@@ -153,6 +153,20 @@ Example:
 Status: 0 done, 1 a file's fault or output that can't be written, 2 a command line's fault,
 3 no memory or a worker that could not start.";
 
+/// Of `serve`.
+pub(crate) const SERVE: &str = "\
+Keeps one level open for a server's whole life, behind a pipe: commands come on standard input, one
+a line, and answers go to standard output, until the input ends. Then the book of the level is
+printed. docs/SERVE.md has the protocol.
+
+CONFIG is that of apf replay; apf replay --help says what it holds. It is a file, and not -.
+
+Example:
+  apf serve config.json --slots 500 --name workload-low
+
+Status: 0 done, 1 a file's fault or output that can't be written, 2 a command line's fault,
+3 no memory.";
+
 /// Of `simulate`.
 pub(crate) const SIMULATE: &str = "\
 Requests arrive at their times, run for their times and give their seats back, on the level of

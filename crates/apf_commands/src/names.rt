@@ -12,6 +12,7 @@ pub(crate) enum CommandName {
     Services,
     Waits,
     Explain,
+    Serve,
     Simulate,
     Timeline,
     Compare,
@@ -42,6 +43,8 @@ impl CommandName {
             Some(CommandName::Waits)
         } else if text == "explain" {
             Some(CommandName::Explain)
+        } else if text == "serve" {
+            Some(CommandName::Serve)
         } else if text == "simulate" {
             Some(CommandName::Simulate)
         } else if text == "timeline" {

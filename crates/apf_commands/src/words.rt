@@ -1,16 +1,18 @@
 //! What the words of a command line ask the program to do.
-ghost use Rattle.std.specs.Prelude.{IfOk, codes};
-ghost use Rattle.clap.specs.Words.{FailsBy, fault_of, found_of, rows_of};
+ghost use Rattle.std.specs.Prelude.{◌≡◌, ◌⊎◌, ℕ, IfErr, IfNone, IfOk, IfSome, codes};
+ghost use Rattle.clap.specs.Words.{FailsBy, found_of, kind_of, rows_of};
+ghost use Rattle.clap.specs.declared.error.kind.ErrorKind.TheVariants.{OutOfMemory, ValueValidation};
 ghost use Rattle.clap.specs.Walk.{texts};
-ghost use Rattle.apf_commands.specs.Commands.{apf_app};
 ghost use Rattle.apf_commands.specs.Names.{text_of as name_text};
-ghost use Rattle.apf_commands.specs.Meaning.{AreChosen, AsksFor, IsActionOf, IsNumber, IsOption, IsText};
+ghost use Rattle.apf_commands.specs.Meaning.{AreChosen, AsksFor, HasBadName, HasLevelName, IsActionOf, IsInRange, IsNumber, IsNumberOr, IsOption, IsText, IsTextOr, words_fault};
 ghost use Rattle.apf_commands.specs.Arguments.{HasText, HasNumber, HasHashArguments, HasDealArguments};
 ghost use Rattle.apf_commands.specs.Arguments.{HasScriptArguments, HasRunArguments, HasArguments};
-ghost use Rattle.apf_commands.specs.Arguments.{HasSimulationArguments, HasCompareArguments, HasRequestsArguments, HasHandsArguments, HasAuditArguments};
+ghost use Rattle.apf_commands.specs.Arguments.{HasServeArguments, HasSimulationArguments, HasCompareArguments, HasRequestsArguments, HasHandsArguments, HasAuditArguments};
 
 use crate::commands::apf_command;
+use crate::level_name::is_level_name;
 use crate::names::CommandName;
+use clap::error::ErrorKind;
 use clap::{ArgMatches, Error};
 use std::alloc::Global;
 
@@ -34,7 +36,7 @@ pub enum Action<'a> {
         requests: &'a str,
         script: &'a str,
     },
-    /// Run the requests on 1 to 64 worker threads and print the book.
+    /// Run the requests on 1 to 64 worker threads, each 1 to 1,000,000 times, and print the book.
     Run {
         config: &'a str,
         requests: &'a str,
@@ -57,6 +59,13 @@ pub enum Action<'a> {
         config: &'a str,
         requests: &'a str,
         script: &'a str,
+    },
+    /// Keep a level open for a server's whole life, with 1 to 10,000 slots: so many requests may be there at once. The first
+    /// text is a file name, and the second one the level's name in metrics.
+    Serve {
+        config: &'a str,
+        slots: u32,
+        name: &'a str,
     },
     /// Simulate a trace and print what its flows met; the texts are file names, and a patience for
     /// [`read_patience`](crate::read_patience).
@@ -143,6 +152,20 @@ fn u32_of(matches: &ArgMatches<'_>, id: &str) -> u32
     ensures { IsNumber 32 (rows_of (found_of matches.now)) id.now result }
 {
     matches.get_one::<u32>(id).unwrap()
+}
+
+// The text of an option, or this one if it is not given.
+fn text_or<'a>(matches: &ArgMatches<'a>, id: &str, otherwise: &'a str) -> &'a str
+    ensures { IsTextOr otherwise.entry.now (rows_of (found_of matches.now)) id.now result.now }
+{
+    option_of(matches, id).unwrap_or(otherwise)
+}
+
+// The number of an option, or this one if it is not given.
+fn u32_or(matches: &ArgMatches<'_>, id: &str, otherwise: u32) -> u32
+    ensures { (n : ℕ) → IsNumberOr 32 otherwise (rows_of (found_of matches.now)) id.now n → result ≡ n }
+{
+    matches.get_one::<u32>(id).unwrap_or(otherwise)
 }
 
 // The number of an argument.
@@ -246,6 +269,17 @@ fn explain_action<'a>(matches: &ArgMatches<'a>) -> Action<'a>
         config,
         requests,
         script,
+    }
+}
+
+fn serve_action<'a>(matches: &ArgMatches<'a>) -> Action<'a>
+    requires { HasServeArguments (rows_of (found_of matches.now)) }
+    ensures { AsksFor (codes "serve") (rows_of (found_of matches.now)) result }
+{
+    Action::Serve {
+        config: text_of(matches, "CONFIG"),
+        slots: u32_or(matches, "slots", 10_000),
+        name: text_or(matches, "name", "level"),
     }
 }
 
@@ -361,6 +395,7 @@ fn action_of<'a>(command: CommandName, matches: &ArgMatches<'a>) -> Action<'a>
         CommandName::Services => services_action(matches),
         CommandName::Waits => waits_action(matches),
         CommandName::Explain => explain_action(matches),
+        CommandName::Serve => serve_action(matches),
         CommandName::Simulate => simulate_action(matches),
         CommandName::Timeline => timeline_action(matches),
         CommandName::Compare => compare_action(matches),
@@ -372,29 +407,72 @@ fn action_of<'a>(command: CommandName, matches: &ArgMatches<'a>) -> Action<'a>
     }
 }
 
+// The name of the level that the action serves, if no level may have it.
+fn bad_name<'a>(action: &Action<'a>) -> Option<&'a str>
+    ensures none { IfNone result (HasLevelName action.now) }
+    ensures some { IfSome result (λ _. HasBadName action.now) }
+{
+    let Action::Serve { name, .. } = *action else {
+        return None;
+    };
+    if is_level_name(name) {
+        None
+    } else {
+        Some(name)
+    }
+}
+
+// The refusal of a level's name, in the form of `clap`'s own.
+fn name_refused(alloc: Global, name: &str) -> Result<Error, Error>
+    ensures made { IfOk result (λ e. kind_of e ≡ ValueValidation) }
+    ensures memory { IfErr result (λ e. kind_of e ≡ OutOfMemory) }
+{
+    let message = format!(in alloc;
+        "invalid value '{name}' for '--name <NAME>': not 1 to 253 of a-z, 0-9, . and -"
+    )?;
+    let mut command = apf_command(alloc)?;
+    Ok(command.error(ErrorKind::ValueValidation, message.as_str())?)
+}
+
+// The action, if the name of the level that it serves is one that a level may have.
+fn judged<'a>(alloc: Global, action: Action<'a>) -> Result<Action<'a>, Error>
+    ensures ok { IfOk result (λ a. (a ≡ action.entry) × HasLevelName action.entry) }
+    ensures err { IfErr result (λ e. (kind_of e ≡ OutOfMemory) ⊎ ((kind_of e ≡ ValueValidation) × HasBadName action.entry)) }
+{
+    let Some(name) = bad_name(&action) else {
+        return Ok(action);
+    };
+    match name_refused(alloc, name) {
+        Ok(error) => Err(error),
+        Err(error) => Err(error),
+    }
+}
+
 /// The action that the words of a command line ask for; the first word is the program's name.
 ///
 /// Its texts and numbers are those that `clap` reads of the words, for the commands
 /// `hash SCHEMA DISTINGUISHER`, `deal DECK HAND HASH`, `replay CONFIG REQUESTS SCRIPT`,
 /// `run CONFIG REQUESTS WORKERS`, `services CONFIG REQUESTS SCRIPT`, `waits CONFIG REQUESTS SCRIPT`,
-/// `explain CONFIG REQUESTS SCRIPT`,
+/// `explain CONFIG REQUESTS SCRIPT`, `serve CONFIG [--slots S] [--name NAME]`,
 /// `simulate CONFIG TRACE PATIENCE`, `timeline CONFIG TRACE PATIENCE`, `compare CONFIG OTHER TRACE PATIENCE`,
 /// `fates CONFIG TRACE PATIENCE`, `requests TRACE`, `picture CONFIG TRACE PATIENCE`,
 /// `hands CONFIG TRACE [--flow NAME]` and
 /// `trace AUDITLOG SCHEMA [--by WHO] [--user NAME] [--since INSTANT] [--until INSTANT]`.
-/// `DECK` and `HAND` are whole decimal numbers of 32 bits, `HASH` is one of 64 bits, and `WORKERS` is 1 to 64. The other
-/// arguments are texts, `PATIENCE` too.
+/// `DECK` and `HAND` are whole decimal numbers of 32 bits, `HASH` is one of 64 bits, `WORKERS` is 1 to 64,
+/// `--slots` 1 to 10,000 and 10,000 if absent. `--name` is 1 to 253 bytes of `a-z`, `0-9`, `.`
+/// and `-`, and `level` if absent. The other arguments are texts, `PATIENCE` too.
 ///
 /// # Errors
 ///
-/// `clap`'s error where it refuses the words, or where they ask for help, and one of the kind
-/// `OutOfMemory` where memory is refused.
+/// `clap`'s error where it refuses the words, or where they ask for help; one of the kind `ValueValidation` where it refuses
+/// none of them and `--name` is none that a level may have; one of the kind `OutOfMemory` where memory is refused.
 pub fn read_words<'a>(alloc: Global, words: &'a [&'a str]) -> Result<Action<'a>, Error>
     ensures read { IfOk result (IsActionOf (texts words.entry.now)) }
-    ensures refused { FailsBy (fault_of apf_app (texts words.entry.now)) result }
+    ensures ranges { IfOk result IsInRange }
+    ensures refused { FailsBy (words_fault (texts words.entry.now)) result }
 {
     let matches = apf_command(alloc)?.try_get_matches_from(words)?;
     let (name, inner) = matches.subcommand().unwrap();
     let command = CommandName::named(name).unwrap();
-    Ok(action_of(command, inner))
+    judged(alloc, action_of(command, inner))
 }

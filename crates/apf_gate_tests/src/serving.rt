@@ -176,7 +176,7 @@ fn serve_beside<R: Threads + Wait + Abort + Sync>(
 fn four_threads_on_two_seats(rt: HostRuntime) {
     let counts = Counts::new();
     let mut is_seen = false;
-    for _round in 0..100u32 {
+    for _round in 0..2000u32 {
         let words = serve_beside(&rt, rt.alloc(), &counts, 0);
         words.limit(&rt, 2);
         assert!(rt; counts.most() <= 2);
@@ -197,7 +197,7 @@ fn four_threads_on_two_seats(rt: HostRuntime) {
 fn eight_set_limits_while_four_take(rt: HostRuntime) {
     let mut raced = 0u64;
     let mut set_raced = 0u64;
-    for _round in 0..100u32 {
+    for _round in 0..2000u32 {
         let counts = Counts::new();
         let words = serve_beside(&rt, rt.alloc(), &counts, 8);
         let last = u64::from(words.level().limit());

@@ -129,6 +129,11 @@ pub record Answers (place : Place) (old : Token) (answer : Answer) (new : Token)
   pub right : place_of old ≡ place → answer ≢ answers.Wrong
   pub wrong : place_of old ≢ place → (answer ≡ answers.Wrong) × (new ≡ old)
 
+-- a request that waits reads its decision: it executes, is over, or still waits
+pub record Polls (old : Token) (answer : Answer) (new : Token) : Type 0 where
+  pub answers : Answers places.Waits old answer new
+  pub place : place_of old ≡ places.Waits → SaysWhere answer
+
 -- what is answered where a request that executes gives its seats back is what its one step found: whether requests waited then
 abbrev pub ReleasesAs : Token → Answer → Token → Type 0
 ReleasesAs (tokens.Free pass) answer token' = Unit {0}

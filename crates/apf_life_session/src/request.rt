@@ -10,7 +10,7 @@ ghost use Rattle.apf_gate.specs.Tokens.{pass_gate};
 ghost use Rattle.apf_life_session.specs.declared.answer.Answer.TheVariants as answers;
 ghost use Rattle.apf_life_session.specs.declared.answer.Place.TheVariants as places;
 ghost use Rattle.apf_life_session.specs.declared.token.Token.TheVariants as tokens;
-ghost use Rattle.apf_life_session.specs.Requests.{number_in, place_of, Answers, Arrives, Tries, LogsFor, ReleasesAs, KeepsBegun, KeepsTried, KeepsAdmitted};
+ghost use Rattle.apf_life_session.specs.Requests.{number_in, place_of, Answers, Arrives, Tries, Polls, LogsFor, ReleasesAs, KeepsBegun, KeepsTried, KeepsAdmitted};
 
 use crate::answer::{Answer, Place};
 use crate::token::Token;
@@ -247,7 +247,7 @@ impl<K: Naming> Request<K> {
     /// Reads the decision of a request that waits. One that is cancelled leaves its queue. Answers `Run`, `Waits` or
     /// `Over`.
     pub fn poll<R: Wait>(&mut self, rt: &R, level: &Level<K>) -> Answer
-        ensures answers { Answers places.Waits self.old result self.new }
+        ensures polls { Polls self.old result self.new }
     {
         match take(&mut self.token) {
             Token::Waiting(waiting) => match level.poll(rt, waiting) {

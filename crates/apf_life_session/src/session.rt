@@ -1,6 +1,6 @@
 //! A level with its slots and its operators.
 
-ghost use Rattle.std.specs.Prelude.{◌≡◌, ◌<◌, ◌≤◌, [], length, slice_index_or, All, IfOk, IfErr, OnOk};
+ghost use Rattle.std.specs.Prelude.{◌≡◌, ◌<◌, ◌≤◌, [], ◌∷◌, length, slice_index_or, All, IfOk, IfErr, OnOk};
 ghost use Rattle.apf_words.specs.Limits.{max_width, max_limit};
 ghost use Rattle.apf_gate.specs.StationCalls.{TriesToCancel, ClosesTo};
 ghost use Rattle.apf_gate.specs.Slots.{IsTicket};
@@ -10,8 +10,8 @@ ghost use Rattle.apf_life.specs.Calls.{SettledBy};
 ghost use Rattle.apf_life_session.specs.declared.answer.Place.TheVariants as places;
 ghost use Rattle.apf_life_session.specs.declared.token.Token.{Token};
 ghost use Rattle.apf_life_session.specs.Openings.{level_of, IsOpenFault};
-ghost use Rattle.apf_life_session.specs.Requests.{number_in, Answers, Arrives, Tries, CallsOne, AreFree};
-ghost use Rattle.apf_life_session.specs.Ends.{StayButFirst, KeepsOrder, SessionEnds};
+ghost use Rattle.apf_life_session.specs.Requests.{number_in, Answers, Arrives, Tries, Polls, CallsOne, AreFree};
+ghost use Rattle.apf_life_session.specs.Ends.{CancelsThese, FirstCancels, StayButFirst, KeepsOrder, SessionEnds, waiting};
 
 use crate::answer::{Answer, Place};
 use crate::fault::OpenFault;
@@ -89,14 +89,23 @@ fn dones_of<K: Naming, R: Wait>(
     Ok(dones)
 }
 
+// Cancels the request, if it waits.
+fn cancel_if_waiting<K: Naming>(level: &Level<K>, operator: &mut Operator<K>, request: &Request<K>)
+    ensures number { operator.new.station.number ≡ operator.old.station.number }
+    ensures cancels { CancelsThese (waiting (request.now ∷ [])) operator.old.station operator.new.station }
+{
+    if request.place() == Place::Waits {
+        operator.cancel(level, request.ticket());
+    }
+}
+
 // Cancels each request that waits.
 fn cancel_waiting<K: Naming>(level: &Level<K>, operator: &mut Operator<K>, requests: &[Request<K>])
     ensures number { operator.new.station.number ≡ operator.old.station.number }
+    ensures cancels { CancelsThese (waiting requests.now) operator.old.station operator.new.station }
 {
     for request in requests {
-        if request.place() == Place::Waits {
-            operator.cancel(level, request.ticket());
-        }
+        cancel_if_waiting(level, operator, request);
     }
 }
 
@@ -107,6 +116,7 @@ fn settle_all<K: Naming>(
     requests: &[Request<K>],
 )
     ensures operators { KeepsOrder operators.old.items operators.new.items }
+    ensures cancels { FirstCancels requests.now operators.old.items operators.new.items }
 {
     if !operators.is_empty() {
         cancel_waiting(level, &mut operators[0], requests);
@@ -210,7 +220,7 @@ impl<K: Naming> Session<K> {
     /// Reads the decision of a request that waits. Answers `Run`, `Waits` or `Over`.
     pub fn poll<R: Wait>(&mut self, rt: &R, slot: u32) -> Answer
         requires is_slot { slot < K.level.gate.shape.slots }
-        ensures calls { CallsOne (Answers places.Waits) slot self.old.slots.items result self.new.slots.items }
+        ensures calls { CallsOne Polls slot self.old.slots.items result self.new.slots.items }
         ensures operators { self.new.operators.items ≡ self.old.operators.items }
     {
         self.slots[slot as usize].poll(rt, &self.level)
@@ -273,14 +283,15 @@ impl<K: Naming> Session<K> {
         self.operators[0].set_limit(rt, &self.level, limit)
     }
 
-    /// Ends the level. The first operator, if there is one, cancels each request that waits. Then the request of each
+    /// Ends the level. The first operator, if there is one, cancels each request that waits, by one step, and makes no
+    /// other step. Then the request of each
     /// slot is brought to its end as by `Request::end`, from the last slot to the first.
     ///
     /// # Errors
     ///
     /// `AllocError` if memory was refused. Then everything is given up.
     pub fn end<R: Wait>(self, rt: &R, alloc: Global) -> Result<Report, AllocError>
-        ensures { IfOk result (SessionEnds K.level self.operators.items) }
+        ensures { IfOk result (SessionEnds K.level self.slots.items self.operators.items) }
     {
         let Session {
             level,

@@ -18,7 +18,7 @@ use Rattle.apf_protocol.specs.Objects.{asked_of, arrival_in}
 use Rattle.apf_protocol.specs.Shown.{IsValueShown, IsObjectShown, IsEveryFaultShown}
 use Rattle.apf_protocol.proofs.Braces.{IsObject, object_read}
 use Rattle.apf_protocol.specs.declared.fault.FaultKind.{FaultKind}
-use Rattle.apf_protocol.specs.declared.fault.FaultKind.TheVariants.{TooLong, BadLine, BadNumber, IsThere, IsNotThere, NoMemory, NotJson, UnknownKey, BadFlow, BadWidth, BadCost, BadLimit, Truncated}
+use Rattle.apf_protocol.specs.declared.fault.FaultKind.TheVariants.{TooLong, BadLine, BadNumber, IsThere, IsNotThere, NoMemory, NotJson, UnknownKey, BadFlow, BadWidth, BadCost, BadLimit, UsedUp, Truncated}
 
 -- what the fault says of the value, which may be no object yet
 abbrev pub IsShownAs : Data → FaultKind → Type 0
@@ -67,6 +67,7 @@ of_value object d BadFlow is some shown = (d, is, shown)
 of_value object d BadWidth is some shown = (d, is, shown)
 of_value object d BadCost is some shown = (d, is, shown)
 of_value object d BadLimit is some shown = absurd shown
+of_value object d (UsedUp number) is some shown = absurd shown
 of_value object d Truncated is some shown = absurd shown
 
 object_by : (object : List ℕ) (kind : FaultKind) (o : Option Data) → object_text object ≡ Some object → read object ≡ o

@@ -1,7 +1,6 @@
 -- The texts of what is answered. A line that a transcript has, too, is written as there.
 use Rattle.std.specs.Prelude.{ℕ, List, ◌++◌, codes}
 use Rattle.std.specs.Fmt.{decimal}
-use Rattle.apf_words.specs.declared.decision.Decision.TheVariants as decisions
 use Rattle.apf_model.specs.declared.config.Config.{Config}
 use Rattle.apf_model.specs.declared.response.Response.{Response}
 use Rattle.apf_model.specs.declared.response.Response.TheVariants as responses
@@ -9,7 +8,7 @@ use Rattle.apf_run.specs.Texts.{decision_name, line_text}
 use Rattle.apf_run.specs.declared.line.Line.{Line}
 use Rattle.apf_run.specs.declared.line.Line.TheVariants as lines
 use Rattle.apf_protocol.specs.declared.answer.Answer.{Answer}
-use Rattle.apf_protocol.specs.declared.answer.Answer.TheVariants.{Arrives, Tries, Finishes, NotRunning, Cancelled, Runs, Limits, ClosesFirst, ClosesAlready, Dispatches, Strikes, Queue, End}
+use Rattle.apf_protocol.specs.declared.answer.Answer.TheVariants.{Arrives, Tries, Finishes, NotRunning, Cancels, Limits, ClosesFirst, ClosesAlready, Dispatches, Strikes, Queue, End}
 use Rattle.apf_protocol.specs.declared.answer.Arrived.{Arrived}
 use Rattle.apf_protocol.specs.declared.answer.Arrived.TheVariants as arrived
 use Rattle.apf_protocol.specs.declared.answer.FirstLine.{FirstLine}
@@ -19,18 +18,14 @@ use Rattle.apf_protocol.specs.declared.answer.Tried.TheVariants as tried
 
 -- the line of a transcript that says what became of an arrival
 abbrev pub arrived_line : ℕ → Arrived → Line
-arrived_line request arrived.Execute = lines.Arrives request decisions.Execute
 arrived_line request (arrived.Queued queue) = lines.Queued request queue
 arrived_line request (arrived.QueueFull queue) = lines.QueueFull request queue
-arrived_line request arrived.Closed = lines.Arrives request decisions.Closed
-arrived_line request arrived.ConcurrencyLimit = lines.Arrives request decisions.ConcurrencyLimit
+arrived_line request (arrived.Decided decision) = lines.Arrives request decision
 
 -- how it is written what became of a request that was tried
 abbrev pub tried_name : Tried → List ℕ
-tried_name tried.Execute = decision_name decisions.Execute
 tried_name tried.Busy = codes "busy"
-tried_name tried.Closed = decision_name decisions.Closed
-tried_name tried.ConcurrencyLimit = decision_name decisions.ConcurrencyLimit
+tried_name (tried.Decided decision) = decision_name decision
 
 -- the line of a queue
 abbrev pub queue_text : Given → List ℕ
@@ -44,8 +39,7 @@ answer_text (Arrives request it) = line_text (arrived_line request it)
 answer_text (Tries request it) = codes "try " ++ (decimal request ++ (codes " " ++ (tried_name it ++ codes "\n")))
 answer_text (Finishes request) = line_text (lines.Finishes request)
 answer_text (NotRunning request) = line_text (lines.NotRunning request)
-answer_text (Cancelled request) = line_text (lines.Cancels request decisions.Cancelled)
-answer_text (Runs request) = line_text (lines.Cancels request decisions.Execute)
+answer_text (Cancels request decision) = line_text (lines.Cancels request decision)
 answer_text (Limits limit old) = line_text (lines.Limits limit old)
 answer_text ClosesFirst = line_text lines.ClosesFirst
 answer_text ClosesAlready = line_text lines.ClosesAlready

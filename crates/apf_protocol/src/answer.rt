@@ -5,7 +5,7 @@ ghost use Rattle.std.specs.Io.KnownBytes.{Appends};
 ghost use Rattle.apf_protocol.specs.Texts.{answer_text, arrived_line, tried_name, queue_text, first_text};
 
 use apf_model::{Config, Response};
-use apf_run::{Line, write_line};
+use apf_run::{Line, decision_name, write_line};
 use apf_words::Decision;
 use std::io;
 use std::io::Write;
@@ -13,29 +13,22 @@ use std::io::Write;
 /// What became of a request that arrived.
 #[derive(Clone, Copy, Debug, PartialEq, Eq)]
 pub enum Arrived {
-    /// It executes.
-    Execute,
     /// It entered this queue.
     Queued(u32),
     /// This queue, the shortest of its hand, was full, and it is rejected.
     QueueFull(u32),
-    /// The level was closed, and it is rejected.
-    Closed,
-    /// A level without queues had no room, and it is rejected.
-    ConcurrencyLimit,
+    /// It did not enter a queue, found none full, and is decided so: it executes; or it is rejected, as the level was closed,
+    /// or as a level without queues had no room.
+    Decided(Decision),
 }
 
 /// What became of a request that was tried.
 #[derive(Clone, Copy, Debug, PartialEq, Eq)]
 pub enum Tried {
-    /// It executes.
-    Execute,
     /// It would have to wait, so it is as if it had not come.
     Busy,
-    /// The level was closed, and it is rejected.
-    Closed,
-    /// A level without queues had no room, and it is rejected.
-    ConcurrencyLimit,
+    /// It is decided so: it executes; or it is rejected, as the level was closed, or as a level without queues had no room.
+    Decided(Decision),
 }
 
 /// What a queue was given.
@@ -63,10 +56,8 @@ pub enum Answer {
     Finishes(u32),
     /// It has no seats to give back.
     NotRunning(u32),
-    /// It is cancelled.
-    Cancelled(u32),
-    /// It was to be cancelled, but runs.
-    Runs(u32),
+    /// It was to be cancelled, and is decided so: it is cancelled, or it executes and keeps its seats.
+    Cancels(u32, Decision),
     /// The limit is set in place of this one.
     Limits(u32, u32),
     /// The level is closed by this command.
@@ -98,11 +89,9 @@ impl Arrived {
         ensures { result ≡ arrived_line request self }
     {
         match self {
-            Arrived::Execute => Line::Arrives(request, Decision::Execute),
             Arrived::Queued(queue) => Line::Queued(request, queue),
             Arrived::QueueFull(queue) => Line::QueueFull(request, queue),
-            Arrived::Closed => Line::Arrives(request, Decision::Closed),
-            Arrived::ConcurrencyLimit => Line::Arrives(request, Decision::ConcurrencyLimit),
+            Arrived::Decided(decision) => Line::Arrives(request, decision),
         }
     }
 }
@@ -113,10 +102,8 @@ impl Tried {
         ensures { result.now ≡ tried_name self }
     {
         match self {
-            Tried::Execute => "execute",
             Tried::Busy => "busy",
-            Tried::Closed => "closed",
-            Tried::ConcurrencyLimit => "concurrency-limit",
+            Tried::Decided(decision) => decision_name(decision),
         }
     }
 }
@@ -156,10 +143,7 @@ impl Answer {
             }
             Answer::Finishes(request) => write_line(out, Line::Finishes(request)),
             Answer::NotRunning(request) => write_line(out, Line::NotRunning(request)),
-            Answer::Cancelled(request) => {
-                write_line(out, Line::Cancels(request, Decision::Cancelled))
-            }
-            Answer::Runs(request) => write_line(out, Line::Cancels(request, Decision::Execute)),
+            Answer::Cancels(request, decision) => write_line(out, Line::Cancels(request, decision)),
             Answer::Limits(limit, old) => write_line(out, Line::Limits(limit, old)),
             Answer::ClosesFirst => write_line(out, Line::ClosesFirst),
             Answer::ClosesAlready => write_line(out, Line::ClosesAlready),

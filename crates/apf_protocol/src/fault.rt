@@ -17,8 +17,8 @@ use std::error::Error;
 use std::io::Write;
 use std::{fmt, io};
 
-/// Why a line is no command, in the order in which a line is judged, but for the last two: `BadLimit` is of lines that
-/// have no other fault behind `BadLine`, and `Truncated` is of bytes that no LF ends.
+/// Why a line is no command, in the order in which a line is judged, but for the last three: `BadLimit` is of lines that
+/// have no other fault behind `BadLine`, `UsedUp` is found by the level, and `Truncated` is of bytes that no LF ends.
 #[derive(Clone, Copy, Debug, PartialEq, Eq)]
 pub enum FaultKind {
     /// The line has more than 65,536 bytes. Its LF does not count.
@@ -45,6 +45,8 @@ pub enum FaultKind {
     BadCost,
     /// The limit is outside 1 to 10,000.
     BadLimit,
+    /// The number was given to as many requests as it can be, 2^46, and none of them is there.
+    UsedUp(u32),
     /// No LF ends the bytes, and no more of them will come.
     Truncated,
 }
@@ -69,6 +71,7 @@ impl fmt::Display for FaultKind {
             FaultKind::BadWidth => f.write_str("the width is bad"),
             FaultKind::BadCost => f.write_str("the cost is bad"),
             FaultKind::BadLimit => f.write_str("bad limit"),
+            FaultKind::UsedUp(number) => write!(f, "{number} is used up"),
             FaultKind::Truncated => f.write_str("truncated"),
         }
     }

@@ -1,15 +1,19 @@
 use apf_model::{Config, Response};
 use apf_protocol::{Answer, Arrived, FirstLine, Given, Tried};
+use apf_words::Decision;
 use std::test::Fail;
 
 #[test]
 fn arrivals(rt: HostRuntime) -> Result<(), Fail> {
     for (arrived, line) in [
-        (Arrived::Execute, "arrive 12 execute\n"),
+        (Arrived::Decided(Decision::Execute), "arrive 12 execute\n"),
         (Arrived::Queued(0), "arrive 12 queued 0\n"),
         (Arrived::QueueFull(63), "arrive 12 queue-full 63\n"),
-        (Arrived::Closed, "arrive 12 closed\n"),
-        (Arrived::ConcurrencyLimit, "arrive 12 concurrency-limit\n"),
+        (Arrived::Decided(Decision::Closed), "arrive 12 closed\n"),
+        (
+            Arrived::Decided(Decision::ConcurrencyLimit),
+            "arrive 12 concurrency-limit\n",
+        ),
     ] {
         let mut out = Vec::new(rt.alloc());
         Answer::Arrives(12, arrived).write(&mut out)?;
@@ -21,10 +25,13 @@ fn arrivals(rt: HostRuntime) -> Result<(), Fail> {
 #[test]
 fn tries(rt: HostRuntime) -> Result<(), Fail> {
     for (tried, line) in [
-        (Tried::Execute, "try 9999 execute\n"),
+        (Tried::Decided(Decision::Execute), "try 9999 execute\n"),
         (Tried::Busy, "try 9999 busy\n"),
-        (Tried::Closed, "try 9999 closed\n"),
-        (Tried::ConcurrencyLimit, "try 9999 concurrency-limit\n"),
+        (Tried::Decided(Decision::Closed), "try 9999 closed\n"),
+        (
+            Tried::Decided(Decision::ConcurrencyLimit),
+            "try 9999 concurrency-limit\n",
+        ),
     ] {
         let mut out = Vec::new(rt.alloc());
         Answer::Tries(9_999, tried).write(&mut out)?;
@@ -38,8 +45,11 @@ fn other_answers(rt: HostRuntime) -> Result<(), Fail> {
     for (answer, line) in [
         (Answer::Finishes(0), "finish 0\n"),
         (Answer::NotRunning(7), "finish 7 not running\n"),
-        (Answer::Cancelled(7), "cancel 7 cancelled\n"),
-        (Answer::Runs(7), "cancel 7 execute\n"),
+        (
+            Answer::Cancels(7, Decision::Cancelled),
+            "cancel 7 cancelled\n",
+        ),
+        (Answer::Cancels(7, Decision::Execute), "cancel 7 execute\n"),
         (Answer::Limits(10_000, 1), "limit 10000 was 1\n"),
         (Answer::ClosesFirst, "close first\n"),
         (Answer::ClosesAlready, "close already\n"),

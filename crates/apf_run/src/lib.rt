@@ -36,7 +36,7 @@ pub use apf_gate::GateFault;
 pub use apf_level::{LevelFault, Report, Running};
 pub use book::write_book;
 pub use fault::{ReplayFault, RunFault};
-pub use line::{Line, write_line};
+pub use line::{Line, decision_name, write_line};
 pub use replaying::replay;
 pub use running::run;
 pub use services::Service;

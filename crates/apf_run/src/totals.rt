@@ -3,10 +3,11 @@
 ghost use Rattle.std.specs.Prelude.{◌≡◌, ◌+◌, OnOk};
 ghost use Rattle.std.specs.Io.KnownBytes.{Appends};
 ghost use Rattle.apf_run.specs.Texts.{closed_name as name_of, level_text, decided_text, rejected_text, log_text, totals_text};
-ghost use Rattle.apf_run.specs.Books.{totals_of};
+ghost use Rattle.apf_run.specs.Books.{totals_of, wide_counts as wide};
 
 use apf_book::Stats;
-use apf_level::{Counts, Report};
+use apf_gate::Counts;
+use apf_level::Counts as BatchCounts;
 use apf_words::LevelWord;
 use std::io;
 use std::io::Write;
@@ -23,13 +24,13 @@ pub struct Totals {
     /// The requests by their decision.
     pub counts: Counts,
     /// The requests without a decision.
-    pub undecided: u32,
+    pub undecided: u64,
     /// The requests that entered a queue.
-    pub entered: u32,
+    pub entered: u64,
     /// Those that were dispatched.
-    pub dispatched: u32,
+    pub dispatched: u64,
     /// Those that were struck.
-    pub struck: u32,
+    pub struck: u64,
 }
 
 // How it is written whether a level is closed.
@@ -39,20 +40,33 @@ fn closed_name(closed: bool) -> &'static str
     if closed { "closed" } else { "open" }
 }
 
+// The numbers of the decisions of a batch.
+fn wide_counts(counts: BatchCounts) -> Counts
+    ensures { result ≡ wide counts }
+{
+    Counts {
+        executed: u64::from(counts.executed),
+        queue_full: u64::from(counts.queue_full),
+        closed: u64::from(counts.closed),
+        concurrency_limit: u64::from(counts.concurrency_limit),
+        cancelled: u64::from(counts.cancelled),
+    }
+}
+
 impl Totals {
-    /// What the word and the log of a level say, and the decisions so far.
-    pub fn new(word: LevelWord, counts: Counts, undecided: u32, stats: Stats) -> Totals
+    /// What the word and the log of a batch's level say, and the decisions so far.
+    pub fn new(word: LevelWord, counts: BatchCounts, undecided: u32, stats: Stats) -> Totals
         ensures { result ≡ totals_of word counts undecided stats }
     {
         Totals {
             closed: word.closed(),
             seats: word.seats(),
             waiters: word.waiters(),
-            counts,
-            undecided,
-            entered: stats.entered,
-            dispatched: stats.dispatched,
-            struck: stats.struck,
+            counts: wide_counts(counts),
+            undecided: u64::from(undecided),
+            entered: u64::from(stats.entered),
+            dispatched: u64::from(stats.dispatched),
+            struck: u64::from(stats.struck),
         }
     }
 
@@ -77,13 +91,13 @@ impl Totals {
     }
 
     // The requests that were rejected.
-    fn rejected(&self) -> u64
+    fn rejected(&self) -> u128
         ensures { result ≡ self.now.counts.queue_full + self.now.counts.closed + self.now.counts.concurrency_limit }
     {
-        let queue_full: u32 = self.counts.queue_full;
-        let closed: u32 = self.counts.closed;
-        let concurrency_limit: u32 = self.counts.concurrency_limit;
-        u64::from(queue_full) + u64::from(closed) + u64::from(concurrency_limit)
+        let queue_full: u64 = self.counts.queue_full;
+        let closed: u64 = self.counts.closed;
+        let concurrency_limit: u64 = self.counts.concurrency_limit;
+        u128::from(queue_full) + u128::from(closed) + u128::from(concurrency_limit)
     }
 
     #[tactic(auto, unfolding(crate::specs::Texts::decided_text))]

@@ -13,7 +13,7 @@ use Rattle.apf_book.specs.LedgerKept.{AreStats}
 use Rattle.apf_level.specs.declared.report.Report.{Report}
 use Rattle.apf_level.specs.Levels.{LevelId}
 use Rattle.apf_level.specs.Reports.{AreSums, Ended}
-use Rattle.apf_session.specs.Ends.{KeepsOrder, SessionEnds}
+use Rattle.apf_session.specs.Ends.{FirstCancels, KeepsOrder, SessionEnds}
 
 -- the first of them made steps
 pub first_steps : (old : List StationToken) (x r : StationToken) → 0 < length old → x.station.number ≡ (get_or old 0 r).station.number → KeepsOrder old (set old 0 x)
@@ -50,15 +50,16 @@ told_the_same old now passes decision e count numbers stay many left told i d lo
 -- the end of a session, of what is known of each call that it makes
 pub ends : (k : LevelId) (requests now : List RequestView) (operators stations : List StationToken) (passes : List PassToken) (result : Result Report AllocError)
     → length now ≡ length requests → ((i : ℕ) (d : RequestView) → (get_or now i d).number ≡ (get_or requests i d).number) → StayTold requests now
-    → length passes ≡ length now → AreLeftOf now passes → KeepsOrder operators stations
+    → length passes ≡ length now → AreLeftOf now passes → KeepsOrder operators stations → FirstCancels requests operators stations
     → IfOk result (λ (r : Report). Ended k r.word (slice_get r.decisions.items) (reverse r.log.items) passes stations)
     → IfOk result (λ (r : Report). length r.decisions.items ≡ length k.gate.shape.widths)
     → IfOk result (λ (r : Report). AreSums r.counts (slice_get r.decisions.items) (length r.decisions.items))
     → IfOk result (λ (r : Report). AreStats r.stats (stats_of k.opening.sizes.deck (reverse r.log.items)))
     → IfOk result (SessionEnds k requests operators)
-ends k requests now operators stations passes (Ok r) count numbers stay many left order ended decided sums stats = record {
+ends k requests now operators stations passes (Ok r) count numbers stay many left order cancels ended decided sums stats = record {
   ended = record { passes = passes; stations = stations; ended = ended; all_decided = decided; sums = sums; stats = stats };
   told = told_the_same requests now passes (slice_get r.decisions.items) (record { table = k.gate.table; pass = new_pass k.gate.shape 0 }) count numbers stay many left ended.told;
   order = order;
+  cancels = cancels;
 }
-ends k requests now operators stations passes (Err e) count numbers stay many left order ended decided sums stats = ended
+ends k requests now operators stations passes (Err e) count numbers stay many left order cancels ended decided sums stats = ended

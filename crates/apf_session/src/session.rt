@@ -1,6 +1,6 @@
 //! A level with its requests, its operators and the reader of its statistics.
 
-ghost use Rattle.std.specs.Prelude.{◌≡◌, ◌≢◌, ◌+◌, ◌<◌, ◌≤◌, ℕ, [], length, slice_index_or, All, IfOk, IfErr, OnOk};
+ghost use Rattle.std.specs.Prelude.{◌≡◌, ◌≢◌, ◌+◌, ◌<◌, ◌≤◌, ℕ, [], ◌∷◌, length, slice_index_or, All, IfOk, IfErr, OnOk};
 ghost use Rattle.apf_words.specs.Limits.{max_limit};
 ghost use Rattle.apf_model.specs.Schedule.{AreWidths};
 ghost use Rattle.apf_gate.specs.declared.record.State.TheVariants.{Fresh};
@@ -14,7 +14,7 @@ ghost use Rattle.apf_level.specs.Opening.{SettledBy};
 ghost use Rattle.apf_session.specs.declared.answer.Place.TheVariants as places;
 ghost use Rattle.apf_session.specs.Openings.{level_of, level_with, IsNew, IsOpenFault};
 ghost use Rattle.apf_session.specs.Requests.{RequestView, AreNumbered, ArePassesNumbered, AreAway, CallsOne, LogsFor, SaysWhere, AreLeftOf, ReleasesAs, StaysTold, StayTold};
-ghost use Rattle.apf_session.specs.Ends.{KeepsOrder, SessionEnds};
+ghost use Rattle.apf_session.specs.Ends.{CancelsThese, FirstCancels, KeepsOrder, SessionEnds, undecided};
 
 use crate::answer::{Answer, Place};
 use crate::fault::OpenFault;
@@ -99,6 +99,20 @@ fn dones_of<K: Naming, R: Wait>(
     Ok(dones)
 }
 
+// Cancels the request, if it is undecided.
+fn cancel_if_undecided<K: Naming>(
+    level: &Level<K>,
+    operator: &mut Operator<K>,
+    request: &Request<K>,
+)
+    ensures number { operator.new.station.number ≡ operator.old.station.number }
+    ensures cancels { CancelsThese (undecided (request.now ∷ [])) operator.old.station operator.new.station }
+{
+    if matches!(request.place(), Place::Away | Place::Waits) {
+        operator.cancel(level, request.number());
+    }
+}
+
 // Cancels each request that is undecided.
 fn cancel_undecided<K: Naming>(
     level: &Level<K>,
@@ -106,11 +120,10 @@ fn cancel_undecided<K: Naming>(
     requests: &[Request<K>],
 )
     ensures number { operator.new.station.number ≡ operator.old.station.number }
+    ensures cancels { CancelsThese (undecided requests.now) operator.old.station operator.new.station }
 {
     for request in requests {
-        if matches!(request.place(), Place::Away | Place::Waits) {
-            operator.cancel(level, request.number());
-        }
+        cancel_if_undecided(level, operator, request);
     }
 }
 
@@ -143,6 +156,7 @@ fn settle_all<K: Naming, R: Wait>(
     requests: &mut Vec<Request<K>>,
 )
     ensures operators { KeepsOrder operators.old.items operators.new.items }
+    ensures cancels { FirstCancels requests.old.items operators.old.items operators.new.items }
     ensures count { length requests.new.items ≡ length requests.old.items }
     ensures numbers { (i : ℕ) (d : RequestView) → (slice_index_or requests.new.items i d).number ≡ (slice_index_or requests.old.items i d).number }
     ensures told { StayTold requests.old.items requests.new.items }
@@ -403,8 +417,9 @@ impl<K: Naming> Session<K> {
     }
 
     /// Ends the level. A request that is over stays as it is. Of the others, the first operator cancels each that is
-    /// undecided, and each that executes gives its seats back. Without an operator, each is brought to its end as
-    /// by `Request::end`, in the order of their numbers from the last to the first.
+    /// undecided, by one step each, and makes no other step. Each that executes gives its seats back. Without an
+    /// operator, each is brought to its end as by `Request::end`, in the order of their numbers from the last to the
+    /// first.
     ///
     /// # Errors
     ///

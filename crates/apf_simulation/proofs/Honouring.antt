@@ -1,5 +1,5 @@
 -- When nothing is due and nobody waits, each request's decision is what its course came to.
-use Rattle.std.proofs.Common.{◌≡◌, ◌≢◌, ℕ, zero, suc, ◌<◌, true, false, true≢false, List, [], ◌∷◌, length, map, get_or, Option, Some, None, refl, sym, ap, ◌∙◌, subst, arith}
+use Rattle.std.proofs.Common.{◌≡◌, ◌≢◌, ℕ, zero, suc, ◌<◌, true, false, true≢false, if◌then◌else◌, List, [], ◌∷◌, length, map, get_or, Option, Some, None, refl, sym, ap, ◌∙◌, subst, arith}
 use Rattle.std.specs.Prelude.{slice_get, Bool}
 use Rattle.std.specs.List.{AllByRecursion}
 use Rattle.apf_words.specs.declared.decision.Decision.{Decision}
@@ -9,7 +9,7 @@ use Rattle.apf_session.specs.declared.token.Token.{Token}
 use Rattle.apf_session.specs.declared.token.Token.TheVariants as tokens
 use Rattle.apf_session.specs.declared.answer.Place.TheVariants as places
 use Rattle.apf_session.specs.Requests.{RequestView, place_of, told_by}
-use Rattle.apf_session.specs.Ends.{TellsTheSame}
+use Rattle.apf_session.specs.Ends.{TellsTheSame, is_undecided, undecided}
 use Rattle.apf_times.specs.declared.course.Course.{Course}
 use Rattle.apf_times.specs.declared.course.Times.{Times}
 use Rattle.apf_times.specs.declared.course.Seats.{Seats}
@@ -48,6 +48,28 @@ are_decided v requests r tied none over same i c low =
     let b : i < length requests = (let n = tied.count in omega (arith, low, n)) in
     told_so v.patience v.time (get_or v.courses i c) (get_or requests i d).token (slice_get r.decisions.items i) (over_at i v.courses c low over) (tied.each i low c d) (none i d b)
     (λ some. subst (λ (n : ℕ). slice_get r.decisions.items n ≡ told_by (get_or requests i d).token) (tied.numbered i d b) (same i d b some))
+
+-- a request whose course is over, and which does not wait, was told a decision
+decided : (patience time : ℕ) (c : Course) (t : Token) → IsOver c → Follows patience time c t → place_of t ≢ places.Waits → is_undecided (place_of t) ≡ false
+decided patience time c (tokens.Fresh p) over is isnt = absurd (true≢false (sym over.arrived ∙ is.stands.0))
+decided patience time c (tokens.Waiting p) over is isnt = absurd (isnt refl)
+decided patience time c (tokens.Running p) over is isnt = refl
+decided patience time c (tokens.Done p) over is isnt = refl
+decided patience time c tokens.Gone over is isnt = refl
+
+left_out : (is : Bool) (n : ℕ) (ns : List ℕ) → is ≡ false → ns ≡ [] → (if is then n ∷ ns else ns) ≡ []
+left_out true n ns is none = absurd (true≢false is)
+left_out false n ns is none = none
+
+none_of : (requests : List RequestView) → ((i : ℕ) (d : RequestView) → i < length requests → is_undecided (place_of (get_or requests i d).token) ≡ false) → undecided requests ≡ []
+none_of [] each = refl
+none_of (r ∷ rs) each = left_out (is_undecided (place_of r.token)) r.number (undecided rs) (each 0 r (omega arith)) (none_of rs (λ i d low. each (suc i) d (omega (arith, low))))
+
+pub none_undecided : (v : CalendarView) (requests : List RequestView) → AreTied v requests → NobodyWaits requests → AllByRecursion IsOver v.courses → undecided requests ≡ []
+none_undecided v requests tied none over =
+    let no_course : Course = record { times = record { arrives_at = 0; runs_for = 0 }; has_arrived = false; patience_over = false; seats = NotGiven } in
+    none_of requests (λ i d low. (let b : i < length v.courses = (let n = tied.count in omega (arith, low, n)) in
+    decided v.patience v.time (get_or v.courses i no_course) (get_or requests i d).token (over_at i v.courses no_course b over) (tied.each i b no_course d) (none i d low)))
 
 -- the requests of a level that was just opened are tied to a calendar that was
 awaited_at : (patience i : ℕ) (ts : List Times) (c : Course) → i < length (map (awaited patience) ts) → IsAwaited patience (get_or (map (awaited patience) ts) i c)

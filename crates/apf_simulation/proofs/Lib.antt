@@ -3,6 +3,7 @@ pub mod Booked
 pub mod Columns
 pub mod Ending
 pub mod Going
+pub mod Operating
 pub mod Rowing
 pub mod Ranges
 pub mod Running

@@ -1,16 +1,17 @@
 -- How the course of each request in the calendar is tied to what its level told it.
-use Rattle.std.specs.Prelude.{◌≡◌, ◌≢◌, ◌⊎◌, ℕ, ◌+◌, ◌==◌, ◌<◌, ◌≤◌, true, false, List, length, slice_get, slice_index_or, Option, Some, None}
+use Rattle.std.specs.Prelude.{◌≡◌, ◌≢◌, ◌⊎◌, ℕ, ◌+◌, ◌==◌, ◌<◌, ◌≤◌, true, false, List, [], ◌∷◌, ◌++◌, length, slice_get, slice_index_or, All, Option, Some, None}
 use Rattle.apf_words.specs.declared.decision.Decision.{Decision}
 use Rattle.apf_words.specs.declared.decision.Decision.TheVariants.{Execute, Cancelled}
 use Rattle.apf_gate.specs.Records.{told_own}
 use Rattle.apf_gate.specs.StationCalls.{CancelsTo}
-use Rattle.apf_gate.specs.Tokens.{StationToken}
+use Rattle.apf_gate.specs.Tokens.{GateId, StationToken}
 use Rattle.apf_session.specs.declared.token.Token.{Token}
 use Rattle.apf_session.specs.declared.token.Token.TheVariants as tokens
 use Rattle.apf_session.specs.declared.answer.Answer.{Answer}
 use Rattle.apf_session.specs.declared.answer.Answer.TheVariants as answers
 use Rattle.apf_session.specs.declared.answer.Place.{Place}
 use Rattle.apf_session.specs.declared.answer.Place.TheVariants as places
+use Rattle.apf_session.specs.Openings.{IsNew}
 use Rattle.apf_session.specs.Requests.{RequestView, AreNumbered, place_of}
 use Rattle.apf_times.specs.declared.act.Act.TheVariants.{Started}
 use Rattle.apf_times.specs.declared.course.Course.{Course}
@@ -124,6 +125,27 @@ Cancels request old new = (d : StationToken) → (answer : Decision) × CancelsT
 -- the operator made no step; or this is the end of a patience, and it cancelled that request
 abbrev pub CancelsOnly : Due → List StationToken → List StationToken → Type 0
 CancelsOnly due old new = (new ≡ old) ⊎ ((due.kind ≡ GiveUp) × Cancels due.request old new)
+
+-- of each of these that were carried out, in their order, the operator made no step, or cancelled the request whose patience ended by it
+abbrev pub CancelsInTurn : List Due → List StationToken → List StationToken → Type 0
+CancelsInTurn [] old new = new ≡ old
+CancelsInTurn (due ∷ dues) old new = (between : List StationToken) × CancelsOnly due old between × CancelsInTurn dues between new
+
+-- what was carried out between the two diaries, and that the operator made no other steps meanwhile than cancels of the requests whose patience ended by it
+pub record CancelsAlone (u v : DiaryView) (old new : List StationToken) : Type 0 where
+  pub dues : List Due
+  pub carried : v.carried ≡ u.carried ++ dues
+  pub in_turn : CancelsInTurn dues old new
+
+-- The one operator of a level, from its opening to its end: of each of these that were carried out, in their order, it made no step, or cancelled the
+-- request whose patience ended by it. It made no other step.
+pub record OnlyCancels (gate : GateId) (carried : List Due) (stations : List StationToken) : Type 0 where
+  pub opened : List StationToken
+  pub new : All (IsNew gate) opened
+  pub last : List StationToken
+  pub in_turn : CancelsInTurn carried opened last
+  pub one : length stations ≡ 1
+  pub no_more : (d : StationToken) → (slice_index_or stations 0 d).station ≡ (slice_index_or last 0 d).station
 
 -- the request was given its seats now if it was answered that it executes, and nothing else changed
 pub record IsNoted (request : ℕ) (answer : Answer) (u v : DiaryView) : Type 0 where

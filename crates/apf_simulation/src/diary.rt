@@ -1,6 +1,6 @@
 //! What was carried out when.
 
-ghost use Rattle.std.specs.Prelude.{◌≡◌, ◌+◌, ◌*◌, ◌<◌, ◌≤◌, ◌^◌, [], length, IfOk, IfSome, IfNone, OnOk};
+ghost use Rattle.std.specs.Prelude.{◌≡◌, ◌+◌, ◌*◌, ◌<◌, ◌≤◌, ◌^◌, [], ◌∷◌, ◌++◌, length, IfOk, IfSome, IfNone, OnOk};
 ghost use Rattle.std.specs.List.{AllByRecursion};
 ghost use Rattle.apf_words.specs.Limits.{max_requests};
 ghost use Rattle.apf_times.specs.declared.course.Seats.TheVariants.{NotGiven};
@@ -46,6 +46,7 @@ impl Diary {
         ensures kept { IfOk result (IsKeptBy times.now patience) }
         ensures each { IfOk result (λ d. length d.calendar.courses ≡ length times.now) }
         ensures awaited { IfOk result (λ d. AreAwaited d.calendar) }
+        ensures nothing { IfOk result (λ d. d.carried ≡ []) }
     {
         let calendar = Calendar::new(alloc, times, patience)?;
         let carried = Vec::with_capacity(alloc, 3 * times.len())?;
@@ -63,6 +64,7 @@ impl Diary {
         ensures step { IfOk result (λ n. IfSome n (λ d. IsStep self.old.calendar (CarriedOut d) self.new.calendar)) }
         ensures due { IfOk result (λ n. IfSome n (λ d. At d.request self.old.calendar.courses (IsDueBy self.old.calendar.patience d))) }
         ensures in_turn { IfOk result (λ n. IfSome n (λ d. ComesFirst d self.old.calendar.patience self.old.calendar.courses)) }
+        ensures carried { IfOk result (λ n. IfSome n (λ d. self.new.carried ≡ self.old.carried ++ (d ∷ []))) }
         ensures inside { IfOk result (λ n. IfSome n (λ d. d.request < length self.old.calendar.courses)) }
         ensures fewer { IfOk result (λ n. IfSome n (λ _. left self.new.calendar.courses < left self.old.calendar.courses)) }
         ensures count { length self.new.calendar.courses ≡ length self.old.calendar.courses }
@@ -82,6 +84,7 @@ impl Diary {
     pub fn note(&mut self, request: u32, answer: Answer)
         requires can_start { answer ≡ Run → At request self.old.calendar.courses CanStart }
         ensures noted { IsNoted request answer self.old self.new }
+        ensures carried { self.new.carried ≡ self.old.carried }
         ensures goes_on { GoesOn self.old self.new }
         ensures as_many { left self.new.calendar.courses ≡ left self.old.calendar.courses }
         ensures count { length self.new.calendar.courses ≡ length self.old.calendar.courses }

@@ -5,7 +5,6 @@ ghost use Rattle.std.specs.List.{AllByRecursion};
 ghost use Rattle.apf_words.specs.Limits.{max_limit, max_requests};
 ghost use Rattle.apf_model.specs.Schedule.{AreWidths};
 ghost use Rattle.apf_level.specs.Reports.{AreSums};
-ghost use Rattle.apf_session.specs.Ends.{HasEnded};
 ghost use Rattle.apf_session.specs.Openings.{level_with, CanOpen, IsOpenFault};
 ghost use Rattle.apf_times.specs.Courses.{AreInRange, all_dues};
 ghost use Rattle.apf_times.specs.Runs.{IsOver};
@@ -13,7 +12,7 @@ ghost use Rattle.apf_traces.specs.TraceValue.{IsRequestInRange};
 ghost use Rattle.apf_times.specs.Limits.{max_patience};
 ghost use Rattle.apf_simulation.specs.Diaries.{IsKeptBy, GoesOn};
 ghost use Rattle.apf_simulation.specs.Ends.{AreOf};
-ghost use Rattle.apf_simulation.specs.Runs.{HasRun, IsMadeOf, IsSimulation};
+ghost use Rattle.apf_simulation.specs.Runs.{HasEndedBy, HasRun, IsMadeOf, IsSimulation};
 ghost use Rattle.apf_simulation.specs.Ties.{AreAwaited, AreDecidedAs};
 ghost use Rattle.apf_simulation.specs.Times.{asks_of, costs_of, times_of};
 
@@ -74,6 +73,7 @@ fn diary_of(alloc: Global, trace: &[TraceRequest], patience: u64) -> Result<Diar
     ensures kept { IfOk result (IsKeptBy (times_of trace.now) patience) }
     ensures each { IfOk result (λ d. length d.calendar.courses ≡ length trace.now) }
     ensures awaited { IfOk result (λ d. AreAwaited d.calendar) }
+    ensures nothing { IfOk result (λ d. d.carried ≡ []) }
 {
     let times = times_of_trace(alloc, trace)?;
     Diary::new(alloc, times.as_slice(), patience)
@@ -102,10 +102,11 @@ fn run_named<K: Naming, R: Wait>(
     requires costs { AreWidths costs.now }
     requires one_course_each { length diary.calendar.courses ≡ length opening.asks.now }
     requires awaited { AreAwaited diary.calendar }
+    requires nothing { diary.carried ≡ [] }
     ensures goes_on { IfOk result (λ o. GoesOn diary o.0) }
     ensures decided { IfOk result (λ o. AreDecidedAs o.0.calendar.patience o.0.calendar.courses o.1.decisions.items) }
     ensures over { IfOk result (λ o. all_dues o.0.calendar.patience o.0.calendar.courses ≡ []) }
-    ensures report { IfOk result (λ o. HasEnded K.level o.1) }
+    ensures report { IfOk result (λ o. HasEndedBy K.level o.0.carried o.1) }
     ensures settings { OnOk result (CanOpen opening.entry.config opening.entry.asks.now 1) }
     ensures fault { IfErr result (IsOpenFault opening.entry.config opening.entry.asks.now 1) }
 {

@@ -1,16 +1,16 @@
 //! A level and a diary in the hands of one thread.
 
-ghost use Rattle.std.specs.Prelude.{◌≡◌, ◌≢◌, ◌⊎◌, ◌*◌, ◌<◌, ◌≤◌, false, true, [], length, slice_index_or, IfOk, IfErr, IfNone, IfSome, OnOk};
+ghost use Rattle.std.specs.Prelude.{◌≡◌, ◌≢◌, ◌⊎◌, ◌*◌, ◌<◌, ◌≤◌, false, true, [], length, slice_index_or, All, IfOk, IfErr, IfNone, IfSome, OnOk};
 ghost use Rattle.apf_words.specs.Limits.{max_requests};
 ghost use Rattle.apf_model.specs.Schedule.{AreWidths};
 ghost use Rattle.apf_session.specs.declared.answer.Place.TheVariants as places;
 ghost use Rattle.apf_session.specs.Ends.{SessionEnds};
-ghost use Rattle.apf_session.specs.Openings.{level_with, CanOpen, IsOpenFault};
+ghost use Rattle.apf_session.specs.Openings.{level_with, CanOpen, IsNew, IsOpenFault};
 ghost use Rattle.apf_session.specs.Requests.{CallsOne, RequestView, SaysWhere, place_of};
 ghost use Rattle.apf_times.specs.declared.due.Kind.TheVariants as kinds;
 ghost use Rattle.apf_times.specs.Courses.{all_dues, left};
 ghost use Rattle.apf_simulation.specs.Diaries.{GoesOn};
-ghost use Rattle.apf_simulation.specs.Ties.{AreAwaited, AreTied, AreTiedBut, Cancels, CancelsOnly, Here, IsCallDue, IsNoted, NobodyWaits, Owes, Stands};
+ghost use Rattle.apf_simulation.specs.Ties.{AreAwaited, AreTied, AreTiedBut, Cancels, CancelsAlone, CancelsOnly, Here, IsCallDue, IsNoted, NobodyWaits, Owes, Stands};
 
 use crate::diary::Diary;
 use apf_level::{Naming, Report};
@@ -54,6 +54,7 @@ impl<K: Naming> Simulator<K> {
         requires awaited { AreAwaited diary.calendar }
         ensures diary { IfOk result (λ s. s.diary ≡ diary) }
         ensures tied { IfOk result (λ s. AreTied s.diary.calendar s.session.requests.items) }
+        ensures new { IfOk result (λ s. All (IsNew K.level.gate) s.session.operators.items) }
         ensures settings { OnOk result (CanOpen opening.entry.config opening.entry.asks.now 1) }
         ensures fault { IfErr result (IsOpenFault opening.entry.config opening.entry.asks.now 1) }
     {
@@ -74,6 +75,7 @@ impl<K: Naming> Simulator<K> {
         ensures tied { AreTied self.new.diary.calendar self.new.session.requests.items }
         ensures goes_on { GoesOn self.old.diary self.new.diary }
         ensures as_many { left self.new.diary.calendar.courses ≡ left self.old.diary.calendar.courses }
+        ensures carried { self.new.diary.carried ≡ self.old.diary.carried }
         ensures operators { self.new.session.operators.items ≡ self.old.session.operators.items }
     {
         let answer = self.session.begin(rt, request);
@@ -89,6 +91,7 @@ impl<K: Naming> Simulator<K> {
         ensures noted { IsNoted request result self.old.diary self.new.diary }
         ensures goes_on { GoesOn self.old.diary self.new.diary }
         ensures as_many { left self.new.diary.calendar.courses ≡ left self.old.diary.calendar.courses }
+        ensures carried { self.new.diary.carried ≡ self.old.diary.carried }
         ensures operators { self.new.session.operators.items ≡ self.old.session.operators.items }
     {
         let answer = self.session.poll(rt, request);
@@ -102,6 +105,7 @@ impl<K: Naming> Simulator<K> {
         ensures tied { AreTied self.new.diary.calendar self.new.session.requests.items }
         ensures goes_on { GoesOn self.old.diary self.new.diary }
         ensures as_many { left self.new.diary.calendar.courses ≡ left self.old.diary.calendar.courses }
+        ensures carried { self.new.diary.carried ≡ self.old.diary.carried }
         ensures operators { self.new.session.operators.items ≡ self.old.session.operators.items }
     {
         if (request as usize) < self.session.requests.len() {
@@ -120,6 +124,7 @@ impl<K: Naming> Simulator<K> {
         ensures tied { AreTied self.new.diary.calendar self.new.session.requests.items }
         ensures goes_on { GoesOn self.old.diary self.new.diary }
         ensures as_many { left self.new.diary.calendar.courses ≡ left self.old.diary.calendar.courses }
+        ensures carried { self.new.diary.carried ≡ self.old.diary.carried }
         ensures operators { self.new.session.operators.items ≡ self.old.session.operators.items }
     {
         if let Some(Event::Dispatch(request, _) | Event::Strike(request, _)) = self.event(place) {
@@ -133,6 +138,7 @@ impl<K: Naming> Simulator<K> {
         ensures tied { AreTied self.new.diary.calendar self.new.session.requests.items }
         ensures goes_on { GoesOn self.old.diary self.new.diary }
         ensures as_many { left self.new.diary.calendar.courses ≡ left self.old.diary.calendar.courses }
+        ensures carried { self.new.diary.carried ≡ self.old.diary.carried }
         ensures operators { self.new.session.operators.items ≡ self.old.session.operators.items }
     {
         let from = self.read;
@@ -153,6 +159,7 @@ impl<K: Naming> Simulator<K> {
         ensures tied { AreTied self.new.diary.calendar self.new.session.requests.items }
         ensures goes_on { GoesOn self.old.diary self.new.diary }
         ensures as_many { left self.new.diary.calendar.courses ≡ left self.old.diary.calendar.courses }
+        ensures carried { self.new.diary.carried ≡ self.old.diary.carried }
         ensures operators { self.new.session.operators.items ≡ self.old.session.operators.items }
     {
         for _ in rt.forever() {
@@ -170,6 +177,7 @@ impl<K: Naming> Simulator<K> {
         ensures given_up { AreTied self.new.diary.calendar self.new.session.requests.items }
         ensures goes_on { GoesOn self.old.diary self.new.diary }
         ensures as_many { left self.new.diary.calendar.courses ≡ left self.old.diary.calendar.courses }
+        ensures carried { self.new.diary.carried ≡ self.old.diary.carried }
         ensures cancels { (self.new.session.operators.items ≡ self.old.session.operators.items)
             ⊎ Cancels request self.old.session.operators.items self.new.session.operators.items }
     {
@@ -196,6 +204,7 @@ impl<K: Naming> Simulator<K> {
         ensures tied { AreTied self.new.diary.calendar self.new.session.requests.items }
         ensures goes_on { GoesOn self.old.diary self.new.diary }
         ensures as_many { left self.new.diary.calendar.courses ≡ left self.old.diary.calendar.courses }
+        ensures carried { self.new.diary.carried ≡ self.old.diary.carried }
         ensures cancels { CancelsOnly due self.old.session.operators.items self.new.session.operators.items }
     {
         match due.kind {
@@ -210,6 +219,7 @@ impl<K: Naming> Simulator<K> {
         requires tied { AreTied self.old.diary.calendar self.old.session.requests.items }
         ensures tied { OnOk result (AreTied self.new.diary.calendar self.new.session.requests.items) }
         ensures goes_on { OnOk result (GoesOn self.old.diary self.new.diary) }
+        ensures cancels { OnOk result (CancelsAlone self.old.diary self.new.diary self.old.session.operators.items self.new.session.operators.items) }
         ensures fewer { IfOk result (λ more. more ≡ true → left self.new.diary.calendar.courses < left self.old.diary.calendar.courses) }
         ensures over { IfOk result (λ more. more ≡ false → all_dues self.new.diary.calendar.patience self.new.diary.calendar.courses ≡ []) }
     {
@@ -226,6 +236,7 @@ impl<K: Naming> Simulator<K> {
         requires tied { AreTied self.old.diary.calendar self.old.session.requests.items }
         ensures tied { OnOk result (AreTied self.new.diary.calendar self.new.session.requests.items) }
         ensures goes_on { OnOk result (GoesOn self.old.diary self.new.diary) }
+        ensures cancels { OnOk result (CancelsAlone self.old.diary self.new.diary self.old.session.operators.items self.new.session.operators.items) }
         ensures over { OnOk result (all_dues self.new.diary.calendar.patience self.new.diary.calendar.courses ≡ []) }
     {
         while self.step(rt)? {}
@@ -257,6 +268,7 @@ impl<K: Naming> Simulator<K> {
         requires tied { AreTied self.old.diary.calendar self.old.session.requests.items }
         ensures tied { OnOk result (AreTied self.new.diary.calendar self.new.session.requests.items) }
         ensures goes_on { OnOk result (GoesOn self.old.diary self.new.diary) }
+        ensures cancels { OnOk result (CancelsAlone self.old.diary self.new.diary self.old.session.operators.items self.new.session.operators.items) }
         ensures over { OnOk result (all_dues self.new.diary.calendar.patience self.new.diary.calendar.courses ≡ []) }
         ensures nobody_waits { OnOk result (NobodyWaits self.new.session.requests.items) }
     {

@@ -1,6 +1,11 @@
--- The Station is the same one.
-use Rattle.std.proofs.Common.{◌≡◌}
+-- The Station is the same one, and the attempts so far are those before what is left.
+use Rattle.std.proofs.Common.{◌≡◌, drop}
+use Rattle.apf_gate.specs.declared.record.StationRecord.{StationRecord}
+use Rattle.apf_session.specs.Ends.{CancelsThese, undecided}
 use Rattle.apf_session.proofs.session.cancel_undecided.Given as goal
 
 abbrev pub invariant-loop-request : goal.invariant-loop-request
-invariant-loop-request g l = l.operator.station.number ≡ l.fn.operator.station.number
+invariant-loop-request g l = record {
+  number : l.operator.station.number ≡ l.fn.operator.station.number;
+  cancels : (s : StationRecord) → CancelsThese (undecided (drop l.request-index l.requests)) l.operator.station s → CancelsThese (undecided l.requests) l.fn.operator.station s;
+}

@@ -15,6 +15,7 @@ loop-init g c = record {
   arrived = c.requires.arrived;
   goes_on = stays c.args.self.now.diary;
   operators = refl;
+  carried = refl;
   as_many = refl;
 }
 
@@ -55,5 +56,6 @@ loop-preserved g c =
       arrived = polled_arrived r u v old new a e.kind e.calls e.noted i.arrived;
       goes_on = goes_on c.args.self.now.diary u v i.goes_on e.goes_on;
       operators = e.operators ∙ i.operators;
+      carried = e.carried ∙ i.carried;
       as_many = e.as_many ∙ i.as_many;
     }

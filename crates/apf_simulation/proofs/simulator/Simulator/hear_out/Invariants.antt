@@ -17,5 +17,6 @@ invariant-loop g l = record {
   arrived : (d : RequestView) → place_of (slice_index_or l.self.session.requests.items l.request d).token ≢ places.Away;
   goes_on : GoesOn l.initial.self.diary l.self.diary;
   operators : l.self.session.operators.items ≡ l.initial.self.session.operators.items;
+  carried : l.self.diary.carried ≡ l.initial.self.diary.carried;
   as_many : left l.self.diary.calendar.courses ≡ left l.initial.self.diary.calendar.courses;
 }

@@ -1,10 +1,13 @@
 -- What is due is carried out, then comes the call, then what the log gained.
-use Rattle.std.proofs.Common.{rules, ◌<◌, length}
+use Rattle.std.proofs.Common.{rules, ◌≡◌, ◌<◌, List, [], ◌∷◌, ◌++◌, length, sym, subst, ◌∙◌}
+use Rattle.apf_gate.specs.Tokens.{StationToken}
 use Rattle.apf_times.specs.declared.act.Act.TheVariants.{CarriedOut}
 use Rattle.apf_times.specs.Courses.{At, ComesFirst, IsDueBy}
 use Rattle.apf_times.specs.Runs.{IsStep}
+use Rattle.apf_simulation.specs.Ties.{CancelsOnly}
 use Rattle.apf_simulation.proofs.Calling.{call_due}
 use Rattle.apf_simulation.proofs.Going.{goes_on}
+use Rattle.apf_simulation.proofs.Operating.{one}
 use Rattle.apf_simulation.proofs.simulator.Simulator.step.Goals as goal
 
 pub call-requires-clause-due : goal.call-requires-clause-due
@@ -23,3 +26,12 @@ returns-clause-goes_on g c =
     let old = c.args.self.now.diary in
     let called = goes_on old c.next.new.self c.call.new.self.diary c.in_ok-due.ensures.goes_on c.call.ensures.goes_on in
     goes_on old c.call.new.self.diary c.follow.new.self.diary called c.follow.ensures.goes_on
+
+pub returns-clause-cancels : goal.returns-clause-cancels
+returns-clause-cancels g c =
+    let old = c.args.self.now in
+    let new = c.follow.new.self in
+    let d = c.in-Some.due in
+    let more : c.next.new.self.carried ≡ old.diary.carried ++ (d ∷ []) = search rules in
+    one old.diary new.diary d old.session.operators.items new.session.operators.items (c.follow.ensures.carried ∙ (c.call.ensures.carried ∙ more))
+    (subst (λ (l : List StationToken). CancelsOnly d old.session.operators.items l) (sym c.follow.ensures.operators) c.call.ensures.cancels)

@@ -1,0 +1,4 @@
+pub mod Sums
+pub mod Keeps
+pub mod Follow
+pub mod Faults

@@ -1,0 +1,103 @@
+-- What a live level keeps, as its calls change it.
+use Rattle.std.specs.Prelude.{◌≡◌, ℕ, ◌+◌, ◌-◌, ◌^◌, ◌<◌, min, List, [], ◌∷◌, length, map, slice_index_or, slice_set, nat_lt, if◌then◌else◌, Bool, true, false}
+use Rattle.std.specs.List.{range_with_len}
+use Rattle.apf_gate.specs.Slots.{coded_width, slot_of}
+use Rattle.apf_gate.specs.Tokens.{StationToken}
+use Rattle.apf_book.specs.declared.life_event.LifeEvent.{LifeEvent}
+use Rattle.apf_book.specs.declared.life_event.LifeEvent.TheVariants as events
+use Rattle.apf_protocol.specs.declared.answer.Given.{Given}
+use Rattle.apf_life_session.specs.declared.answer.Answer.{Answer}
+use Rattle.apf_life_session.specs.declared.token.Token.{Token}
+use Rattle.apf_life_session.specs.declared.token.Token.TheVariants as tokens
+use Rattle.apf_life_session.specs.Requests.{Polls as ReadsDecision, number_in}
+use Rattle.apf_model.specs.declared.config.Config.{Config}
+use Rattle.apf_model.specs.declared.response.Response.{Response}
+use Rattle.apf_model.specs.declared.response.Response.TheVariants as responses
+use Rattle.apf_service.specs.declared.notes.Notes.{Notes}
+use Rattle.apf_service.specs.declared.tally.Tally.{Tally}
+use Rattle.apf_service.specs.Tallies.{after_poll}
+
+-- the slots with their requests, the operators, the numbers, what each queue was given, and up to which place the events of the queues were read
+pub record State : Type 0 where
+  pub slots : List Token
+  pub operators : List StationToken
+  pub tally : Tally
+  pub queues : List Given
+  pub seen : ℕ
+
+-- these slots and operators, and what is kept beside them
+abbrev pub state_of : List Token → List StationToken → Notes → State
+state_of slots operators notes = record { slots = slots; operators = operators; tally = notes.tally; queues = notes.queues.items; seen = notes.seen }
+
+-- what the slot of this number holds
+abbrev pub slot_in : State → ℕ → Token
+slot_in s n = slice_index_or s.slots n tokens.Gone
+
+-- the width of the request that holds a slot
+abbrev pub width_in : Token → ℕ
+width_in token = coded_width (number_in token)
+
+-- a request is there: it waits or executes
+abbrev pub is_there : Token → Bool
+is_there (tokens.Free pass) = false
+is_there (tokens.Waiting pass) = true
+is_there (tokens.Running pass) = true
+is_there tokens.Gone = false
+
+-- a queue that was given nothing
+abbrev pub given_none : ℕ → Given
+given_none queue = record { queue = queue; waiting = 0; entered = 0; service = 0 }
+
+-- so many queues, in the order of their numbers, which were given nothing
+abbrev pub none_given : ℕ → List Given
+none_given queues = map given_none (range_with_len 0 queues)
+
+-- how many queues a level has, by what becomes of an arrival that does not fit
+abbrev pub queues_by : ℕ → Response → ℕ
+queues_by queues responses.Queue = queues
+queues_by queues responses.Reject = 0
+
+abbrev pub queues_of : Config → ℕ
+queues_of config = queues_by config.queues config.limit_response
+
+-- the queues, of which this one is changed so
+abbrev pub changed : ℕ → (Given → Given) → List Given → List Given
+changed queue change given =
+    if nat_lt queue (length given) then slice_set given queue (change (slice_index_or given queue (given_none 0))) else given
+
+-- as much as a number of 64 bits can tell, and one of 32 bits
+abbrev pub told : ℕ → ℕ
+told n = min n (2 ^ 64 - 1)
+
+abbrev pub told_short : ℕ → ℕ
+told_short n = min n (2 ^ 32 - 1)
+
+-- each queue by one event more: who enters waits there and counts; who is dispatched waits no longer, and its seats are added to the service; who is struck waits no longer
+abbrev pub with_event : LifeEvent → List Given → List Given
+with_event (events.Enter t q) given = changed q (λ g. record g { waiting = told_short (g.waiting + 1); entered = told (g.entered + 1) }) given
+with_event (events.Full t q) given = given
+with_event (events.Dispatch t q) given = changed q (λ g. record g { waiting = g.waiting - 1; service = told (g.service + coded_width t.number) }) given
+with_event (events.Strike t q) given = changed q (λ g. record g { waiting = g.waiting - 1 }) given
+
+-- the request of the slot read its decision, if it waits, and is counted so
+pub record Polls (slot : ℕ) (old new : State) : Type 0 where
+  pub answer : Answer
+  pub token : Token
+  pub reads : ReadsDecision (slot_in old slot) answer token
+  pub after : new ≡ record old { slots = slice_set old.slots slot token; tally = after_poll (width_in token) answer old.tally }
+
+-- the request of an event is out of its queue, and read its decision; the level has no other slots
+abbrev pub Leaves : ℕ → State → State → Type 0
+Leaves slot old new = (slot < length old.slots → Polls slot old new) × (nat_lt slot (length old.slots) ≡ false → new ≡ old)
+
+-- what follows of one event: it is counted of its queue, and who left the queue read its decision
+abbrev pub Follows : LifeEvent → State → State → Type 0
+Follows (events.Enter t q) old new = new ≡ record old { queues = with_event (events.Enter t q) old.queues }
+Follows (events.Full t q) old new = new ≡ old
+Follows (events.Dispatch t q) old new = Leaves (slot_of t.number) (record old { queues = with_event (events.Dispatch t q) old.queues }) new
+Follows (events.Strike t q) old new = Leaves (slot_of t.number) (record old { queues = with_event (events.Strike t q) old.queues }) new
+
+-- what follows of these events, one after another, of which the oldest stands first
+abbrev pub FollowsAll : List LifeEvent → State → State → Type 0
+FollowsAll [] old new = new ≡ old
+FollowsAll (event ∷ log) old new = (between : State) × Follows event old between × FollowsAll log between new

@@ -1,0 +1,79 @@
+//! What each queue was given.
+
+ghost use Rattle.std.specs.Prelude.{◌≡◌, IfOk};
+ghost use Rattle.apf_gate.specs.Slots.{coded_width};
+ghost use Rattle.apf_service.specs.Kept.{none_given, with_event};
+
+use apf_book::LifeEvent;
+use apf_gate::Ticket;
+use apf_protocol::Given;
+use std::alloc::{AllocError, Global};
+
+/// So many queues, which were given nothing.
+///
+/// # Errors
+///
+/// `AllocError` if memory was refused.
+pub fn no_queues(alloc: Global, queues: u32) -> Result<Vec<Given>, AllocError>
+    ensures { IfOk result (λ v. v.items ≡ none_given queues) }
+{
+    (0..queues)
+        .map(|queue| Given {
+            queue,
+            waiting: 0,
+            entered: 0,
+            service: 0,
+        })
+        .collect(alloc)
+}
+
+/// The width of the request that the ticket names.
+pub fn width_of(request: Ticket) -> u32
+    ensures { result ≡ coded_width request.number }
+{
+    let code = (request.number / 16384 % 32768) as u32;
+    code.clamp(1, 20000)
+}
+
+/// One event more is counted of its queue.
+pub fn count(queues: &mut [Given], event: LifeEvent)
+    ensures { queues.new ≡ with_event event queues.old }
+{
+    match event {
+        LifeEvent::Enter(_, queue) => {
+            if (queue as usize) < queues.len() {
+                let given = queues[queue as usize];
+                queues[queue as usize] = Given {
+                    queue: given.queue,
+                    waiting: given.waiting.saturating_add(1),
+                    entered: given.entered.saturating_add(1),
+                    service: given.service,
+                };
+            }
+        }
+        LifeEvent::Full(..) => {}
+        LifeEvent::Dispatch(request, queue) => {
+            if (queue as usize) < queues.len() {
+                let given = queues[queue as usize];
+                let width: u32 = width_of(request);
+                queues[queue as usize] = Given {
+                    queue: given.queue,
+                    waiting: given.waiting.saturating_sub(1),
+                    entered: given.entered,
+                    service: given.service.saturating_add(u64::from(width)),
+                };
+            }
+        }
+        LifeEvent::Strike(_, queue) => {
+            if (queue as usize) < queues.len() {
+                let given = queues[queue as usize];
+                queues[queue as usize] = Given {
+                    queue: given.queue,
+                    waiting: given.waiting.saturating_sub(1),
+                    entered: given.entered,
+                    service: given.service,
+                };
+            }
+        }
+    }
+}

@@ -80,7 +80,7 @@ for words, says in [
     status, out, err = run(program, words)
     tally.check(" ".join(words), (status, [it for it in says if it not in out.decode()], err), (0, [], b""))
     # but for what an example prints
-    wide = [line for line in out.decode().split("\n") if len(line) > 106 and not line.startswith("  flow 0")]
+    wide = [line for line in out.decode().split("\n") if len(line) > 100 and not line.startswith("  flow 0")]
     tally.check(" ".join(words) + " is narrow", wide, [])
 
 # the examples that help shows print what it says

@@ -108,9 +108,7 @@ for words, status in (
         got = run(program, words, env=with_shim)
         ends = not os.path.exists(marker)
         refused += [got] if got in refusals(words) else []
-        # a level that was served tells all of it, and then that its end found no memory
-        at_its_end = (3, ample[1], WANT[2]) if words[0] == "serve" else WANT
-        tally.check(f"{name} without allocation {number}", got, got if got in (ample, at_its_end) or got in refusals(words) else WANT)
+        tally.check(f"{name} without allocation {number}", got, got if got == ample or got in refusals(words) else WANT)
     tally.check(f"{name} was refused memory, and ends with a run that meets no refusal", (WANT in refused, ends, got), (True, True, ample))
     if words[0] == "run":
         tally.check(f"{name} had a worker that could not start", any(it != WANT for it in refused), True)
@@ -144,9 +142,8 @@ for name, content in [("a live level", content), ("a live level's metrics", b"me
         got = serve(content, env=dict(os.environ, LD_PRELOAD=shim, APF_REFUSE=str(number), APF_REFUSED=marker))
         ends = not os.path.exists(marker)
         met += [line for line, want in without.items() if got == want != ample] + [0] * (got == WANT)
-        # at the level's end memory is asked for once more, behind all that is told
-        at_its_end = (3, ample[1], WANT[2])
-        tally.check(f"{name} without allocation {number}", got, got if got in (ample, at_its_end, WANT, *without.values()) else ample)
+        # at the level's end memory is asked for once more, behind all that is told: that changes nothing
+        tally.check(f"{name} without allocation {number}", got, got if got in (ample, WANT, *without.values()) else ample)
     # the line of a bad number and that of a number that is there ask for none
     asked = {0, *(line for line, want in without.items() if want != ample)}
     tally.check(f"{name}: before the first line, and at each object, memory was refused", (set(met), ends, got), (asked, True, ample))

@@ -317,7 +317,7 @@ fn reads_names_of_levels(rt: HostRuntime) -> Result<(), Fail> {
 
 #[test]
 fn refuses_other_words_of_levels(rt: HostRuntime) {
-    let rows: [(&[&str], ErrorKind); 10] = [
+    let rows: [(&[&str], ErrorKind); 8] = [
         (&["apf", "serve"], ErrorKind::MissingRequiredArgument),
         (&["apf", "serve", "c", "r"], ErrorKind::UnknownArgument),
         (
@@ -328,7 +328,16 @@ fn refuses_other_words_of_levels(rt: HostRuntime) {
             &["apf", "serve", "c", "--slots", "10001"],
             ErrorKind::ValueValidation,
         ),
+        (
+            &["apf", "serve", "c", "--slots", "x"],
+            ErrorKind::ValueValidation,
+        ),
         (&["apf", "serve", "c", "--slots"], ErrorKind::InvalidValue),
+        (&["apf", "serve", "c", "--name"], ErrorKind::InvalidValue),
+        (
+            &["apf", "serve", "c", "--slots=1", "--slots=2"],
+            ErrorKind::ArgumentConflict,
+        ),
     ];
     for (words, kind) in rows {
         let _ = refused(&rt, rt.alloc(), words, kind);

@@ -206,7 +206,7 @@ fn serve_command<'a>(alloc: Global) -> Result<Command<'a>, AllocError>
             "slots",
             slots,
             "S",
-            "How many requests may be there at once, waiting and running, 1 to 10000 (the default)",
+            "Requests there may be at once, waiting and running, 1 to 10000 (the default)",
         ))?
         .arg(option(
             alloc,

@@ -14,7 +14,7 @@ use Rattle.apf_level.specs.declared.answers.Begin.TheVariants as begun
 use Rattle.apf_level.specs.Levels.{LevelId, logged_as}
 use Rattle.apf_level.specs.Admission.{begun_pass}
 
--- the event was appended to a log that the level had, and then Dispatches and Strikes alone
+-- the event was appended to a log that the level may have had, and then Dispatches and Strikes alone
 pub record Appended (k : LevelId) (event : Event) : Type 0 where
   pub older : List Event
   pub newer : List Event
@@ -46,7 +46,7 @@ NeedsNoEvent (begun.Run token) = token.pass.entered ≡ false
 NeedsNoEvent (begun.Over token decision) = (token.pass.entered ≡ false) × (decision ≢ decisions.QueueFull)
 NeedsNoEvent (begun.Waiting token) = ⊥
 
--- the event, if there is one, is the request's, and a log that the level had got it
+-- the event, if there is one, is the request's, and a log that the level may have had got it
 abbrev pub Logs : LevelId → ℕ → Begin → Option Event → Type 0
 Logs k r answer None = NeedsNoEvent answer
 Logs k r answer (Some event) = IsEventOf r answer event × Appended k event

@@ -13,7 +13,7 @@ pub record Copies (log : List Event) (from : ℕ) (into : List Event) (count : �
   pub count_is : count ≡ fitting (length log) from (length into)
   pub copied : into' ≡ take count (drop from log) ++ drop count into
 
--- of a log that the level had
+-- of a log that the level may have had
 pub record IsCopied (k : LevelId) (from : ℕ) (into : List Event) (count : ℕ) (into' : List Event) : Type 0 where
   pub log : List Event
   pub of_log : IsLogOf (logged_as k (reverse log))

@@ -1,4 +1,4 @@
--- What a dispatch and a strike did to a log that the level had.
+-- What a dispatch and a strike did to a log that the level may have had.
 use Rattle.std.specs.Prelude.{◌≡◌, ℕ, ◌++◌, List, ◌∷◌, count_by}
 use Rattle.apf_history.specs.declared.events.Event.{Event}
 use Rattle.apf_history.specs.declared.events.Event.TheVariants.{Strike}

@@ -18,7 +18,7 @@ use Rattle.apf_life.specs.declared.answers.Begin.TheVariants as begun
 use Rattle.apf_life.specs.Levels.{LifeId, IsHistoryOf}
 use Rattle.apf_life.specs.Admission.{begun_pass}
 
--- the request, new to a history that the level had, asked for this hand and this cost; its event came, and then Dispatches and Strikes alone
+-- the request, new to a history that the level may have had, asked for this hand and this cost; its event came, and then Dispatches and Strikes alone
 pub record Came (k : LifeId) (r : ℕ) (hand : List ℕ) (cost : ℕ) (event : Event) : Type 0 where
   pub older : LifeView
   pub newer : List Event
@@ -55,7 +55,7 @@ NeedsNoEvent (begun.Run token) = token.pass.entered ≡ false
 NeedsNoEvent (begun.Over token decision) = (token.pass.entered ≡ false) × (decision ≢ decisions.QueueFull)
 NeedsNoEvent (begun.Waiting token) = ⊥
 
--- the event, if there is one, is the request's, and a history that the level had got it, with this hand and this cost
+-- the event, if there is one, is the request's, and a history that the level may have had got it, with this hand and this cost
 abbrev pub Logs : LifeId → ℕ → List ℕ → ℕ → Begin → Option LifeEvent → Type 0
 Logs k r hand cost answer None = NeedsNoEvent answer
 Logs k r hand cost answer (Some event) = IsEventOf r answer (event_of event) × Came k r hand cost (event_of event)

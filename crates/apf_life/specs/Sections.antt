@@ -1,4 +1,4 @@
--- What the calls under the lock did to a history that the level had, and what they tell of one.
+-- What the calls under the lock did to a history that the level may have had, and what they tell of one.
 use Rattle.std.specs.Prelude.{◌≡◌, ℕ, ◌++◌, ◌*◌, ◌^◌, ◌<◌, List, length, count_by, All}
 use Rattle.apf_history.specs.declared.events.Event.{Event}
 use Rattle.apf_history.specs.declared.events.Event.TheVariants.{Strike}
@@ -30,13 +30,13 @@ pub record Struck (k : LifeId) (r : ℕ) : Type 0 where
   pub of_level : IsHistoryOf k (then_came_all events (then_came older (Strike r queue)))
   pub servings : AreServings events
 
--- events of a history that the level had, of fewer than 2^64 that there ever were; the newest are kept, two for each slot
+-- events of a history that the level may have had, of fewer than 2^64 that there ever were; the newest are kept, two for each slot
 pub record IsCopied (k : LifeId) (from : ℕ) (into : List LifeEvent) (answer : Copied) (into' : List LifeEvent) : Type 0 where
   pub view : LifeView
   pub of_level : IsHistoryOf k view
   pub copies : length view.history < 2 ^ 64 → CopiesLate (2 * k.gate.shape.slots) view.history from into answer into'
 
--- the numbers of a history that the level had, of fewer than 2^64 events
+-- the numbers of a history that the level may have had, of fewer than 2^64 events
 pub record AreStatsOf (k : LifeId) (stats : LifeStats) : Type 0 where
   pub view : LifeView
   pub of_level : IsHistoryOf k view

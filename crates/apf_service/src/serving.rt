@@ -75,8 +75,7 @@ fn cannot_write(_error: io::Error) -> ServeFault
 ///
 /// # Errors
 ///
-/// `Open` and `NoMemory` before the first line is written. `CannotRead`, `CannotWrite` if the input or the output fails;
-/// `NoMemory` too, where it is refused at the level's end.
+/// `Open` and `NoMemory` before the first line is written. `CannotRead`, `CannotWrite` if the input or the output fails.
 pub fn serve<R: Wait, I: Read, O: Write>(
     rt: &R,
     alloc: Global,
@@ -108,10 +107,9 @@ fn serve_named<K: Naming, R: Wait, I: Read, O: Write>(
     let mut lines = Lines::new(alloc)?;
     let mut service = Service::<K>::open(rt, alloc, opening, name)?;
     let answered = answer_all(rt, alloc, &mut service, &mut lines, input, out);
-    let ended = service.end(rt, alloc);
-    answered?;
-    ended?;
-    Ok(())
+    // what the end could tell, the book told before it: memory that is refused for its report takes nothing from anybody
+    let _ = service.end(rt, alloc);
+    answered
 }
 
 // Writes the first line, answers each line of the input, and writes the book.

@@ -117,10 +117,10 @@ Tries width (tokens.Waiting pass) answer token' = (answer ≡ answers.Wrong) × 
 Tries width (tokens.Running pass) answer token' = (answer ≡ answers.Wrong) × (token' ≡ tokens.Running pass)
 Tries width tokens.Gone answer token' = ⊥
 
--- what the history got by the arrival of the request of this number, with this hand and this cost, that is answered so: its Enter, or its Full if a queue was full; and no event only if it does not wait, and no queue was full
+-- what the history got by the arrival of the request of this number, with this hand and this cost, that is answered so: its Enter, or its Full if a queue was full, of a request that came; and no event only if it does not wait, and no queue was full
 abbrev pub LogsFor : LifeId → ℕ → List ℕ → ℕ → Answer → Option LifeEvent → Type 0
 LogsFor k r hand cost answer None = (answer ≢ answers.Waits) × (answer ≢ answers.Over QueueFull)
-LogsFor k r hand cost answer (Some event) = IsEventOf r answer (event_of event) × Came k r hand cost (event_of event)
+LogsFor k r hand cost answer (Some event) = SaysWhere answer × IsEventOf r answer (event_of event) × Came k r hand cost (event_of event)
 
 -- a call of a slot whose request is at this place, and else answers that it is wrong here and changes nothing
 pub record Answers (place : Place) (old : Token) (answer : Answer) (new : Token) : Type 0 where

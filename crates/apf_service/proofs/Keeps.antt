@@ -38,7 +38,7 @@ goes_on slots slot token t t' inside kept goes = record {
 }
 
 -- one more decision of any kind
-decided_counted : (decision : Decision) (c : Counts) → decided_in (counted decision c) ≡ decided_in c + 1
+pub decided_counted : (decision : Decision) (c : Counts) → decided_in (counted decision c) ≡ decided_in c + 1
 decided_counted Execute c = omega arith
 decided_counted QueueFull c = omega arith
 decided_counted Closed c = omega arith

@@ -1,4 +1,5 @@
 pub mod Sums
 pub mod Keeps
 pub mod Follow
+pub mod Counting
 pub mod Faults

@@ -5,4 +5,5 @@ pub mod Turns
 pub mod Metrics
 pub mod Lines
 pub mod Widths
+pub mod Counted
 pub mod Faults

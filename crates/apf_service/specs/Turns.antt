@@ -1,5 +1,5 @@
 -- What each command does to a live level.
-use Rattle.std.specs.Prelude.{◌≡◌, ◌≢◌, ⊤, ℕ, ◌<◌, List, slice_index_or, slice_set, true, false, Option, Result, Ok, Err}
+use Rattle.std.specs.Prelude.{◌≡◌, ℕ, List, slice_index_or, slice_set, Option, Result, Ok, Err}
 use Rattle.apf_flow.specs.Deal.{hand_of}
 use Rattle.apf_gate.specs.Tokens.{StationToken}
 use Rattle.apf_gate.specs.StationCalls.{TriesToCancel, ClosesTo}
@@ -11,7 +11,7 @@ use Rattle.apf_life.specs.Levels.{LifeId}
 use Rattle.apf_life_session.specs.declared.answer.Answer.{Answer}
 use Rattle.apf_life_session.specs.declared.answer.Place.TheVariants as places
 use Rattle.apf_life_session.specs.declared.token.Token.{Token}
-use Rattle.apf_life_session.specs.Requests.{Arrives, Tries, Answers, ReleasesAs, LogsFor, number_in, place_of}
+use Rattle.apf_life_session.specs.Requests.{Arrives, Tries, Answers, ReleasesAs, LogsFor, number_in}
 use Rattle.apf_life_session.specs.Ends.{StayButFirst}
 use Rattle.apf_protocol.specs.declared.answer.Answer.{Answer as Told}
 use Rattle.apf_protocol.specs.declared.answer.Answer.TheVariants.{Limits}
@@ -86,11 +86,3 @@ Turns k commands.Close old reply new = Closes old reply new
 Turns k commands.Book old reply new = ⊥
 Turns k commands.Queues old reply new = ⊥
 Turns k commands.Metrics old reply new = ⊥
-
--- an arrival's or attempt's slot is free, and a request is there that is to finish or to be cancelled
-abbrev pub IsInPlace : State → Command → Type 0
-IsInPlace s (commands.Arrive n a) = place_of (slot_in s n) ≡ places.Free
-IsInPlace s (commands.Try n a) = place_of (slot_in s n) ≡ places.Free
-IsInPlace s (commands.Finish n) = place_of (slot_in s n) ≢ places.Free
-IsInPlace s (commands.Cancel n) = place_of (slot_in s n) ≢ places.Free
-IsInPlace s command = ⊤

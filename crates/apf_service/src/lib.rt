@@ -6,7 +6,7 @@
 //! - `replies`: what a command is answered. `moves`: the lines of those who left a queue.
 //! - `metrics`: the numbers for Prometheus.
 //! - `service`: a level with its slots, which takes one line after another.
-//! - `laws`: what the definitions say of widths.
+//! - `laws`: what the definitions say of widths, and of how many ever arrived.
 //! - `lines`: cuts what is read into lines. `serving`: reads lines to the end of the input, and answers them.
 #![tactic(auto)]
 
@@ -23,7 +23,7 @@ mod service;
 mod serving;
 mod tally;
 
-pub use laws::every_width_is_kept;
+pub use laws::{every_request_is_counted, every_width_is_kept};
 pub use service::Service;
 pub use serving::{ServeFault, serve};
 pub use tally::Tally;

@@ -1,10 +1,9 @@
 -- Each line counts the requests that came by it, and no others.
-use Rattle.std.proofs.Common.{◌≡◌, ◌≢◌, ℕ, ◌+◌, ◌-◌, ◌<◌, ◌≤◌, List, [], ◌∷◌, length, get_or, set, inl, inr, Bool, true, false, Option, Some, None, Result, Ok, Err, refl, sym, ap, ◌∙◌, subst, arith}
+use Rattle.std.proofs.Common.{◌≡◌, ℕ, ◌+◌, ◌<◌, ◌≤◌, List, [], ◌∷◌, length, set, inl, inr, Bool, true, false, Option, Some, None, Result, refl, sym, ap, ◌∙◌, subst, arith}
 use Rattle.std.specs.List.{sum_by}
-use Rattle.std.specs.Prelude.{nat_lt}
+use Rattle.std.specs.Prelude.{◌⊎◌, nat_lt}
 use Rattle.std.proofs.lemmas.Bool.{ltb-true, ltb-false, le-ltb}
 use Rattle.std.proofs.lemmas.List.{get_or_past, set_past}
-use Rattle.apf_words.specs.Level.{Level}
 use Rattle.apf_words.specs.declared.decision.Decision.{Decision}
 use Rattle.apf_flow.specs.Deal.{hand_of}
 use Rattle.apf_gate.specs.Slots.{slot_of}
@@ -33,8 +32,8 @@ use Rattle.apf_service.specs.declared.tally.Tally.{Tally}
 use Rattle.apf_service.specs.Tallies.{arrived_in, started, queued, ended, left, finished, after_arrival, after_poll, after_finish, waits_in, IsTallyOf}
 use Rattle.apf_service.specs.Kept.{State, slot_in, width_in, Leaves, Follows, FollowsAll, with_event}
 use Rattle.apf_service.specs.Replies.{told_of_arrival, told_of_attempt, told_of_finish, told_of_cancel, told_of_close}
-use Rattle.apf_service.specs.Turns.{Turns, ArrivesAt, TriesAt, FinishesAt, CancelsAt, LimitsTo, Closes, OperatorDoes}
-use Rattle.apf_service.specs.Counted.{came_by, IsEveryRequestCounted}
+use Rattle.apf_service.specs.Turns.{Turns, ArrivesAt, TriesAt, FinishesAt, OperatorDoes}
+use Rattle.apf_service.specs.Counted.{came_by}
 use Rattle.apf_service.proofs.Sums.{sum_at, part_at}
 use Rattle.apf_service.proofs.Keeps.{decided_counted}
 

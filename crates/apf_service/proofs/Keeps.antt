@@ -1,22 +1,20 @@
 -- The numbers stay those of the slots, as the request of one slot goes on.
-use Rattle.std.proofs.Common.{◌≡◌, ◌≢◌, ℕ, ◌+◌, ◌*◌, ◌-◌, ◌/◌, ◌%◌, ◌^◌, ◌<◌, ◌≤◌, List, length, get_or, set, inl, inr, Bool, not, ◌==◌, refl, sym, ap, ◌∙◌, subst, arith}
-use Rattle.std.specs.List.{sum_by}
+use Rattle.std.proofs.Common.{◌≡◌, ℕ, ◌+◌, ◌%◌, ◌^◌, ◌<◌, ◌≤◌, List, length, get_or, set, inl, inr, Bool, not, ◌==◌, refl, sym, ap, ◌∙◌, subst, arith}
 use Rattle.std.specs.Prelude.{min, max, if◌then◌else◌}
 use Rattle.std.proofs.lemmas.Bool.{le-leb}
-use Rattle.std.proofs.lemmas.Nat.{div-mul-add}
-use Rattle.apf_words.specs.Limits.{max_requests, max_width}
+use Rattle.apf_words.specs.Limits.{max_width}
 use Rattle.apf_words.specs.declared.decision.Decision.{Decision}
 use Rattle.apf_words.specs.declared.decision.Decision.TheVariants.{Execute, QueueFull, Closed, ConcurrencyLimit, Cancelled}
 use Rattle.apf_gate.specs.declared.record.Shape.{Shape}
 use Rattle.apf_gate.specs.declared.counts.Counts.{Counts}
 use Rattle.apf_gate.specs.Tokens.{PassToken}
-use Rattle.apf_gate.specs.Slots.{IsTicket, wide, coded_width, round_of, mark_of, slot_of, next_of}
+use Rattle.apf_gate.specs.Slots.{IsTicket, wide, coded_width, round_of, mark_of, next_of}
 use Rattle.apf_life_session.specs.declared.answer.Answer.{Answer}
 use Rattle.apf_life_session.specs.declared.answer.Answer.TheVariants.{Run, Over, Tried, Busy, Waits, Released, Spent, Wrong}
 use Rattle.apf_life_session.specs.declared.answer.Place.TheVariants as places
 use Rattle.apf_life_session.specs.declared.token.Token.{Token}
 use Rattle.apf_life_session.specs.declared.token.Token.TheVariants as tokens
-use Rattle.apf_life_session.specs.Requests.{number_in, place_of, Answers, Arrives, Tries, Polls, Says, SaysWhere, SaysTried, IsToldOver, ReleasesAs}
+use Rattle.apf_life_session.specs.Requests.{number_in, Answers, Arrives, Tries, Polls, Says, SaysWhere, SaysTried, IsToldOver, ReleasesAs}
 use Rattle.apf_service.specs.declared.tally.Tally.{Tally}
 use Rattle.apf_service.specs.Tallies.{decided_in, arrived_in, counted, started, queued, ended, left, finished, after_arrival, after_poll, after_finish, waits_in, runs_in, seats_in, rounds_in, IsTallyOf}
 use Rattle.apf_service.specs.Kept.{width_in}

@@ -1,12 +1,12 @@
 -- The sums over the slots are small, and how they change with one slot.
-use Rattle.std.proofs.Common.{◌≡◌, ℕ, ◌+◌, ◌*◌, ◌^◌, ◌<◌, ◌≤◌, ◌%◌, List, [], ◌∷◌, length, get_or, set, Bool, true, false, refl, sym, subst, rules, arith}
+use Rattle.std.proofs.Common.{◌≡◌, ℕ, ◌+◌, ◌*◌, ◌^◌, ◌<◌, ◌≤◌, ◌%◌, List, [], ◌∷◌, length, get_or, set, Bool, true, false, refl, sym, subst, arith}
 use Rattle.std.specs.List.{sum_by}
-use Rattle.std.specs.Prelude.{All, min, max, nat_le, if◌then◌else◌}
+use Rattle.std.specs.Prelude.{All, max, nat_le, if◌then◌else◌}
 use Rattle.std.proofs.lemmas.Bool.{leb-true}
 use Rattle.std.proofs.Math.Nat.{le_trans, mul-le-mul_right, min-le_right}
 use Rattle.std.proofs.lemmas.List.Elements.{All-head, All-tail}
 use Rattle.std.proofs.lemmas.List.Sums.{sum_by-set, sum_by-le, get_or-le-sum_by}
-use Rattle.apf_words.specs.Limits.{max_requests, max_width}
+use Rattle.apf_words.specs.Limits.{max_requests}
 use Rattle.apf_gate.specs.Slots.{wide, coded_width, mark_of, round_of}
 use Rattle.apf_life_session.specs.declared.answer.Place.TheVariants as places
 use Rattle.apf_life_session.specs.declared.token.Token.{Token}

@@ -1,5 +1,5 @@
 -- How many requests ever arrived, from line to line.
-use Rattle.std.specs.Prelude.{◌≡◌, ℕ, ◌+◌, List, Result, Ok, Err}
+use Rattle.std.specs.Prelude.{◌≡◌, ℕ, ◌+◌, List, Result, Ok}
 use Rattle.apf_book.specs.declared.life_event.LifeEvent.{LifeEvent}
 use Rattle.apf_life.specs.Levels.{LifeId}
 use Rattle.apf_protocol.specs.declared.answer.Answer.{Answer as Told}

@@ -1,5 +1,5 @@
 -- What a live level does with one line.
-use Rattle.std.specs.Prelude.{◌≡◌, ◌≢◌, ◌⊎◌, ⊤, ℕ, ◌+◌, List, [], ◌++◌, length, take, nat_eq, if◌then◌else◌, Bool, false, Option, Some, None, IfSome, Result, Ok, Err}
+use Rattle.std.specs.Prelude.{◌≡◌, ◌≢◌, ◌⊎◌, ℕ, ◌+◌, List, [], ◌++◌, length, take, nat_eq, if◌then◌else◌, Bool, false, Option, Some, None, IfSome, Result, Ok, Err}
 use Rattle.std.specs.List.{flat_map}
 use Rattle.apf_words.specs.Level.{Level}
 use Rattle.apf_files.specs.FirstFault.{◌>>=◌}
@@ -20,7 +20,6 @@ use Rattle.apf_protocol.specs.declared.fault.FaultKind.{FaultKind}
 use Rattle.apf_protocol.specs.declared.fault.FaultKind.TheVariants.{NoMemory}
 use Rattle.apf_protocol.specs.declared.fault.Found.{Found}
 use Rattle.apf_protocol.specs.declared.fault.Found.TheVariants.{Nothing}
-use Rattle.apf_protocol.specs.declared.head.Head.{Head}
 use Rattle.apf_protocol.specs.Lines.{Words, form_of, request_in, there_fault}
 use Rattle.apf_protocol.specs.Commands.{command_from, HasObject}
 use Rattle.apf_protocol.specs.Faults.{IsFoundIn, fault_text}

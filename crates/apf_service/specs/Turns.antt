@@ -1,5 +1,5 @@
 -- What each command does to a live level.
-use Rattle.std.specs.Prelude.{◌≡◌, ℕ, List, slice_index_or, slice_set, Option, Result, Ok, Err}
+use Rattle.std.specs.Prelude.{◌≡◌, ℕ, List, slice_index_or, slice_set, Option, Result, Ok}
 use Rattle.apf_flow.specs.Deal.{hand_of}
 use Rattle.apf_gate.specs.Tokens.{StationToken}
 use Rattle.apf_gate.specs.StationCalls.{TriesToCancel, ClosesTo}

@@ -1,6 +1,6 @@
 -- The numbers stay those of the slots.
 use Rattle.std.proofs.lemmas.List.{get_or_read_under}
-use Rattle.std.proofs.Common.{◌≡◌, ℕ, length, refl, get_or, set, sym, ap, ◌∙◌, subst, rules}
+use Rattle.std.proofs.Common.{◌≡◌, ℕ, length, refl, get_or, set, sym, ap, ◌∙◌, subst}
 use Rattle.apf_gate.specs.Slots.{coded_width}
 use Rattle.apf_life_session.specs.declared.answer.Place.TheVariants as places
 use Rattle.apf_life_session.specs.declared.token.Token.{Token}

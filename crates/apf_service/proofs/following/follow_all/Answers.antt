@@ -1,5 +1,5 @@
 -- What follows of the events so far and of the next one.
-use Rattle.std.proofs.Common.{rules, ◌≡◌, ◌+◌, ◌++◌, ◌∷◌, [], take, get_or, ◌∙◌}
+use Rattle.std.proofs.Common.{rules, ◌∙◌}
 use Rattle.std.proofs.Math.Seq.{take-suc}
 use Rattle.apf_service.proofs.Follow.{next_more}
 use Rattle.apf_service.proofs.following.follow_all.Goals as goal

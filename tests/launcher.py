@@ -312,8 +312,11 @@ for name, number, is_alone in (
     write(broken.notes + ".meanwhile", '[ $crate != middle ] || { echo $$ >"$NOTES.new"; mv "$NOTES.new" "$NOTES.begun"; exec sleep 60; }\n')
     before = files_of(broken.top)
     process = subprocess.Popen([os.path.join(broken.top, "apf")], stdout=subprocess.PIPE, stderr=subprocess.PIPE, start_new_session=True, **broken.how(kept=temporary))
-    while not os.path.exists(begun):
+    while process.poll() is None and not os.path.exists(begun):
         time.sleep(0.02)
+    if not os.path.exists(begun):
+        tally.check(f"{name}: builds", process.communicate(), None)
+        continue
     (os.kill if is_alone else os.killpg)(process.pid, number)
     out = process.communicate(timeout=60)[0]
     tally.check(f"{name}: has not run", (out, process.returncode), (b"", -number if number == signal.SIGKILL else 130))

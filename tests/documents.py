@@ -16,7 +16,7 @@ import tempfile
 
 sys.path.insert(0, os.path.join(os.path.dirname(os.path.abspath(__file__)), "lib"))
 from contracts import Contracts
-from harness import TOP, Tally, build, build_serving
+from harness import TOP, Tally, build, build_serving, lines_of_crates
 from statements import page as audit_page
 
 tally = Tally()
@@ -212,11 +212,7 @@ tally.check("docs/PROOFS.md: the planted bugs of each crate", rows, counts)
 # the crates of docs/ARCHITECTURE.md are those of crates.txt, and stand on the same ones
 page = open(os.path.join(TOP, "docs", "ARCHITECTURE.md"), encoding="utf-8").read()
 shown = {name: sorted(re.findall(r"`(\w+)`", below)) for name, below in re.findall(r"^\| `(apf\w*)` \|[^|]*\|([^|]*)\|$", page, re.M)}
-listed = {}
-for line in open(os.path.join(TOP, "crates.txt"), encoding="utf-8"):
-    head, _, below = line.split("#")[0].partition(":")
-    if head.strip():
-        listed[head.split()[0]] = sorted(below.split())
+listed = {name: sorted(line.partition(":")[2].split()) for name, line in lines_of_crates().items()}
 tally.check("docs/ARCHITECTURE.md: the crates", shown, listed)
 
 # docs/AUDIT.md is what its script makes of the sources

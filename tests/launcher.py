@@ -17,17 +17,25 @@ tally = Tally()
 room = tempfile.TemporaryDirectory(prefix="apf-test-")
 os.chmod(room.name, 0o755)
 
-# what `rt lib` and `rt run` do here: note the crate, do what the file `meanwhile` says, and make a program that prints the source
+# what `rt run` does here, in the words of the kit's: it notes its call, begins each crate that it does not keep, does what the file
+# `meanwhile` says, makes a program that prints the source, and runs it
 RT = r"""#!/usr/bin/env bash
-crate=$(basename "$PWD")
-echo "$1 $crate" >>"$NOTES"
-[ "$1 $crate" != "$REFUSES" ] || { echo "error: the goal is open"; exit 1; }
-source=$(cat src/main.rt 2>/dev/null)
-[ ! -f "$NOTES.meanwhile" ] || . "$NOTES.meanwhile"
-[ "$1" = run ] || exit 0
+exec 3>&1 >&2
+echo "$(basename "$PWD"): $*" >>"$NOTES"
+echo "only=0 proved=0"
+for crate in low middle apf_cli apf; do
+  [[ " $KEEPS " != *" $crate "* ]] || continue
+  echo "rt: chose --jobs 2 for $crate"
+  echo "fn $crate::it: proved"
+  source=$(cat src/main.rt 2>/dev/null)
+  [ ! -f "$NOTES.meanwhile" ] || . "$NOTES.meanwhile"
+  [ "$crate" != "$REFUSES" ] || { echo "error: the goal of $crate is open"; exit 1; }
+done
 mkdir -p out
-printf '#!/bin/sh\n[ "$1" != --version ] || exit 0\necho "%s" "$@"\nexit 7\n' "$source" >out/apf
+printf '#!/bin/sh\n[ "$1" != --version ] && [ "$1" != hash ] || { echo said; exit 0; }\necho "%s" "$@"\nexit 7\n' "$source" >out/apf
 chmod +x out/apf
+shift 2
+exec out/apf "$@" >&3
 """
 CRATES = """# the crates
 low: std_of_kit
@@ -57,11 +65,11 @@ class Checkout:
     def path(self, *parts):
         return os.path.join(self.top, "crates", *parts)
 
-    def how(self, refuses="", has_no_rt=False, builds=False, kept=None, **how):
+    def how(self, refuses="", keeps="", has_no_rt=False, builds=False, kept=None, **how):
         """How to run the launcher: with these tools, and where `builds` is set with no use of the stored program."""
         path = os.pathsep.join([TOOLS] if has_no_rt else [os.path.join(self.top, "bin"), TOOLS])
         environment = {key: value for key, value in os.environ.items() if key != "APF_BUILD"}
-        environment.update(PATH=path, NOTES=self.notes, REFUSES=refuses, TMPDIR=kept or "/tmp")
+        environment.update(PATH=path, NOTES=self.notes, REFUSES=refuses, KEEPS=keeps, TMPDIR=kept or "/tmp")
         if builds:
             environment["APF_BUILD"] = "1"
         return dict(how, stdin=subprocess.DEVNULL, env=environment)
@@ -90,25 +98,26 @@ class Checkout:
 # the tools that the launcher uses, and no other
 TOOLS = os.path.join(room.name, "tools")
 os.mkdir(TOOLS)
-for tool in ("bash", "sh", "env", "awk", "basename", "cat", "chmod", "cp", "dirname", "find", "mkdir", "mv", "nproc", "readlink", "rm", "seq", "sha256sum", "sleep", "sort", "tr", "uname", "xargs"):
+for tool in ("bash", "sh", "env", "awk", "basename", "cat", "chmod", "cmp", "cp", "dirname", "find", "mkdir", "mv", "readlink", "rm", "sha256sum", "sleep", "sort", "tr", "uname", "xargs"):
     os.symlink(shutil.which(tool), os.path.join(TOOLS, tool))
 
-ALL = ["lib low", "lib middle", "lib apf_cli", "run apf"]
-BEGIN = "apf: building the program, which proves its 4 crates first: 5 to 30 minutes on four free cores"
-PROGRESS = [
-    "apf: proving low, 3 more to follow",
-    "apf: proving middle, 2 more to follow",
-    "apf: proving apf_cli, 1 more to follow",
-    "apf: proving apf, 0 more to follow",
-]
+ONCE = ["apf: run -- hash  "]
+BEGIN = "apf: building the program, and proving what is new in its 4 crates: from nothing, half an hour or more on four free cores"
+PROGRESS = ["apf: proving low, 1 of 4", "apf: proving middle, 2 of 4", "apf: proving apf_cli, 3 of 4", "apf: proving apf, 4 of 4"]
 
-# the first build: one line a crate, each after those that it stands on, and those alone that the program needs
+# the first build: one call of the kit, and one line for each crate that it begins
 first = Checkout("first")
 status, out, err, calls = first.run("a b", "$c", "")
 tally.check("the words and the status go through", (status, out), (7, "first a b $c \n"))
-tally.check("each crate that is needed, in order", calls, ALL)
-tally.check("how long it takes, and then one line a crate, with what is left", err, [BEGIN, *PROGRESS])
+tally.check("one call of the kit", calls, ONCE)
+tally.check("how long it takes, and then one line a crate, with its place", err, [BEGIN, *PROGRESS])
 tally.check("a program that is built runs", first.run("x"), (7, "first x\n", [], []))
+write(first.path("apf", "src", "main.rt"), "second")
+tally.check("no line for a crate that the kit keeps", first.run("x", keeps="low apf_cli"), (7, "second x\n", [BEGIN, PROGRESS[1], PROGRESS[3]], ONCE))
+
+# where nothing has changed no content is looked at: without this tool there is no hash
+write(os.path.join(first.top, "bin", "sha256sum"), "#!/bin/sh\nexit 1\n", 0o755)
+tally.check("the quick way", first.run("x"), (7, "second x\n", [], []))
 
 # a source that is edited, made, deleted, or put back with an old time
 for name, change in [
@@ -126,7 +135,7 @@ for name, change in [
     change(checkout)
     wanted = open(checkout.path("apf", "src", "main.rt")).read()
     status, out, err, calls = checkout.run()
-    tally.check(f"{name}: built again", (status, out, calls), (7, f"{wanted}\n", ALL))
+    tally.check(f"{name}: built again", (status, out, calls), (7, f"{wanted}\n", ONCE))
     tally.check(f"{name}: and then no more", checkout.run()[3], [])
 
 # what the program is not made of, and what changes no content
@@ -155,8 +164,15 @@ for crate in ("low", "apf"):
     write(busy.notes + ".meanwhile", f'[ $crate != {crate} ] || printf later >"{busy.path("apf", "src", "main.rt")}"\n')
     busy.run()
     os.remove(busy.notes + ".meanwhile")
-    tally.check(f"edited while {crate} builds: built again", busy.run()[1:], ("later\n", [BEGIN, *PROGRESS], ALL))
+    tally.check(f"edited while {crate} builds: built again", busy.run()[1:], ("later\n", [BEGIN, *PROGRESS], ONCE))
     tally.check(f"edited while {crate} builds: and then no more", busy.run()[3], [])
+
+# and put back before its end: what was built is of other sources than those that stand there before and after
+busy = Checkout("busy-back")
+write(busy.notes + ".meanwhile", 'case $crate in low) printf later >src/main.rt ;; apf) printf first >src/main.rt ;; esac\n')
+tally.check("edited and put back while it builds", busy.run()[1], "later\n")
+os.remove(busy.notes + ".meanwhile")
+tally.check("edited and put back while it builds: built again", busy.run(), (7, "first\n", [BEGIN, *PROGRESS], ONCE))
 
 # an edit of another crate while it builds
 beside = Checkout("beside")
@@ -166,14 +182,19 @@ os.remove(beside.notes + ".meanwhile")
 tally.check("another crate edited while it builds: builds nothing", beside.run(), (7, "first\n", [], []))
 
 # a build that fails says why, runs no older program, and is tried again
+FAILED = "apf: the program could not be built, as rt says above"
 failing = Checkout("failing")
 failing.run()
 write(failing.path("middle", "src", "lib.rt"), "wrong")
 for _ in range(2):
-    status, out, err, calls = failing.run(refuses="lib middle")
-    tally.check("a refused crate", (status, out, calls), (1, "", ["lib low", "lib middle"]))
-    tally.check("says which", err[-2:], ["error: the goal is open", "apf: the program could not be built: middle was refused"])
+    status, out, err, calls = failing.run(refuses="middle")
+    tally.check("a refused crate", (status, out, calls), (1, "", ONCE))
+    tally.check("what rt said of it, and of no other", err, [BEGIN, *PROGRESS[:2], "fn middle::it: proved", "error: the goal of middle is open", FAILED])
 tally.check("built once it is well", failing.run()[:2], (7, "first\n"))
+write(failing.path("middle", "src", "lib.rt"), "wrong again")
+write(failing.notes + ".meanwhile", 'echo "rt: mend these first"; exit 0\n')
+os.remove(failing.path("apf", "out", "apf"))
+tally.check("no program is made", failing.run()[:3], (1, "", [BEGIN, PROGRESS[0], "fn low::it: proved", "rt: mend these first", FAILED]))
 
 # no toolchain: one line, unless the program is built
 bare = Checkout("bare")
@@ -217,7 +238,7 @@ for at, _, names in os.walk(clone):
 shutil.rmtree(os.path.join(clone, "crates", "apf", "out"))
 kept.top, kept.notes = clone, os.path.join(clone, "notes")
 tally.check("stored, in a clone with other times", kept.run("x"), (7, "kept x\n", [], []))
-tally.check("stored, and built on request", kept.run("x", builds=True), (7, "kept x\n", [BEGIN, *PROGRESS], ALL))
+tally.check("stored, and built on request", kept.run("x", builds=True), (7, "kept x\n", [BEGIN, *PROGRESS], ONCE))
 os.remove(os.path.join(kept.top, "program", "x86_64-linux", "apf"))
 tally.check("built, and runs with no stored one", kept.run("x"), (7, "kept x\n", [], []))
 tally.check("built on request, once", kept.run("x", builds=True), (7, "kept x\n", [], []))
@@ -251,14 +272,14 @@ for name, change in [
         if was_run and name != "another machine":
             tally.check(f"{name}: stored before", checkout.run("x"), (7, "first x\n", [], []))
         change(checkout)
-        tally.check(f"{name}: built", checkout.run("x"), (7, "first x\n", [BEGIN, *PROGRESS], ALL))
+        tally.check(f"{name}: built", checkout.run("x"), (7, "first x\n", [BEGIN, *PROGRESS], ONCE))
         tally.check(f"{name}: and then no more", checkout.run("x"), (7, "first x\n", [], []))
 
 # a program that was built of other sources meanwhile, as by rt, is not taken for the one of these
 meanwhile = Checkout("meanwhile")
 meanwhile.run()
 write(meanwhile.path("apf", "out", "apf"), "#!/bin/sh\necho others\n", 0o755)
-tally.check("a program that rt built of others", meanwhile.run("x"), (7, "first x\n", [BEGIN, *PROGRESS], ALL))
+tally.check("a program that rt built of others", meanwhile.run("x"), (7, "first x\n", [BEGIN, *PROGRESS], ONCE))
 
 # a stored program and a source that changes and changes back: the stored one again
 back = Checkout("back")
@@ -274,82 +295,38 @@ def files_of(top):
 
 
 # a build that is interrupted or killed leaves no file behind, and is no program of these sources
-for name, number in (("interrupted", signal.SIGINT), ("ended", signal.SIGTERM), ("killed", signal.SIGKILL)):
-    broken = Checkout(name)
+for name, number, is_alone in (
+    ("interrupted", signal.SIGINT, False),
+    ("ended", signal.SIGTERM, False),
+    ("killed", signal.SIGKILL, False),
+    ("the launcher alone interrupted", signal.SIGINT, True),
+    ("the launcher alone ended", signal.SIGTERM, True),
+):
+    broken = Checkout(name.replace(" ", "-"))
     temporary = os.path.join(broken.top, "temporary")
     os.mkdir(temporary)
-    write(broken.notes + ".meanwhile", "[ $crate != middle ] || sleep 60\n")
+    broken.run()
+    write(broken.path("low", "src", "lib.rt"), "changed")
+    write(broken.path("apf", "src", "main.rt"), "second")
+    begun = broken.notes + ".begun"
+    write(broken.notes + ".meanwhile", '[ $crate != middle ] || { echo $$ >"$NOTES.new"; mv "$NOTES.new" "$NOTES.begun"; exec sleep 60; }\n')
     before = files_of(broken.top)
     process = subprocess.Popen([os.path.join(broken.top, "apf")], stdout=subprocess.PIPE, stderr=subprocess.PIPE, start_new_session=True, **broken.how(kept=temporary))
-    while not os.path.exists(broken.notes) or "middle" not in open(broken.notes).read():
+    while process.poll() is None and not os.path.exists(begun):
         time.sleep(0.02)
-    os.killpg(process.pid, number)
-    process.communicate(timeout=60)
+    if not os.path.exists(begun):
+        tally.check(f"{name}: builds", process.communicate(), None)
+        continue
+    (os.kill if is_alone else os.killpg)(process.pid, number)
+    out = process.communicate(timeout=60)[0]
+    tally.check(f"{name}: has not run", (out, process.returncode), (b"", -number if number == signal.SIGKILL else 130))
+    if number != signal.SIGKILL:
+        tally.check(f"{name}: the kit is ended", os.path.exists(f"/proc/{open(begun).read().strip()}"), False)
+    os.remove(begun)
     os.remove(broken.notes)
     tally.check(f"{name}: leaves no file", files_of(broken.top), before)
-    tally.check(f"{name}: has not run", process.returncode != 7, True)
     os.remove(broken.notes + ".meanwhile")
-    tally.check(f"{name}: built at the next call", broken.run(), (7, "first\n", [BEGIN, *PROGRESS], ALL))
-
-# crates that do not stand on one another are built side by side, where there are processors and memory
-SIDES = """low:
-left: low
-right: low
-apf: left right
-"""
-# each of the two waits for the other, and ends as a refusal where it waits in vain
-MEETS = r"""
-case $crate in left|right)
-  : >"$NOTES.$crate"
-  for _ in $(seq 200); do [ ! -f "$NOTES.left" ] || [ ! -f "$NOTES.right" ] || break; sleep 0.05; done
-  [ -f "$NOTES.left" ] && [ -f "$NOTES.right" ] || exit 1
-  mkdir -p out/incremental && echo $crate >out/incremental/work ;;
-esac
-"""
-
-
-def two_sides(name, meanwhile):
-    checkout = Checkout(name)
-    write(os.path.join(checkout.top, "HANDLES"), "Handles allowed: none.\n")
-    write(os.path.join(checkout.top, "crates.txt"), SIDES)
-    write(os.path.join(checkout.top, "bin", "nproc"), "#!/bin/sh\necho 4\n", 0o755)
-    for crate in ("left", "right"):
-        write(checkout.path(crate, "src", "lib.rt"), crate)
-    write(checkout.notes + ".meanwhile", meanwhile)
-    return checkout
-
-
-def in_rooms(checkout):
-    return os.path.exists(checkout.path("apf", "out", "rooms"))
-
-
-with open("/proc/meminfo", encoding="ascii") as file:
-    memory = int(next(line for line in file if line.startswith("MemAvailable")).split()[1])
-if memory < 8000000:
-    print("note: too little memory to build crates side by side")
-else:
-    sides = two_sides("sides", MEETS)
-    status, out, err, calls = sides.run("x")
-    tally.check("two crates side by side", (status, out, sorted(calls)), (7, "first x\n", ["lib left", "lib low", "lib right", "run apf"]))
-    tally.check("the lowest first, and the program last", (calls[0], calls[-1]), ("lib low", "run apf"))
-    tally.check("one line for each", err[1:], [f"apf: proving {it}, {3 - place} more to follow" for place, it in enumerate(("low", "left", "right", "apf"))])
-    tally.check("the work of both is kept", [os.path.exists(sides.path(it, "out", "incremental", "work")) for it in ("left", "right")], [True, True])
-    tally.check("no folder of it is left", in_rooms(sides), False)
-    for refused in ("left", "right"):
-        broken = two_sides("sides-" + refused, MEETS + f'[ $crate != {refused} ] || {{ echo "error: the goal is open"; exit 1; }}\n')
-        status, out, err, calls = broken.run()
-        tally.check(f"{refused} is refused beside the other", (status, out, err[-2:]), (1, "", ["error: the goal is open", f"apf: the program could not be built: {refused} was refused"]))
-        tally.check(f"{refused} is refused: its work is kept, and no folder is left", (os.path.exists(broken.path(refused, "out", "incremental", "work")), in_rooms(broken)), (True, False))
-    for name, number in (("interrupted", signal.SIGINT), ("ended", signal.SIGTERM)):
-        ended = two_sides("sides-" + name, '[ $crate = low ] || { echo $$ >"$NOTES.$crate"; exec sleep 60; }\n')
-        process = subprocess.Popen([os.path.join(ended.top, "apf")], stdout=subprocess.DEVNULL, stderr=subprocess.DEVNULL, **ended.how())
-        files = [f"{ended.notes}.{it}" for it in ("left", "right")]
-        while not all(os.path.exists(it) and open(it).read().endswith("\n") for it in files):
-            time.sleep(0.02)
-        process.send_signal(number)
-        tally.check(f"{name}: the launcher alone", process.wait(timeout=30), 130)
-        tally.check(f"{name}: what it had begun is ended", [os.path.exists(f"/proc/{open(it).read().strip()}") for it in files], [False, False])
-        tally.check(f"{name}: no folder is left", in_rooms(ended), False)
+    tally.check(f"{name}: built at the next call", broken.run(), (7, "second\n", [BEGIN, *PROGRESS], ONCE))
 
 # a test script where the program can't be built says so in the launcher's line, and counts
 unbuilt = Checkout("unbuilt")

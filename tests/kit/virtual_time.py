@@ -5,16 +5,15 @@ say that they begin at 0. Numbers that stop at 64 bits fail the same tests.
 """
 
 import os
-import re
 import shutil
 import subprocess
 import sys
 import tempfile
 
 sys.path.insert(0, os.path.join(os.path.dirname(os.path.dirname(os.path.abspath(__file__))), "lib"))
-from harness import TOP, Tally
+from harness import TOP, Tally, lines_of_crates
 
-CRATES = ("apf_words", "apf_history", "apf_model", "apf_plain", "apf_short", "apf_queue", "apf_checked", "apf_queue_tests")
+CRATES = lines_of_crates("apf_queue_tests")
 TIME = "crates/apf_queue/src/virtual_time.rt"
 TESTS = "crates/apf_queue_tests/src/lib.rt"
 # the tests begin with costs of some seats, and go on with some thousands
@@ -37,8 +36,8 @@ def tested(edits):
     """What the tests print on a copy with these edits, the last line first."""
     with tempfile.TemporaryDirectory(prefix="apf-time-") as folder:
         shutil.copy(os.path.join(TOP, "HANDLES"), folder)
-        with open(os.path.join(TOP, "crates.txt")) as file, open(os.path.join(folder, "crates.txt"), "w") as kept:
-            kept.writelines(line for line in file if re.split("[ :#\n]", line)[0] in CRATES)
+        with open(os.path.join(folder, "crates.txt"), "w") as kept:
+            kept.writelines(f"{line}\n" for line in CRATES.values())
         for crate in CRATES:
             shutil.copytree(os.path.join(TOP, "crates", crate), os.path.join(folder, "crates", crate), ignore=shutil.ignore_patterns("out", "must-fail"))
         for it in SLOW:

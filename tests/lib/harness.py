@@ -10,6 +10,12 @@ TOP = os.path.dirname(os.path.dirname(os.path.dirname(os.path.abspath(__file__))
 LAUNCHER = os.path.join(TOP, "apf")
 
 
+def lines_of_crates(*names):
+    """The lines of these crates in crates.txt, by name, or of all, and of those that they stand on, each after those. The launcher reads them."""
+    read = subprocess.run(["bash", "-c", '. "$1" && crates "${@:2}"', "", LAUNCHER, *names], stdout=subprocess.PIPE, check=True, text=True)
+    return {re.split("[ :]", line)[0]: line for line in read.stdout.splitlines()}
+
+
 def build():
     """The path of the program that the launcher runs, which is built where that is needed. APF_PROGRAM names another one to test."""
     if os.environ.get("APF_PROGRAM"):

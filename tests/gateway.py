@@ -406,8 +406,14 @@ tally.check("none of them reached the backend", len(backend.came), came)
 tally.check("none of them asked for a seat", door.until(is_idle)["dispatched_requests_total"], dispatched)
 
 # what a header is of one connection alone is not passed on
-asked_raw(b"GET /hop HTTP/1.1\r\nHost: there\r\nConnection: close, X-Mine\r\nX-Mine: 1\r\nX-Other: 2\r\nKeep-Alive: 3\r\n\r\n")
+found = asked_raw(b"GET /hop HTTP/1.1\r\nHost: there\r\nConnection: X-Mine,close\r\nX-Mine: 1\r\nX-Other: 2\r\nKeep-Alive: 3\r\n\r\n" + NEXT)
 tally.check("headers that are passed on", [it in backend.fields["/hop"] for it in (b"x-mine", b"x-other", b"keep-alive")], [False, True, False])
+tally.check("a connection that is to be closed, beside another word", (found.count(b"HTTP/1.1 200"), b"Connection: close" in found), (1, True))
+# but how long a body is, and for whom it is, whatever a client says of them
+found = asked_raw(b"POST /kept HTTP/1.1\r\nHost: there\r\nConnection: close, Content-Length, Host\r\nContent-Length: 3\r\n\r\nabc")
+tally.check("a length that a client calls one connection's is passed on", (found.partition(b"\r\n\r\n")[2], backend.fields["/kept"].get(b"host")), (b"/keptabc", b"there"))
+found = asked_raw(b"POST /kept HTTP/1.1\r\nHost: there\r\nConnection: close, Transfer-Encoding\r\nTransfer-Encoding: chunked\r\n\r\n3\r\nabc\r\n0\r\n\r\n")
+tally.check("and so are chunks", found.partition(b"\r\n\r\n")[2], b"/keptabc")
 
 # a request without the header is of the flow of its client's address, and a bad width is 1
 backend.at_once = False

@@ -262,6 +262,17 @@ tally.check("a client that leaves while it waits", (numbers["current_inqueue_req
 runs.close()
 tally.check("a client that leaves while it executes", door.until(is_idle)["current_executing_seats"], 0)
 tally.check("the one that left was not passed on", backend.came, ["/runs"])
+# and one that stays, and sends so much behind its request that the gateway reads no further: it is not taken for one that left
+stays = socket.create_connection(("127.0.0.1", door.port), timeout=MOST)
+stays.sendall(b"GET /stays HTTP/1.1\r\nHost: there\r\n\r\n" + b"x" * 600_000)
+backend.wait(lambda came: "/stays" in came)
+# much is done meanwhile, so that Python looks for what nobody uses any more
+tally.check("a client that stays", {door.numbers()["current_executing_requests"] for _ in range(100)}, {1})
+with contextlib.suppress(OSError):
+    backend.answer("/stays")
+with contextlib.suppress(OSError):
+    tally.check("and has its answer", stays.recv(100).startswith(b"HTTP/1.1 200 OK"), True)
+tally.check("whose seats come back", door.until(is_idle)["current_executing_seats"], 0)
 door.end()
 
 # a number is used again: a level of three slots serves a hundred requests, and says where more come at once

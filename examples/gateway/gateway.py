@@ -38,6 +38,8 @@ class Ticket:
         self.number, self.width, self.runs = number, width, False
         self.asks = json.dumps({"schema": "gateway", "distinguisher": flow, "width": width})
         self.told = asyncio.get_running_loop().create_future()
+        # while it executes: the event loop itself keeps no task that waits, so it is kept here
+        self.work = None
 
     def tell(self, decision):
         # the first that is said holds
@@ -187,7 +189,7 @@ class Gateway:
         except Turned as why:
             status, reason = why.args
             return await say(writer, status, f"{reason}\n".encode(), "Retry-After: 1\r\n")
-        work = asyncio.ensure_future(self.execute(request, reader, writer))
+        ticket.work = work = asyncio.ensure_future(self.execute(request, reader, writer))
         try:
             await asyncio.wait([work, reader.gone], return_when=asyncio.FIRST_COMPLETED)
             return work.result() if work.done() else False

@@ -3,6 +3,8 @@
 Each function answers the value, or raises Refused with the program's line.
 """
 
+import re
+
 
 class Refused(Exception):
     """A fault of a file, whose text is the line on standard error."""
@@ -20,6 +22,10 @@ class Json:
     """A reader of JSON (RFC 8259) for texts in UTF-8, of at most 127 levels."""
 
     DEPTH = 127
+    # what is passed over at once: blanks, digits, and what a string holds that is no quote, no escape and no control
+    BLANKS = re.compile("[ \t\n\r]*")
+    DIGITS = re.compile("[0-9]+")
+    PLAIN = re.compile(r'[^"\\\x00-\x1f]+')
     ESCAPES = {'"': '"', "\\": "\\", "/": "/", "b": "\b", "f": "\f", "n": "\n", "r": "\r", "t": "\t"}
 
     def __init__(self, content):
@@ -33,8 +39,7 @@ class Json:
         return self.text[self.at : self.at + 1]
 
     def blank(self):
-        while self.peek() and self.peek() in " \t\n\r":
-            self.at += 1
+        self.at = self.BLANKS.match(self.text, self.at).end()
 
     def take(self, wanted):
         if not self.text.startswith(wanted, self.at):
@@ -97,13 +102,12 @@ class Json:
         self.list("}", depth, one)
         return found
 
-    def digits(self, alphabet="0123456789"):
-        begin = self.at
-        while self.peek() and self.peek() in alphabet:
-            self.at += 1
-        if begin == self.at:
+    def digits(self):
+        found = self.DIGITS.match(self.text, self.at)
+        if not found:
             raise NotJson
-        return self.text[begin : self.at]
+        self.at = found.end()
+        return found[0]
 
     def number(self):
         begin, is_whole = self.at, True
@@ -157,11 +161,13 @@ class Json:
         self.take('"')
         found = []
         while self.peek() != '"':
-            it = self.peek()
-            if not it or it < " ":
-                raise NotJson
-            self.at += 1
-            found.append(self.escape() if it == "\\" else it)
+            if plain := self.PLAIN.match(self.text, self.at):
+                found.append(plain[0])
+                self.at = plain.end()
+            else:
+                # a control, the end of the text, or an escape
+                self.take("\\")
+                found.append(self.escape())
         self.at += 1
         return "".join(found)
 

@@ -26,6 +26,9 @@ class Json:
     BLANKS = re.compile("[ \t\n\r]*")
     DIGITS = re.compile("[0-9]+")
     PLAIN = re.compile(r'[^"\\\x00-\x1f]+')
+    # a string without escapes
+    SIMPLE = re.compile(r'"([^"\\\x00-\x1f]*)"')
+    WORDS = {"t": ("true", True), "f": ("false", False), "n": ("null", None)}
     ESCAPES = {'"': '"', "\\": "\\", "/": "/", "b": "\b", "f": "\f", "n": "\n", "r": "\r", "t": "\t"}
 
     def __init__(self, content):
@@ -62,11 +65,11 @@ class Json:
             return self.items(depth + 1)
         if begin == '"':
             return self.string()
-        for word, value in (("true", True), ("false", False), ("null", None)):
-            if self.text.startswith(word, self.at):
-                self.at += len(word)
-                return value
-        return self.number()
+        if begin not in self.WORDS:
+            return self.number()
+        word, value = self.WORDS[begin]
+        self.take(word)
+        return value
 
     def list(self, close, depth, one):
         if depth > self.DEPTH:
@@ -158,6 +161,9 @@ class Json:
         return chr(high)
 
     def string(self):
+        if simple := self.SIMPLE.match(self.text, self.at):
+            self.at = simple.end()
+            return simple[1]
         self.take('"')
         found = []
         while self.peek() != '"':

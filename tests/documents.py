@@ -99,7 +99,7 @@ with open(os.path.join(TOP, "docs", "SERVE.md"), encoding="utf-8") as page, open
     options = set(re.findall(r'add_argument\("(--[a-z-]+)"', gateway.read()))
 tally.check("docs/SERVE.md: options of the gateway", set(re.findall(r"--[a-z-]+", "".join(shown.values()))) - options, set())
 copied = [it for line in re.findall(r"^COPY (.*) \S+$", shown["dockerfile"], re.M) for it in line.split()]
-tally.check("docs/SERVE.md: files of the container", (len(copied), [it for it in copied if not os.path.isfile(os.path.join(TOP, it))]), (3, []))
+tally.check("docs/SERVE.md: files of the container", (len(copied), [it for it in copied if not os.path.isfile(os.path.join(TOP, it))]), (4, []))
 
 # each fault that a table lists is one that its sources have, and the other way round, with a place or without
 page = open(os.path.join(TOP, "docs", "FORMATS.md"), encoding="utf-8").read()
@@ -134,7 +134,7 @@ for example in sorted(os.listdir(os.path.join(TOP, "examples"))):
     if os.path.isdir(os.path.join(TOP, "examples", example)):
         names = sorted(it for it in os.listdir(os.path.join(TOP, "examples", example)) if it != "__pycache__")
         level = ["config.json", "requests.json", "script.txt"]
-        wanted = {"audit": ["audit.log", "trace.jsonl"], "gateway": ["backend.py", "gateway.py"], "noisy-client": ["config.json", "picture.svg", *level[1:], "trace.jsonl"]}.get(example, level)
+        wanted = {"audit": ["audit.log", "trace.jsonl"], "gateway": ["backend.py", "gateway.py", "http1.py"], "noisy-client": ["config.json", "picture.svg", *level[1:], "trace.jsonl"]}.get(example, level)
         tally.check(f"examples/{example}", names, wanted)
         shown = [it for it in ("README.md", os.path.join("docs", "FORMATS.md")) if f"examples/{example}/{wanted[0]}" in open(os.path.join(TOP, it)).read()]
         tally.check(f"examples/{example} is shown", len(shown) > 0, True)

@@ -262,6 +262,17 @@ tally.check("a client that leaves while it waits", (numbers["current_inqueue_req
 runs.close()
 tally.check("a client that leaves while it executes", door.until(is_idle)["current_executing_seats"], 0)
 tally.check("the one that left was not passed on", backend.came, ["/runs"])
+# and one that stays, and sends so much behind its request that the gateway reads no further: it is not taken for one that left
+stays = socket.create_connection(("127.0.0.1", door.port), timeout=MOST)
+stays.sendall(b"GET /stays HTTP/1.1\r\nHost: there\r\n\r\n" + b"x" * 600_000)
+backend.wait(lambda came: "/stays" in came)
+# much is done meanwhile, so that Python looks for what nobody uses any more
+tally.check("a client that stays", {door.numbers()["current_executing_requests"] for _ in range(100)}, {1})
+with contextlib.suppress(OSError):
+    backend.answer("/stays")
+with contextlib.suppress(OSError):
+    tally.check("and has its answer", stays.recv(100).startswith(b"HTTP/1.1 200 OK"), True)
+tally.check("whose seats come back", door.until(is_idle)["current_executing_seats"], 0)
 door.end()
 
 # a number is used again: a level of three slots serves a hundred requests, and says where more come at once
@@ -406,8 +417,14 @@ tally.check("none of them reached the backend", len(backend.came), came)
 tally.check("none of them asked for a seat", door.until(is_idle)["dispatched_requests_total"], dispatched)
 
 # what a header is of one connection alone is not passed on
-asked_raw(b"GET /hop HTTP/1.1\r\nHost: there\r\nConnection: close, X-Mine\r\nX-Mine: 1\r\nX-Other: 2\r\nKeep-Alive: 3\r\n\r\n")
+found = asked_raw(b"GET /hop HTTP/1.1\r\nHost: there\r\nConnection: X-Mine,close\r\nX-Mine: 1\r\nX-Other: 2\r\nKeep-Alive: 3\r\n\r\n" + NEXT)
 tally.check("headers that are passed on", [it in backend.fields["/hop"] for it in (b"x-mine", b"x-other", b"keep-alive")], [False, True, False])
+tally.check("a connection that is to be closed, beside another word", (found.count(b"HTTP/1.1 200"), b"Connection: close" in found), (1, True))
+# but how long a body is, and for whom it is, whatever a client says of them
+found = asked_raw(b"POST /kept HTTP/1.1\r\nHost: there\r\nConnection: close, Content-Length, Host\r\nContent-Length: 3\r\n\r\nabc")
+tally.check("a length that a client calls one connection's is passed on", (found.partition(b"\r\n\r\n")[2], backend.fields["/kept"].get(b"host")), (b"/keptabc", b"there"))
+found = asked_raw(b"POST /kept HTTP/1.1\r\nHost: there\r\nConnection: close, Transfer-Encoding\r\nTransfer-Encoding: chunked\r\n\r\n3\r\nabc\r\n0\r\n\r\n")
+tally.check("and so are chunks", found.partition(b"\r\n\r\n")[2], b"/keptabc")
 
 # a request without the header is of the flow of its client's address, and a bad width is 1
 backend.at_once = False

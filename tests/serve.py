@@ -6,6 +6,8 @@ whole of what is promised, and takes two minutes.
 """
 
 import contextlib
+import functools
+import hashlib
 import json
 import os
 import random
@@ -47,6 +49,12 @@ def config(**more):
         "limitResponse": draw.choice(["Queue", "Queue", "Queue", "Reject"]),
         **more,
     }
+
+
+@functools.lru_cache(maxsize=None)
+def file_of(text):
+    """The file of this config, which is written once."""
+    return files(f"config-{hashlib.sha256(text.encode()).hexdigest()[:16]}", text)
 
 
 def service_of(level, *how, **more):
@@ -176,7 +184,7 @@ def first_difference(got, want):
 
 def serve(content, level, *words, **how):
     """The status, the output and the errors of a session with this input."""
-    done = subprocess.run([program, "serve", files("config", json.dumps(level)), *words], input=content, capture_output=True, timeout=2 * MOST, **how)
+    done = subprocess.run([program, "serve", file_of(json.dumps(level)), *words], input=content, capture_output=True, timeout=2 * MOST, **how)
     return done.returncode, done.stdout, done.stderr
 
 
@@ -185,7 +193,7 @@ class Conversation:
 
     def __init__(self, level, *words, **how):
         self.process = subprocess.Popen(
-            [program, "serve", files("config", json.dumps(level)), *words], stdin=subprocess.PIPE, stdout=subprocess.PIPE, stderr=subprocess.PIPE, bufsize=0, **how
+            [program, "serve", file_of(json.dumps(level)), *words], stdin=subprocess.PIPE, stdout=subprocess.PIPE, stderr=subprocess.PIPE, bufsize=0, **how
         )
         self.told, self.ends = b"", time.monotonic() + MOST
 
@@ -236,6 +244,8 @@ KINDS = ["arrive N execute", "arrive N queued", "arrive N queue-full", "arrive N
 KINDS += ["finish N", "finish N not running", "cancel N cancelled", "cancel N execute", "limit N was", "close first", "close already", "level open", "level closed", "queue N waiting", "end", "# EOF"]
 KINDS += ["dispatch N queue", "strike N queue", "fault N bad line", "fault N bad number", "fault N N is there", "fault N N is not there", "fault N this is not JSON", "fault N bad limit"]
 KINDS += ["fault N truncated", "fault N the key", "fault N width is", "fault N cost is", "fault N hash"]
+# words that are numbers
+NUMBERS = re.compile(r"(?<![^ ])[0-9]+(?![^ ])")
 seen = dict.fromkeys([*KINDS, "a number that is used again"], 0)
 for number in range(SESSIONS):
     level, slots = config(), draw.choice([1, 2, 3, 5, 20, 100, 10_000])
@@ -249,9 +259,9 @@ for number in range(SESSIONS):
     want = "".join(f"{it}\n" for it in [service_of(level, slots, name).first(), *sum(answers, [])] + ([f"fault {len(lines) + 1} truncated"] if rest else []) + service.book()).encode()
     status, out, err = serve(content, level, *words)
     tally.check(f"session {number} of {level}, {words}: {content}", (status, first_difference(out, want), err), (0, "no difference", b""))
-    shapes = {" ".join("N" if word.isdigit() else word for word in line.split()) for line in want.decode().split("\n")}
+    shapes = "".join(f"\n{it} " for it in {NUMBERS.sub("N", line) for line in want.decode().split("\n")})
     for kind in KINDS:
-        seen[kind] += any(f"{shape} ".startswith(f"{kind} ") for shape in shapes)
+        seen[kind] += f"\n{kind} " in shapes
     seen["a number that is used again"] += len(service.requests) > len(set(service.number.values()))
 for what, count in seen.items():
     tally.check(f"many sessions have a line with {what}: {count}", count >= min(60, SESSIONS // 30), True)
@@ -388,11 +398,11 @@ for name, does in (("ends", signal.SIG_DFL), ("ignored", signal.SIG_IGN)):
     tally.check(f"a closed output, SIGPIPE {name}: what it says", talk.process.stderr.read(), b"apf: cannot write\n")
     reading, writing = os.pipe()
     os.close(reading)
-    done = subprocess.run([program, "serve", files("config", json.dumps(ONE))], stdin=subprocess.DEVNULL, stdout=writing, stderr=subprocess.PIPE, timeout=MOST, **how)
+    done = subprocess.run([program, "serve", file_of(json.dumps(ONE))], stdin=subprocess.DEVNULL, stdout=writing, stderr=subprocess.PIPE, timeout=MOST, **how)
     os.close(writing)
     tally.check(f"an output that was never open, SIGPIPE {name}", (done.returncode, done.stderr), (1, b"apf: cannot write\n"))
 with open("/dev/full", "wb") as full:
-    done = subprocess.run([program, "serve", files("config", json.dumps(ONE))], stdin=subprocess.DEVNULL, stdout=full, stderr=subprocess.PIPE, timeout=MOST)
+    done = subprocess.run([program, "serve", file_of(json.dumps(ONE))], stdin=subprocess.DEVNULL, stdout=full, stderr=subprocess.PIPE, timeout=MOST)
 tally.check("a full disk", (done.returncode, done.stderr), (1, b"apf: cannot write\n"))
 
 # a client that never reads: the process stands still, and takes no more of its input

@@ -194,6 +194,18 @@ alone = ("1 passed, 0 failed", 0, "os.mkdir('busy')\ntime.sleep(0.3)\nos.rmdir('
 status, lines, calls = tested("one processor", WELL, alone, alone, alone, processors=1)
 tally.check("test: one processor, one script at once", (status, lines[-1]), (0, "6 passed, 0 failed"))
 
+# those that take longest begin first, whatever their names are, and what they say stands in the order of the names
+longest = re.search(r'^longest="(.*)"$', open(os.path.join(TOP, "test")).read(), re.M)[1].split()
+tally.check("test: those that take longest are scripts", [it for it in longest if not os.path.isfile(os.path.join(TOP, "tests", f"{it}.py"))], [])
+top = test_of("longest first", plain, processors=1)
+for name in (longest[1], longest[0]):
+    write(os.path.join(top, "tests", f"{name}.py"), f"open('begun', 'a').write('{name} ')\nprint('1 passed, 0 failed')\n")
+write(os.path.join(top, "tests", "0.py"), "open('begun', 'a').write('0 ')\nprint('1 passed, 0 failed')\n")
+lines = begun(top, WELL).communicate(timeout=60)[0].split("\n")[:-1]
+tally.check("test: the longest begins first", open(os.path.join(top, "begun")).read().split(), [*longest[:2], "0"])
+named = [it for it in lines if it.startswith("== python3")]
+tally.check("test: and what it says stands in the order of the names", (named, lines[-1]), ([f"== python3 tests/{it}.py" for it in sorted(["0", *longest[:2]])], "6 passed, 0 failed"))
+
 # an interrupt of the one process ends the scripts and what they run, and counts as a failure
 for signal in ("INT", "TERM"):
     waits = "child = subprocess.Popen(['sleep', '300'])\nopen('pid.new', 'w').write(f'{os.getpid()} {child.pid}')\nos.rename('pid.new', 'pid')\ntime.sleep(300)"

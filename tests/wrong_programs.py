@@ -2,6 +2,7 @@
 
 Each wrong program stands in front of the built one. APF_PROGRAM names it to the script; APF_SPOILED leaves out random files, APF_ROUNDS runs of many requests,
 APF_TRACES most of the drawn traces, APF_SESSIONS most of the drawn sessions of a live level, and APF_REQUESTS most of the requests that pass through it.
+APF_STOPS_AT ends a script at the row, which has failed then.
 """
 
 import os
@@ -226,7 +227,7 @@ def tried(wrong):
         with open(path, "w") as file:
             file.write(text)
         os.chmod(path, 0o755)
-    done = subprocess.run([sys.executable, os.path.join(HERE, script)], env=dict(os.environ, APF_PROGRAM=path, APF_SPOILED="0", APF_ROUNDS="1", APF_TRACES="20", APF_SESSIONS="60", APF_REQUESTS="30000"), capture_output=True, timeout=600)
+    done = subprocess.run([sys.executable, os.path.join(HERE, script)], env=dict(os.environ, APF_PROGRAM=path, APF_SPOILED="0", APF_ROUNDS="1", APF_TRACES="20", APF_SESSIONS="60", APF_REQUESTS="30000", APF_STOPS_AT=row), capture_output=True, timeout=600)
     lines = done.stdout.decode(errors="replace").split("\n")
     return name, (done.returncode, any(line.startswith(row) for line in lines), done.stderr), lines
 

@@ -4,12 +4,15 @@
 usage: gateway.py --listen 127.0.0.1:8080 --backend 127.0.0.1:9000 --config CONFIG [--patience 15]
                   [--flow-header X-Remote-User] [--admin 127.0.0.1:8081] [--apf PROGRAM] [--slots 10000]
 
-Each request is of a flow: the value of the flow header, or the client's address. It takes as many seats as its header X-Seats says, 1 if it has none.
-The level decides: the request is passed on to the backend, or it waits, or it is answered 429. A request whose patience ends is answered 503. One
-whose client goes away is cancelled. Seats are given back when the answer is over, however it ends.
+Each request is of a flow: the value of the flow header, or the client's address. It takes as many seats as its header
+X-Seats says, 1 if it has none. The level decides: the request is passed on to the backend, or it waits, or it is
+answered 429. A request whose patience ends is answered 503. One whose client goes away is cancelled. Seats are given
+back when the answer is over, however it ends.
 
-The level is `apf serve` behind a pipe. Where it dies it is started again: what runs is tried in first, and what waited arrives again. Until then at
-most as many seats are used as the limit says, and nobody waits.
+The level is `apf serve` behind a pipe. Where it dies it is started again: what runs is tried in first, and what waited
+arrives again. Until then at most as many seats are used as the limit says, and nobody waits.
+
+This file has the level and who is there. How HTTP is read and passed on stands in http1.py beside it.
 """
 
 import argparse
@@ -21,24 +24,11 @@ import os
 import re
 import sys
 
-HEAD = 65_536
-HOP = {b"connection", b"keep-alive", b"proxy-connection", b"te", b"trailer", b"upgrade"}
-NAME = re.compile(rb"[!#$%&'*+.^_`|~0-9A-Za-z-]+")
-CHUNK = re.compile(rb"[0-9A-Fa-f]{1,15}(;[^\r\n]*)?\r\n")
-# more bytes than there are
-ALL = 1 << 62
-
-
-class Gone(Exception):
-    """The client, or the backend, went away."""
+from http1 import BROKEN, HEAD, Gone, Reader, answer_from, message_from, pass_answer, pass_body, say
 
 
 class Turned(Exception):
     """The request is not passed on: a status, and why."""
-
-
-# what ends one connection, and no other
-BROKEN = (Gone, OSError, EOFError, asyncio.LimitOverrunError, ValueError)
 
 
 class Ticket:
@@ -48,6 +38,8 @@ class Ticket:
         self.number, self.width, self.runs = number, width, False
         self.asks = json.dumps({"schema": "gateway", "distinguisher": flow, "width": width})
         self.told = asyncio.get_running_loop().create_future()
+        # while it executes: the event loop itself keeps no task that waits, so it is kept here
+        self.work = None
 
     def tell(self, decision):
         # the first that is said holds
@@ -64,6 +56,7 @@ class Level:
         self.asked, self.process, self.limit, self.is_up = collections.deque(), None, 1, False
 
     async def start(self):
+        """Starts the program, and answers whether its first line is there: the level is open then."""
         try:
             self.process = await asyncio.create_subprocess_exec(*self.words, stdin=-1, stdout=-1, limit=1 << 20)
         except OSError as why:
@@ -83,7 +76,10 @@ class Level:
             self.is_up = True
             # who runs has its seats already, or runs on without where they do not fit; who waited arrives again
             for it in sorted(self.there.values(), key=lambda it: not it.runs):
-                self.ask(f"{'try' if it.runs else 'arrive'} {it.number} {it.asks}", (lambda lines: None) if it.runs else self.arrived(it))
+                if it.runs:
+                    self.ask(f"try {it.number} {it.asks}", lambda lines: None)
+                else:
+                    self.ask(f"arrive {it.number} {it.asks}", self.arrived(it))
             # a line without its end is of a level that died while it wrote, and says nothing
             while (line := await self.process.stdout.readline()).endswith(b"\n"):
                 self.heard(line.decode().rstrip("\n"))
@@ -103,11 +99,13 @@ class Level:
         self.process.stdin.write(line.encode() + b"\n")
 
     async def answer(self, line, ends=lambda lines: True):
+        """Sends a command, and waits for the lines of its answer."""
         told = asyncio.get_running_loop().create_future()
         self.ask(line, lambda lines: told.done() or told.set_result(lines), ends)
         return await told
 
     def heard(self, line):
+        """A line of the level: the dispatch of a request that waited, or one of the answer to the oldest command."""
         words = line.split()
         if words[0] == "dispatch":
             self.there[int(words[1])].tell("execute")
@@ -129,7 +127,10 @@ class Level:
         return told
 
     async def enter(self, flow, width, gone, patience):
-        """The ticket of a request that executes; else an error says why it does not. `gone` ends when its client goes away."""
+        """The ticket of a request that executes; else an error says why it does not.
+
+        `gone` ends when its client goes away.
+        """
         if not self.free:
             raise Turned("429 Too Many Requests", "too many requests at the gateway")
         ticket = Ticket(self.free.popleft(), flow, width)
@@ -162,100 +163,9 @@ class Level:
         self.free.append(ticket.number)
 
 
-class Reader(asyncio.StreamReader):
-    """A connection's bytes, which knows when the other side has gone."""
-
-    def __init__(self):
-        super().__init__(limit=HEAD)
-        self.gone = asyncio.get_running_loop().create_future()
-
-    def feed_eof(self):
-        super().feed_eof()
-        self.gone.done() or self.gone.set_result(None)
-
-    def set_exception(self, why):
-        super().set_exception(why)
-        self.gone.done() or self.gone.set_result(None)
-
-
-class Message:
-    """The head of a request or an answer, and how its body ends."""
-
-    def __init__(self, head):
-        self.first, *rest = head[:-4].split(b"\r\n")
-        self.fields = [(name, value.strip()) for name, _, value in (it.partition(b":") for it in rest)]
-        lengths, codings = self.values(b"content-length"), self.values(b"transfer-encoding")
-        self.chunked, self.length = bool(codings), int(lengths[0]) if lengths and lengths[0].isdigit() else None
-        # what two readers could read differently is not clear: how the body ends is said once at most, and a line is a name, a colon and a value
-        is_framed_once = not lengths + codings or (len(lengths + codings) == 1 and (self.length is not None or codings[:1] == [b"chunked"]))
-        text = b"".join([self.first, *(value for _, value in self.fields)])
-        self.is_clear = is_framed_once and all(NAME.fullmatch(name) for name, _ in self.fields) and not re.search(rb"[\r\n\0]", text)
-
-    def values(self, name):
-        return [value for key, value in self.fields if key.lower() == name]
-
-    def value(self, name):
-        return b", ".join(self.values(name))
-
-    def head(self, *more):
-        hop = HOP.union(re.split(rb"[ \t]*,[ \t]*", self.value(b"connection").lower()))
-        kept = [(name, value) for name, value in self.fields if name.lower() not in hop]
-        return b"\r\n".join([self.first, *(name + b": " + value for name, value in [*kept, *more]), b"", b""])
-
-
-async def message_from(reader):
-    try:
-        message = Message(await reader.readuntil(b"\r\n\r\n"))
-    except BROKEN as why:
-        raise Gone from why
-    if len(message.first.split()) < 2:
-        raise Gone
-    return message
-
-
-async def answered(writer, status, text, more=""):
-    """An answer of the gateway's own, behind which the connection ends."""
-    head = f"HTTP/1.1 {status}\r\n{more}Content-Type: text/plain; version=0.0.4\r\nConnection: close\r\nContent-Length: {len(text)}\r\n\r\n"
-    writer.write(head.encode() + text)
-    await writer.drain()
-    return False
-
-
-async def pass_bytes(left, reader, writer):
-    """Passes so many bytes on, or all to the end."""
-    while left > 0:
-        part = await reader.read(min(left, HEAD))
-        if not part and left < ALL:
-            raise Gone
-        if not part:
-            return
-        left -= len(part) if left < ALL else 0
-        writer.write(part)
-        await writer.drain()
-
-
-async def pass_on(message, reader, writer, otherwise):
-    """Passes a body on: chunks, or as many bytes as its head says, and otherwise so many."""
-    if not message.chunked:
-        return await pass_bytes(otherwise if message.length is None else message.length, reader, writer)
-    size = -1
-    while size:
-        line = await reader.readuntil(b"\r\n")
-        if not CHUNK.fullmatch(line):
-            raise Gone
-        size = int(line.split(b";")[0], 16)
-        writer.write(line)
-        await pass_bytes(size, reader, writer)
-        # behind a chunk stands an empty line, and behind the last one trailers may stand
-        while (line := await reader.readuntil(b"\r\n")) != b"\r\n":
-            if size:
-                raise Gone
-            writer.write(line)
-        writer.write(line)
-    await writer.drain()
-
-
 class Gateway:
+    """What is done for each connection: requests are passed on when the level says so, and the admin's pages shown."""
+
     def __init__(self, level, asked):
         self.level, self.asked = level, asked
 
@@ -267,9 +177,9 @@ class Gateway:
         writer.close()
 
     async def one(self, request, reader, writer):
+        """One request, from its arrival at the level to its end there. Answers whether the connection goes on."""
         if not request.is_clear:
-            await answered(writer, "400 Bad Request", b"the head of the request is not clear\n")
-            return False
+            return await say(writer, "400 Bad Request", b"the head of the request is not clear\n")
         name = request.value(self.asked.flow_header.lower().encode())
         flow = name.decode("latin-1") if name else (writer.get_extra_info("peername") or [""])[0]
         seats = request.value(b"x-seats") or b"1"
@@ -278,9 +188,8 @@ class Gateway:
             ticket = await self.level.enter(flow, width, reader.gone, self.asked.patience)
         except Turned as why:
             status, reason = why.args
-            await answered(writer, status, f"{reason}\n".encode(), "Retry-After: 1\r\n")
-            return False
-        work = asyncio.ensure_future(self.execute(request, reader, writer))
+            return await say(writer, status, f"{reason}\n".encode(), "Retry-After: 1\r\n")
+        ticket.work = work = asyncio.ensure_future(self.execute(request, reader, writer))
         try:
             await asyncio.wait([work, reader.gone], return_when=asyncio.FIRST_COMPLETED)
             return work.result() if work.done() else False
@@ -293,40 +202,21 @@ class Gateway:
         try:
             there, back = await asyncio.open_connection(*self.asked.backend, limit=HEAD)
         except OSError:
-            return await answered(writer, "502 Bad Gateway", b"the backend is not there\n")
+            return await say(writer, "502 Bad Gateway", b"the backend is not there\n")
         back.write(request.head((b"Connection", b"close")))
         if request.value(b"expect").lower() == b"100-continue":
             writer.write(b"HTTP/1.1 100 Continue\r\n\r\n")
         # the answer may come before the whole body is sent; a body that breaks off ends the backend's connection
-        sends = asyncio.ensure_future(pass_on(request, reader, back, 0))
+        sends = asyncio.ensure_future(pass_body(request, reader, back, 0))
         sends.add_done_callback(lambda it: it.cancelled() or (it.exception() and back.close()))
         try:
-            answer = await self.answer_from(there)
+            answer = await answer_from(there)
             if not answer:
-                return await answered(writer, "502 Bad Gateway", b"the backend does not answer\n")
-            return await self.answer(request, answer, there, writer) and sends.done() and not sends.exception()
+                return await say(writer, "502 Bad Gateway", b"the backend does not answer\n")
+            return await pass_answer(request, answer, there, writer) and sends.done() and not sends.exception()
         finally:
             sends.cancel()
             back.close()
-
-    async def answer_from(self, there):
-        """The head of the backend's answer, behind those that only say that it goes on; none where it breaks off."""
-        with contextlib.suppress(Gone):
-            while (answer := await message_from(there)).first.split()[1].startswith(b"1"):
-                pass
-            return answer
-
-    async def answer(self, request, answer, there, writer):
-        """Passes the backend's answer back. Answers whether it has an end of its own, and the client wants to go on."""
-        bare = request.first.startswith(b"HEAD ") or answer.first.split()[1] in (b"204", b"304")
-        is_framed = bare or answer.chunked or answer.length is not None
-        goes_on = is_framed and request.value(b"connection").lower() != b"close" and not request.first.endswith(b"/1.0")
-        answer.first = b"HTTP/1.1 " + answer.first.partition(b" ")[2]
-        writer.write(answer.head((b"Connection", b"keep-alive" if goes_on else b"close")))
-        if not bare:
-            await pass_on(answer, there, writer, ALL)
-        await writer.drain()
-        return goes_on
 
     async def show(self, reader, writer):
         """The admin's pages: the metrics, and the queues."""
@@ -336,15 +226,25 @@ class Gateway:
             if path in pages:
                 command, last = pages[path]
                 lines = await self.level.answer(command, lambda lines: lines[-1] == last)
-                await answered(writer, "200 OK" if lines else "503 Service Unavailable", "".join(f"{it}\n" for it in lines).encode())
+                status = "200 OK" if lines else "503 Service Unavailable"
+                await say(writer, status, "".join(f"{it}\n" for it in lines).encode())
             else:
-                await answered(writer, "404 Not Found", b"no such page\n")
+                await say(writer, "404 Not Found", b"no such page\n")
         writer.close()
 
 
 def address_of(text):
     host, _, port = text.rpartition(":")
     return host.strip("[]"), int(port)
+
+
+async def listen(serve, where):
+    """Serves each connection to this address."""
+
+    def connected():
+        return asyncio.StreamReaderProtocol(Reader(), serve)
+
+    return await asyncio.get_running_loop().create_server(connected, *where, backlog=1024)
 
 
 async def main():
@@ -361,9 +261,10 @@ async def main():
     level = Level([asked.apf, "serve", asked.config, "--slots", str(asked.slots)], asked.slots)
     if not await level.start():
         sys.exit(1)
-    gateway, loop = Gateway(level, asked), asyncio.get_running_loop()
-    doors = [(gateway.serve, asked.listen)] + ([(gateway.show, asked.admin)] if asked.admin else [])
-    servers = [await loop.create_server(lambda serve=serve: asyncio.StreamReaderProtocol(Reader(), serve), *where, backlog=1024) for serve, where in doors]
+    gateway = Gateway(level, asked)
+    servers = [await listen(gateway.serve, asked.listen)]
+    if asked.admin:
+        servers.append(await listen(gateway.show, asked.admin))
     print("gateway: listens on", *("%s:%d" % it.sockets[0].getsockname()[:2] for it in servers), flush=True)
     await level.keep()
 

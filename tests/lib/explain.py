@@ -70,6 +70,7 @@ def found(value):
 # ---- bytes that are no JSON
 
 BLANKS = " \t\n\r"
+BLANK = re.compile(f"[{BLANKS}]*")
 # what may stand behind a number or a word
 ENDS = BLANKS + "{}[]:,"
 TEXT = re.compile(r'"(?:[^"\\\x00-\x1f]|\\["\\/bfnrt]|\\u[0-9a-fA-F]{4})*"')
@@ -99,8 +100,7 @@ class Reader:
         self.came = "opening"
 
     def blank(self):
-        while self.here() and self.here() in BLANKS:
-            self.at += 1
+        self.at = BLANK.match(self.text, self.at).end()
 
     def here(self):
         return self.text[self.at : self.at + 1]
@@ -201,8 +201,7 @@ def is_front(text):
     """Whether the text is the front of a JSON text, or one in which only a text's escapes or a number's size are wrong and which is not at its end."""
     closes, wants, at = [], "value", 0
     while True:
-        while text[at : at + 1] and text[at] in BLANKS:
-            at += 1
+        at = BLANK.match(text, at).end()
         here = text[at : at + 1]
         if not here:
             return bool(closes) or wants != "behind"

@@ -109,7 +109,9 @@ class Files:
 
 
 class Tally:
-    """Counts checks, and names those that fail."""
+    """Counts checks, and names those that fail. Where APF_STOPS_AT is set, the first failure that begins so is the last check."""
+
+    STOPS_AT = os.environ.get("APF_STOPS_AT")
 
     def __init__(self):
         self.passed = 0
@@ -121,6 +123,8 @@ class Tally:
         else:
             self.failed += 1
             print(f"FAILED {name}\n  got  {got!r}\n  want {want!r}")
+            if self.STOPS_AT and f"FAILED {name}".startswith(self.STOPS_AT):
+                self.end()
 
     def end(self):
         print(f"{self.passed} passed, {self.failed} failed")

@@ -3,6 +3,8 @@
 Each function answers the value, or raises Refused with the program's line.
 """
 
+import re
+
 
 class Refused(Exception):
     """A fault of a file, whose text is the line on standard error."""
@@ -20,6 +22,13 @@ class Json:
     """A reader of JSON (RFC 8259) for texts in UTF-8, of at most 127 levels."""
 
     DEPTH = 127
+    # what is passed over at once: blanks, digits, and what a string holds that is no quote, no escape and no control
+    BLANKS = re.compile("[ \t\n\r]*")
+    DIGITS = re.compile("[0-9]+")
+    PLAIN = re.compile(r'[^"\\\x00-\x1f]+')
+    # a string without escapes
+    SIMPLE = re.compile(r'"([^"\\\x00-\x1f]*)"')
+    WORDS = {"t": ("true", True), "f": ("false", False), "n": ("null", None)}
     ESCAPES = {'"': '"', "\\": "\\", "/": "/", "b": "\b", "f": "\f", "n": "\n", "r": "\r", "t": "\t"}
 
     def __init__(self, content):
@@ -33,8 +42,7 @@ class Json:
         return self.text[self.at : self.at + 1]
 
     def blank(self):
-        while self.peek() and self.peek() in " \t\n\r":
-            self.at += 1
+        self.at = self.BLANKS.match(self.text, self.at).end()
 
     def take(self, wanted):
         if not self.text.startswith(wanted, self.at):
@@ -57,11 +65,11 @@ class Json:
             return self.items(depth + 1)
         if begin == '"':
             return self.string()
-        for word, value in (("true", True), ("false", False), ("null", None)):
-            if self.text.startswith(word, self.at):
-                self.at += len(word)
-                return value
-        return self.number()
+        if begin not in self.WORDS:
+            return self.number()
+        word, value = self.WORDS[begin]
+        self.take(word)
+        return value
 
     def list(self, close, depth, one):
         if depth > self.DEPTH:
@@ -97,13 +105,12 @@ class Json:
         self.list("}", depth, one)
         return found
 
-    def digits(self, alphabet="0123456789"):
-        begin = self.at
-        while self.peek() and self.peek() in alphabet:
-            self.at += 1
-        if begin == self.at:
+    def digits(self):
+        found = self.DIGITS.match(self.text, self.at)
+        if not found:
             raise NotJson
-        return self.text[begin : self.at]
+        self.at = found.end()
+        return found[0]
 
     def number(self):
         begin, is_whole = self.at, True
@@ -154,14 +161,19 @@ class Json:
         return chr(high)
 
     def string(self):
+        if simple := self.SIMPLE.match(self.text, self.at):
+            self.at = simple.end()
+            return simple[1]
         self.take('"')
         found = []
         while self.peek() != '"':
-            it = self.peek()
-            if not it or it < " ":
-                raise NotJson
-            self.at += 1
-            found.append(self.escape() if it == "\\" else it)
+            if plain := self.PLAIN.match(self.text, self.at):
+                found.append(plain[0])
+                self.at = plain.end()
+            else:
+                # a control, the end of the text, or an escape
+                self.take("\\")
+                found.append(self.escape())
         self.at += 1
         return "".join(found)
 

@@ -156,6 +156,9 @@ class Picture:
         self.entered = {request: queue for kind, request, queue in run.level.log if kind == "enter"}
         self.queues = sorted(set(self.entered.values()))
         self.times = [column * self.end // COLUMNS for column in range(COLUMNS)]
+        # when requests execute, and how wide they are: of the rows up to each one; and when they wait, of each queue
+        self.executing = [self.executing_in(self.rows[: row + 1]) for row in range(OWN_ROWS + 1)]
+        self.waiting = {queue: [(self.begins(it), self.until(it)) for it, other in self.entered.items() if other == queue] for queue in self.queues}
         self.areas = [[self.seats(row, time) for time in self.times] for row in range(len(self.rows))]
         self.lengths = [[self.length(queue, time) for time in self.times] for queue in self.queues]
         # over time, and not at the columns alone: more are in use, or wait, only where one begins to
@@ -173,14 +176,17 @@ class Picture:
     def until(self, it):
         return self.begins(it) + self.run.wait(it)
 
+    def executing_in(self, rows):
+        members = [it for row in rows for it in row.members if it in self.run.started]
+        return [(self.until(it), self.until(it) + self.trace[it]["runsFor"], self.trace[it]["width"]) for it in members]
+
     def seats(self, row, time):
         """The seats in use at the time by the rows up to this one."""
-        members = [it for other in self.rows[: row + 1] for it in other.members if it in self.run.started]
-        return sum(self.trace[it]["width"] for it in members if self.until(it) <= time < self.until(it) + self.trace[it]["runsFor"])
+        return sum(width for begin, end, width in self.executing[row] if begin <= time < end)
 
     def length(self, queue, time):
         """How many stand in the queue at the time."""
-        return sum(1 for it, other in self.entered.items() if other == queue and self.begins(it) <= time < self.until(it))
+        return sum(1 for begin, end in self.waiting[queue] if begin <= time < end)
 
     # in words
 

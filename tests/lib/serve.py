@@ -21,8 +21,12 @@ MOST = 65_536
 # a number may have as many digits as a line has room for, where Python has a bound
 getattr(sys, "set_int_max_str_digits", int)(0)
 KEYS = ("schema", "distinguisher", "hash", "width", "cost")
-# the lines that are no more than words: a form, and whether a request's number stands in it
-PLAIN = [("finish", True), ("cancel", True), ("close", False), ("book", False), ("queues", False), ("metrics", False)]
+# the forms of a line: of an arrival, of a limit, and those that are no more than words, some with a request's number
+NUMBER = "(0|[1-9][0-9]*)"
+ARRIVAL = re.compile(rf"(arrive|try) {NUMBER} (\{{.*)", re.DOTALL)
+LIMIT = re.compile(f"limit {NUMBER}")
+NUMBERED = re.compile(f"(finish|cancel) {NUMBER}")
+WORDS = ("close", "book", "queues", "metrics")
 
 
 class Service:
@@ -59,13 +63,14 @@ class Service:
             text = line.decode()
         except UnicodeDecodeError:
             raise Refused("bad line") from None
-        if arrival := re.fullmatch(r"(arrive|try) (0|[1-9][0-9]*) (\{.*)", text, re.DOTALL):
+        if arrival := ARRIVAL.fullmatch(text):
             return self.arrival(arrival[1], int(arrival[2]), arrival[3])
-        if change := re.fullmatch(r"limit (0|[1-9][0-9]*)", text):
+        if change := LIMIT.fullmatch(text):
             return self.change(int(change[1]))
-        for word, is_numbered in PLAIN:
-            if found := re.fullmatch(rf"{word} (0|[1-9][0-9]*)" if is_numbered else word, text):
-                return getattr(self, word)(*([self.known(int(found[1]))] if is_numbered else []))
+        if found := NUMBERED.fullmatch(text):
+            return getattr(self, found[1])(self.known(int(found[2])))
+        if text in WORDS:
+            return getattr(self, text)()
         raise Refused("bad line")
 
     def judged(self, number):

@@ -1,0 +1,28 @@
+-- How many slots some workers have, and how many they are expected to give back.
+use Rattle.std.proofs.Common.{◌≡◌, ℕ, zero, suc, ◌+◌, ◌<◌, List, [], ◌∷◌, ◌++◌, length, get_or, set, All, refl, ap, arith}
+use Rattle.std.specs.declared.thread.PromisedHandle.{PromisedHandle}
+use Rattle.apf_life_run.specs.declared.crew.Share.{Share}
+use Rattle.apf_life_run.specs.Workers.{Load, IsIdle, held}
+use Rattle.apf_life_run.specs.Crews.{expected}
+
+pub none_held : (ws : List Load) → All IsIdle ws → held ws ≡ 0
+none_held [] none = refl
+none_held (w ∷ ws) none =
+    let here : length w.slots ≡ 0 = ap length (none 0 w (omega arith)).0 in
+    let rest : held ws ≡ 0 = none_held ws (λ k d low. none (suc k) d (omega arith)) in
+    omega (arith, here, rest)
+
+-- one of them has one more
+pub one_more_held : (ws : List Load) (at : ℕ) (w d : Load) → at < length ws → length w.slots ≡ length (get_or ws at d).slots + 1 → held (set ws at w) ≡ held ws + 1
+one_more_held [] at w d low is = absurd (omega arith)
+one_more_held (x ∷ ws) zero w d low is = omega (arith, is)
+one_more_held (x ∷ ws) (suc at) w d low is =
+    let rest : held (set ws at w) ≡ held ws + 1 = one_more_held ws at w d (omega arith) is in
+    omega (arith, rest)
+
+-- one handle more
+pub one_more_expected : {T : Type 0} (hs : List (PromisedHandle T Share)) (h : PromisedHandle T Share) → expected (hs ++ h ∷ []) ≡ expected hs + h.promise.count
+one_more_expected [] h = omega arith
+one_more_expected (x ∷ hs) h =
+    let rest = one_more_expected hs h in
+    omega (arith, rest)

@@ -1,0 +1,14 @@
+-- The slots of a gate that was just opened: no request came of any.
+use Rattle.std.proofs.Common.{◌≡◌, ℕ, zero, suc, ◌≤◌, refl, arith, All}
+use Rattle.std.proofs.lemmas.List.Elements.{All-push}
+use Rattle.apf_gate.specs.Tokens.{GateId}
+use Rattle.apf_gate.specs.Records.{new_pass}
+use Rattle.apf_gate.specs.Slots.{round_of}
+use Rattle.apf_gate.specs.Opens.{new_passes}
+use Rattle.apf_life_run.specs.Workers.{IsFirstOf}
+
+pub are_first : (gate : GateId) (n : ℕ) → n ≤ 10000 → All (IsFirstOf gate) (new_passes gate n)
+are_first gate zero few = λ k d low. absurd (omega arith)
+are_first gate (suc n) few =
+    let none : round_of n ≡ 0 = omega arith in
+    All-push (IsFirstOf gate) (new_passes gate n) (record { table = gate.table; pass = new_pass gate.shape n }) (are_first gate n (omega arith)) (refl, none)

@@ -1,0 +1,54 @@
+-- What the workers of a run in rounds give back, and what such a run tells.
+use Rattle.std.specs.Prelude.{◌≡◌, ℕ, ◌<◌, ◌≤◌, true, List, length, All, Some}
+use Rattle.apf_words.specs.declared.decision.Decision.TheVariants.{Cancelled}
+use Rattle.apf_model.specs.declared.config.Config.{Config}
+use Rattle.apf_files.specs.declared.requests.Request.{Request}
+use Rattle.apf_gate.specs.Slots.{slot_of, round_of}
+use Rattle.apf_gate.specs.Traces.{world_of}
+use Rattle.apf_gate.specs.Tokens.{GateId, PassToken, StationToken, pass_gate}
+use Rattle.apf_life.specs.Levels.{LifeId}
+use Rattle.apf_life.specs.declared.report.Report.{Report}
+use Rattle.apf_life.specs.Reports.{Ended}
+use Rattle.apf_run.specs.Plans.{SomeCloses, closes_at}
+use Rattle.apf_run.specs.Runs.{SeenClosed}
+use Rattle.apf_life_run.specs.Plans.{IsNamedIn, IsFaithful}
+use Rattle.apf_life_run.specs.Workers.{IsInRound}
+
+-- the slots and the Stations that came back
+pub record Returned : Type 0 where
+  pub dones : List PassToken
+  pub stations : List StationToken
+
+-- they are of this gate, each slot went through all rounds, the Stations are faithful, and one saw the level closed if a request closes it that came
+pub record AreFinished (gate : GateId) (requests : List Request) (rounds : ℕ) (r : Returned) : Type 0 where
+  pub own : All (λ (t : PassToken). pass_gate t ≡ gate) r.dones
+  pub through : All (IsInRound rounds) r.dones
+  pub faithful : All (IsFaithful gate requests rounds) r.stations
+  pub closed : All (λ (t : PassToken). 1 ≤ round_of t.pass.number → closes_at requests (slot_of t.pass.number) ≡ true → SeenClosed r.stations) r.dones
+
+-- a level of these settings, with so many slots
+pub record IsLevelFor (config : Config) (slots : ℕ) (k : LifeId) : Type 0 where
+  pub limit : k.gate.shape.limit ≡ config.limit
+  pub response : k.gate.shape.response ≡ config.limit_response
+  pub slots : k.gate.shape.slots ≡ slots
+  pub sizes : k.sizes ≡ record { deck = config.queues; hand = config.hand_size }
+  pub queue_limit : k.queue_limit ≡ config.queue_length_limit
+
+-- what a run of these requests tells, so many rounds, at a level of these settings
+pub record HasRunRounds (config : Config) (requests : List Request) (rounds : ℕ) (r : Report) : Type 0 where
+  -- a level of these settings ended so, with a slot for each request: drained; by a history that is legal and fair, and in which nobody waits; and with the counts of all requests that were ever decided
+  pub level : LifeId
+  pub of_settings : IsLevelFor config (length requests) level
+  pub slots : List PassToken
+  pub stations : List StationToken
+  pub ended : Ended level slots stations r
+  -- of each slot as many requests came as there are rounds
+  pub count : length slots ≡ length requests
+  pub through : All (IsInRound rounds) slots
+  -- the limit is that of the settings
+  pub limit : r.words.level.limit ≡ config.limit
+  -- each cancelled request came in one of the rounds, and some request names its slot
+  pub cancelled_is_named : (i : ℕ) → i < length level.gate.shape.widths → (world_of level.gate.shape ended.words_agree.trace).decision i ≡ Some Cancelled → IsNamedIn requests rounds i
+  -- the level is closed exactly if some request closes it
+  pub closed_is_said : r.words.level.closed ≡ true → SomeCloses requests
+  pub said_is_closed : SomeCloses requests → r.words.level.closed ≡ true

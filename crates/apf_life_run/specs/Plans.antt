@@ -1,7 +1,8 @@
 -- What the requests of a run in rounds ask of the workers' Stations.
-use Rattle.std.specs.Prelude.{◌≡◌, ℕ, ◌≤◌, List, length, All}
+use Rattle.std.specs.Prelude.{◌≡◌, ℕ, ◌+◌, ◌*◌, ◌≤◌, List, length, All, Option, Some, None, slice_get}
 use Rattle.apf_words.specs.Limits.{max_width, max_requests}
 use Rattle.apf_files.specs.declared.requests.Request.{Request}
+use Rattle.apf_gate.specs.declared.ticket.Ticket.{Ticket}
 use Rattle.apf_gate.specs.Gauges.{max_numbers}
 use Rattle.apf_gate.specs.Slots.{slot_of, round_of}
 use Rattle.apf_gate.specs.Tokens.{GateId, StationToken, station_gate}
@@ -12,9 +13,29 @@ use Rattle.apf_run.specs.Plans.{IsNamed, SomeCloses, SetTo}
 abbrev pub max_rounds : ℕ
 max_rounds = 1000000
 
+-- the number of a slot's request of this round, of this width
+abbrev pub number_of : ℕ → ℕ → ℕ → ℕ
+number_of slot round width = (round * 32768 + width) * 16384 + slot
+
+-- it is the ticket of a request of the slot, of this width, that comes in one of so many rounds
+pub record IsOfRounds (rounds slot width : ℕ) (ticket : Ticket) : Type 0 where
+  pub round : ℕ
+  pub came : 1 ≤ round
+  pub in_rounds : round ≤ rounds
+  pub is : ticket.number ≡ number_of slot round width
+
 -- the request asks for 1 to 20,000 seats
 abbrev pub HasWidth : Request → Type 0
 HasWidth request = (1 ≤ request.width) × (request.width ≤ max_width)
+
+-- the width of a slot's requests
+abbrev pub width_it_asks : Option Request → ℕ
+width_it_asks (Some request) = request.width
+width_it_asks None = 0
+
+-- the number of a slot's request of this round
+abbrev pub number_in : List Request → ℕ → ℕ → ℕ
+number_in requests slot round = number_of slot round (width_it_asks (slice_get requests slot))
 
 -- the request came in one of so many rounds, and some request names its slot to be cancelled
 pub record IsNamedIn (requests : List Request) (rounds : ℕ) (r : ℕ) : Type 0 where

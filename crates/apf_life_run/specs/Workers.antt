@@ -1,10 +1,11 @@
 -- What a worker has, and what all have together.
-use Rattle.std.specs.Prelude.{◌≡◌, ℕ, ◌+◌, ◌≤◌, true, List, [], ◌∷◌, length, All}
+use Rattle.std.specs.Prelude.{◌≡◌, ◌≢◌, ℕ, ◌+◌, ◌≤◌, true, List, [], ◌∷◌, length, All, None}
 use Rattle.apf_files.specs.declared.requests.Request.{Request}
+use Rattle.apf_gate.specs.Records.{told_of}
 use Rattle.apf_gate.specs.Slots.{slot_of, round_of}
 use Rattle.apf_gate.specs.Tokens.{GateId, PassToken, StationToken, pass_gate}
 use Rattle.apf_run.specs.Plans.{closes_at}
-use Rattle.apf_life_run.specs.Plans.{IsFaithful}
+use Rattle.apf_life_run.specs.Plans.{number_in, IsFaithful}
 
 -- its Station, the slots whose turn is yet to come in a round, and those whose turn was
 pub record Load : Type 0 where
@@ -20,17 +21,23 @@ IsInRound n t = round_of t.pass.number ≡ n
 abbrev pub IsFirstOf : GateId → PassToken → Type 0
 IsFirstOf gate t = (pass_gate t ≡ gate) × IsInRound 0 t
 
--- the Station saw the level closed, if a request of the slot came and closes it
-abbrev pub SawClosed : List Request → StationToken → PassToken → Type 0
-SawClosed requests station t = 1 ≤ round_of t.pass.number → closes_at requests (slot_of t.pass.number) ≡ true → station.station.knows.saw_closed ≡ true
+-- a Station that saw the level closed did so, and was told of whom it was told
+pub record KeepsKnowing (s s' : StationToken) : Type 0 where
+  pub closed : s.station.knows.saw_closed ≡ true → s'.station.knows.saw_closed ≡ true
+  pub told : (r : ℕ) → told_of s.station.knows.told r ≢ None → told_of s'.station.knows.told r ≢ None
 
--- all of it is of this gate, its Station is faithful, and it closed the level if a request of one of its slots does
+-- the Station saw the level closed, if a request of the slot came and closes it, and was told the decision of each request of the slot that came
+pub record IsKnown (requests : List Request) (s : StationToken) (t : PassToken) : Type 0 where
+  pub closed : 1 ≤ round_of t.pass.number → closes_at requests (slot_of t.pass.number) ≡ true → s.station.knows.saw_closed ≡ true
+  pub told : (round : ℕ) → 1 ≤ round → round ≤ round_of t.pass.number → told_of s.station.knows.told (number_in requests (slot_of t.pass.number) round) ≢ None
+
+-- all of it is of this gate, its Station is faithful, and knows its slots
 pub record IsLoadOf (gate : GateId) (requests : List Request) (rounds : ℕ) (load : Load) : Type 0 where
   pub faithful : IsFaithful gate requests rounds load.station
   pub own_slots : All (λ (t : PassToken). pass_gate t ≡ gate) load.slots
   pub own_over : All (λ (t : PassToken). pass_gate t ≡ gate) load.over
-  pub closed_slots : All (SawClosed requests load.station) load.slots
-  pub closed_over : All (SawClosed requests load.station) load.over
+  pub known_slots : All (IsKnown requests load.station) load.slots
+  pub known_over : All (IsKnown requests load.station) load.over
 
 -- it has no slot
 abbrev pub IsIdle : Load → Type 0

@@ -1,8 +1,8 @@
 //! Which request holds a slot now.
 
-ghost use Rattle.std.specs.Prelude.{◌≡◌, ◌%◌, ◌<◌, ◌≤◌, IfOk, IfSome};
+ghost use Rattle.std.specs.Prelude.{◌≡◌, ◌<◌, ◌≤◌, IfOk, IfSome};
 ghost use Rattle.apf_words.specs.Limits.{max_requests, max_width};
-ghost use Rattle.apf_gate.specs.Slots.{slot_of, mark_of, round_of};
+ghost use Rattle.apf_life_run.specs.Plans.{IsOfRounds};
 
 use crate::plan::Plan;
 use apf_gate::Ticket;
@@ -66,10 +66,7 @@ impl<K: Plan> Newest<K> {
         requires slot { slot < self.now }
         requires few { slot < max_requests }
         requires narrow { width ≤ max_width }
-        ensures slot { IfSome result (λ t. slot_of t.number ≡ slot) }
-        ensures came { IfSome result (λ t. 1 ≤ round_of t.number) }
-        ensures in_rounds { IfSome result (λ t. round_of t.number ≤ K.rounds) }
-        ensures width { IfSome result (λ t. mark_of t.number % 32768 ≡ width) }
+        ensures { IfSome result (IsOfRounds K.rounds slot width) }
     {
         let round = self.rounds[slot as usize].load(SeqCst);
         if round == 0 {

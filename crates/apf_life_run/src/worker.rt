@@ -1,10 +1,10 @@
 //! A worker of a run in rounds: its Station, and its share of the slots.
 
-ghost use Rattle.std.specs.Prelude.{◌≡◌, ◌+◌, ◌<◌, ◌≤◌, [], ◌∷◌, ◌++◌, length, true, Some, All, IfOk, IfSome, OnOk};
+ghost use Rattle.std.specs.Prelude.{◌≡◌, ◌+◌, ◌<◌, ◌≤◌, [], ◌∷◌, ◌++◌, length, true, IsTrue, Contains, All, IfOk, IfSome, OnOk};
 ghost use Rattle.apf_gate.specs.Slots.{IsTicket, slot_of, round_of};
 ghost use Rattle.apf_gate.specs.Tokens.{pass_gate};
-ghost use Rattle.apf_life_run.specs.Plans.{HasWidth, IsNamedIn, AreOrders};
-ghost use Rattle.apf_life_run.specs.Workers.{IsInRound, IsFirstOf, SawClosed, IsLoadOf, IsReady, IsThrough};
+ghost use Rattle.apf_life_run.specs.Plans.{number_of, HasWidth, IsNamedIn, AreOrders};
+ghost use Rattle.apf_life_run.specs.Workers.{IsInRound, IsFirstOf, KeepsKnowing, IsKnown, IsLoadOf, IsReady, IsThrough};
 
 use crate::newest::Newest;
 use crate::operator::Operator;
@@ -83,12 +83,11 @@ impl<'a, K: Plan, W: Work> Job<'a, K, W> {
         }
     }
 
-    // The request that holds the slot that the request names, if it names one and a request of that came.
+    // The request that holds the slot that this one names, if it names one and a request of that came.
     fn named_by(&self, request: Request) -> Option<Ticket>
+        requires planned { Contains K.requests request }
         ensures is_request { IfSome result (λ t. IsTicket K.level.gate.shape t.number) }
-        ensures slot { IfSome result (λ t. request.cancels ≡ Some (slot_of t.number)) }
-        ensures came { IfSome result (λ t. 1 ≤ round_of t.number) }
-        ensures in_rounds { IfSome result (λ t. round_of t.number ≤ K.rounds) }
+        ensures named { IfSome result (λ t. IsNamedIn K.requests K.rounds t.number) }
     {
         let other = request.cancels?;
         if other as usize >= self.requests.len() {
@@ -105,8 +104,8 @@ impl<'a, K: Plan, W: Work> Job<'a, K, W> {
         requires before { round_of slot.pass.number + 1 ≡ round }
         requires in_rounds { round ≤ K.rounds }
         ensures own { pass_gate result.token ≡ K.level.gate }
-        ensures slot { slot_of result.token.pass.number ≡ slot_of slot.pass.number }
-        ensures round { round_of result.token.pass.number ≡ round }
+        ensures number { result.token.pass.number ≡ number_of (slot_of slot.pass.number) round request.width }
+        ensures asks { (result.hash ≡ request.hash) × (result.cost ≡ request.width) }
     {
         let ask = Ask {
             width: request.width,
@@ -123,29 +122,32 @@ impl<'a, K: Plan, W: Work> Job<'a, K, W> {
     }
 }
 
-// Brings the slot's request of this round to its end: closes the level if the request says so, and waits until it is
-// decided. If it executes, it does its work, cancels and strikes whoever holds the slot that it names, gives its seats
-// back, and dispatches where requests wait.
-fn handle<K: Plan, W: Work, R: Wait>(
+// Closes the level, if the request says so.
+fn close_as_said<K: Plan>(level: &Level<K>, operator: &mut Operator<K>, request: Request)
+    requires planned { Contains K.requests request }
+    ensures closed { IsTrue request.closes → operator.new.station.knows.saw_closed ≡ true }
+    ensures knows { KeepsKnowing operator.old operator.new }
+{
+    if request.closes {
+        operator.close(level);
+    }
+}
+
+// Waits until the request is decided. If it executes, it does its work, cancels and strikes whoever holds the slot that
+// it names, gives its seats back, and dispatches where requests wait.
+fn finish<K: Plan, W: Work, R: Wait>(
     rt: &R,
     job: &Job<'_, K, W>,
     operator: &mut Operator<K>,
-    slot: Done,
-    round: u32,
+    request: Request,
+    pass: Pass,
 ) -> Done
-    requires own { pass_gate slot ≡ K.level.gate }
-    requires before { round_of slot.pass.number + 1 ≡ round }
-    requires in_rounds { round ≤ K.rounds }
+    requires own { pass_gate pass.token ≡ K.level.gate }
+    requires planned { Contains K.requests request }
     ensures own { pass_gate result ≡ K.level.gate }
-    ensures round { round_of result.pass.number ≡ round }
-    ensures closed { SawClosed K.requests operator.new result }
-    ensures stays_closed { operator.old.station.knows.saw_closed ≡ true → operator.new.station.knows.saw_closed ≡ true }
+    ensures same { result.pass.number ≡ pass.token.pass.number }
+    ensures knows { KeepsKnowing operator.old operator.new }
 {
-    let request = job.requests[slot.ticket().slot() as usize];
-    if request.closes {
-        operator.close(job.level);
-    }
-    let pass = job.next(slot, request, round);
     match job.level.admit(rt, pass) {
         Admit::Run(running) => {
             job.work.work(&running, request.work);
@@ -157,6 +159,33 @@ fn handle<K: Plan, W: Work, R: Wait>(
         }
         Admit::Over(done, _decision) => done,
     }
+}
+
+// Brings the slot's request of this round to its end, and hears how it was decided. It closes the level first, if the
+// request says so.
+fn handle<K: Plan, W: Work, R: Wait>(
+    rt: &R,
+    job: &Job<'_, K, W>,
+    operator: &mut Operator<K>,
+    slot: Done,
+    round: u32,
+) -> Done
+    requires own { pass_gate slot ≡ K.level.gate }
+    requires before { round_of slot.pass.number + 1 ≡ round }
+    requires in_rounds { round ≤ K.rounds }
+    requires known { IsKnown K.requests operator.old slot }
+    ensures own { pass_gate result ≡ K.level.gate }
+    ensures round { round_of result.pass.number ≡ round }
+    ensures known { IsKnown K.requests operator.new result }
+    ensures knows { KeepsKnowing operator.old operator.new }
+{
+    let request = job.requests[slot.ticket().slot() as usize];
+    close_as_said(job.level, operator, request);
+    let pass = job.next(slot, request, round);
+    let ticket = pass.ticket();
+    let slot = finish(rt, job, operator, request, pass);
+    operator.hear(rt, job.level, ticket);
+    slot
 }
 
 impl<K: Plan> Worker<K> {

@@ -33,15 +33,15 @@ as_many f zero ys apart all = omega arith
 as_many f (suc m) ys apart all =
     let last : Stands (f m) ys = all m (omega arith) in
     let rest = as_many f m (without (f m) ys last) (λ i j low below same. apart i j (omega (arith, low)) (omega (arith, below)) same)
-        (λ i low. still_stands (f m) (f i) ys last (all i (omega (arith, low))) (λ same. let e = apart i m (omega (arith, low)) (omega arith) same in omega (arith, e, low))) in
+    (λ i low. still_stands (f m) (f i) ys last (all i (omega (arith, low))) (λ same. let e = apart i m (omega (arith, low)) (omega arith) same in omega (arith, e, low))) in
     let one = shorter (f m) ys last in
     omega (arith, rest, one)
 
 -- a number that a list contains with some decision stands in it
+contained_at : (r : ℕ) (decision : Decision) (ys : List (ℕ × Decision)) (k : ℕ) → k < length ys → slice_index_or ys k (r, decision) ≡ (r, decision) → Stands r ys
+contained_at r decision [] k low is = absurd (omega arith)
+contained_at r decision (y ∷ ys) zero low is = inl (ap (λ (p : ℕ × Decision). p.0) is)
+contained_at r decision (y ∷ ys) (suc k) low is = inr (contained_at r decision ys k (omega (arith, low)) is)
+
 pub contained : (r : ℕ) (decision : Decision) (ys : List (ℕ × Decision)) → Contains ys (r, decision) → Stands r ys
-contained r decision [] has = absurd (let low = has.1 in omega (arith, low))
-contained r decision (y ∷ ys) has = at has.0 has.1 has.2
-  where
-    at : (k : ℕ) → k < length (y ∷ ys) → slice_index_or (y ∷ ys) k (r, decision) ≡ (r, decision) → Stands r (y ∷ ys)
-    at zero low is = inl (ap (λ (p : ℕ × Decision). p.0) is)
-    at (suc k) low is = inr (contained r decision ys (k, omega (arith, low), is))
+contained r decision ys has = contained_at r decision ys has.0 has.1 has.2

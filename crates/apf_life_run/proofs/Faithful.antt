@@ -10,6 +10,8 @@ use Rattle.apf_gate.specs.declared.answers.Close.{Close as Closing}
 use Rattle.apf_gate.specs.declared.answers.Close.TheVariants as closing
 use Rattle.apf_gate.specs.declared.answers.Cancel.{Cancel}
 use Rattle.apf_gate.specs.declared.answers.Cancel.TheVariants as cancels
+use Rattle.apf_gate.specs.declared.answers.Read.{Read}
+use Rattle.apf_gate.specs.declared.answers.Read.TheVariants as reads
 use Rattle.apf_gate.specs.declared.record.Actor.{Actor}
 use Rattle.apf_gate.specs.declared.record.Actor.TheVariants.{OfStation}
 use Rattle.apf_gate.specs.declared.record.Entry.{Entry}
@@ -18,7 +20,7 @@ use Rattle.apf_gate.specs.declared.record.Shape.{Shape}
 use Rattle.apf_gate.specs.declared.record.StationRecord.{StationRecord}
 use Rattle.apf_gate.specs.Steps.{SawLevel, SawDecision, FindsOther}
 use Rattle.apf_gate.specs.StationSteps.{StationLoadsDecision, StationExchangesDecision, StationClosesLevel, StationFindsOther}
-use Rattle.apf_gate.specs.StationCalls.{TriesToCancel, CancelsTo, ClosesTo}
+use Rattle.apf_gate.specs.StationCalls.{TriesToRead, TriesToCancel, CancelsTo, ClosesTo}
 use Rattle.apf_gate.specs.Traces.{entry, NoneOf, Made, MadeFirstClose}
 use Rattle.apf_gate.specs.Tokens.{GateId, StationToken, station_gate}
 use Rattle.apf_gate.specs.Ends.{WroteCancelled, ClosedFirst}
@@ -101,6 +103,10 @@ module _ (gate : GateId) (requests : List Request) (rounds : ℕ) (s s' : Statio
   -- by a step that makes no move
   stays_so : IsFaithful gate requests rounds s → station_gate s' ≡ station_gate s → StepsBy s.station s'.station None → IsFaithful gate requests rounds s'
   stays_so was same step = stays None was same step (λ j is. absurd (no_step (Decide j Cancelled) is)) (λ is. absurd (no_step Close is)) (λ n is. no_step (SetLimit n) is)
+
+  pub heard : (r : ℕ) (answer : Read) → IsFaithful gate requests rounds s → station_gate s' ≡ station_gate s → TriesToRead s.station r answer s'.station → IsFaithful gate requests rounds s'
+  heard r (reads.Is found) was same to = stays_so was same (by_decision s.station s'.station r found found None to.0 to.1 to.2)
+  heard r reads.Other was same to = stays_so was same (by_other s.station s'.station r to.0 to.1 to.2)
 
   wrote : (r : ℕ) → IsFaithful gate requests rounds s → station_gate s' ≡ station_gate s → IsNamedIn requests rounds r → StationExchangesDecision r s.station s'.station
       → IsFaithful gate requests rounds s'

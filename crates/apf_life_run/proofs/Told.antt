@@ -115,21 +115,21 @@ module _ (k : LifeId) (config : Config) (requests : List Request) (rounds : ℕ)
       let n : ℕ = length requests in
       let ever = ended.words_agree.ever in
       let many : rounds * n ≤ length ever = as_many (λ i. number_in requests (i % n) (i / n + 1)) (rounds * n) ever
-          (λ i j low below same.
-          let one = bounds i low in
-          let two = bounds j below in
-          same_place n i j
-          (sym (slot_is (i % n) (i / n + 1) _ (omega (arith, one.0, slots))) ∙ (ap slot_of same ∙ slot_is (j % n) (j / n + 1) _ (omega (arith, two.0, slots))))
-          (let a = round_is (i % n) (i / n + 1) _ (omega (arith, one.0, slots)) (narrow (i % n) one.0) in
-          let b = round_is (j % n) (j / n + 1) _ (omega (arith, two.0, slots)) (narrow (j % n) two.0) in
-          let e = ap round_of same in
-          omega (arith, a, b, e)))
-          (λ i low.
-          let one = bounds i low in
-          let told = decided (i % n) (i / n + 1) one.0 (omega arith) (omega (arith, one.1)) in
-          contained _ told.0 ever (ended.words_agree.are_all.each _ told.0
-          (let b = is_number (i % n) (i / n + 1) (width_it_asks (slice_get requests (i % n))) (omega (arith, one.0, slots)) (narrow (i % n) one.0) (omega (arith, one.1, few)) in omega (arith, b, numbers))
-          told.1)) in
+      (λ i j low below same.
+      let one = bounds i low in
+      let two = bounds j below in
+      same_place n i j
+      (sym (slot_is (i % n) (i / n + 1) _ (omega (arith, one.0, slots))) ∙ (ap slot_of same ∙ slot_is (j % n) (j / n + 1) _ (omega (arith, two.0, slots))))
+      (let a = round_is (i % n) (i / n + 1) _ (omega (arith, one.0, slots)) (narrow (i % n) one.0) in
+      let b = round_is (j % n) (j / n + 1) _ (omega (arith, two.0, slots)) (narrow (j % n) two.0) in
+      let e = ap round_of same in
+      omega (arith, a, b, e)))
+      (λ i low.
+      let one = bounds i low in
+      let told = decided (i % n) (i / n + 1) one.0 (omega arith) (omega (arith, one.1)) in
+      contained _ told.0 ever (ended.words_agree.are_all.each _ told.0
+      (let b = is_number (i % n) (i / n + 1) (width_it_asks (slice_get requests (i % n))) (omega (arith, one.0, slots)) (narrow (i % n) one.0) (omega (arith, one.1, few)) in omega (arith, b, numbers))
+      told.1)) in
       omega (arith, many, ended.words_agree.sums.all)
     where
       bounds : (i : ℕ) → i < rounds * length requests → (i % length requests < length requests) × (i / length requests < rounds)

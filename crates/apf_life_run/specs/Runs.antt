@@ -38,10 +38,10 @@ pub record AreFinished (gate : GateId) (requests : List Request) (rounds : ℕ) 
   pub known : All (IsKnownTo requests r.stations) r.dones
 
 -- a level of these settings, with so many slots
-pub record IsLevelFor (config : Config) (slots : ℕ) (k : LifeId) : Type 0 where
+pub record IsLevelFor (config : Config) (count : ℕ) (k : LifeId) : Type 0 where
   pub limit : k.gate.shape.limit ≡ config.limit
   pub response : k.gate.shape.response ≡ config.limit_response
-  pub slots : k.gate.shape.slots ≡ slots
+  pub slots : k.gate.shape.slots ≡ count
   pub sizes : k.sizes ≡ record { deck = config.queues; hand = config.hand_size }
   pub queue_limit : k.queue_limit ≡ config.queue_length_limit
 

@@ -75,9 +75,9 @@ fn run_named<K: Plan, W: Work, R: Wait + Threads + Sync>(
     requires some_rounds { 1 ≤ rounds }
     requires few_rounds { rounds ≤ max_rounds }
     requires widths { All HasWidth requests.now }
-    ensures told { IfOk result (HasRunRounds opening.entry.config requests.now rounds) }
-    ensures settings { OnOk result (CanRunRounds opening.entry.config (length requests.now) opening.entry.gate.shape.stations) }
-    ensures fault { IfErr result (IsRoundsFault opening.entry.config (length requests.now) opening.entry.gate.shape.stations) }
+    ensures told { IfOk result (HasRunRounds opening.config requests.now rounds) }
+    ensures settings { OnOk result (CanRunRounds opening.config (length requests.now) opening.gate.shape.stations) }
+    ensures fault { IfErr result (IsRoundsFault opening.config (length requests.now) opening.gate.shape.stations) }
 {
     let Opening {
         config,

@@ -1,6 +1,6 @@
 //! A worker of a run in rounds: its Station, and its share of the slots.
 
-ghost use Rattle.std.specs.Prelude.{◌≡◌, ◌+◌, ◌<◌, ◌≤◌, [], ◌∷◌, ◌++◌, length, true, IsTrue, Contains, All, IfOk, IfSome, OnOk};
+ghost use Rattle.std.specs.Prelude.{◌≡◌, ◌+◌, ◌<◌, ◌≤◌, [], ◌∷◌, ◌++◌, length, slice_get, true, Some, Contains, All, IfOk, IfSome, OnOk};
 ghost use Rattle.apf_gate.specs.Slots.{IsTicket, slot_of, round_of};
 ghost use Rattle.apf_gate.specs.Tokens.{pass_gate};
 ghost use Rattle.apf_life_run.specs.Plans.{number_of, HasWidth, IsNamedIn, AreOrders};
@@ -83,6 +83,16 @@ impl<'a, K: Plan, W: Work> Job<'a, K, W> {
         }
     }
 
+    // What is asked in the slot.
+    fn asked(&self, slot: u32) -> Request
+        requires { slot < K.level.gate.shape.slots }
+        ensures is { slice_get K.requests slot ≡ Some result }
+        ensures planned { Contains K.requests result }
+        ensures width { HasWidth result }
+    {
+        self.requests[slot as usize]
+    }
+
     // The request that holds the slot that this one names, if it names one and a request of that came.
     fn named_by(&self, request: Request) -> Option<Ticket>
         requires planned { Contains K.requests request }
@@ -125,7 +135,7 @@ impl<'a, K: Plan, W: Work> Job<'a, K, W> {
 // Closes the level, if the request says so.
 fn close_as_said<K: Plan>(level: &Level<K>, operator: &mut Operator<K>, request: Request)
     requires planned { Contains K.requests request }
-    ensures closed { IsTrue request.closes → operator.new.station.knows.saw_closed ≡ true }
+    ensures closed { request.closes ≡ true → operator.new.station.knows.saw_closed ≡ true }
     ensures knows { KeepsKnowing operator.old operator.new }
 {
     if request.closes {
@@ -179,7 +189,7 @@ fn handle<K: Plan, W: Work, R: Wait>(
     ensures known { IsKnown K.requests operator.new result }
     ensures knows { KeepsKnowing operator.old operator.new }
 {
-    let request = job.requests[slot.ticket().slot() as usize];
+    let request = job.asked(slot.ticket().slot());
     close_as_said(job.level, operator, request);
     let pass = job.next(slot, request, round);
     let ticket = pass.ticket();
@@ -228,6 +238,7 @@ impl<K: Plan> Worker<K> {
         requires over { self.over ≡ [] }
         requires before { All (IsInRound before) self.slots }
         requires in_rounds { before < K.rounds }
+        requires fits { before < u32.MAX }
         ensures count { IfOk result (λ w. length w.slots ≡ length self.slots) }
         ensures over { IfOk result (λ w. w.over ≡ []) }
         ensures after { IfOk result (λ w. All (IsInRound (before + 1)) w.slots) }

@@ -14,4 +14,4 @@ invariant_of-result g c =
     let stations : c.push.new.self.items ≡ c.self.inside.stations.items ++ c.args.worker.station ∷ [] = search rules in
     subst (λ (ds : List PassToken). AreFinished gate requests rounds (record { dones = ds; stations = c.push.new.self.items })) (sym dones)
     (subst (λ (ss : List StationToken). AreFinished gate requests rounds (record { dones = c.self.inside.dones.items ++ c.args.worker.slots; stations = ss })) (sym stations)
-    (one_more gate requests rounds (record { dones = c.self.inside.dones.items; stations = c.self.inside.stations.items }) c.args.worker c.self.invariant c.into_parts-station.ensures.load c.requires))
+    (one_more gate requests rounds (record { dones = c.self.inside.dones.items; stations = c.self.inside.stations.items }) c.args.worker c.self.invariant c.into_parts-station.ensures.load c.requires.rounds))

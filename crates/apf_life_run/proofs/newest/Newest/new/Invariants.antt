@@ -2,5 +2,5 @@
 use Rattle.std.proofs.Common.{◌≡◌, length}
 use Rattle.apf_life_run.proofs.newest.Newest.new.Given as goal
 
-abbrev pub invariant-loop-_slot : goal.invariant-loop-_slot
-invariant-loop-_slot g l = length l.rounds.items ≡ l._slot
+abbrev pub invariant-loop-slot : goal.invariant-loop-slot
+invariant-loop-slot g l = length l.rounds.items ≡ l._slot

@@ -1,4 +1,4 @@
-use Rattle.std.proofs.Common.{rules, ◌≡◌, ◌∙◌, length, refl, All, sym, ap, subst, arith}
+use Rattle.std.proofs.Common.{rules, true, ◌≡◌, ◌∙◌, length, refl, All, sym, ap, subst, arith}
 use Rattle.apf_gate.specs.Gauges.{max_numbers}
 use Rattle.apf_gate.specs.Opens.{new_passes}
 use Rattle.apf_gate.specs.declared.record.Shape.{Shape}
@@ -16,9 +16,9 @@ invariant_of-result c =
       desk_is = search rules;
       limit_is = search rules;
       response_is = search rules;
-      numbers_are = ap (λ (s : Shape). length s.widths) c.in_ok-gate.ensures.shape ∙ life_length true max_numbers _ refl;
+      numbers_are = ap (λ (s : Shape). length s.widths) c.in_ok-gate.ensures.shape ∙ life_length true max_numbers c.as_slice.result.now refl;
       passes_are = search rules;
-      passes_first = subst (All (IsFirstOf c.in_ok-gate.gate)) (sym c.in_ok-gate.ensures.passes) (are_first c.in_ok-gate.gate _ (let shape = c.in_ok-gate.ensures.is_shape in omega (arith, shape.few_slots)));
+      passes_first = subst (All (IsFirstOf c.in_ok-gate.gate)) (sym c.in_ok-gate.ensures.passes) (are_first c.in_ok-gate.gate (length c.as_slice.result.now) c.in_ok-gate.ensures.is_shape.few_slots);
       passes_count = search rules;
       stations_new = subst (All (IsNew c.in_ok-gate.gate)) (sym c.in_ok-gate.ensures.stations) (are_new c.in_ok-gate.gate c.args.stations);
       stations_count = search rules;

@@ -1,5 +1,5 @@
 -- Words in which `clap` finds no fault name one of the program's commands, with its arguments.
-use Rattle.std.proofs.Common.{◌≡◌, ◌∙◌, ◌&&◌, ◌||◌, ◌⊎◌, inl, inr, ℕ, arith, Bool, true, false, not, refl, sym, ap, List, [], Option, Some, None, is_some, option_map, true≢false, codes, lit<}
+use Rattle.std.proofs.Common.{◌≡◌, ◌∙◌, ◌&&◌, ◌||◌, inl, inr, arith, Bool, true, false, not, refl, sym, ap, List, [], Option, Some, None, is_some, option_map, true≢false, codes, lit<}
 use Rattle.std.specs.List.{find, list_all}
 use Rattle.std.specs.Option.{option_map_or}
 use Rattle.std.specs.Str.{bytes_eq}

@@ -1,5 +1,5 @@
 -- The numbers and the names of actions are in their ranges, or the words have the fault of a level's name.
-use Rattle.std.proofs.Common.{◌≡◌, ◌∙◌, ◌⊎◌, ◌&&◌, ap₂, inl, inr, Bool, true, false, not, refl, sym, ap, subst, arith, List, [], ◌∷◌, Option, Some, None, Result, Ok, Err, unwrap_or, cond, codes}
+use Rattle.std.proofs.Common.{◌≡◌, ◌∙◌, ◌⊎◌, ◌&&◌, ap₂, inl, inr, Bool, true, false, not, refl, sym, ap, subst, arith, List, [], ◌∷◌, Some, Result, Ok, Err, unwrap_or, cond, codes}
 use Rattle.std.specs.Prelude.{IfErr, IfOk}
 use Rattle.std.specs.Str.{bytes_eq}
 use Rattle.clap.specs.Words.{Kinds, Row, Text, first_of}
@@ -9,7 +9,7 @@ use Rattle.clap.specs.declared.error.Error.{Error}
 use Rattle.clap.specs.declared.error.kind.ErrorKind.TheVariants.{OutOfMemory, ValueValidation}
 use Rattle.clap.proofs.OnLiterals.{clap_on_literals}
 use Rattle.apf_commands.specs.LevelName.{is_level_name}
-use Rattle.apf_commands.specs.Meaning.{AsksFor, HasBadName, HasLevelName, HasSlots, HasWorkers, IsInRange, name_fault}
+use Rattle.apf_commands.specs.Meaning.{AsksFor, HasBadName, HasLevelName, IsInRange, name_fault}
 use Rattle.apf_commands.specs.declared.words.Action.{Action}
 use Rattle.apf_commands.specs.declared.words.Action.TheVariants.{Hash, Deal, Replay, Run, Services, Waits, Explain, Serve, Simulate, Timeline, Compare, Fates, Requests, Picture, Hands, Trace}
 

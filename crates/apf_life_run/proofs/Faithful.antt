@@ -19,8 +19,8 @@ use Rattle.apf_gate.specs.declared.record.Knowledge.{Knowledge}
 use Rattle.apf_gate.specs.declared.record.Shape.{Shape}
 use Rattle.apf_gate.specs.declared.record.StationRecord.{StationRecord}
 use Rattle.apf_gate.specs.Steps.{SawLevel, SawDecision, FindsOther}
-use Rattle.apf_gate.specs.StationSteps.{StationLoadsDecision, StationExchangesDecision, StationClosesLevel, StationFindsOther}
-use Rattle.apf_gate.specs.StationCalls.{TriesToRead, TriesToCancel, CancelsTo, ClosesTo}
+use Rattle.apf_gate.specs.StationSteps.{StationLoadsDecision, StationExchangesDecision, StationClosesLevel}
+use Rattle.apf_gate.specs.StationCalls.{TriesToRead, TriesToCancel, ClosesTo}
 use Rattle.apf_gate.specs.Traces.{entry, NoneOf, Made, MadeFirstClose}
 use Rattle.apf_gate.specs.Tokens.{GateId, StationToken, station_gate}
 use Rattle.apf_gate.specs.Ends.{WroteCancelled, ClosedFirst}

@@ -1,11 +1,11 @@
 -- What a Station knows of the slots of its worker.
-use Rattle.std.specs.Prelude.{Option, Some, slice_get}
-use Rattle.std.proofs.Common.{◌≡◌, ◌≢◌, ◌⊎◌, ℕ, ◌+◌, ◌<◌, ◌≤◌, true, List, ◌∷◌, ◌++◌, [], All, None, sym, ap, ◌∙◌, subst, arith, refl, inl, inr}
+use Rattle.std.specs.Prelude.{Some, slice_get}
+use Rattle.std.proofs.Common.{◌≡◌, ◌≢◌, ℕ, ◌+◌, ◌<◌, ◌≤◌, true, List, All, None, sym, ap, ◌∙◌, subst, arith, inl, inr}
 use Rattle.std.proofs.lemmas.Bool.{cases_eq}
 use Rattle.apf_files.specs.declared.requests.Request.{Request}
 use Rattle.apf_gate.specs.Records.{told_of, KnowsMore}
 use Rattle.apf_gate.specs.Slots.{slot_of, round_of}
-use Rattle.apf_gate.specs.Tokens.{GateId, PassToken, StationToken, pass_gate}
+use Rattle.apf_gate.specs.Tokens.{PassToken, StationToken}
 use Rattle.apf_run.specs.Plans.{closes_at, closes_it}
 use Rattle.apf_life_run.specs.Plans.{number_in, number_of, width_it_asks}
 use Rattle.apf_life_run.specs.Workers.{KeepsKnowing, IsKnown}

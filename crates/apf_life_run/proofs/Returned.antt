@@ -1,12 +1,12 @@
 -- What the workers gave back, with what one more gave back.
-use Rattle.std.proofs.Common.{◌≡◌, ◌≢◌, ◌≤◌, ◌∙◌, ℕ, true, None, List, [], ◌∷◌, ◌++◌, All, arith}
+use Rattle.std.proofs.Common.{◌≡◌, ◌≢◌, ◌∙◌, ℕ, true, None, List, [], ◌∷◌, ◌++◌, All, arith}
 use Rattle.std.proofs.lemmas.List.{length-append, get_or_append_left}
 use Rattle.std.proofs.lemmas.List.Elements.{All-append, All-push}
 use Rattle.std.specs.Prelude.{Any}
 use Rattle.std.proofs.lemmas.List.Quantifiers.{Any-push}
 use Rattle.apf_files.specs.declared.requests.Request.{Request}
 use Rattle.apf_gate.specs.Records.{told_of}
-use Rattle.apf_gate.specs.Slots.{slot_of, round_of}
+use Rattle.apf_gate.specs.Slots.{slot_of}
 use Rattle.apf_gate.specs.Tokens.{GateId, PassToken, StationToken, pass_gate}
 use Rattle.apf_life_run.specs.Plans.{number_in, IsFaithful}
 use Rattle.apf_life_run.specs.Workers.{Load, IsInRound, IsKnown, IsLoadOf}

@@ -1,11 +1,10 @@
 -- What the end of a level says of the requests that its workers ran.
-use Rattle.std.proofs.Common.{◌≡◌, ◌≢◌, ℕ, ◌+◌, ◌*◌, ◌/◌, ◌%◌, ◌<◌, ◌≤◌, true, false, zero, suc, List, length, All, refl, sym, ap, ◌∙◌, subst, inl, inr, arith}
+use Rattle.std.proofs.Common.{◌≡◌, ◌≢◌, ℕ, ◌+◌, ◌*◌, ◌/◌, ◌%◌, ◌<◌, ◌≤◌, true, false, zero, suc, List, length, All, refl, sym, ap, ◌∙◌, subst, inr, arith}
 use Rattle.std.specs.Prelude.{Any, Option, Some, None, slice_get, slice_index_or}
 use Rattle.std.proofs.lemmas.Option.{slice_get-get_or}
 use Rattle.std.proofs.lemmas.Nat.{div_below, mod_below}
 use Rattle.apf_words.specs.declared.decision.Decision.{Decision}
 use Rattle.apf_words.specs.declared.decision.Decision.TheVariants.{Cancelled}
-use Rattle.apf_words.specs.Limits.{max_width}
 use Rattle.apf_words.specs.Level.{Level}
 use Rattle.apf_model.specs.declared.config.Config.{Config}
 use Rattle.apf_model.specs.declared.moves.Move.TheVariants.{SetLimit}
@@ -22,13 +21,12 @@ use Rattle.apf_life.specs.Levels.{LifeId}
 use Rattle.apf_life.specs.declared.report.Report.{Report}
 use Rattle.apf_life.specs.Reports.{Ended}
 use Rattle.apf_run.specs.Plans.{SomeCloses, closes_it, closes_at}
-use Rattle.apf_run.specs.Runs.{SeenClosed}
 use Rattle.apf_run.proofs.Limits.{limit_stays, made_within}
 use Rattle.apf_life_run.specs.Plans.{number_in, width_it_asks, HasWidth, IsNamedIn, IsFaithful}
 use Rattle.apf_life_run.specs.Workers.{IsInRound}
 use Rattle.apf_life_run.specs.Runs.{Returned, SomeTold, IsKnownTo, AreFinished, IsLevelFor, HasRunRounds}
 use Rattle.apf_life_run.proofs.Numbers.{slot_is, round_is, is_number, same_place}
-use Rattle.apf_life_run.proofs.Counting.{Stands, as_many, contained}
+use Rattle.apf_life_run.proofs.Counting.{as_many, contained}
 
 -- what follows of one of which P holds, where Q holds of each
 of_one : {A : Type 0} {C : Type 0} (P Q : A → Type 0) (xs : List A) → ((x : A) → P x → Q x → C) → Any P xs → All Q xs → C

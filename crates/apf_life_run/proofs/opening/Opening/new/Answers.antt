@@ -1,8 +1,6 @@
-use Rattle.std.proofs.Common.{rules, true, ◌≡◌, ◌∙◌, length, refl, All, sym, ap, subst, arith}
+use Rattle.std.proofs.Common.{rules, true, ◌∙◌, length, refl, All, sym, ap, subst}
 use Rattle.apf_gate.specs.Gauges.{max_numbers}
-use Rattle.apf_gate.specs.Opens.{new_passes}
 use Rattle.apf_gate.specs.declared.record.Shape.{Shape}
-use Rattle.apf_gate.specs.Tokens.{PassToken, StationToken}
 use Rattle.apf_gate.proofs.Spreading.{life_length}
 use Rattle.apf_session.specs.Openings.{IsNew}
 use Rattle.apf_session.proofs.Opened.{are_new}

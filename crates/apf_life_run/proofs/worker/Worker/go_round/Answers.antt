@@ -3,7 +3,7 @@ use Rattle.std.specs.Prelude.{Some}
 use Rattle.std.proofs.lemmas.List.{length_push}
 use Rattle.std.proofs.lemmas.List.Elements.{All-pop, All-push}
 use Rattle.apf_files.specs.declared.requests.Request.{Request}
-use Rattle.apf_gate.specs.Tokens.{PassToken, StationToken, GateId, pass_gate}
+use Rattle.apf_gate.specs.Tokens.{PassToken, StationToken, pass_gate}
 use Rattle.apf_life_run.specs.Workers.{IsInRound, IsKnown}
 use Rattle.apf_life_run.proofs.Known.{all_still_known}
 use Rattle.apf_life_run.proofs.worker.Worker.go_round.Goals as goal

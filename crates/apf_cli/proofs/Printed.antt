@@ -13,8 +13,10 @@ appends_kept (Some a) (Some b) (Some c) text h k = k ∙ h
 
 pub prints_kept : (holds : (name bytes : List ℕ) → Type 0) (action : Action) (old mid new : Option (List ℕ)) → PrintsFor holds action old mid → Keeps mid new
     → PrintsFor holds action old new
-prints_kept holds (Run config requests workers) old mid new h k =
-    record { report = h.report; run = h.run; written = appends_kept old mid new _ h.written k }
+prints_kept holds (Run config requests workers rounds) old mid new h k = record {
+  one = λ is. let p = h.one is in record { report = p.report; run = p.run; written = appends_kept old mid new _ p.written k };
+  more = λ is. let p = h.more is in record { report = p.report; run = p.run; written = appends_kept old mid new _ p.written k };
+}
 prints_kept holds (Hash schema distinguisher) old mid new h k = tt
 prints_kept holds (Deal deck hand hash) old mid new h k = tt
 prints_kept holds (Replay config requests script) old mid new h k = tt

@@ -1,5 +1,5 @@
 -- What `run` prints.
-use Rattle.std.specs.Prelude.{ℕ, List, Option, Ok}
+use Rattle.std.specs.Prelude.{◌≡◌, ℕ, ◌<◌, List, length, Option, Ok}
 use Rattle.std.specs.Io.KnownBytes.{Appends}
 use Rattle.clap.specs.Words.{Text}
 use Rattle.apf_model.specs.declared.config.Config.{Config}
@@ -7,6 +7,10 @@ use Rattle.apf_files.specs.ConfigFile.{IsConfigOf}
 use Rattle.apf_files.specs.RequestsFile.{AreRequestsOf}
 use Rattle.apf_files.specs.declared.requests.Request.{Request}
 use Rattle.apf_level.specs.declared.report.Report.{Report}
+use Rattle.apf_life.specs.declared.report.Report.{Report as LifeReport}
+use Rattle.apf_life_run.specs.Books.{book_of as rounds_book_of}
+use Rattle.apf_life_run.specs.Faults.{CanRunRounds}
+use Rattle.apf_life_run.specs.Runs.{HasRunRounds}
 use Rattle.apf_commands.specs.Meaning.{IsActionOf}
 use Rattle.apf_commands.specs.declared.words.Action.{Action}
 use Rattle.apf_commands.specs.declared.words.Action.TheVariants.{Run}
@@ -38,9 +42,28 @@ pub record PrintsRun (holds : (name bytes : List ℕ) → Type 0) (config_name r
   pub run : IsRunOf holds config_name requests_name workers report
   pub written : Appends before after (totals_text (book_of report))
 
+-- a run of all these requests at a level for life of such settings, by so many workers in so many rounds, reports this
+pub record IsRunInRounds (holds : (name bytes : List ℕ) → Type 0) (config_name requests_name : List ℕ) (workers rounds : ℕ) (report : LifeReport) : Type 0 where
+  pub config : Config
+  pub requests : List Request
+  pub read : AreRead holds config_name requests_name config requests
+  pub settings : CanRunRounds config (length requests) workers
+  pub told : HasRunRounds config requests rounds report
+
+-- the book of such a report was written
+pub record PrintsRounds (holds : (name bytes : List ℕ) → Type 0) (config_name requests_name : List ℕ) (workers rounds : ℕ) (before after : Option (List ℕ)) : Type 0 where
+  pub report : LifeReport
+  pub run : IsRunInRounds holds config_name requests_name workers rounds report
+  pub written : Appends before after (totals_text (rounds_book_of report))
+
+-- the book of a run was written: of a batch in one round, and of a level for life in more
+pub record PrintsBook (holds : (name bytes : List ℕ) → Type 0) (config_name requests_name : List ℕ) (workers rounds : ℕ) (before after : Option (List ℕ)) : Type 0 where
+  pub one : rounds ≡ 1 → PrintsRun holds config_name requests_name workers before after
+  pub more : 1 < rounds → PrintsRounds holds config_name requests_name workers rounds before after
+
 -- what is stated of what a command prints
 abbrev pub PrintsFor : (holds : (name bytes : List ℕ) → Type 0) → Action → (before after : Option (List ℕ)) → Type 0
-PrintsFor holds (Run config requests workers) before after = PrintsRun holds config.now requests.now workers before after
+PrintsFor holds (Run config requests workers rounds) before after = PrintsBook holds config.now requests.now workers rounds before after
 PrintsFor holds _ before after = Unit {0}
 
 -- the words ask for a command, and what it prints was written

@@ -5,7 +5,7 @@
 //! - `files`: where the files' bytes come from.
 //! - `explaining`: says what is wrong with files. `telling` does that for one line on standard error.
 //! - `traces`, `comparing`, `pictures`: do the commands on a trace. `audits`: does that on an audit log.
-//! - `serving`: serves a level over standard input.
+//! - `running`: runs requests by workers. `serving`: serves a level over standard input.
 //! - `measuring`: how large an output will be, before its first byte.
 //! - `program`: does the others, and answers the status.
 //! - `faults`: the lines on standard error.
@@ -19,6 +19,7 @@ mod files;
 mod measuring;
 mod pictures;
 mod program;
+mod running;
 mod serving;
 mod telling;
 mod traces;

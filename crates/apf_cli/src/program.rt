@@ -1,10 +1,9 @@
 //! The whole program over files and writers that the caller passes.
 
-ghost use Rattle.std.specs.Prelude.{◌≡◌, ◌<◌, ◌≤◌, [], length, Err, IfOk, OnOk};
+ghost use Rattle.std.specs.Prelude.{◌≡◌, [], Err, OnOk};
 ghost use Rattle.clap.specs.Walk.{texts};
 ghost use Rattle.clap.specs.Values.{kind_of};
-ghost use Rattle.apf_cli.specs.Runs.{AreRead, IsRunOf, PrintsRun, PrintsFor, Performs};
-ghost use Rattle.apf_run.specs.Limits.{max_requests};
+ghost use Rattle.apf_cli.specs.Runs.{PrintsFor, Performs};
 ghost use Rattle.apf_commands.specs.Meaning.{IsInRange, words_fault};
 
 use crate::audits::print_trace;
@@ -13,18 +12,15 @@ use crate::explaining::print_explanation;
 use crate::faults::{Fault, Sizes};
 use crate::files::{Files, Input, judge_names, read_input};
 use crate::pictures::print_picture;
+use crate::running::{print_run, read_level};
 use crate::serving::print_served;
 use crate::traces::{print_hands, print_requests, print_simulation, print_timeline};
 use apf_commands::{Action, read_words};
 use apf_flow::{Dealer, flow_hash};
 use apf_flows::write_escaped;
-use apf_run::{
-    Config, Report, Request, Running, Transcript, Work, read_config, read_requests, read_script,
-    replay, run, write_book,
-};
+use apf_run::{Transcript, read_script, replay};
 use clap::error::ErrorKind;
 use std::alloc::{AllocError, Global};
-use std::hint;
 use std::io::Write;
 use std::sync::Wait;
 use std::thread::Threads;
@@ -48,67 +44,6 @@ fn print_deal<O: Write>(deck: u32, hand: u32, hash: u64, out: &mut O) -> Result<
         }
     }
     writeln!(out).map_err(|_| Fault::CannotWrite)
-}
-
-// Reads the config and the requests, the config judged before the requests are read.
-fn read_level<F: Files>(
-    alloc: Global,
-    files: &mut F,
-    config: &str,
-    requests: &str,
-) -> Result<(Config, Vec<Request>), Fault>
-    ensures few { IfOk result (λ o. length o.1.items ≤ max_requests) }
-    ensures read { IfOk result (λ o. AreRead F.holds config.now requests.now o.0 o.1.items) }
-{
-    let bytes = read_input(files, Input::Config, config)?;
-    let config = read_config(alloc, bytes.as_slice())?;
-    let bytes = read_input(files, Input::Requests, requests)?;
-    let requests = read_requests(alloc, bytes.as_slice())?;
-    Ok((config, requests))
-}
-
-// Work that turns an empty loop.
-struct Turns;
-
-impl Work for Turns {
-    fn work(&self, _running: &Running, units: u32) {
-        for _ in 0..units {
-            hint::spin_loop();
-        }
-    }
-}
-
-// Reads the two files, and brings the requests to their ends by so many workers.
-fn ran<F: Files, R: Wait + Threads + Sync>(
-    rt: &R,
-    alloc: Global,
-    files: &mut F,
-    config: &str,
-    requests: &str,
-    workers: u32,
-) -> Result<Report, Fault>
-    requires { 0 < workers }
-    ensures { IfOk result (IsRunOf F.holds config.now requests.now workers) }
-{
-    judge_names(&[config, requests])?;
-    let (config, requests) = read_level(alloc, files, config, requests)?;
-    Ok(run(rt, alloc, &config, requests.as_slice(), workers, &Turns)?)
-}
-
-// The same, and prints the book of the report.
-fn print_run<F: Files, O: Write, R: Wait + Threads + Sync>(
-    rt: &R,
-    alloc: Global,
-    files: &mut F,
-    names: (&str, &str),
-    workers: u32,
-    out: &mut O,
-) -> Result<(), Fault>
-    requires { 0 < workers }
-    ensures { OnOk result (PrintsRun F.holds names.entry.0.now names.entry.1.now workers (O.contents out.old) (O.contents out.new)) }
-{
-    let report = ran(rt, alloc, files, names.0, names.1, workers)?;
-    Ok(write_book(&report, out)?)
 }
 
 // Reads the three files, each judged before the next is read, and runs the script.
@@ -152,7 +87,8 @@ fn print_action<F: Files, O: Write, E: Write, R: Wait + Threads + Sync>(
             config,
             requests,
             workers,
-        } => print_run(rt, alloc, files, (config, requests), workers, out),
+            rounds,
+        } => print_run(rt, alloc, files, (config, requests), (workers, rounds), out),
         Action::Services {
             config,
             requests,

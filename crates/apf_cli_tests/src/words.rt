@@ -226,7 +226,8 @@ fn reads_numbers_at_their_ends(rt: HostRuntime) -> Result<(), Fail> {
         Action::Run {
             config: "c",
             requests: "r",
-            workers: 1
+            workers: 1,
+            rounds: 1,
         }
     );
     let many = read_words(alloc, &["apf", "run", "c", "r", "64"])?;
@@ -235,10 +236,53 @@ fn reads_numbers_at_their_ends(rt: HostRuntime) -> Result<(), Fail> {
         Action::Run {
             config: "c",
             requests: "r",
-            workers: 64
+            workers: 64,
+            rounds: 1,
         }
     );
     Ok(())
+}
+
+// The rounds of a run, at their ends.
+#[test]
+fn reads_rounds(rt: HostRuntime) -> Result<(), Fail> {
+    let alloc = rt.alloc();
+    for (text, rounds) in [("1", 1), ("1000000", 1_000_000), ("007", 7)] {
+        let words = ["apf", "run", "c", "r", "8", "--rounds", text];
+        let run = Action::Run {
+            config: "c",
+            requests: "r",
+            workers: 8,
+            rounds,
+        };
+        assert_eq!(rt; read_words(alloc, &words)?, run);
+    }
+    Ok(())
+}
+
+#[test]
+fn refuses_rounds(rt: HostRuntime) {
+    let rows: [(&[&str], ErrorKind); 4] = [
+        (
+            &["apf", "run", "c", "r", "8", "--rounds", "0"],
+            ErrorKind::ValueValidation,
+        ),
+        (
+            &["apf", "run", "c", "r", "8", "--rounds", "1000001"],
+            ErrorKind::ValueValidation,
+        ),
+        (
+            &["apf", "run", "c", "r", "8", "--rounds"],
+            ErrorKind::InvalidValue,
+        ),
+        (
+            &["apf", "serve", "c", "--rounds", "2"],
+            ErrorKind::UnknownArgument,
+        ),
+    ];
+    for (words, kind) in rows {
+        let _ = refused(&rt, rt.alloc(), words, kind);
+    }
 }
 
 // The slots of a level, at their ends and where they are left out.

@@ -109,6 +109,52 @@ fn cancels_and_closes(rt: HostRuntime) {
     runs(&rt, rt.alloc(), config, requests, "1", out);
 }
 
+// A run of these requests by one worker, so often, prints this.
+fn goes_round<R: Abort + Wait + Threads + Sync>(
+    rt: &R,
+    alloc: Global,
+    requests: &str,
+    rounds: &str,
+    out: &str,
+) {
+    let files = Memory {
+        alloc,
+        config: "{\"limit\":1,\"queues\":1,\"handSize\":1,\"queueLengthLimit\":10}",
+        requests,
+        script: "",
+    };
+    let words = ["apf", "run", "config", "requests", "1", "--rounds", rounds];
+    check(rt, files, &words, 0, out, "");
+}
+
+// All of each round execute.
+#[test]
+fn each_round_executes(rt: HostRuntime) {
+    let out = "level open seats 0 waiting 0\n\
+        executed 14 rejected 0 cancelled 0 undecided 0\n\
+        queue-full 0 closed 0 concurrency-limit 0\n\
+        entered 0 dispatched 0 struck 0\n";
+    goes_round(&rt, rt.alloc(), "[{\"hash\":0},{\"hash\":0}]", "7", out);
+}
+
+// A single round is a batch, in which the third request is cancelled before it arrives. In two rounds no request of its
+// slot came yet, so that it executes. The fourth closes the level for good.
+#[test]
+fn one_round_and_two(rt: HostRuntime) {
+    let requests =
+        "[{\"hash\":0,\"cancels\":2},{\"hash\":0},{\"hash\":0},{\"hash\":0,\"closes\":true},{\"hash\":0}]";
+    let one = "level closed seats 0 waiting 0\n\
+        executed 2 rejected 2 cancelled 1 undecided 0\n\
+        queue-full 0 closed 2 concurrency-limit 0\n\
+        entered 0 dispatched 0 struck 0\n";
+    goes_round(&rt, rt.alloc(), requests, "1", one);
+    let two = "level closed seats 0 waiting 0\n\
+        executed 3 rejected 7 cancelled 0 undecided 0\n\
+        queue-full 0 closed 7 concurrency-limit 0\n\
+        entered 0 dispatched 0 struck 0\n";
+    goes_round(&rt, rt.alloc(), requests, "2", two);
+}
+
 // Eight requests cancel the last one, which worker 7 brings to its end after it cancelled it.
 #[test]
 fn all_cancel_one(rt: HostRuntime) {

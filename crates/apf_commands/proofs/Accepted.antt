@@ -1,5 +1,5 @@
 -- Words in which `clap` finds no fault name one of the program's commands, with its arguments.
-use Rattle.std.proofs.Common.{◌≡◌, ◌∙◌, ◌&&◌, ◌||◌, ◌⊎◌, inl, inr, ℕ, arith, Bool, true, false, not, refl, sym, ap, List, [], Option, Some, None, is_some, option_map, true≢false, codes, lit<}
+use Rattle.std.proofs.Common.{◌≡◌, ◌∙◌, ◌&&◌, ◌||◌, inl, inr, arith, Bool, true, false, not, refl, sym, ap, List, [], Option, Some, None, is_some, option_map, true≢false, codes, lit<}
 use Rattle.std.specs.List.{find, list_all}
 use Rattle.std.specs.Option.{option_map_or}
 use Rattle.std.specs.Str.{bytes_eq}
@@ -60,7 +60,9 @@ deal_given words e =
 run_given : (words : List Text) → IsFaultFree (ready (shape_for Run)) words → HasRunArguments (rows_after (ready (shape_for Run)).rules [] words)
 unfolding apf_app shape_for
 run_given words e =
-    let given = all_given (ready (shape_for Run)) (record { rules = refl; own_ids = (refl, (refl, (refl, (refl, tt)))); defaults = refl; negates = refl }) words e in
+    let plain : IsPlainShape (ready (shape_for Run)) = record { rules = refl; own_ids = (refl, (refl, (refl, (refl, (refl, tt))))); defaults = refl; negates = refl } in
+    let given = all_given (ready (shape_for Run)) plain words e in
+    let met = all_met (ready (shape_for Run)) plain words e in
     let config = given.0 refl refl in
     let requests = given.1.0 refl refl in
     let workers = given.1.1.0 refl refl in
@@ -69,6 +71,12 @@ run_given words e =
       config = (config.text, config.first);
       requests = (requests.text, requests.first);
       workers = (reads.0, ((_, workers.one, reads.1), reads.2, reads.3));
+      rounds = elim met.1.1.1.0 [
+        | inl none ↦ (1, (inr (none, refl), omega arith, omega arith))
+        | inr rounds ↦
+            let counts = signed_reads 32 1 1000000 rounds.text (lit< tt) rounds.accepted in
+            (counts.0, (inl (_, rounds.one, counts.1), counts.2, counts.3))
+      ];
     }
 
 serve_given : (words : List Text) → IsFaultFree (ready (shape_for Serve)) words → HasServeArguments (rows_after (ready (shape_for Serve)).rules [] words)

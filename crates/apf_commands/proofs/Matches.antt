@@ -1,5 +1,5 @@
 -- What the getters of `clap`'s matches answer, by the rows, and which command they name.
-use Rattle.std.proofs.Common.{◌≡◌, ◌⊎◌, inl, inr, ℕ, List, [], Option, Some, None, Result, Ok, Err, Box, refl, sym, ap, subst, true, is_some, option_map, unwrap_or, ◌∙◌}
+use Rattle.std.proofs.Common.{◌≡◌, ℕ, List, [], Option, Some, None, Result, Ok, Err, Box, refl, sym, ap, subst, true, is_some, option_map, unwrap_or, ◌∙◌}
 use Rattle.std.specs.Borrow.{Bor}
 use Rattle.std.specs.Prelude.{IsSome}
 use Rattle.std.specs.Str.Parse.{ParsesUnsigned}

@@ -1,5 +1,5 @@
 -- The numbers and the names of actions are in their ranges, or the words have the fault of a level's name.
-use Rattle.std.proofs.Common.{◌≡◌, ◌∙◌, ◌⊎◌, ◌&&◌, ap₂, inl, inr, Bool, true, false, not, refl, sym, ap, subst, arith, List, [], ◌∷◌, Option, Some, None, Result, Ok, Err, unwrap_or, cond, codes}
+use Rattle.std.proofs.Common.{◌≡◌, ◌∙◌, ◌⊎◌, ◌&&◌, ap₂, inl, inr, Bool, true, false, not, refl, sym, ap, subst, arith, List, [], ◌∷◌, Some, Result, Ok, Err, unwrap_or, cond, codes}
 use Rattle.std.specs.Prelude.{IfErr, IfOk}
 use Rattle.std.specs.Str.{bytes_eq}
 use Rattle.clap.specs.Words.{Kinds, Row, Text, first_of}
@@ -9,28 +9,28 @@ use Rattle.clap.specs.declared.error.Error.{Error}
 use Rattle.clap.specs.declared.error.kind.ErrorKind.TheVariants.{OutOfMemory, ValueValidation}
 use Rattle.clap.proofs.OnLiterals.{clap_on_literals}
 use Rattle.apf_commands.specs.LevelName.{is_level_name}
-use Rattle.apf_commands.specs.Meaning.{AsksFor, HasBadName, HasLevelName, HasSlots, HasWorkers, IsInRange, name_fault}
+use Rattle.apf_commands.specs.Meaning.{AsksFor, HasBadName, HasLevelName, IsInRange, name_fault}
 use Rattle.apf_commands.specs.declared.words.Action.{Action}
 use Rattle.apf_commands.specs.declared.words.Action.TheVariants.{Hash, Deal, Replay, Run, Services, Waits, Explain, Serve, Simulate, Timeline, Compare, Fates, Requests, Picture, Hands, Trace}
 
 -- an action that words ask for is in its ranges, once its level's name is
 pub in_range : (name : Text) (rows : List Row) (action : Action) → AsksFor name rows action → HasLevelName action → IsInRange action
-in_range name rows (Run config requests workers) is named = record { workers = (let some = is.3.1 in omega arith); slots = tt; name = tt }
-in_range name rows (Serve config slots level) is named = record { workers = tt; slots = (is.2.1, is.2.2); name = named }
-in_range name rows (Hash schema distinguisher) is named = record { workers = tt; slots = tt; name = tt }
-in_range name rows (Deal deck hand hash) is named = record { workers = tt; slots = tt; name = tt }
-in_range name rows (Replay config requests script) is named = record { workers = tt; slots = tt; name = tt }
-in_range name rows (Services config requests script) is named = record { workers = tt; slots = tt; name = tt }
-in_range name rows (Waits config requests script) is named = record { workers = tt; slots = tt; name = tt }
-in_range name rows (Explain config requests script) is named = record { workers = tt; slots = tt; name = tt }
-in_range name rows (Simulate config trace patience) is named = record { workers = tt; slots = tt; name = tt }
-in_range name rows (Timeline config trace patience) is named = record { workers = tt; slots = tt; name = tt }
-in_range name rows (Compare config other trace patience) is named = record { workers = tt; slots = tt; name = tt }
-in_range name rows (Fates config trace patience) is named = record { workers = tt; slots = tt; name = tt }
-in_range name rows (Requests trace) is named = record { workers = tt; slots = tt; name = tt }
-in_range name rows (Picture config trace patience) is named = record { workers = tt; slots = tt; name = tt }
-in_range name rows (Hands config trace flow) is named = record { workers = tt; slots = tt; name = tt }
-in_range name rows (Trace log schema chosen) is named = record { workers = tt; slots = tt; name = tt }
+in_range name rows (Run config requests workers rounds) is named = record { workers = (let some = is.3.1 in omega arith); rounds = (is.4.1, is.4.2); slots = tt; name = tt }
+in_range name rows (Serve config slots level) is named = record { workers = tt; rounds = tt; slots = (is.2.1, is.2.2); name = named }
+in_range name rows (Hash schema distinguisher) is named = record { workers = tt; rounds = tt; slots = tt; name = tt }
+in_range name rows (Deal deck hand hash) is named = record { workers = tt; rounds = tt; slots = tt; name = tt }
+in_range name rows (Replay config requests script) is named = record { workers = tt; rounds = tt; slots = tt; name = tt }
+in_range name rows (Services config requests script) is named = record { workers = tt; rounds = tt; slots = tt; name = tt }
+in_range name rows (Waits config requests script) is named = record { workers = tt; rounds = tt; slots = tt; name = tt }
+in_range name rows (Explain config requests script) is named = record { workers = tt; rounds = tt; slots = tt; name = tt }
+in_range name rows (Simulate config trace patience) is named = record { workers = tt; rounds = tt; slots = tt; name = tt }
+in_range name rows (Timeline config trace patience) is named = record { workers = tt; rounds = tt; slots = tt; name = tt }
+in_range name rows (Compare config other trace patience) is named = record { workers = tt; rounds = tt; slots = tt; name = tt }
+in_range name rows (Fates config trace patience) is named = record { workers = tt; rounds = tt; slots = tt; name = tt }
+in_range name rows (Requests trace) is named = record { workers = tt; rounds = tt; slots = tt; name = tt }
+in_range name rows (Picture config trace patience) is named = record { workers = tt; rounds = tt; slots = tt; name = tt }
+in_range name rows (Hands config trace flow) is named = record { workers = tt; rounds = tt; slots = tt; name = tt }
+in_range name rows (Trace log schema chosen) is named = record { workers = tt; rounds = tt; slots = tt; name = tt }
 
 -- a command of another name than `serve` has no fault of a level's name
 other_name : (name other : Text) (rows : List Row) → name ≡ other → bytes_eq other (codes "serve") ≡ false → name_fault (Some (name, rows)) ≡ []
@@ -47,7 +47,7 @@ served name rows level b is told named =
 -- words whose action has a name that a level may have have no fault of it
 pub no_name_fault : (name : Text) (rows : List Row) (action : Action) → AsksFor name rows action → HasLevelName action → name_fault (Some (name, rows)) ≡ []
 unfolding clap_on_literals
-no_name_fault name rows (Run config requests workers) is named = other_name name _ rows is.0 refl
+no_name_fault name rows (Run config requests workers rounds) is named = other_name name _ rows is.0 refl
 no_name_fault name rows (Serve config slots level) is named = served name rows level.now true is.0 is.3 named
 no_name_fault name rows (Hash schema distinguisher) is named = other_name name _ rows is.0 refl
 no_name_fault name rows (Deal deck hand hash) is named = other_name name _ rows is.0 refl
@@ -67,7 +67,7 @@ no_name_fault name rows (Trace log schema chosen) is named = other_name name _ r
 -- words whose action has another have it
 pub has_name_fault : (name : Text) (rows : List Row) (action : Action) → AsksFor name rows action → HasBadName action
     → name_fault (Some (name, rows)) ≡ ValueValidation ∷ []
-has_name_fault name rows (Run config requests workers) is named = absurd named
+has_name_fault name rows (Run config requests workers rounds) is named = absurd named
 has_name_fault name rows (Serve config slots level) is named = served name rows level.now false is.0 is.3 named
 has_name_fault name rows (Hash schema distinguisher) is named = absurd named
 has_name_fault name rows (Deal deck hand hash) is named = absurd named

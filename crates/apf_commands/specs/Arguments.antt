@@ -1,7 +1,7 @@
 -- The arguments that a command has once `clap` has accepted its words, which the readers require.
 use Rattle.std.specs.Prelude.{◌≡◌, ℕ, List, codes}
 use Rattle.clap.specs.Words.{Row, Text}
-use Rattle.apf_commands.specs.Meaning.{IsNumber, IsSlotCount, IsText, IsWorkerCount}
+use Rattle.apf_commands.specs.Meaning.{IsNumber, IsRoundCount, IsSlotCount, IsText, IsWorkerCount}
 use Rattle.apf_commands.specs.Names.{text_of}
 use Rattle.apf_commands.specs.declared.names.CommandName.{CommandName}
 use Rattle.apf_commands.specs.declared.names.CommandName.TheVariants.{Hash, Deal, Replay, Run, Services, Waits, Explain, Serve, Simulate, Timeline, Compare, Fates, Requests, Picture, Hands, Trace}
@@ -36,6 +36,7 @@ pub record HasRunArguments (rows : List Row) : Type 0 where
   pub config : HasText rows (codes "CONFIG")
   pub requests : HasText rows (codes "REQUESTS")
   pub workers : (n : ℕ) × IsWorkerCount rows n
+  pub rounds : (n : ℕ) × IsRoundCount rows n
 
 -- the arguments of `serve` but for the level's name, which may be any text here
 pub record HasServeArguments (rows : List Row) : Type 0 where

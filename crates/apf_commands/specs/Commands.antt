@@ -36,6 +36,10 @@ any_u64 = Unsigned 0 18446744073709551615
 abbrev pub worker_count : ValueParser
 worker_count = Signed (pos 1) (pos 64)
 
+-- how many rounds may be asked for
+abbrev pub round_count : ValueParser
+round_count = Signed (pos 1) (pos 1000000)
+
 -- how many slots a level for life may have
 abbrev pub slot_count : ValueParser
 slot_count = Signed (pos 1) (pos 10000)
@@ -50,7 +54,7 @@ script_rules = file_rules ++ text_rule (codes "SCRIPT") ∷ []
 
 -- the arguments of `run`
 abbrev pub run_rules : List Rule
-run_rules = file_rules ++ number_rule (codes "WORKERS") worker_count ∷ []
+run_rules = file_rules ++ number_rule (codes "WORKERS") worker_count ∷ number_option_rule (codes "rounds") round_count ∷ []
 
 -- the arguments of `serve`
 abbrev pub serve_rules : List Rule

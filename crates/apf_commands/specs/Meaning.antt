@@ -43,6 +43,10 @@ IsNumberOr k otherwise rows id n = IsNumber k rows id n ⊎ ((one_of id rows ≡
 abbrev pub IsWorkerCount : List Row → ℕ → Type 0
 IsWorkerCount rows n = IsNumber 32 rows (codes "WORKERS") n × (1 ≤ n) × (n ≤ 64)
 
+-- the number of rounds is in its range, and 1 where none is given
+abbrev pub IsRoundCount : List Row → ℕ → Type 0
+IsRoundCount rows n = IsNumberOr 32 1 rows (codes "rounds") n × (1 ≤ n) × (n ≤ 1000000)
+
 -- the number of slots is in its range, and 10,000 where none is given
 abbrev pub IsSlotCount : List Row → ℕ → Type 0
 IsSlotCount rows n = IsNumberOr 32 10000 rows (codes "slots") n × (1 ≤ n) × (n ≤ 10000)
@@ -57,9 +61,9 @@ AsksFor name rows (Deal deck hand hash) = (name ≡ codes "deal")
 AsksFor name rows (Replay config requests script) = (name ≡ codes "replay")
     × IsText rows (codes "CONFIG") config.now × IsText rows (codes "REQUESTS") requests.now
     × IsText rows (codes "SCRIPT") script.now
-AsksFor name rows (Run config requests workers) = (name ≡ codes "run")
+AsksFor name rows (Run config requests workers rounds) = (name ≡ codes "run")
     × IsText rows (codes "CONFIG") config.now × IsText rows (codes "REQUESTS") requests.now
-    × IsWorkerCount rows workers
+    × IsWorkerCount rows workers × IsRoundCount rows rounds
 AsksFor name rows (Services config requests script) = (name ≡ codes "services")
     × IsText rows (codes "CONFIG") config.now × IsText rows (codes "REQUESTS") requests.now
     × IsText rows (codes "SCRIPT") script.now
@@ -98,8 +102,13 @@ AsksFor name rows (Trace log schema chosen) = (name ≡ codes "trace")
 
 -- who runs requests by workers has some
 abbrev pub HasWorkers : Action → Type 0
-HasWorkers (Run config requests workers) = 0 < workers
+HasWorkers (Run config requests workers rounds) = 0 < workers
 HasWorkers _ = Unit {0}
+
+-- who runs requests by workers does so in 1 to 1,000,000 rounds
+abbrev pub HasRounds : Action → Type 0
+HasRounds (Run config requests workers rounds) = (1 ≤ rounds) × (rounds ≤ 1000000)
+HasRounds _ = Unit {0}
 
 -- who serves a level has 1 to 10,000 slots
 abbrev pub HasSlots : Action → Type 0
@@ -119,6 +128,7 @@ HasBadName _ = ⊥
 -- the numbers and the name of an action are in their ranges
 pub record IsInRange (action : Action) : Type 0 where
   pub workers : HasWorkers action
+  pub rounds : HasRounds action
   pub slots : HasSlots action
   pub name : HasLevelName action
 

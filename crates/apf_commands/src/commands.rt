@@ -142,6 +142,7 @@ fn run_command<'a>(alloc: Global) -> Result<Command<'a>, AllocError>
     ensures local { IfOk result (λ c. (out-Command c).has_globals ≡ false) }
 {
     let workers = value_parser!(u32).range(1..=64);
+    let rounds = value_parser!(u32).range(1..=1_000_000);
     files_command(
         alloc,
         "run",
@@ -153,6 +154,13 @@ fn run_command<'a>(alloc: Global) -> Result<Command<'a>, AllocError>
         "WORKERS",
         workers,
         "Number of worker threads, 1 to 64",
+    ))?
+    .arg(number_option(
+        alloc,
+        "rounds",
+        rounds,
+        "N",
+        "How often each worker goes through its requests, 1 (the default) to 1000000",
     ))
 }
 

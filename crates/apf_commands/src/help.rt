@@ -145,10 +145,15 @@ Worker K of M brings the requests to their ends whose number leaves K when divid
 closes the level if the request says so, waits until it is decided, and if it executes does its
 work, cancels whom it names and gives the seats back. Then the book of the level is printed.
 
+With --rounds N each worker goes N times through its requests. Each time another request comes in
+the place of the same one of the file, and whoever holds the named place then is cancelled. The
+book is that of all of them.
+
 Where a file has a fault, apf explain says what is wrong, with any script, as /dev/null.
 
-Example:
+Examples:
   apf run config.json requests.json 8
+  apf run config.json requests.json 8 --rounds 1000
 
 Status: 0 done, 1 a file's fault or output that can't be written, 2 a command line's fault,
 3 no memory or a worker that could not start.";

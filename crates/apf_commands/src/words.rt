@@ -36,11 +36,13 @@ pub enum Action<'a> {
         requests: &'a str,
         script: &'a str,
     },
-    /// Run the requests on 1 to 64 worker threads, each 1 to 1,000,000 times, and print the book.
+    /// Run the requests on 1 to 64 worker threads, which go 1 to 1,000,000 times through them, and print the book. The
+    /// texts are file names.
     Run {
         config: &'a str,
         requests: &'a str,
         workers: u32,
+        rounds: u32,
     },
     /// Run a script and print the service of each queue; the texts are file names.
     Services {
@@ -226,10 +228,12 @@ fn run_action<'a>(matches: &ArgMatches<'a>) -> Action<'a>
 {
     let (config, requests) = files_of(matches);
     let workers = u32_of(matches, "WORKERS");
+    let rounds = u32_or(matches, "rounds", 1);
     Action::Run {
         config,
         requests,
         workers,
+        rounds,
     }
 }
 
@@ -452,14 +456,14 @@ fn judged<'a>(alloc: Global, action: Action<'a>) -> Result<Action<'a>, Error>
 ///
 /// Its texts and numbers are those that `clap` reads of the words, for the commands
 /// `hash SCHEMA DISTINGUISHER`, `deal DECK HAND HASH`, `replay CONFIG REQUESTS SCRIPT`,
-/// `run CONFIG REQUESTS WORKERS`, `services CONFIG REQUESTS SCRIPT`, `waits CONFIG REQUESTS SCRIPT`,
+/// `run CONFIG REQUESTS WORKERS [--rounds N]`, `services CONFIG REQUESTS SCRIPT`, `waits CONFIG REQUESTS SCRIPT`,
 /// `explain CONFIG REQUESTS SCRIPT`, `serve CONFIG [--slots S] [--name NAME]`,
 /// `simulate CONFIG TRACE PATIENCE`, `timeline CONFIG TRACE PATIENCE`, `compare CONFIG OTHER TRACE PATIENCE`,
 /// `fates CONFIG TRACE PATIENCE`, `requests TRACE`, `picture CONFIG TRACE PATIENCE`,
 /// `hands CONFIG TRACE [--flow NAME]` and
 /// `trace AUDITLOG SCHEMA [--by WHO] [--user NAME] [--since INSTANT] [--until INSTANT]`.
 /// `DECK` and `HAND` are whole decimal numbers of 32 bits, `HASH` is one of 64 bits, `WORKERS` is 1 to 64,
-/// `--slots` 1 to 10,000 and 10,000 if absent. `--name` is 1 to 253 bytes of `a-z`, `0-9`, `.`
+/// `--rounds` 1 to 1,000,000 and 1 if absent, `--slots` 1 to 10,000 and 10,000 if absent. `--name` is 1 to 253 bytes of `a-z`, `0-9`, `.`
 /// and `-`, and `level` if absent. The other arguments are texts, `PATIENCE` too.
 ///
 /// # Errors

@@ -1,0 +1,133 @@
+//! Runs the requests of files by workers.
+
+ghost use Rattle.std.specs.Prelude.{◌≡◌, ◌<◌, ◌≤◌, length, All, IfOk, OnOk};
+ghost use Rattle.apf_cli.specs.Runs.{AreRead, IsRunOf, IsRunInRounds, PrintsBook};
+ghost use Rattle.apf_life_run.specs.Plans.{HasWidth, max_rounds};
+ghost use Rattle.apf_run.specs.Limits.{max_requests};
+
+use crate::faults::Fault;
+use crate::files::{Files, Input, judge_names, read_input};
+use apf_life_run::{RoundsFault, run_rounds};
+use apf_run::{Config, Report, Request, RunFault, read_config, read_requests, run, write_book};
+use std::alloc::Global;
+use std::hint;
+use std::io::Write;
+use std::sync::Wait;
+use std::thread::Threads;
+
+impl From<RoundsFault> for Fault {
+    fn from(fault: RoundsFault) -> Fault {
+        match fault {
+            RoundsFault::NoMemory => Fault::NoMemory,
+            RoundsFault::Worker(number) => Fault::Worker(number),
+            RoundsFault::Gate(fault) => RunFault::Gate(fault).into(),
+            RoundsFault::Level(fault) => RunFault::Level(fault).into(),
+        }
+    }
+}
+
+/// Reads the config and the requests, the config judged before the requests are read.
+pub(crate) fn read_level<F: Files>(
+    alloc: Global,
+    files: &mut F,
+    config: &str,
+    requests: &str,
+) -> Result<(Config, Vec<Request>), Fault>
+    ensures few { IfOk result (λ o. length o.1.items ≤ max_requests) }
+    ensures widths { IfOk result (λ o. All HasWidth o.1.items) }
+    ensures read { IfOk result (λ o. AreRead F.holds config.now requests.now o.0 o.1.items) }
+{
+    let bytes = read_input(files, Input::Config, config)?;
+    let config = read_config(alloc, bytes.as_slice())?;
+    let bytes = read_input(files, Input::Requests, requests)?;
+    let requests = read_requests(alloc, bytes.as_slice())?;
+    Ok((config, requests))
+}
+
+// Work that turns an empty loop.
+struct Turns;
+
+fn turn(units: u32) {
+    for _ in 0..units {
+        hint::spin_loop();
+    }
+}
+
+impl apf_run::Work for Turns {
+    fn work(&self, _running: &apf_run::Running, units: u32) {
+        turn(units);
+    }
+}
+
+impl apf_life_run::Work for Turns {
+    fn work(&self, _running: &apf_life_run::Running, units: u32) {
+        turn(units);
+    }
+}
+
+// Reads the two files, and brings the requests to their ends by so many workers.
+fn ran<F: Files, R: Wait + Threads + Sync>(
+    rt: &R,
+    alloc: Global,
+    files: &mut F,
+    names: (&str, &str),
+    workers: u32,
+) -> Result<Report, Fault>
+    requires { 0 < workers }
+    ensures { IfOk result (IsRunOf F.holds names.entry.0.now names.entry.1.now workers) }
+{
+    let (config, requests) = read_level(alloc, files, names.0, names.1)?;
+    Ok(run(rt, alloc, &config, requests.as_slice(), workers, &Turns)?)
+}
+
+// Reads the two files, and brings so many requests in the place of each one to their ends, by so many workers.
+fn ran_in_rounds<F: Files, R: Wait + Threads + Sync>(
+    rt: &R,
+    alloc: Global,
+    files: &mut F,
+    names: (&str, &str),
+    workers: u32,
+    rounds: u32,
+) -> Result<apf_life_run::Report, Fault>
+    requires workers { 0 < workers }
+    requires some { 1 ≤ rounds }
+    requires few { rounds ≤ max_rounds }
+    ensures { IfOk result (IsRunInRounds F.holds names.entry.0.now names.entry.1.now workers rounds) }
+{
+    let (config, requests) = read_level(alloc, files, names.0, names.1)?;
+    Ok(run_rounds(
+        rt,
+        alloc,
+        &config,
+        requests.as_slice(),
+        workers,
+        rounds,
+        &Turns,
+    )?)
+}
+
+/// Reads the two files, lets so many workers go so often through the requests, and prints the book. A single round is
+/// run as a batch.
+pub(crate) fn print_run<F: Files, O: Write, R: Wait + Threads + Sync>(
+    rt: &R,
+    alloc: Global,
+    files: &mut F,
+    names: (&str, &str),
+    pace: (u32, u32),
+    out: &mut O,
+) -> Result<(), Fault>
+    requires workers { 0 < pace.0 }
+    requires some { 1 ≤ pace.1 }
+    requires few { pace.1 ≤ max_rounds }
+    ensures { OnOk result (PrintsBook F.holds names.entry.0.now names.entry.1.now pace.0 pace.1 (O.contents out.old) (O.contents out.new)) }
+{
+    judge_names(&[names.0, names.1])?;
+    let (workers, rounds) = pace;
+    if rounds == 1 {
+        let report = ran(rt, alloc, files, names, workers)?;
+        Ok(write_book(&report, out)?)
+    } else {
+        let report = ran_in_rounds(rt, alloc, files, names, workers, rounds)?;
+        Ok(apf_life_run::write_book(&report, out)?)
+    }
+}

@@ -1,0 +1,75 @@
+-- What a Station knows of the slots of its worker.
+use Rattle.std.specs.Prelude.{Some, slice_get}
+use Rattle.std.proofs.Common.{◌≡◌, ◌≢◌, ℕ, ◌+◌, ◌<◌, ◌≤◌, true, List, All, None, sym, ap, ◌∙◌, subst, arith, inl, inr}
+use Rattle.std.proofs.lemmas.Bool.{cases_eq}
+use Rattle.apf_files.specs.declared.requests.Request.{Request}
+use Rattle.apf_gate.specs.Records.{told_of, KnowsMore}
+use Rattle.apf_gate.specs.Slots.{slot_of, round_of}
+use Rattle.apf_gate.specs.Tokens.{PassToken, StationToken}
+use Rattle.apf_run.specs.Plans.{closes_at, closes_it}
+use Rattle.apf_life_run.specs.Plans.{number_in, number_of, width_it_asks}
+use Rattle.apf_life_run.specs.Workers.{KeepsKnowing, IsKnown}
+use Rattle.apf_life_run.proofs.Numbers.{slot_is, round_is}
+
+-- who knows more keeps knowing
+pub keeps : (s s' : StationToken) → KnowsMore s.station.knows s'.station.knows → KeepsKnowing s s'
+keeps s s' more = record {
+  closed = more.closed;
+  told = λ r was none. was (sym (more.told r was) ∙ none);
+}
+
+pub keeps_itself : (s : StationToken) → KeepsKnowing s s
+keeps_itself s = record { closed = λ saw. saw; told = λ r was. was }
+
+-- one step after another
+pub keeps_on : (a b c : StationToken) → KeepsKnowing a b → KeepsKnowing b c → KeepsKnowing a c
+keeps_on a b c first then = record {
+  closed = λ saw. then.closed (first.closed saw);
+  told = λ r was. then.told r (first.told r was);
+}
+
+pub still_known : (requests : List Request) (s s' : StationToken) (t : PassToken) → KeepsKnowing s s' → IsKnown requests s t → IsKnown requests s' t
+still_known requests s s' t keeps known = record {
+  closed = λ came closes. keeps.closed (known.closed came closes);
+  told = λ round came below. keeps.told _ (known.told round came below);
+}
+
+pub all_still_known : (requests : List Request) (s s' : StationToken) (ts : List PassToken) → KeepsKnowing s s' → All (IsKnown requests s) ts → All (IsKnown requests s') ts
+all_still_known requests s s' ts keeps known k d low = still_known requests s s' _ keeps (known k d low)
+
+-- no request of the slot came: nothing is to be known
+pub first_known : (requests : List Request) (s : StationToken) (t : PassToken) → round_of t.pass.number ≡ 0 → IsKnown requests s t
+first_known requests s t first = record {
+  closed = λ came. absurd (omega (arith, came, first));
+  told = λ round came below. absurd (omega (arith, came, below, first));
+}
+
+-- the slot had one more request, whose decision the Station was told
+pub one_more_known : (requests : List Request) (s s' : StationToken) (t t' : PassToken) → KeepsKnowing s s' → IsKnown requests s t
+    → slot_of t'.pass.number ≡ slot_of t.pass.number → round_of t'.pass.number ≡ round_of t.pass.number + 1
+    → (closes_at requests (slot_of t.pass.number) ≡ true → s'.station.knows.saw_closed ≡ true)
+    → told_of s'.station.knows.told (number_in requests (slot_of t.pass.number) (round_of t.pass.number + 1)) ≢ None → IsKnown requests s' t'
+one_more_known requests s s' t t' keeps known slot round closes heard = record {
+  closed = λ came closing. closes (ap (closes_at requests) (sym slot) ∙ closing);
+  told = λ j came below. subst (λ (i : ℕ). told_of s'.station.knows.told (number_in requests i j) ≢ None) (sym slot)
+      (elim (cases_eq j (round_of t.pass.number + 1)) [
+        | inl is ↦ subst (λ (i : ℕ). told_of s'.station.knows.told (number_in requests (slot_of t.pass.number) i) ≢ None) (sym is) heard
+        | inr differs ↦ keeps.told _ (known.told j came (omega (arith, below, round, differs)))
+      ]);
+}
+
+-- the slot's request of this round was brought to its end: the Station closed the level if that says so, and heard how it was decided
+pub handled : (requests : List Request) (s closed done s' : StationToken) (t t' : PassToken) (request : Request) (round : ℕ)
+    → slice_get requests (slot_of t.pass.number) ≡ Some request → request.width ≤ 20000 → round_of t.pass.number + 1 ≡ round
+    → KeepsKnowing s closed → (request.closes ≡ true → closed.station.knows.saw_closed ≡ true) → KeepsKnowing closed done → KeepsKnowing done s'
+    → t'.pass.number ≡ number_of (slot_of t.pass.number) round request.width → told_of s'.station.knows.told t'.pass.number ≢ None → IsKnown requests s t → IsKnown requests s' t'
+handled requests s closed done s' t t' request round at narrow before first closes then last number told known =
+    let slot : ℕ = slot_of t.pass.number in
+    let low : slot < 16384 = omega arith in
+    let same : slot_of t'.pass.number ≡ slot = ap slot_of number ∙ slot_is slot round request.width low in
+    let next : round_of t'.pass.number ≡ round = ap round_of number ∙ round_is slot round request.width low (omega (arith, narrow)) in
+    let is : t'.pass.number ≡ number_in requests slot (round_of t.pass.number + 1) =
+    number ∙ (ap (λ (w : ℕ). number_of slot round w) (sym (ap width_it_asks at)) ∙ ap (λ (n : ℕ). number_in requests slot n) (sym before)) in
+    one_more_known requests s s' t t' (keeps_on s closed s' first (keeps_on closed done s' then last)) known same (next ∙ sym before)
+    (λ closing. last.closed (then.closed (closes (sym (ap closes_it at) ∙ closing))))
+    (subst (λ (r : ℕ). told_of s'.station.knows.told r ≢ None) is told)

@@ -1,0 +1,157 @@
+-- What the end of a level says of the requests that its workers ran.
+use Rattle.std.proofs.Common.{◌≡◌, ◌≢◌, ℕ, ◌+◌, ◌*◌, ◌/◌, ◌%◌, ◌<◌, ◌≤◌, true, false, zero, suc, List, length, All, refl, sym, ap, ◌∙◌, subst, inr, arith}
+use Rattle.std.specs.Prelude.{Any, Option, Some, None, slice_get, slice_index_or}
+use Rattle.std.proofs.lemmas.Option.{slice_get-get_or}
+use Rattle.std.proofs.lemmas.Nat.{div_below, mod_below}
+use Rattle.apf_words.specs.declared.decision.Decision.{Decision}
+use Rattle.apf_words.specs.declared.decision.Decision.TheVariants.{Cancelled}
+use Rattle.apf_words.specs.Level.{Level}
+use Rattle.apf_model.specs.declared.config.Config.{Config}
+use Rattle.apf_model.specs.declared.moves.Move.TheVariants.{SetLimit}
+use Rattle.apf_files.specs.declared.requests.Request.{Request}
+use Rattle.apf_gate.specs.declared.record.Actor.TheVariants.{OfStation}
+use Rattle.apf_gate.specs.Counted.{total}
+use Rattle.apf_gate.specs.Gauges.{max_numbers}
+use Rattle.apf_gate.specs.Records.{told_of}
+use Rattle.apf_gate.specs.Slots.{slot_of, round_of}
+use Rattle.apf_gate.specs.Traces.{Made, world_of}
+use Rattle.apf_gate.specs.Tokens.{PassToken, StationToken}
+use Rattle.apf_gate.specs.Ends.{WroteCancelled, ClosedFirst}
+use Rattle.apf_life.specs.Levels.{LifeId}
+use Rattle.apf_life.specs.declared.report.Report.{Report}
+use Rattle.apf_life.specs.Reports.{Ended}
+use Rattle.apf_run.specs.Plans.{SomeCloses, closes_it, closes_at}
+use Rattle.apf_run.proofs.Limits.{limit_stays, made_within}
+use Rattle.apf_life_run.specs.Plans.{number_in, width_it_asks, HasWidth, IsNamedIn, IsFaithful}
+use Rattle.apf_life_run.specs.Workers.{IsInRound}
+use Rattle.apf_life_run.specs.Runs.{Returned, SomeTold, IsKnownTo, AreFinished, IsLevelFor, HasRunRounds}
+use Rattle.apf_life_run.proofs.Numbers.{slot_is, round_is, is_number, same_place}
+use Rattle.apf_life_run.proofs.Counting.{as_many, contained}
+
+-- what follows of one of which P holds, where Q holds of each
+of_one : {A : Type 0} {C : Type 0} (P Q : A → Type 0) (xs : List A) → ((x : A) → P x → Q x → C) → Any P xs → All Q xs → C
+of_one P Q xs f any all = f any.1 any.4 (subst Q any.3 (all any.0 any.1 any.2))
+
+-- what follows of one of which P holds, where Q and R hold of each
+of_one_of : {A : Type 0} {C : Type 0} (P Q R : A → Type 0) (xs : List A) → ((x : A) → P x → Q x → R x → C) → Any P xs → All Q xs → All R xs → C
+of_one_of P Q R xs f any all also = f any.1 any.4 (subst Q any.3 (all any.0 any.1 any.2)) (subst R any.3 (also any.0 any.1 any.2))
+
+module _ (k : LifeId) (config : Config) (requests : List Request) (rounds : ℕ) (report : Report) (r : Returned)
+    (some : 1 ≤ rounds) (few : rounds ≤ 1000000)
+    (widths : All HasWidth requests)
+    (slots : length requests ≤ 10000)
+    (numbers : length k.gate.shape.widths ≡ max_numbers)
+    (settings : IsLevelFor config (length requests) k)
+    (finished : AreFinished k.gate requests rounds r)
+    (ended : Ended k r.dones r.stations report)
+    (count : length r.dones ≡ length requests) where
+  -- whoever is cancelled, a Station wrote that of which a request says so
+  named : (i : ℕ) → i < length k.gate.shape.widths → (world_of k.gate.shape ended.words_agree.trace).decision i ≡ Some Cancelled → IsNamedIn requests rounds i
+  named i low is = of_one (WroteCancelled i) (IsFaithful k.gate requests rounds) r.stations (λ s wrote faithful. faithful.cancels i wrote) (ended.words_agree.cancelled_by_one i is) finished.faithful
+
+  said : report.words.level.closed ≡ true → SomeCloses requests
+  said closed = of_one ClosedFirst (IsFaithful k.gate requests rounds) r.stations (λ s first faithful. faithful.closes first) (ended.words_agree.closed_by_one closed) finished.faithful
+
+  -- a request that closes came, and its worker's Station saw the level closed
+  closes : SomeCloses requests → report.words.level.closed ≡ true
+  closes any =
+      let j : ℕ = any.0 in
+      let low : j < k.gate.shape.slots = (let l = any.2 in omega (arith, settings.slots)) in
+      let at : closes_at requests j ≡ true = ap closes_it (slice_get-get_or requests j any.1 any.2) ∙ ap (λ (q : Request). q.closes) any.3 ∙ any.4 in
+      of_one_of (λ (t : PassToken). slot_of t.pass.number ≡ j) (IsInRound rounds) (IsKnownTo requests r.stations) r.dones
+      (λ t here through known. of_one (λ (s : StationToken). s.station.knows.saw_closed ≡ true) (λ (s : StationToken). s.station.knows.saw_closed ≡ true → report.words.level.closed ≡ true) r.stations
+      (λ s saw then. then saw) (known.closed (omega (arith, through, some)) (ap (closes_at requests) here ∙ at)) ended.words_agree.closed_is_seen)
+      (ended.words_agree.each_slot j low) finished.through finished.known
+
+  -- each Station was handed in, and set no limit
+  sets_none : (j n : ℕ) → j < k.gate.shape.stations → ¬ Made ended.words_agree.trace (OfStation j) (SetLimit n)
+  sets_none j n low made =
+      let any = ended.words_agree.each_station j low in
+      let s : StationToken = slice_index_or r.stations any.0 any.1 in
+      let faithful : IsFaithful k.gate requests rounds s = finished.faithful any.0 any.1 any.2 in
+      let on = ended.words_agree.longest.from_stations any.0 any.1 any.2 in
+      let number : s.station.number ≡ j = ap (λ (t : StationToken). t.station.number) any.3 ∙ any.4 in
+      faithful.limits n (made_within ended.words_agree.trace s.station.knows.trace (OfStation s.station.number) (SetLimit n) on (subst (λ (i : ℕ). Made ended.words_agree.trace (OfStation i) (SetLimit n)) (sym number) made))
+
+  limit_is : report.words.level.limit ≡ config.limit
+  limit_is = ap (λ (l : Level). l.limit) ended.words_agree.level ∙ (limit_stays k.gate.shape ended.words_agree.trace ended.words_agree.longest.made sets_none ∙ settings.limit)
+
+  -- a width that is asked for has its bits
+  narrow : (slot : ℕ) → slot < length requests → width_it_asks (slice_get requests slot) < 32768
+  narrow slot low =
+      let d : Request = record { width = 1; hash = 0; work = 0; cancels = None; closes = false } in
+      let is : width_it_asks (slice_get requests slot) ≡ (slice_index_or requests slot d).width = ap width_it_asks (slice_get-get_or requests slot d low) in
+      let has = widths slot d low in
+      omega (arith, is, has.1)
+
+  -- each request of each round was told, and so is decided
+  decided : (slot round : ℕ) → slot < length requests → 1 ≤ round → round ≤ rounds
+      → (decision : Decision) × ((world_of k.gate.shape ended.words_agree.trace).decision (number_in requests slot round) ≡ Some decision)
+  decided slot round low came within =
+      of_one_of (λ (t : PassToken). slot_of t.pass.number ≡ slot) (IsInRound rounds) (IsKnownTo requests r.stations) r.dones
+      (λ t here through known. was_told (number_in requests slot round)
+      (subst (λ (i : ℕ). SomeTold r.stations (number_in requests i round)) here (known.told round came (omega (arith, within, through)))))
+      (ended.words_agree.each_slot slot (omega (arith, low, settings.slots))) finished.through finished.known
+    where
+      by : (i : ℕ) (any : SomeTold r.stations i) (found : Option Decision) → told_of (slice_index_or r.stations any.0 any.1).station.knows.told i ≡ found
+          → (decision : Decision) × ((world_of k.gate.shape ended.words_agree.trace).decision i ≡ Some decision)
+      by i any None is = absurd (any.4 (ap (λ (s : StationToken). told_of s.station.knows.told i) (sym any.3) ∙ is))
+      by i any (Some decision) is = (decision, ended.words_agree.told i decision (inr (inr (any.0, any.1, any.2, any.3, ap (λ (s : StationToken). told_of s.station.knows.told i) (sym any.3) ∙ is))))
+
+      was_told : (i : ℕ) → SomeTold r.stations i → (decision : Decision) × ((world_of k.gate.shape ended.words_agree.trace).decision i ≡ Some decision)
+      was_told i any = by i any (told_of (slice_index_or r.stations any.0 any.1).station.knows.told i) refl
+
+  each_decided : (slot round : ℕ) → slot < length requests → 1 ≤ round → round ≤ rounds → (world_of k.gate.shape ended.words_agree.trace).decision (number_in requests slot round) ≢ None
+  each_decided slot round low came within none = no_decision (decided slot round low came within).0 (sym (decided slot round low came within).1 ∙ none)
+    where
+      no_decision : (decision : Decision) → Some decision ≡ None → ⊥
+      no_decision decision is = cc
+
+  -- the places are apart, and each stands among all that were ever decided
+  sums : rounds * length requests ≤ total report.words.counts
+  sums =
+      let n : ℕ = length requests in
+      let ever = ended.words_agree.ever in
+      let many : rounds * n ≤ length ever = as_many (λ i. number_in requests (i % n) (i / n + 1)) (rounds * n) ever
+      (λ i j low below same.
+      let one = bounds i low in
+      let two = bounds j below in
+      same_place n i j
+      (sym (slot_is (i % n) (i / n + 1) _ (omega (arith, one.0, slots))) ∙ (ap slot_of same ∙ slot_is (j % n) (j / n + 1) _ (omega (arith, two.0, slots))))
+      (let a = round_is (i % n) (i / n + 1) _ (omega (arith, one.0, slots)) (narrow (i % n) one.0) in
+      let b = round_is (j % n) (j / n + 1) _ (omega (arith, two.0, slots)) (narrow (j % n) two.0) in
+      let e = ap round_of same in
+      omega (arith, a, b, e)))
+      (λ i low.
+      let one = bounds i low in
+      let told = decided (i % n) (i / n + 1) one.0 (omega arith) (omega (arith, one.1)) in
+      contained _ told.0 ever (ended.words_agree.are_all.each _ told.0
+      (let b = is_number (i % n) (i / n + 1) (width_it_asks (slice_get requests (i % n))) (omega (arith, one.0, slots)) (narrow (i % n) one.0) (omega (arith, one.1, few)) in omega (arith, b, numbers))
+      told.1)) in
+      omega (arith, many, ended.words_agree.sums.all)
+    where
+      bounds : (i : ℕ) → i < rounds * length requests → (i % length requests < length requests) × (i / length requests < rounds)
+      bounds i low =
+          let some : 0 < length requests = has_some (length requests) low in
+          (mod_below i (length requests) some, div_below i (length requests) rounds some low)
+        where
+          has_some : (n : ℕ) → i < rounds * n → 0 < n
+          has_some zero below = absurd (omega arith)
+          has_some (suc n) below = omega arith
+
+  pub told : HasRunRounds config requests rounds report
+  told = record {
+    level = k;
+    of_settings = settings;
+    slots = r.dones;
+    stations = r.stations;
+    ended = ended;
+    count = count;
+    through = finished.through;
+    each_decided = each_decided;
+    sums = sums;
+    limit = limit_is;
+    cancelled_is_named = named;
+    closed_is_said = said;
+    said_is_closed = closes;
+  }

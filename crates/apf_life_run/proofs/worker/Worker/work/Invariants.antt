@@ -1,0 +1,12 @@
+-- The worker went as often through its slots, which are as many as it had.
+use Rattle.std.proofs.Common.{◌≡◌, [], length, All}
+use Rattle.apf_life_run.specs.Workers.{IsInRound}
+use Rattle.apf_life_run.proofs.worker.Worker.work.Given as goal
+
+abbrev pub invariant-loop-before : goal.invariant-loop-before
+invariant-loop-before g l =
+    record {
+      over : l.worker.over ≡ [];
+      count : length l.worker.slots ≡ length l.fn.self.slots;
+      through : All (IsInRound l.before) l.worker.slots;
+    }

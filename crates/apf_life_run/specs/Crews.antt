@@ -1,0 +1,18 @@
+-- The workers of a run in rounds that were started.
+use Rattle.std.specs.Prelude.{ℕ, ◌+◌, ◌<◌, List, [], ◌∷◌}
+use Rattle.std.specs.declared.thread.PromisedHandle.{PromisedHandle}
+use Rattle.apf_life_run.specs.declared.crew.Share.{Share}
+use Rattle.apf_life_run.specs.declared.fault.RoundsFault.{RoundsFault}
+use Rattle.apf_life_run.specs.declared.fault.RoundsFault.TheVariants.{NoMemory, Worker, Gate, Level}
+
+-- how many slots they are expected to give back
+abbrev pub expected : {T : Type 0} → List (PromisedHandle T Share) → ℕ
+expected {T} [] = 0
+expected {T} (h ∷ hs) = h.promise.count + expected hs
+
+-- what keeps so many workers from their ends: one of them could not be started, or memory was refused
+abbrev pub IsCrewFault : ℕ → RoundsFault → Type 0
+IsCrewFault workers (Worker k) = k < workers
+IsCrewFault workers NoMemory = Unit {0}
+IsCrewFault workers (Gate fault) = ⊥
+IsCrewFault workers (Level fault) = ⊥

@@ -1,0 +1,195 @@
+//! Deals the slots of a run out to its workers, starts them, and joins them.
+
+ghost use Rattle.std.specs.Prelude.{◌≡◌, ◌+◌, ◌<◌, ◌≤◌, [], length, All, IfOk, IfErr, OnOk};
+ghost use Rattle.apf_words.specs.Limits.{max_stations};
+ghost use Rattle.apf_session.specs.Openings.{IsNew};
+ghost use Rattle.apf_life_run.specs.Workers.{IsFirstOf, IsIdle, IsReady, IsThrough, held};
+ghost use Rattle.apf_life_run.specs.Crews.{expected, IsCrewFault};
+ghost use Rattle.apf_life_run.specs.declared.fault.RoundsFault.TheVariants as faults;
+
+use crate::fault::RoundsFault;
+use crate::finished::Finished;
+use crate::operator::Operator;
+use crate::plan::Plan;
+use crate::worker::{Job, Work, Worker};
+use apf_gate::Station;
+use apf_life::Done;
+use std::alloc::{AllocError, Global};
+use std::sync::Wait;
+use std::thread;
+use std::thread::{Promise, PromisedHandle, Scope, Threads};
+
+/// That a worker goes through all rounds with as many slots.
+#[derive(Drop)]
+pub struct Share {
+    count: usize,
+}
+
+impl<K: Plan> Promise<Result<Worker<K>, AllocError>> for Share {
+    ghost use Rattle.std.specs.Prelude.{IfOk};
+    ghost use Rattle.apf_life_run.specs.Workers.{IsThrough};
+
+    ghost kept_by = { λ p r. IfOk r (IsThrough K.rounds p.count) };
+}
+
+type Handle<K> = PromisedHandle<Result<Worker<K>, AllocError>, Share>;
+
+// A worker for each Station, with memory for its share of so many slots.
+fn idle<K: Plan>(
+    alloc: Global,
+    slots: usize,
+    stations: Vec<Station>,
+) -> Result<Vec<Worker<K>>, AllocError>
+    requires { All (IsNew K.level.gate) stations.items }
+    ensures count { IfOk result (λ v. length v.items ≡ length stations.items) }
+    ensures idle { IfOk result (λ v. All IsIdle v.items) }
+{
+    let share = slots.div_ceil(stations.len().max(1));
+    let mut workers = Vec::with_capacity(alloc, stations.len())?;
+    for station in stations {
+        workers.push(Worker::new(alloc, Operator::new(station), share)?)?;
+    }
+    Ok(workers)
+}
+
+/// The workers of a run. Worker k of m has the slots whose numbers leave k when divided by m, in their order.
+///
+/// # Errors
+///
+/// `AllocError` if memory was refused.
+#[tactic(auto, using(crate::proofs::Crews::none_held))]
+pub fn deal_out<K: Plan>(
+    alloc: Global,
+    mut slots: Vec<Done>,
+    stations: Vec<Station>,
+) -> Result<Vec<Worker<K>>, AllocError>
+    requires some { 0 < length stations.items }
+    requires stations { All (IsNew K.level.gate) stations.items }
+    requires first { All (IsFirstOf K.level.gate) slots.items }
+    ensures count { IfOk result (λ v. length v.items ≡ length stations.items) }
+    ensures held { IfOk result (λ v. held v.items ≡ length slots.items) }
+    ensures ready { IfOk result (λ v. All IsReady v.items) }
+{
+    let mut workers = idle::<K>(alloc, slots.len(), stations)?;
+    while let Some(slot) = slots.pop() {
+        let at = slot.ticket().slot() as usize % workers.len();
+        workers[at].add(slot)?;
+    }
+    Ok(workers)
+}
+
+// Starts a worker.
+fn start<'s, E, K: Plan, W: Work, R: Wait + Threads + Sync>(
+    scope: &Scope<'s, E>,
+    rt: &'s R,
+    job: &'s Job<'s, K, W>,
+    number: u32,
+    rounds: u32,
+    worker: Worker<K>,
+) -> Result<Handle<K>, RoundsFault>
+    requires ready { IsReady worker }
+    requires rounds { rounds ≡ K.rounds }
+    ensures count { IfOk result (λ h. h.promise.count ≡ length worker.slots) }
+    ensures fault { IfErr result (λ f. f ≡ faults.Worker number) }
+{
+    let share = Share {
+        count: worker.share(),
+    };
+    let started = scope.spawn_with(
+        share,
+        move || -> Result<Worker<K>, AllocError>
+            requires ready { IsReady worker }
+            requires rounds { rounds ≡ K.rounds }
+            ensures { IfOk result (IsThrough K.rounds (length worker.slots)) }
+        { worker.work(rt, job, rounds) },
+    );
+    match started {
+        Ok(handle) => Ok(handle),
+        Err(_refused) => Err(RoundsFault::Worker(number)),
+    }
+}
+
+// Starts each worker. Where one can't be started, those that were go on to their ends.
+fn start_all<'s, E, K: Plan, W: Work, R: Wait + Threads + Sync>(
+    scope: &Scope<'s, E>,
+    rt: &'s R,
+    job: &'s Job<'s, K, W>,
+    rounds: u32,
+    workers: Vec<Worker<K>>,
+    handles: &mut Vec<Handle<K>>,
+) -> Result<(), RoundsFault>
+    requires few { length workers.items ≤ max_stations }
+    requires none { handles.old.items ≡ [] }
+    requires ready { All IsReady workers.items }
+    requires rounds { rounds ≡ K.rounds }
+    ensures count { OnOk result (length handles.new.items ≡ length workers.items) }
+    ensures expected { OnOk result (expected handles.new.items ≡ held workers.items) }
+    ensures fault { IfErr result (IsCrewFault (length workers.items)) }
+{
+    let mut number = 0;
+    for worker in workers {
+        let handle = start(scope, rt, job, number, rounds, worker)?;
+        if handles.push(handle).is_err() {
+            return Err(RoundsFault::NoMemory);
+        }
+        number += 1;
+    }
+    Ok(())
+}
+
+// Waits for each worker, and adds what it gave back.
+fn join_all<K: Plan, R: Threads>(
+    rt: &R,
+    handles: Vec<Handle<K>>,
+    mut finished: Finished<K>,
+) -> Result<Finished<K>, RoundsFault>
+    ensures dones { IfOk result (λ f. length f.dones ≡ length finished.dones + expected handles.items) }
+    ensures stations { IfOk result (λ f. length f.stations ≡ length finished.stations + length handles.items) }
+    ensures fault { IfErr result (λ f. f ≡ faults.NoMemory) }
+{
+    for handle in handles {
+        finished = finished.with(handle.join(rt)?)?;
+    }
+    Ok(finished)
+}
+
+/// Lets each worker go so many rounds through its slots, in a thread of its own, and adds what they give back.
+///
+/// # Errors
+///
+/// `RoundsFault::Worker` of the first worker that could not be started, or `RoundsFault::NoMemory`. Those that were
+/// started go on to their ends.
+pub fn work_all<K: Plan, W: Work, R: Wait + Threads + Sync>(
+    rt: &R,
+    alloc: Global,
+    job: &Job<'_, K, W>,
+    rounds: u32,
+    workers: Vec<Worker<K>>,
+    finished: Finished<K>,
+) -> Result<Finished<K>, RoundsFault>
+    requires few { length workers.items ≤ max_stations }
+    requires none { (finished.dones ≡ []) × (finished.stations ≡ []) }
+    requires ready { All IsReady workers.items }
+    requires rounds { rounds ≡ K.rounds }
+    ensures dones { IfOk result (λ f. length f.dones ≡ held workers.items) }
+    ensures stations { IfOk result (λ f. length f.stations ≡ length workers.items) }
+    ensures fault { IfErr result (IsCrewFault (length workers.items)) }
+{
+    let mut handles = Vec::with_capacity(alloc, workers.len())?;
+    thread::scope(
+        thread::scope_env(),
+        rt,
+        move |scope| -> Result<Finished<K>, RoundsFault>
+            requires few { length workers.items ≤ max_stations }
+            requires none { (finished.dones ≡ []) × (finished.stations ≡ []) × (handles.items ≡ []) }
+            requires ready { All IsReady workers.items }
+            requires rounds { rounds ≡ K.rounds }
+            ensures dones { IfOk result (λ f. length f.dones ≡ held workers.items) }
+            ensures stations { IfOk result (λ f. length f.stations ≡ length workers.items) }
+            ensures fault { IfErr result (IsCrewFault (length workers.items)) }
+        {
+            start_all(scope, rt, job, rounds, workers, &mut handles)?;
+            join_all(rt, handles, finished)
+        },
+    )
+}

@@ -1,0 +1,86 @@
+//! What the workers of a run in rounds gave back.
+
+ghost use Rattle.std.specs.Prelude.{◌≡◌, ◌+◌, [], length, All, IfOk};
+ghost use Rattle.apf_life_run.specs.Workers.{IsInRound};
+ghost use Rattle.apf_life_run.specs.Runs.{AreFinished};
+
+use crate::plan::Plan;
+use crate::worker::Worker;
+use apf_gate::Station;
+use apf_life::Done;
+use std::alloc::{AllocError, Global};
+use std::marker::{Model, PhantomData};
+
+/// The slots and the Stations of the workers that went through all rounds.
+#[derive(Drop)]
+pub struct Finished<K: Plan> {
+    dones: Vec<Done>,
+    stations: Vec<Station>,
+    of: PhantomData<K>,
+}
+
+impl<K: Plan> Model for Finished<K> {
+    ghost use Rattle.apf_life_run.specs.Runs.{Returned, AreFinished};
+
+    ghost Value = { Returned };
+
+    ghost view = { λ f. record { dones = f.dones.items; stations = f.stations.items } };
+
+    ghost invariant = { λ f. AreFinished K.level.gate K.requests K.rounds (record { dones = f.dones.items; stations = f.stations.items }) };
+}
+
+impl<K: Plan> Finished<K> {
+    /// Nothing yet, with memory for so many slots and Stations.
+    ///
+    /// # Errors
+    ///
+    /// `AllocError` if memory was refused.
+    pub fn new(alloc: Global, slots: usize, stations: usize) -> Result<Finished<K>, AllocError>
+        ensures { IfOk result (λ f. (f.dones ≡ []) × (f.stations ≡ [])) }
+    {
+        Ok(Finished {
+            dones: Vec::with_capacity(alloc, slots)?,
+            stations: Vec::with_capacity(alloc, stations)?,
+            of: PhantomData,
+        })
+    }
+
+    /// With what a worker gave back, which went through all rounds.
+    ///
+    /// # Errors
+    ///
+    /// `AllocError` if memory was refused.
+    pub fn with(self, worker: Worker<K>) -> Result<Finished<K>, AllocError>
+        requires rounds { All (IsInRound K.rounds) worker.slots }
+        ensures dones { IfOk result (λ f. length f.dones ≡ length self.dones + length worker.slots) }
+        ensures stations { IfOk result (λ f. length f.stations ≡ length self.stations + 1) }
+    {
+        let Finished {
+            mut dones,
+            mut stations,
+            of,
+        } = self;
+        let (station, mut more) = worker.into_parts();
+        dones.append(&mut more)?;
+        stations.push(station)?;
+        Ok(Finished {
+            dones,
+            stations,
+            of,
+        })
+    }
+
+    /// The slots and the Stations.
+    pub fn into_parts(self) -> (Vec<Done>, Vec<Station>)
+        ensures dones { result.0.items ≡ self.dones }
+        ensures stations { result.1.items ≡ self.stations }
+        ensures finished { AreFinished K.level.gate K.requests K.rounds self }
+    {
+        let Finished {
+            dones,
+            stations,
+            of: _,
+        } = self;
+        (dones, stations)
+    }
+}

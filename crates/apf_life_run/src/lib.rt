@@ -1,0 +1,26 @@
+//! Runs requests by workers, in rounds: each slot of a level is given again and again, to the same request.
+//!
+//! - `fault`: why a run in rounds came to nothing.
+//! - `opening`: the gate of a run. `plan`: which level, which requests and how many rounds a run is of.
+//! - `newest`: which request holds a slot now, as its worker notes it.
+//! - `operator`: a worker's Station, and `worker` a worker with its share of the slots. `crew`: all workers, dealt out,
+//!   started and joined. `finished`: what they gave back.
+//! - `running`: runs requests by workers, in rounds. `book`: writes what such a run reports.
+#![tactic(auto)]
+
+mod book;
+mod crew;
+mod fault;
+mod finished;
+mod newest;
+mod opening;
+mod operator;
+mod plan;
+mod running;
+mod worker;
+
+pub use apf_life::{Report, Running};
+pub use book::write_book;
+pub use fault::RoundsFault;
+pub use running::run_rounds;
+pub use worker::Work;

@@ -1,0 +1,197 @@
+"""Runs in rounds: each worker goes again and again through its requests, and the book says what it must say in every schedule."""
+
+import json
+import os
+import random
+import re
+import subprocess
+import sys
+import time
+
+sys.path.insert(0, os.path.join(os.path.dirname(os.path.abspath(__file__)), "lib"))
+from books import BOOK
+from harness import Files, Tally, build, run
+
+tally = Tally()
+program = build()
+files = Files()
+# the same draws each time; APF_SEED draws others
+seed = int(os.environ.get("APF_SEED", "1040"))
+draw = random.Random(seed)
+print(f"seed {seed}")
+
+
+def words(config, requests, workers, rounds):
+    more = [] if rounds is None else ["--rounds", str(rounds)]
+    return ["run", files("config", json.dumps(config)), files("requests", json.dumps(requests)), str(workers), *more]
+
+
+def ran(config, requests, workers, rounds=None):
+    return run(program, words(config, requests, workers, rounds))
+
+
+def book(closed, *numbers):
+    return (
+        "level %s seats 0 waiting 0\nexecuted %d rejected %d cancelled %d undecided 0\n"
+        "queue-full %d closed %d concurrency-limit %d\nentered %d dispatched %d struck %d\n" % (closed, *numbers)
+    ).encode()
+
+
+def one_queue(limit, **more):
+    return {"limit": limit, "queues": 1, "handSize": 1, "queueLengthLimit": 100, **more}
+
+
+# worked rows, which come out so in every schedule
+plain = {"hash": 0}
+for name, config, requests, workers, rounds, want in [
+    ("all fit", one_queue(1000), [plain] * 100, 8, 50, book("open", 5000, 0, 0, 0, 0, 0, 0, 0, 0)),
+    ("all fit, Reject", one_queue(1000, limitResponse="Reject"), [plain] * 100, 8, 50, book("open", 5000, 0, 0, 0, 0, 0, 0, 0, 0)),
+    ("two rounds", one_queue(1), [plain] * 3, 1, 2, book("open", 6, 0, 0, 0, 0, 0, 0, 0, 0)),
+    ("nobody", one_queue(1), [], 64, 1_000_000, book("open", 0, 0, 0, 0, 0, 0, 0, 0, 0)),
+    ("more workers than requests", one_queue(1), [plain], 64, 7, book("open", 7, 0, 0, 0, 0, 0, 0, 0, 0)),
+    # who did not come yet is nobody, and who came is over when one worker comes to the next request
+    ("one worker cancels nobody", one_queue(1), [{"hash": 0, "cancels": 1}, {"hash": 0, "cancels": 0}], 1, 9, book("open", 18, 0, 0, 0, 0, 0, 0, 0, 0)),
+    ("one cancels itself", one_queue(1), [{"hash": 0, "cancels": 0}], 1, 9, book("open", 9, 0, 0, 0, 0, 0, 0, 0, 0)),
+    # the level closes in the first round, and stays so
+    ("closes", one_queue(1), [plain, {"hash": 0, "closes": True}, plain], 1, 10, book("closed", 1, 29, 0, 0, 29, 0, 0, 0, 0)),
+    ("closes at once", one_queue(1), [{"hash": 0, "closes": True}], 1, 1000, book("closed", 0, 1000, 0, 0, 1000, 0, 0, 0, 0)),
+]:
+    tally.check(name, ran(config, requests, workers, rounds), (0, want, b""))
+
+# a single round is a run without the option
+for config, requests, workers in [
+    (one_queue(1), [{"hash": 0, "cancels": 2}, plain, plain, {"hash": 0, "closes": True}, plain], 1),
+    (one_queue(8), [{"hash": 0, "cancels": 15}] * 8 + [plain] * 8, 8),
+    (one_queue(1000), [plain] * 100, 8),
+]:
+    tally.check("one round", ran(config, requests, workers, 1), ran(config, requests, workers))
+
+
+def faults(config, requests, workers, rounds, text):
+    """The sentences that the book of so many rounds breaks."""
+    found = BOOK.fullmatch(text)
+    if not found:
+        return ["it has four lines"]
+    is_closed = found[1] == "closed"
+    seats, waiting, executed, rejected, cancelled, undecided, full, closed, limited, entered, dispatched, struck = map(int, found.groups()[1:])
+    rejects = config.get("limitResponse", "Queue") == "Reject"
+    closes = any(request.get("closes") for request in requests)
+    named = {request["cancels"] for request in requests if "cancels" in request}
+    roomy = not rejects and config.get("queueLengthLimit", 50) >= workers
+    sentences = [
+        ("no seat is taken and nobody waits", seats == waiting == 0),
+        ("each request of each round is decided", undecided == 0 and executed + rejected + cancelled == rounds * len(requests)),
+        ("the rejected are of three kinds", rejected == full + closed + limited),
+        ("it is closed exactly if a request closes it", is_closed == closes),
+        ("whoever is cancelled is named", cancelled <= rounds * len(named)),
+        ("nobody is closed of an open level", closed == 0 or is_closed),
+        ("whoever comes after his worker's close is closed or cancelled", not closes or executed <= rounds * len(requests) - (rounds - 1)),
+        ("whoever entered was dispatched or struck", entered == dispatched + struck),
+        ("whoever was dispatched is executed", dispatched <= executed),
+        ("whoever was struck is cancelled", struck <= cancelled),
+        ("nobody is refused as full of a level without queues", not rejects or full == entered == 0),
+        ("nobody is refused at once of a level with queues", rejects or limited == 0),
+        ("no queue is full that has room for all workers", not roomy or full == 0),
+        ("all execute where queues have room and nobody is named or closes", not roomy or closes or named or executed == rounds * len(requests)),
+        ("nobody waits of one worker", workers > 1 or entered == cancelled == 0),
+    ]
+    return [name for name, holds in sentences if not holds]
+
+
+def request(count):
+    more = {"width": draw.choice([1, 1, 2, 3, 9])} if draw.random() < 0.5 else {}
+    if draw.random() < 0.3:
+        more["cancels"] = draw.randrange(count)
+    if draw.random() < 0.6:
+        more["work"] = draw.choice([0, 100, 2000])
+    return {"hash": draw.choice([0, 1, 7, draw.getrandbits(64)]), **more}
+
+
+def drawn():
+    queues = draw.choice([1, 2, 5, 64])
+    config = {
+        "limit": draw.choice([1, 1, 2, 3, 8, 10_000]),
+        "queues": queues,
+        "handSize": draw.randint(1, min(queues, 8)),
+        "queueLengthLimit": draw.choice([1, 2, 10, 100]),
+        "limitResponse": draw.choice(["Queue", "Queue", "Reject"]),
+    }
+    count = draw.choice([1, 5, 40, 100])
+    requests = [request(count) for _ in range(count)]
+    if draw.random() < 0.2:
+        requests[draw.randrange(count)]["closes"] = True
+    if draw.random() < 0.2:
+        requests = [{key: value for key, value in it.items() if key != "cancels"} for it in requests]
+    return config, requests, draw.choice([1, 3, 8, 64]), draw.choice([2, 3, 10, 100])
+
+
+began = time.monotonic()
+seen = {}
+for number in range(100):
+    config, requests, workers, rounds = drawn()
+    status, out, err = ran(config, requests, workers, rounds)
+    text = out.decode(errors="replace")
+    tally.check(f"run {number}: {rounds} times {len(requests)} by {workers} at {config}", (status, faults(config, requests, workers, rounds, text), err), (0, [], b""))
+    found = BOOK.fullmatch(text)
+    for place, name in [(8, "queue-full"), (9, "closed"), (10, "concurrency-limit"), (12, "dispatched"), (13, "struck"), (6, "cancelled")]:
+        seen[name] = seen.get(name, 0) + (int(found[place]) > 0 if found else 0)
+print(f"100 runs took {time.monotonic() - began:.1f} s; runs that had some: {seen}")
+tally.check("the draws reach each kind but a strike, which is a race", [it for it in ("queue-full", "closed", "concurrency-limit", "dispatched", "cancelled") if seen[it] == 0], [])
+
+# those of a slot come one after another: many workers at one seat, each request naming another one
+crowd = [{"hash": number % 3, "cancels": (number + 1) % 8} for number in range(8)]
+status, out, err = ran(one_queue(1), crowd, 8, 3000)
+found = BOOK.fullmatch(out.decode(errors="replace"))
+tally.check("a crowd that cancels", (status, faults(one_queue(1), crowd, 8, 3000, out.decode(errors="replace")), err), (0, [], b""))
+print(f"a crowd of 8 at one seat, 3000 rounds: {found and found[6]} of 24000 were cancelled")
+tally.check("a crowd that cancels: some were", found is not None and int(found[6]) > 0, True)
+
+# a book that is wrong in one thing is refused
+config, requests = one_queue(2), [{"hash": 0, "cancels": 3}, plain, plain, plain]
+for name, asked, closed, numbers, broken in [
+    ("one left out", requests, "open", (37, 0, 2, 0, 0, 0, 0, 0, 0), "each request of each round is decided"),
+    ("the first requests of the slots counted too", requests, "open", (42, 0, 2, 0, 0, 0, 0, 0, 0), "each request of each round is decided"),
+    ("one round alone", requests, "open", (4, 0, 0, 0, 0, 0, 0, 0, 0), "each request of each round is decided"),
+    ("too many cancelled", requests, "open", (29, 0, 11, 0, 0, 0, 0, 0, 0), "whoever is cancelled is named"),
+    ("closed by nobody", requests, "closed", (38, 0, 2, 0, 0, 0, 0, 0, 0), "it is closed exactly if a request closes it"),
+    ("opened again", [*requests[:3], {"hash": 0, "closes": True}], "closed", (38, 2, 0, 0, 2, 0, 0, 0, 0), "whoever comes after his worker's close is closed or cancelled"),
+    ("a queue that was full", requests, "open", (38, 2, 0, 2, 0, 0, 0, 0, 0), "no queue is full that has room for all workers"),
+    ("one cancelled whom nobody names", [plain] * 4, "open", (39, 0, 1, 0, 0, 0, 0, 0, 0), "all execute where queues have room and nobody is named or closes"),
+]:
+    tally.check(f"a wrong book is refused: {name}", broken in faults(config, asked, 2, 10, book(closed, *numbers).decode()), True)
+
+# words
+config, requests = files("config", '{"limit":1}'), files("requests", "[]")
+for more in (["--rounds", "0"], ["--rounds", "1000001"], ["--rounds", "-1"], ["--rounds", "x"], ["--rounds", "1.5"], ["--rounds", ""], ["--rounds"], ["--rounds", "2", "--rounds", "3"], ["--round", "2"]):
+    status, out, err = run(program, ["run", config, requests, "1", *more])
+    tally.check(f"{' '.join(more)}", (status, out, err != b""), (2, b"", True))
+for more in (["--rounds", "1"], ["--rounds", "1000000"], ["--rounds=5"], ["--rounds", "007"]):
+    tally.check(f"{' '.join(more)}", run(program, ["run", config, requests, "1", *more]), (0, book("open", 0, 0, 0, 0, 0, 0, 0, 0, 0), b""))
+tally.check("rounds before the files", run(program, ["run", "--rounds", "3", config, requests, "1"])[0], 0)
+tally.check("help names the option", re.search(rb"--rounds <N>", run(program, ["run", "--help"])[1]) is not None, True)
+
+# faults of a run in rounds: a dealer that can't deal, and files
+tally.check("a dealer fault", ran({"limit": 1, "queues": 3}, [], 1, 2), (1, b"", b"apf: dealer fault 2: hand too large\n"))
+tally.check("no dealer on a level that rejects", ran({"limit": 1, "queues": 3, "limitResponse": "Reject"}, [plain], 1, 2), (0, book("open", 2, 0, 0, 0, 0, 0, 0, 0, 0), b""))
+tally.check("a file fault", ran({"limit": 0}, [], 1, 2), (1, b"", b"apf: config fault 5: bad value of limit\n"))
+
+
+def memory(rounds):
+    """The most memory that a run of so many rounds had, in KiB, and how many requests it executed."""
+    child = subprocess.Popen([program, *words(one_queue(2), [plain, {"hash": 1, "cancels": 0}], 2, rounds)], stdin=subprocess.DEVNULL, stdout=subprocess.PIPE)
+    out = child.stdout.read()
+    _, status, usage = os.wait4(child.pid, 0)
+    child.returncode = status
+    found = BOOK.fullmatch(out.decode())
+    return usage.ru_maxrss, (status, found and int(found[4]) + int(found[6]))
+
+
+# memory does not grow with the rounds: APF_ROUNDS asks for other than a million
+most = int(os.environ.get("APF_ROUNDS", "1000000"))
+began = time.monotonic()
+few, many = memory(10), memory(most)
+tally.check("ten rounds of two", few[1], (0, 20))
+tally.check(f"{most} rounds of two", many[1], (0, 2 * most))
+print(f"{most} rounds of two requests took {time.monotonic() - began:.1f} s; memory {few[0]} KiB after 10 rounds, {many[0]} KiB after {most}")
+tally.check("memory does not grow", many[0] < few[0] + 1024, True)
+tally.end()

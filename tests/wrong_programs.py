@@ -60,7 +60,7 @@ def shell(body):
 
 # runs other requests than those of the file
 def other_requests(change):
-    return shell(f"""[ "$1" = run ] && {{ other=$(mktemp); sed -E '{change}' "$3" >"$other"; {program} run "$2" "$other" "$4"; status=$?; rm "$other"; exit $status; }}""")
+    return shell(f"""[ "$1" = run ] && {{ config=$2; other=$(mktemp); sed -E '{change}' "$3" >"$other"; shift 3; {program} run "$config" "$other" "$@"; status=$?; rm "$other"; exit $status; }}""")
 
 
 # answers a run that is refused memory by a usage error; it takes no memory of its own
@@ -196,6 +196,9 @@ if any("\\udc80" <= it <= "\\udcff" for word in words for it in word):
     ("a run that finds no memory", shell('[ "$1" = run ] && { echo "apf: out of memory" >&2; exit 3; }'), "workers.py", "FAILED thousand workers"),
     ("a run that closes nothing", other_requests('s/, "closes": true//g'), "workers.py", "FAILED cancels and closes"),
     ("a run that cancels nobody", other_requests('s/, "cancels": [0-9]+//g'), "workers.py", "FAILED all cancel one"),
+    ("rounds of which one is run", shell('[ "$1" = run ] && [ "$5" = --rounds ] && exec %s run "$2" "$3" "$4"' % program), "rounds.py", "FAILED all fit"),
+    ("rounds that close nothing", other_requests('s/, "closes": true//g'), "rounds.py", "FAILED closes"),
+    ("rounds that cancel nobody", other_requests('s/, "cancels": [0-9]+//g'), "rounds.py", "FAILED a crowd that cancels: some were"),
     ("fates in which each request starts a microsecond late", python('''
 if words[:1] == ["fates"]:
     status, out, err = answer(words)

@@ -2,7 +2,7 @@
 
 ghost use Rattle.std.specs.Prelude.{◌<◌};
 
-use crate::runs::{Fault, Nothing, one_queue};
+use crate::runs::{Nothing, one_queue};
 use apf_gate::GateFault;
 use apf_life::LevelFault;
 use apf_life_run::{RoundsFault, run_rounds};
@@ -93,23 +93,6 @@ fn the_first_fault_is_told(rt: HostRuntime) {
     assert_eq!(rt; ran(&rt, alloc, &no_hand, 1), Told::Dealer(1));
     assert_eq!(rt; ran(&rt, alloc, &no_room, 1), Told::Queues(1));
     assert_eq!(rt; ran(&rt, alloc, &no_queues, 1), Told::Executed(6));
-}
-
-// One request more than there may be.
-#[test]
-fn too_many_requests(rt: HostRuntime) -> Result<(), Fault> {
-    let requests = vec![in rt.alloc(); REQUEST; 10_001]?;
-    let ran = run_rounds(
-        &rt,
-        rt.alloc(),
-        &one_queue(1),
-        requests.as_slice(),
-        1,
-        1,
-        &Nothing,
-    );
-    assert_eq!(rt; ran.err(), Some(RoundsFault::Gate(GateFault::TooMany)));
-    Ok(())
 }
 
 #[test]

@@ -1,15 +1,16 @@
 //! What a run in rounds answers where settings, requests or workers are out of range, and what its faults print.
 
-ghost use Rattle.std.specs.Prelude.{◌<◌};
+ghost use Rattle.std.specs.Prelude.{◌<◌, All, IfOk};
+ghost use Rattle.apf_life_run.specs.Plans.{HasWidth};
 
-use crate::runs::{Nothing, one_queue};
+use crate::runs::{Fault, Nothing, one_queue};
 use apf_gate::GateFault;
 use apf_life::LevelFault;
 use apf_life_run::{RoundsFault, run_rounds};
 use apf_life_session::OpenFault;
 use apf_model::{Config, Response};
 use apf_run::Request;
-use std::alloc::Global;
+use std::alloc::{AllocError, Global};
 use std::sync::Wait;
 use std::test::Fail;
 use std::thread::Threads;
@@ -93,6 +94,30 @@ fn the_first_fault_is_told(rt: HostRuntime) {
     assert_eq!(rt; ran(&rt, alloc, &no_hand, 1), Told::Dealer(1));
     assert_eq!(rt; ran(&rt, alloc, &no_room, 1), Told::Queues(1));
     assert_eq!(rt; ran(&rt, alloc, &no_queues, 1), Told::Executed(6));
+}
+
+// So many requests, all alike.
+fn copies(alloc: Global, count: usize) -> Result<Vec<Request>, AllocError>
+    ensures { IfOk result (λ v. All HasWidth v.items) }
+{
+    vec![in alloc; REQUEST; count]
+}
+
+// One request more than there may be.
+#[test]
+fn too_many_requests(rt: HostRuntime) -> Result<(), Fault> {
+    let requests = copies(rt.alloc(), 10_001)?;
+    let ran = run_rounds(
+        &rt,
+        rt.alloc(),
+        &one_queue(1),
+        requests.as_slice(),
+        1,
+        1,
+        &Nothing,
+    );
+    assert_eq!(rt; ran.err(), Some(RoundsFault::Gate(GateFault::TooMany)));
+    Ok(())
 }
 
 #[test]

@@ -1,7 +1,7 @@
 //! Runs the requests of files by workers.
 
 ghost use Rattle.std.specs.Prelude.{◌≡◌, ◌<◌, ◌≤◌, length, All, IfOk, OnOk};
-ghost use Rattle.apf_cli.specs.Runs.{AreRead, IsRunOf, IsRunInRounds, PrintsBook};
+ghost use Rattle.apf_cli.specs.Runs.{AreRead, IsRunOf, IsRunInRounds, PrintsRun, PrintsRounds, PrintsBook};
 ghost use Rattle.apf_life_run.specs.Plans.{HasWidth, max_rounds};
 ghost use Rattle.apf_run.specs.Limits.{max_requests};
 
@@ -106,8 +106,43 @@ fn ran_in_rounds<F: Files, R: Wait + Threads + Sync>(
     )?)
 }
 
+// The same as a batch, and prints the book of the report.
+fn print_batch<F: Files, O: Write, R: Wait + Threads + Sync>(
+    rt: &R,
+    alloc: Global,
+    files: &mut F,
+    names: (&str, &str),
+    workers: u32,
+    out: &mut O,
+) -> Result<(), Fault>
+    requires { 0 < workers }
+    ensures { OnOk result (PrintsRun F.holds names.entry.0.now names.entry.1.now workers (O.contents out.old) (O.contents out.new)) }
+{
+    let report = ran(rt, alloc, files, names, workers)?;
+    Ok(write_book(&report, out)?)
+}
+
+// The same in rounds, and prints the book of the report.
+fn print_rounds<F: Files, O: Write, R: Wait + Threads + Sync>(
+    rt: &R,
+    alloc: Global,
+    files: &mut F,
+    names: (&str, &str),
+    pace: (u32, u32),
+    out: &mut O,
+) -> Result<(), Fault>
+    requires workers { 0 < pace.0 }
+    requires some { 1 ≤ pace.1 }
+    requires few { pace.1 ≤ max_rounds }
+    ensures { OnOk result (PrintsRounds F.holds names.entry.0.now names.entry.1.now pace.0 pace.1 (O.contents out.old) (O.contents out.new)) }
+{
+    let report = ran_in_rounds(rt, alloc, files, names, pace.0, pace.1)?;
+    Ok(apf_life_run::write_book(&report, out)?)
+}
+
 /// Reads the two files, lets so many workers go so often through the requests, and prints the book. A single round is
 /// run as a batch.
+#[tactic(auto, using(crate::proofs::Paces::batch_prints, crate::proofs::Paces::rounds_print))]
 pub(crate) fn print_run<F: Files, O: Write, R: Wait + Threads + Sync>(
     rt: &R,
     alloc: Global,
@@ -122,12 +157,10 @@ pub(crate) fn print_run<F: Files, O: Write, R: Wait + Threads + Sync>(
     ensures { OnOk result (PrintsBook F.holds names.entry.0.now names.entry.1.now pace.0 pace.1 (O.contents out.old) (O.contents out.new)) }
 {
     judge_names(&[names.0, names.1])?;
-    let (workers, rounds) = pace;
-    if rounds == 1 {
-        let report = ran(rt, alloc, files, names, workers)?;
-        Ok(write_book(&report, out)?)
-    } else {
-        let report = ran_in_rounds(rt, alloc, files, names, workers, rounds)?;
-        Ok(apf_life_run::write_book(&report, out)?)
+    if pace.1 == 1 {
+        print_batch(rt, alloc, files, names, pace.0, out)?;
+        return Ok(());
     }
+    print_rounds(rt, alloc, files, names, pace, out)?;
+    Ok(())
 }

@@ -198,7 +198,7 @@ if any("\\udc80" <= it <= "\\udcff" for word in words for it in word):
     ("a run that cancels nobody", other_requests('s/, "cancels": [0-9]+//g'), "workers.py", "FAILED all cancel one"),
     ("rounds of which one is run", shell('[ "$1" = run ] && [ "$5" = --rounds ] && exec %s run "$2" "$3" "$4"' % program), "rounds.py", "FAILED all fit"),
     ("rounds that close nothing", other_requests('s/, "closes": true//g'), "rounds.py", "FAILED closes"),
-    ("rounds that cancel nobody", other_requests('s/, "cancels": [0-9]+//g'), "rounds.py", "FAILED a crowd that cancels: some were"),
+    ("rounds that cancel nobody", other_requests('s/, "cancels": [0-9]+//g'), "rounds.py", "FAILED a crowd at one seat: some were cancelled"),
     ("fates in which each request starts a microsecond late", python('''
 if words[:1] == ["fates"]:
     status, out, err = answer(words)

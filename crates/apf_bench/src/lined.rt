@@ -12,7 +12,7 @@ fn run<K: Naming, R: Wait>(rt: &R, level: &Level<K>, request: &mut Request<K>) {
         if request.poll(rt, level) != Answer::Waits {
             return;
         }
-        level.dispatch(rt);
+        level.lock(rt).dispatch(rt);
     }
 }
 
@@ -28,7 +28,7 @@ pub fn serve_line<K: Naming, R: Wait>(rt: &R, level: &Level<K>, requests: &mut [
     for place in 1..requests.len() {
         requests[place].begin(rt, level);
         requests[place - 1].release(level);
-        level.dispatch(rt);
+        level.lock(rt).dispatch(rt);
         run(rt, level, &mut requests[place]);
     }
     requests[requests.len() - 1].release(level);

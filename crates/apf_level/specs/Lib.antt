@@ -7,7 +7,7 @@ pub mod Attempts
 pub mod Arrivals
 pub mod Shown
 pub mod Copies
-pub mod Served
+pub mod Locked
 pub mod Limits
 pub mod Heard
 pub mod Keepers

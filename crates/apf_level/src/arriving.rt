@@ -63,7 +63,7 @@ impl<K: Naming> Level<K> {
             Some(Decision::Execute) => Poll::Run(Running { pass }),
             Some(Decision::Cancelled) => {
                 let request = self.number(&pass);
-                self.strike(rt, request);
+                self.lock(rt).strike(rt, request);
                 Poll::Over(Done { pass }, Decision::Cancelled)
             }
             Some(decision) => Poll::Over(Done { pass }, decision),
@@ -116,7 +116,7 @@ impl<K: Naming> Level<K> {
                 Attempt::Run(running) => return (Begin::Run(running), None),
                 Attempt::Over(done, decision, waiting) => {
                     if waiting {
-                        self.dispatch(rt);
+                        self.lock(rt).dispatch(rt);
                     }
                     return (Begin::Over(done, decision), None);
                 }

@@ -33,6 +33,7 @@ pub use answers::{Admit, Begin, Poll, TryAdmit};
 pub use apf_stats::{Board, StatsPass, Window, open as open_statistics};
 pub use laws::every_reported_wait_is_bounded;
 pub use level::{Ends, Level, LevelFault, Opened};
+pub use locked::Locked;
 pub use naming::Naming;
 pub use report::{Counts, Report};
 pub use tokens::{Done, Running, Waiting};

@@ -1,38 +1,97 @@
-//! The calls that take the lock and own no Pass.
+//! The level's lock, and the calls that take it and own no Pass.
 
-ghost use Rattle.std.specs.Prelude.{◌≡◌, ◌+◌, ◌<◌, ◌≤◌, length, None, true};
+ghost use Rattle.std.specs.Prelude.{◌≡◌, ◌+◌, ◌<◌, ◌≤◌, length, reverse, None, option_map};
 ghost use Rattle.apf_words.specs.Limits.{max_limit};
 ghost use Rattle.apf_gate.specs.Tokens.{station_gate};
 ghost use Rattle.apf_stats.specs.Numbers.{numbers_of, IsBelow};
 ghost use Rattle.apf_stats.specs.Traces.{shown, IsNext};
-ghost use Rattle.apf_level.specs.Copies.{IsCopied};
+ghost use Rattle.apf_level.specs.Copies.{Copies, IsCopied};
 ghost use Rattle.apf_level.specs.Limits.{LastSet};
-ghost use Rattle.apf_level.specs.Served.{Dispatched, Struck};
+ghost use Rattle.apf_level.specs.Locked.{log_under, DispatchesUnder, StrikesUnder};
 
 use crate::level::Level;
 use crate::naming::Naming;
+use crate::queued::{Queued, copy};
+use crate::shared::Shared;
 use apf_book::Stats;
-use apf_gate::{Station, TrySetLimit};
+use apf_gate::{Gate, Station, TrySetLimit};
 use apf_model::Event;
 use apf_stats::StatsPass;
-use std::sync::Wait;
+use std::alloc::Global;
+use std::marker::Model;
+use std::sync::{MutexGuard, Wait};
 
-impl<K: Naming> Level<K> {
+/// The level's lock while it is held. Nobody else dispatches, strikes or enters a queue before it is dropped, so its calls
+/// can say what they did to the log that stands under it.
+///
+/// A level without queues has nothing under its lock.
+#[derive(Drop)]
+pub struct Locked<'a, K: Naming> {
+    gate: &'a Gate<Global>,
+    queued: Option<MutexGuard<'a, Queued<K>>>,
+    ghost own: { gate.now ≡ K.level.gate },
+}
+
+impl<'a, K: Naming> Model for Locked<'a, K> {
+    ghost use Rattle.std.specs.Prelude.{Option, option_map};
+    ghost use Rattle.apf_book.specs.BookView.{BookView};
+    ghost use Rattle.apf_level.specs.Locked.{IsUnder};
+
+    ghost Value = { Option BookView };
+
+    ghost view = { λ l. option_map (λ guard. guard.value.book) l.queued };
+
+    ghost invariant = { λ l. IsUnder K.level (option_map (λ guard. guard.value.book) l.queued) };
+}
+
+impl<'a, K: Naming> Locked<'a, K> {
     /// Dispatches from the queues while the chosen head fits, and strikes cancelled heads. Tells how many
     /// were dispatched: 0 on a level without queues.
-    pub fn dispatch<R: Wait>(&self, rt: &R) -> u32
-        ensures dispatched { Dispatched K.level result }
+    pub fn dispatch<R: Wait>(&mut self, rt: &R) -> u32
+        ensures answer { DispatchesUnder self.old result self.new }
     {
-        self.shared.dispatch(rt, &self.gate)
+        match &mut self.queued {
+            Some(queued) => queued.dispatch(rt, self.gate),
+            None => 0,
+        }
     }
 
-    /// Strikes the request out of its queue, if it waits and is cancelled, and dispatches then under the
-    /// same lock. Says whether it struck: never on a level without queues.
-    pub fn strike<R: Wait>(&self, rt: &R, request: u32) -> bool
+    /// Strikes the request out of its queue, if it waits and is cancelled, and dispatches then. Says whether it
+    /// struck: never on a level without queues.
+    pub fn strike<R: Wait>(&mut self, rt: &R, request: u32) -> bool
         requires is_request { request < length K.level.gate.shape.widths }
-        ensures struck { result ≡ true → Struck K.level request }
+        ensures answer { StrikesUnder self.old request result self.new }
     {
-        self.shared.strike(rt, &self.gate, request)
+        match &mut self.queued {
+            Some(queued) => queued.strike(rt, self.gate, request),
+            None => false,
+        }
+    }
+
+    /// Copies as much of the log as fits, from this place on, the oldest event first. Tells how many events:
+    /// none on a level without queues.
+    pub fn copy_events(&self, from: u32, into: &mut [Event]) -> u32
+        ensures copied { Copies (reverse (log_under self.now)) from into.old result into.new }
+        ensures of_level { IsCopied K.level from into.old result into.new }
+    {
+        match &self.queued {
+            Some(queued) => queued.copy_events(from, into),
+            None => copy(&[], from, into),
+        }
+    }
+}
+
+impl<K: Naming> Level<K> {
+    /// Takes the level's lock. A level without queues takes none.
+    pub fn lock<R: Wait>(&self, rt: &R) -> Locked<'_, K> {
+        let queued = match &self.shared {
+            Shared::Queued(queued) => Some(queued.lock.lock(rt)),
+            Shared::Alone(_alone) => None,
+        };
+        Locked {
+            gate: &self.gate,
+            queued,
+        }
     }
 
     /// Sets the limit, in seats, and then dispatches. Answers the old limit. A lost exchange is tried again.
@@ -45,19 +104,11 @@ impl<K: Naming> Level<K> {
     {
         for _ in rt.forever() {
             if let TrySetLimit::Set(old, _waiting) = self.gate.try_set_limit(station, limit) {
-                self.dispatch(rt);
+                self.lock(rt).dispatch(rt);
                 return old;
             }
         }
         unreachable!()
-    }
-
-    /// Copies as much of the log as fits, from this place on, the oldest event first. Tells how many events:
-    /// none on a level without queues.
-    pub fn copy_events<R: Wait>(&self, rt: &R, from: u32, into: &mut [Event]) -> u32
-        ensures copied { IsCopied K.level from into.old result into.new }
-    {
-        self.shared.copy_events(rt, from, into)
     }
 
     /// The numbers of the log as they were published last, by one reading of the level's cell. It takes no lock of the

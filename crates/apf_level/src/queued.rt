@@ -1,20 +1,20 @@
 //! What stands under the lock of a level with queues.
 
-ghost use Rattle.std.specs.Prelude.{◌≡◌, ◌≢◌, ◌<◌, ◌≤◌, length, false, true, Some, None};
+ghost use Rattle.std.specs.Prelude.{◌≡◌, ◌≢◌, ◌<◌, ◌≤◌, length, reverse, false, true, Some, None};
 ghost use Rattle.apf_words.specs.declared.decision.Decision.TheVariants as decisions;
 ghost use Rattle.apf_model.specs.declared.response.Response.TheVariants.{Queue};
 ghost use Rattle.apf_gate.specs.declared.record.State.TheVariants.{InLine};
 ghost use Rattle.apf_gate.specs.Records.{told_own};
 ghost use Rattle.apf_gate.specs.Tokens.{pass_gate, desk_gate};
 ghost use Rattle.apf_stats.specs.Traces.{shown};
-ghost use Rattle.apf_book.specs.BookView.{IsKept};
-ghost use Rattle.apf_book.specs.Servings.{Serves};
+ghost use Rattle.apf_book.specs.BookCalls.{Dispatches};
+ghost use Rattle.apf_book.specs.BookResults.{SameBook};
 ghost use Rattle.apf_book.specs.Stopped.{IsStopped};
 ghost use Rattle.apf_level.specs.Levels.{IsBookOf};
 ghost use Rattle.apf_level.specs.Tokens.{IsOf};
 ghost use Rattle.apf_level.specs.Arrivals.{StandsAs};
 ghost use Rattle.apf_level.specs.Copies.{Copies, IsCopied};
-ghost use Rattle.apf_level.specs.Served.{Dispatched, Struck};
+ghost use Rattle.apf_level.specs.Locked.{StrikesAndServes};
 ghost use Rattle.apf_level.specs.Shown.{shown_of, WentOn};
 
 use crate::answers::Stood;
@@ -93,10 +93,8 @@ fn serve<R: Wait>(
     requires own { desk_gate book.old.desk ≡ gate.now }
     requires one_flag_each { length sleeps.now ≡ length gate.now.shape.widths }
     requires went_on { WentOn (shown board.old.trace) before book.old.ledger.history }
-    ensures gate { desk_gate book.new.desk ≡ desk_gate book.old.desk }
-    ensures log { Serves book.old.ledger book.new.ledger result }
-    ensures stopped { IsStopped book.new.ledger book.new.desk.desk.knows }
-    ensures kept { IsKept book.new.desk.desk book.new.ledger }
+    ensures same { SameBook book.old book.new }
+    ensures answer { Dispatches book.old result book.new }
     ensures cell { board.new.cell ≡ board.old.cell }
     ensures shown { shown board.new.trace ≡ shown_of book.new.ledger.history }
 {
@@ -121,10 +119,9 @@ fn strike_and_serve<K: Naming, R: Wait>(
     requires stopped { IsStopped book.old.ledger book.old.desk.desk.knows }
     requires published { shown board.old.trace ≡ shown_of book.old.ledger.history }
     requires one_flag_each { length sleeps.now ≡ length K.level.gate.shape.widths }
-    ensures struck { result ≡ true → Struck K.level request }
+    ensures answer { StrikesAndServes book.old request result book.new }
     ensures tied { IsBookOf K.level book.new }
     ensures stopped { IsStopped book.new.ledger book.new.desk.desk.knows }
-    ensures kept { IsKept book.new.desk.desk book.new.ledger }
     ensures cell { board.new.cell ≡ board.old.cell }
     ensures published { shown board.new.trace ≡ shown_of book.new.ledger.history }
 {
@@ -183,7 +180,8 @@ impl<K: Naming> Queued<K> {
     /// Dispatches while the chosen head fits. Tells how many.
     pub fn dispatch<R: Wait>(&mut self, rt: &R, gate: &Gate<Global>) -> u32
         requires own { gate.now ≡ K.level.gate }
-        ensures dispatched { Dispatched K.level result }
+        ensures same { SameBook self.old.book self.new.book }
+        ensures answer { Dispatches self.old.book result self.new.book }
     {
         let before = self.book.log().len();
         serve(
@@ -200,7 +198,7 @@ impl<K: Naming> Queued<K> {
     pub fn strike<R: Wait>(&mut self, rt: &R, gate: &Gate<Global>, request: u32) -> bool
         requires own { gate.now ≡ K.level.gate }
         requires is_request { request < length K.level.gate.shape.widths }
-        ensures struck { result ≡ true → Struck K.level request }
+        ensures answer { StrikesAndServes self.old.book request result self.new.book }
     {
         strike_and_serve::<K, R>(
             rt,
@@ -221,7 +219,8 @@ impl<K: Naming> Queued<K> {
 
     /// Copies as much of the log from this place on as there is room for. Tells how many events.
     pub fn copy_events(&self, from: u32, into: &mut [Event]) -> u32
-        ensures { IsCopied K.level from into.old result into.new }
+        ensures copied { Copies (reverse self.now.book.ledger.history) from into.old result into.new }
+        ensures of_level { IsCopied K.level from into.old result into.new }
     {
         every_legal_history_is_in_order();
         copy(self.book.log(), from, into)

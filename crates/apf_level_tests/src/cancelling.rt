@@ -67,7 +67,7 @@ fn cancel<K: Naming, R: Wait>(
         cancellers.cancelled.fetch_add(1, Ordering::SeqCst);
     }
     pass_time(turns(cancellers.round.wrapping_add(1), thread) / 64);
-    if level.strike(rt, 1) {
+    if level.lock(rt).strike(rt, 1) {
         cancellers.struck.fetch_add(1, Ordering::SeqCst);
     }
 }

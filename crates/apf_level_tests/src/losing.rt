@@ -178,7 +178,7 @@ fn take<K: Naming, R: Wait + Clock>(
         losers.lost.fetch_add(1, Ordering::SeqCst);
         if caller.lock(rt).look(level).waiters() > 0 {
             losers.left.fetch_add(1, Ordering::SeqCst);
-            level.dispatch(rt);
+            level.lock(rt).dispatch(rt);
         }
     }
     end(rt, level, request, answer);

@@ -143,10 +143,10 @@ fn follow<K: Naming, R: Wait + Abort>(
             assert_eq!(rt; told, answer, "step {place}");
             assert_eq!(rt; logged, event, "step {place}");
         }
-        Step::Dispatch(count) => assert_eq!(rt; session.level.dispatch(rt), count, "step {place}"),
+        Step::Dispatch(count) => assert_eq!(rt; session.level.lock(rt).dispatch(rt), count, "step {place}"),
         Step::Strike(request, struck) => {
             assert!(rt; (request as usize) < session.requests.len());
-            assert_eq!(rt; session.level.strike(rt, request), struck, "step {place}");
+            assert_eq!(rt; session.level.lock(rt).strike(rt, request), struck, "step {place}");
         }
         Step::Read(stats) => {
             assert_eq!(rt; session.stats(rt), stats, "step {place}");
@@ -240,7 +240,7 @@ fn copy<K: Naming, R: Wait + Abort>(
     let unused = Event::Full(99, 99);
     let mut into = [unused; 4];
     assert!(rt; room <= 4 && events.len() <= room);
-    let count = session.level.copy_events(rt, from, &mut into[..room]);
+    let count = session.level.lock(rt).copy_events(from, &mut into[..room]);
     assert_eq!(rt; count as usize, events.len(), "step {place}");
     assert_eq!(rt; &into[..events.len()], events, "step {place}");
     for event in &into[events.len()..] {

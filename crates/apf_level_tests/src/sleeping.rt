@@ -114,7 +114,7 @@ fn wake<K: Naming, R: Wait + Abort>(
     match sleepers.call {
         Call::Dispatch => {
             assert_eq!(rt; request.release(level), Answer::Released(true));
-            assert_eq!(rt; level.dispatch(rt), sleepers.count);
+            assert_eq!(rt; level.lock(rt).dispatch(rt), sleepers.count);
         }
         Call::Cancel => {
             let decision = caller.lock(rt).cancel(level, 1);

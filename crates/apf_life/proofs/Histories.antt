@@ -16,7 +16,6 @@ use Rattle.apf_book.specs.LifeBook.{LifeBookView, IsLifeKept, ServesLife, Strike
 use Rattle.apf_book.specs.LifeCalls.{SameLifeBook}
 use Rattle.apf_life.specs.Levels.{LifeId, IsBookOf, IsHistoryOf}
 use Rattle.apf_life.specs.Arrivals.{Came}
-use Rattle.apf_life.specs.Sections.{Dispatched}
 use Rattle.apf_life.specs.Stopped.{IsStopped}
 use Rattle.apf_life.proofs.Stopped.{at_rest}
 
@@ -50,15 +49,6 @@ is_nothing_yet k = record {
   low = λ r. omega arith;
   queues_are = refl;
   limit_is = refl;
-}
-
-pub dispatched : (k : LifeId) (v : LifeView) (b b' : LifeBookView) (count : ℕ) → IsBookOf k b' → ServesLife v b count b' → Dispatched k count
-dispatched k v b b' count own served = record {
-  older = v;
-  events = served.events;
-  of_level = history_of k _ b' own served.kept;
-  servings = served.servings;
-  dispatches = served.dispatches;
 }
 
 pub came : (k : LifeId) (v : LifeView) (b b' : LifeBookView) (r : ℕ) (hand : List ℕ) (cost : ℕ) (e : Event) (count : ℕ) → IsBookOf k b' → has_arrived v.history r ≡ false → ServesLife (then_came (asked v r hand cost) e) b count b' → Came k r hand cost e

@@ -5,6 +5,7 @@ pub mod Admission
 pub mod Attempts
 pub mod Arrivals
 pub mod Sections
+pub mod Locked
 pub mod Calls
 pub mod Reports
 pub mod Stopped

@@ -1,34 +1,13 @@
--- What the calls under the lock did to a history that the level may have had, and what they tell of one.
-use Rattle.std.specs.Prelude.{◌≡◌, ℕ, ◌++◌, ◌*◌, ◌^◌, ◌<◌, List, length, count_by, All}
-use Rattle.apf_history.specs.declared.events.Event.{Event}
-use Rattle.apf_history.specs.declared.events.Event.TheVariants.{Strike}
-use Rattle.apf_model.specs.Outcome.{is_dispatch}
+-- What the calls under the lock tell of a history that the level may have had.
+use Rattle.std.specs.Prelude.{◌≡◌, ℕ, ◌*◌, ◌^◌, ◌<◌, List, length, All}
 use Rattle.apf_gate.specs.declared.ticket.Ticket.{Ticket}
 use Rattle.apf_gate.specs.Slots.{IsTicket}
 use Rattle.apf_book.specs.declared.life_event.LifeEvent.{LifeEvent}
 use Rattle.apf_book.specs.declared.life_stats.LifeStats.{LifeStats}
 use Rattle.apf_book.specs.declared.notes.Copied.{Copied}
-use Rattle.apf_book.specs.Life.{LifeView, then_came}
-use Rattle.apf_book.specs.LifeBook.{then_came_all}
+use Rattle.apf_book.specs.Life.{LifeView}
 use Rattle.apf_book.specs.Notes.{AreLifeStats, CopiesLate}
-use Rattle.apf_book.specs.Servings.{AreServings}
 use Rattle.apf_life.specs.Levels.{LifeId, IsHistoryOf}
-
--- Dispatches and Strikes alone came, so many of them Dispatches, of fewer than 2^64 events that there ever were
-pub record Dispatched (k : LifeId) (count : ℕ) : Type 0 where
-  pub older : LifeView
-  pub events : List Event
-  pub of_level : IsHistoryOf k (then_came_all events older)
-  pub servings : AreServings events
-  pub dispatches : length (events ++ older.history) < 2 ^ 64 → count_by is_dispatch events ≡ count
-
--- the request was struck out of a queue, and then Dispatches and Strikes alone came
-pub record Struck (k : LifeId) (r : ℕ) : Type 0 where
-  pub older : LifeView
-  pub queue : ℕ
-  pub events : List Event
-  pub of_level : IsHistoryOf k (then_came_all events (then_came older (Strike r queue)))
-  pub servings : AreServings events
 
 -- events of a history that the level may have had, of fewer than 2^64 that there ever were; the newest are kept, two for each slot
 pub record IsCopied (k : LifeId) (from : ℕ) (into : List LifeEvent) (answer : Copied) (into' : List LifeEvent) : Type 0 where

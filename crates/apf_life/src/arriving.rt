@@ -54,7 +54,7 @@ impl<K: Naming> Level<K> {
                 Attempt::Run(running) => return (Begin::Run(running), None),
                 Attempt::Over(done, decision, waiting) => {
                     if waiting {
-                        self.dispatch(rt);
+                        self.lock(rt).dispatch(rt);
                     }
                     return (Begin::Over(done, decision), None);
                 }

@@ -34,6 +34,7 @@ pub use laws::{
     every_life_history_isolates, every_life_wait_is_bounded, no_life_request_is_forgotten,
 };
 pub use level::{Level, LevelFault, Opened};
+pub use locked::Locked;
 pub use naming::Naming;
 pub use report::{Newest, Report};
 pub use tokens::{Done, Pass, Running, Waiting};

@@ -1,34 +1,111 @@
-//! The calls that take the lock and own no Pass.
+//! The level's lock, and the calls that take it and own no Pass.
 
-ghost use Rattle.std.specs.Prelude.{◌≡◌, ◌≤◌, true};
+ghost use Rattle.std.specs.Prelude.{◌≡◌, ◌≤◌};
 ghost use Rattle.apf_words.specs.Limits.{max_limit};
 ghost use Rattle.apf_gate.specs.Slots.{IsTicket};
 ghost use Rattle.apf_gate.specs.Tokens.{station_gate};
 ghost use Rattle.apf_level.specs.Limits.{LastSet};
-ghost use Rattle.apf_life.specs.Sections.{Dispatched, Struck, IsCopied, AreStatsOf};
+ghost use Rattle.apf_life.specs.Locked.{DispatchesUnder, StrikesUnder, CopiesUnder, AreStatsUnder};
+ghost use Rattle.apf_life.specs.Sections.{IsCopied, AreStatsOf};
 
 use crate::level::Level;
 use crate::naming::Naming;
+use crate::queued::Queued;
+use crate::shared::Shared;
 use apf_book::{Copied, LifeEvent, LifeStats};
-use apf_gate::{Station, Ticket, TrySetLimit};
-use std::sync::Wait;
+use apf_gate::{Gate, Station, Ticket, TrySetLimit};
+use std::alloc::Global;
+use std::marker::Model;
+use std::sync::{MutexGuard, Wait};
 
-impl<K: Naming> Level<K> {
+/// The level's lock while it is held. Nobody else dispatches, strikes or enters a queue before it is dropped, so its calls
+/// can say what they did to the book that stands under it.
+///
+/// A level without queues has nothing under its lock.
+#[derive(Drop)]
+pub struct Locked<'a, K: Naming> {
+    gate: &'a Gate<Global>,
+    queued: Option<MutexGuard<'a, Queued<K>>>,
+    ghost own: { gate.now ≡ K.level.gate },
+}
+
+impl<'a, K: Naming> Model for Locked<'a, K> {
+    ghost use Rattle.std.specs.Prelude.{Option, option_map};
+    ghost use Rattle.apf_book.specs.LifeBook.{LifeBookView};
+    ghost use Rattle.apf_life.specs.Locked.{IsUnder};
+
+    ghost Value = { Option LifeBookView };
+
+    ghost view = { λ l. option_map (λ guard. guard.value.book) l.queued };
+
+    ghost invariant = { λ l. IsUnder K.level (option_map (λ guard. guard.value.book) l.queued) };
+}
+
+impl<'a, K: Naming> Locked<'a, K> {
     /// Dispatches from the queues while the chosen head fits, and strikes cancelled heads. Tells how many
     /// were dispatched: 0 on a level without queues.
-    pub fn dispatch<R: Wait>(&self, rt: &R) -> u64
-        ensures dispatched { Dispatched K.level result }
+    pub fn dispatch<R: Wait>(&mut self, rt: &R) -> u64
+        ensures answer { DispatchesUnder self.old result self.new }
     {
-        self.shared.dispatch(rt, &self.gate)
+        match &mut self.queued {
+            Some(queued) => queued.dispatch(rt, self.gate),
+            None => 0,
+        }
     }
 
-    /// Strikes the request out of its queue, if it waits and is cancelled, and dispatches then under the
-    /// same lock. Says whether it struck: never on a level without queues.
-    pub fn strike<R: Wait>(&self, rt: &R, request: Ticket) -> bool
+    /// Strikes the request out of its queue, if it waits and is cancelled, and dispatches then. Says whether it
+    /// struck: never on a level without queues.
+    pub fn strike<R: Wait>(&mut self, rt: &R, request: Ticket) -> bool
         requires is_request { IsTicket K.level.gate.shape request.number }
-        ensures struck { result ≡ true → Struck K.level request.number }
+        ensures answer { StrikesUnder self.old request.number result self.new }
     {
-        self.shared.strike(rt, &self.gate, request)
+        match &mut self.queued {
+            Some(queued) => queued.strike(rt, self.gate, request),
+            None => false,
+        }
+    }
+
+    /// Copies events of the queues from this place on, of all that there ever were, the oldest first, as many as there
+    /// is room for. The newest are kept, two for each slot. Tells from which place on it copied, so that a reader that
+    /// comes too late knows how many it missed. There are none on a level without queues.
+    pub fn copy_events(&self, from: u64, into: &mut [LifeEvent]) -> Copied
+        ensures copied { CopiesUnder self.now from into.old result into.new }
+        ensures of_level { IsCopied K.level from into.old result into.new }
+    {
+        match &self.queued {
+            Some(queued) => queued.copy_events(from, into),
+            None => Copied { from, count: 0 },
+        }
+    }
+
+    /// How many events of the queues there ever were of each kind.
+    pub fn stats(&self) -> LifeStats
+        ensures stats { AreStatsUnder self.now result }
+        ensures of_level { AreStatsOf K.level result }
+    {
+        match &self.queued {
+            Some(queued) => queued.stats(),
+            None => LifeStats {
+                entered: 0,
+                dispatched: 0,
+                struck: 0,
+                full: 0,
+            },
+        }
+    }
+}
+
+impl<K: Naming> Level<K> {
+    /// Takes the level's lock. A level without queues takes none.
+    pub fn lock<R: Wait>(&self, rt: &R) -> Locked<'_, K> {
+        let queued = match &self.shared {
+            Shared::Queued(queued) => Some(queued.lock.lock(rt)),
+            Shared::Alone(_alone) => None,
+        };
+        Locked {
+            gate: &self.gate,
+            queued,
+        }
     }
 
     /// Sets the limit, in seats, and then dispatches. Answers the old limit. A lost exchange is tried again.
@@ -41,26 +118,10 @@ impl<K: Naming> Level<K> {
     {
         for _ in rt.forever() {
             if let TrySetLimit::Set(old, _waiting) = self.gate.try_set_limit(station, limit) {
-                self.dispatch(rt);
+                self.lock(rt).dispatch(rt);
                 return old;
             }
         }
         unreachable!()
-    }
-
-    /// Copies events of the queues from this place on, of all that there ever were, the oldest first, as many as there
-    /// is room for. The newest are kept, two for each slot. Tells from which place on it copied, so that a reader that
-    /// comes too late knows how many it missed. There are none on a level without queues.
-    pub fn copy_events<R: Wait>(&self, rt: &R, from: u64, into: &mut [LifeEvent]) -> Copied
-        ensures copied { IsCopied K.level from into.old result into.new }
-    {
-        self.shared.copy_events(rt, from, into)
-    }
-
-    /// How many events of the queues there ever were of each kind.
-    pub fn stats<R: Wait>(&self, rt: &R) -> LifeStats
-        ensures stats { AreStatsOf K.level result }
-    {
-        self.shared.stats(rt)
     }
 }

@@ -1,6 +1,6 @@
 //! What stands under the lock of a level with queues.
 
-ghost use Rattle.std.specs.Prelude.{◌≡◌, ◌≢◌, ◌*◌, All, true, Some, None};
+ghost use Rattle.std.specs.Prelude.{◌≡◌, ◌≢◌, ◌*◌, ◌^◌, ◌<◌, All, length, true, Some, None};
 ghost use Rattle.apf_words.specs.declared.decision.Decision.TheVariants.{Execute, Cancelled};
 ghost use Rattle.apf_model.specs.declared.response.Response.TheVariants.{Queue};
 ghost use Rattle.apf_gate.specs.declared.record.State.TheVariants.{InLine};
@@ -13,7 +13,9 @@ ghost use Rattle.apf_book.specs.LifeCalls.{SameLifeBook};
 ghost use Rattle.apf_life.specs.Levels.{IsBookOf};
 ghost use Rattle.apf_life.specs.Tokens.{IsOf};
 ghost use Rattle.apf_life.specs.Arrivals.{StandsAs};
-ghost use Rattle.apf_life.specs.Sections.{Dispatched, Struck, IsCopied, AreStatsOf, AreSleepers};
+ghost use Rattle.apf_life.specs.Sections.{IsCopied, AreStatsOf, AreSleepers};
+ghost use Rattle.apf_life.specs.Locked.{StrikesAndServes};
+ghost use Rattle.apf_book.specs.Notes.{AreLifeStats, CopiesLate};
 ghost use Rattle.apf_life.specs.Calls.{StandsInLine};
 ghost use Rattle.apf_life.specs.Stopped.{IsStopped};
 
@@ -128,7 +130,8 @@ impl<K: Naming> Queued<K> {
     /// Dispatches while the chosen head fits. Tells how many.
     pub fn dispatch<R: Wait>(&mut self, rt: &R, gate: &Gate<Global>) -> u64
         requires own { gate.now ≡ K.level.gate }
-        ensures dispatched { Dispatched K.level result }
+        ensures same { SameLifeBook self.old.book self.new.book }
+        ensures served { (v : LifeView) → IsLifeKept v self.old.book → ServesLife v self.old.book result self.new.book }
     {
         self.book.has_a_history();
         let before = self.book.events();
@@ -140,7 +143,7 @@ impl<K: Naming> Queued<K> {
     pub fn strike<R: Wait>(&mut self, rt: &R, gate: &Gate<Global>, request: Ticket) -> bool
         requires own { gate.now ≡ K.level.gate }
         requires is_request { IsTicket K.level.gate.shape request.number }
-        ensures struck { result ≡ true → Struck K.level request.number }
+        ensures struck { StrikesAndServes self.old.book request.number result self.new.book }
     {
         self.book.has_a_history();
         let before = self.book.events();
@@ -183,7 +186,8 @@ impl<K: Naming> Queued<K> {
     /// Copies events from this place on, of all that there ever were, the oldest first, as many as there is room for.
     /// Tells from which place on it copied.
     pub fn copy_events(&self, from: u64, into: &mut [LifeEvent]) -> Copied
-        ensures { IsCopied K.level from into.old result into.new }
+        ensures copied { (v : LifeView) → IsLifeKept v self.now.book → length v.history < 2 ^ 64 → CopiesLate self.now.book.notes.capacity v.history from into.old result into.new }
+        ensures of_level { IsCopied K.level from into.old result into.new }
     {
         self.book.has_a_history();
         self.book.copy_events(from, into)
@@ -191,7 +195,8 @@ impl<K: Naming> Queued<K> {
 
     /// How many events there ever were of each kind.
     pub fn stats(&self) -> LifeStats
-        ensures { AreStatsOf K.level result }
+        ensures stats { (v : LifeView) → IsLifeKept v self.now.book → length v.history < 2 ^ 64 → AreLifeStats result v.history }
+        ensures of_level { AreStatsOf K.level result }
     {
         self.book.has_a_history();
         self.book.stats()

@@ -6,12 +6,10 @@ ghost use Rattle.apf_gate.specs.Records.{told_own};
 ghost use Rattle.apf_gate.specs.Slots.{IsTicket};
 ghost use Rattle.apf_gate.specs.Tokens.{pass_gate};
 ghost use Rattle.apf_life.specs.Tokens.{IsOf, IsInLine};
-ghost use Rattle.apf_life.specs.Sections.{Dispatched, Struck, IsCopied, AreStatsOf};
 
 use crate::alone::AloneLock;
 use crate::naming::Naming;
 use crate::queued::QueuedLock;
-use apf_book::{Copied, LifeEvent, LifeStats};
 use apf_gate::{Gate, Pass, Ticket};
 use std::alloc::Global;
 use std::sync::Wait;
@@ -24,29 +22,6 @@ pub enum Shared<K: Naming> {
 }
 
 impl<K: Naming> Shared<K> {
-    /// Dispatches while the chosen head fits. Tells how many.
-    pub fn dispatch<R: Wait>(&self, rt: &R, gate: &Gate<Global>) -> u64
-        requires own { gate.now ≡ K.level.gate }
-        ensures dispatched { Dispatched K.level result }
-    {
-        match self {
-            Shared::Queued(queued) => queued.lock.lock(rt).dispatch(rt, gate),
-            Shared::Alone(_alone) => 0,
-        }
-    }
-
-    /// Strikes the request, if it waits and is cancelled, and dispatches then. Says whether it struck.
-    pub fn strike<R: Wait>(&self, rt: &R, gate: &Gate<Global>, request: Ticket) -> bool
-        requires own { gate.now ≡ K.level.gate }
-        requires is_request { IsTicket K.level.gate.shape request.number }
-        ensures struck { result ≡ true → Struck K.level request.number }
-    {
-        match self {
-            Shared::Queued(queued) => queued.lock.lock(rt).strike(rt, gate, request),
-            Shared::Alone(_alone) => false,
-        }
-    }
-
     /// The Pass's request, which was told that it does not execute, leaves its queue, and its Pass hears that.
     pub fn withdraw<R: Wait>(&self, rt: &R, gate: &Gate<Global>, pass: &mut Pass)
         requires own { gate.now ≡ K.level.gate }
@@ -74,31 +49,6 @@ impl<K: Naming> Shared<K> {
         match self {
             Shared::Queued(queued) => queued.lock.lock(rt).will_sleep(request),
             Shared::Alone(_alone) => {}
-        }
-    }
-
-    /// Copies events from this place on. Tells from which place on it copied.
-    pub fn copy_events<R: Wait>(&self, rt: &R, from: u64, into: &mut [LifeEvent]) -> Copied
-        ensures { IsCopied K.level from into.old result into.new }
-    {
-        match self {
-            Shared::Queued(queued) => queued.lock.lock(rt).copy_events(from, into),
-            Shared::Alone(_alone) => Copied { from, count: 0 },
-        }
-    }
-
-    /// How many events there ever were of each kind.
-    pub fn stats<R: Wait>(&self, rt: &R) -> LifeStats
-        ensures { AreStatsOf K.level result }
-    {
-        match self {
-            Shared::Queued(queued) => queued.lock.lock(rt).stats(),
-            Shared::Alone(_alone) => LifeStats {
-                entered: 0,
-                dispatched: 0,
-                struck: 0,
-                full: 0,
-            },
         }
     }
 }

@@ -163,7 +163,7 @@ fn finish<K: Plan, W: Work, R: Wait>(
             job.work.work(&running, request.work);
             if let Some(other) = job.named_by(request) {
                 operator.cancel(job.level, other);
-                job.level.strike(rt, other);
+                job.level.lock(rt).strike(rt, other);
             }
             release(rt, job.level, running)
         }

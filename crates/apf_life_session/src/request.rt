@@ -107,7 +107,7 @@ pub fn release<K: Naming, R: Wait>(rt: &R, level: &Level<K>, running: Running) -
 {
     let (done, waiting) = level.release(running);
     if waiting {
-        level.dispatch(rt);
+        level.lock(rt).dispatch(rt);
     }
     done
 }
@@ -292,7 +292,7 @@ impl<K: Naming> Request<K> {
     {
         let answer = self.release(level);
         if answer == Answer::Released(true) {
-            level.dispatch(rt);
+            level.lock(rt).dispatch(rt);
         }
         answer
     }

@@ -255,7 +255,7 @@ impl<K: Naming> Session<K> {
     {
         let answer = self.operators[0].cancel(&self.level, request);
         if answer == Cancel::Is(Decision::Cancelled) {
-            self.level.strike(rt, request);
+            self.level.lock(rt).strike(rt, request);
         }
         answer
     }

@@ -147,7 +147,7 @@ fn cancel<K: Naming, R: Wait>(
         }
     }
     if back == 0 {
-        level.strike(rt, ticket);
+        level.lock(rt).strike(rt, ticket);
     }
 }
 

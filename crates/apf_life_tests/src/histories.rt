@@ -138,7 +138,7 @@ fn read<K: Naming, R: Wait + Abort>(
     let before = past.log.len();
     for _turn in 0..10 {
         let from = past.log.len() as u64;
-        let copied = session.level.copy_events(rt, from, &mut room);
+        let copied = session.level.lock(rt).copy_events(from, &mut room);
         assert_eq!(rt; copied.from, from);
         for event in room.iter().take(copied.count) {
             past.happens(rt, *event);

@@ -114,7 +114,7 @@ fn struck_full_and_closed<K: Naming, R: Wait + Abort>(rt: &R, alloc: Global, ope
     assert_eq!(rt; session.poll(rt, 2), Answer::Run);
     session.finish(rt, 2);
     assert_eq!(rt; session.poll(rt, 1), Answer::Run);
-    let stats = session.level.stats(rt);
+    let stats = session.level.lock(rt).stats();
     assert_eq!(rt;
         (stats.entered, stats.dispatched, stats.struck, stats.full),
         (3, 2, 1, 1)
@@ -149,11 +149,11 @@ fn late_reader<K: Naming, R: Wait + Abort>(rt: &R, alloc: Global, opening: Openi
         session.finish(rt, 1);
     }
     let mut room = [LifeEvent::Full(Ticket::of(0), 0); 16];
-    let copied = session.level.copy_events(rt, 3, &mut room);
+    let copied = session.level.lock(rt).copy_events(3, &mut room);
     assert_eq!(rt; (copied.from, copied.count), (12, 8));
     let newest = session.ticket(1);
     assert_eq!(rt; room[7], LifeEvent::Dispatch(newest, 0));
-    let copied = session.level.copy_events(rt, 19, &mut room);
+    let copied = session.level.lock(rt).copy_events(19, &mut room);
     assert_eq!(rt; (copied.from, copied.count), (19, 1));
     assert_eq!(rt; room[0], LifeEvent::Dispatch(newest, 0));
     let report = ended(rt, alloc, session);

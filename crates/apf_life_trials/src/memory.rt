@@ -57,7 +57,7 @@ fn came<K: Naming, R: Wait>(rt: &R, session: &mut Session<K>, slot: u32) -> Told
 // The events from the second one on.
 fn copied<K: Naming, R: Wait>(rt: &R, session: &Session<K>) -> Told {
     let mut room = [LifeEvent::Full(Ticket::of(0), 0); 4];
-    let copied = session.level.copy_events(rt, 1, &mut room);
+    let copied = session.level.lock(rt).copy_events(1, &mut room);
     Told::Copied(copied.from, copied.count, room[0])
 }
 
@@ -81,7 +81,7 @@ fn make<K: Naming, R: Wait>(rt: &R, session: &mut Session<K>) -> [Told; CALLS]
         Told::Limit(session.set_limit(rt, 2)),
         Told::Is(session.poll(rt, 1)),
         copied(rt, session),
-        Told::Numbers(session.level.stats(rt)),
+        Told::Numbers(session.level.lock(rt).stats()),
         Told::Is(session.finish(rt, 2)),
         Told::Is(session.finish(rt, 1)),
         Told::Is(session.finish(rt, 1)),

@@ -1,33 +1,31 @@
 //! What a replay notes while it goes on: its lines, the decisions that it was told, and the log so far.
 
-ghost use Rattle.std.specs.Prelude.{◌≡◌, ◌*◌, ◌≤◌, length};
+ghost use Rattle.std.specs.Prelude.{◌≤◌, length};
 ghost use Rattle.apf_words.specs.Limits.{max_requests};
 
 use crate::line::Line;
 use crate::services::{Service, count_all, no_services};
 use apf_files::Request;
-use apf_level::Counts;
+use apf_level::{Counts, Level, Naming};
 use apf_model::Event;
+use apf_session::Follower;
 use apf_words::Decision;
 use std::alloc::{AllocError, Global};
+use std::sync::Wait;
 
-/// The lines so far, the decision of each request as far as it was told, and the log as far as it was read, which
-/// stands at the beginning of `log`.
+/// The lines so far, the decision of each request as far as it was told, and the log as far as it was read.
 #[derive(Drop)]
 pub struct Record {
     lines: Vec<Line>,
     decisions: Vec<Option<Decision>>,
-    log: Vec<Event>,
-    read: usize,
+    log: Follower,
     services: Vec<Service>,
-    ghost is_read: { read ≤ length log.items },
-    ghost few_events: { length log.items ≤ 2 * max_requests },
     ghost few_requests: { length decisions.items ≤ max_requests },
 }
 
 impl Record {
-    /// A record of so many requests, commands and queues, all of whose memory is taken here. A log has at most two
-    /// events a request, and a request has at most one line beside those of the commands.
+    /// A record of so many requests, commands and queues, all of whose memory is taken here. A request has at most one
+    /// line beside those of the commands.
     ///
     /// # Errors
     ///
@@ -43,8 +41,7 @@ impl Record {
         Ok(Record {
             lines: Vec::with_capacity(alloc, commands.saturating_add(requests))?,
             decisions: vec![in alloc; None; requests]?,
-            log: vec![in alloc; Event::Enter(0, 0); 2 * requests]?,
-            read: 0,
+            log: Follower::new(alloc, requests)?,
             services: no_services(alloc, queues)?,
         })
     }
@@ -65,30 +62,19 @@ impl Record {
         }
     }
 
-    /// How many events were read.
+    /// How many events of the log were read.
     pub fn read(&self) -> u32 {
-        self.read as u32
+        self.log.len()
     }
 
-    /// The room for other events.
-    pub fn room(&mut self) -> &mut [Event] {
-        let from = self.read;
-        &mut self.log[from..]
-    }
-
-    /// So many events more were read. Tells where they end.
-    pub fn advance(&mut self, count: u32) -> u32 {
-        self.read = self.read.saturating_add(count as usize).min(self.log.len());
-        self.read as u32
+    /// Reads what the level's log gained.
+    pub fn follow<K: Naming, R: Wait>(&mut self, rt: &R, level: &Level<K>) {
+        self.log.follow(rt, level);
     }
 
     /// The event at this place of the log, if it was read.
     pub fn event(&self, place: u32) -> Option<Event> {
-        if (place as usize) < self.read {
-            self.log.get(place as usize).copied()
-        } else {
-            None
-        }
+        self.log.event(place)
     }
 
     // How many requests were told this decision.
@@ -122,10 +108,9 @@ impl Record {
             lines,
             decisions: _,
             log,
-            read,
             mut services,
         } = self;
-        count_all(services.as_mut_slice(), requests, &log[..read]);
+        count_all(services.as_mut_slice(), requests, log.events());
         (lines, services)
     }
 }

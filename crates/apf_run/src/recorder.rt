@@ -93,9 +93,9 @@ impl<K: Naming> Recorder<K> {
             Command::Limit(limit) => self.set_limit(rt, limit),
         };
         let from = self.record.read();
-        let end = self.read_log(rt);
+        self.record.follow(rt, &self.session.level);
         self.record.add(line)?;
-        self.note_all(rt, from, end)
+        self.note_all(rt, from)
     }
 
     // The request arrives, unless it did. If it entered a queue, or found one full, the line names the queue.
@@ -149,16 +149,9 @@ impl<K: Naming> Recorder<K> {
         Line::Limits(limit, old)
     }
 
-    // Reads what the log gained. Tells where it ends.
-    fn read_log<R: Wait>(&mut self, rt: &R) -> u32 {
-        let from = self.record.read();
-        let count = self.session.level.copy_events(rt, from, self.record.room());
-        self.record.advance(count)
-    }
-
-    // Notes the events of these places.
-    fn note_all<R: Wait>(&mut self, rt: &R, from: u32, end: u32) -> Result<(), AllocError> {
-        for place in from..end {
+    // Notes the events that were read, from this place on.
+    fn note_all<R: Wait>(&mut self, rt: &R, from: u32) -> Result<(), AllocError> {
+        for place in from..self.record.read() {
             if let Some(event) = self.record.event(place) {
                 self.note(rt, event)?;
             }

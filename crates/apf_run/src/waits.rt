@@ -84,7 +84,7 @@ pub fn waits_of<K: Naming, R: Waiting>(
 {
     let widths = widths_of(alloc, requests)?;
     let mut log = vec![in alloc; Event::Enter(0, 0); room_for(response, requests.len())]?;
-    let count = level.copy_events(rt, 0, log.as_mut_slice());
+    let count = level.lock(rt).copy_events(0, log.as_mut_slice());
     log.truncate(count as usize);
     Ok(Waits { log, widths })
 }

@@ -108,7 +108,7 @@ fn handle<K: Plan, W: Work, R: Wait>(
             job.work.work(&running, request.work);
             if let Some(other) = job.named_by(request) {
                 operator.cancel(job.level, other);
-                job.level.strike(rt, other);
+                job.level.lock(rt).strike(rt, other);
             }
             release(rt, job.level, running)
         }

@@ -101,7 +101,7 @@ pub fn attempt<K: Naming, R: Wait>(
 // Dispatches, where the attempt's caller owes that.
 fn make_up<K: Naming, R: Wait>(rt: &R, level: &Level<K>, answer: Answer) {
     if let Answer::Tried(_, true) = answer {
-        level.dispatch(rt);
+        level.lock(rt).dispatch(rt);
     }
 }
 

@@ -186,7 +186,7 @@ impl<K: Naming> Service<K> {
         ensures same { (self.new.config ≡ self.old.config) × (self.new.name ≡ self.old.name) × (length self.new.session.slots.items ≡ length self.old.session.slots.items) }
     {
         let room = self.room.as_mut_slice();
-        let copied = self.session.level.copy_events(rt, self.notes.seen, room);
+        let copied = self.session.level.lock(rt).copy_events(self.notes.seen, room);
         let count = copied.count.min(self.room.len());
         self.notes.seen = copied.from.saturating_add(count as u64);
         follow_all(rt, &mut self.session, &mut self.notes, &self.room[..count]);
@@ -218,7 +218,7 @@ impl<K: Naming> Service<K> {
         ensures told { OnOk result (TellsBook K.level (state_of self.old.session.slots.items self.old.session.operators.items self.old.notes) (Appends (W.contents out.old) (W.contents out.new)) (state_of self.new.session.slots.items self.new.session.operators.items self.new.notes)) }
     {
         let word = look(&mut self.session);
-        let stats = self.session.level.stats(rt);
+        let stats = self.session.level.lock(rt).stats();
         let Tally {
             counts,
             waiting,

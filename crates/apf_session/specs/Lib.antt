@@ -1,4 +1,5 @@
 pub use Rattle.apf_words.specs.Limits
 pub mod Openings
 pub mod Requests
+pub mod Followers
 pub mod Ends

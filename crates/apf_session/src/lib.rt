@@ -45,10 +45,12 @@
 //!   end.
 //! - `operator`: cancels, closes, reads the level word and sets the limit.
 //! - `session`: a level with all of these, from its opening to its end.
+//! - `follower`: one reader of a level's log.
 #![tactic(auto)]
 
 mod answer;
 mod fault;
+mod follower;
 mod opening;
 mod operator;
 mod request;
@@ -57,6 +59,7 @@ mod token;
 
 pub use answer::{Answer, Place};
 pub use fault::OpenFault;
+pub use follower::Follower;
 pub use opening::Opening;
 pub use operator::Operator;
 pub use request::{Request, release};

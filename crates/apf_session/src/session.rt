@@ -368,7 +368,7 @@ impl<K: Naming> Session<K> {
     {
         let decision = self.operators[0].cancel(&self.level, request);
         if decision == Decision::Cancelled {
-            self.level.strike(rt, request);
+            self.level.lock(rt).strike(rt, request);
         }
         decision
     }

@@ -15,7 +15,7 @@ ghost use Rattle.apf_simulation.specs.Ties.{AreAwaited, AreTied, AreTiedBut, Can
 use crate::diary::Diary;
 use apf_level::{Naming, Report};
 use apf_model::Event;
-use apf_session::{Answer, OpenFault, Opening, Place, Session};
+use apf_session::{Answer, Follower, OpenFault, Opening, Place, Session};
 use apf_times::{Due, Kind};
 use std::alloc::{AllocError, Global};
 use std::sync::Wait;
@@ -24,13 +24,9 @@ use std::sync::Wait;
 pub(crate) struct Simulator<K: Naming> {
     session: Session<K>,
     diary: Diary,
-    // the log, as far as it was read
-    log: Vec<Event>,
-    read: u32,
+    log: Follower,
     ghost one_station: { K.level.gate.shape.stations ≡ 1 },
     ghost one_course_each: { length diary.calendar.courses ≡ length K.level.gate.shape.widths },
-    ghost is_read: { read ≤ length log.items },
-    ghost few_events: { length log.items ≤ 2 * max_requests },
 }
 
 impl<K: Naming> Simulator<K> {
@@ -58,13 +54,12 @@ impl<K: Naming> Simulator<K> {
         ensures settings { OnOk result (CanOpen opening.entry.config opening.entry.asks.now 1) }
         ensures fault { IfErr result (IsOpenFault opening.entry.config opening.entry.asks.now 1) }
     {
-        let log = vec![in alloc; Event::Enter(0, 0); 2 * opening.asks.len()]?;
+        let log = Follower::new(alloc, opening.asks.len())?;
         let session = Session::open_with_costs(rt, alloc, opening, costs)?;
         Ok(Simulator {
             session,
             diary,
             log,
-            read: 0,
         })
     }
 
@@ -113,11 +108,6 @@ impl<K: Naming> Simulator<K> {
         }
     }
 
-    // The event at this place of the log, if it was read.
-    fn event(&self, place: u32) -> Option<Event> {
-        self.log.get(place as usize).copied()
-    }
-
     // A request that was dispatched or struck by this event of the log reads its decision.
     fn hear<R: Wait>(&mut self, rt: &R, place: u32)
         requires tied { AreTied self.old.diary.calendar self.old.session.requests.items }
@@ -127,7 +117,7 @@ impl<K: Naming> Simulator<K> {
         ensures carried { self.new.diary.carried ≡ self.old.diary.carried }
         ensures operators { self.new.session.operators.items ≡ self.old.session.operators.items }
     {
-        if let Some(Event::Dispatch(request, _) | Event::Strike(request, _)) = self.event(place) {
+        if let Some(Event::Dispatch(request, _) | Event::Strike(request, _)) = self.log.event(place) {
             self.read_decision(rt, request);
         }
     }
@@ -141,12 +131,9 @@ impl<K: Naming> Simulator<K> {
         ensures carried { self.new.diary.carried ≡ self.old.diary.carried }
         ensures operators { self.new.session.operators.items ≡ self.old.session.operators.items }
     {
-        let from = self.read;
-        let room = &mut self.log[from as usize..];
-        let count = self.session.level.copy_events(rt, from, room);
-        let end = from.saturating_add(count).min(self.log.len() as u32);
-        self.read = end;
-        for place in from..end {
+        let from = self.log.len();
+        self.log.follow(rt, &self.session.level);
+        for place in from..self.log.len() {
             self.hear(rt, place);
         }
     }
@@ -291,7 +278,6 @@ impl<K: Naming> Simulator<K> {
             session,
             diary,
             log: _,
-            read: _,
         } = self;
         (diary, session.end(rt, alloc))
     }

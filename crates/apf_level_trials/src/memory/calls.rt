@@ -14,7 +14,7 @@ pub const CALLS: usize = 19;
 // Copies the log into room for four events.
 fn copied<K: Naming, R: Wait>(rt: &R, session: &Session<K>) -> Answer {
     let mut into = [Event::Full(9, 9); 4];
-    let count = session.level.copy_events(rt, 0, &mut into);
+    let count = session.level.lock(rt).copy_events(0, &mut into);
     Answer::Copied(count, into)
 }
 
@@ -30,12 +30,12 @@ pub fn make<K: Naming, R: Wait>(rt: &R, session: &mut Session<K>) -> [Answer; CA
         session.poll(rt, 1).into(),
         Answer::Over(session.operators[0].cancel(&session.level, 1)),
         Answer::Word(session.look()),
-        Answer::Struck(session.level.strike(rt, 1)),
+        Answer::Struck(session.level.lock(rt).strike(rt, 1)),
         Answer::Word(session.look()),
         Answer::Numbers(session.stats(rt)),
         copied(rt, session),
         session.requests[0].release(&session.level).into(),
-        Answer::Dispatched(session.level.dispatch(rt)),
+        Answer::Dispatched(session.level.lock(rt).dispatch(rt)),
         Answer::Numbers(session.stats(rt)),
         session.poll(rt, 1).into(),
         session.poll(rt, 2).into(),

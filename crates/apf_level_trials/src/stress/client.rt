@@ -73,7 +73,7 @@ impl<K: Naming> Client<K> {
             self.note.tried = true;
         }
         if owes {
-            level.dispatch(rt);
+            level.lock(rt).dispatch(rt);
         }
     }
 

@@ -109,7 +109,7 @@ impl<K: Naming> Worker<K> {
         };
         let decision = self.operator.cancel(stage.level, request);
         self.note(Act::Cancel(request, decision));
-        if self.random.is_one_in(2) && stage.level.strike(rt, request) {
+        if self.random.is_one_in(2) && stage.level.lock(rt).strike(rt, request) {
             self.note(Act::Strike(request));
         }
     }
@@ -122,7 +122,7 @@ impl<K: Naming> Worker<K> {
         match self.operator.try_set_limit(stage.level, limit) {
             TrySetLimit::Set(old, waiting) => {
                 if waiting {
-                    stage.level.dispatch(rt);
+                    stage.level.lock(rt).dispatch(rt);
                 }
                 Some(old)
             }

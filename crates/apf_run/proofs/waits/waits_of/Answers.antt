@@ -12,7 +12,7 @@ invariant_of-result g c =
     let count = c.copy_events-count.result in
     let after = c.copy_events-count.new.into in
     let widths = c.in_ok-widths.widths.items in
-    let copied = c.copy_events-count.ensures.copied in
+    let copied = c.copy_events-count.ensures.of_level in
     let long : length into ≡ c.room_for.result = (let a = c.as_mut_slice.ensures.len in let b = c.in_ok-log.ensures.len in omega arith) in
     let one_each : length widths ≡ length c.args.requests.now = ap length c.in_ok-widths.ensures ∙ length-map c.args.requests.now _ in
     let same : c.truncate.new.self.items ≡ take count after =

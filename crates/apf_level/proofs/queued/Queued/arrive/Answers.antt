@@ -13,7 +13,7 @@ returns-in-Queued-clause-stands g c =
     let e : Event = Enter c.args.pass.now.pass.number c.in-Queued.queue in (
       c.in-Queued.ensures.after.entered.1 (c.in-Queued.queue, subst (λ (v : LedgerView). Contains v.history e) (sym c.in-Queued.ensures.answer.log) (0, omega arith, refl)),
       subst (λ (n : ℕ). Appended g.K.Naming.level (Enter n c.in-Queued.queue)) (sym c.in-Queued.ensures.same_request.number)
-          (appended g.K.Naming.level e c.args.self.now.book.ledger c.arrive-arrived.new.self.ledger c.serve.new.book.ledger c.serve.result c.args.self.now.tied.ledger c.in-Queued.ensures.answer.log c.serve.ensures.log c.serve.ensures.kept.of_log),
+          (appended g.K.Naming.level e c.args.self.now.book.ledger c.arrive-arrived.new.self.ledger c.serve.new.book.ledger c.serve.result c.args.self.now.tied.ledger c.in-Queued.ensures.answer.log c.serve.ensures.answer.log c.serve.ensures.same.kept.of_log),
     )
 
 pub returns-in-Closed-clause-stands : goal.returns-in-Closed-clause-stands

@@ -9,7 +9,7 @@ returns-clause-told g c =
     (λ done appended. record {
       word = c.look-word.result;
       stats = c.stats-stats.result;
-      stats_are = c.stats-stats.ensures.stats;
+      stats_are = c.stats-stats.ensures.of_level;
       does = record {
         operators = c.look-word.new.session.operators.items;
         first = c.look-word.ensures.answer;

@@ -1,7 +1,7 @@
 use Rattle.std.proofs.Common.{◌≡◌, ℕ, zero, suc, ◌-◌, refl, arith}
 use Rattle.std.specs.Prelude.{max, min}
 use Rattle.apf_life.proofs.Histories.{nothing_yet, is_nothing_yet}
-use Rattle.apf_life.proofs.shared.Shared.copy_events.Goals as goal
+use Rattle.apf_life.proofs.locked.Locked.copy_events.Goals as goal
 
 most : (from less : ℕ) → from ≡ max from (0 - less)
 most from less = omega arith
@@ -9,8 +9,8 @@ most from less = omega arith
 least : (from room : ℕ) → 0 ≡ min (0 - from) room
 least from room = omega arith
 
-pub returns-in-Alone : goal.returns-in-Alone
-returns-in-Alone g c = record {
+pub returns-in-None-clause-of_level : goal.returns-in-None-clause-of_level
+returns-in-None-clause-of_level g c = record {
   view = nothing_yet g.K.Naming.level;
   of_level = is_nothing_yet g.K.Naming.level;
   copies = λ few. record { start = most _ _; count_is = least _ _; copied = refl; rest = refl; room = refl };

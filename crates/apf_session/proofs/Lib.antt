@@ -6,3 +6,4 @@ pub mod Leaving
 pub mod Cancelling
 pub mod Concluding
 pub mod Beginning
+pub mod Following

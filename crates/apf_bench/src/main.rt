@@ -1,5 +1,6 @@
 //! Measures choose and dispatch before and after the tree of finishes, the gate's steps, a level's calls and the same
-//! steps on bare words beside one lock, and a level's calls beside the gate's same steps, as ratios of medians.
+//! steps on bare words beside one lock, a level's calls beside the gate's same steps, and requests in line beside plain
+//! code, as ratios of medians.
 //!
 //! `bench/run` starts it with a number of rounds. With no word it makes one round, and writes only
 //! whether the answers agree.
@@ -11,16 +12,22 @@ mod course;
 mod gated;
 mod level;
 mod levelled;
+mod life;
 mod lined;
 mod locked;
 mod measures;
 mod plain;
+mod queueing;
 mod ratio;
 mod scan;
+mod shuffle;
 
 use choices::{Shape, after, before, median};
 use course::Callers;
-use measures::{measured_admission, measured_line, tell_admission, tell_line};
+use measures::{
+    measured_admission, measured_life, measured_line, tell_admission, tell_life, tell_line,
+};
+use shuffle::Shuffle;
 use std::process::ExitCode;
 use std::sync::Wait;
 use std::thread::Threads;
@@ -68,6 +75,15 @@ const CALLERS: [Callers; 5] = [
     Callers {
         threads: 4,
         hints: 512,
+    },
+];
+
+// Over how many queues the requests of a level for life are spread.
+const SHUFFLES: [Shuffle; 2] = [
+    Shuffle { queues: 1, hand: 1 },
+    Shuffle {
+        queues: 64,
+        hand: 8,
     },
 ];
 
@@ -169,13 +185,34 @@ fn line_up<R: Threads + Clock + Wait + Sync>(
     Ok(true)
 }
 
+// Measures requests in line on a level for life. Says whether each waited, and executed.
+fn line_up_for_life<R: Clock + Wait>(
+    rt: &HostRuntime,
+    runner: &R,
+    rounds: Rounds,
+) -> io::Result<bool> {
+    for shuffle in SHUFFLES {
+        let Some(medians) = measured_life(runner, rt.alloc(), shuffle, rounds.count) else {
+            println!(rt; "a request did not wait, or there was no memory or clock")?;
+            return Ok(false);
+        };
+        if rounds.are_told {
+            tell_life(rt, shuffle, medians)?;
+        }
+    }
+    Ok(true)
+}
+
 fn bench<R: Threads + Clock + Wait + Sync>(rt: &HostRuntime, runner: &R) -> io::Result<bool> {
     let asked = asked(rt)?;
     let rounds = Rounds {
         count: asked.unwrap_or(1).max(1),
         are_told: asked.is_some(),
     };
-    let agree = choose(rt, rounds)? && admit(rt, runner, rounds)? && line_up(rt, runner, rounds)?;
+    let agree = choose(rt, rounds)?
+        && admit(rt, runner, rounds)?
+        && line_up(rt, runner, rounds)?
+        && line_up_for_life(rt, runner, rounds)?;
     if agree && !rounds.are_told {
         println!(rt; "the answers agree")?;
     }

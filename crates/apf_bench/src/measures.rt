@@ -5,14 +5,21 @@ use crate::choices::median;
 use crate::course::Callers;
 use crate::gated::{Beside, gated};
 use crate::level::{Scene, by_level};
+use crate::life::by_life;
 use crate::locked::locked;
 use crate::plain::plain;
 use crate::ratio::Ratio;
+use crate::scan::Scan;
+use crate::shuffle::Shuffle;
+use apf_checked::Checked;
 use std::alloc::Global;
 use std::io;
 use std::sync::Wait;
 use std::thread::Threads;
 use std::time::Clock;
+
+// One queue, which everybody is dealt.
+const ONE: Shuffle = Shuffle { queues: 1, hand: 1 };
 
 /// How long a request with room took, in picoseconds.
 #[derive(Clone, Copy)]
@@ -38,6 +45,17 @@ pub struct InLine {
     plain: u64,
     // By a level's calls.
     level: u64,
+}
+
+/// How long a request in line took, in picoseconds, on a level whose slots are used again.
+#[derive(Clone, Copy)]
+pub struct InLineForLife {
+    // Under one lock, where a scan chooses the queue.
+    scan: u64,
+    // Under one lock, where a tree chooses it.
+    tree: u64,
+    // By a level's calls.
+    life: u64,
 }
 
 /// The medians of so many rounds by these callers, or `None` where a run fails.
@@ -88,12 +106,34 @@ pub fn measured_line<R: Threads + Clock + Wait + Sync>(
     let mut plains = Vec::new(alloc);
     let mut levels = Vec::new(alloc);
     for _ in 0..rounds {
-        plains.push(plain(rt, alloc)?).ok()?;
+        plains.push(plain::<Scan, R>(rt, alloc, ONE)?).ok()?;
         levels.push(by_level(rt, alloc, Scene::Line)?).ok()?;
     }
     Some(InLine {
         plain: median(plains)?,
         level: median(levels)?,
+    })
+}
+
+/// The medians of so many rounds over these queues, or `None` where a run fails.
+pub fn measured_life<R: Clock + Wait>(
+    rt: &R,
+    alloc: Global,
+    shuffle: Shuffle,
+    rounds: u32,
+) -> Option<InLineForLife> {
+    let mut scans = Vec::new(alloc);
+    let mut trees = Vec::new(alloc);
+    let mut lives = Vec::new(alloc);
+    for _ in 0..rounds {
+        scans.push(plain::<Scan, R>(rt, alloc, shuffle)?).ok()?;
+        trees.push(plain::<Checked, R>(rt, alloc, shuffle)?).ok()?;
+        lives.push(by_life(rt, alloc, shuffle)?).ok()?;
+    }
+    Some(InLineForLife {
+        scan: median(scans)?,
+        tree: median(trees)?,
+        life: median(lives)?,
     })
 }
 
@@ -124,4 +164,20 @@ pub fn tell_line(rt: &HostRuntime, medians: InLine) -> io::Result<()> {
     let (plain, level) = (medians.plain / 1_000, medians.level / 1_000);
     let ratio = Ratio::of(medians.level, medians.plain);
     println!(rt; "in line: under a lock {plain} ns, by a level {level} ns, ratio {ratio}")
+}
+
+/// Tells what a request in line took on a level whose slots are used again.
+pub fn tell_life(rt: &HostRuntime, shuffle: Shuffle, medians: InLineForLife) -> io::Result<()> {
+    let (scan, tree, life) = (
+        medians.scan / 1_000,
+        medians.tree / 1_000,
+        medians.life / 1_000,
+    );
+    let (to_scan, to_tree) = (
+        Ratio::of(medians.life, medians.scan),
+        Ratio::of(medians.life, medians.tree),
+    );
+    println!(rt;
+        "in line for life, {shuffle}: under a lock with a scan {scan} ns, with a tree {tree} ns, by a level {life} ns, ratio {to_scan}, to the tree {to_tree}"
+    )
 }

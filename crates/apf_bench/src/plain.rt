@@ -1,9 +1,12 @@
-//! Requests that wait in line one after another, under one lock: what a level keeps, as plain numbers and lists.
-//! Nothing is proved of its answers, which are compared with what is expected at the end.
+//! Requests that wait in line one after another, under one lock: what a level keeps, as plain numbers and lists, over
+//! queues that are chosen by a scan or by a tree. Nothing is proved of its answers, which are compared with what is
+//! expected at the end.
 
 use crate::choices::picos_each;
 use crate::course::REQUESTS;
-use crate::scan::Scan;
+use crate::queueing::Queueing;
+use crate::shuffle::Shuffle;
+use apf_flow::Dealer;
 use apf_model::Event;
 use std::alloc::{AllocError, Global};
 use std::sync::{Mutex, Wait};
@@ -24,29 +27,29 @@ struct Numbers {
     full: u32,
 }
 
-// A level of one queue, whose requests take one seat each.
+// A level whose requests take one seat each.
 #[derive(Drop)]
-struct Line {
+struct Line<Q: Queueing> {
     is_closed: bool,
     waiters: u32,
     seats: u32,
     limit: u32,
     length_limit: u32,
-    queue: Scan,
+    queues: Q,
     decisions: Vec<u8>,
     log: Vec<Event>,
     numbers: Numbers,
 }
 
-impl Line {
-    fn new(alloc: Global) -> Result<Line, AllocError> {
+impl<Q: Queueing> Line<Q> {
+    fn new(alloc: Global, queues: Q) -> Result<Line<Q>, AllocError> {
         Ok(Line {
             is_closed: false,
             waiters: 0,
             seats: 0,
             limit: 1,
             length_limit: 50,
-            queue: Scan::new(alloc, 1, REQUESTS)?,
+            queues,
             decisions: vec![in alloc; UNDECIDED; REQUESTS as usize]?,
             log: Vec::with_capacity(alloc, 2 * REQUESTS as usize)?,
             numbers: Numbers {
@@ -64,8 +67,20 @@ impl Line {
         decision
     }
 
-    // The request takes its seat, enters the queue, or is rejected. Tells its decision.
-    fn begin(&mut self, request: u32) -> u8 {
+    // The shortest queue of the hand, and how many wait there.
+    fn shortest(&self, hand: &[u32]) -> (u32, u32) {
+        let mut best = (0, u32::MAX);
+        for queue in hand {
+            let length = self.queues.len(*queue);
+            if length < best.1 {
+                best = (*queue, length);
+            }
+        }
+        best
+    }
+
+    // The request takes its seat, enters the shortest queue of its hand, or is rejected. Tells its decision.
+    fn begin(&mut self, request: u32, hand: &[u32]) -> u8 {
         if self.is_closed {
             return self.decide(request, REJECTED);
         }
@@ -73,14 +88,15 @@ impl Line {
             self.seats = self.seats.wrapping_add(1);
             return self.decide(request, EXECUTES);
         }
-        if self.waiters >= self.length_limit {
-            let _ = self.log.push(Event::Full(request, 0));
+        let (queue, length) = self.shortest(hand);
+        if length >= self.length_limit {
+            let _ = self.log.push(Event::Full(request, queue));
             self.numbers.full = self.numbers.full.wrapping_add(1);
             return self.decide(request, REJECTED);
         }
-        self.queue.push(0, request, 1);
+        self.queues.push(queue, request, 1);
         self.waiters = self.waiters.wrapping_add(1);
-        let _ = self.log.push(Event::Enter(request, 0));
+        let _ = self.log.push(Event::Enter(request, queue));
         self.numbers.entered = self.numbers.entered.wrapping_add(1);
         self.dispatch();
         self.poll(request)
@@ -106,7 +122,7 @@ impl Line {
             if self.seats >= self.limit {
                 return;
             }
-            let Some((queue, request)) = self.queue.dispatch() else {
+            let Some((queue, request)) = self.queues.dispatch() else {
                 return;
             };
             self.waiters = self.waiters.wrapping_sub(1);
@@ -140,8 +156,8 @@ impl Line {
 }
 
 // The request waits until the one before it has given its seat back, and is dispatched. Says whether it did so.
-fn follow<R: Wait>(rt: &R, line: &Mutex<Line>, request: u32) -> bool {
-    if line.lock(rt).begin(request) != UNDECIDED {
+fn follow<Q: Queueing, R: Wait>(rt: &R, line: &Mutex<Line<Q>>, request: u32, hand: &[u32]) -> bool {
+    if line.lock(rt).begin(request, hand) != UNDECIDED {
         return false;
     }
     if line.lock(rt).release() {
@@ -150,13 +166,19 @@ fn follow<R: Wait>(rt: &R, line: &Mutex<Line>, request: u32) -> bool {
     line.lock(rt).poll(request) == EXECUTES
 }
 
-// Serves the requests, each behind the one before it.
-fn serve_line<R: Wait>(rt: &R, line: &Mutex<Line>) -> bool {
-    if line.lock(rt).begin(0) != EXECUTES {
+// Serves the requests, each behind the one before it. A hand is dealt before the lock is taken.
+fn serve_line<Q: Queueing, R: Wait>(
+    rt: &R,
+    line: &Mutex<Line<Q>>,
+    dealer: Dealer,
+    shuffle: Shuffle,
+) -> bool {
+    if line.lock(rt).begin(0, &[0]) != EXECUTES {
         return false;
     }
     for request in 1..REQUESTS {
-        if !follow(rt, line, request) {
+        let hand = dealer.deal(shuffle.ask(request).hash);
+        if !follow(rt, line, request, hand.as_slice()) {
             return false;
         }
     }
@@ -165,10 +187,12 @@ fn serve_line<R: Wait>(rt: &R, line: &Mutex<Line>) -> bool {
 
 /// How long a request in line takes under one lock, in picoseconds: `None` if there was no memory or clock, or
 /// the answers are not those that are expected.
-pub fn plain<R: Clock + Wait>(rt: &R, alloc: Global) -> Option<u64> {
-    let line = Mutex::new(Line::new(alloc).ok()?);
+pub fn plain<Q: Queueing, R: Clock + Wait>(rt: &R, alloc: Global, shuffle: Shuffle) -> Option<u64> {
+    let dealer = Dealer::new(shuffle.queues, shuffle.hand).ok()?;
+    let queues = Q::new(alloc, shuffle.queues)?;
+    let line = Mutex::new(Line::new(alloc, queues).ok()?);
     let start = Instant::now(rt).ok()?;
-    let ends = serve_line(rt, &line);
+    let ends = serve_line(rt, &line, dealer, shuffle);
     let picos = picos_each(rt, start, REQUESTS)?;
     if !ends || !line.lock(rt).is_served() {
         return None;

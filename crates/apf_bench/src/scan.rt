@@ -67,6 +67,14 @@ impl Scan {
         })
     }
 
+    // How many wait in the queue.
+    pub fn len(&self, queue: u32) -> u32 {
+        match self.rows.get(queue as usize) {
+            Some(row) => row.len,
+            None => 0,
+        }
+    }
+
     // Puts the request at the end of the queue.
     pub fn push(&mut self, queue: u32, request: u32, width: u32) {
         let head = self.requests.saturating_add(queue);

@@ -1,6 +1,6 @@
 -- Nobody waits on a level whose slots all came back.
-use Rattle.std.proofs.Common.{◌≡◌, ◌≢◌, ℕ, zero, suc, ◌<◌, ◌⊎◌, inl, inr, Bool, true, false, List, [], ◌∷◌, length, Option, Some, None, refl, sym, ap, ◌∙◌, subst, arith}
-use Rattle.std.specs.Prelude.{All, Contains, slice_index_or}
+use Rattle.std.proofs.Common.{◌≡◌, ◌≢◌, ℕ, zero, suc, ◌<◌, ◌⊎◌, inl, inr, true, false, List, [], ◌∷◌, length, Option, Some, None, sym, ap, ◌∙◌, subst, arith}
+use Rattle.std.specs.Prelude.{All, slice_index_or}
 use Rattle.std.proofs.lemmas.Bool.{cases_eq}
 use Rattle.apf_words.specs.declared.decision.Decision.{Decision}
 use Rattle.apf_words.specs.declared.decision.Decision.TheVariants.{Execute, Cancelled}
@@ -9,19 +9,19 @@ use Rattle.apf_model.specs.declared.moves.Stage.{Stage}
 use Rattle.apf_model.specs.declared.moves.Stage.TheVariants.{Away, Waits, Gone}
 use Rattle.apf_gate.specs.declared.record.Shape.{Shape}
 use Rattle.apf_gate.specs.declared.record.State.{State}
-use Rattle.apf_gate.specs.declared.record.State.TheVariants.{Fresh, InLine, Over}
+use Rattle.apf_gate.specs.declared.record.State.TheVariants.{Fresh}
 use Rattle.apf_gate.specs.declared.record.PassRecord.{PassRecord}
 use Rattle.apf_gate.specs.declared.record.DeskRecord.{DeskRecord}
 use Rattle.apf_gate.specs.declared.record.Service.{Service}
 use Rattle.apf_gate.specs.declared.record.Service.TheVariants as service_is
 use Rattle.apf_gate.specs.declared.record.Record.{Record}
-use Rattle.apf_gate.specs.declared.record.Record.TheVariants.{Pass, Desk, Station}
+use Rattle.apf_gate.specs.declared.record.Record.TheVariants.{Pass, Desk}
 use Rattle.apf_gate.specs.Records.{told_of, told_own, service}
-use Rattle.apf_gate.specs.Requests.{IsRequest, IsState, IsHanded, IsPassRecord, MayHold, stage_of, was_handed, has_entered, written}
+use Rattle.apf_gate.specs.Requests.{IsRequest, IsState, IsHanded, MayHold}
 use Rattle.apf_gate.specs.PassSteps.{MayRenew}
 use Rattle.apf_gate.specs.Slots.{slot_of}
 use Rattle.apf_gate.specs.Traces.{world_of}
-use Rattle.apf_gate.specs.Account.{Account, IsIdle}
+use Rattle.apf_gate.specs.Account.{Account}
 use Rattle.apf_gate.specs.Rule.{Every, IsRecord}
 use Rattle.apf_gate.specs.Ends.{passes_before, stations_before}
 use Rattle.apf_gate.specs.Tokens.{GateId, PassToken, StationToken}

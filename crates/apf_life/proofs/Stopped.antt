@@ -1,5 +1,5 @@
 -- A book at rest: how it comes to that, and what it says of the level word now.
-use Rattle.std.proofs.Common.{◌≡◌, ◌⊎◌, inl, inr, ℕ, zero, suc, ◌<◌, List, [], ◌∷◌, ◌++◌, length, Option, Some, None, refl, sym, ap, ◌∙◌, subst, arith}
+use Rattle.std.proofs.Common.{◌≡◌, ◌⊎◌, inl, inr, ℕ, zero, ◌<◌, List, [], ◌∷◌, ◌++◌, length, Option, Some, None, refl, sym, ap, ◌∙◌, subst, arith}
 use Rattle.std.specs.Prelude.{Contains, slice_get}
 use Rattle.apf_words.specs.Fits.{Fits}
 use Rattle.apf_words.specs.Level.{Level}
@@ -13,15 +13,15 @@ use Rattle.apf_gate.specs.declared.record.Actor.TheVariants.{OfDesk}
 use Rattle.apf_gate.specs.declared.record.Entry.{Entry}
 use Rattle.apf_gate.specs.declared.record.Knowledge.{Knowledge}
 use Rattle.apf_gate.specs.declared.record.DeskRecord.{DeskRecord}
-use Rattle.apf_gate.specs.Records.{level_of, service, KnowsMore}
+use Rattle.apf_gate.specs.Records.{level_of, service}
 use Rattle.apf_gate.specs.Traces.{NoneOf, world_of}
 use Rattle.apf_gate.specs.Steps.{SawLevel}
 use Rattle.apf_gate.specs.Account.{Account, IsSound}
 use Rattle.apf_gate.specs.Owing.{DeskLoads, NoDispatchIsLost}
 use Rattle.apf_book.specs.Life.{LifeView}
-use Rattle.apf_book.specs.LifeBook.{LifeBookView, IsLifeKept, ServesLife, NobodyWaits, StopsAt, then_came_all}
+use Rattle.apf_book.specs.LifeBook.{LifeBookView, IsLifeKept, ServesLife, NobodyWaits, then_came_all}
 use Rattle.apf_book.specs.LifeCalls.{SameLifeBook}
-use Rattle.apf_life.specs.Stopped.{FirstWaits, Stopping, IsAtRest, IsRemembered, NoRequestIsForgotten}
+use Rattle.apf_life.specs.Stopped.{FirstWaits, Stopping, IsAtRest, IsRemembered}
 use Rattle.apf_life.proofs.Ended.{waits_then}
 
 look : (v : LifeView) (known : Knowledge) → Stopping v known → NobodyWaits v ⊎ FirstWaits v known

@@ -16,7 +16,7 @@ use Rattle.apf_book.specs.declared.fault.BookFault.TheVariants.{Dealer, Queues, 
 use Rattle.apf_life.specs.declared.answers.Begin.{Begin}
 use Rattle.apf_life.specs.declared.answers.Attempt.{Attempt}
 use Rattle.apf_life.specs.Levels.{LifeId}
-use Rattle.apf_life.specs.Tokens.{Arriving, IsOf}
+use Rattle.apf_life.specs.Tokens.{IsOf}
 use Rattle.apf_life.specs.Admission.{begun_pass, IsBegunTold, EnteredNow}
 use Rattle.apf_life.specs.Attempts.{attempted_pass, IsAttemptedTold, FoundOpen, StaysOut}
 

@@ -9,7 +9,7 @@ use Rattle.apf_model.specs.declared.moves.Stage.TheVariants.{Away}
 use Rattle.apf_gate.specs.declared.record.PassRecord.{PassRecord}
 use Rattle.apf_gate.specs.declared.record.DeskRecord.{DeskRecord}
 use Rattle.apf_gate.specs.Traces.{world_of}
-use Rattle.apf_gate.specs.Tokens.{PassToken, StationToken, DeskToken, desk_gate}
+use Rattle.apf_gate.specs.Tokens.{PassToken, StationToken, desk_gate}
 use Rattle.apf_gate.specs.LifeEnds.{LifeAgrees}
 use Rattle.apf_book.specs.Agreeing.{IsDeskOf}
 use Rattle.apf_book.specs.Life.{LifeView}

@@ -1,5 +1,5 @@
 -- A book that was made is the level's.
-use Rattle.std.proofs.Common.{◌≡◌, ◌*◌, ◌<◌, ◌∙◌, ℕ, length, refl, sym, ap, subst}
+use Rattle.std.proofs.Common.{◌*◌, ◌<◌, ◌∙◌, ℕ, refl, sym, ap, subst}
 use Rattle.std.specs.Prelude.{slice_index_or}
 use Rattle.apf_flow.specs.Sizes.{Sizes}
 use Rattle.apf_gate.specs.Gauges.{IsShape}

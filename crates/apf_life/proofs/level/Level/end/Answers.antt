@@ -1,7 +1,7 @@
 -- What the words and the history of a level say whose slots all came back.
-use Rattle.std.proofs.Common.{◌≡◌, ◌∙◌, ℕ, List, length, All, sym, ap, subst}
-use Rattle.apf_gate.specs.Tokens.{GateId, PassToken, DeskToken}
-use Rattle.apf_gate.specs.LifeEnds.{LifeEndsWith, LifeAgrees, IsBackForLife}
+use Rattle.std.proofs.Common.{◌≡◌, List, length, All, subst}
+use Rattle.apf_gate.specs.Tokens.{GateId, PassToken}
+use Rattle.apf_gate.specs.LifeEnds.{LifeEndsWith, LifeAgrees}
 use Rattle.apf_life.specs.Tokens.{IsDone}
 use Rattle.apf_life.proofs.Nobody.{nobody}
 use Rattle.apf_life.proofs.Ended.{nobody_waits, history_agrees}

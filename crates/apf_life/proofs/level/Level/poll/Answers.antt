@@ -2,7 +2,6 @@
 use Rattle.std.proofs.Common.{rules, ◌≡◌, ◌∙◌, Option, Some, sym, ap, subst}
 use Rattle.apf_words.specs.declared.decision.Decision.{Decision}
 use Rattle.apf_words.specs.declared.decision.Decision.TheVariants.{Cancelled}
-use Rattle.apf_gate.specs.declared.record.PassRecord.{PassRecord}
 use Rattle.apf_gate.specs.Records.{told_own}
 use Rattle.apf_gate.specs.PassSteps.{PassLoadsDecision}
 use Rattle.apf_gate.specs.Tokens.{PassToken, pass_gate}

@@ -1,4 +1,4 @@
-use Rattle.std.proofs.Common.{◌≡◌, ℕ, zero, suc, ◌-◌, refl, arith}
+use Rattle.std.proofs.Common.{◌≡◌, ℕ, ◌-◌, refl, arith}
 use Rattle.std.specs.Prelude.{max, min}
 use Rattle.apf_life.proofs.Histories.{nothing_yet, is_nothing_yet}
 use Rattle.apf_life.proofs.locked.Locked.copy_events.Goals as goal

@@ -71,6 +71,19 @@ fn serve_line<K: Naming, R: Wait>(
     odd.finish(rt, level) == Answer::Released(false)
 }
 
+// Serves the requests. Tells how long one took, in picoseconds, or `None` if one did not do as it should.
+fn play<K: Naming, R: Clock + Wait>(
+    rt: &R,
+    session: &mut Session<K>,
+    shuffle: Shuffle,
+) -> Option<u64> {
+    let start = Instant::now(rt).ok()?;
+    if !serve_line(rt, &session.level, session.slots.as_mut_slice(), shuffle) {
+        return None;
+    }
+    picos_each(rt, start, REQUESTS)
+}
+
 fn run_named<K: Naming, R: Clock + Wait>(
     rt: &R,
     alloc: Global,
@@ -80,14 +93,12 @@ fn run_named<K: Naming, R: Clock + Wait>(
     requires { K.level ≡ level_of opening.gate opening.config }
 {
     let mut session = Session::<K>::open_for_life(rt, alloc, opening).ok()?;
-    let start = Instant::now(rt).ok()?;
-    let serves = serve_line(rt, &session.level, session.slots.as_mut_slice(), shuffle);
-    let picos = picos_each(rt, start, REQUESTS)?;
+    let picos = play(rt, &mut session, shuffle);
     let report = session.end(rt, alloc).ok()?;
-    if !serves || !is_report(&report) {
+    if !is_report(&report) {
         return None;
     }
-    Some(picos)
+    picos
 }
 
 /// How long a request in line takes by the calls of a level for life, in picoseconds: `None` if there was no memory or

@@ -6,7 +6,7 @@ use apf_checked::Checked;
 use std::alloc::Global;
 
 /// Queues that share seats fairly. Of them each answers the same.
-pub trait Queueing {
+pub trait Queueing: Drop {
     /// So many queues, all empty, or `None` if there was no memory.
     fn new(alloc: Global, queues: u32) -> Option<Self>;
 

@@ -4,7 +4,8 @@ use Rattle.std.specs.Prelude.{nat_le}
 use Rattle.std.proofs.lemmas.List.{length-map}
 use Rattle.std.proofs.lemmas.Bool.Decides.{nat_tests}
 use Rattle.apf_audit.specs.AuditEvent.{event}
-use Rattle.apf_audit.specs.Arrivals.{earliest, latest, max_requests}
+use Rattle.apf_words.specs.Limits.{max_requests}
+use Rattle.apf_audit.specs.Arrivals.{earliest, latest}
 use Rattle.apf_audit.specs.AuditLog.{events_of, log_of, requests_by}
 use Rattle.apf_audit.specs.declared.choice.Choice.{Choice}
 use Rattle.apf_audit.specs.declared.event.Taken.{Taken}

@@ -17,7 +17,7 @@ use Rattle.apf_times.specs.Percentiles.{IsPercentile}
 use Rattle.apf_audit.specs.AuditEvent.{Event, event, IsTakenInRange}
 use Rattle.apf_audit.specs.Known.{AreKnown}
 use Rattle.apf_audit.specs.Runs.{is_median, median_of, estimate_of, ran, runs_of, run_in}
-use Rattle.apf_audit.specs.Times.{max_run}
+use Rattle.apf_times.specs.Limits.{max_run}
 use Rattle.apf_audit.specs.declared.event.Taken.{Taken}
 
 sums_rise : (f g : ℕ → ℕ) → ((x : ℕ) → f x ≤ g x) → (xs : List ℕ) → sum_by f xs ≤ sum_by g xs

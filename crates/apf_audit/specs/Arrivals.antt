@@ -1,20 +1,12 @@
 -- The requests of an audit log, and the times of their arrivals.
 use Rattle.std.specs.Prelude.{ℕ, ◌-◌, ◌≤◌, min, max, List, [], ◌∷◌, length, Bool, ◌&&◌, ◌||◌, ◌==◌, nat_le, nat_lt, if◌then◌else◌, Result, Ok, Err, string_bytes}
 use Rattle.apf_files.specs.FirstFault.{before}
-use Rattle.apf_audit.specs.Times.{max_run}
+use Rattle.apf_times.specs.Limits.{max_arrival, max_run}
 use Rattle.apf_audit.specs.AuditEvent.{Event, max_name}
 use Rattle.apf_audit.specs.Runs.{run_in}
 use Rattle.apf_audit.specs.declared.request.AuditRequest.{AuditRequest}
 use Rattle.apf_audit.specs.declared.fault.AuditFault.{AuditFault}
 use Rattle.apf_audit.specs.declared.fault.AuditFault.TheVariants.{BadArrival}
-
--- a trace has at most this many requests
-abbrev pub max_requests : ℕ
-max_requests = 10000
-
--- the latest arrival, in microseconds
-abbrev pub max_arrival : ℕ
-max_arrival = 1000000000000
 
 -- a request, with the bytes of its distinguisher
 pub record Entry : Type 0 where

@@ -4,9 +4,10 @@ use Rattle.std.specs.Option.{option_map_or}
 use Rattle.serde_json.specs.Data.{Data}
 use Rattle.serde_json.specs.Find.{get, as_str}
 use Rattle.apf_files.specs.FirstFault.{◌>>=◌, or_fault}
-use Rattle.apf_files.specs.JsonFile.{whole_of}
+use Rattle.apf_files.specs.JsonFile.{text_at, whole_of}
+use Rattle.apf_times.specs.Limits.{max_run}
 use Rattle.apf_audit.specs.Choice.{is_chosen}
-use Rattle.apf_audit.specs.Times.{instant_of, wait_of, run_of, max_run}
+use Rattle.apf_audit.specs.Times.{instant_of, wait_of, run_of}
 use Rattle.apf_audit.specs.declared.choice.By.{By}
 use Rattle.apf_audit.specs.declared.choice.By.TheVariants.{User, Namespace}
 use Rattle.apf_audit.specs.declared.choice.Choice.{Choice}
@@ -36,10 +37,6 @@ event taken = record {
   runs_for = taken.runs_for;
   flow = string_bytes taken.distinguisher;
 }
-
--- the text at a key, if there is one
-unfoldable pub text_at : List ℕ → Data → Option (List ℕ)
-text_at key d = option_and_then as_str (get key d)
 
 -- the text at a key of the object at another, if there is one
 unfoldable pub text_within : (outer inner : List ℕ) → Data → Option (List ℕ)

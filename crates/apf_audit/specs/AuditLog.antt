@@ -2,10 +2,12 @@
 use Rattle.std.specs.Prelude.{◌≡◌, ℕ, ◌+◌, List, [], ◌∷◌, length, Bool, true, false, nat_le, if◌then◌else◌, Option, Some, None, is_none, Result, Ok, Err}
 use Rattle.std.specs.List.Sorted.{IsPermutation}
 use Rattle.serde_json.specs.Data.{Data}
+use Rattle.apf_words.specs.Limits.{max_requests}
 use Rattle.apf_files.specs.FirstFault.{◌>>=◌, before}
-use Rattle.apf_traces.specs.TraceFile.{Line, lines_of, value_of}
+use Rattle.apf_files.specs.JsonFile.{value_of}
+use Rattle.apf_traces.specs.TraceFile.{Line, lines_of}
 use Rattle.apf_audit.specs.AuditEvent.{Event, event_of}
-use Rattle.apf_audit.specs.Arrivals.{Entry, entries_from, earliest, latest, max_requests}
+use Rattle.apf_audit.specs.Arrivals.{Entry, entries_from, earliest, latest}
 use Rattle.apf_audit.specs.declared.choice.Choice.{Choice}
 use Rattle.apf_audit.specs.declared.fault.AuditFault.{AuditFault}
 use Rattle.apf_audit.specs.declared.fault.AuditFault.TheVariants.{TooLong, NotUtf8Json, TooMany}

@@ -3,14 +3,11 @@ use Rattle.std.specs.Prelude.{ℕ, ◌+◌, ◌-◌, ◌/◌, ℤ, pos, negsuc, 
 use Rattle.jiff_core.specs.declared.error.Error.{Error}
 use Rattle.jiff_fmt.specs.Temporal.{parse_timestamp}
 use Rattle.jiff_fmt.specs.Friendly.{parse_duration}
+use Rattle.apf_times.specs.Limits.{max_run}
 
 -- the longest wait, in nanoseconds
 abbrev pub max_wait : ℕ
 max_wait = 10000000000000
-
--- the longest run, in microseconds
-abbrev pub max_run : ℕ
-max_run = 10000000000
 
 -- the number, if it is not below 0
 abbrev pub natural : ℤ → Option ℕ

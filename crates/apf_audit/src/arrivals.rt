@@ -1,18 +1,16 @@
 //! The times of arrivals from the earliest on.
 
 ghost use Rattle.std.specs.Prelude.{◌≡◌, ◌≢◌, ◌≤◌, IfOk, IfErr, Ok, Err, All, map, length, vec_len};
+ghost use Rattle.apf_times.specs.Limits.{max_run};
 ghost use Rattle.apf_audit.specs.AuditEvent.{event, IsTakenInRange};
 ghost use Rattle.apf_audit.specs.Runs.{run_in};
-ghost use Rattle.apf_audit.specs.Times.{max_run};
 ghost use Rattle.apf_audit.specs.Arrivals.{entry, entries_from, arrived, earliest_from, earliest as earliest_event, latest as latest_event, IsRequestInRange};
 
 use crate::event::Taken;
 use crate::fault::AuditFault;
 use crate::request::AuditRequest;
+use apf_times::MOST_ARRIVES_AT;
 use std::alloc::Global;
-
-// In microseconds after the earliest: some eleven and a half days.
-const MAX_ARRIVAL: u64 = 1_000_000_000_000;
 
 /// The earliest time at which one of the requests was received, and 0 where there is none.
 pub(crate) fn earliest(all: &[Taken]) -> u64
@@ -52,7 +50,7 @@ fn request_of(taken: Taken, runs_for: u64, start: u64) -> Result<AuditRequest, A
     ensures err { IfErr result (λ fault. arrived start (event taken) runs_for ≡ Err fault) }
 {
     let arrives_at = taken.received.saturating_sub(start);
-    if arrives_at > MAX_ARRIVAL {
+    if arrives_at > MOST_ARRIVES_AT {
         return Err(AuditFault::BadArrival(taken.line));
     }
     Ok(AuditRequest {

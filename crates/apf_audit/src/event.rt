@@ -3,17 +3,18 @@
 ghost use Rattle.std.specs.Prelude.{◌≡◌, ◌≢◌, ◌≤◌, IfOk, IfErr, IfSome, Ok, Err, option_map, codes, length};
 ghost use Rattle.serde_json.specs.Find.{get};
 ghost use Rattle.serde_json.specs.View.{view};
+ghost use Rattle.apf_times.specs.Limits.{max_run};
 ghost use Rattle.apf_audit.specs.AuditEvent as spec;
-ghost use Rattle.apf_audit.specs.Times.{max_run};
 
 use crate::choice::{By, Choice};
 use crate::fault::AuditFault;
 use crate::times::{read_instant, run_of, wait_of};
+use apf_files::text_at;
 use serde_json::Value;
 use std::alloc::Global;
 
-// Of the name of a user or a namespace: a name of this length fits a line of a trace, whatever has to be escaped.
-const MAX_NAME: usize = 4096;
+/// The most bytes of the name of a user or a namespace: such a name fits a line of a trace, whatever has to be escaped.
+pub const MAX_NAME: usize = 4096;
 
 const QUEUE_WAIT: &str = "apiserver.latency.k8s.io/apf-queue-wait";
 
@@ -27,14 +28,6 @@ pub(crate) struct Taken {
     pub turned_away: bool,
     pub runs_for: u64,
     pub distinguisher: String,
-}
-
-// The text at a key, if there is one.
-#[tactic(auto, unfolding(crate::specs::AuditEvent::text_at))]
-fn text_at<'a>(value: &'a Value, key: &str) -> Option<&'a str>
-    ensures { option_map (λ text. text.now) result ≡ spec.text_at key.now (view value.now) }
-{
-    value.get(key)?.as_str()
 }
 
 // The text at a key of the object at another, if there is one.

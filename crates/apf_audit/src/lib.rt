@@ -30,6 +30,7 @@ mod times;
 mod trace;
 
 pub use choice::{By, Choice};
+pub use event::MAX_NAME;
 pub use fault::AuditFault;
 pub use instants::write_instant;
 pub use laws::every_trace_fits;

@@ -1,33 +1,18 @@
 //! What is taken of the bytes of a line.
 
-ghost use Rattle.std.specs.Prelude.{◌≡◌, ◌≢◌, IfOk, IfErr, Ok, Err, Some, None, is_none, option_map};
-ghost use Rattle.serde_json.specs.View.{view};
-ghost use Rattle.apf_traces.specs.TraceFile.{value_of as value_of_bytes};
+ghost use Rattle.std.specs.Prelude.{◌≡◌, ◌≢◌, IfOk, IfErr, Ok, Err, option_map};
 ghost use Rattle.apf_audit.specs.AuditEvent.{event, IsInRangeIfTaken};
 ghost use Rattle.apf_audit.specs.AuditLog.{judged_line, is_cut};
 
 use crate::choice::Choice;
 use crate::event::{Taken, event_of_value};
 use crate::fault::AuditFault;
+use apf_files::value_of;
 use apf_traces::first_line;
-use serde_json::Value;
 use std::alloc::{AllocError, Global};
 
 /// The most bytes of a line, without its LF. It bounds what the value of a line takes of memory.
 pub const MAX_LINE: usize = 8_388_608;
-
-// The JSON value that the bytes of line `line` are.
-fn value_of(alloc: Global, bytes: &[u8], line: usize) -> Result<Value, AuditFault>
-    ensures ok { IfOk result (λ value. value_of_bytes bytes.now ≡ Some (view value)) }
-    ensures err { IfErr result (λ fault. fault ≢ AuditFault.NoMemory
-        → (value_of_bytes bytes.now ≡ None) × (fault ≡ AuditFault.NotUtf8Json line)) }
-{
-    match Value::from_slice(alloc, bytes) {
-        Ok(value) => Ok(value),
-        Err(e) if e.is_memory() => Err(AuditFault::NoMemory),
-        Err(_) => Err(AuditFault::NotUtf8Json(line)),
-    }
-}
 
 /// What is taken of line `line`, whose bytes come without their LF, or none where its event is not taken or not chosen.
 ///
@@ -48,21 +33,11 @@ pub(crate) fn taken_of_line(
     if bytes.len() > MAX_LINE {
         return Err(AuditFault::TooLong(line));
     }
-    match value_of(alloc, bytes, line) {
-        Ok(value) => event_of_value(alloc, choice, &value, line),
-        Err(AuditFault::NotUtf8Json(_)) if !is_ended => Ok(None),
-        Err(fault) => Err(fault),
-    }
-}
-
-// Whether bytes are no JSON text.
-fn is_no_json(alloc: Global, bytes: &[u8]) -> Result<bool, AllocError>
-    ensures { IfOk result (λ is_none_there. is_none_there ≡ is_none (value_of_bytes bytes.now)) }
-{
-    match value_of(alloc, bytes, 0) {
-        Ok(_) => Ok(false),
-        Err(AuditFault::NoMemory) => Err(AllocError),
-        Err(_) => Ok(true),
+    match value_of(alloc, bytes) {
+        Ok(Some(value)) => event_of_value(alloc, choice, &value, line),
+        Ok(None) if is_ended => Err(AuditFault::NotUtf8Json(line)),
+        Ok(None) => Ok(None),
+        Err(AllocError) => Err(AuditFault::NoMemory),
     }
 }
 
@@ -79,7 +54,7 @@ pub fn ends_early(alloc: Global, bytes: &[u8]) -> Result<bool, AllocError>
     while !rest.is_empty() {
         let first = first_line(rest);
         if !first.is_ended {
-            return is_no_json(alloc, first.line);
+            return Ok(value_of(alloc, first.line)?.is_none());
         }
         rest = first.rest;
     }

@@ -2,7 +2,8 @@
 
 ghost use Rattle.std.specs.Prelude.{◌≡◌, ◌≢◌, ◌≤◌, IfOk, IfErr, Ok, Err, All, map, vec_len, true};
 ghost use Rattle.std.specs.List.Sorted.{IsPermutation, IsSortedBy};
-ghost use Rattle.apf_audit.specs.Arrivals.{Entry, entry, comes_before, max_requests, IsRequestInRange};
+ghost use Rattle.apf_words.specs.Limits.{max_requests};
+ghost use Rattle.apf_audit.specs.Arrivals.{Entry, entry, comes_before, IsRequestInRange};
 ghost use Rattle.apf_audit.specs.AuditEvent.{event, IsTakenInRange};
 ghost use Rattle.apf_audit.specs.AuditLog.{IsLogOf, log_of, requests_by};
 
@@ -15,7 +16,7 @@ use crate::request::AuditRequest;
 use crate::runs::all_runs;
 use std::alloc::Global;
 
-const MAX_REQUESTS: usize = 10_000;
+const MAX_REQUESTS: usize = apf_words::MAX_REQUESTS as usize;
 
 // The requests of events, in their order.
 fn in_order(alloc: Global, all: Vec<Taken>) -> Result<Vec<AuditRequest>, AuditFault>

@@ -1,8 +1,8 @@
 //! How long requests run that were turned away: the median of those of their flow that ran.
 
 ghost use Rattle.std.specs.Prelude.{◌≡◌, ◌≤◌, All, IfOk, OnOk, map};
+ghost use Rattle.apf_times.specs.Limits.{max_run};
 ghost use Rattle.apf_audit.specs.AuditEvent.{event, IsTakenInRange};
-ghost use Rattle.apf_audit.specs.Times.{max_run};
 ghost use Rattle.apf_audit.specs.Runs as spec;
 ghost use Rattle.apf_audit.specs.Known.{AreKnown};
 

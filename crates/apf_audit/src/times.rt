@@ -1,16 +1,15 @@
 //! The instants, waits and runs that an event says.
 
 ghost use Rattle.std.specs.Prelude.{◌≡◌, ◌≤◌, IfSome};
+ghost use Rattle.apf_times.specs.Limits.{max_run};
 ghost use Rattle.apf_audit.specs.Times as spec;
 
+use apf_times::MOST_RUNS_FOR;
 use jiff::Timestamp;
 use jiff::fmt::friendly;
 
 // In nanoseconds: 10,000 seconds.
 const MAX_WAIT: u64 = 10_000_000_000_000;
-
-// In microseconds: 10,000 seconds.
-const MAX_RUN: u64 = 10_000_000_000;
 
 // The number, where it is not below 0.
 fn natural(value: i64) -> Option<u64>
@@ -48,10 +47,10 @@ pub(crate) fn wait_of(text: &str) -> Option<u64>
 /// The time from `received` to `completed` without the wait, where it is one that a trace can have.
 pub(crate) fn run_of(received: u64, completed: u64, wait: u64) -> Option<u64>
     ensures value { result ≡ spec.run_of received completed wait }
-    ensures within { IfSome result (λ run. run ≤ spec.max_run) }
+    ensures within { IfSome result (λ run. run ≤ max_run) }
 {
     let run = completed.checked_sub(received)?.checked_sub(wait)?;
-    if run > MAX_RUN {
+    if run > MOST_RUNS_FOR {
         return None;
     }
     Some(run)

@@ -4,9 +4,12 @@ use Rattle.std.specs.Prelude.{nat_le, option_and_then}
 use Rattle.serde_json.specs.Data.{Data}
 use Rattle.serde_json.specs.Find.{get, as_str}
 use Rattle.apf_files.specs.FirstFault.{◌>>=◌, or_fault}
-use Rattle.apf_traces.specs.TraceFile.{Line, lines_of, value_of}
-use Rattle.apf_audit.specs.Arrivals.{arrived, earliest, entries_from, latest, max_arrival, max_requests}
-use Rattle.apf_audit.specs.AuditEvent.{Event, event_by, event_of, flow_of, instant_at, is_taken, name_by, namespace_by, namespace_of, ran_at, run_at, run_by, short, taken_by, taken_of, text_at, text_within, user_of, wait_at, wait_by, was_turned_away, max_name}
+use Rattle.apf_words.specs.Limits.{max_requests}
+use Rattle.apf_files.specs.JsonFile.{text_at, value_of}
+use Rattle.apf_times.specs.Limits.{max_arrival}
+use Rattle.apf_traces.specs.TraceFile.{Line, lines_of}
+use Rattle.apf_audit.specs.Arrivals.{arrived, earliest, entries_from, latest}
+use Rattle.apf_audit.specs.AuditEvent.{Event, event_by, event_of, flow_of, instant_at, is_taken, name_by, namespace_by, namespace_of, ran_at, run_at, run_by, short, taken_by, taken_of, text_within, user_of, wait_at, wait_by, was_turned_away, max_name}
 use Rattle.apf_audit.specs.AuditFaults.{line_of}
 use Rattle.apf_audit.specs.AuditLog.{before_taken, events_from, events_of, judged_by, judged_line, log_of, max_line, requests_by}
 use Rattle.apf_audit.specs.Choice.{is_chosen}

@@ -7,7 +7,7 @@ use Rattle.apf_words.specs.Limits.{max_limit, max_queues, max_queue_length}
 use Rattle.apf_model.specs.declared.response.Response.{Response}
 use Rattle.apf_model.specs.declared.response.Response.TheVariants.{Queue}
 use Rattle.apf_files.specs.JsonFile.{known_object, whole_in}
-use Rattle.apf_files.specs.ConfigFile.{config_of, is_key, name_of, number_at, number_or, response_at, response_or, response_named}
+use Rattle.apf_files.specs.ConfigFile.{config_of, is_key, max_hand_size, name_of, number_at, number_or, response_at, response_or, response_named}
 use Rattle.apf_files.specs.declared.config.ConfigKey.{ConfigKey}
 use Rattle.apf_files.specs.declared.config.ConfigKey.TheVariants.{Limit, Queues, HandSize, QueueLengthLimit, LimitResponse}
 use Rattle.apf_files.specs.declared.config.ConfigFault.{ConfigFault}
@@ -58,7 +58,7 @@ config_shown d fault h =
     stepped (known_object is_key NotObject UnknownKey (as_object d)) _ fault h (known_shown d fault) (λ _ h1.
     stepped (number_at Limit max_limit None d) _ fault h1 (λ e. number_shown d Limit max_limit None fault e refl (λ _. refl)) (λ _ h2.
     stepped (number_at Queues max_queues (Some 64) d) _ fault h2 (λ e. number_shown d Queues max_queues (Some 64) fault e refl (λ n. absurd cc)) (λ _ h3.
-    stepped (number_at HandSize 15 (Some 8) d) _ fault h3 (λ e. number_shown d HandSize 15 (Some 8) fault e refl (λ n. absurd cc)) (λ _ h4.
+    stepped (number_at HandSize max_hand_size (Some 8) d) _ fault h3 (λ e. number_shown d HandSize max_hand_size (Some 8) fault e refl (λ n. absurd cc)) (λ _ h4.
     stepped (number_at QueueLengthLimit max_queue_length (Some 50) d) _ fault h4
     (λ e. number_shown d QueueLengthLimit max_queue_length (Some 50) fault e refl (λ n. absurd cc)) (λ _ h5.
     stepped (response_at Queue d) _ fault h5 (response_shown d Queue fault) (λ _ h6. absurd cc))))))

@@ -3,7 +3,6 @@ pub mod Unknown
 pub mod ConfigFaults
 pub mod RequestFaults
 pub mod ScriptFaults
-pub mod Lined
 pub mod TraceFaults
 pub mod Parts
 pub mod AuditFaults

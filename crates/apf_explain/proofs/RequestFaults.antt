@@ -7,7 +7,7 @@ use Rattle.serde_json.specs.Find.{get, get_item, at, as_array, as_object, as_str
 use Rattle.apf_words.specs.Limits.{max_requests, max_width}
 use Rattle.apf_files.specs.FirstFault.{before, or_fault}
 use Rattle.apf_files.specs.JsonFile.{known_object, whole_below}
-use Rattle.apf_files.specs.RequestsFile.{is_key, flow_of, hash_of_names, number_or, cancels_of, closes_of, request_of, requests_from, requests_of, of_array, items_count, place_of}
+use Rattle.apf_files.specs.RequestsFile.{is_key, max_work, flow_of, hash_of_names, number_or, cancels_of, closes_of, request_of, requests_from, requests_of, of_array, items_count, place_of}
 use Rattle.apf_files.specs.declared.requests.RequestFault.{RequestFault}
 use Rattle.apf_files.specs.declared.requests.RequestFault.TheVariants.{TooMany, NotObject, UnknownKey, BadFlow, BadWidth, BadWork, BadCancels, BadCloses}
 use Rattle.apf_explain.specs.declared.keys.Keys.TheVariants.{OfRequest}
@@ -86,7 +86,7 @@ member_shown count i d fault some h =
     let last = count - 1 in
     let flow = flow_of (get (codes "hash") d) (get (codes "schema") d) (get (codes "distinguisher") d) in
     let width = number_or 1 max_width 1 (get (codes "width") d) in
-    let work = number_or 0 1000000 0 (get (codes "work") d) in
+    let work = number_or 0 max_work 0 (get (codes "work") d) in
     let cancels = cancels_of count (get (codes "cancels") d) in
     let closes = closes_of (get (codes "closes") d) in
     stepped (known_object is_key (NotObject i) (UnknownKey i) (as_object d)) _ fault h (known_shown last i d fault) (λ _ h1.
@@ -95,7 +95,7 @@ member_shown count i d fault some h =
     stepped (or_fault (BadWidth i) width) _ fault h2
     (λ e. at_step last i d width (BadWidth i) fault e (λ no. (refl, number_by 1 max_width 1 (codes "width") d (get (codes "width") d) refl no))) (λ _ h3.
     stepped (or_fault (BadWork i) work) _ fault h3
-    (λ e. at_step last i d work (BadWork i) fault e (λ no. (refl, number_by 0 1000000 0 (codes "work") d (get (codes "work") d) refl no))) (λ _ h4.
+    (λ e. at_step last i d work (BadWork i) fault e (λ no. (refl, number_by 0 max_work 0 (codes "work") d (get (codes "work") d) refl no))) (λ _ h4.
     stepped (or_fault (BadCancels i) cancels) _ fault h4
     (λ e. at_step last i d cancels (BadCancels i) fault e (λ no. (refl, cancels_by count d (get (codes "cancels") d) some refl no))) (λ _ h5.
     stepped (or_fault (BadCloses i) closes) _ fault h5

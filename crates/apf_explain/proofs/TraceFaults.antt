@@ -8,8 +8,10 @@ use Rattle.apf_words.specs.Limits.{max_width}
 use Rattle.apf_files.specs.FirstFault.{◌>>=◌, or_fault}
 use Rattle.apf_files.specs.JsonFile.{known_object}
 use Rattle.apf_files.specs.RequestsFile.{flow_of, number_or}
-use Rattle.apf_traces.specs.TraceValue.{is_key, number_at, entry_of, max_arrival, max_run, max_cost}
-use Rattle.apf_traces.specs.TraceFile.{Line, lines_of, value_of, demand, judged_line, trace_from, trace_of, max_lines, max_bytes}
+use Rattle.apf_times.specs.Limits.{max_arrival, max_run}
+use Rattle.apf_traces.specs.TraceValue.{is_key, number_at, entry_of, max_cost}
+use Rattle.apf_files.specs.JsonFile.{value_of}
+use Rattle.apf_traces.specs.TraceFile.{Line, lines_of, demand, judged_line, trace_from, trace_of, max_lines, max_bytes}
 use Rattle.apf_traces.specs.TraceFaults.{line_of}
 use Rattle.apf_traces.specs.declared.fault.TraceFault.{TraceFault}
 use Rattle.apf_traces.specs.declared.fault.TraceFault.TheVariants.{TooMany, TooLong, NotUtf8Json, NotObject, UnknownKey, BadArrival, BadRun, BadFlow, BadWidth, BadCost, Truncated, NoMemory}

@@ -4,13 +4,13 @@ use Rattle.std.specs.Fmt.{◌++?◌}
 use Rattle.std.specs.Io.KnownBytes.{Appends}
 use Rattle.serde_json.specs.Data.{Data}
 use Rattle.serde_json.specs.Find.{get, as_object, as_str}
-use Rattle.apf_traces.specs.TraceFile.{value_of}
+use Rattle.apf_words.specs.Limits.{max_requests}
+use Rattle.apf_files.specs.JsonFile.{value_of}
+use Rattle.apf_times.specs.Limits.{max_arrival, max_run}
 use Rattle.apf_audit.specs.AuditEvent.{max_name}
-use Rattle.apf_audit.specs.Arrivals.{max_arrival, max_requests}
 use Rattle.apf_audit.specs.AuditLog.{max_line}
 use Rattle.apf_audit.specs.AuditFaults.{audit_fault_number, line_of}
 use Rattle.apf_audit.specs.InstantText.{IsInstantText}
-use Rattle.apf_audit.specs.Times.{max_run}
 use Rattle.apf_audit.specs.declared.fault.AuditFault.{AuditFault}
 use Rattle.apf_audit.specs.declared.fault.AuditFault.TheVariants as audit
 use Rattle.apf_explain.specs.declared.place.Part.TheVariants.{Fault}

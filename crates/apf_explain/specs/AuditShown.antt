@@ -2,9 +2,12 @@
 use Rattle.std.specs.Prelude.{◌≡◌, ◌⊎◌, ℕ, ◌+◌, ◌-◌, ◌<◌, List, [], ◌∷◌, true, false, Option, Some, None, option_and_then, Ok, codes, length}
 use Rattle.serde_json.specs.Data.{Data}
 use Rattle.serde_json.specs.Find.{get}
-use Rattle.apf_traces.specs.TraceFile.{Line, lines_of, value_of}
-use Rattle.apf_audit.specs.Arrivals.{earliest, latest, max_arrival, max_requests}
-use Rattle.apf_audit.specs.AuditEvent.{Event, text_at, instant_at, wait_at, max_name}
+use Rattle.apf_words.specs.Limits.{max_requests}
+use Rattle.apf_files.specs.JsonFile.{text_at, value_of}
+use Rattle.apf_times.specs.Limits.{max_arrival}
+use Rattle.apf_traces.specs.TraceFile.{Line, lines_of}
+use Rattle.apf_audit.specs.Arrivals.{earliest, latest}
+use Rattle.apf_audit.specs.AuditEvent.{Event, instant_at, wait_at, max_name}
 use Rattle.apf_audit.specs.AuditFaults.{line_of}
 use Rattle.apf_audit.specs.AuditLog.{events_of, max_line}
 use Rattle.apf_audit.specs.Times.{run_of}

@@ -7,7 +7,7 @@ use Rattle.serde_json.specs.Find.{get, at, as_array}
 use Rattle.apf_flow.specs.declared.fault.DealerFault.{DealerFault}
 use Rattle.apf_flow.specs.declared.fault.DealerFault.TheVariants.{NotPositive, HandTooLarge, DeckTooLarge, TooMuchEntropy}
 use Rattle.apf_words.specs.Limits.{max_limit, max_requests}
-use Rattle.apf_files.specs.JsonFile.{IsReadOf}
+use Rattle.apf_files.specs.JsonFile.{value_of}
 use Rattle.apf_files.specs.ConfigFile.{name_of}
 use Rattle.apf_files.specs.RequestsFile.{items_count, place_of}
 use Rattle.apf_files.specs.declared.config.ConfigFault.{ConfigFault}
@@ -164,11 +164,11 @@ SaysNotJson name bytes (Some d) before after = Appends before after (name ++ cod
 
 -- the line of bytes that are no JSON was written
 abbrev pub IsNotJsonLine : (name bytes : List ℕ) → Option (List ℕ) → Option (List ℕ) → Type 0
-IsNotJsonLine name bytes before after = (o : Option Data) × IsReadOf bytes o × SaysNotJson name bytes o before after
+IsNotJsonLine name bytes before after = SaysNotJson name bytes (value_of bytes) before after
 
--- the line of what the bytes are read as was written, where its text is stated
+-- the line of the value that the bytes are was written, where its text is stated
 abbrev pub IsReadLine : (Option Data → Option (List ℕ)) → List ℕ → Option (List ℕ) → Option (List ℕ) → Type 0
-IsReadLine text bytes before after = (o : Option Data) × IsReadOf bytes o × IfSome (text o) (Appends before after)
+IsReadLine text bytes before after = IfSome (text (value_of bytes)) (Appends before after)
 
 -- the line of a config's fault was written
 abbrev pub IsConfigLine : (name bytes : List ℕ) → ConfigFault → Option (List ℕ) → Option (List ℕ) → Type 0

@@ -4,12 +4,12 @@ use Rattle.serde_json.specs.Data.{Data}
 use Rattle.serde_json.specs.Find.{as_bool, as_str}
 use Rattle.apf_words.specs.Limits.{max_limit, max_queues, max_queue_length, max_width}
 use Rattle.apf_files.specs.JsonFile.{whole_in, whole_below}
-use Rattle.apf_files.specs.ConfigFile.{response_named}
+use Rattle.apf_files.specs.ConfigFile.{max_hand_size, response_named}
+use Rattle.apf_files.specs.RequestsFile.{max_work}
 use Rattle.apf_files.specs.declared.config.ConfigKey.{ConfigKey}
 use Rattle.apf_files.specs.declared.config.ConfigKey.TheVariants.{Limit, Queues, HandSize, QueueLengthLimit, LimitResponse}
 use Rattle.apf_audit.specs.Times.{instant_of, wait_of}
 use Rattle.apf_explain.specs.declared.members.RequestKey.{RequestKey}
-use Rattle.apf_audit.specs.Times.{instant_of, wait_of}
 use Rattle.apf_explain.specs.declared.members.RequestKey.TheVariants.{Schema, Distinguisher, Hash, Width, Work, Cancels, Closes}
 use Rattle.apf_explain.specs.declared.wanted.Wanted.{Wanted}
 use Rattle.apf_explain.specs.declared.wanted.Wanted.TheVariants.{Whole, Micros, Request, Response, Text, Name, Instant, Wait, Flag}
@@ -42,7 +42,7 @@ wanted_text Flag = codes "true or false"
 abbrev pub wanted_at : ConfigKey → Wanted
 wanted_at Limit = Whole 1 max_limit
 wanted_at Queues = Whole 1 max_queues
-wanted_at HandSize = Whole 1 15
+wanted_at HandSize = Whole 1 max_hand_size
 wanted_at QueueLengthLimit = Whole 1 max_queue_length
 wanted_at LimitResponse = Response
 
@@ -62,6 +62,6 @@ request_wanted last Schema = Text
 request_wanted last Distinguisher = Text
 request_wanted last Hash = Whole 0 18446744073709551615
 request_wanted last Width = Whole 1 max_width
-request_wanted last Work = Whole 0 1000000
+request_wanted last Work = Whole 0 max_work
 request_wanted last Cancels = Request last
 request_wanted last Closes = Flag

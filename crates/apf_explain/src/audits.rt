@@ -12,22 +12,15 @@ use crate::json::{value_at, write_unwanted};
 use crate::lines::{line_value, numbered, write_not_json, write_required, write_too_long};
 use crate::place::{Part, Place};
 use crate::wanted::Wanted;
-use apf_audit::{AuditFault, MAX_LINE, write_instant};
+use apf_audit::{AuditFault, MAX_LINE, MAX_NAME, write_instant};
+use apf_times::{MOST_ARRIVES_AT, MOST_RUNS_FOR};
+use apf_words::MAX_REQUESTS;
 use serde_json::Value;
 use std::alloc::Global;
 use std::io::Write;
 use std::{fmt, io};
 
-// In bytes.
-const MAX_NAME: u64 = 4096;
-
-// In microseconds.
-const MAX_RUN: u64 = 10_000_000_000;
-
-// In microseconds after the earliest one.
-const MAX_ARRIVAL: u64 = 1_000_000_000_000;
-
-const MAX_REQUESTS: u32 = 10_000;
+const NAME: Wanted = Wanted::Name(MAX_NAME as u64);
 
 // A value that may be absent.
 #[derive(Clone, Copy)]
@@ -96,21 +89,20 @@ fn write_user<W: Write>(out: &mut W, place: Place<'_>, value: Option<&Value>) ->
     ensures { OnOk result (IfSome (event_text (place_text place.entry.name.now place.entry.part) (option_map (λ value. view value.now) value.entry) (AuditFault.BadUser 0))
         (Appends (W.contents out.old) (W.contents out.new))) }
 {
-    let wanted = Wanted::Name(MAX_NAME);
     match value_at(value, "impersonatedUser") {
         Some(impersonated) => write_required(
             out,
             place,
             "impersonatedUser.username",
             value_at(Some(impersonated), "username"),
-            wanted,
+            NAME,
         ),
         None => write_required(
             out,
             place,
             "user.username",
             value_at(value_at(value, "user"), "username"),
-            wanted,
+            NAME,
         ),
     }
 }
@@ -142,7 +134,7 @@ fn write_run<W: Write>(out: &mut W, place: Place<'_>, value: Option<&Value>) -> 
     let wait = Perhaps(wait_of(value));
     writeln!(
         out,
-        "{place}stageTimestamp is {completed}, requestReceivedTimestamp is {received} and apf-queue-wait is {wait}: the run, which is the first less the others, must be from 0 to {MAX_RUN} microseconds"
+        "{place}stageTimestamp is {completed}, requestReceivedTimestamp is {received} and apf-queue-wait is {wait}: the run, which is the first less the others, must be from 0 to {MOST_RUNS_FOR} microseconds"
     )
 }
 
@@ -154,7 +146,7 @@ fn write_late<W: Write>(out: &mut W, place: Place<'_>, value: Option<&Value>) ->
     let received = Perhaps(value_at(value, "requestReceivedTimestamp"));
     writeln!(
         out,
-        "{place}requestReceivedTimestamp is {received}: it must be at most {MAX_ARRIVAL} microseconds after the earliest one"
+        "{place}requestReceivedTimestamp is {received}: it must be at most {MOST_ARRIVES_AT} microseconds after the earliest one"
     )
 }
 
@@ -175,7 +167,7 @@ fn write_event<W: Write>(
             place,
             "objectRef.namespace",
             namespace_of(value),
-            Wanted::Name(MAX_NAME),
+            NAME,
         ),
         AuditFault::BadReceived(_) => write_required(
             out,

@@ -8,19 +8,17 @@ ghost use Rattle.apf_explain.specs.Lines.{missing_text, place_text, config_text,
 
 use crate::fault::ExplainFault;
 use crate::found::Found;
-use crate::json::{explain_not_json, value_at, value_of, write_unwanted};
+use crate::json::{explain_not_json, value_at, write_unwanted};
 use crate::keys::{Keys, write_unknown_key};
 use crate::place::{Part, Place};
 use crate::reason::Bracket;
 use crate::wanted::Wanted;
-use apf_files::{ConfigFault, ConfigKey};
+use apf_files::{ConfigFault, ConfigKey, MAX_HAND_SIZE, value_of};
 use apf_words::{MAX_LIMIT, MAX_QUEUE_LENGTH, MAX_QUEUES};
 use serde_json::Value;
 use std::alloc::Global;
 use std::io;
 use std::io::Write;
-
-const MAX_HAND_SIZE: u32 = 15;
 
 const ARRAY: Bracket = Bracket {
     byte: b'[',

@@ -1,8 +1,9 @@
 //! Why a line is not written.
 
 ghost use Rattle.std.specs.Prelude.{◌≡◌};
-ghost use Rattle.apf_explain.specs.declared.fault.ExplainFault.TheVariants.{CannotWrite};
+ghost use Rattle.apf_explain.specs.declared.fault.ExplainFault.TheVariants.{CannotWrite, NoMemory};
 
+use std::alloc::AllocError;
 use std::io;
 use thiserror::Error;
 
@@ -15,6 +16,14 @@ pub enum ExplainFault {
     /// The output was not written. Nothing is known of how much of it was.
     #[error("cannot write")]
     CannotWrite,
+}
+
+impl From<AllocError> for ExplainFault {
+    ghost from_gives = { λ _ fault. fault ≡ NoMemory };
+
+    fn from(_error: AllocError) -> Self {
+        ExplainFault::NoMemory
+    }
 }
 
 impl From<io::Error> for ExplainFault {

@@ -1,10 +1,9 @@
 //! What the files that are JSON share.
 
-ghost use Rattle.std.specs.Prelude.{◌≡◌, ℕ, ◌<◌, OnOk, IfOk, IfErr, IfSome, Err, option_map, option_and_then, length};
+ghost use Rattle.std.specs.Prelude.{◌≡◌, ℕ, OnOk, IfSome, Err, option_map, option_and_then};
 ghost use Rattle.std.specs.Io.KnownBytes.{Appends};
 ghost use Rattle.serde_json.specs.Find.{get, as_array};
 ghost use Rattle.serde_json.specs.View.{view, items_view};
-ghost use Rattle.apf_files.specs.JsonFile.{IsReadOf};
 ghost use Rattle.apf_explain.specs.Lines.{place_text, unwanted_text, stop_text, IsNotJsonLine};
 
 use crate::fault::ExplainFault;
@@ -16,18 +15,6 @@ use serde_json::{Error, Value};
 use std::alloc::Global;
 use std::io;
 use std::io::Write;
-
-/// The value that the bytes of a file are, or none where they are no JSON.
-pub(crate) fn value_of(alloc: Global, bytes: &[u8]) -> Result<Option<Value>, ExplainFault>
-    ensures value { IfOk result (λ value. IsReadOf bytes.now (option_map view value)) }
-    ensures memory { IfErr result (λ fault. (fault ≡ ExplainFault.NoMemory) × (0 < length bytes.now)) }
-{
-    match Value::from_slice(alloc, bytes) {
-        Ok(value) => Ok(Some(value)),
-        Err(e) if e.is_memory() => Err(ExplainFault::NoMemory),
-        Err(_) => Ok(None),
-    }
-}
 
 /// The value at a key.
 pub fn value_at<'a>(value: Option<&'a Value>, key: &str) -> Option<&'a Value>

@@ -4,15 +4,17 @@ ghost use Rattle.std.specs.Prelude.{◌≡◌, ◌-◌, OnOk, IfOk, IfErr, IfSom
 ghost use Rattle.std.specs.Io.KnownBytes.{Appends};
 ghost use Rattle.serde_json.specs.Find.{get};
 ghost use Rattle.serde_json.specs.View.{view};
-ghost use Rattle.apf_traces.specs.TraceFile.{lines_of, value_of as value_of_bytes};
+ghost use Rattle.apf_files.specs.JsonFile.{value_of as value_of_bytes};
+ghost use Rattle.apf_traces.specs.TraceFile.{lines_of};
 ghost use Rattle.apf_explain.specs.Lines.{place_text};
 ghost use Rattle.apf_explain.specs.TraceLines.{nth_line, numbered_line, required_text, too_long_text, column_text, IsColumnLine};
 
 use crate::fault::ExplainFault;
-use crate::json::{value_at, value_of, write_unwanted};
+use crate::json::{value_at, write_unwanted};
 use crate::place::Place;
 use crate::reason::line_reason;
 use crate::wanted::Wanted;
+use apf_files::value_of;
 use apf_traces::first_line;
 use serde_json::{Error, Value};
 use std::alloc::Global;
@@ -42,7 +44,7 @@ pub(crate) fn line_value(alloc: Global, line: Option<&[u8]>) -> Result<Option<Va
     ensures memory { IfErr result (λ fault. fault ≡ ExplainFault.NoMemory) }
 {
     match line {
-        Some(line) => value_of(alloc, line),
+        Some(line) => Ok(value_of(alloc, line)?),
         None => Ok(None),
     }
 }

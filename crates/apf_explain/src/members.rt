@@ -13,13 +13,11 @@ use crate::json::{items_of, value_at, write_unwanted};
 use crate::keys::{Keys, write_unknown_key};
 use crate::place::Place;
 use crate::wanted::Wanted;
-use apf_files::RequestFault;
+use apf_files::{MAX_WORK, RequestFault};
 use apf_words::MAX_WIDTH;
 use serde_json::Value;
 use std::io;
 use std::io::Write;
-
-const MAX_WORK: u64 = 1_000_000;
 
 /// A key of a request.
 #[derive(Clone, Copy, Debug, PartialEq, Eq)]
@@ -57,7 +55,7 @@ impl RequestKey {
             RequestKey::Schema | RequestKey::Distinguisher => Wanted::Text,
             RequestKey::Hash => Wanted::Whole(0, u64::MAX),
             RequestKey::Width => Wanted::Whole(1, u64::from(MAX_WIDTH)),
-            RequestKey::Work => Wanted::Whole(0, MAX_WORK),
+            RequestKey::Work => Wanted::Whole(0, u64::from(MAX_WORK)),
             RequestKey::Cancels => Wanted::Request(last),
             RequestKey::Closes => Wanted::Flag,
         }

@@ -7,11 +7,11 @@ ghost use Rattle.apf_explain.specs.Lines.{place_text, too_many_text, requests_te
 
 use crate::fault::ExplainFault;
 use crate::found::Found;
-use crate::json::{explain_not_json, items_of, value_of};
+use crate::json::{explain_not_json, items_of};
 use crate::members::write_request;
 use crate::place::{Part, Place};
 use crate::reason::Bracket;
-use apf_files::RequestFault;
+use apf_files::{RequestFault, value_of};
 use apf_words::MAX_REQUESTS;
 use serde_json::Value;
 use std::alloc::Global;

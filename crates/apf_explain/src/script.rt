@@ -8,12 +8,10 @@ ghost use Rattle.apf_explain.specs.ScriptTexts.{shown_of, unknown_request_text, 
 use crate::fault::ExplainFault;
 use crate::line::{line_at, number_of};
 use crate::place::{Part, Place};
-use apf_files::ScriptFault;
+use apf_files::{MAX_LINES, ScriptFault};
 use apf_words::MAX_LIMIT;
 use std::io::Write;
 use std::{fmt, io};
-
-const MAX_LINES: u32 = 100_000;
 
 // The longest line that is shown, in bytes.
 const LONGEST: usize = 64;

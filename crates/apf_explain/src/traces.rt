@@ -14,7 +14,8 @@ use crate::keys::{Keys, write_unknown_key};
 use crate::lines::{line_value, numbered, write_not_json, write_required, write_too_long};
 use crate::place::{Part, Place};
 use crate::wanted::Wanted;
-use apf_traces::{MAX_ARRIVAL, MAX_BYTES, MAX_COST, MAX_LINES, MAX_RUN, TraceFault};
+use apf_times::{MOST_ARRIVES_AT, MOST_RUNS_FOR};
+use apf_traces::{MAX_BYTES, MAX_COST, MAX_LINES, TraceFault};
 use apf_words::MAX_WIDTH;
 use serde_json::Value;
 use std::alloc::Global;
@@ -38,14 +39,14 @@ fn write_value<W: Write>(
             place,
             "arrivesAt",
             value_at(value, "arrivesAt"),
-            Wanted::Micros(MAX_ARRIVAL),
+            Wanted::Micros(MOST_ARRIVES_AT),
         ),
         TraceFault::BadRun(_) => write_required(
             out,
             place,
             "runsFor",
             value_at(value, "runsFor"),
-            Wanted::Micros(MAX_RUN),
+            Wanted::Micros(MOST_RUNS_FOR),
         ),
         TraceFault::BadFlow(_) => write_bad_flow(out, place, value),
         TraceFault::BadWidth(_) => write_unwanted(

@@ -1,4 +1,4 @@
-pub mod Judgement
+pub mod Values
 pub mod Keys
 pub mod ScriptLines
 pub mod Judged

@@ -30,6 +30,10 @@ name_of HandSize = codes "handSize"
 name_of QueueLengthLimit = codes "queueLengthLimit"
 name_of LimitResponse = codes "limitResponse"
 
+-- the most queues of a hand
+abbrev pub max_hand_size : ℕ
+max_hand_size = 15
+
 -- the name is that of a key
 unfoldable pub is_key : List ℕ → Bool
 is_key name =
@@ -65,7 +69,7 @@ config_of d = do
   known ← known_object is_key NotObject UnknownKey (as_object d)
   limit ← number_at Limit max_limit None d
   queues ← number_at Queues max_queues (Some 64) d
-  hand_size ← number_at HandSize 15 (Some 8) d
+  hand_size ← number_at HandSize max_hand_size (Some 8) d
   queue_length_limit ← number_at QueueLengthLimit max_queue_length (Some 50) d
   limit_response ← response_at Queue d
   Ok (record {
@@ -84,5 +88,5 @@ IsConfigOf bytes answer = IsJudgementOf NotJson config_of bytes answer
 abbrev pub IsConfigInRange : Config → Type 0
 IsConfigInRange config =
     (1 ≤ config.limit) × (config.limit ≤ max_limit) × (1 ≤ config.queues) × (config.queues ≤ max_queues)
-    × (1 ≤ config.hand_size) × (config.hand_size ≤ 15)
+    × (1 ≤ config.hand_size) × (config.hand_size ≤ max_hand_size)
     × (1 ≤ config.queue_length_limit) × (config.queue_length_limit ≤ max_queue_length)

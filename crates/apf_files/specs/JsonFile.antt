@@ -1,22 +1,26 @@
 -- Words for the files that are JSON.
-use Rattle.std.specs.Prelude.{◌≡◌, ℕ, List, Bool, true, ◌&&◌, nat_le, nat_lt, if◌then◌else◌, Option, Some, None, option_and_then, Result, Ok, Err, IsUtf8}
+use Rattle.std.specs.Prelude.{◌≡◌, ℕ, List, Bool, true, ◌&&◌, nat_le, nat_lt, if◌then◌else◌, Option, Some, None, option_and_then, Result, Ok, Err}
+use Rattle.std.specs.Str.{is_utf8}
 use Rattle.serde_json.specs.Data.{Data, Members, no_members, member}
-use Rattle.serde_json.specs.Find.{as_number, as_u64}
+use Rattle.serde_json.specs.Find.{get, as_number, as_str, as_u64}
 use Rattle.serde_json.specs.Read.{read}
 
--- what the bytes are read as: the value of a JSON text in UTF-8, or none where they are no such text
-abbrev pub IsReadOf : List ℕ → Option Data → Type 0
-IsReadOf bytes (Some d) = IsUtf8 bytes × (read bytes ≡ Some d)
-IsReadOf bytes None = IsUtf8 bytes → read bytes ≡ None
+-- the value of a JSON text in UTF-8, or none where the bytes are no such text
+abbrev pub value_of : List ℕ → Option Data
+value_of bytes = if is_utf8 bytes then read bytes else None
 
 -- the judgement of what was read, where a file that is no JSON has a fault of its own
 abbrev pub judged : {T F : Type 0} → F → (Data → Result T F) → Option Data → Result T F
 judged not_json judge (Some d) = judge d
 judged not_json judge None = Err not_json
 
--- the answer is the judgement of what the bytes are read as
+-- the answer is the judgement of the value that the bytes are
 abbrev pub IsJudgementOf : {T F : Type 0} → F → (Data → Result T F) → List ℕ → Result T F → Type 0
-IsJudgementOf not_json judge bytes answer = (o : Option Data) × IsReadOf bytes o × (answer ≡ judged not_json judge o)
+IsJudgementOf not_json judge bytes answer = answer ≡ judged not_json judge (value_of bytes)
+
+-- the text at a key, if there is one
+unfoldable pub text_at : List ℕ → Data → Option (List ℕ)
+text_at key d = option_and_then as_str (get key d)
 
 -- each key is a known one
 abbrev pub all_known : (List ℕ → Bool) → Members → Bool

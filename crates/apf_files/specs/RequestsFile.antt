@@ -38,6 +38,10 @@ place_of (BadCancels i) = Some i
 place_of (BadCloses i) = Some i
 place_of NoMemory = None
 
+-- the most work of a request
+abbrev pub max_work : ℕ
+max_work = 1000000
+
 -- the name is that of a key
 unfoldable pub is_key : List ℕ → Bool
 is_key name =
@@ -81,7 +85,7 @@ request_of count i d = do
   known ← known_object is_key (NotObject i) (UnknownKey i) (as_object d)
   hash ← or_fault (BadFlow i) (flow_of (get (codes "hash") d) (get (codes "schema") d) (get (codes "distinguisher") d))
   width ← or_fault (BadWidth i) (number_or 1 max_width 1 (get (codes "width") d))
-  work ← or_fault (BadWork i) (number_or 0 1000000 0 (get (codes "work") d))
+  work ← or_fault (BadWork i) (number_or 0 max_work 0 (get (codes "work") d))
   cancels ← or_fault (BadCancels i) (cancels_of count (get (codes "cancels") d))
   closes ← or_fault (BadCloses i) (closes_of (get (codes "closes") d))
   Ok (record { width = width; hash = hash; work = work; cancels = cancels; closes = closes })
@@ -112,4 +116,4 @@ AreRequestsOf bytes answer = IsJudgementOf NotJson requests_of bytes answer
 -- each number is in its range, where there are so many requests
 abbrev pub IsRequestInRange : ℕ → Request → Type 0
 IsRequestInRange count request =
-    (1 ≤ request.width) × (request.width ≤ max_width) × (request.work ≤ 1000000) × IfSome request.cancels (λ n. n < count)
+    (1 ≤ request.width) × (request.width ≤ max_width) × (request.work ≤ max_work) × IfSome request.cancels (λ n. n < count)

@@ -6,11 +6,11 @@ ghost use Rattle.serde_json.specs.View.{view, members_view};
 ghost use Rattle.apf_files.specs.JsonFile.{all_known};
 ghost use Rattle.apf_files.specs.ConfigFile.{config_of, number_at as number_at_key, response_at as response_at_key, is_key, name_of, config_fault_number, response_named, IsConfigOf, IsConfigInRange};
 
-use crate::json::whole_number;
+use crate::json::{value_of, whole_number};
 use apf_model::{Config, Response};
 use apf_words::{MAX_LIMIT, MAX_QUEUE_LENGTH, MAX_QUEUES};
 use serde_json::{Map, Value};
-use std::alloc::Global;
+use std::alloc::{AllocError, Global};
 use std::fmt;
 use thiserror::Error;
 
@@ -54,7 +54,8 @@ pub enum ConfigFault {
 
 const DEFAULT_QUEUES: u32 = 64;
 
-const MAX_HAND_SIZE: u32 = 15;
+/// The most queues of a hand.
+pub const MAX_HAND_SIZE: u32 = 15;
 
 const DEFAULT_HAND_SIZE: u32 = 8;
 
@@ -203,9 +204,9 @@ pub fn read_config(alloc: Global, bytes: &[u8]) -> Result<Config, ConfigFault>
     ensures err { IfErr result (λ fault. fault ≢ ConfigFault.NoMemory → IsConfigOf bytes.now (Err fault)) }
     ensures memory { IfErr result (λ fault. fault ≡ ConfigFault.NoMemory → 0 < length bytes.now) }
 {
-    match Value::from_slice(alloc, bytes) {
-        Ok(value) => config_of_value(&value),
-        Err(e) if e.is_memory() => Err(ConfigFault::NoMemory),
-        Err(_) => Err(ConfigFault::NotJson),
+    match value_of(alloc, bytes) {
+        Ok(Some(value)) => config_of_value(&value),
+        Ok(None) => Err(ConfigFault::NotJson),
+        Err(AllocError) => Err(ConfigFault::NoMemory),
     }
 }

@@ -5,8 +5,8 @@
 //! - `requests`: the requests file.
 //! - `script`: the script file.
 //!
-//! `flow_of`, `number_or` and `line_end` are shared with the reader of traces; `is_config_key`, `is_request_key` and
-//! `command_of_line` with what says a fault to a person.
+//! `value_of`, `text_at`, `flow_of`, `number_or` and `line_end` are shared with the readers of traces and audit logs;
+//! `is_config_key`, `is_request_key`, `command_of_line` and the largest numbers with what says a fault to a person.
 #![tactic(auto)]
 
 mod config;
@@ -15,6 +15,9 @@ mod requests;
 mod script;
 
 pub use apf_model::{Config, Response};
-pub use config::{ConfigFault, ConfigKey, is_config_key, read_config};
-pub use requests::{Request, RequestFault, flow_of, is_request_key, number_or, read_requests};
-pub use script::{Command, ScriptFault, command_of_line, line_end, read_script};
+pub use config::{ConfigFault, ConfigKey, MAX_HAND_SIZE, is_config_key, read_config};
+pub use json::{text_at, value_of};
+pub use requests::{
+    MAX_WORK, Request, RequestFault, flow_of, is_request_key, number_or, read_requests,
+};
+pub use script::{Command, MAX_LINES, ScriptFault, command_of_line, line_end, read_script};

@@ -2,14 +2,16 @@
 
 ghost use Rattle.std.specs.Prelude.{◌≡◌, ◌≢◌, ◌<◌, ◌≤◌, IfOk, IfErr, Ok, Err, All, length, vec_len};
 ghost use Rattle.serde_json.specs.View.{view, items_view};
+ghost use Rattle.apf_words.specs.Limits.{max_requests};
 ghost use Rattle.apf_files.specs.RequestsFile.{requests_of, requests_from, request_fault_number, place_of, AreRequestsOf, IsRequestInRange};
 
 mod member;
 
+use crate::json::value_of;
 use crate::requests::member::request_of_value;
-pub use crate::requests::member::{flow_of, is_request_key, number_or};
+pub use crate::requests::member::{MAX_WORK, flow_of, is_request_key, number_or};
 use serde_json::Value;
-use std::alloc::Global;
+use std::alloc::{AllocError, Global};
 use thiserror::Error;
 
 /// A request of a requests file. Its number is its place in the file, from 0.
@@ -108,7 +110,7 @@ impl RequestFault {
 }
 
 fn requests_of_items(alloc: Global, items: &[Value]) -> Result<Vec<Request>, RequestFault>
-    requires { length items.now ≤ 10000 }
+    requires { length items.now ≤ max_requests }
     ensures ok { IfOk result (λ requests.
         requests_from (length items.now) 0 (items_view items.now) ≡ Ok requests.items) }
     ensures count { IfOk result (λ requests. vec_len requests ≡ length items.now) }
@@ -130,7 +132,7 @@ fn requests_of_items(alloc: Global, items: &[Value]) -> Result<Vec<Request>, Req
 #[tactic(auto, unfolding(crate::specs::RequestsFile::requests_of))]
 fn requests_of_value(alloc: Global, value: &Value) -> Result<Vec<Request>, RequestFault>
     ensures ok { IfOk result (λ requests. requests_of (view value.now) ≡ Ok requests.items) }
-    ensures ranges { IfOk result (λ requests. (vec_len requests ≤ 10000)
+    ensures ranges { IfOk result (λ requests. (vec_len requests ≤ max_requests)
         × All (IsRequestInRange (vec_len requests)) requests.items) }
     ensures err { IfErr result (λ fault. fault ≢ RequestFault.NoMemory
         → requests_of (view value.now) ≡ Err fault) }
@@ -156,15 +158,15 @@ fn requests_of_value(alloc: Global, value: &Value) -> Result<Vec<Request>, Reque
 /// the order of `RequestFault`; the first one is answered. `NoMemory` only where memory was refused.
 pub fn read_requests(alloc: Global, bytes: &[u8]) -> Result<Vec<Request>, RequestFault>
     ensures ok { IfOk result (λ requests. AreRequestsOf bytes.now (Ok requests.items)) }
-    ensures ranges { IfOk result (λ requests. (vec_len requests ≤ 10000)
+    ensures ranges { IfOk result (λ requests. (vec_len requests ≤ max_requests)
         × All (IsRequestInRange (vec_len requests)) requests.items) }
     ensures err { IfErr result (λ fault. fault ≢ RequestFault.NoMemory
         → AreRequestsOf bytes.now (Err fault)) }
     ensures memory { IfErr result (λ fault. fault ≡ RequestFault.NoMemory → 0 < length bytes.now) }
 {
-    match Value::from_slice(alloc, bytes) {
-        Ok(value) => requests_of_value(alloc, &value),
-        Err(e) if e.is_memory() => Err(RequestFault::NoMemory),
-        Err(_) => Err(RequestFault::NotJson),
+    match value_of(alloc, bytes) {
+        Ok(Some(value)) => requests_of_value(alloc, &value),
+        Ok(None) => Err(RequestFault::NotJson),
+        Err(AllocError) => Err(RequestFault::NoMemory),
     }
 }

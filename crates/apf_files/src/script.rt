@@ -1,7 +1,7 @@
 //! The script file: the commands that a replay carries out, one a line.
 
 ghost use Rattle.std.specs.Prelude.{◌≡◌, ◌≢◌, ◌+◌, ◌<◌, ◌≤◌, ◌^◌, ℕ, MatchOption, IfOk, IfErr, IfSome, OnOk, Ok, Err, All, length, vec_len, slice_index, drop};
-ghost use Rattle.apf_files.specs.ScriptFile.{script_of, judged_line, in_range as in_range_of, of_request as of_request_of, script_fault_number, line_of, IsCommandInRange};
+ghost use Rattle.apf_files.specs.ScriptFile.{script_of, max_lines, judged_line, in_range as in_range_of, of_request as of_request_of, script_fault_number, line_of, IsCommandInRange};
 
 mod line;
 
@@ -48,7 +48,8 @@ pub enum ScriptFault {
     BadLimit(u32),
 }
 
-const MAX_LINES: u32 = 100_000;
+/// The most lines of a script.
+pub const MAX_LINES: u32 = 100_000;
 
 impl ScriptFault {
     /// The fault's number, 1 to 6.
@@ -151,7 +152,7 @@ fn after(bytes: &[u8], at: usize) -> &[u8]
 /// `BadLimit` in this order; the first fault is answered. `NoMemory` only where memory was refused.
 pub fn read_script(alloc: Global, bytes: &[u8], requests: u32) -> Result<Vec<Command>, ScriptFault>
     ensures ok { IfOk result (λ commands. script_of requests bytes.now ≡ Ok commands.items) }
-    ensures ranges { IfOk result (λ commands. (vec_len commands ≤ 100000)
+    ensures ranges { IfOk result (λ commands. (vec_len commands ≤ max_lines)
         × All (IsCommandInRange requests) commands.items) }
     ensures err { IfErr result (λ fault. fault ≢ ScriptFault.NoMemory
         → script_of requests bytes.now ≡ Err fault) }

@@ -3,10 +3,6 @@ use Rattle.std.specs.Prelude.{◌≡◌, ◌≢◌, ℕ, ◌<◌, ◌≤◌, Lis
 use Rattle.std.specs.List.{list_any, range_with_len}
 use Rattle.apf_traces.specs.declared.request.TraceRequest.{TraceRequest}
 
--- a trace has at most this many requests
-abbrev pub max_requests : ℕ
-max_requests = 10000
-
 -- the hash of each request
 abbrev pub hashes_of : List TraceRequest → List ℕ
 hashes_of trace = map (λ request. request.hash) trace

@@ -3,8 +3,9 @@
 ghost use Rattle.std.specs.Prelude.{◌≡◌, ◌<◌, ◌≤◌, ◌^◌, length, vec_len, IfOk};
 ghost use Rattle.std.specs.Ordering.{nat_cmp};
 ghost use Rattle.std.specs.BTreeMap.{get};
+ghost use Rattle.apf_words.specs.Limits.{max_requests};
 ghost use Rattle.apf_flows.specs.Known.{FindsFlow};
-ghost use Rattle.apf_flows.specs.Flows.{AreFlows, firsts_of, hashes_of, max_requests};
+ghost use Rattle.apf_flows.specs.Flows.{AreFlows, firsts_of, hashes_of};
 
 use apf_traces::TraceRequest;
 use std::alloc::{AllocError, Global};

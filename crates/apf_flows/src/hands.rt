@@ -5,7 +5,7 @@ ghost use Rattle.std.specs.List.{flat_map};
 ghost use Rattle.std.specs.Io.KnownBytes.{Appends};
 ghost use Rattle.apf_flow.specs.declared.fault.DealerFault.{DealerFault as Fault};
 ghost use Rattle.apf_flows.specs.declared.hands.HandsFault.TheVariants.{NoMemory, CannotWrite};
-ghost use Rattle.apf_flows.specs.Flows.{max_requests};
+ghost use Rattle.apf_words.specs.Limits.{max_requests};
 ghost use Rattle.apf_flows.specs.Dealt.{flow_of as flow_of_dealt, flows_of as flows_of_dealt};
 ghost use Rattle.apf_flows.specs.Hands.{sizes_of, fault_by, flows_in, hands_text, IsNoDealer, part_text, is_named as the_is_named};
 ghost use Rattle.apf_flows.specs.Holders.{places_at, held_text};

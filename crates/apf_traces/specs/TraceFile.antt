@@ -1,17 +1,16 @@
 -- What a trace file says.
-use Rattle.std.specs.Prelude.{ℕ, ⊤, ◌+◌, List, [], ◌∷◌, length, Bool, true, false, nat_eq, nat_le, if◌then◌else◌, Option, None, Result, Ok, Err}
-use Rattle.std.specs.Str.{is_utf8}
-use Rattle.serde_json.specs.Data.{Data}
-use Rattle.serde_json.specs.Read.{read}
+use Rattle.std.specs.Prelude.{ℕ, ⊤, ◌+◌, List, [], ◌∷◌, length, Bool, true, false, nat_eq, nat_le, if◌then◌else◌, Result, Ok, Err}
+use Rattle.apf_words.specs.Limits.{max_requests}
 use Rattle.apf_files.specs.FirstFault.{◌>>=◌, or_fault, before}
+use Rattle.apf_files.specs.JsonFile.{value_of}
 use Rattle.apf_files.specs.ScriptFile.{lf}
 use Rattle.apf_traces.specs.TraceValue.{Entry, entry_of}
 use Rattle.apf_traces.specs.declared.fault.TraceFault.{TraceFault}
 use Rattle.apf_traces.specs.declared.fault.TraceFault.TheVariants.{TooMany, TooLong, NotUtf8Json, Truncated}
 
--- a trace has at most this many lines
+-- a trace has at most this many lines, one for each request
 abbrev pub max_lines : ℕ
-max_lines = 10000
+max_lines = max_requests
 
 -- a line has at most this many bytes, without its LF
 abbrev pub max_bytes : ℕ
@@ -32,10 +31,6 @@ abbrev pub lines_of : List ℕ → List Line
 lines_of [] = []
 lines_of (b ∷ bytes) =
     if nat_eq b lf then record { bytes = []; is_ended = true } ∷ lines_of bytes else longer b (lines_of bytes)
-
--- the value of a JSON text in UTF-8, or none where the bytes are no such text
-abbrev pub value_of : List ℕ → Option Data
-value_of bytes = if is_utf8 bytes then read bytes else None
 
 -- the fault, unless the test holds
 abbrev pub demand : TraceFault → Bool → Result ⊤ TraceFault

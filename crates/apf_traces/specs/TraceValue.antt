@@ -1,24 +1,17 @@
 -- What the JSON value of a line of a trace says.
 use Rattle.std.specs.Prelude.{◌≡◌, ℕ, ◌≤◌, List, Bool, ◌||◌, Option, Some, None, option_map, option_and_then, IfSome, Result, Ok, codes, bytes_eq, string_bytes}
 use Rattle.serde_json.specs.Data.{Data}
-use Rattle.serde_json.specs.Find.{get, as_object, as_str}
+use Rattle.serde_json.specs.Find.{get, as_object}
 use Rattle.apf_words.specs.Limits.{max_width}
 use Rattle.apf_flow.specs.Flow.{flow_hash_of}
 use Rattle.apf_files.specs.FirstFault.{◌>>=◌, or_fault}
-use Rattle.apf_files.specs.JsonFile.{known_object, whole_in}
+use Rattle.apf_files.specs.JsonFile.{known_object, text_at, whole_in}
 use Rattle.apf_files.specs.RequestsFile.{flow_of, number_or}
+use Rattle.apf_times.specs.Limits.{max_arrival, max_run}
 use Rattle.apf_traces.specs.declared.fault.TraceFault.{TraceFault}
 use Rattle.apf_traces.specs.declared.fault.TraceFault.TheVariants.{NotObject, UnknownKey, BadArrival, BadRun, BadFlow, BadWidth, BadCost}
 use Rattle.apf_traces.specs.declared.request.FlowNames.{FlowNames}
 use Rattle.apf_traces.specs.declared.request.TraceRequest.{TraceRequest}
-
--- the latest arrival, in microseconds
-abbrev pub max_arrival : ℕ
-max_arrival = 1000000000000
-
--- the longest run, in microseconds
-abbrev pub max_run : ℕ
-max_run = 10000000000
 
 -- the largest cost, which is the largest width
 abbrev pub max_cost : ℕ
@@ -58,10 +51,6 @@ is_key name =
 -- the whole number from 0 to high at a key, which has to be there
 unfoldable pub number_at : List ℕ → ℕ → Data → Option ℕ
 number_at key high d = option_and_then (whole_in 0 high) (get key d)
-
--- the text at a key, if there is one
-unfoldable pub text_at : List ℕ → Data → Option (List ℕ)
-text_at key d = option_and_then as_str (get key d)
 
 -- both names, if both are there
 abbrev pub both : Option (List ℕ) → Option (List ℕ) → Option (List ℕ × List ℕ)

@@ -3,20 +3,15 @@
 ghost use Rattle.std.specs.Prelude.{◌≡◌, ◌≢◌, ◌≤◌, IfOk, IfErr, IfSome, Ok, Err, option_map};
 ghost use Rattle.serde_json.specs.View.{view, members_view};
 ghost use Rattle.apf_files.specs.JsonFile.{all_known};
-ghost use Rattle.apf_traces.specs.TraceValue.{is_key, number_at as number_at_key, text_at as text_at_key, names_of as names_of_value, entry_of, entry, texts, IsRequestInRange, IsNamed};
+ghost use Rattle.apf_traces.specs.TraceValue.{is_key, number_at as number_at_key, names_of as names_of_value, entry_of, entry, texts, IsRequestInRange, IsNamed};
 
 use crate::fault::TraceFault;
 use crate::request::{FlowNames, TraceRequest};
-use apf_files::{flow_of, number_or};
+use apf_files::{flow_of, number_or, text_at};
+use apf_times::{MOST_ARRIVES_AT, MOST_RUNS_FOR};
 use apf_words::MAX_WIDTH;
 use serde_json::{Map, Value};
 use std::alloc::{AllocError, Global};
-
-/// The latest arrival, in microseconds.
-pub const MAX_ARRIVAL: u64 = 1_000_000_000_000;
-
-/// The longest run, in microseconds.
-pub const MAX_RUN: u64 = 10_000_000_000;
 
 const DEFAULT_WIDTH: u32 = 1;
 
@@ -55,14 +50,6 @@ fn number_at(value: &Value, key: &str, high: u64) -> Option<u64>
     }
 }
 
-// The text at `key`, if there is one.
-#[tactic(auto, unfolding(crate::specs::TraceValue::text_at))]
-fn text_at<'a>(value: &'a Value, key: &str) -> Option<&'a str>
-    ensures { option_map (λ text. text.now) result ≡ text_at_key key.now (view value.now) }
-{
-    value.get(key)?.as_str()
-}
-
 // The names of the flow, where both are texts.
 fn names_of(alloc: Global, value: &Value) -> Result<Option<FlowNames>, AllocError>
     ensures { IfOk result (λ names. option_map texts names ≡ names_of_value (view value.now)) }
@@ -95,10 +82,10 @@ pub(crate) fn request_of_value(
     if !has_trace_keys(members) {
         return Err(TraceFault::UnknownKey(line));
     }
-    let arrives_at = number_at(value, "arrivesAt", MAX_ARRIVAL).ok_or(TraceFault::BadArrival(
+    let arrives_at = number_at(value, "arrivesAt", MOST_ARRIVES_AT).ok_or(TraceFault::BadArrival(
         line,
     ))?;
-    let runs_for = number_at(value, "runsFor", MAX_RUN).ok_or(TraceFault::BadRun(line))?;
+    let runs_for = number_at(value, "runsFor", MOST_RUNS_FOR).ok_or(TraceFault::BadRun(line))?;
     let hash = flow_of(value).ok_or(TraceFault::BadFlow(line))?;
     let width = number_or(value, "width", 1, MAX_WIDTH, DEFAULT_WIDTH).ok_or(TraceFault::BadWidth(
         line,

@@ -16,7 +16,8 @@ const DEFAULT_WIDTH: u32 = 1;
 
 const DEFAULT_WORK: u32 = 0;
 
-const MAX_WORK: u32 = 1_000_000;
+/// The most work of a request.
+pub const MAX_WORK: u32 = 1_000_000;
 
 /// Whether a request of a requests file may have a key of this name.
 #[tactic(auto, unfolding(crate::specs::RequestsFile::is_key))]

@@ -3,7 +3,7 @@ use Rattle.std.proofs.lemmas.List.Elements.{All-head, All-tail, All-push}
 use Rattle.apf_audit.specs.AuditEvent.{event, IsTakenInRange}
 use Rattle.apf_audit.specs.Arrivals.{arrived, entry, IsRequestInRange}
 use Rattle.apf_audit.specs.Runs.{run_in}
-use Rattle.apf_audit.specs.Times.{max_run}
+use Rattle.apf_times.specs.Limits.{max_run}
 use Rattle.apf_audit.proofs.Taken.{requests_more}
 use Rattle.apf_audit.proofs.arrivals.requests_of.Goals as goal
 

@@ -4,7 +4,7 @@ use Rattle.apf_files.proofs.Judged.{with_front}
 use Rattle.apf_audit.specs.AuditEvent.{event, IsTakenInRange}
 use Rattle.apf_audit.specs.Arrivals.{entry, entries_from, IsRequestInRange}
 use Rattle.apf_audit.specs.Runs.{run_in}
-use Rattle.apf_audit.specs.Times.{max_run}
+use Rattle.apf_times.specs.Limits.{max_run}
 use Rattle.apf_audit.proofs.arrivals.requests_of.Given as goal
 
 abbrev pub invariant-loop-taken : goal.invariant-loop-taken

@@ -2,7 +2,7 @@ use Rattle.std.proofs.Common.{◌≡◌, ◌≤◌, ◌∙◌, ℕ, List, All, s
 use Rattle.std.proofs.lemmas.List.{take_all}
 use Rattle.apf_audit.specs.AuditEvent.{event}
 use Rattle.apf_audit.specs.Runs.{run_in}
-use Rattle.apf_audit.specs.Times.{max_run}
+use Rattle.apf_times.specs.Limits.{max_run}
 use Rattle.apf_audit.specs.declared.event.Taken.{Taken}
 use Rattle.apf_audit.proofs.Medians.{all_within}
 use Rattle.apf_audit.proofs.runs.all_runs.Goals as goal

@@ -1,7 +1,7 @@
 use Rattle.std.proofs.Common.{◌≡◌, rules, Some, codes}
 use Rattle.serde_json.specs.Find.{get}
 use Rattle.serde_json.specs.View.{view}
-use Rattle.apf_traces.specs.TraceValue.{text_at}
+use Rattle.apf_files.specs.JsonFile.{text_at}
 use Rattle.apf_traces.proofs.Named.{named}
 use Rattle.apf_traces.proofs.value.request_of_value.Goals as goal
 

@@ -1,5 +1,5 @@
 -- What stands under a level's lock while it is held, and what each call of the lock does to it.
-use Rattle.std.specs.Prelude.{◌≡◌, ℕ, Bool, false, MatchBool, List, [], reverse, Option, Some, None}
+use Rattle.std.specs.Prelude.{◌≡◌, ℕ, Bool, false, MatchBool, List, [], Option, Some, None}
 use Rattle.apf_history.specs.declared.events.Event.{Event}
 use Rattle.apf_model.specs.declared.response.Response.TheVariants.{Queue}
 use Rattle.apf_book.specs.BookView.{BookView}

@@ -99,7 +99,9 @@ fn serve<R: Wait>(
     ensures shown { shown board.new.trace ≡ shown_of book.new.ledger.history }
 {
     let count = book.dispatch(rt, gate);
-    wake(gate, book, sleeps, before);
+    if count != 0 {
+        wake(gate, book, sleeps, before);
+    }
     publish(rt, book, board, before);
     count
 }

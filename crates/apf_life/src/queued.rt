@@ -93,7 +93,9 @@ fn serve<R: Wait>(
     ensures served { (v : LifeView) → IsLifeKept v book.old → ServesLife v book.old result book.new }
 {
     let count = book.dispatch(rt, gate);
-    wake(gate, book, sleepers, before);
+    if count != 0 {
+        wake(gate, book, sleepers, before);
+    }
     count
 }
 

@@ -2,6 +2,7 @@
 
 import os
 import re
+import subprocess
 import sys
 
 sys.path.insert(0, os.path.join(os.path.dirname(os.path.abspath(__file__)), "lib"))
@@ -63,6 +64,9 @@ for words, says in [
     (["run", "--help"], ["<CONFIG>", "<REQUESTS>", "<WORKERS>", "1 to 64", "--rounds <N>", "1 (the default) to 1000000"] + CONFIG + REQUESTS),
     (["serve", "--help"], ["<CONFIG>", "--slots <S>", "--name <NAME>", "10000", "253", "standard input", "docs/SERVE.md"]),
     (["help", "serve"], ["--slots <S>"]),
+    (["help", "run"], ["<WORKERS>"]),
+    (["help", "requests"], TIMES),
+    (["help", "hands"], LEVEL + ["covered by"]),
     (["services", "--help"], SCRIPT + CONFIG + REQUESTS + LINES),
     (["simulate", "--help"], PATIENCE + TRACE + FLOW),
     (["timeline", "--help"], PATIENCE + ["apf replay", "script"]),
@@ -178,6 +182,71 @@ for words in [
 ]:
     status, out, err = run(program, words)
     tally.check(" ".join(["apf", *words]), (status, out, len(err) > 0), (2, b"", True))
+
+# and which word it is, or which one is missing
+MISSING, UNKNOWN, NO_VALUE = "the following required arguments were not provided:\n  ", "unexpected argument ", "a value is required for "
+for words, line in [
+    ([], "'apf' requires a subcommand but one was not provided\n"),
+    (["nonsense"], "unrecognized subcommand 'nonsense'\n"),
+    (["simulation", "c", "t", "0"], "unrecognized subcommand 'simulation'\n"),
+    (["hash", "a"], MISSING + "<DISTINGUISHER>\n"),
+    (["hash", "a", "b", "c"], UNKNOWN + "'c' found\n"),
+    (["hash", "-a", "b"], UNKNOWN + "'-a' found\n"),
+    (["deal", "1", "2"], MISSING + "<HASH>\n"),
+    (["deal", "a", "1", "1"], "invalid value 'a' for '<DECK>'"),
+    (["deal", "4294967296", "1", "0"], "invalid value '4294967296' for '<DECK>'"),
+    (["deal", "1", "4294967296", "0"], "invalid value '4294967296' for '<HAND>'"),
+    (["deal", "1", "1", "18446744073709551616"], "invalid value '18446744073709551616' for '<HASH>'"),
+    (["deal", "1", "1", "1.0"], "invalid value '1.0' for '<HASH>'"),
+    *[([command, "a"], MISSING + "<REQUESTS>\n  <SCRIPT>\n") for command in ("replay", "services", "waits", "explain")],
+    *[([command, "a", "b"], MISSING + "<SCRIPT>\n") for command in ("replay", "services", "waits", "explain")],
+    (["run", "a"], MISSING + "<REQUESTS>\n  <WORKERS>\n"),
+    (["run", "a", "b", "0"], "invalid value '0' for '<WORKERS>': 0 is not in 1..=64\n"),
+    (["run", "a", "b", "65"], "invalid value '65' for '<WORKERS>': 65 is not in 1..=64\n"),
+    (["run", "c", "r", "8", "--rounds", "0"], "invalid value '0' for '--rounds <N>': 0 is not in 1..=1000000\n"),
+    (["run", "c", "r", "8", "--rounds", "1000001"], "invalid value '1000001' for '--rounds <N>': 1000001 is not in 1..=1000000\n"),
+    (["run", "c", "r", "8", "--rounds"], NO_VALUE + "'--rounds <N>' but none was supplied\n"),
+    (["serve", "c", "--rounds", "2"], UNKNOWN + "'--rounds' found\n"),
+    (["serve"], MISSING + "<CONFIG>\n"),
+    (["serve", "c", "r"], UNKNOWN + "'r' found\n"),
+    (["serve", "c", "--slots", "0"], "invalid value '0' for '--slots <S>': 0 is not in 1..=10000\n"),
+    (["serve", "c", "--slots", "10001"], "invalid value '10001' for '--slots <S>': 10001 is not in 1..=10000\n"),
+    (["serve", "c", "--slots", "x"], "invalid value 'x' for '--slots <S>'"),
+    (["serve", "c", "--slots"], NO_VALUE + "'--slots <S>' but none was supplied\n"),
+    (["serve", "c", "--name"], NO_VALUE + "'--name <NAME>' but none was supplied\n"),
+    (["serve", "c", "--slots=1", "--slots=2"], "the argument '--slots <S>' cannot be used multiple times\n"),
+    (["simulate", "c", "t", "-1"], UNKNOWN + "'-1' found\n"),
+    *[([command, "c"], MISSING + "<TRACE>\n  <PATIENCE>\n") for command in ("simulate", "timeline", "fates", "picture")],
+    *[([command, "c", "t"], MISSING + "<PATIENCE>\n") for command in ("simulate", "timeline", "fates", "picture")],
+    *[([command, "c", "t", "0", "1"], UNKNOWN + "'1' found\n") for command in ("simulate", "timeline", "fates", "picture")],
+    (["simulate", "c", "t", "0", "--flow", "a"], UNKNOWN + "'--flow' found\n"),
+    (["compare", "c"], MISSING + "<OTHER>\n  <TRACE>\n  <PATIENCE>\n"),
+    (["compare", "c", "o", "t"], MISSING + "<PATIENCE>\n"),
+    (["compare", "c", "o", "t", "0", "1"], UNKNOWN + "'1' found\n"),
+    (["requests"], MISSING + "<TRACE>\n"),
+    (["requests", "c", "t"], UNKNOWN + "'t' found\n"),
+    (["hands"], MISSING + "<CONFIG>\n  <TRACE>\n"),
+    (["hands", "c"], MISSING + "<TRACE>\n"),
+    (["hands", "c", "t", "0"], UNKNOWN + "'0' found\n"),
+    (["hands", "c", "t", "--flow"], NO_VALUE + "'--flow <NAME>' but none was supplied\n"),
+    (["hands", "c", "t", "--user", "a"], UNKNOWN + "'--user' found\n"),
+    (["trace", "l", "s", "--since"], NO_VALUE + "'--since <INSTANT>' but none was supplied\n"),
+    (["trace", "l", "s", "--user", "a", "--user", "a"], "the argument '--user <NAME>' cannot be used multiple times\n"),
+    (["trace", "l", "s", "--flow", "a"], UNKNOWN + "'--flow' found\n"),
+    (["trace", "l", "--by", "user"], MISSING + "<SCHEMA>\n"),
+]:
+    status, out, err = run(program, words)
+    begin = f"error: {line}"
+    tally.check(" ".join(["apf", *words, "is told"]), (status, out, err.decode()[: len(begin)]), (2, b"", begin))
+
+# the name of a level is 1 to 253 bytes of a-z, 0-9, . and -
+for name in ("A", "", "a b", "a_b", "a/b", "`", "{", "ä", "a\n", "a" * 254):
+    status, out, err = run(program, ["serve", "c", "--name", name])
+    tally.check(f"a level named {name!r}", (status, out, b"for '--name <NAME>': not 1 to 253 of a-z, 0-9, . and -\n" in err), (2, b"", True))
+level = files("level.json", '{"limit":1}')
+for name in ("a", "z", "0", "9", ".", "workload-low", "a.b-9", "a" * 253):
+    done = subprocess.run([program, "serve", "--name", name, "--slots=3", level], input=b"metrics\n", capture_output=True, timeout=60)
+    tally.check(f"a level named {name!r}", (done.returncode, f'"{name}"'.encode() in done.stdout, done.stderr), (0, True, b""))
 
 # what a terminal would obey is escaped where a word is told
 for word, told in [("h\x1b[31m", b"'h\\u001b[31m'"), ("\x7f\u0085", b"'\\u007f\\u0085'"), ("\u202eh", b"'\\u202eh'"), ("\u2066", b"'\\u2066'")]:

@@ -254,6 +254,9 @@ def check_words(command, levels):
     for taken in (words[:-1], [*words, "0"], []):
         status, out, err = run(program, [command, *taken])
         tally.check(f"{command} with {len(taken)} words", (status, out, err[:7]), (2, b"", b"error: "))
+    # the line of names alone
+    status, out, err = printed(command, [*levels * [CONFIG], b""], 1)
+    tally.check(f"{command} of no request", (status, out.count(b"\n"), out.startswith((b"request flow arrival ", b"flow requests median ")), err), (0, levels, True, b""))
     with open("/dev/full", "wb") as full:
         done = subprocess.run([program, command, *words], stdin=subprocess.DEVNULL, stdout=full, stderr=subprocess.PIPE)
     tally.check(f"{command} on a full disk", (done.returncode, done.stderr), (1, b"apf: cannot write\n"))

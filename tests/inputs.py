@@ -67,6 +67,7 @@ tally.check("100,000 of the longest lines are judged", got, refused(b"script fau
 big = [files(f"big-{name}", b" " * (most + 1)) for name, most in zip(NAMES, MOST)]
 bad = files("bad", b"x")
 tally.check("a config is judged before requests are read", run(program, ["replay", bad, big[1], big[2]]), refused(b"config fault 1: not JSON"))
+tally.check("a config that is too large is refused before requests are read", run(program, ["replay", big[0], bad, bad]), too_large(0))
 tally.check("requests are judged before a script is read", run(program, ["replay", PATHS[0], bad, big[2]]), refused(b"requests fault 1: not JSON"))
 for command in ("replay", "services", "waits"):
     for place in range(3):

@@ -54,6 +54,9 @@ for name, config, requests, workers, rounds, want in [
     ("one cancels itself", one_queue(1), [{"hash": 0, "cancels": 0}], 1, 9, book("open", 9, 0, 0, 0, 0, 0, 0, 0, 0)),
     # the level closes in the first round, and stays so
     ("closes", one_queue(1), [plain, {"hash": 0, "closes": True}, plain], 1, 10, book("closed", 1, 29, 0, 0, 29, 0, 0, 0, 0)),
+    # in a single round the third request is cancelled before it comes; in two nobody came yet whom the first one could cancel
+    ("a single round cancels", one_queue(1), [{"hash": 0, "cancels": 2}, plain, plain, {"hash": 0, "closes": True}, plain], 1, 1, book("closed", 2, 2, 1, 0, 2, 0, 0, 0, 0)),
+    ("two rounds cancel nobody", one_queue(1), [{"hash": 0, "cancels": 2}, plain, plain, {"hash": 0, "closes": True}, plain], 1, 2, book("closed", 3, 7, 0, 0, 7, 0, 0, 0, 0)),
     ("closes at once", one_queue(1), [{"hash": 0, "closes": True}], 1, 1000, book("closed", 0, 1000, 0, 0, 1000, 0, 0, 0, 0)),
 ]:
     tally.check(name, ran(config, requests, workers, rounds), (0, want, b""))

@@ -318,6 +318,8 @@ def check_reading(command):
         odd = (os.path.join(files.folder.name, "\x1b[2J\u202e\x7f"), f"cannot read trace: {files.folder.name}/\\u001b[2J\\u202e\\u007f: there is no such file")
         for path, line in ((missing, absent), (files.folder.name, folder), odd):
             tally.check(f"{command} {path}", run(program, [command, path]), (1, b"", f"apf: {line}\n".encode()))
+        done = subprocess.run([program, command, "-"], input=LINE, capture_output=True, timeout=60)
+        tally.check(f"{command} of a trace from a pipe", (done.returncode, done.stdout, done.stderr), foreseen(command, [LINE]))
         return
     narrow, zero, cut = files("narrow", b'{"limit":1,"queues":3}'), files("zero", b'{"limit":0}'), files("cut", LINE[:-1])
     for words, line in [
@@ -330,6 +332,11 @@ def check_reading(command):
         ((narrow, good[1]), "dealer fault 2: hand too large"),
     ]:
         tally.check(f"{command} {words}", run(program, [command, *words, *patience]), (1, b"", f"apf: {line}\n".encode()))
+    twice = (2, b"", b"apf: standard input is named twice\n")
+    tally.check(f"{command} of standard input twice", run(program, [command, "-", "-", *patience]), twice)
+    done = subprocess.run([program, command, good[0], "-", *patience], input=LINE + LINE[:-1], capture_output=True, timeout=60)
+    want = (1, b"", b"apf: trace fault 11 at line 2: the last line has no LF at its end\n")
+    tally.check(f"{command} of a faulty trace from a pipe", (done.returncode, done.stdout, done.stderr), want)
     rejects = b'{"limit":1,"queues":3,"limitResponse":"Reject"}'
     taken = inputs(command, rejects, LINE, 0)
     tally.check(f"{command} on a level that rejects, no hand", printed(command, *taken), foreseen(command, *taken))

@@ -13,7 +13,8 @@ use Rattle.apf_life_run.specs.Faults.{CanRunRounds}
 use Rattle.apf_life_run.specs.Runs.{HasRunRounds}
 use Rattle.apf_commands.specs.Meaning.{IsActionOf}
 use Rattle.apf_commands.specs.declared.words.Action.{Action}
-use Rattle.apf_commands.specs.declared.words.Action.TheVariants.{Run}
+use Rattle.apf_commands.specs.declared.words.Arguments.{Arguments}
+use Rattle.apf_commands.specs.declared.words.Arguments.TheVariants.{Workers}
 use Rattle.apf_run.specs.Books.{book_of}
 use Rattle.apf_run.specs.Faults.{CanRun}
 use Rattle.apf_run.specs.Runs.{HasRun}
@@ -61,10 +62,14 @@ pub record PrintsBook (holds : (name bytes : List ℕ) → Type 0) (config_name 
   pub one : rounds ≡ 1 → PrintsRun holds config_name requests_name workers before after
   pub more : 1 < rounds → PrintsRounds holds config_name requests_name workers rounds before after
 
+-- what is stated of what a command with these arguments prints
+abbrev pub PrintsOf : (holds : (name bytes : List ℕ) → Type 0) → Arguments → (before after : Option (List ℕ)) → Type 0
+PrintsOf holds (Workers config requests workers rounds) before after = PrintsBook holds config.now requests.now workers rounds before after
+PrintsOf holds _ before after = Unit {0}
+
 -- what is stated of what a command prints
 abbrev pub PrintsFor : (holds : (name bytes : List ℕ) → Type 0) → Action → (before after : Option (List ℕ)) → Type 0
-PrintsFor holds (Run config requests workers rounds) before after = PrintsBook holds config.now requests.now workers rounds before after
-PrintsFor holds _ before after = Unit {0}
+PrintsFor holds action before after = PrintsOf holds action.arguments before after
 
 -- the words ask for a command, and what it prints was written
 abbrev pub Performs : (holds : (name bytes : List ℕ) → Type 0) → List Text → (before after : Option (List ℕ)) → Type 0

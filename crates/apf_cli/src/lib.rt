@@ -24,6 +24,6 @@ mod serving;
 mod telling;
 mod traces;
 
-pub use apf_commands::{Action, Chosen, read_patience, read_words};
+pub use apf_commands::{Action, Arguments, Chosen, read_patience, read_words};
 pub use files::{Cause, FileFault, Files};
 pub use program::act;

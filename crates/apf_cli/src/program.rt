@@ -1,9 +1,10 @@
 //! The whole program over files and writers that the caller passes.
 
-ghost use Rattle.std.specs.Prelude.{◌≡◌, [], Err, OnOk};
+ghost use Rattle.std.specs.Prelude.{◌≡◌, [], Err, OnOk, true};
 ghost use Rattle.clap.specs.Walk.{texts};
 ghost use Rattle.clap.specs.Values.{kind_of};
 ghost use Rattle.apf_cli.specs.Runs.{PrintsFor, Performs};
+ghost use Rattle.apf_commands.specs.Commands.{is_script_command, is_simulation_command};
 ghost use Rattle.apf_commands.specs.Meaning.{IsInRange, words_fault};
 
 use crate::audits::print_trace;
@@ -15,7 +16,7 @@ use crate::pictures::print_picture;
 use crate::running::{print_run, read_level};
 use crate::serving::print_served;
 use crate::traces::{print_hands, print_requests, print_simulation, print_timeline};
-use apf_commands::{Action, read_words};
+use apf_commands::{Action, Arguments, read_words};
 use apf_flow::{Dealer, flow_hash};
 use apf_flows::write_escaped;
 use apf_run::{Transcript, read_script, replay};
@@ -60,7 +61,58 @@ fn replayed<F: Files, R: Wait>(
     Ok(replay(rt, alloc, &config, requests.as_slice(), commands.as_slice())?)
 }
 
-// Does what a command asks for, and prints what it says.
+// Does what a command on a script asks for, and prints what it says.
+fn print_scripted<F: Files, O: Write, R: Wait>(
+    rt: &R,
+    alloc: Global,
+    command: &str,
+    files: &mut F,
+    names: (&str, &str, &str),
+    out: &mut O,
+) -> Result<(), Fault>
+    requires { is_script_command command.now ≡ true }
+{
+    if command == "explain" {
+        return print_explanation(rt, alloc, files, names, out);
+    }
+    let transcript = replayed(rt, alloc, files, names)?;
+    if command == "replay" {
+        Ok(transcript.write(out)?)
+    } else if command == "services" {
+        Ok(transcript.write_services(out)?)
+    } else if command == "waits" {
+        Ok(transcript.write_waits(out)?)
+    } else {
+        unreachable!()
+    }
+}
+
+// Does what a command on a simulation asks for, and prints what it says.
+fn print_simulated<F: Files, O: Write, R: Wait>(
+    rt: &R,
+    alloc: Global,
+    command: &str,
+    files: &mut F,
+    names: (&str, &str),
+    patience: &str,
+    out: &mut O,
+) -> Result<(), Fault>
+    requires { is_simulation_command command.now ≡ true }
+{
+    if command == "simulate" {
+        print_simulation(rt, alloc, files, names, patience, out)
+    } else if command == "timeline" {
+        print_timeline(rt, alloc, files, names, patience, out)
+    } else if command == "fates" {
+        print_fates(rt, alloc, files, names, patience, out)
+    } else if command == "picture" {
+        print_picture(rt, alloc, files, names, patience, out)
+    } else {
+        unreachable!()
+    }
+}
+
+// Does what a command asks for, and prints what it says. Where commands have arguments of one kind, its name says which it is.
 fn print_action<F: Files, O: Write, E: Write, R: Wait + Threads + Sync>(
     rt: &R,
     alloc: Global,
@@ -72,76 +124,47 @@ fn print_action<F: Files, O: Write, E: Write, R: Wait + Threads + Sync>(
     requires { IsInRange action }
     ensures { OnOk result (PrintsFor F.holds action.entry (O.contents out.old) (O.contents out.new)) }
 {
-    match action {
-        Action::Hash {
+    let command = action.command;
+    match action.arguments {
+        Arguments::Flow {
             schema,
             distinguisher,
         } => print_hash(schema, distinguisher, out),
-        Action::Deal { deck, hand, hash } => print_deal(deck, hand, hash, out),
-        Action::Replay {
+        Arguments::Deck { deck, hand, hash } => print_deal(deck, hand, hash, out),
+        Arguments::Script {
             config,
             requests,
             script,
-        } => Ok(replayed(rt, alloc, files, (config, requests, script))?.write(out)?),
-        Action::Run {
+        } => print_scripted(rt, alloc, command, files, (config, requests, script), out),
+        Arguments::Workers {
             config,
             requests,
             workers,
             rounds,
         } => print_run(rt, alloc, files, (config, requests), (workers, rounds), out),
-        Action::Services {
-            config,
-            requests,
-            script,
-        } => Ok(replayed(rt, alloc, files, (config, requests, script))?.write_services(out)?),
-        Action::Waits {
-            config,
-            requests,
-            script,
-        } => Ok(replayed(rt, alloc, files, (config, requests, script))?.write_waits(out)?),
-        Action::Explain {
-            config,
-            requests,
-            script,
-        } => print_explanation(rt, alloc, files, (config, requests, script), out),
-        Action::Serve {
+        Arguments::Level {
             config,
             slots,
             name,
         } => print_served(rt, alloc, files, (config, slots, name), out),
-        Action::Simulate {
+        Arguments::Simulation {
             config,
             trace,
             patience,
-        } => print_simulation(rt, alloc, files, (config, trace), patience, out),
-        Action::Timeline {
-            config,
-            trace,
-            patience,
-        } => print_timeline(rt, alloc, files, (config, trace), patience, out),
-        Action::Compare {
+        } => print_simulated(rt, alloc, command, files, (config, trace), patience, out),
+        Arguments::Comparison {
             config,
             other,
             trace,
             patience,
         } => print_comparison(rt, alloc, files, (config, other, trace), patience, out),
-        Action::Fates {
-            config,
-            trace,
-            patience,
-        } => print_fates(rt, alloc, files, (config, trace), patience, out),
-        Action::Requests { trace } => print_requests(alloc, files, trace, out),
-        Action::Picture {
-            config,
-            trace,
-            patience,
-        } => print_picture(rt, alloc, files, (config, trace), patience, out),
-        Action::Hands {
+        Arguments::Trace { trace } => print_requests(alloc, files, trace, out),
+        Arguments::Flows {
             config,
             trace,
             flow,
         } => print_hands(alloc, files, (config, trace), flow, out),
-        Action::Trace {
+        Arguments::AuditLog {
             log,
             schema,
             chosen,

@@ -1,4 +1,4 @@
-use apf_cli::{Action, Chosen, read_patience, read_words};
+use apf_cli::{Action, Arguments, Chosen, read_patience, read_words};
 use clap::Error;
 use clap::error::ErrorKind;
 use std::alloc::Global;
@@ -37,87 +37,120 @@ fn reads_texts(rt: HostRuntime) -> Result<(), Fail> {
     let hash = read_words(alloc, &["apf", "hash", "", "system:node"])?;
     assert_eq!(rt;
         hash,
-        Action::Hash {
-            schema: "",
-            distinguisher: "system:node"
+        Action {
+            command: "hash",
+            arguments: Arguments::Flow {
+                schema: "",
+                distinguisher: "system:node"
+            }
         }
     );
     let dashes = read_words(alloc, &["apf", "hash", "--", "-a", "--b"])?;
     assert_eq!(rt;
         dashes,
-        Action::Hash {
-            schema: "-a",
-            distinguisher: "--b"
+        Action {
+            command: "hash",
+            arguments: Arguments::Flow {
+                schema: "-a",
+                distinguisher: "--b"
+            }
         }
     );
     let replay = read_words(alloc, &["apf", "replay", "c", "r", "s"])?;
     assert_eq!(rt;
         replay,
-        Action::Replay {
-            config: "c",
-            requests: "r",
-            script: "s"
+        Action {
+            command: "replay",
+            arguments: Arguments::Script {
+                config: "c",
+                requests: "r",
+                script: "s"
+            }
         }
     );
     let services = read_words(alloc, &["apf", "services", "c", "r", "s"])?;
     assert_eq!(rt;
         services,
-        Action::Services {
-            config: "c",
-            requests: "r",
-            script: "s"
+        Action {
+            command: "services",
+            arguments: Arguments::Script {
+                config: "c",
+                requests: "r",
+                script: "s"
+            }
         }
     );
     let waits = read_words(alloc, &["apf", "waits", "c", "r", "s"])?;
     assert_eq!(rt;
         waits,
-        Action::Waits {
-            config: "c",
-            requests: "r",
-            script: "s"
+        Action {
+            command: "waits",
+            arguments: Arguments::Script {
+                config: "c",
+                requests: "r",
+                script: "s"
+            }
         }
     );
     let explain = read_words(alloc, &["apf", "explain", "c", "r", "s"])?;
     assert_eq!(rt;
         explain,
-        Action::Explain {
-            config: "c",
-            requests: "r",
-            script: "s"
+        Action {
+            command: "explain",
+            arguments: Arguments::Script {
+                config: "c",
+                requests: "r",
+                script: "s"
+            }
         }
     );
     let requests = read_words(alloc, &["apf", "requests", "t"])?;
-    assert_eq!(rt; requests, Action::Requests { trace: "t" });
+    assert_eq!(rt;
+        requests,
+        Action {
+            command: "requests",
+            arguments: Arguments::Trace { trace: "t" }
+        }
+    );
     let trace = read_words(alloc, &["apf", "trace", "l", "s"])?;
     assert_eq!(rt;
         trace,
-        Action::Trace {
-            log: "l",
-            schema: "s",
-            chosen: Chosen {
-                by: None,
-                user: None,
-                since: None,
-                until: None
+        Action {
+            command: "trace",
+            arguments: Arguments::AuditLog {
+                log: "l",
+                schema: "s",
+                chosen: Chosen {
+                    by: None,
+                    user: None,
+                    since: None,
+                    until: None
+                }
             }
         }
     );
     let picture = read_words(alloc, &["apf", "picture", "c", "t", "7s"])?;
     assert_eq!(rt;
         picture,
-        Action::Picture {
-            config: "c",
-            trace: "t",
-            patience: "7s"
+        Action {
+            command: "picture",
+            arguments: Arguments::Simulation {
+                config: "c",
+                trace: "t",
+                patience: "7s"
+            }
         }
     );
     let hands = read_words(alloc, &["apf", "hands", "c", "t"])?;
     assert_eq!(rt;
         hands,
-        Action::Hands {
-            config: "c",
-            trace: "t",
-            flow: None
+        Action {
+            command: "hands",
+            arguments: Arguments::Flows {
+                config: "c",
+                trace: "t",
+                flow: None
+            }
         }
     );
     Ok(())
@@ -143,24 +176,30 @@ fn reads_options(rt: HostRuntime) -> Result<(), Fail> {
     let trace = read_words(alloc, &words)?;
     assert_eq!(rt;
         trace,
-        Action::Trace {
-            log: "l",
-            schema: "s",
-            chosen: Chosen {
-                by: Some("b"),
-                user: Some("u*"),
-                since: Some("f"),
-                until: Some("")
+        Action {
+            command: "trace",
+            arguments: Arguments::AuditLog {
+                log: "l",
+                schema: "s",
+                chosen: Chosen {
+                    by: Some("b"),
+                    user: Some("u*"),
+                    since: Some("f"),
+                    until: Some("")
+                }
             }
         }
     );
     let hands = read_words(alloc, &["apf", "hands", "--flow", "f", "c", "t"])?;
     assert_eq!(rt;
         hands,
-        Action::Hands {
-            config: "c",
-            trace: "t",
-            flow: Some("f")
+        Action {
+            command: "hands",
+            arguments: Arguments::Flows {
+                config: "c",
+                trace: "t",
+                flow: Some("f")
+            }
         }
     );
     Ok(())
@@ -208,36 +247,48 @@ fn reads_numbers_at_their_ends(rt: HostRuntime) -> Result<(), Fail> {
     let alloc = rt.alloc();
     assert_eq!(rt;
         read_words(alloc, &LEAST)?,
-        Action::Deal {
-            deck: 0,
-            hand: 0,
-            hash: 0
+        Action {
+            command: "deal",
+            arguments: Arguments::Deck {
+                deck: 0,
+                hand: 0,
+                hash: 0
+            }
         }
     );
-    let most = Action::Deal {
-        deck: u32::MAX,
-        hand: u32::MAX,
-        hash: u64::MAX,
+    let most = Action {
+        command: "deal",
+        arguments: Arguments::Deck {
+            deck: u32::MAX,
+            hand: u32::MAX,
+            hash: u64::MAX,
+        },
     };
     assert_eq!(rt; read_words(alloc, &MOST)?, most);
     let one = read_words(alloc, &["apf", "run", "c", "r", "1"])?;
     assert_eq!(rt;
         one,
-        Action::Run {
-            config: "c",
-            requests: "r",
-            workers: 1,
-            rounds: 1,
+        Action {
+            command: "run",
+            arguments: Arguments::Workers {
+                config: "c",
+                requests: "r",
+                workers: 1,
+                rounds: 1,
+            }
         }
     );
     let many = read_words(alloc, &["apf", "run", "c", "r", "64"])?;
     assert_eq!(rt;
         many,
-        Action::Run {
-            config: "c",
-            requests: "r",
-            workers: 64,
-            rounds: 1,
+        Action {
+            command: "run",
+            arguments: Arguments::Workers {
+                config: "c",
+                requests: "r",
+                workers: 64,
+                rounds: 1,
+            }
         }
     );
     Ok(())
@@ -249,11 +300,14 @@ fn reads_rounds(rt: HostRuntime) -> Result<(), Fail> {
     let alloc = rt.alloc();
     for (text, rounds) in [("1", 1), ("1000000", 1_000_000), ("007", 7)] {
         let words = ["apf", "run", "c", "r", "8", "--rounds", text];
-        let run = Action::Run {
-            config: "c",
-            requests: "r",
-            workers: 8,
-            rounds,
+        let run = Action {
+            command: "run",
+            arguments: Arguments::Workers {
+                config: "c",
+                requests: "r",
+                workers: 8,
+                rounds,
+            },
         };
         assert_eq!(rt; read_words(alloc, &words)?, run);
     }
@@ -291,17 +345,23 @@ fn reads_numbers_of_options(rt: HostRuntime) -> Result<(), Fail> {
     let alloc = rt.alloc();
     for (text, slots) in [("1", 1), ("10000", 10_000), ("007", 7)] {
         let words = ["apf", "serve", "c", "--slots", text];
-        let serve = Action::Serve {
-            config: "c",
-            slots,
-            name: "level",
+        let serve = Action {
+            command: "serve",
+            arguments: Arguments::Level {
+                config: "c",
+                slots,
+                name: "level",
+            },
         };
         assert_eq!(rt; read_words(alloc, &words)?, serve);
     }
-    let serve = Action::Serve {
-        config: "c",
-        slots: 10_000,
-        name: "level",
+    let serve = Action {
+        command: "serve",
+        arguments: Arguments::Level {
+            config: "c",
+            slots: 10_000,
+            name: "level",
+        },
     };
     assert_eq!(rt; read_words(alloc, &["apf", "serve", "c"])?, serve);
     Ok(())
@@ -331,10 +391,13 @@ fn reads_names_of_levels(rt: HostRuntime) -> Result<(), Fail> {
         "a.b-9",
         most.as_str(),
     ] {
-        let serve = Action::Serve {
-            config: "c",
-            slots: 3,
-            name,
+        let serve = Action {
+            command: "serve",
+            arguments: Arguments::Level {
+                config: "c",
+                slots: 3,
+                name,
+            },
         };
         let words = ["apf", "serve", "--name", name, "--slots=3", "c"];
         assert_eq!(rt; read_words(alloc, &words)?, serve);
@@ -394,35 +457,47 @@ fn reads_the_words_of_simulations(rt: HostRuntime) -> Result<(), Fail> {
     for patience in ["0", "15s", "x", ""] {
         assert_eq!(rt;
             read_words(alloc, &["apf", "simulate", "c", "t", patience])?,
-            Action::Simulate {
-                config: "c",
-                trace: "t",
-                patience
+            Action {
+                command: "simulate",
+                arguments: Arguments::Simulation {
+                    config: "c",
+                    trace: "t",
+                    patience
+                }
             }
         );
         assert_eq!(rt;
             read_words(alloc, &["apf", "timeline", "c", "t", patience])?,
-            Action::Timeline {
-                config: "c",
-                trace: "t",
-                patience
+            Action {
+                command: "timeline",
+                arguments: Arguments::Simulation {
+                    config: "c",
+                    trace: "t",
+                    patience
+                }
             }
         );
         assert_eq!(rt;
             read_words(alloc, &["apf", "fates", "c", "t", patience])?,
-            Action::Fates {
-                config: "c",
-                trace: "t",
-                patience
+            Action {
+                command: "fates",
+                arguments: Arguments::Simulation {
+                    config: "c",
+                    trace: "t",
+                    patience
+                }
             }
         );
         assert_eq!(rt;
             read_words(alloc, &["apf", "compare", "c", "o", "t", patience])?,
-            Action::Compare {
-                config: "c",
-                other: "o",
-                trace: "t",
-                patience
+            Action {
+                command: "compare",
+                arguments: Arguments::Comparison {
+                    config: "c",
+                    other: "o",
+                    trace: "t",
+                    patience
+                }
             }
         );
     }

@@ -1,19 +1,19 @@
 -- Words in which `clap` finds no fault name one of the program's commands, with its arguments.
-use Rattle.std.proofs.Common.{◌≡◌, ◌∙◌, ◌&&◌, ◌||◌, inl, inr, arith, Bool, true, false, not, refl, sym, ap, List, [], Option, Some, None, is_some, option_map, true≢false, codes, lit<}
+use Rattle.std.proofs.Common.{◌≡◌, ◌∙◌, ◌&&◌, ◌||◌, inl, inr, arith, Bool, true, false, not, refl, sym, ap, List, [], ◌∷◌, ◌++◌, map, Option, Some, None, is_some, option_map, true≢false, codes, lit<}
 use Rattle.std.specs.List.{find, list_all}
 use Rattle.std.specs.Option.{option_map_or}
 use Rattle.std.specs.Str.{bytes_eq}
 use Rattle.std.proofs.lemmas.Slice.Eq.{bytes_eq-Decides}
 use Rattle.clap.specs.Walk.{Row, Text, answers_to, nothing_held, rows_after, walk, walk_from}
-use Rattle.clap.specs.Simple.{Shape, argument_words, built, built_leaf, entered, inherited, is_simple, label_of, marked_built, names_of, rows_at, subcommand_of, with_leaf_noted}
+use Rattle.clap.specs.Simple.{Shape, argument_words, built, built_leaf, entered, help_shape, inherited, is_simple, label_of, marked_built, names_of, rows_at, subcommand_of, with_leaf_noted}
 use Rattle.clap.specs.Faults.{entered_fault, fault_of, is_simple_and_free, level_fault}
 use Rattle.clap.proofs.OnLiterals.{clap_on_literals}
-use Rattle.apf_commands.specs.Commands.{apf_app, command_shape, script_rules, shape_for, simulation_rules}
-use Rattle.apf_commands.specs.Names.{text_of}
-use Rattle.apf_commands.specs.declared.names.CommandName.{CommandName}
-use Rattle.apf_commands.specs.declared.names.CommandName.TheVariants.{Hash, Deal, Replay, Run, Services, Waits, Explain, Serve, Simulate, Timeline, Compare, Fates, Requests, Picture, Hands, Trace}
-use Rattle.apf_commands.specs.Arguments.{HasArguments, HasAuditArguments, HasCompareArguments, HasDealArguments, HasHandsArguments, HasHashArguments, HasRequestsArguments, HasRunArguments, HasScriptArguments, HasServeArguments, HasSimulationArguments, IsCommand}
+use Rattle.apf_commands.specs.Commands.{Named, apf_app, command_shape, commands, kind_named, rules_of, shape_for}
+use Rattle.apf_commands.specs.declared.entries.Kind.{Kind}
+use Rattle.apf_commands.specs.declared.entries.Kind.TheVariants.{Flow, Deck, Script, Workers, Level, Simulation, Comparison, Trace, Flows, AuditLog}
+use Rattle.apf_commands.specs.Arguments.{HasArguments, IsCommand}
 use Rattle.apf_commands.proofs.Taken.{Each, MayStop, OwnIds, found, is_plain_rule, walk_holds}
+use Rattle.apf_commands.proofs.Named.{each_own}
 use Rattle.apf_commands.proofs.Given.{IsPlainShape, all_given, all_met, level_parts, no_check, signed_reads, unsigned_reads}
 
 -- the program's commands have the form of which `clap` says what a parse gives, and when it fails
@@ -29,22 +29,26 @@ apf_is_free = refl
 abbrev ready : Shape → Shape
 ready s = built_leaf (inherited (with_leaf_noted (marked_built apf_app.top)) s)
 
+-- a command with the arguments of this kind, as the parse has it
+abbrev of_kind : Text → Kind → Shape
+of_kind name kind = ready (command_shape name (rules_of kind))
+
 -- the words of the command have no fault
 abbrev IsFaultFree : Shape → List Text → Type 0
 IsFaultFree s words = level_fault s [] nothing_held words false [] ≡ []
 
-hash_given : (words : List Text) → IsFaultFree (ready (shape_for Hash)) words → HasHashArguments (rows_after (ready (shape_for Hash)).rules [] words)
-unfolding apf_app shape_for
-hash_given words e =
-    let given = all_given (ready (shape_for Hash)) (record { rules = refl; own_ids = (refl, (refl, (refl, tt))); defaults = refl; negates = refl }) words e in
+flow_given : (name : Text) (words : List Text) → IsFaultFree (of_kind name Flow) words → HasArguments Flow (rows_after (of_kind name Flow).rules [] words)
+unfolding apf_app
+flow_given name words e =
+    let given = all_given (of_kind name Flow) (record { rules = refl; own_ids = (refl, (refl, (refl, tt))); defaults = refl; negates = refl }) words e in
     let schema = given.0 refl refl in
     let distinguisher = given.1.0 refl refl in
     record { schema = (schema.text, schema.first); distinguisher = (distinguisher.text, distinguisher.first) }
 
-deal_given : (words : List Text) → IsFaultFree (ready (shape_for Deal)) words → HasDealArguments (rows_after (ready (shape_for Deal)).rules [] words)
-unfolding apf_app shape_for
-deal_given words e =
-    let given = all_given (ready (shape_for Deal)) (record { rules = refl; own_ids = (refl, (refl, (refl, (refl, tt)))); defaults = refl; negates = refl }) words e in
+deck_given : (name : Text) (words : List Text) → IsFaultFree (of_kind name Deck) words → HasArguments Deck (rows_after (of_kind name Deck).rules [] words)
+unfolding apf_app
+deck_given name words e =
+    let given = all_given (of_kind name Deck) (record { rules = refl; own_ids = (refl, (refl, (refl, (refl, tt)))); defaults = refl; negates = refl }) words e in
     let deck = given.0 refl refl in
     let hand = given.1.0 refl refl in
     let hash = given.1.1.0 refl refl in
@@ -57,12 +61,21 @@ deal_given words e =
       hash = (hash_reads.0, (_, hash.one, hash_reads.1));
     }
 
-run_given : (words : List Text) → IsFaultFree (ready (shape_for Run)) words → HasRunArguments (rows_after (ready (shape_for Run)).rules [] words)
-unfolding apf_app shape_for
-run_given words e =
-    let plain : IsPlainShape (ready (shape_for Run)) = record { rules = refl; own_ids = (refl, (refl, (refl, (refl, (refl, tt))))); defaults = refl; negates = refl } in
-    let given = all_given (ready (shape_for Run)) plain words e in
-    let met = all_met (ready (shape_for Run)) plain words e in
+script_given : (name : Text) (words : List Text) → IsFaultFree (of_kind name Script) words → HasArguments Script (rows_after (of_kind name Script).rules [] words)
+unfolding apf_app
+script_given name words e =
+    let given = all_given (of_kind name Script) (record { rules = refl; own_ids = (refl, (refl, (refl, (refl, tt)))); defaults = refl; negates = refl }) words e in
+    let config = given.0 refl refl in
+    let requests = given.1.0 refl refl in
+    let script = given.1.1.0 refl refl in
+    record { config = (config.text, config.first); requests = (requests.text, requests.first); script = (script.text, script.first) }
+
+workers_given : (name : Text) (words : List Text) → IsFaultFree (of_kind name Workers) words → HasArguments Workers (rows_after (of_kind name Workers).rules [] words)
+unfolding apf_app
+workers_given name words e =
+    let plain : IsPlainShape (of_kind name Workers) = record { rules = refl; own_ids = (refl, (refl, (refl, (refl, (refl, tt))))); defaults = refl; negates = refl } in
+    let given = all_given (of_kind name Workers) plain words e in
+    let met = all_met (of_kind name Workers) plain words e in
     let config = given.0 refl refl in
     let requests = given.1.0 refl refl in
     let workers = given.1.1.0 refl refl in
@@ -79,12 +92,12 @@ run_given words e =
       ];
     }
 
-serve_given : (words : List Text) → IsFaultFree (ready (shape_for Serve)) words → HasServeArguments (rows_after (ready (shape_for Serve)).rules [] words)
-unfolding apf_app shape_for
-serve_given words e =
-    let plain : IsPlainShape (ready (shape_for Serve)) = record { rules = refl; own_ids = (refl, (refl, (refl, (refl, tt)))); defaults = refl; negates = refl } in
-    let given = all_given (ready (shape_for Serve)) plain words e in
-    let met = all_met (ready (shape_for Serve)) plain words e in
+level_given : (name : Text) (words : List Text) → IsFaultFree (of_kind name Level) words → HasArguments Level (rows_after (of_kind name Level).rules [] words)
+unfolding apf_app
+level_given name words e =
+    let plain : IsPlainShape (of_kind name Level) = record { rules = refl; own_ids = (refl, (refl, (refl, (refl, tt)))); defaults = refl; negates = refl } in
+    let given = all_given (of_kind name Level) plain words e in
+    let met = all_met (of_kind name Level) plain words e in
     let config = given.0 refl refl in
     record {
       config = (config.text, config.first);
@@ -96,82 +109,60 @@ serve_given words e =
       ];
     }
 
-requests_given : (words : List Text) → IsFaultFree (ready (shape_for Requests)) words → HasRequestsArguments (rows_after (ready (shape_for Requests)).rules [] words)
-unfolding apf_app shape_for
-requests_given words e =
-    let given = all_given (ready (shape_for Requests)) (record { rules = refl; own_ids = (refl, (refl, tt)); defaults = refl; negates = refl }) words e in
-    let trace = given.0 refl refl in
-    record { trace = (trace.text, trace.first) }
-
-hands_given : (words : List Text) → IsFaultFree (ready (shape_for Hands)) words → HasHandsArguments (rows_after (ready (shape_for Hands)).rules [] words)
-unfolding apf_app shape_for
-hands_given words e =
-    let given = all_given (ready (shape_for Hands)) (record { rules = refl; own_ids = (refl, (refl, (refl, (refl, tt)))); defaults = refl; negates = refl }) words e in
-    let config = given.0 refl refl in
-    let trace = given.1.0 refl refl in
-    record { config = (config.text, config.first); trace = (trace.text, trace.first) }
-
-trace_given : (words : List Text) → IsFaultFree (ready (shape_for Trace)) words → HasAuditArguments (rows_after (ready (shape_for Trace)).rules [] words)
-unfolding apf_app shape_for
-trace_given words e =
-    let given = all_given (ready (shape_for Trace)) (record { rules = refl; own_ids = (refl, (refl, (refl, (refl, (refl, (refl, (refl, tt))))))); defaults = refl; negates = refl }) words e in
-    let log = given.0 refl refl in
-    let schema = given.1.0 refl refl in
-    record { log = (log.text, log.first); schema = (schema.text, schema.first) }
-
-script_given : (name : Text) (words : List Text) → IsFaultFree (ready (command_shape name script_rules)) words → HasScriptArguments (rows_after (ready (command_shape name script_rules)).rules [] words)
-unfolding apf_app
-script_given name words e =
-    let given = all_given (ready (command_shape name script_rules)) (record { rules = refl; own_ids = (refl, (refl, (refl, (refl, tt)))); defaults = refl; negates = refl }) words e in
-    let config = given.0 refl refl in
-    let requests = given.1.0 refl refl in
-    let script = given.1.1.0 refl refl in
-    record { config = (config.text, config.first); requests = (requests.text, requests.first); script = (script.text, script.first) }
-
-simulation_given : (name : Text) (words : List Text) → IsFaultFree (ready (command_shape name simulation_rules)) words → HasSimulationArguments (rows_after (ready (command_shape name simulation_rules)).rules [] words)
+simulation_given : (name : Text) (words : List Text) → IsFaultFree (of_kind name Simulation) words → HasArguments Simulation (rows_after (of_kind name Simulation).rules [] words)
 unfolding apf_app
 simulation_given name words e =
-    let given = all_given (ready (command_shape name simulation_rules)) (record { rules = refl; own_ids = (refl, (refl, (refl, (refl, tt)))); defaults = refl; negates = refl }) words e in
+    let given = all_given (of_kind name Simulation) (record { rules = refl; own_ids = (refl, (refl, (refl, (refl, tt)))); defaults = refl; negates = refl }) words e in
     let config = given.0 refl refl in
     let trace = given.1.0 refl refl in
     let patience = given.1.1.0 refl refl in
     record { config = (config.text, config.first); trace = (trace.text, trace.first); patience = (patience.text, patience.first) }
 
-compare_given : (words : List Text) → IsFaultFree (ready (shape_for Compare)) words → HasCompareArguments (rows_after (ready (shape_for Compare)).rules [] words)
-unfolding apf_app shape_for
-compare_given words e =
-    let given = all_given (ready (shape_for Compare)) (record { rules = refl; own_ids = (refl, (refl, (refl, (refl, (refl, tt))))); defaults = refl; negates = refl }) words e in
+comparison_given : (name : Text) (words : List Text) → IsFaultFree (of_kind name Comparison) words → HasArguments Comparison (rows_after (of_kind name Comparison).rules [] words)
+unfolding apf_app
+comparison_given name words e =
+    let given = all_given (of_kind name Comparison) (record { rules = refl; own_ids = (refl, (refl, (refl, (refl, (refl, tt))))); defaults = refl; negates = refl }) words e in
     let config = given.0 refl refl in
     let other = given.1.0 refl refl in
     let trace = given.1.1.0 refl refl in
     let patience = given.1.1.1.0 refl refl in
-    record {
-      config = (config.text, config.first);
-      other = (other.text, other.first);
-      trace = (trace.text, trace.first);
-      patience = (patience.text, patience.first);
-    }
+    record { config = (config.text, config.first); other = (other.text, other.first); trace = (trace.text, trace.first); patience = (patience.text, patience.first) }
+
+trace_given : (name : Text) (words : List Text) → IsFaultFree (of_kind name Trace) words → HasArguments Trace (rows_after (of_kind name Trace).rules [] words)
+unfolding apf_app
+trace_given name words e =
+    let given = all_given (of_kind name Trace) (record { rules = refl; own_ids = (refl, (refl, tt)); defaults = refl; negates = refl }) words e in
+    let trace = given.0 refl refl in
+    record { trace = (trace.text, trace.first) }
+
+flows_given : (name : Text) (words : List Text) → IsFaultFree (of_kind name Flows) words → HasArguments Flows (rows_after (of_kind name Flows).rules [] words)
+unfolding apf_app
+flows_given name words e =
+    let given = all_given (of_kind name Flows) (record { rules = refl; own_ids = (refl, (refl, (refl, (refl, tt)))); defaults = refl; negates = refl }) words e in
+    let config = given.0 refl refl in
+    let trace = given.1.0 refl refl in
+    record { config = (config.text, config.first); trace = (trace.text, trace.first) }
+
+audit_log_given : (name : Text) (words : List Text) → IsFaultFree (of_kind name AuditLog) words → HasArguments AuditLog (rows_after (of_kind name AuditLog).rules [] words)
+unfolding apf_app
+audit_log_given name words e =
+    let given = all_given (of_kind name AuditLog) (record { rules = refl; own_ids = (refl, (refl, (refl, (refl, (refl, (refl, (refl, tt))))))); defaults = refl; negates = refl }) words e in
+    let log = given.0 refl refl in
+    let schema = given.1.0 refl refl in
+    record { log = (log.text, log.first); schema = (schema.text, schema.first) }
 
 -- a command whose words have no fault has its arguments
-arguments_given : (command : CommandName) (words : List Text) → IsFaultFree (ready (shape_for command)) words
-    → HasArguments command (rows_after (ready (shape_for command)).rules [] words)
-unfolding shape_for
-arguments_given Hash words e = hash_given words e
-arguments_given Deal words e = deal_given words e
-arguments_given Replay words e = script_given (text_of Replay) words e
-arguments_given Run words e = run_given words e
-arguments_given Services words e = script_given (text_of Services) words e
-arguments_given Waits words e = script_given (text_of Waits) words e
-arguments_given Explain words e = script_given (text_of Explain) words e
-arguments_given Serve words e = serve_given words e
-arguments_given Simulate words e = simulation_given (text_of Simulate) words e
-arguments_given Timeline words e = simulation_given (text_of Timeline) words e
-arguments_given Compare words e = compare_given words e
-arguments_given Fates words e = simulation_given (text_of Fates) words e
-arguments_given Requests words e = requests_given words e
-arguments_given Picture words e = simulation_given (text_of Picture) words e
-arguments_given Hands words e = hands_given words e
-arguments_given Trace words e = trace_given words e
+arguments_given : (kind : Kind) (name : Text) (words : List Text) → IsFaultFree (of_kind name kind) words → HasArguments kind (rows_after (of_kind name kind).rules [] words)
+arguments_given Flow name words e = flow_given name words e
+arguments_given Deck name words e = deck_given name words e
+arguments_given Script name words e = script_given name words e
+arguments_given Workers name words e = workers_given name words e
+arguments_given Level name words e = level_given name words e
+arguments_given Simulation name words e = simulation_given name words e
+arguments_given Comparison name words e = comparison_given name words e
+arguments_given Trace name words e = trace_given name words e
+arguments_given Flows name words e = flows_given name words e
+arguments_given AuditLog name words e = audit_log_given name words e
 
 -- a walk that stops at a name of this command leaves it words with no fault only where they are those of one of these
 abbrev IsEntered : Shape → Type 0
@@ -192,17 +183,31 @@ help_stays name met stays = true≢false (sym here ∙ stays)
     here : (bytes_eq name (codes "help") && true) ≡ true
     here = ap (λ n. bytes_eq n (codes "help") && true) (sym is)
 
+-- each command is found by its name
+abbrev IsFound : Named → Type 0
+IsFound c = kind_named c.0 ≡ Some c.1
+
+each_found : Each IsFound commands
+unfolding clap_on_literals commands kind_named
+each_found = each_own commands refl
+
 -- a walk that stops at the name of a command
-enters : (command : CommandName) → IsEntered (ready (shape_for command))
-unfolding apf_app shape_for
-enters command name words met stays e = record { command = command; named = refl; arguments = arguments_given command words e }
+enters : (c : Named) → IsFound c → IsEntered (ready (shape_for c))
+unfolding shape_for
+enters c is_found name words met stays e = record { kind = c.1; named = is_found; arguments = arguments_given c.1 c.0 words e }
+
+-- and so it is of each command, and of `help` behind them
+all_entered : (rest : List Shape) → Each IsEntered rest → (cs : List Named) → Each IsFound cs → Each IsEntered (map (λ c. ready (shape_for c)) cs ++ rest)
+all_entered rest help [] h = help
+all_entered rest help (c ∷ cs) h = (enters c h.0, all_entered rest help cs h.1)
+
+-- `help`, as the parse has it
+abbrev ready_help : Shape
+ready_help = ready help_shape
 
 each_entered : Each IsEntered (built apf_app).subs
-unfolding apf_app
-each_entered = (
-  enters Hash,
-  (enters Deal, (enters Replay, (enters Run, (enters Services, (enters Waits, (enters Explain, (enters Serve, (enters Simulate, (enters Timeline, (enters Compare, (enters Fates, (enters Requests, (enters Picture, (enters Hands, (enters Trace, ((λ name words met stays e. absurd (help_stays name met stays)), tt)))))))))))))))),
-)
+unfolding apf_app commands
+each_entered = all_entered (ready_help ∷ []) ((λ name words met stays e. absurd (help_stays name met stays)), tt) commands each_found
 
 top_rules : list_all is_plain_rule (built apf_app).top.rules ≡ true
 unfolding apf_app shape_for

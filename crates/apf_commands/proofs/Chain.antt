@@ -3,17 +3,15 @@ use Rattle.std.proofs.Common.{◌≡◌, ◌∙◌, ◌||◌, false, true, Optio
 use Rattle.clap.specs.declared.builder.texts.Texts.TheVariants.{One}
 use Rattle.clap.specs.declared.builder.value_parser.ValueParser.{ValueParser}
 use Rattle.clap.specs.Built.{AddsArg}
-use Rattle.clap.specs.Simple.{App, app_of, app_of_fields, on_top, with_rule}
+use Rattle.apf_commands.specs.Commands.{IsMade, command_shape, rules_of, with_rules}
+use Rattle.apf_commands.specs.declared.entries.Kind.{Kind}
+use Rattle.apf_commands.specs.declared.entries.Kind.TheVariants.{Flow, Deck, Script, Workers, Level, Simulation, Comparison, Trace, Flows, AuditLog}
+use Rattle.clap.specs.Simple.{App, app_of, app_of_fields, new_app, on_top, with_rule}
 use Rattle.clap.specs.Walk.{Rule, Text, rule_of}
 use Rattle.clap.specs.declared.builder.arg.Arg.{Arg}
 use Rattle.clap.specs.declared.builder.command.Command.{Command}
 use Rattle.clap.specs.declared.builder.command.Command.TheOpen.{Command-F}
 use Rattle.clap.specs.declared.builder.command.Command.TheViews.{out-Command}
-
--- the command is read as `app`, and has no global argument
-pub record IsMade (c : Command) (app : App) : Type 0 where
-  pub app_is : app_of c ≡ app
-  pub local : (out-Command c).has_globals ≡ false
 
 -- a setting, which changes the fields by f, and what a parse reads of them by g
 pub set_as : {old new : Command} {app : App} (f : Command-F Command → Command-F Command) (g : App → App)
@@ -84,3 +82,16 @@ number_made text number parser rule_is local others given = (
   ap rule_of others ∙ ap₂ (λ (r : Rule) (p : Option ValueParser). record r { parser = p }) rule_is given,
   ap (λ a. a.global) others ∙ local,
 )
+
+-- a new command with the arguments of a kind
+pub shaped : (name : Text) (kind : Kind) → (with_rules (rules_of kind) (new_app name)).top ≡ command_shape name (rules_of kind)
+shaped name Flow = refl
+shaped name Deck = refl
+shaped name Script = refl
+shaped name Workers = refl
+shaped name Level = refl
+shaped name Simulation = refl
+shaped name Comparison = refl
+shaped name Trace = refl
+shaped name Flows = refl
+shaped name AuditLog = refl

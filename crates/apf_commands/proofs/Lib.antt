@@ -6,3 +6,4 @@ pub mod Chain
 mod Rows
 pub mod Patient
 pub mod Ranges
+pub mod Named

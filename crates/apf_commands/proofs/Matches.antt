@@ -6,15 +6,12 @@ use Rattle.std.specs.Str.Parse.{ParsesUnsigned}
 use Rattle.std.specs.Box.{box_value}
 use Rattle.clap.specs.Words.{App, HasMatchesOf, ReadsOne, Row, Text, fault_of, is_simple, is_simple_and_free, subcommand_of, subcommand_rows, subcommand_rows_of}
 use Rattle.clap.specs.declared.parser.matches.ArgMatches.{ArgMatches}
-use Rattle.apf_commands.specs.Commands.{apf_app}
+use Rattle.apf_commands.specs.Commands.{apf_app, kind_named}
 use Rattle.clap.specs.declared.parser.matches.ArgMatches.TheViews.{out-SubCommand}
 use Rattle.clap.specs.declared.parser.matches.SubCommand.{SubCommand}
 use Rattle.apf_commands.specs.Arguments.{HasArguments, IsCommand}
 use Rattle.apf_commands.specs.Meaning.{IsNumber}
-use Rattle.apf_commands.specs.Names.{command_named, text_of}
-use Rattle.apf_commands.specs.declared.names.CommandName.{CommandName}
-use Rattle.apf_commands.specs.declared.names.CommandName.TheVariants.{Hash, Deal, Replay, Run, Services, Waits, Explain, Serve, Simulate, Timeline, Compare, Fates, Requests, Picture, Hands, Trace}
-use Rattle.clap.proofs.OnLiterals.{clap_on_literals}
+use Rattle.apf_commands.specs.declared.entries.Kind.{Kind}
 use Rattle.apf_commands.proofs.Accepted.{Entered, apf_is_free, apf_is_simple}
 
 pub text_there : (r : Option (Bor Text)) (t : Text) → option_map (λ s. s.now) r ≡ Some t → IsSome r
@@ -78,32 +75,12 @@ parse_of a words m is has faultless = record {
   met = (has (ap is_simple is ∙ apf_is_simple)).1 ∙ ap (λ x. subcommand_of x words) is;
 }
 
-of_its_name : (command : CommandName) → command_named (text_of command) ≡ Some command
-unfolding clap_on_literals command_named
-of_its_name Hash = refl
-of_its_name Deal = refl
-of_its_name Replay = refl
-of_its_name Run = refl
-of_its_name Services = refl
-of_its_name Waits = refl
-of_its_name Explain = refl
-of_its_name Serve = refl
-of_its_name Simulate = refl
-of_its_name Timeline = refl
-of_its_name Compare = refl
-of_its_name Fates = refl
-of_its_name Requests = refl
-of_its_name Picture = refl
-of_its_name Hands = refl
-of_its_name Trace = refl
+-- the kind that was found by the name of a command
+pub kind_there : (name : Text) (rows : List Row) (found : Option Kind) (is : IsCommand name rows) → found ≡ kind_named name → found ≡ Some is.kind
+kind_there name rows found is e = e ∙ is.named
 
--- the command that was found by the name of a command
-pub command_found : (name : Text) (rows : List Row) (found : Option CommandName) (is : IsCommand name rows) → found ≡ command_named name
-    → found ≡ Some is.command
-command_found name rows found is e = e ∙ (ap command_named is.named ∙ of_its_name is.command)
-
-pub command_as : (name : Text) (rows : List Row) (found : Option CommandName) (command : CommandName) → IsCommand name rows → found ≡ command_named name
-    → found ≡ Some command → (name ≡ text_of command) × HasArguments command rows
-command_as name rows found command is e some =
-    let same : is.command ≡ command = ap (λ o. unwrap_or o command) (sym (command_found name rows found is e) ∙ some) in
-    (is.named ∙ ap text_of same, subst (λ (it : CommandName). HasArguments it rows) same is.arguments)
+pub kind_as : (name : Text) (rows : List Row) (found : Option Kind) (kind : Kind) → IsCommand name rows → found ≡ kind_named name → found ≡ Some kind
+    → (kind_named name ≡ Some kind) × HasArguments kind rows
+kind_as name rows found kind is e some =
+    let same : is.kind ≡ kind = ap (λ o. unwrap_or o kind) (sym (kind_there name rows found is e) ∙ some) in
+    (sym e ∙ some, subst (λ (k : Kind). HasArguments k rows) same is.arguments)

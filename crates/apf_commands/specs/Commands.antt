@@ -1,12 +1,83 @@
 -- The program's commands, as `clap` declares them.
-use Rattle.std.specs.Prelude.{List, [], ◌∷◌, ◌++◌, Some, true, codes, pos}
-use Rattle.clap.specs.Words.{App, Rule, Shape, Text, new_app, new_rule}
-use Rattle.clap.specs.Simple.{with_subcommand}
+use Rattle.std.specs.Prelude.{◌≡◌, Bool, List, [], ◌∷◌, ◌++◌, ◌&&◌, ◌||◌, Option, Some, None, true, false, codes, pos, bytes_eq, if◌then◌else◌}
+use Rattle.clap.specs.Words.{App, Rule, Shape, Text, app_of, new_app, new_rule}
+use Rattle.clap.specs.Simple.{with_rule, with_subcommand}
+use Rattle.clap.specs.declared.builder.command.Command.{Command}
+use Rattle.clap.specs.declared.builder.command.Command.TheViews.{out-Command}
 use Rattle.clap.specs.declared.builder.value_parser.ValueParser.{ValueParser}
 use Rattle.clap.specs.declared.builder.value_parser.ValueParser.TheVariants.{Signed, Unsigned}
-use Rattle.apf_commands.specs.Names.{text_of}
-use Rattle.apf_commands.specs.declared.names.CommandName.{CommandName}
-use Rattle.apf_commands.specs.declared.names.CommandName.TheVariants.{Hash, Deal, Replay, Run, Services, Waits, Explain, Serve, Simulate, Timeline, Compare, Fates, Requests, Picture, Hands, Trace}
+use Rattle.apf_commands.specs.declared.entries.Entry.{Entry}
+use Rattle.apf_commands.specs.declared.entries.Kind.{Kind}
+use Rattle.apf_commands.specs.declared.entries.Kind.TheVariants.{Flow, Deck, Script, Workers, Level, Simulation, Comparison, Trace, Flows, AuditLog}
+
+-- a command: its name, and the kind of its arguments
+abbrev pub Named : Type 0
+Named = Text × Kind
+
+-- the commands on flows and on a level, in the order in which help has them
+abbrev pub level_commands : List Named
+level_commands =
+    (codes "hash", Flow) ∷ (codes "deal", Deck) ∷ (codes "replay", Script) ∷ (codes "run", Workers) ∷ (codes "services", Script)
+    ∷ (codes "waits", Script) ∷ (codes "explain", Script) ∷ (codes "serve", Level) ∷ []
+
+-- the commands on traces and on audit logs
+abbrev pub trace_commands : List Named
+trace_commands =
+    (codes "simulate", Simulation) ∷ (codes "timeline", Simulation) ∷ (codes "compare", Comparison) ∷ (codes "fates", Simulation)
+    ∷ (codes "requests", Trace) ∷ (codes "picture", Simulation) ∷ (codes "hands", Flows) ∷ (codes "trace", AuditLog) ∷ []
+
+-- the program's commands
+unfoldable pub commands : List Named
+commands = level_commands ++ trace_commands
+
+-- the command of an entry
+abbrev pub listed : Entry → Named
+listed entry = (entry.name.now, entry.kind)
+
+-- the kind of the first command of this name
+abbrev pub kind_in : List Named → Text → Option Kind
+kind_in [] name = None
+kind_in (c ∷ rest) name = if bytes_eq name c.0 then Some c.1 else kind_in rest name
+
+-- the kind of the arguments of the program's command of this name
+unfoldable pub kind_named : Text → Option Kind
+kind_named name = kind_in commands name
+
+-- two kinds are the same
+abbrev pub is_same : Kind → Kind → Bool
+is_same Flow Flow = true
+is_same Deck Deck = true
+is_same Script Script = true
+is_same Workers Workers = true
+is_same Level Level = true
+is_same Simulation Simulation = true
+is_same Comparison Comparison = true
+is_same Trace Trace = true
+is_same Flows Flows = true
+is_same AuditLog AuditLog = true
+is_same _ _ = false
+
+-- one of these commands of this name has this kind
+abbrev pub has_kind_in : List Named → Kind → Text → Bool
+has_kind_in [] kind name = false
+has_kind_in (c ∷ rest) kind name = (is_same kind c.1 && bytes_eq name c.0) || has_kind_in rest kind name
+
+-- one of the program's commands of this name has this kind
+abbrev pub has_kind : Kind → Text → Bool
+has_kind = has_kind_in (level_commands ++ trace_commands)
+
+-- a command that runs a script has this name
+abbrev pub is_script_command : Text → Bool
+is_script_command = has_kind Script
+
+-- a command that simulates a trace on one level has this name
+abbrev pub is_simulation_command : Text → Bool
+is_simulation_command = has_kind Simulation
+
+-- the arguments are those of a level that stays open, which has a name
+abbrev pub is_open_level : Option Kind → Bool
+is_open_level (Some Level) = true
+is_open_level _ = false
 
 -- a text that must be given
 abbrev pub text_rule : Text → Rule
@@ -44,90 +115,41 @@ round_count = Signed (pos 1) (pos 1000000)
 abbrev pub slot_count : ValueParser
 slot_count = Signed (pos 1) (pos 10000)
 
--- the arguments of a command that reads a configuration file and a requests file
-abbrev pub file_rules : List Rule
-file_rules = text_rule (codes "CONFIG") ∷ text_rule (codes "REQUESTS") ∷ []
-
--- the arguments of a command that reads a script
-abbrev pub script_rules : List Rule
-script_rules = file_rules ++ text_rule (codes "SCRIPT") ∷ []
-
--- the arguments of `run`
-abbrev pub run_rules : List Rule
-run_rules = file_rules ++ number_rule (codes "WORKERS") worker_count ∷ number_option_rule (codes "rounds") round_count ∷ []
-
--- the arguments of `serve`
-abbrev pub serve_rules : List Rule
-serve_rules = text_rule (codes "CONFIG") ∷ number_option_rule (codes "slots") slot_count ∷ option_rule (codes "name") ∷ []
-
--- the arguments of a command that reads a configuration file and a trace
-abbrev pub trace_rules : List Rule
-trace_rules = text_rule (codes "CONFIG") ∷ text_rule (codes "TRACE") ∷ []
-
--- the arguments of a command that simulates a trace
-abbrev pub simulation_rules : List Rule
-simulation_rules = trace_rules ++ text_rule (codes "PATIENCE") ∷ []
-
--- the arguments of a command that simulates a trace on two levels
-abbrev pub compare_rules : List Rule
-compare_rules = text_rule (codes "CONFIG") ∷ text_rule (codes "OTHER") ∷ text_rule (codes "TRACE") ∷ text_rule (codes "PATIENCE") ∷ []
-
--- the arguments of `hands`
-abbrev pub hands_rules : List Rule
-hands_rules = trace_rules ++ option_rule (codes "flow") ∷ []
-
--- the arguments of `trace`
-abbrev pub audit_rules : List Rule
-audit_rules =
-    text_rule (codes "AUDITLOG") ∷ text_rule (codes "SCHEMA") ∷ option_rule (codes "by") ∷ option_rule (codes "user") ∷ option_rule (codes "since")
-    ∷ option_rule (codes "until") ∷ []
-
--- the arguments of each command, in their order
-abbrev pub rules_of : CommandName → List Rule
-rules_of Hash = text_rule (codes "SCHEMA") ∷ text_rule (codes "DISTINGUISHER") ∷ []
-rules_of Deal =
-    number_rule (codes "DECK") any_u32 ∷ number_rule (codes "HAND") any_u32 ∷ number_rule (codes "HASH") any_u64 ∷ []
-rules_of Replay = script_rules
-rules_of Run = run_rules
-rules_of Services = script_rules
-rules_of Waits = script_rules
-rules_of Explain = script_rules
-rules_of Serve = serve_rules
-rules_of Simulate = simulation_rules
-rules_of Timeline = simulation_rules
-rules_of Compare = compare_rules
-rules_of Fates = simulation_rules
-rules_of Requests = text_rule (codes "TRACE") ∷ []
-rules_of Picture = simulation_rules
-rules_of Hands = hands_rules
-rules_of Trace = audit_rules
+-- the arguments of a kind, in their order
+abbrev pub rules_of : Kind → List Rule
+rules_of Flow = text_rule (codes "SCHEMA") ∷ text_rule (codes "DISTINGUISHER") ∷ []
+rules_of Deck = number_rule (codes "DECK") any_u32 ∷ number_rule (codes "HAND") any_u32 ∷ number_rule (codes "HASH") any_u64 ∷ []
+rules_of Script = text_rule (codes "CONFIG") ∷ text_rule (codes "REQUESTS") ∷ text_rule (codes "SCRIPT") ∷ []
+rules_of Workers =
+    text_rule (codes "CONFIG") ∷ text_rule (codes "REQUESTS") ∷ number_rule (codes "WORKERS") worker_count
+    ∷ number_option_rule (codes "rounds") round_count ∷ []
+rules_of Level = text_rule (codes "CONFIG") ∷ number_option_rule (codes "slots") slot_count ∷ option_rule (codes "name") ∷ []
+rules_of Simulation = text_rule (codes "CONFIG") ∷ text_rule (codes "TRACE") ∷ text_rule (codes "PATIENCE") ∷ []
+rules_of Comparison =
+    text_rule (codes "CONFIG") ∷ text_rule (codes "OTHER") ∷ text_rule (codes "TRACE") ∷ text_rule (codes "PATIENCE") ∷ []
+rules_of Trace = text_rule (codes "TRACE") ∷ []
+rules_of Flows = text_rule (codes "CONFIG") ∷ text_rule (codes "TRACE") ∷ option_rule (codes "flow") ∷ []
+rules_of AuditLog =
+    text_rule (codes "AUDITLOG") ∷ text_rule (codes "SCHEMA") ∷ option_rule (codes "by") ∷ option_rule (codes "user")
+    ∷ option_rule (codes "since") ∷ option_rule (codes "until") ∷ []
 
 -- a command that takes these arguments
 abbrev pub command_shape : Text → List Rule → Shape
 command_shape name rules = record (new_app name).top { rules = rules }
 
--- the same, before it is part of the program
-abbrev pub app_with : Text → List Rule → App
-app_with name rules = record { top = command_shape name rules; subs = [] }
-
 -- the command, as `clap` has it
-unfoldable pub shape_for : CommandName → Shape
-shape_for command = command_shape (text_of command) (rules_of command)
+unfoldable pub shape_for : Named → Shape
+shape_for c = command_shape c.0 (rules_of c.1)
 
--- the commands in their order: on flows, on a level, on traces
-abbrev pub flow_commands : List CommandName
-flow_commands = Hash ∷ Deal ∷ []
-
-abbrev pub level_commands : List CommandName
-level_commands = Replay ∷ Run ∷ Services ∷ Waits ∷ Explain ∷ Serve ∷ []
-
-abbrev pub trace_commands : List CommandName
-trace_commands = Simulate ∷ Timeline ∷ Compare ∷ Fates ∷ Requests ∷ Picture ∷ Hands ∷ Trace ∷ []
+-- a command with these arguments behind its own
+abbrev pub with_rules : List Rule → App → App
+with_rules [] app = app
+with_rules (rule ∷ rules) app = with_rules rules (with_rule app rule)
 
 -- the program with these commands behind its own
-abbrev pub with_commands : List CommandName → App → App
+abbrev pub with_commands : List Named → App → App
 with_commands [] app = app
-with_commands (command ∷ commands) app = with_commands commands (with_subcommand app (shape_for command))
+with_commands (command ∷ rest) app = with_commands rest (with_subcommand app (shape_for command))
 
 -- the program before it has a command: one must be named, and it has a version
 abbrev pub bare_app : App
@@ -136,6 +158,15 @@ bare_app = record {
   subs = [];
 }
 
--- the program with its sixteen commands
+-- the program with its commands
 unfoldable pub apf_app : App
-apf_app = with_commands trace_commands (with_commands level_commands (with_commands flow_commands bare_app))
+apf_app = with_commands trace_commands (with_commands level_commands bare_app)
+
+-- the command is read as `app`, and has no global argument
+pub record IsMade (c : Command) (app : App) : Type 0 where
+  pub app_is : app_of c ≡ app
+  pub local : (out-Command c).has_globals ≡ false
+
+-- the second command is the first with these arguments behind its own
+abbrev pub AddsRules : List Rule → Command → Command → Type 0
+AddsRules rules old new = (app : App) → IsMade old app → IsMade new (with_rules rules app)

@@ -1,6 +1,5 @@
 pub mod Commands
 pub mod Meaning
-pub mod Names
 pub mod LevelName
 pub mod Arguments
 pub mod Patience

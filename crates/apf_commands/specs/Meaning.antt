@@ -1,15 +1,18 @@
 -- What a command line asks for, by what `clap` reads of its words.
-use Rattle.std.specs.Prelude.{◌≡◌, ◌<◌, ◌≤◌, ◌⊎◌, ◌&&◌, ℕ, List, [], ◌∷◌, Option, Some, None, Ok, true, false, not, if◌then◌else◌, bytes_eq, codes, option_map, unwrap_or}
+use Rattle.std.specs.Prelude.{◌≡◌, ◌<◌, ◌≤◌, ◌⊎◌, ◌&&◌, ℕ, List, [], ◌∷◌, Option, Some, None, Ok, true, false, not, if◌then◌else◌, codes, option_map, unwrap_or}
 use Rattle.std.specs.Borrow.{Bor}
 use Rattle.std.specs.Str.Parse.{ParsesUnsigned}
 use Rattle.clap.specs.Words.{Kinds, Row, Text, fault_of, first_of, one_of, subcommand_of}
 use Rattle.clap.specs.Kinds.{or_else}
 use Rattle.clap.specs.declared.error.kind.ErrorKind.TheVariants.{ValueValidation}
-use Rattle.apf_commands.specs.Commands.{apf_app}
+use Rattle.apf_commands.specs.Commands.{apf_app, has_kind, is_open_level, kind_named}
 use Rattle.apf_commands.specs.LevelName.{is_level_name}
+use Rattle.apf_commands.specs.declared.entries.Kind.{Kind}
+use Rattle.apf_commands.specs.declared.entries.Kind.TheVariants as of_kind
 use Rattle.apf_commands.specs.declared.words.Action.{Action}
+use Rattle.apf_commands.specs.declared.words.Arguments.{Arguments}
 use Rattle.apf_commands.specs.declared.words.Chosen.{Chosen}
-use Rattle.apf_commands.specs.declared.words.Action.TheVariants.{Hash, Deal, Replay, Run, Services, Waits, Explain, Serve, Simulate, Timeline, Compare, Fates, Requests, Picture, Hands, Trace}
+use Rattle.apf_commands.specs.declared.words.Arguments.TheVariants.{Flow, Deck, Script, Workers, Level, Simulation, Comparison, Trace, Flows, AuditLog}
 
 -- the argument's text
 abbrev pub IsText : List Row → Text → Text → Type 0
@@ -51,97 +54,100 @@ IsRoundCount rows n = IsNumberOr 32 1 rows (codes "rounds") n × (1 ≤ n) × (n
 abbrev pub IsSlotCount : List Row → ℕ → Type 0
 IsSlotCount rows n = IsNumberOr 32 10000 rows (codes "slots") n × (1 ≤ n) × (n ≤ 10000)
 
--- a command of this name with these arguments asks for the action
-abbrev pub AsksFor : Text → List Row → Action → Type 0
-AsksFor name rows (Hash schema distinguisher) = (name ≡ codes "hash")
-    × IsText rows (codes "SCHEMA") schema.now × IsText rows (codes "DISTINGUISHER") distinguisher.now
-AsksFor name rows (Deal deck hand hash) = (name ≡ codes "deal")
-    × IsNumber 32 rows (codes "DECK") deck × IsNumber 32 rows (codes "HAND") hand
+-- the rows of a command are read as these arguments
+abbrev pub AreArguments : List Row → Arguments → Type 0
+AreArguments rows (Flow schema distinguisher) = IsText rows (codes "SCHEMA") schema.now
+    × IsText rows (codes "DISTINGUISHER") distinguisher.now
+AreArguments rows (Deck deck hand hash) = IsNumber 32 rows (codes "DECK") deck
+    × IsNumber 32 rows (codes "HAND") hand
     × IsNumber 64 rows (codes "HASH") hash
-AsksFor name rows (Replay config requests script) = (name ≡ codes "replay")
-    × IsText rows (codes "CONFIG") config.now × IsText rows (codes "REQUESTS") requests.now
+AreArguments rows (Script config requests script) = IsText rows (codes "CONFIG") config.now
+    × IsText rows (codes "REQUESTS") requests.now
     × IsText rows (codes "SCRIPT") script.now
-AsksFor name rows (Run config requests workers rounds) = (name ≡ codes "run")
-    × IsText rows (codes "CONFIG") config.now × IsText rows (codes "REQUESTS") requests.now
-    × IsWorkerCount rows workers × IsRoundCount rows rounds
-AsksFor name rows (Services config requests script) = (name ≡ codes "services")
-    × IsText rows (codes "CONFIG") config.now × IsText rows (codes "REQUESTS") requests.now
-    × IsText rows (codes "SCRIPT") script.now
-AsksFor name rows (Waits config requests script) = (name ≡ codes "waits")
-    × IsText rows (codes "CONFIG") config.now × IsText rows (codes "REQUESTS") requests.now
-    × IsText rows (codes "SCRIPT") script.now
-AsksFor name rows (Explain config requests script) = (name ≡ codes "explain")
-    × IsText rows (codes "CONFIG") config.now × IsText rows (codes "REQUESTS") requests.now
-    × IsText rows (codes "SCRIPT") script.now
-AsksFor name rows (Serve config slots level) = (name ≡ codes "serve")
-    × IsText rows (codes "CONFIG") config.now × IsSlotCount rows slots
-    × IsTextOr (codes "level") rows (codes "name") level.now
-AsksFor name rows (Simulate config trace patience) = (name ≡ codes "simulate")
-    × IsText rows (codes "CONFIG") config.now × IsText rows (codes "TRACE") trace.now
-    × IsText rows (codes "PATIENCE") patience.now
-AsksFor name rows (Timeline config trace patience) = (name ≡ codes "timeline")
-    × IsText rows (codes "CONFIG") config.now × IsText rows (codes "TRACE") trace.now
-    × IsText rows (codes "PATIENCE") patience.now
-AsksFor name rows (Compare config other trace patience) = (name ≡ codes "compare")
-    × IsText rows (codes "CONFIG") config.now × IsText rows (codes "OTHER") other.now
-    × IsText rows (codes "TRACE") trace.now × IsText rows (codes "PATIENCE") patience.now
-AsksFor name rows (Fates config trace patience) = (name ≡ codes "fates")
-    × IsText rows (codes "CONFIG") config.now × IsText rows (codes "TRACE") trace.now
-    × IsText rows (codes "PATIENCE") patience.now
-AsksFor name rows (Requests trace) = (name ≡ codes "requests")
+AreArguments rows (Workers config requests workers rounds) = IsText rows (codes "CONFIG") config.now
+    × IsText rows (codes "REQUESTS") requests.now
+    × IsWorkerCount rows workers
+    × IsRoundCount rows rounds
+AreArguments rows (Level config slots name) = IsText rows (codes "CONFIG") config.now
+    × IsSlotCount rows slots
+    × IsTextOr (codes "level") rows (codes "name") name.now
+AreArguments rows (Simulation config trace patience) = IsText rows (codes "CONFIG") config.now
     × IsText rows (codes "TRACE") trace.now
-AsksFor name rows (Picture config trace patience) = (name ≡ codes "picture")
-    × IsText rows (codes "CONFIG") config.now × IsText rows (codes "TRACE") trace.now
     × IsText rows (codes "PATIENCE") patience.now
-AsksFor name rows (Hands config trace flow) = (name ≡ codes "hands")
-    × IsText rows (codes "CONFIG") config.now × IsText rows (codes "TRACE") trace.now
+AreArguments rows (Comparison config other trace patience) = IsText rows (codes "CONFIG") config.now
+    × IsText rows (codes "OTHER") other.now
+    × IsText rows (codes "TRACE") trace.now
+    × IsText rows (codes "PATIENCE") patience.now
+AreArguments rows (Trace trace) = IsText rows (codes "TRACE") trace.now
+AreArguments rows (Flows config trace flow) = IsText rows (codes "CONFIG") config.now
+    × IsText rows (codes "TRACE") trace.now
     × IsOption rows (codes "flow") flow
-AsksFor name rows (Trace log schema chosen) = (name ≡ codes "trace")
-    × IsText rows (codes "AUDITLOG") log.now × IsText rows (codes "SCHEMA") schema.now
+AreArguments rows (AuditLog log schema chosen) = IsText rows (codes "AUDITLOG") log.now
+    × IsText rows (codes "SCHEMA") schema.now
     × AreChosen rows chosen
 
+-- the kind of arguments
+abbrev pub kind_of : Arguments → Kind
+kind_of (Flow a b) = of_kind.Flow
+kind_of (Deck a b c) = of_kind.Deck
+kind_of (Script a b c) = of_kind.Script
+kind_of (Workers a b c d) = of_kind.Workers
+kind_of (Level a b c) = of_kind.Level
+kind_of (Simulation a b c) = of_kind.Simulation
+kind_of (Comparison a b c d) = of_kind.Comparison
+kind_of (Trace a) = of_kind.Trace
+kind_of (Flows a b c) = of_kind.Flows
+kind_of (AuditLog a b c) = of_kind.AuditLog
+
+-- a command of this name with these rows asks for the action: it is named so, and its arguments are of the kind that the command has
+pub record AsksFor (name : Text) (rows : List Row) (action : Action) : Type 0 where
+  pub named : action.command.now ≡ name
+  pub kind : kind_named name ≡ Some (kind_of action.arguments)
+  pub arguments : AreArguments rows action.arguments
+
 -- who runs requests by workers has some
-abbrev pub HasWorkers : Action → Type 0
-HasWorkers (Run config requests workers rounds) = 0 < workers
+abbrev pub HasWorkers : Arguments → Type 0
+HasWorkers (Workers config requests workers rounds) = 0 < workers
 HasWorkers _ = Unit {0}
 
 -- who runs requests by workers does so in 1 to 1,000,000 rounds
-abbrev pub HasRounds : Action → Type 0
-HasRounds (Run config requests workers rounds) = (1 ≤ rounds) × (rounds ≤ 1000000)
+abbrev pub HasRounds : Arguments → Type 0
+HasRounds (Workers config requests workers rounds) = (1 ≤ rounds) × (rounds ≤ 1000000)
 HasRounds _ = Unit {0}
 
--- who serves a level has 1 to 10,000 slots
-abbrev pub HasSlots : Action → Type 0
-HasSlots (Serve config slots name) = (1 ≤ slots) × (slots ≤ 10000)
+-- a level that stays open has 1 to 10,000 slots
+abbrev pub HasSlots : Arguments → Type 0
+HasSlots (Level config slots name) = (1 ≤ slots) × (slots ≤ 10000)
 HasSlots _ = Unit {0}
 
--- who serves a level has a name that a level may have
-abbrev pub HasLevelName : Action → Type 0
-HasLevelName (Serve config slots name) = is_level_name name.now ≡ true
+-- a level that stays open has a name that a level may have
+abbrev pub HasLevelName : Arguments → Type 0
+HasLevelName (Level config slots name) = is_level_name name.now ≡ true
 HasLevelName _ = Unit {0}
 
--- who serves a level has a name that none may have
-abbrev pub HasBadName : Action → Type 0
-HasBadName (Serve config slots name) = is_level_name name.now ≡ false
+-- a level that stays open has a name that none may have
+abbrev pub HasBadName : Arguments → Type 0
+HasBadName (Level config slots name) = is_level_name name.now ≡ false
 HasBadName _ = ⊥
 
--- the numbers and the name of an action are in their ranges
+-- the numbers and the name of an action are in their ranges, and its command is one of those that have its kind of arguments
 pub record IsInRange (action : Action) : Type 0 where
-  pub workers : HasWorkers action
-  pub rounds : HasRounds action
-  pub slots : HasSlots action
-  pub name : HasLevelName action
+  pub command : has_kind (kind_of action.arguments) action.command.now ≡ true
+  pub workers : HasWorkers action.arguments
+  pub rounds : HasRounds action.arguments
+  pub slots : HasSlots action.arguments
+  pub name : HasLevelName action.arguments
 
 -- the words name a command that asks for the action
 abbrev pub IsActionOf : List Text → Action → Type 0
 IsActionOf words action = (name : Text) × ((rows : List Row)
-    × (subcommand_of apf_app words ≡ Some (name, rows)) × AsksFor name rows action × HasLevelName action)
+    × (subcommand_of apf_app words ≡ Some (name, rows)) × AsksFor name rows action × HasLevelName action.arguments)
 
 -- the kinds of error of the name that the words of a command give a level
 abbrev pub name_fault : Option (Text × List Row) → Kinds
 name_fault None = []
 name_fault (Some (name, rows)) =
-    if bytes_eq name (codes "serve") && not (is_level_name (unwrap_or (first_of (codes "name") rows) (codes "level"))) then ValueValidation ∷ [] else []
+    if is_open_level (kind_named name) && not (is_level_name (unwrap_or (first_of (codes "name") rows) (codes "level"))) then ValueValidation ∷ [] else []
 
 -- the kinds of error that words may have: `clap`'s, and where it finds none that of a level's name
 abbrev pub words_fault : List Text → Kinds

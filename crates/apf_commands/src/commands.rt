@@ -1,11 +1,12 @@
-//! The program's commands with their arguments and help texts.
-ghost use Rattle.std.specs.Prelude.{◌≡◌, IfOk, false};
+//! The program's command line: its commands with their arguments, as `clap` takes them.
+ghost use Rattle.std.specs.Prelude.{◌≡◌, IfOk, false, map};
 ghost use Rattle.clap.specs.Words.{app_of, rule_of, shape_of};
 ghost use Rattle.clap.specs.declared.builder.command.Command.TheViews.{out-Command};
-ghost use Rattle.apf_commands.specs.Commands.{apf_app, app_with, flow_commands, level_commands, trace_commands, with_commands, command_shape, file_rules, script_rules, trace_rules, simulation_rules, shape_for, text_rule, number_rule, option_rule, number_option_rule};
-ghost use Rattle.apf_commands.specs.declared.names.CommandName.TheVariants as named;
+ghost use Rattle.apf_commands.specs.Commands.{AddsRules, apf_app, listed, with_commands, rules_of, shape_for, text_rule, number_rule, option_rule, number_option_rule};
+ghost use Rattle.apf_commands.specs.declared.entries.Kind.TheVariants as of_kind;
 
-use crate::help;
+use crate::entries::{Entry, Kind};
+use crate::{level_commands, trace_commands};
 use clap::builder::ValueParser;
 use clap::{Arg, Command, value_parser};
 use std::alloc::{AllocError, Global};
@@ -13,9 +14,31 @@ use std::alloc::{AllocError, Global};
 /// What `--version` prints after the program's name.
 const VERSION: &str = "0.1.0";
 
+/// What help says of a configuration file.
+const CONFIG: &str = "Configuration file of the priority level";
+
+/// What help says of a trace.
+const TRACE: &str = "Trace file of requests with their times";
+
 /// What help says of the patience.
 const PATIENCE: &str =
     "Time until a request gives up: 15s, 500ms, or 0 to 1000000000 microseconds; 0: never";
+
+/// What help says below the commands: the program's statuses, and how to begin.
+const HELP: &str = "\
+Status:
+  0  done
+  1  a file's fault, or output that can't be written
+  2  a command line's fault
+  3  no memory, or a worker that could not start
+Each fault is one line on standard error. apf explain says more of a fault of a config, of requests
+or of a script: its file, its place, what stands there and what may stand there.
+
+Examples:
+  apf hash workload-low alice
+  apf replay config.json requests.json script.txt
+
+apf COMMAND --help says what the command's files hold.";
 
 // A text that must be given.
 fn text<'a>(alloc: Global, id: &'a str, help: &'a str) -> Arg<'a>
@@ -58,13 +81,11 @@ fn number_option<'a>(
     option(alloc, name, value, help).value_parser(parser)
 }
 
-fn hash_command<'a>(alloc: Global) -> Result<Command<'a>, AllocError>
-    ensures shape { IfOk result (λ c. shape_of c ≡ shape_for named.Hash) }
-    ensures local { IfOk result (λ c. (out-Command c).has_globals ≡ false) }
+// A flow, by its schema and its distinguisher.
+fn with_flow<'a>(alloc: Global, command: Command<'a>) -> Result<Command<'a>, AllocError>
+    ensures { IfOk result (AddsRules (rules_of of_kind.Flow) command.entry) }
 {
-    Command::new(alloc, "hash")
-        .about("Print the hash of a flow")
-        .after_help(help::HASH)
+    command
         .arg(text(alloc, "SCHEMA", "Name of the flow schema"))?
         .arg(text(
             alloc,
@@ -73,13 +94,11 @@ fn hash_command<'a>(alloc: Global) -> Result<Command<'a>, AllocError>
         ))
 }
 
-fn deal_command<'a>(alloc: Global) -> Result<Command<'a>, AllocError>
-    ensures shape { IfOk result (λ c. shape_of c ≡ shape_for named.Deal) }
-    ensures local { IfOk result (λ c. (out-Command c).has_globals ≡ false) }
+// The sizes of a deck and of a hand, and a hash.
+fn with_deck<'a>(alloc: Global, command: Command<'a>) -> Result<Command<'a>, AllocError>
+    ensures { IfOk result (AddsRules (rules_of of_kind.Deck) command.entry) }
 {
-    Command::new(alloc, "deal")
-        .about("Print the hand of queues that a hash is dealt")
-        .after_help(help::DEAL)
+    command
         .arg(number(alloc, "DECK", value_parser!(u32), "Number of queues"))?
         .arg(number(
             alloc,
@@ -95,120 +114,47 @@ fn deal_command<'a>(alloc: Global) -> Result<Command<'a>, AllocError>
         ))
 }
 
-// A command whose first arguments are the configuration file and the requests file.
-fn files_command<'a>(
-    alloc: Global,
-    name: &'a str,
-    about: &'a str,
-    after_help: &'a str,
-) -> Result<Command<'a>, AllocError>
-    ensures app { IfOk result (λ c. app_of c ≡ app_with name.entry.now file_rules) }
-    ensures local { IfOk result (λ c. (out-Command c).has_globals ≡ false) }
+// The two files of a level, and a script.
+fn with_script<'a>(alloc: Global, command: Command<'a>) -> Result<Command<'a>, AllocError>
+    ensures { IfOk result (AddsRules (rules_of of_kind.Script) command.entry) }
 {
-    Command::new(alloc, name)
-        .about(about)
-        .after_help(after_help)
-        .arg(text(alloc, "CONFIG", "Configuration file of the priority level"))?
-        .arg(text(alloc, "REQUESTS", "Requests file"))
+    command
+        .arg(text(alloc, "CONFIG", CONFIG))?
+        .arg(text(alloc, "REQUESTS", "Requests file"))?
+        .arg(text(alloc, "SCRIPT", "Script file"))
 }
 
-// A command that reads a script.
-fn script_command<'a>(
-    alloc: Global,
-    name: &'a str,
-    about: &'a str,
-    after_help: &'a str,
-) -> Result<Command<'a>, AllocError>
-    ensures shape { IfOk result (λ c. shape_of c ≡ command_shape name.entry.now script_rules) }
-    ensures local { IfOk result (λ c. (out-Command c).has_globals ≡ false) }
-{
-    files_command(alloc, name, about, after_help)?.arg(text(alloc, "SCRIPT", "Script file"))
-}
-
-fn replay_command<'a>(alloc: Global) -> Result<Command<'a>, AllocError>
-    ensures shape { IfOk result (λ c. shape_of c ≡ shape_for named.Replay) }
-    ensures local { IfOk result (λ c. (out-Command c).has_globals ≡ false) }
-{
-    script_command(
-        alloc,
-        "replay",
-        "Run a script of requests and print each decision",
-        help::SCRIPT,
-    )
-}
-
-fn run_command<'a>(alloc: Global) -> Result<Command<'a>, AllocError>
-    ensures shape { IfOk result (λ c. shape_of c ≡ shape_for named.Run) }
-    ensures local { IfOk result (λ c. (out-Command c).has_globals ≡ false) }
+// The two files of a level, and how many workers bring the requests to their ends, in how many rounds.
+fn with_workers<'a>(alloc: Global, command: Command<'a>) -> Result<Command<'a>, AllocError>
+    ensures { IfOk result (AddsRules (rules_of of_kind.Workers) command.entry) }
 {
     let workers = value_parser!(u32).range(1..=64);
     let rounds = value_parser!(u32).range(1..=1_000_000);
-    files_command(
-        alloc,
-        "run",
-        "Run the requests on worker threads and print the book",
-        help::RUN,
-    )?
-    .arg(number(
-        alloc,
-        "WORKERS",
-        workers,
-        "Number of worker threads, 1 to 64",
-    ))?
-    .arg(number_option(
-        alloc,
-        "rounds",
-        rounds,
-        "N",
-        "How often each worker goes through its requests, 1 (the default) to 1000000",
-    ))
+    command
+        .arg(text(alloc, "CONFIG", CONFIG))?
+        .arg(text(alloc, "REQUESTS", "Requests file"))?
+        .arg(number(
+            alloc,
+            "WORKERS",
+            workers,
+            "Number of worker threads, 1 to 64",
+        ))?
+        .arg(number_option(
+            alloc,
+            "rounds",
+            rounds,
+            "N",
+            "How often each worker goes through its requests, 1 (the default) to 1000000",
+        ))
 }
 
-fn services_command<'a>(alloc: Global) -> Result<Command<'a>, AllocError>
-    ensures shape { IfOk result (λ c. shape_of c ≡ shape_for named.Services) }
-    ensures local { IfOk result (λ c. (out-Command c).has_globals ≡ false) }
-{
-    script_command(
-        alloc,
-        "services",
-        "Run a script of requests and print each queue's service",
-        help::SCRIPT,
-    )
-}
-
-fn waits_command<'a>(alloc: Global) -> Result<Command<'a>, AllocError>
-    ensures shape { IfOk result (λ c. shape_of c ≡ shape_for named.Waits) }
-    ensures local { IfOk result (λ c. (out-Command c).has_globals ≡ false) }
-{
-    script_command(
-        alloc,
-        "waits",
-        "Run a script of requests and print what was granted while each request waited",
-        help::WAITS,
-    )
-}
-
-fn explain_command<'a>(alloc: Global) -> Result<Command<'a>, AllocError>
-    ensures shape { IfOk result (λ c. shape_of c ≡ shape_for named.Explain) }
-    ensures local { IfOk result (λ c. (out-Command c).has_globals ≡ false) }
-{
-    script_command(
-        alloc,
-        "explain",
-        "Judge the files of a replay and print the first fault for a person",
-        help::EXPLAIN,
-    )
-}
-
-fn serve_command<'a>(alloc: Global) -> Result<Command<'a>, AllocError>
-    ensures shape { IfOk result (λ c. shape_of c ≡ shape_for named.Serve) }
-    ensures local { IfOk result (λ c. (out-Command c).has_globals ≡ false) }
+// A level that stays open: its settings, its slots and its name.
+fn with_level<'a>(alloc: Global, command: Command<'a>) -> Result<Command<'a>, AllocError>
+    ensures { IfOk result (AddsRules (rules_of of_kind.Level) command.entry) }
 {
     let slots = value_parser!(u32).range(1..=10_000);
-    Command::new(alloc, "serve")
-        .about("Keep a level open, with commands on standard input and answers on standard output")
-        .after_help(help::SERVE)
-        .arg(text(alloc, "CONFIG", "Configuration file of the priority level"))?
+    command
+        .arg(text(alloc, "CONFIG", CONFIG))?
         .arg(number_option(
             alloc,
             "slots",
@@ -224,132 +170,54 @@ fn serve_command<'a>(alloc: Global) -> Result<Command<'a>, AllocError>
         ))
 }
 
-// A command whose first arguments are the configuration file and the trace.
-fn trace_command<'a>(
-    alloc: Global,
-    name: &'a str,
-    about: &'a str,
-    after_help: &'a str,
-) -> Result<Command<'a>, AllocError>
-    ensures app { IfOk result (λ c. app_of c ≡ app_with name.entry.now trace_rules) }
-    ensures local { IfOk result (λ c. (out-Command c).has_globals ≡ false) }
+// A level, a trace and a patience.
+fn with_simulation<'a>(alloc: Global, command: Command<'a>) -> Result<Command<'a>, AllocError>
+    ensures { IfOk result (AddsRules (rules_of of_kind.Simulation) command.entry) }
 {
-    Command::new(alloc, name)
-        .about(about)
-        .after_help(after_help)
-        .arg(text(alloc, "CONFIG", "Configuration file of the priority level"))?
-        .arg(text(alloc, "TRACE", "Trace file of requests with their times"))
-}
-
-// A command that simulates a trace.
-fn simulation_command<'a>(
-    alloc: Global,
-    name: &'a str,
-    about: &'a str,
-    after_help: &'a str,
-) -> Result<Command<'a>, AllocError>
-    ensures shape { IfOk result (λ c. shape_of c ≡ command_shape name.entry.now simulation_rules) }
-    ensures local { IfOk result (λ c. (out-Command c).has_globals ≡ false) }
-{
-    trace_command(alloc, name, about, after_help)?.arg(text(alloc, "PATIENCE", PATIENCE))
-}
-
-fn simulate_command<'a>(alloc: Global) -> Result<Command<'a>, AllocError>
-    ensures shape { IfOk result (λ c. shape_of c ≡ shape_for named.Simulate) }
-    ensures local { IfOk result (λ c. (out-Command c).has_globals ≡ false) }
-{
-    simulation_command(
-        alloc,
-        "simulate",
-        "Simulate requests with times and print each flow's waits and the book",
-        help::SIMULATE,
-    )
-}
-
-fn timeline_command<'a>(alloc: Global) -> Result<Command<'a>, AllocError>
-    ensures shape { IfOk result (λ c. shape_of c ≡ shape_for named.Timeline) }
-    ensures local { IfOk result (λ c. (out-Command c).has_globals ≡ false) }
-{
-    simulation_command(
-        alloc,
-        "timeline",
-        "Simulate requests with times and print the script of the simulation",
-        help::TIMELINE,
-    )
-}
-
-fn compare_command<'a>(alloc: Global) -> Result<Command<'a>, AllocError>
-    ensures shape { IfOk result (λ c. shape_of c ≡ shape_for named.Compare) }
-    ensures local { IfOk result (λ c. (out-Command c).has_globals ≡ false) }
-{
-    Command::new(alloc, "compare")
-        .about("Simulate requests with times on two levels and print both, flow by flow")
-        .after_help(help::COMPARE)
-        .arg(text(alloc, "CONFIG", "Configuration file of the one level"))?
-        .arg(text(alloc, "OTHER", "Configuration file of the other level"))?
-        .arg(text(alloc, "TRACE", "Trace file of requests with their times"))?
+    command
+        .arg(text(alloc, "CONFIG", CONFIG))?
+        .arg(text(alloc, "TRACE", TRACE))?
         .arg(text(alloc, "PATIENCE", PATIENCE))
 }
 
-fn fates_command<'a>(alloc: Global) -> Result<Command<'a>, AllocError>
-    ensures shape { IfOk result (λ c. shape_of c ≡ shape_for named.Fates) }
-    ensures local { IfOk result (λ c. (out-Command c).has_globals ≡ false) }
+// Two levels, a trace and a patience.
+fn with_comparison<'a>(alloc: Global, command: Command<'a>) -> Result<Command<'a>, AllocError>
+    ensures { IfOk result (AddsRules (rules_of of_kind.Comparison) command.entry) }
 {
-    simulation_command(
-        alloc,
-        "fates",
-        "Simulate requests with times and print what became of each request",
-        help::FATES,
-    )
+    command
+        .arg(text(alloc, "CONFIG", "Configuration file of the one level"))?
+        .arg(text(alloc, "OTHER", "Configuration file of the other level"))?
+        .arg(text(alloc, "TRACE", TRACE))?
+        .arg(text(alloc, "PATIENCE", PATIENCE))
 }
 
-fn requests_command<'a>(alloc: Global) -> Result<Command<'a>, AllocError>
-    ensures shape { IfOk result (λ c. shape_of c ≡ shape_for named.Requests) }
-    ensures local { IfOk result (λ c. (out-Command c).has_globals ≡ false) }
+// A trace alone.
+fn with_trace<'a>(alloc: Global, command: Command<'a>) -> Result<Command<'a>, AllocError>
+    ensures { IfOk result (AddsRules (rules_of of_kind.Trace) command.entry) }
 {
-    Command::new(alloc, "requests")
-        .about("Print the requests file of a trace")
-        .after_help(help::REQUESTS)
-        .arg(text(alloc, "TRACE", "Trace file of requests with their times"))
+    command.arg(text(alloc, "TRACE", TRACE))
 }
 
-fn picture_command<'a>(alloc: Global) -> Result<Command<'a>, AllocError>
-    ensures shape { IfOk result (λ c. shape_of c ≡ shape_for named.Picture) }
-    ensures local { IfOk result (λ c. (out-Command c).has_globals ≡ false) }
+// A level and a trace, and which of its flows.
+fn with_flows<'a>(alloc: Global, command: Command<'a>) -> Result<Command<'a>, AllocError>
+    ensures { IfOk result (AddsRules (rules_of of_kind.Flows) command.entry) }
 {
-    simulation_command(
-        alloc,
-        "picture",
-        "Simulate requests with times and draw the run as an SVG",
-        help::PICTURE,
-    )
+    command
+        .arg(text(alloc, "CONFIG", CONFIG))?
+        .arg(text(alloc, "TRACE", TRACE))?
+        .arg(option(
+            alloc,
+            "flow",
+            "NAME",
+            "Distinguisher of the flow that is printed, with each flow that shares a queue",
+        ))
 }
 
-fn hands_command<'a>(alloc: Global) -> Result<Command<'a>, AllocError>
-    ensures shape { IfOk result (λ c. shape_of c ≡ shape_for named.Hands) }
-    ensures local { IfOk result (λ c. (out-Command c).has_globals ≡ false) }
+// An audit log, the schema of its flows, and which of its requests.
+fn with_audit_log<'a>(alloc: Global, command: Command<'a>) -> Result<Command<'a>, AllocError>
+    ensures { IfOk result (AddsRules (rules_of of_kind.AuditLog) command.entry) }
 {
-    trace_command(
-        alloc,
-        "hands",
-        "Print the hand of queues of each flow of a trace, and who shares them",
-        help::HANDS,
-    )?
-    .arg(option(
-        alloc,
-        "flow",
-        "NAME",
-        "Distinguisher of the flow that is printed, with each flow that shares a queue",
-    ))
-}
-
-fn audit_command<'a>(alloc: Global) -> Result<Command<'a>, AllocError>
-    ensures shape { IfOk result (λ c. shape_of c ≡ shape_for named.Trace) }
-    ensures local { IfOk result (λ c. (out-Command c).has_globals ≡ false) }
-{
-    Command::new(alloc, "trace")
-        .about("Print the trace of a Kubernetes audit log")
-        .after_help(help::TRACE)
+    command
         .arg(text(alloc, "AUDITLOG", "Audit log, one JSON event a line"))?
         .arg(text(alloc, "SCHEMA", "Name of the flow schema of its requests"))?
         .arg(option(
@@ -378,44 +246,54 @@ fn audit_command<'a>(alloc: Global) -> Result<Command<'a>, AllocError>
         ))
 }
 
-// The program with its commands on flows.
-fn with_flow_commands<'a>(alloc: Global, program: Command<'a>) -> Result<Command<'a>, AllocError>
-    ensures { IfOk result (λ c. app_of c ≡ with_commands flow_commands (app_of program.entry)) }
+// A command with the arguments of this kind behind its own.
+fn with_arguments<'a>(
+    alloc: Global,
+    command: Command<'a>,
+    kind: Kind,
+) -> Result<Command<'a>, AllocError>
+    ensures { IfOk result (AddsRules (rules_of kind) command.entry) }
 {
-    program
-        .subcommand(hash_command(alloc)?)?
-        .subcommand(deal_command(alloc)?)
+    match kind {
+        Kind::Flow => with_flow(alloc, command),
+        Kind::Deck => with_deck(alloc, command),
+        Kind::Script => with_script(alloc, command),
+        Kind::Workers => with_workers(alloc, command),
+        Kind::Level => with_level(alloc, command),
+        Kind::Simulation => with_simulation(alloc, command),
+        Kind::Comparison => with_comparison(alloc, command),
+        Kind::Trace => with_trace(alloc, command),
+        Kind::Flows => with_flows(alloc, command),
+        Kind::AuditLog => with_audit_log(alloc, command),
+    }
 }
 
-// The program with its commands on a level.
-fn with_level_commands<'a>(alloc: Global, program: Command<'a>) -> Result<Command<'a>, AllocError>
-    ensures { IfOk result (λ c. app_of c ≡ with_commands level_commands (app_of program.entry)) }
+// The command of an entry.
+fn command_of<'a>(alloc: Global, entry: &Entry) -> Result<Command<'a>, AllocError>
+    ensures shape { IfOk result (λ c. shape_of c ≡ shape_for (listed entry.now)) }
+    ensures local { IfOk result (λ c. (out-Command c).has_globals ≡ false) }
 {
-    program
-        .subcommand(replay_command(alloc)?)?
-        .subcommand(run_command(alloc)?)?
-        .subcommand(services_command(alloc)?)?
-        .subcommand(waits_command(alloc)?)?
-        .subcommand(explain_command(alloc)?)?
-        .subcommand(serve_command(alloc)?)
+    let command = Command::new(alloc, entry.name)
+        .about(entry.about)
+        .after_help(entry.help);
+    with_arguments(alloc, command, entry.kind)
 }
 
-// The program with its commands on traces.
-fn with_trace_commands<'a>(alloc: Global, program: Command<'a>) -> Result<Command<'a>, AllocError>
-    ensures { IfOk result (λ c. app_of c ≡ with_commands trace_commands (app_of program.entry)) }
+// The program with the commands of these entries behind its own.
+fn with_entries<'a>(
+    alloc: Global,
+    mut program: Command<'a>,
+    entries: &[Entry],
+) -> Result<Command<'a>, AllocError>
+    ensures { IfOk result (λ c. app_of c ≡ with_commands (map listed entries.now) (app_of program.entry)) }
 {
-    program
-        .subcommand(simulate_command(alloc)?)?
-        .subcommand(timeline_command(alloc)?)?
-        .subcommand(compare_command(alloc)?)?
-        .subcommand(fates_command(alloc)?)?
-        .subcommand(requests_command(alloc)?)?
-        .subcommand(picture_command(alloc)?)?
-        .subcommand(hands_command(alloc)?)?
-        .subcommand(audit_command(alloc)?)
+    for entry in entries {
+        program = program.subcommand(command_of(alloc, entry)?)?;
+    }
+    Ok(program)
 }
 
-/// The program's command line, of which one of the sixteen commands must be named.
+/// The program's command line, of which one of the commands must be named.
 ///
 /// # Errors
 ///
@@ -427,10 +305,9 @@ pub(crate) fn apf_command<'a>(alloc: Global) -> Result<Command<'a>, AllocError>
         .about(
             "Replay, run, serve or simulate requests at one priority level of API Priority and Fairness",
         )
-        .after_help(help::PROGRAM)
+        .after_help(HELP)
         .version(VERSION)
         .subcommand_required(true);
-    let program = with_flow_commands(alloc, program)?;
-    let program = with_level_commands(alloc, program)?;
-    with_trace_commands(alloc, program)
+    let program = with_entries(alloc, program, level_commands::entries())?;
+    with_entries(alloc, program, trace_commands::entries())
 }

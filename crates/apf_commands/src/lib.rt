@@ -1,19 +1,23 @@
 //! What a command line of the program `apf` asks for, read by `clap`.
 //!
-//! - `names`: the names of the commands.
-//! - `help`: what `--help` says below a command's arguments.
-//! - `commands`: the commands with their arguments.
+//! - `entries`: what a command is: its name, its texts of help and the kind of its arguments.
+//! - `level_commands`, `trace_commands`: the commands.
+//! - `commands`: the program's command line, by the kinds of arguments.
 //! - `level_name`: the name of a level that is served.
 //! - `patience`: how long a request waits before it gives up.
 //! - `words`: the command that a command line names, with its texts and numbers.
+//!
+//! A new command whose arguments are of a kind that is there needs an entry, a line in `specs/Commands`, and in `apf_cli` what
+//! the program does with it.
 #![tactic(auto)]
 
 mod commands;
-mod help;
+mod entries;
+mod level_commands;
 mod level_name;
-mod names;
 mod patience;
+mod trace_commands;
 mod words;
 
 pub use patience::read_patience;
-pub use words::{Action, Chosen, read_words};
+pub use words::{Action, Arguments, Chosen, read_words};

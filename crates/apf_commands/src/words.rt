@@ -3,117 +3,84 @@ ghost use Rattle.std.specs.Prelude.{◌≡◌, ◌⊎◌, ℕ, IfErr, IfNone, If
 ghost use Rattle.clap.specs.Words.{FailsBy, found_of, kind_of, rows_of};
 ghost use Rattle.clap.specs.declared.error.kind.ErrorKind.TheVariants.{OutOfMemory, ValueValidation};
 ghost use Rattle.clap.specs.Walk.{texts};
-ghost use Rattle.apf_commands.specs.Names.{text_of as name_text};
-ghost use Rattle.apf_commands.specs.Meaning.{AreChosen, AsksFor, HasBadName, HasLevelName, IsActionOf, IsInRange, IsNumber, IsNumberOr, IsOption, IsText, IsTextOr, words_fault};
-ghost use Rattle.apf_commands.specs.Arguments.{HasText, HasNumber, HasHashArguments, HasDealArguments};
-ghost use Rattle.apf_commands.specs.Arguments.{HasScriptArguments, HasRunArguments, HasArguments};
-ghost use Rattle.apf_commands.specs.Arguments.{HasServeArguments, HasSimulationArguments, HasCompareArguments, HasRequestsArguments, HasHandsArguments, HasAuditArguments};
+ghost use Rattle.apf_commands.specs.Meaning.{kind_of as kind_of_arguments, AreArguments, AreChosen, HasBadName, HasLevelName, IsActionOf, IsInRange, IsNumber, IsNumberOr, IsOption, IsText, IsTextOr, words_fault};
+ghost use Rattle.apf_commands.specs.Arguments.{HasArguments, HasText, HasNumber};
+ghost use Rattle.apf_commands.specs.declared.entries.Kind.TheVariants as of_kind;
 
 use crate::commands::apf_command;
+use crate::entries::{Kind, kind_of_command};
 use crate::level_name::is_level_name;
-use crate::names::CommandName;
 use clap::error::ErrorKind;
 use clap::{ArgMatches, Error};
 use std::alloc::Global;
 
 /// A command of the program, with its texts and numbers.
 #[derive(Clone, Copy, Debug, PartialEq, Eq)]
-pub enum Action<'a> {
-    /// Print the hash of a flow.
-    Hash {
+pub struct Action<'a> {
+    /// The command's name.
+    pub command: &'a str,
+    pub arguments: Arguments<'a>,
+}
+
+/// The texts and numbers of a command, by their kind.
+#[derive(Clone, Copy, Debug, PartialEq, Eq)]
+pub enum Arguments<'a> {
+    /// A flow.
+    Flow {
         schema: &'a str,
         distinguisher: &'a str,
     },
-    /// Print the hand of `hand` queues out of `deck` that a hash is dealt.
-    Deal {
+    /// A hash, and the hand of `hand` queues out of `deck` that it is dealt.
+    Deck {
         deck: u32,
         hand: u32,
         hash: u64,
     },
-    /// Run a script and print its transcript; the texts are file names.
-    Replay {
+    /// The names of the files of a level and of a script.
+    Script {
         config: &'a str,
         requests: &'a str,
         script: &'a str,
     },
-    /// Run the requests on 1 to 64 worker threads, which go 1 to 1,000,000 times through them, and print the book. The
-    /// texts are file names.
-    Run {
+    /// The names of the files of a level, and the 1 to 64 worker threads that go 1 to 1,000,000 times through its requests.
+    Workers {
         config: &'a str,
         requests: &'a str,
         workers: u32,
         rounds: u32,
     },
-    /// Run a script and print the service of each queue; the texts are file names.
-    Services {
-        config: &'a str,
-        requests: &'a str,
-        script: &'a str,
-    },
-    /// Run a script and print what was granted while each request waited; the texts are file names.
-    Waits {
-        config: &'a str,
-        requests: &'a str,
-        script: &'a str,
-    },
-    /// Judge the files of a replay and print the first fault for a person; the texts are file names.
-    Explain {
-        config: &'a str,
-        requests: &'a str,
-        script: &'a str,
-    },
-    /// Keep a level open for a server's whole life, with 1 to 10,000 slots: so many requests may be there at once. The first
-    /// text is a file name, and the second one the level's name in metrics.
-    Serve {
+    /// A level that stays open for a server's whole life: the name of its configuration file, its 1 to 10,000 slots, of which
+    /// each request there has one, and its name in metrics.
+    Level {
         config: &'a str,
         slots: u32,
         name: &'a str,
     },
-    /// Simulate a trace and print what its flows met; the texts are file names, and a patience for
-    /// [`read_patience`](crate::read_patience).
-    Simulate {
+    /// The names of a configuration file and of a trace, and a patience for [`read_patience`](crate::read_patience).
+    Simulation {
         config: &'a str,
         trace: &'a str,
         patience: &'a str,
     },
-    /// Simulate a trace and print the simulation's script; the texts are file names, and a patience.
-    Timeline {
-        config: &'a str,
-        trace: &'a str,
-        patience: &'a str,
-    },
-    /// Simulate a trace on two levels and print both, flow by flow; the texts are file names, and a patience.
-    Compare {
+    /// The names of two configuration files and of a trace, and a patience.
+    Comparison {
         config: &'a str,
         other: &'a str,
         trace: &'a str,
         patience: &'a str,
     },
-    /// Simulate a trace and print what became of each request; the texts are file names, and a patience.
-    Fates {
-        config: &'a str,
-        trace: &'a str,
-        patience: &'a str,
-    },
-    /// Print the requests file of a trace; the text is a file name.
-    Requests {
+    /// The name of a trace.
+    Trace {
         trace: &'a str,
     },
-    /// Simulate a trace and draw the run as an SVG; the texts are file names, and a patience.
-    Picture {
-        config: &'a str,
-        trace: &'a str,
-        patience: &'a str,
-    },
-    /// Print the hand of each flow of a trace, and who shares it, or those of this distinguisher alone; the first two
-    /// texts are file names.
-    Hands {
+    /// The names of a configuration file and of a trace, and the distinguisher of the flows that are meant, if not all are.
+    Flows {
         config: &'a str,
         trace: &'a str,
         flow: Option<&'a str>,
     },
-    /// Print the trace of an audit log, of the requests that are chosen; the first text is a file name.
-    Trace {
+    /// The name of an audit log, the schema of its flows, and which of its requests are chosen.
+    AuditLog {
         log: &'a str,
         schema: &'a str,
         chosen: Chosen<'a>,
@@ -178,21 +145,23 @@ fn u64_of(matches: &ArgMatches<'_>, id: &str) -> u64
     matches.get_one::<u64>(id).unwrap()
 }
 
-fn hash_action<'a>(matches: &ArgMatches<'a>) -> Action<'a>
-    requires { HasHashArguments (rows_of (found_of matches.now)) }
-    ensures { AsksFor (codes "hash") (rows_of (found_of matches.now)) result }
+fn flow_of<'a>(matches: &ArgMatches<'a>) -> Arguments<'a>
+    requires { HasArguments of_kind.Flow (rows_of (found_of matches.now)) }
+    ensures kind { kind_of_arguments result ≡ of_kind.Flow }
+    ensures read { AreArguments (rows_of (found_of matches.now)) result }
 {
-    Action::Hash {
+    Arguments::Flow {
         schema: text_of(matches, "SCHEMA"),
         distinguisher: text_of(matches, "DISTINGUISHER"),
     }
 }
 
-fn deal_action<'a>(matches: &ArgMatches<'a>) -> Action<'a>
-    requires { HasDealArguments (rows_of (found_of matches.now)) }
-    ensures { AsksFor (codes "deal") (rows_of (found_of matches.now)) result }
+fn deck_of<'a>(matches: &ArgMatches<'a>) -> Arguments<'a>
+    requires { HasArguments of_kind.Deck (rows_of (found_of matches.now)) }
+    ensures kind { kind_of_arguments result ≡ of_kind.Deck }
+    ensures read { AreArguments (rows_of (found_of matches.now)) result }
 {
-    Action::Deal {
+    Arguments::Deck {
         deck: u32_of(matches, "DECK"),
         hand: u32_of(matches, "HAND"),
         hash: u64_of(matches, "HASH"),
@@ -209,27 +178,29 @@ fn files_of<'a>(matches: &ArgMatches<'a>) -> (&'a str, &'a str)
     (text_of(matches, "CONFIG"), text_of(matches, "REQUESTS"))
 }
 
-fn replay_action<'a>(matches: &ArgMatches<'a>) -> Action<'a>
-    requires { HasScriptArguments (rows_of (found_of matches.now)) }
-    ensures { AsksFor (codes "replay") (rows_of (found_of matches.now)) result }
+fn script_of<'a>(matches: &ArgMatches<'a>) -> Arguments<'a>
+    requires { HasArguments of_kind.Script (rows_of (found_of matches.now)) }
+    ensures kind { kind_of_arguments result ≡ of_kind.Script }
+    ensures read { AreArguments (rows_of (found_of matches.now)) result }
 {
     let (config, requests) = files_of(matches);
     let script = text_of(matches, "SCRIPT");
-    Action::Replay {
+    Arguments::Script {
         config,
         requests,
         script,
     }
 }
 
-fn run_action<'a>(matches: &ArgMatches<'a>) -> Action<'a>
-    requires { HasRunArguments (rows_of (found_of matches.now)) }
-    ensures { AsksFor (codes "run") (rows_of (found_of matches.now)) result }
+fn workers_of<'a>(matches: &ArgMatches<'a>) -> Arguments<'a>
+    requires { HasArguments of_kind.Workers (rows_of (found_of matches.now)) }
+    ensures kind { kind_of_arguments result ≡ of_kind.Workers }
+    ensures read { AreArguments (rows_of (found_of matches.now)) result }
 {
     let (config, requests) = files_of(matches);
     let workers = u32_of(matches, "WORKERS");
     let rounds = u32_or(matches, "rounds", 1);
-    Action::Run {
+    Arguments::Workers {
         config,
         requests,
         workers,
@@ -237,83 +208,36 @@ fn run_action<'a>(matches: &ArgMatches<'a>) -> Action<'a>
     }
 }
 
-fn services_action<'a>(matches: &ArgMatches<'a>) -> Action<'a>
-    requires { HasScriptArguments (rows_of (found_of matches.now)) }
-    ensures { AsksFor (codes "services") (rows_of (found_of matches.now)) result }
+fn level_of<'a>(matches: &ArgMatches<'a>) -> Arguments<'a>
+    requires { HasArguments of_kind.Level (rows_of (found_of matches.now)) }
+    ensures kind { kind_of_arguments result ≡ of_kind.Level }
+    ensures read { AreArguments (rows_of (found_of matches.now)) result }
 {
-    let (config, requests) = files_of(matches);
-    let script = text_of(matches, "SCRIPT");
-    Action::Services {
-        config,
-        requests,
-        script,
-    }
-}
-
-fn waits_action<'a>(matches: &ArgMatches<'a>) -> Action<'a>
-    requires { HasScriptArguments (rows_of (found_of matches.now)) }
-    ensures { AsksFor (codes "waits") (rows_of (found_of matches.now)) result }
-{
-    let (config, requests) = files_of(matches);
-    let script = text_of(matches, "SCRIPT");
-    Action::Waits {
-        config,
-        requests,
-        script,
-    }
-}
-
-fn explain_action<'a>(matches: &ArgMatches<'a>) -> Action<'a>
-    requires { HasScriptArguments (rows_of (found_of matches.now)) }
-    ensures { AsksFor (codes "explain") (rows_of (found_of matches.now)) result }
-{
-    let (config, requests) = files_of(matches);
-    let script = text_of(matches, "SCRIPT");
-    Action::Explain {
-        config,
-        requests,
-        script,
-    }
-}
-
-fn serve_action<'a>(matches: &ArgMatches<'a>) -> Action<'a>
-    requires { HasServeArguments (rows_of (found_of matches.now)) }
-    ensures { AsksFor (codes "serve") (rows_of (found_of matches.now)) result }
-{
-    Action::Serve {
+    Arguments::Level {
         config: text_of(matches, "CONFIG"),
         slots: u32_or(matches, "slots", 10_000),
         name: text_or(matches, "name", "level"),
     }
 }
 
-fn simulate_action<'a>(matches: &ArgMatches<'a>) -> Action<'a>
-    requires { HasSimulationArguments (rows_of (found_of matches.now)) }
-    ensures { AsksFor (codes "simulate") (rows_of (found_of matches.now)) result }
+fn simulation_of<'a>(matches: &ArgMatches<'a>) -> Arguments<'a>
+    requires { HasArguments of_kind.Simulation (rows_of (found_of matches.now)) }
+    ensures kind { kind_of_arguments result ≡ of_kind.Simulation }
+    ensures read { AreArguments (rows_of (found_of matches.now)) result }
 {
-    Action::Simulate {
+    Arguments::Simulation {
         config: text_of(matches, "CONFIG"),
         trace: text_of(matches, "TRACE"),
         patience: text_of(matches, "PATIENCE"),
     }
 }
 
-fn timeline_action<'a>(matches: &ArgMatches<'a>) -> Action<'a>
-    requires { HasSimulationArguments (rows_of (found_of matches.now)) }
-    ensures { AsksFor (codes "timeline") (rows_of (found_of matches.now)) result }
+fn comparison_of<'a>(matches: &ArgMatches<'a>) -> Arguments<'a>
+    requires { HasArguments of_kind.Comparison (rows_of (found_of matches.now)) }
+    ensures kind { kind_of_arguments result ≡ of_kind.Comparison }
+    ensures read { AreArguments (rows_of (found_of matches.now)) result }
 {
-    Action::Timeline {
-        config: text_of(matches, "CONFIG"),
-        trace: text_of(matches, "TRACE"),
-        patience: text_of(matches, "PATIENCE"),
-    }
-}
-
-fn compare_action<'a>(matches: &ArgMatches<'a>) -> Action<'a>
-    requires { HasCompareArguments (rows_of (found_of matches.now)) }
-    ensures { AsksFor (codes "compare") (rows_of (found_of matches.now)) result }
-{
-    Action::Compare {
+    Arguments::Comparison {
         config: text_of(matches, "CONFIG"),
         other: text_of(matches, "OTHER"),
         trace: text_of(matches, "TRACE"),
@@ -321,42 +245,22 @@ fn compare_action<'a>(matches: &ArgMatches<'a>) -> Action<'a>
     }
 }
 
-fn fates_action<'a>(matches: &ArgMatches<'a>) -> Action<'a>
-    requires { HasSimulationArguments (rows_of (found_of matches.now)) }
-    ensures { AsksFor (codes "fates") (rows_of (found_of matches.now)) result }
+fn trace_of<'a>(matches: &ArgMatches<'a>) -> Arguments<'a>
+    requires { HasArguments of_kind.Trace (rows_of (found_of matches.now)) }
+    ensures kind { kind_of_arguments result ≡ of_kind.Trace }
+    ensures read { AreArguments (rows_of (found_of matches.now)) result }
 {
-    Action::Fates {
-        config: text_of(matches, "CONFIG"),
-        trace: text_of(matches, "TRACE"),
-        patience: text_of(matches, "PATIENCE"),
-    }
-}
-
-fn requests_action<'a>(matches: &ArgMatches<'a>) -> Action<'a>
-    requires { HasRequestsArguments (rows_of (found_of matches.now)) }
-    ensures { AsksFor (codes "requests") (rows_of (found_of matches.now)) result }
-{
-    Action::Requests {
+    Arguments::Trace {
         trace: text_of(matches, "TRACE"),
     }
 }
 
-fn picture_action<'a>(matches: &ArgMatches<'a>) -> Action<'a>
-    requires { HasSimulationArguments (rows_of (found_of matches.now)) }
-    ensures { AsksFor (codes "picture") (rows_of (found_of matches.now)) result }
+fn flows_of<'a>(matches: &ArgMatches<'a>) -> Arguments<'a>
+    requires { HasArguments of_kind.Flows (rows_of (found_of matches.now)) }
+    ensures kind { kind_of_arguments result ≡ of_kind.Flows }
+    ensures read { AreArguments (rows_of (found_of matches.now)) result }
 {
-    Action::Picture {
-        config: text_of(matches, "CONFIG"),
-        trace: text_of(matches, "TRACE"),
-        patience: text_of(matches, "PATIENCE"),
-    }
-}
-
-fn hands_action<'a>(matches: &ArgMatches<'a>) -> Action<'a>
-    requires { HasHandsArguments (rows_of (found_of matches.now)) }
-    ensures { AsksFor (codes "hands") (rows_of (found_of matches.now)) result }
-{
-    Action::Hands {
+    Arguments::Flows {
         config: text_of(matches, "CONFIG"),
         trace: text_of(matches, "TRACE"),
         flow: option_of(matches, "flow"),
@@ -375,48 +279,44 @@ fn chosen_of<'a>(matches: &ArgMatches<'a>) -> Chosen<'a>
     }
 }
 
-fn trace_action<'a>(matches: &ArgMatches<'a>) -> Action<'a>
-    requires { HasAuditArguments (rows_of (found_of matches.now)) }
-    ensures { AsksFor (codes "trace") (rows_of (found_of matches.now)) result }
+fn audit_log_of<'a>(matches: &ArgMatches<'a>) -> Arguments<'a>
+    requires { HasArguments of_kind.AuditLog (rows_of (found_of matches.now)) }
+    ensures kind { kind_of_arguments result ≡ of_kind.AuditLog }
+    ensures read { AreArguments (rows_of (found_of matches.now)) result }
 {
-    Action::Trace {
+    Arguments::AuditLog {
         log: text_of(matches, "AUDITLOG"),
         schema: text_of(matches, "SCHEMA"),
         chosen: chosen_of(matches),
     }
 }
 
-// The action of the command.
-fn action_of<'a>(command: CommandName, matches: &ArgMatches<'a>) -> Action<'a>
-    requires { HasArguments command (rows_of (found_of matches.now)) }
-    ensures { AsksFor (name_text command) (rows_of (found_of matches.now)) result }
+// The arguments of this kind.
+fn arguments_of<'a>(kind: Kind, matches: &ArgMatches<'a>) -> Arguments<'a>
+    requires { HasArguments kind (rows_of (found_of matches.now)) }
+    ensures kind { kind_of_arguments result ≡ kind }
+    ensures read { AreArguments (rows_of (found_of matches.now)) result }
 {
-    match command {
-        CommandName::Hash => hash_action(matches),
-        CommandName::Deal => deal_action(matches),
-        CommandName::Replay => replay_action(matches),
-        CommandName::Run => run_action(matches),
-        CommandName::Services => services_action(matches),
-        CommandName::Waits => waits_action(matches),
-        CommandName::Explain => explain_action(matches),
-        CommandName::Serve => serve_action(matches),
-        CommandName::Simulate => simulate_action(matches),
-        CommandName::Timeline => timeline_action(matches),
-        CommandName::Compare => compare_action(matches),
-        CommandName::Fates => fates_action(matches),
-        CommandName::Requests => requests_action(matches),
-        CommandName::Picture => picture_action(matches),
-        CommandName::Hands => hands_action(matches),
-        CommandName::Trace => trace_action(matches),
+    match kind {
+        Kind::Flow => flow_of(matches),
+        Kind::Deck => deck_of(matches),
+        Kind::Script => script_of(matches),
+        Kind::Workers => workers_of(matches),
+        Kind::Level => level_of(matches),
+        Kind::Simulation => simulation_of(matches),
+        Kind::Comparison => comparison_of(matches),
+        Kind::Trace => trace_of(matches),
+        Kind::Flows => flows_of(matches),
+        Kind::AuditLog => audit_log_of(matches),
     }
 }
 
-// The name of the level that the action serves, if no level may have it.
+// The name of the level that the action is of, if no level may have it.
 fn bad_name<'a>(action: &Action<'a>) -> Option<&'a str>
-    ensures none { IfNone result (HasLevelName action.now) }
-    ensures some { IfSome result (λ _. HasBadName action.now) }
+    ensures none { IfNone result (HasLevelName action.now.arguments) }
+    ensures some { IfSome result (λ _. HasBadName action.now.arguments) }
 {
-    let Action::Serve { name, .. } = *action else {
+    let Arguments::Level { name, .. } = action.arguments else {
         return None;
     };
     if is_level_name(name) {
@@ -438,10 +338,10 @@ fn name_refused(alloc: Global, name: &str) -> Result<Error, Error>
     Ok(command.error(ErrorKind::ValueValidation, message.as_str())?)
 }
 
-// The action, if the name of the level that it serves is one that a level may have.
+// The action, if the name of the level that it is of is one that a level may have.
 fn judged<'a>(alloc: Global, action: Action<'a>) -> Result<Action<'a>, Error>
-    ensures ok { IfOk result (λ a. (a ≡ action.entry) × HasLevelName action.entry) }
-    ensures err { IfErr result (λ e. (kind_of e ≡ OutOfMemory) ⊎ ((kind_of e ≡ ValueValidation) × HasBadName action.entry)) }
+    ensures ok { IfOk result (λ a. (a ≡ action.entry) × HasLevelName action.entry.arguments) }
+    ensures err { IfErr result (λ e. (kind_of e ≡ OutOfMemory) ⊎ ((kind_of e ≡ ValueValidation) × HasBadName action.entry.arguments)) }
 {
     let Some(name) = bad_name(&action) else {
         return Ok(action);
@@ -454,17 +354,10 @@ fn judged<'a>(alloc: Global, action: Action<'a>) -> Result<Action<'a>, Error>
 
 /// The action that the words of a command line ask for; the first word is the program's name.
 ///
-/// Its texts and numbers are those that `clap` reads of the words, for the commands
-/// `hash SCHEMA DISTINGUISHER`, `deal DECK HAND HASH`, `replay CONFIG REQUESTS SCRIPT`,
-/// `run CONFIG REQUESTS WORKERS [--rounds N]`, `services CONFIG REQUESTS SCRIPT`, `waits CONFIG REQUESTS SCRIPT`,
-/// `explain CONFIG REQUESTS SCRIPT`, `serve CONFIG [--slots S] [--name NAME]`,
-/// `simulate CONFIG TRACE PATIENCE`, `timeline CONFIG TRACE PATIENCE`, `compare CONFIG OTHER TRACE PATIENCE`,
-/// `fates CONFIG TRACE PATIENCE`, `requests TRACE`, `picture CONFIG TRACE PATIENCE`,
-/// `hands CONFIG TRACE [--flow NAME]` and
-/// `trace AUDITLOG SCHEMA [--by WHO] [--user NAME] [--since INSTANT] [--until INSTANT]`.
-/// `DECK` and `HAND` are whole decimal numbers of 32 bits, `HASH` is one of 64 bits, `WORKERS` is 1 to 64,
-/// `--rounds` 1 to 1,000,000 and 1 if absent, `--slots` 1 to 10,000 and 10,000 if absent. `--name` is 1 to 253 bytes of `a-z`, `0-9`, `.`
-/// and `-`, and `level` if absent. The other arguments are texts, `PATIENCE` too.
+/// Its texts and numbers are those that `clap` reads of the words. The second word names the command, and the command says
+/// of which kind its arguments are. `DECK` and `HAND` are whole decimal numbers of 32 bits, `HASH` is one of 64 bits,
+/// `WORKERS` is 1 to 64, `--rounds` 1 to 1,000,000 and 1 if absent, `--slots` 1 to 10,000 and 10,000 if absent. `--name` is
+/// 1 to 253 bytes of `a-z`, `0-9`, `.` and `-`, and `level` if absent. The other arguments are texts, `PATIENCE` too.
 ///
 /// # Errors
 ///
@@ -476,7 +369,8 @@ pub fn read_words<'a>(alloc: Global, words: &'a [&'a str]) -> Result<Action<'a>,
     ensures refused { FailsBy (words_fault (texts words.entry.now)) result }
 {
     let matches = apf_command(alloc)?.try_get_matches_from(words)?;
-    let (name, inner) = matches.subcommand().unwrap();
-    let command = CommandName::named(name).unwrap();
-    judged(alloc, action_of(command, inner))
+    let (command, inner) = matches.subcommand().unwrap();
+    let kind = kind_of_command(command).unwrap();
+    let arguments = arguments_of(kind, inner);
+    judged(alloc, Action { command, arguments })
 }

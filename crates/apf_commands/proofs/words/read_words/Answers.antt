@@ -1,5 +1,5 @@
 -- A parse that succeeds has no fault, so it entered one of the commands, with its arguments.
-use Rattle.std.proofs.Common.{◌≡◌, ◌∙◌, [], ap, is_some, sym, subst, Some}
+use Rattle.std.proofs.Common.{◌≡◌, ◌∙◌, [], ap, is_some, refl, sym, subst, Some}
 use Rattle.std.proofs.lemmas.Result.{IfOk-weaker}
 use Rattle.clap.specs.Words.{App, Text, app_of, fault_of, found_of, is_simple_and_free, rows_of, subcommand_of}
 use Rattle.clap.specs.Walk.{texts}
@@ -11,7 +11,7 @@ use Rattle.apf_commands.proofs.Accepted.{apf_is_free, command_of}
 use Rattle.apf_commands.specs.Meaning.{AsksFor, HasLevelName, IsInRange, name_fault, words_fault}
 use Rattle.apf_commands.specs.declared.words.Action.{Action}
 use Rattle.apf_commands.proofs.Ranges.{first_kind, has_name_fault, in_range, judged_fails, no_name_fault, then_kinds}
-use Rattle.apf_commands.proofs.Matches.{command_as, command_found, command_met, entered_as, parse_of, some_met}
+use Rattle.apf_commands.proofs.Matches.{kind_as, kind_there, command_met, entered_as, parse_of, some_met}
 use Rattle.apf_commands.proofs.words.read_words.Goals as goal
 
 pub returns-in_err-matches-clause-refused : goal.returns-in_err-matches-clause-refused
@@ -32,8 +32,8 @@ unwrap-requires c =
     let entered = command_of words parse.faultless in
     c.subcommand.ensures.variant ∙ some_met (out-ArgMatches m).subcommand _ (parse.met ∙ entered.1.1)
 
-pub unwrap-command-requires : goal.unwrap-command-requires
-unwrap-command-requires c =
+pub unwrap-kind-requires : goal.unwrap-kind-requires
+unwrap-kind-requires c =
     let words = texts c.args.words.now in
     let m = c.in_ok-matches.matches in
     let parse = parse_of _ words m c.in_ok-apf_command.ensures.app c.in_ok-matches.ensures.matches c.in_ok-matches.ensures.kinds in
@@ -41,10 +41,10 @@ unwrap-command-requires c =
     let rows = rw c.unwrap.ensures at c.subcommand.ensures.rows in
     let met = sym parse.met ∙ command_met (out-ArgMatches m).subcommand _ _ name rows in
     let is = entered_as (subcommand_of apf_app words) _ _ (command_of words parse.faultless) met in
-    ap is_some (command_found _ _ c.named.result is c.named.ensures)
+    ap is_some (kind_there _ _ c.kind_of_command.result is c.kind_of_command.ensures)
 
-pub action_of-requires : goal.action_of-requires
-action_of-requires c =
+pub arguments_of-arguments-requires : goal.arguments_of-arguments-requires
+arguments_of-arguments-requires c =
     let words = texts c.args.words.now in
     let m = c.in_ok-matches.matches in
     let parse = parse_of _ words m c.in_ok-apf_command.ensures.app c.in_ok-matches.ensures.matches c.in_ok-matches.ensures.kinds in
@@ -52,7 +52,7 @@ action_of-requires c =
     let rows = rw c.unwrap.ensures at c.subcommand.ensures.rows in
     let met = sym parse.met ∙ command_met (out-ArgMatches m).subcommand _ _ name rows in
     let is = entered_as (subcommand_of apf_app words) _ _ (command_of words parse.faultless) met in
-    (command_as _ _ c.named.result c.unwrap-command.result is c.named.ensures c.unwrap-command.ensures).1
+    (kind_as _ _ c.kind_of_command.result c.unwrap-kind.result is c.kind_of_command.ensures c.unwrap-kind.ensures).1
 
 pub returns-clause-read : goal.returns-clause-read
 returns-clause-read c =
@@ -63,12 +63,17 @@ returns-clause-read c =
     let rows = rw c.unwrap.ensures at c.subcommand.ensures.rows in
     let met = sym parse.met ∙ command_met (out-ArgMatches m).subcommand _ _ name rows in
     let is = entered_as (subcommand_of apf_app words) _ _ (command_of words parse.faultless) met in
-    let same = (command_as _ _ c.named.result c.unwrap-command.result is c.named.ensures c.unwrap-command.ensures).0 in
-    let asks : AsksFor c.unwrap.result.0.now (rows_of (found_of c.unwrap.result.1.now)) c.action_of.result =
-    subst (λ (n : Text). AsksFor n (rows_of (found_of c.unwrap.result.1.now)) c.action_of.result) (sym same) c.action_of.ensures in
-    let AsksOf : Action → Type 0 = λ action. AsksFor c.unwrap.result.0.now (rows_of (found_of c.unwrap.result.1.now)) action in
+    let kind = (kind_as _ _ c.kind_of_command.result c.unwrap-kind.result is c.kind_of_command.ensures c.unwrap-kind.ensures).0 in
+    let action : Action = record { command = c.unwrap.result.0; arguments = c.arguments_of-arguments.result } in
+    let asks : AsksFor c.unwrap.result.0.now (rows_of (found_of c.unwrap.result.1.now)) action = record {
+      named = refl;
+      kind = kind ∙ ap (λ k. Some k) (sym c.arguments_of-arguments.ensures.kind);
+      arguments = c.arguments_of-arguments.ensures.read;
+    } in
+    let AsksOf : Action → Type 0 = λ a. AsksFor c.unwrap.result.0.now (rows_of (found_of c.unwrap.result.1.now)) a in
+    let IsNamed : Action → Type 0 = λ a. HasLevelName a.arguments in
     IfOk-weaker c.judged.result _ _
-    (λ a h. (c.unwrap.result.0.now, (rows_of (found_of c.unwrap.result.1.now), met, subst AsksOf (sym h.0) asks, subst HasLevelName (sym h.0) h.1)))
+    (λ a h. (c.unwrap.result.0.now, (rows_of (found_of c.unwrap.result.1.now), met, subst AsksOf (sym h.0) asks, subst IsNamed (sym h.0) h.1)))
     c.judged.ensures.ok
 
 pub returns-clause-ranges : goal.returns-clause-ranges
@@ -80,11 +85,15 @@ returns-clause-ranges c =
     let rows = rw c.unwrap.ensures at c.subcommand.ensures.rows in
     let met = sym parse.met ∙ command_met (out-ArgMatches m).subcommand _ _ name rows in
     let is = entered_as (subcommand_of apf_app words) _ _ (command_of words parse.faultless) met in
-    let same = (command_as _ _ c.named.result c.unwrap-command.result is c.named.ensures c.unwrap-command.ensures).0 in
-    let asks : AsksFor c.unwrap.result.0.now (rows_of (found_of c.unwrap.result.1.now)) c.action_of.result =
-    subst (λ (n : Text). AsksFor n (rows_of (found_of c.unwrap.result.1.now)) c.action_of.result) (sym same) c.action_of.ensures in
+    let kind = (kind_as _ _ c.kind_of_command.result c.unwrap-kind.result is c.kind_of_command.ensures c.unwrap-kind.ensures).0 in
+    let action : Action = record { command = c.unwrap.result.0; arguments = c.arguments_of-arguments.result } in
+    let asks : AsksFor c.unwrap.result.0.now (rows_of (found_of c.unwrap.result.1.now)) action = record {
+      named = refl;
+      kind = kind ∙ ap (λ k. Some k) (sym c.arguments_of-arguments.ensures.kind);
+      arguments = c.arguments_of-arguments.ensures.read;
+    } in
     IfOk-weaker c.judged.result _ _
-    (λ a h. subst IsInRange (sym h.0) (in_range c.unwrap.result.0.now (rows_of (found_of c.unwrap.result.1.now)) c.action_of.result asks h.1)) c.judged.ensures.ok
+    (λ a h. subst IsInRange (sym h.0) (in_range c.unwrap.result.0.now (rows_of (found_of c.unwrap.result.1.now)) action asks h.1)) c.judged.ensures.ok
 
 pub returns-clause-refused : goal.returns-clause-refused
 returns-clause-refused c =
@@ -95,12 +104,16 @@ returns-clause-refused c =
     let rows = rw c.unwrap.ensures at c.subcommand.ensures.rows in
     let met = sym parse.met ∙ command_met (out-ArgMatches m).subcommand _ _ name rows in
     let is = entered_as (subcommand_of apf_app words) _ _ (command_of words parse.faultless) met in
-    let same = (command_as _ _ c.named.result c.unwrap-command.result is c.named.ensures c.unwrap-command.ensures).0 in
-    let asks : AsksFor c.unwrap.result.0.now (rows_of (found_of c.unwrap.result.1.now)) c.action_of.result =
-    subst (λ (n : Text). AsksFor n (rows_of (found_of c.unwrap.result.1.now)) c.action_of.result) (sym same) c.action_of.ensures in
+    let kind = (kind_as _ _ c.kind_of_command.result c.unwrap-kind.result is c.kind_of_command.ensures c.unwrap-kind.ensures).0 in
+    let action : Action = record { command = c.unwrap.result.0; arguments = c.arguments_of-arguments.result } in
+    let asks : AsksFor c.unwrap.result.0.now (rows_of (found_of c.unwrap.result.1.now)) action = record {
+      named = refl;
+      kind = kind ∙ ap (λ k. Some k) (sym c.arguments_of-arguments.ensures.kind);
+      arguments = c.arguments_of-arguments.ensures.read;
+    } in
     let n : Text = c.unwrap.result.0.now in
     let rs = rows_of (found_of c.unwrap.result.1.now) in
     let whole : words_fault words ≡ name_fault (Some (n, rs)) = then_kinds (fault_of apf_app words) (name_fault (subcommand_of apf_app words)) parse.faultless ∙ ap name_fault met in
-    judged_fails (words_fault words) c.action_of.result c.judged.result
-    (λ named. whole ∙ no_name_fault n rs c.action_of.result asks named) (λ named. whole ∙ has_name_fault n rs c.action_of.result asks named)
+    judged_fails (words_fault words) action c.judged.result
+    (λ named. whole ∙ no_name_fault n rs action asks named) (λ named. whole ∙ has_name_fault n rs action asks named)
     c.judged.ensures.ok c.judged.ensures.err

@@ -1,0 +1,235 @@
+//! The commands on traces and on audit logs: their names, what they do, and what `--help` says below their arguments.
+
+ghost use Rattle.std.specs.Prelude.{◌≡◌, map};
+ghost use Rattle.apf_commands.specs.Commands.{trace_commands, listed};
+
+use crate::entries::{Entry, Kind};
+
+static ENTRIES: [Entry; 8] = [
+    Entry {
+        name: "simulate",
+        about: "Simulate requests with times and print each flow's waits and the book",
+        help: "\
+Requests arrive at their times, run for their times and give their seats back, on the level of
+CONFIG alone. This is a simulation of that level by this project's rules, and not kube-apiserver:
+no clock runs, a dispatch is charged a number that is known before, and no level borrows or lends.
+
+CONFIG is that of apf replay; apf replay --help says what it holds.
+TRACE is JSON Lines: one JSON object a line, each line ended by LF, in any order of time. At most
+10000 lines of at most 65536 bytes. Its requests are numbered from 0. Times are whole microseconds
+from the trace's beginning:
+  arrivesAt         when the request arrives, 0 to 1000000000000; must be there
+  runsFor           how long it holds its seats, 0 to 10000000000; must be there
+  hash              the flow, 0 to 18446744073709551615; or else both of
+  schema, distinguisher  two texts, of which the hash is made
+  width             seats that the request takes, 1 to 20000; 1 if absent
+  cost              what a dispatch is charged, 1 to 20000; the width if absent
+PATIENCE is a whole number with s, ms or us behind it, or a plain number of microseconds: at most
+1000s. A request that waits so long after its arrival gives up. With 0 nobody gives up. An API
+server lets a request wait for a quarter of its time-out, by default 15s.
+
+Prints a line for each flow, in the order of their first requests, a line of the whole, and the
+book of apf replay:
+  flow H requests N executed E rejected J cancelled X seat-time T wait median A p99 B longest C of
+    SCHEMA DISTINGUISHER, on one line
+  end T seat-time U of V waited W patience P
+  flow H       the flow's hash, in hexadecimal digits
+  seat-time T  the sum of width times runsFor of the flow's executed requests; U is that of all
+  wait         microseconds that its executed requests waited: median, 99th percentile, longest
+  of SCHEMA DISTINGUISHER  as JSON texts; nothing where the flow's first request gives the hash
+  end T        when the last thing was done, in microseconds
+  of V         the level's limit times the end
+  waited W     microseconds that all requests waited, those that gave up too
+  patience P   PATIENCE in microseconds
+
+Example:
+  $ cat config.json trace.jsonl
+  {\"limit\":1}
+  {\"hash\":0,\"arrivesAt\":0,\"runsFor\":100}
+  {\"hash\":0,\"arrivesAt\":40,\"runsFor\":100}
+  $ apf simulate config.json trace.jsonl 15s
+  flow 0000000000000000 requests 2 executed 2 rejected 0 cancelled 0 seat-time 200 wait median 0 p99 60 longest 60
+  end 200 seat-time 200 of 200 waited 60 patience 15000000
+  level open seats 0 waiting 0
+  executed 2 rejected 0 cancelled 0 undecided 0
+  queue-full 0 closed 0 concurrency-limit 0
+  entered 1 dispatched 1 struck 0
+
+Status: 0 done, 1 a file's fault or output that can't be written, 2 a command line's fault,
+3 no memory.",
+        kind: Kind::Simulation,
+    },
+    Entry {
+        name: "timeline",
+        about: "Simulate requests with times and print the script of the simulation",
+        help: "\
+Prints the script of what apf simulate does, for apf replay: one line for each arrival, end and
+request that gives up, in the order of their times in microseconds. Of one time come first the ends,
+then those who give up, then the arrivals, each by the requests' numbers. The script has no times.
+
+It simulates this level by this project's rules, and not kube-apiserver. TRACE is JSON Lines, and
+PATIENCE is as 15s or in microseconds; apf simulate --help says what they and CONFIG hold.
+
+Example, and the same run by apf replay:
+  apf timeline config.json trace.jsonl 15s >script.txt
+  apf requests trace.jsonl >requests.json
+  apf replay config.json requests.json script.txt
+
+Status: 0 done, 1 a file's fault or output that can't be written, 2 a command line's fault,
+3 no memory.",
+        kind: Kind::Simulation,
+    },
+    Entry {
+        name: "compare",
+        about: "Simulate requests with times on two levels and print both, flow by flow",
+        help: "\
+Simulates the trace on the level of CONFIG, and on that of OTHER. Prints a line of names, a line
+for each flow, and a line of the whole. First come the flows whose longest wait changes most. Each
+number but the first stands twice: on the one level, and on the other.
+  flow        the flow's hash, in hexadecimal digits; whole for all requests
+  requests    how many it has
+  median, p99, longest  of the waits of its executed requests, in microseconds; p99 is the 99th
+              percentile
+  rejected    requests that were rejected
+  cancelled   requests that gave up
+  schema, distinguisher  as JSON texts; nothing where the flow's first request gives the hash
+
+It simulates these levels by this project's rules, and not kube-apiserver. TRACE is JSON Lines, and
+PATIENCE is as 15s or in microseconds; apf simulate --help says what they and CONFIG hold.
+
+Example, and what happens to the longest waits:
+  apf compare config.json other.json trace.jsonl 15s | column -t
+  apf compare config.json other.json trace.jsonl 15s | awk '{ print $7, $8, $NF }'
+
+Status: 0 done, 1 a file's fault or output that can't be written, 2 a command line's fault,
+3 no memory.",
+        kind: Kind::Comparison,
+    },
+    Entry {
+        name: "fates",
+        about: "Simulate requests with times and print what became of each request",
+        help: "\
+Prints what became of each request in the run that apf simulate makes: a line of names, and a line
+for each request, in the order of their arrivals. Times are microseconds.
+  request   its number, from 0
+  flow      its flow's hash, in hexadecimal digits
+  arrival   when it arrived
+  queue     the number of the queue that it entered, or -
+  start     when it took its seats, or -
+  end       when it finished, gave up or was rejected
+  decision  execute, queue-full, concurrency-limit, or cancelled if it gave up
+  schema, distinguisher  as JSON texts; nothing where its line of the trace gives the hash
+
+It simulates this level by this project's rules, and not kube-apiserver. TRACE is JSON Lines, and
+PATIENCE is as 15s or in microseconds; apf simulate --help says what they and CONFIG hold.
+
+Example, and who waited for more than a second:
+  apf fates config.json trace.jsonl 15s | column -t
+  apf fates config.json trace.jsonl 15s | awk '$5 - $3 > 1000000'
+
+Status: 0 done, 1 a file's fault or output that can't be written, 2 a command line's fault,
+3 no memory.",
+        kind: Kind::Simulation,
+    },
+    Entry {
+        name: "requests",
+        about: "Print the requests file of a trace",
+        help: "\
+Prints the requests file of a trace, for apf replay: its flows and widths, one request a line in the
+order of their numbers. The times, which a trace has in microseconds, are left out, and so are the
+costs. TRACE is JSON Lines; apf simulate --help says what it holds.
+
+Example: with the script of apf timeline, apf replay makes the run that apf simulate makes. Both
+simulate this level by this project's rules, and not kube-apiserver.
+  apf requests trace.jsonl >requests.json
+
+Status: 0 done, 1 a file's fault or output that can't be written, 2 a command line's fault,
+3 no memory.",
+        kind: Kind::Trace,
+    },
+    Entry {
+        name: "picture",
+        about: "Simulate requests with times and draw the run as an SVG",
+        help: "\
+Draws the run that apf simulate makes, as one SVG with no script and no other file: the seats in use
+by flow against the limit, the queues that were used by their length, each request's wait as a bar
+in the row of its flow, and marks where a request was rejected or gave up. At most twelve flows have
+a row of their own, those with most requests. Times are microseconds in the files.
+
+It simulates this level by this project's rules, and not kube-apiserver. TRACE is JSON Lines, and
+PATIENCE is as 15s or in microseconds; apf simulate --help says what they and CONFIG hold.
+
+Example:
+  apf picture config.json trace.jsonl 15s >picture.svg
+
+Status: 0 done, 1 a file's fault or output that can't be written, 2 a command line's fault,
+3 no memory.",
+        kind: Kind::Simulation,
+    },
+    Entry {
+        name: "hands",
+        about: "Print the hand of queues of each flow of a trace, and who shares them",
+        help: "\
+Prints the hand of queues of each flow of a trace, in the order of their first requests, and below
+it who shares its queues:
+  flow H hand Q1 Q2 .. of SCHEMA DISTINGUISHER
+    shares Q with N flows
+    covered by H ..
+    covered by N more
+  H           a flow's hash, in hexadecimal digits
+  Q           the number of a queue, from 0, in the order dealt
+  shares      how many other flows hold the queue
+  covered by  the flows whose hand alone holds all of its queues: the first ten, and how many more
+With --flow NAME the hand of each flow of this distinguisher alone, and below it each other flow
+that shares a queue with it, and all that cover it:
+  flow H hand Q1 Q2 .. of SCHEMA DISTINGUISHER
+    shares Q .. with H SCHEMA DISTINGUISHER
+    covered by H ..
+The hands are those of this level by this project's rules, and not kube-apiserver's. The times of
+the trace, in microseconds, change nothing. A level that rejects deals no queues.
+
+TRACE is JSON Lines; apf simulate --help says what it and CONFIG hold.
+
+Examples:
+  apf hands config.json trace.jsonl
+  apf hands config.json trace.jsonl --flow alice
+
+Status: 0 done, 1 a file's fault or output that can't be written, 2 a command line's fault,
+3 no memory.",
+        kind: Kind::Flows,
+    },
+    Entry {
+        name: "trace",
+        about: "Print the trace of a Kubernetes audit log",
+        help: "\
+Prints the trace of an audit log of a Kubernetes API server, for apf simulate: one line a request,
+in the order of their arrivals. AUDITLOG has one JSON object a line, an audit event. Taken are the
+events of stage ResponseComplete, but for the verb watch and the subresources exec, attach,
+portforward, proxy and log. At most 10000 events are taken: --user, --since and --until choose.
+  schema         SCHEMA, at most 4096 bytes
+  distinguisher  the event's user.username, or impersonatedUser.username where it stands; with --by
+                 namespace objectRef.namespace, empty where there is none
+  arrivesAt      its requestReceivedTimestamp, in microseconds from the earliest of those taken
+  runsFor        from there to its stageTimestamp, less the annotation
+                 apiserver.latency.k8s.io/apf-queue-wait where it stands; of a request that was
+                 turned away with status 429 the median of those of its flow that ran, or of all
+--since INSTANT takes those received at INSTANT or later, --until INSTANT those received before it.
+
+Examples, from a log to a picture, and one hour of what the service accounts asked for:
+  apf trace audit.log users >trace.jsonl
+  apf picture config.json trace.jsonl 15s >picture.svg
+  apf trace audit.log users --user 'system:serviceaccount:*' \\
+    --since 2026-07-01T10:00:00Z --until 2026-07-01T11:00:00Z
+
+Status: 0 done, 1 a file's fault or output that can't be written, 2 a command line's fault or a
+SCHEMA that is too long, 3 no memory.",
+        kind: Kind::AuditLog,
+    },
+];
+
+/// The commands, in the order in which help has them.
+pub(crate) fn entries() -> &'static [Entry]
+    ensures { map listed result.now ≡ trace_commands }
+{
+    &ENTRIES
+}

@@ -170,6 +170,17 @@ def check_examples():
     for name, command, contents, patience, text in worked.worked():
         if command.__name__ in ("fates", "compare", "hands"):
             tally.check(name, printed(command.__name__, contents, *patience), (0, text.encode(), b""))
+    # one flow by its distinguisher, with each other one that shares a queue of its hand
+    _, config, content, _ = next(it for it in worked.WORKED if it[0] == "hands that share")
+    alice = (
+        'flow f7c495a40a0feec0 hand 0 3 of "users" "alice"\n'
+        '  shares 3 with b2cfa8521298df5f "batch" "crawler"\n'
+        "  shares 3 with 0000000000000007\n"
+        "  shares 0 3 with ffffffffffffffff\n"
+        "  covered by ffffffffffffffff\n"
+    )
+    for flow, text in (("alice", alice), ("users", ""), ("", "")):
+        tally.check(f"hands of {flow!r}, by hand", printed("hands", [config.encode(), content.encode()], f"--flow={flow}"), (0, text.encode(), b""))
 
 
 def check_patience(command, levels):

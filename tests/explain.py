@@ -170,6 +170,79 @@ ROWS = [
     (2, b"limit 0\n", "script.txt:1: the limit is 0: it must be from 1 to 10000", "script fault 6 at line 1: bad limit"),
     (2, b"close\n" * 100_001, "script.txt:100001: there are more than 100000 lines", "script fault 1 at line 100001: too many lines"),
 ]
+
+# a limit of each kind, as it is shown
+LIMITS = [("false", "false"), ("18446744073709551616", "1.8446744073709552e+19"), ('""', '""'), ('"a \\"b\\" \\\\ \\u0000 \u00e9"', '"a \\"b\\" \\\\ \\0 \u00e9"')]
+LIMITS += [('"\\u202e\\u007f"', '"\\u{202e}\\u{7f}"'), ("[]", "an array"), ("{}", "an object"), ("0.5", "0.5")]
+for value, shown in LIMITS:
+    ROWS.append((0, f'{{"limit":{value}}}'.encode(), f"config.json: limit is {shown}: it must be a whole number from 1 to 10000", "config fault 5: bad value of limit"))
+# of several unknown keys the first one by their bytes; one of 64 bytes
+for text, key in (('{"limit":1,"z":1,"Queues":1,"a":1}', "Queues"), ('{"a\\nb\\u001b":1}', "a\\nb\\u{1b}"), (f'{{"{64 * "k"}":1}}', 64 * "k")):
+    ROWS.append((0, text.encode(), f'config.json: the key "{key}" is unknown: {UNKNOWN}', "config fault 3: unknown key"))
+# the first one in the order of the keys, and the last value of a repeated key
+for text, key, said in (
+    ('{"limit":1,"queues":1025,"handSize":0}', "queues", "1025: it must be a whole number from 1 to 1024"),
+    ('{"limit":1,"queueLengthLimit":10001}', "queueLengthLimit", "10001: it must be a whole number from 1 to 10000"),
+    ('{"limit":0,"limit":11000}', "limit", "11000: it must be a whole number from 1 to 10000"),
+    ('{"limit":1,"limitResponse":"queue"}', "limitResponse", '"queue": it must be "Queue" or "Reject"'),
+):
+    ROWS.append((0, text.encode(), f"config.json: {key} is {said}", f"config fault 5: bad value of {key}"))
+# where a text stops to be JSON: columns count bytes, and at the end the column is the length of the last line
+for place, text, line, column, why in (
+    (0, "x", 1, 1, ""),
+    (0, '{\n  "limit": 1.\n}', 2, 12, ""),
+    (0, '{"limit":1} // seats', 1, 13, ""),
+    (0, '"\u00e9\u00e9" 1', 1, 8, ""),
+    (0, '{"limit":1e400000000000000000000}', 1, 33, ": the number here is too large"),
+    (1, "", 1, 0, ": the text ends too early"),
+    (1, '[{"hash":0},', 1, 12, ": the text ends too early"),
+    (1, "[\n", 2, 0, ": the text ends too early"),
+    (1, '[{"ha', 1, 3, ": the text ends too early"),
+):
+    ROWS.append((place, text.encode(), f"{NAMES[place]}:{line}:{column}: this is not JSON{why}", f"{NAMES[place][:-5]} fault 1: not JSON"))
+ROWS += [
+    (0, b'{\n"\xff":1}', "config.json:2:2: this is not JSON: the bytes here are not UTF-8", "config fault 1: not JSON"),
+    (0, b"\xfe\xff\0{\0}", "config.json:1:1: this is not JSON: the bytes begin as UTF-16 does: they must be UTF-8", "config fault 1: not JSON"),
+    (0, b"7", "config.json: a config is a JSON object, but this is 7", "config fault 2: not an object"),
+    (0, b'{"queues":0}', "config.json: the key limit is missing: it must be a whole number from 1 to 10000", "config fault 4: limit missing"),
+]
+# the second request of three has the fault that is named
+for text, said, fault in (
+    ("null", "a request is a JSON object, but this is null", "4 at 1: not an object"),
+    ('{"hash":0,"Width":1}', f'the key "Width" is unknown: {STRANGE}', "5 at 1: unknown key"),
+    ('{"hash":0,"width":0,"work":-1}', "width is 0: it must be a whole number from 1 to 20000", "7 at 1: bad width"),
+    ('{"hash":0,"width":20001}', "width is 20001: it must be a whole number from 1 to 20000", "7 at 1: bad width"),
+    ('{"hash":0,"cancels":3}', "cancels is 3: it must be the number of a request, 0 to 2", "9 at 1: bad cancels"),
+    ('{"hash":0,"cancels":null}', "cancels is null: it must be the number of a request, 0 to 2", "9 at 1: bad cancels"),
+    ('{"hash":0,"closes":"yes"}', 'closes is "yes": it must be true or false', "10 at 1: bad closes"),
+    ('{"hash":0,"schema":0}', f"hash stands beside schema: {FLOW}", "6 at 1: bad flow"),
+    ('{"hash":"0"}', 'hash is "0": it must be a whole number from 0 to 18446744073709551615', "6 at 1: bad flow"),
+    ('{"distinguisher":0}', f"distinguisher stands without schema: {FLOW}", "6 at 1: bad flow"),
+    ('{"schema":1,"distinguisher":2}', "schema is 1: it must be a text", "6 at 1: bad flow"),
+):
+    ROWS.append((1, f'[{{"hash":0}},{text},{{"width":0}}]'.encode(), f"requests.json: request 1: {said}", f"requests fault {fault}"))
+# the third line of a script has the fault; one of 64 bytes is shown
+for line, shown in (
+    (b"arrive 00", '"arrive 00" is no command'),
+    (b"finish 100000", '"finish 100000" is no command'),
+    (b"shut\tdown", '"shut\\tdown" is no command'),
+    (b"\x1b[2J", '"\\u{1b}[2J" is no command'),
+    (64 * b"x", f'"{64 * "x"}" is no command'),
+    (65 * b"x", "the line is no command"),
+    (b"\xff", "the line is no command"),
+):
+    ROWS.append((2, b"arrive 0\nfinish 0\n" + line + b"\nx\n", f"script.txt:3: {shown}: {FORMS}", "script fault 3 at line 3: bad line"))
+for text, line, said, fault in (
+    (b"close\r\n", 1, "the line ends with CR: a line ends with LF alone", "3 at line 1: bad line"),
+    (b"close\nclose", 2, "the last line has no LF at its end", "2 at line 2: truncated"),
+    (b"close\n\nclose", 2, f"the line is empty: {FORMS}", "3 at line 2: bad line"),
+    (b"arrive 1\narrive 7\n", 2, "there is no request 7: the requests are 0 to 1", "4 at line 2: unknown request"),
+    (b"cancel 99999\n", 1, "there is no request 99999: the requests are 0 to 1", "4 at line 1: unknown request"),
+    (b"limit 10000\nlimit 10001\n", 2, "the limit is 10001: it must be from 1 to 10000", "6 at line 2: bad limit"),
+    (100_000 * b"close\n" + b"x", 100_001, "there are more than 100000 lines", "1 at line 100001: too many lines"),
+):
+    ROWS.append((2, text, f"script.txt:{line}: {said}", f"script fault {fault}"))
+
 for place, content, line, fault in ROWS:
     contents = with_file(place, content)
     want = (1, f"{line}\n".encode(), f"apf: {fault}\n".encode())
@@ -186,6 +259,7 @@ for count, known in ((0, "there are no requests"), (1, "the only request is 0"))
 for name, contents in (
     ("good files", WHOLE),
     ("the least files", [b'{"limit":1}', b"[]", b""]),
+    ("the most lines", [CONFIG, REQUESTS, 100_000 * b"close\n"]),
     ("a level that rejects has no dealer", [b'{"limit":1,"queues":3,"limitResponse":"Reject"}', b"[]", b""]),
     ("a bad config before bad requests", [b'{"limit":0}', b"{}", b"x"]),
     ("bad requests before a bad script", [CONFIG, b"{}", b"x"]),

@@ -65,6 +65,7 @@ for place, content, line in [
     (0, b'{"limit":1,"handSize":16}', "config fault 5: bad value of handSize"),
     (0, b'{"limit":1,"queueLengthLimit":0}', "config fault 5: bad value of queueLengthLimit"),
     (0, b'{"limit":1,"queueLengthLimit":10001}', "config fault 5: bad value of queueLengthLimit"),
+    (0, b'{"limit":1,"queueLengthLimit":1.0}', "config fault 5: bad value of queueLengthLimit"),
     (0, b'{"limit":1,"limitResponse":"reject"}', "config fault 5: bad value of limitResponse"),
     (0, b'{"limit":1,"limitResponse":1}', "config fault 5: bad value of limitResponse"),
     (0, b'{"limit":1,"queues":3}', "dealer fault 2: hand too large"),
@@ -90,6 +91,9 @@ for place, content, line in [
     (1, b'[{"hash":0,"cancels":1,"closes":1}]', "requests fault 9 at 0: bad cancels"),
     (1, b'[{"hash":0,"cancels":null}]', "requests fault 9 at 0: bad cancels"),
     (1, b'[{"hash":0,"closes":1}]', "requests fault 10 at 0: bad closes"),
+    (1, b'[{"hash":0,"closes":1},2]', "requests fault 10 at 0: bad closes"),
+    (1, b'[{"hash":0,"work":1000001}]', "requests fault 8 at 0: bad work"),
+    (1, b'[{"hash":0,"cancels":1}]', "requests fault 9 at 0: bad cancels"),
     (2, b"close", "script fault 2 at line 1: truncated"),
     (2, b"arrive 0\nfinish", "script fault 2 at line 2: truncated"),
     (2, b"\n", "script fault 3 at line 1: bad line"),
@@ -99,6 +103,7 @@ for place, content, line in [
     (2, b" arrive 0\n", "script fault 3 at line 1: bad line"),
     (2, b"arrive 00\n", "script fault 3 at line 1: bad line"),
     (2, b"arrive 100000\n", "script fault 3 at line 1: bad line"),
+    (2, b"limit 100000\n", "script fault 3 at line 1: bad line"),
     (2, b"arrive +1\n", "script fault 3 at line 1: bad line"),
     (2, b"arrive\n", "script fault 3 at line 1: bad line"),
     (2, b"close 1\n", "script fault 3 at line 1: bad line"),
@@ -106,10 +111,13 @@ for place, content, line in [
     (2, b"\xff\n", "script fault 3 at line 1: bad line"),
     (2, b"arrive 0\nshut\narrive 9\n", "script fault 3 at line 2: bad line"),
     (2, b"arrive 2\n", "script fault 4 at line 1: unknown request"),
+    (2, b"finish 2\n", "script fault 4 at line 1: unknown request"),
     (2, b"arrive 99999\nlimit 0\n", "script fault 4 at line 1: unknown request"),
     (2, b"close\ncancel 2\n", "script fault 4 at line 2: unknown request"),
     (2, b"limit 0\narrive 9\n", "script fault 6 at line 1: bad limit"),
     (2, b"limit 10001\n", "script fault 6 at line 1: bad limit"),
+    # a config that is cut
+    *((0, b'{"limit":1}'[:count], "config fault 1: not JSON") for count in range(1, 11)),
 ]:
     contents = with_file(place, content)
     tally.check(repr(content), replay(contents), (1, b"", f"apf: {line}\n".encode()))

@@ -208,6 +208,154 @@ def check_sizes():
     tally.check(f"the picture of 1,000 requests: {size} bytes", size < 300_000, True)
 
 
+# rows by hand: a level, a trace, a patience, and how often each of some parts stands in the picture
+
+ROOM = b'{"limit":100,"queues":2,"handSize":1}'
+
+
+def named(*flows, runs=10):
+    """A request of each flow, all at once."""
+    return b"".join(json.dumps({"schema": schema, "distinguisher": name, "arrivesAt": 0, "runsFor": runs}).encode() + b"\n" for schema, name in flows)
+
+
+def hashed(*requests):
+    """Requests: the hash, the two times and the width of each."""
+    return b"".join(b'{"hash":%d,"arrivesAt":%d,"runsFor":%d,"width":%d}\n' % it for it in requests)
+
+
+# A crawler sends six requests at once: two execute, two wait in queue 1 and give up after 90, and two are rejected. Three requests of another flow
+# execute, after waits of 50, 60 and 0 in queue 0. A column is 420 / 880 of a microsecond. Two seats are in use up to 100, one up to 120, two up to
+# 140, and one from 400 on. Two wait in queue 1 up to 90, and in queue 0 one from 50, two from 60 and one from 100 to 120.
+CRAWLED = hashed(*[(9, 0, 100, 1)] * 6, (4, 50, 20, 1), (4, 60, 20, 2), (4, 400, 20, 1))
+LONG = "system:serviceaccount:kube-system:generic-garbage-collector"
+WIDE = "\u4e00\u4e8c\u4e09\u56db\u4e94\u516d\u4e03\u516b\u4e5d\u5341"
+BY_HAND = [
+    (
+        "a crawler",
+        SMALL,
+        CRAWLED,
+        90,
+        {
+            '<title id="title">9 requests of 2 flows on 2 seats</title>': 1,
+            ">5 executed, 2 rejected, 2 gave up, longest wait 90 &#181;s, 420 &#181;s in all": 2,
+            "limit 2, queues 2, hand size 1, queue length limit 2, patience 90 &#181;s": 2,
+            "s. Seats in use by flow: at most 2. Queues used: 2, at most 2 waiting in one. 0000000000000009, ": 1,
+            "0000000000000004, 3 requests: 3 executed, 0 rejected, 0 gave up, longest wait 60 &#181;s.</desc>": 1,
+            '<path class="f0" d="M0 140H0V10H210V140H880V140z"/>': 1,
+            '<path class="f1" d="M0 140H0V10H210V75H252V10H294V140H839V75H880V140z"/>': 1,
+            '<path class="limit" d="M0 10h880"/>': 1,
+            'stroke-opacity=".48" d="M105 5h21M210 5h42"/>': 1,
+            'stroke-opacity=".96" d="M126 5h84M0 15h189"/>': 1,
+            'text-anchor="end">1</text>': 1,
+            'd="M0 1h1M0 3h1M0 5h188M0 7h188"/>': 1,
+            'd="M104 1h105M125 3h126M838 5h1"/>': 1,
+            '<path class="rejected" d="M0 0v8M0 0v8"/>': 1,
+            '<path class="gave-up" d="M188 0l3 7h-6zM188 0l3 7h-6z"/>': 1,
+        },
+    ),
+    ("nobody", SMALL, b"", 0, {">0 requests of 0 flows on 2 seats</title>": 1, '<path class="line" d="M0 0v230"/>': 1, ">0 queues used": 1}),
+    # A request that is wider than the limit, between two columns: its seats are the most, and have a tick of their own. The number of the limit makes
+    # room for it.
+    (
+        "a peak between columns",
+        SMALL,
+        hashed((0, 5, 1, 3), (1, 5, 1, 1), (1, 99_999, 1, 1)),
+        0,
+        {
+            "by flow, at most 3; the limit is 2<": 1,
+            "in use by flow: at most 3. Queues used: 1, at most 1 waiting": 1,
+            '<path class="peak" d="M-4 10h4"/>\n<text class="small" x="-6" y="14" text-anchor="end">3</text>': 1,
+            'd="M0 54h880"/>\n<text class="small" x="-6" y="58" text-anchor="end">2</text>': 1,
+            'd="M0 140H0V140H880V140z"': 2,
+        },
+    ),
+    # each character that XML gives a meaning, and some that it does not allow
+    (
+        "names that are escaped",
+        ROOM,
+        named(('a "<&>" b', "\0\x1f\ufffe\uffff\x7f\u00e9'\U0001f600")),
+        0,
+        {
+            ">1 request of 1 flow of a &quot;&lt;&amp;&gt;&quot; b on 100 seats</": 2,
+            "y=\"14\">&#65533;&#65533;&#65533;&#65533;\x7f\u00e9'\U0001f600 <tspan": 1,
+        },
+    ),
+    # of a long name the beginning and the end are shown, in seventeen columns each; the description has the whole
+    (
+        "names that are cut",
+        ROOM,
+        named(("s", LONG), ("s", "012345678901234567890123456789012345"), ("s", "")),
+        0,
+        {
+            'y="14">system:serviceac&#8230;garbage-collector <tspan': 1,
+            f". {LONG}, 1 request: ": 1,
+            'y="14">012345678901234567890123456789012345 <tspan': 1,
+            'y="14">&quot;&quot; <tspan': 1,
+        },
+    ),
+    # wide letters take two columns
+    (
+        "names of wide letters",
+        ROOM,
+        named(("s", WIDE + WIDE[:8]), ("s", WIDE + WIDE[:9]), ("s", 18 * "W" + "M")),
+        0,
+        {f'y="14">{WIDE + WIDE[:8]} <tspan': 1, f'y="14">{WIDE[:8]}&#8230;{(WIDE + WIDE[:9])[-8:]} <tspan': 1, 'y="14">WWWWWWWW&#8230;WWWWWWWM <tspan': 1},
+    ),
+    # where not all flows share their schema, it stands in each label and not in the title
+    (
+        "two schemas",
+        ROOM,
+        named(("0123456789abcdef", "alice"), ("b", "0123456789abcdefghijklnopq")),
+        0,
+        {
+            ">2 requests of 2 flows on 100 seats</": 2,
+            'y="14">012345&#8230;abcdef / alice <tspan': 1,
+            'y="14">b / 012345678&#8230;hijklnopq <tspan': 1,
+            " b / 0123456789abcdefghijklnopq, 1 request: ": 1,
+        },
+    ),
+    # the flow that waited longest in sum comes first, though another one has more requests and a longer wait
+    (
+        "the longest waits in sum",
+        b'{"limit":1,"queues":2,"handSize":1}',
+        hashed((3, 0, 5, 1), (2, 0, 1, 1), (2, 0, 1, 1)) + b'{"hash":1,"arrivesAt":0,"runsFor":1,"cost":20000}\n' + hashed((1, 100, 1, 1), (1, 200, 1, 1)),
+        0,
+        {
+            'class="f0" y="5" width="10" height="10" rx="2"/>\n<text x="16" y="14">0000000000000002 <tspan class="note">2 requests: 2 executed, 0 rejected, 0 gave up, longest wait 6 ': 1,
+            '>0000000000000001 <tspan class="note">3 requests: 3 executed, 0 rejected, 0 gave up, longest wait 7 ': 1,
+        },
+    ),
+    # of fourteen flows the last has two requests, and the others one each: so it comes first, and the two before it have no row
+    (
+        "fourteen flows",
+        ROOM,
+        hashed(*((it, 0, 10, 1) for it in (*range(14), 13))),
+        0,
+        {
+            'y="14">000000000000000d <tspan class="note">2 requests: 2 executed, 0 rejected, 0 gave up, longest wait 0 &#181;s<': 1,
+            'y="14">000000000000000a <tspan class="note">1 request: 1 executed': 1,
+            'y="14">2 other flows <tspan class="note">2 requests: 2 executed': 1,
+            '<path class="bars ': 13,
+        },
+    ),
+]
+
+
+def check_by_hand():
+    for name, config, trace, patience, parts in BY_HAND:
+        status, out, err = printed(config, trace, patience)
+        text = out.decode()
+        tally.check(f"{name}: a picture", (status, err), (0, b""))
+        for part, count in parts.items():
+            tally.check(f"{name}: {part}", text.count(part), count)
+        tally.check(f"{name}: as the model has it", (status, out, err), foreseen(config, trace, patience))
+    # a thousand requests of thirty flows, which wait in 64 queues
+    config, trace = b'{"limit":40,"queues":64,"handSize":1}', hashed(*((it % 30, 7 * it, it % 97, 40) for it in range(1_000)))
+    out = printed(config, trace, 0)[1]
+    tally.check(f"a thousand requests: {len(out)} bytes", (out.count(b">18 other flows <tspan"), len(out) < 300_000), (1, True))
+    tally.check("a thousand requests, as the model has them", out, foreseen(config, trace, 0)[1])
+
+
 # the command
 
 
@@ -238,5 +386,6 @@ check_model()
 check_example()
 check_sizes()
 check_drawn()
+check_by_hand()
 check_command()
 tally.end()

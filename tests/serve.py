@@ -339,6 +339,109 @@ want += b"fault %d bad number\nlevel open seats 1 waiting %d\nexecuted 1 rejecte
 want += b"queue-full 0 closed 0 concurrency-limit 0\nentered %d dispatched 0 struck 0\n" % (most - 1)
 tally.check(f"{most} requests at once", serve(content, ONE, "--slots", str(most)), (0, want, b""))
 
+# ---- rows by hand: lines of a level with 100 numbers where nothing else happens, and what is answered, where the line's own number is L
+
+FLOW = "a flow is either hash alone, or both schema and distinguisher"
+KEYS = "an arrival has schema, distinguisher, hash, width and cost"
+HASH, SEATS = "it must be a whole number from 0 to 18446744073709551615", "it must be a whole number from 1 to 20000"
+BY_HAND = [
+    *((it, "fault L bad line") for it in ("", " ", "close ", " close", "Close", "close 1", "closed", "books", "queue", "metrics ", "close\r")),
+    *((it, "fault L bad line") for it in ("finish", "finish ", "finish 099", "finish 1 ", "finish 1 2", "finish  1", "cancel 1x", "cancel -1", "cancel +1", "limit", "limit ", "limit 010", "limit 1.5", "limit 1e3", "finish\t1")),
+    *((it, "fault L bad line") for it in ("arrive", "arrive ", "arrive 0", "arrive 0 ", "arrive 0 x", "arrive 0 []", "arrive 0  {}", "arrive  0 {}", "arrive 00 {}", "arrive 01 {}", "arrive +1 {}", "arrive -1 {}")),
+    *((it, "fault L bad line") for it in ("arrive 0x {}", "tri 0 {}", "arrive 0\t{}", "arrive 100 x", "try 4294967297 []", "arrive {}", "arrive  {}", b"arrive 0 {\xff}")),
+    *((it, "fault L bad number") for it in ("arrive 100 {}", "try 100 {", "finish 100", "cancel 100", "finish 4294967295", "finish 4294967296", "finish 4294967297", "finish 18446744073709551616")),
+    *((it, "fault L bad number") for it in (f"arrive {26 * '9'} {{}}", "finish " + 65_529 * "9")),
+    *((f"limit {it}", "fault L bad limit") for it in ("0", "10001", "4294967296", "4294967297", 20 * "9")),
+    ("x" * 65_536, "fault L bad line"),
+    ("x" * 65_537, "fault L line too long"),
+    ("finish 99", "fault L 99 is not there"),
+    ("cancel 5", "fault L 5 is not there"),
+    # what is wrong with an object
+    ("arrive 0 {}", "fault L the flow is missing: it is either hash alone, or both schema and distinguisher"),
+    ('arrive 0 {"width":0,"cost":0}', "fault L the flow is missing: it is either hash alone, or both schema and distinguisher"),
+    *(
+        (f"arrive 0 {{{it}}}", f"fault L {said}: {FLOW}")
+        for it, said in (
+            ('"hash":1,"schema":"a"', "hash stands beside schema"),
+            ('"hash":1,"distinguisher":"a"', "hash stands beside distinguisher"),
+            ('"hash":1,"schema":"a","distinguisher":"a"', "hash stands beside schema and distinguisher"),
+            ('"schema":"a"', "schema stands without distinguisher"),
+            ('"distinguisher":"a"', "distinguisher stands without schema"),
+        )
+    ),
+    ('arrive 0 {"schema":1,"distinguisher":"a"}', "fault L schema is 1: it must be a text"),
+    ('arrive 0 {"schema":"a","distinguisher":null}', "fault L distinguisher is null: it must be a text"),
+    *((f'arrive 0 {{"hash":{it},"width":0}}', f"fault L hash is {shown}: {HASH}") for it, shown in (('"1"', '"1"'), ("-1", "-1"), ("1.5", "1.5"), ("18446744073709551616", "1.8446744073709552e+19"), ("[1]", "an array"))),
+    *((f'arrive 0 {{"hash":1,"width":{it},"cost":0}}', f"fault L width is {it}: {SEATS}") for it in ("0", "20001", '"x"', "null", "1.0")),
+    *((f'arrive 0 {{"hash":1,"cost":{it}}}', f"fault L cost is {shown}: {SEATS}") for it, shown in (("0", "0"), ("20001", "20001"), ("[1]", "an array"), ("{}", "an object"), ("true", "true"))),
+    # the first unknown key by its bytes; one of 64 bytes, and one of 65
+    ('arrive 0 {"zz":1,"aa":2,"hash":"x","width":0}', f'fault L the key "aa" is unknown: {KEYS}'),
+    *((f'arrive 0 {{"hash":1,"{it}":1}}', f'fault L the key "{it}" is unknown: {KEYS}') for it in ("work", "arrivesAt", "", 64 * "k")),
+    (f'arrive 0 {{"{65 * "k"}":1}}', f"fault L a key of 65 bytes is unknown: {KEYS}"),
+    *(
+        (f"arrive 0 {it}", f"fault L this is not JSON at column {said}")
+        for it, said in (
+            ("{", "1: the text ends too early"),
+            ('{"hash":1,}', "11"),
+            ('{"hash":1}x', "11"),
+            ('{"hash":01}', "9"),
+            ('{"hash":1} {}', "12"),
+            ('{"hash":1e999}', "14: the number here is too large"),
+            ('{"hash":"\\x"}', "9"),
+            ('{"hash":1,"width":20000', "23: the text ends too early"),
+            (128 * '{"a":', "637: more than 127 arrays and objects stand in one another"),
+        )
+    ),
+    # arrivals, and what is asked: the width shows in the seats that a queue was given
+    ('arrive 0 {"hash": 1}', "arrive 0 execute"),
+    ('arrive 0 {"hash":1}', "fault L 0 is there"),
+    ('try 0 {"hash":1', "fault L 0 is there"),
+    ("finish 0", "finish 0"),
+    ('try 99 {"hash":0}', "try 99 execute"),
+    ("cancel 99", "cancel 99 execute"),
+    ("finish 99", "finish 99"),
+    ('arrive 12 { "hash" :18446744073709551615,"width":20000,"cost":20000 } ', "arrive 12 execute"),
+    ('try 3 {"schema":"global-default","distinguisher":"alice"}', "try 3 busy"),
+    ('arrive 1 {"hash":2,"hash":3,"width":2,"width":7}\r', "arrive 1 queued 0"),
+    ('arrive 2 {"cost":3,"hash":1,"width":7}', "arrive 2 queued 0"),
+    (f'arrive 4 {{"hash":1,"width":5}}{(65_536 - 31) * " "}', "arrive 4 queued 0"),
+    ("limit 10000", "limit 10000 was 1"),
+    ("limit 1", "limit 1 was 10000"),
+    ("queues", "queue 0 waiting 3 entered 3 service 0\nend"),
+    # each is alone, being wider than the limit
+    ("finish 12", "finish 12\ndispatch 1 queue 0"),
+    ("queues", "queue 0 waiting 2 entered 3 service 7\nend"),
+    ("finish 1", "finish 1\ndispatch 2 queue 0"),
+    ("queues", "queue 0 waiting 1 entered 3 service 14\nend"),
+    ("finish 2", "finish 2\ndispatch 4 queue 0"),
+    ("queues", "queue 0 waiting 0 entered 3 service 19\nend"),
+    ("close", "close first"),
+    ("close", "close already"),
+    ('arrive 5 {"hash":1}', "arrive 5 closed"),
+    ("book", "level closed seats 5 waiting 0\nexecuted 6 rejected 1 cancelled 0 undecided 0\nqueue-full 0 closed 1 concurrency-limit 0\nentered 3 dispatched 3 struck 0"),
+]
+content = as_bytes(it.encode() if isinstance(it, str) else it for it, _ in BY_HAND)
+want = [it.replace("fault L ", f"fault {number} ") for number, (_, it) in enumerate(BY_HAND, 1)]
+status, out, err = serve(content, ONE, "--slots", "100")
+told, at = out.decode().split("\n"), 1
+for (line, _), it in zip(BY_HAND, want):
+    lines = it.split("\n")
+    tally.check(f"the line {line[:200]!r}", told[at : at + len(lines)], lines)
+    at += len(lines)
+tally.check("the lines by hand", (status, out.decode(), err), (0, "\n".join([told[0], *want, *want[-1].split("\n"), ""]), b""))
+tally.check("the lines by hand, by the model", session(service_of(ONE, 100), content).split("\n")[1:-1], [*"\n".join(want).split("\n"), *want[-1].split("\n")])
+
+# the first line says the level: what a config of its limit alone has, and one of the most; a level that rejects has no queues
+for text, said in (
+    ('{"limit":1}', "1 queues 64 hand 8 length 50 queue"),
+    ('{"limit":1,"queues":8}', "1 queues 8 hand 8 length 50 queue"),
+    ('{"limit":10000,"queues":1024,"handSize":6,"queueLengthLimit":10000}', "10000 queues 1024 hand 6 length 10000 queue"),
+    ('{"limit":10000,"queues":16,"handSize":15,"queueLengthLimit":10000,"limitResponse":"Queue"}', "10000 queues 16 hand 15 length 10000 queue"),
+    ('{"limit":10,"queues":1,"limitResponse":"Reject"}', "10 reject"),
+):
+    done = subprocess.run([program, "serve", file_of(text)], input=b"", capture_output=True, timeout=MOST)
+    tally.check(f"the first line of {text}", (done.returncode, done.stdout.decode().split("\n")[0]), (0, f"serve 1 slots 10000 limit {said}"))
+
 # ---- long lines
 
 

@@ -6,6 +6,7 @@ An audit log has one event a line, as JSON. `trace_of` answers the trace of its 
 import collections
 import datetime
 import json
+import math
 import re
 from fractions import Fraction
 
@@ -103,13 +104,19 @@ def no_constant(word):
     raise ValueError(word)
 
 
+def finite(text):
+    if math.isinf(float(text)):
+        raise ValueError(text)
+    return float(text)
+
+
 def value_of(line):
-    """The JSON value of a line. Python alone takes NaN and the like, a mark of byte order, and halves of a surrogate pair."""
+    """The JSON value of a line. Python alone takes NaN and the like, numbers without an end, a mark of byte order, and halves of a surrogate pair."""
     try:
         text = line.decode("utf-8")
         if text.startswith("\ufeff"):
             raise NotJson
-        value = json.loads(text, parse_constant=no_constant)
+        value = json.loads(text, parse_constant=no_constant, parse_float=finite)
         json.dumps(value, ensure_ascii=False).encode("utf-8")
     except (ValueError, RecursionError):
         raise NotJson from None
@@ -130,7 +137,8 @@ def text_at(value, *path):
 
 def instant(text):
     """The whole microseconds from 1970 on, or None."""
-    found = RFC_3339.fullmatch(text or "")
+    # its two letters may be small
+    found = RFC_3339.fullmatch((text or "").upper())
     if not found:
         return None
     second, fraction, offset = found.groups()

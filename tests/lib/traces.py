@@ -251,6 +251,13 @@ def good_ends():
     ), [{"hash": (1 << 64) - 1, "arrivesAt": 10**12, "runsFor": 10**10, "width": 20_000, "cost": 20_000}]
     yield "a cost that is the width", plain[:-1] + b',"width":7}\n', [{**zero, "width": 7, "cost": 7}]
     yield "a cost beside no width", plain[:-1] + b',"cost":7}\n', [{**zero, "width": 1, "cost": 7}]
+    yield "one flow by its names", b'{"schema":"batch","distinguisher":"crawler","arrivesAt":0,"runsFor":100}\n', [
+        {"schema": "batch", "distinguisher": "crawler", "arrivesAt": 0, "runsFor": 100}
+    ]
+    yield "times in any order", b'{"arrivesAt":60,"runsFor":20,"hash":7,"width":2}\n{"runsFor":1,"hash":7,"arrivesAt":50}\n', [
+        {"hash": 7, "arrivesAt": 60, "runsFor": 20, "width": 2},
+        {"hash": 7, "arrivesAt": 50, "runsFor": 1},
+    ]
     yield "two empty names", b'{"schema":"","distinguisher":"","arrivesAt":1,"runsFor":2}\n', [
         {"schema": "", "distinguisher": "", "arrivesAt": 1, "runsFor": 2}
     ]
@@ -283,6 +290,18 @@ FAULTY_ENDS = [
     (b"{}\n" + b" " * 65_537 + b"\n", BAD_ARRIVAL, 1),
     (b"\n", NOT_JSON, 1),
     (PLAIN + b"\n" + PLAIN, NOT_JSON, 2),
+    (PLAIN + PLAIN[:-1] + b" " * (65_537 - len(PLAIN[:-1])), TOO_LONG, 2),
+    *((it + b"\n", NOT_JSON, 1) for it in (b"\r", b"{", b"{}x", b"{}{}", b"\xff", PLAIN[:-2] + b",}", PLAIN[:-3] + b"01}", b"\xef\xbb\xbf" + PLAIN[:-1])),
+    *((it + b"\n", NOT_JSON, 1) for it in (PLAIN[:-1] + b" // a comment", b'{"schema":"\\ud800"}')),
+    *((it + b"\n", NOT_OBJECT, 1) for it in (b"[]", b"0", b"null", b'"arrivesAt"', b"[{}]")),
+    *((it, UNKNOWN_KEY, 1) for it in (b'{"ArrivesAt":0}\n', b'{"":0}\n', b'{"hash":0,"arrivesAt":-1,"runsFor":0,"closes":true}')),
+    *((b'{"hash":0,"arrivesAt":%s,"runsFor":0}\n' % it, BAD_ARRIVAL, 1) for it in (b"-0", b"1e0", b"null", b"0.5")),
+    (b"{}\n[]\n", BAD_ARRIVAL, 1),
+    (b'{"arrivesAt":0.5}\n', BAD_ARRIVAL, 1),
+    (b'{"arrivesAt":0,"runsFor":null,"width":0}\n', BAD_RUN, 1),
+    (FLOWLESS % b',"hash":"b2cfa8521298df5f"', BAD_FLOW, 1),
+    (FLOWLESS % b',"hash":null', BAD_FLOW, 1),
+    (FLOWLESS % b',"hash":0,"width":4294967297', BAD_WIDTH, 1),
     (b" ", NOT_JSON, 1),
     (b"{", NOT_JSON, 1),
     (b"[" + PLAIN[:-1] + b"]\n", NOT_OBJECT, 1),

@@ -339,6 +339,76 @@ WORKED = [
             ),
         ],
     ),
+    # two flows by their names and two by their hashes, whose hands cover one another in pairs
+    (
+        "hands that share",
+        '{"limit":2,"queues":4,"handSize":2}',
+        ALICE % (0, "") + CRAWLER + "".join('{"hash":%d,"arrivesAt":0,"runsFor":0}\n' % number for number in (7, 7, (1 << 64) - 1)),
+        [
+            (
+                hands,
+                None,
+                'flow f7c495a40a0feec0 hand 0 3 of "users" "alice"\n'
+                "  shares 0 with 1 flows\n"
+                "  shares 3 with 3 flows\n"
+                "  covered by ffffffffffffffff\n"
+                'flow b2cfa8521298df5f hand 3 1 of "batch" "crawler"\n'
+                "  shares 3 with 3 flows\n"
+                "  shares 1 with 1 flows\n"
+                "  covered by 0000000000000007\n"
+                "flow 0000000000000007 hand 3 1\n"
+                "  shares 3 with 3 flows\n"
+                "  shares 1 with 1 flows\n"
+                "  covered by b2cfa8521298df5f\n"
+                "flow ffffffffffffffff hand 3 0\n"
+                "  shares 3 with 3 flows\n"
+                "  shares 0 with 1 flows\n"
+                "  covered by f7c495a40a0feec0\n",
+            ),
+        ],
+    ),
+    (
+        "a level that rejects deals no hands, and needs no sizes that make a dealer",
+        '{"limit":2,"queues":1,"handSize":2,"limitResponse":"Reject"}',
+        ALICE % (0, "") + '{"hash":7,"arrivesAt":0,"runsFor":0}\n',
+        [(hands, None, 'flow f7c495a40a0feec0 hand of "users" "alice"\nflow 0000000000000007 hand\n')],
+    ),
+    # On one queue each flow covers the others: of more than ten the first ten are named.
+    *(
+        (
+            f"{count} flows on one queue",
+            '{"limit":2,"queues":1,"handSize":1}',
+            "".join('{"hash":%d,"arrivesAt":0,"runsFor":0}\n' % number for number in range(count)),
+            [
+                (
+                    hands,
+                    None,
+                    "".join(
+                        f"flow {number:016x} hand 0\n  shares 0 with {count - 1} flows\n  covered by "
+                        + " ".join([f"{other:016x}" for other in range(count) if other != number][:10])
+                        + ("\n  covered by 2 more\n" if count == 13 else "\n")
+                        for number in range(count)
+                    ),
+                ),
+            ],
+        )
+        for count in (11, 13)
+    ),
+    # characters that JSON escapes, and those that a terminal obeys, each with its neighbours
+    (
+        "names that are escaped",
+        '{"limit":2,"queues":2,"handSize":1,"limitResponse":"Reject"}',
+        '{"schema":"","distinguisher":"a\\"b\\\\c\\n\\r\\t\\b\\f\\u0000\\u001f\\u007f\u00e9/","arrivesAt":0,"runsFor":0,"width":3}\n'
+        '{"schema":"~\x7f\x80\x9f\xa0\u061b\u061c\u061d\u200d\u200e\u200f\u2010\u2029\u202a\u202e\u202f\u2065\u2066\u2069\u206a\U0001f600","distinguisher":"","arrivesAt":0,"runsFor":0}\n',
+        [
+            (
+                requests,
+                None,
+                '[\n{"schema":"","distinguisher":"a\\"b\\\\c\\n\\r\\t\\b\\f\\u0000\\u001f\\u007f\u00e9/","width":3},\n'
+                '{"schema":"~\\u007f\\u0080\\u009f\xa0\u061b\\u061c\u061d\u200d\\u200e\\u200f\u2010\u2029\\u202a\\u202e\u202f\u2065\\u2066\\u2069\u206a\U0001f600","distinguisher":""}\n]\n',
+            ),
+        ],
+    ),
     (
         "the latest, the longest and the widest",
         '{"limit":10000}',

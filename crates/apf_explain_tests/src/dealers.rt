@@ -13,21 +13,10 @@ fn config(queues: u32, hand_size: u32) -> Config {
     }
 }
 
+// The two that no config has: a reader refuses its numbers first.
 #[test]
-fn each_fault(rt: HostRuntime) -> Result<(), Fail> {
+fn faults_of_no_config(rt: HostRuntime) -> Result<(), Fail> {
     for (queues, hand_size, fault, line) in [
-        (
-            3,
-            8,
-            DealerFault::HandTooLarge,
-            "level.json: handSize is 8 and queues is 3: a hand can't have more queues than there are (8 and 64 if absent)\n",
-        ),
-        (
-            64,
-            11,
-            DealerFault::TooMuchEntropy,
-            "level.json: handSize is 11 and queues is 64: queues to the power of handSize must be at most 2 to the power of 60 (8 and 64 if absent)\n",
-        ),
         (
             0,
             1,

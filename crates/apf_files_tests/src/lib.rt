@@ -1,12 +1,11 @@
-//! The tests of `apf_files`, by its public calls alone.
+//! The tests of `apf_files`, by its public calls alone, of what no run of the program shows. What each reader answers, and each
+//! fault with its number and text, is tested by `tests/files.py`, and the settings of a level by `tests/serve.py`.
 //!
 //! They stand in a crate of their own, as a crate with tests is proved twice.
 //!
-//! - `config`, `requests`, `script`: what each reader answers, and its faults with their numbers and texts.
+//! - `requests`, `script`: every key of a request, and every form of a command.
 #![tactic(auto)]
 
-#[cfg(test)]
-mod config;
 #[cfg(test)]
 mod requests;
 #[cfg(test)]

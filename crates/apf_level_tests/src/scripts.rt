@@ -143,10 +143,18 @@ fn follow<K: Naming, R: Wait + Abort>(
             assert_eq!(rt; told, answer, "step {place}");
             assert_eq!(rt; logged, event, "step {place}");
         }
-        Step::Dispatch(count) => assert_eq!(rt; session.level.lock(rt).dispatch(rt), count, "step {place}"),
+        Step::Dispatch(count) => assert_eq!(rt;
+            session.level.lock(rt).dispatch(rt),
+            count,
+            "step {place}"
+        ),
         Step::Strike(request, struck) => {
             assert!(rt; (request as usize) < session.requests.len());
-            assert_eq!(rt; session.level.lock(rt).strike(rt, request), struck, "step {place}");
+            assert_eq!(rt;
+                session.level.lock(rt).strike(rt, request),
+                struck,
+                "step {place}"
+            );
         }
         Step::Read(stats) => {
             assert_eq!(rt; session.stats(rt), stats, "step {place}");

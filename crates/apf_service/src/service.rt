@@ -186,7 +186,11 @@ impl<K: Naming> Service<K> {
         ensures same { (self.new.config ≡ self.old.config) × (self.new.name ≡ self.old.name) × (length self.new.session.slots.items ≡ length self.old.session.slots.items) }
     {
         let room = self.room.as_mut_slice();
-        let copied = self.session.level.lock(rt).copy_events(self.notes.seen, room);
+        let copied = self
+            .session
+            .level
+            .lock(rt)
+            .copy_events(self.notes.seen, room);
         let count = copied.count.min(self.room.len());
         self.notes.seen = copied.from.saturating_add(count as u64);
         follow_all(rt, &mut self.session, &mut self.notes, &self.room[..count]);

@@ -117,7 +117,10 @@ impl<K: Naming> Simulator<K> {
         ensures carried { self.new.diary.carried ≡ self.old.diary.carried }
         ensures operators { self.new.session.operators.items ≡ self.old.session.operators.items }
     {
-        if let Some(Event::Dispatch(request, _) | Event::Strike(request, _)) = self.log.event(place) {
+        if let Some(Event::Dispatch(request, _) | Event::Strike(request, _)) = self
+            .log
+            .event(place)
+        {
             self.read_decision(rt, request);
         }
     }

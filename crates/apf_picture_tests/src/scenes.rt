@@ -1,7 +1,7 @@
 use apf_flows::flows_of;
 use apf_model::{Config, Response};
 use apf_picture::{Outcome, Picture, Scene};
-use apf_traces::{FlowNames, TraceRequest};
+use apf_traces::TraceRequest;
 use apf_words::Decision;
 use std::alloc::Global;
 use std::process::Abort;
@@ -28,23 +28,6 @@ pub(crate) fn request(hash: u64, arrives_at: u64, runs_for: u64) -> TraceRequest
     }
 }
 
-// A request of a flow with these names.
-pub(crate) fn named(
-    alloc: Global,
-    hash: u64,
-    schema: &str,
-    distinguisher: &str,
-) -> Result<TraceRequest, Fail> {
-    let names = FlowNames {
-        schema: String::from_str(alloc, schema)?,
-        distinguisher: String::from_str(alloc, distinguisher)?,
-    };
-    Ok(TraceRequest {
-        names: Some(names),
-        ..request(hash, 0, 10)
-    })
-}
-
 // It executed after so long a wait.
 pub(crate) fn executed(wait: u64, queue: Option<u32>) -> Outcome {
     Outcome {
@@ -52,15 +35,6 @@ pub(crate) fn executed(wait: u64, queue: Option<u32>) -> Outcome {
         wait,
         queue,
     }
-}
-
-// Each request executed at once.
-pub(crate) fn all_executed(alloc: Global, requests: usize) -> Result<Vec<Outcome>, Fail> {
-    let mut outcomes = Vec::new(alloc);
-    for _ in 0..requests {
-        outcomes.push(executed(0, None))?;
-    }
-    Ok(outcomes)
 }
 
 // The picture of a run on a level of two seats.
@@ -100,7 +74,11 @@ pub(crate) fn drawn<R: Abort>(
 
 // How often a part stands in a text.
 pub(crate) fn times(text: &[u8], part: &str) -> usize {
-    text.windows(part.len().max(1))
-        .filter(|window| *window == part.as_bytes())
-        .count()
+    let mut count = 0usize;
+    for window in text.windows(part.len().max(1)) {
+        if window == part.as_bytes() {
+            count = count.saturating_add(1);
+        }
+    }
+    count
 }

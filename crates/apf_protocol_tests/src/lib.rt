@@ -1,22 +1,13 @@
-//! The tests of `apf_protocol`, by its public calls alone.
+//! The tests of `apf_protocol`, by its public calls alone, of what no run of the program shows. Each line, its faults and its
+//! answers are tested by `tests/serve.py`.
 //!
-//! They stand in a crate of their own, as a crate with tests is proved twice. What is expected was computed by the
-//! protocol's model, `tests/lib/serve.py`, or stands in its table.
+//! They stand in a crate of their own, as a crate with tests is proved twice.
 //!
-//! - `lines`: the commands that lines are.
-//! - `forms`: lines of no form, and bad numbers and limits.
-//! - `objects`: what is wrong with an arrival's object.
-//! - `ends`: the longest line, the longest number, and an allocation that is refused.
-//! - `answers`: the line of each answer.
+//! - `ends`: an allocation that is refused.
+//! - `answers`: the largest numbers of an answer and of a fault, and a writer that fails.
 #![tactic(auto)]
 
 #[cfg(test)]
 mod answers;
 #[cfg(test)]
 mod ends;
-#[cfg(test)]
-mod forms;
-#[cfg(test)]
-mod lines;
-#[cfg(test)]
-mod objects;

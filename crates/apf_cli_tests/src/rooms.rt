@@ -1,12 +1,25 @@
 //! Output that has no room at one place or another.
 
 use crate::examples::Memory;
-use crate::traces::{CONFIG, TRACE};
 use apf_cli::act;
 use std::alloc::{AllocError, Global};
 use std::process::Abort;
 use std::sync::Wait;
 use std::thread::Threads;
+
+const CONFIG: &str = "{\"limit\":2,\"queues\":2,\"handSize\":1,\"queueLengthLimit\":2}";
+
+// Six requests of a crawler at once, and three of a user. The crawler is dealt queue 1, the user queue 0.
+const TRACE: &str =
+    "{\"schema\":\"batch\",\"distinguisher\":\"crawler\",\"arrivesAt\":0,\"runsFor\":100}\n\
+    {\"schema\":\"batch\",\"distinguisher\":\"crawler\",\"arrivesAt\":0,\"runsFor\":100}\n\
+    {\"schema\":\"batch\",\"distinguisher\":\"crawler\",\"arrivesAt\":0,\"runsFor\":100}\n\
+    {\"schema\":\"batch\",\"distinguisher\":\"crawler\",\"arrivesAt\":0,\"runsFor\":100}\n\
+    {\"schema\":\"batch\",\"distinguisher\":\"crawler\",\"arrivesAt\":0,\"runsFor\":100}\n\
+    {\"schema\":\"batch\",\"distinguisher\":\"crawler\",\"arrivesAt\":0,\"runsFor\":100}\n\
+    {\"schema\":\"users\",\"distinguisher\":\"alice\",\"arrivesAt\":50,\"runsFor\":20}\n\
+    {\"schema\":\"users\",\"distinguisher\":\"alice\",\"arrivesAt\":60,\"runsFor\":20,\"width\":2}\n\
+    {\"schema\":\"users\",\"distinguisher\":\"alice\",\"arrivesAt\":400,\"runsFor\":20}\n";
 
 // Two events of an audit log.
 const LOG: &str = "{\"stage\":\"ResponseComplete\",\"verb\":\"get\",\"user\":{\"username\":\"b\"},\
@@ -94,4 +107,26 @@ fn an_audit_log_without_room(rt: HostRuntime) -> Result<(), AllocError> {
 fn a_picture_without_room(rt: HostRuntime) -> Result<(), AllocError> {
     let words = ["apf", "picture", "config", "trace", "90"];
     fails_at_places(&rt, files_of(rt.alloc(), ONE), &words, 16)
+}
+
+// With no room for the whole line, the program says that it can't write.
+#[test]
+fn line_without_room(rt: HostRuntime) -> Result<(), AllocError> {
+    let words = ["apf", "explain", "config", "requests", "script"];
+    let mut files = Memory {
+        alloc: rt.alloc(),
+        config: "[]",
+        requests: "",
+        script: "",
+    };
+    let whole = "config: a config is a JSON object, but this is an array\n".len();
+    for room in 0..whole {
+        let mut stderr = Vec::new(rt.alloc());
+        let mut buffer = vec![in rt.alloc(); 0u8; room]?;
+        let mut rest = buffer.as_mut_slice();
+        let answer = act(&rt, rt.alloc(), &words, &mut files, &mut rest, &mut stderr);
+        assert_eq!(&rt; answer, 1, "with room for {room}");
+        assert_eq!(&rt; stderr.as_slice(), b"apf: cannot write\n".as_slice());
+    }
+    Ok(())
 }

@@ -206,43 +206,6 @@ fn reads_options(rt: HostRuntime) -> Result<(), Fail> {
 }
 
 #[test]
-fn refuses_other_options(rt: HostRuntime) {
-    let rows: [(&[&str], ErrorKind); 7] = [
-        (
-            &["apf", "trace", "l", "s", "--since"],
-            ErrorKind::InvalidValue,
-        ),
-        (
-            &["apf", "trace", "l", "s", "--user", "a", "--user", "a"],
-            ErrorKind::ArgumentConflict,
-        ),
-        (
-            &["apf", "trace", "l", "s", "--flow", "a"],
-            ErrorKind::UnknownArgument,
-        ),
-        (
-            &["apf", "trace", "l", "--by", "user"],
-            ErrorKind::MissingRequiredArgument,
-        ),
-        (
-            &["apf", "hands", "c", "t", "--flow"],
-            ErrorKind::InvalidValue,
-        ),
-        (
-            &["apf", "hands", "c", "t", "--user", "a"],
-            ErrorKind::UnknownArgument,
-        ),
-        (
-            &["apf", "simulate", "c", "t", "0", "--flow", "a"],
-            ErrorKind::UnknownArgument,
-        ),
-    ];
-    for (words, kind) in rows {
-        let _ = refused(&rt, rt.alloc(), words, kind);
-    }
-}
-
-#[test]
 fn reads_numbers_at_their_ends(rt: HostRuntime) -> Result<(), Fail> {
     let alloc = rt.alloc();
     assert_eq!(rt;
@@ -314,31 +277,6 @@ fn reads_rounds(rt: HostRuntime) -> Result<(), Fail> {
     Ok(())
 }
 
-#[test]
-fn refuses_rounds(rt: HostRuntime) {
-    let rows: [(&[&str], ErrorKind); 4] = [
-        (
-            &["apf", "run", "c", "r", "8", "--rounds", "0"],
-            ErrorKind::ValueValidation,
-        ),
-        (
-            &["apf", "run", "c", "r", "8", "--rounds", "1000001"],
-            ErrorKind::ValueValidation,
-        ),
-        (
-            &["apf", "run", "c", "r", "8", "--rounds"],
-            ErrorKind::InvalidValue,
-        ),
-        (
-            &["apf", "serve", "c", "--rounds", "2"],
-            ErrorKind::UnknownArgument,
-        ),
-    ];
-    for (words, kind) in rows {
-        let _ = refused(&rt, rt.alloc(), words, kind);
-    }
-}
-
 // The slots of a level, at their ends and where they are left out.
 #[test]
 fn reads_numbers_of_options(rt: HostRuntime) -> Result<(), Fail> {
@@ -365,90 +303,6 @@ fn reads_numbers_of_options(rt: HostRuntime) -> Result<(), Fail> {
     };
     assert_eq!(rt; read_words(alloc, &["apf", "serve", "c"])?, serve);
     Ok(())
-}
-
-// So many times the letter a.
-fn letters(alloc: Global, count: usize) -> Result<String, Fail> {
-    let mut text = String::new(alloc);
-    for _ in 0..count {
-        text.push('a')?;
-    }
-    Ok(text)
-}
-
-// A level's name is 1 to 253 bytes of a-z, 0-9, `.` and `-`.
-#[test]
-fn reads_names_of_levels(rt: HostRuntime) -> Result<(), Fail> {
-    let alloc = rt.alloc();
-    let most = letters(alloc, 253)?;
-    for name in [
-        "a",
-        "z",
-        "0",
-        "9",
-        ".",
-        "workload-low",
-        "a.b-9",
-        most.as_str(),
-    ] {
-        let serve = Action {
-            command: "serve",
-            arguments: Arguments::Level {
-                config: "c",
-                slots: 3,
-                name,
-            },
-        };
-        let words = ["apf", "serve", "--name", name, "--slots=3", "c"];
-        assert_eq!(rt; read_words(alloc, &words)?, serve);
-    }
-    let many = letters(alloc, 254)?;
-    for name in [
-        "A",
-        "",
-        "a b",
-        "a_b",
-        "a/b",
-        "`",
-        "{",
-        "ä",
-        "a\n",
-        "\u{0}",
-        many.as_str(),
-    ] {
-        let words = ["apf", "serve", "c", "--name", name];
-        let _ = refused(&rt, alloc, &words, ErrorKind::ValueValidation);
-    }
-    Ok(())
-}
-
-#[test]
-fn refuses_other_words_of_levels(rt: HostRuntime) {
-    let rows: [(&[&str], ErrorKind); 8] = [
-        (&["apf", "serve"], ErrorKind::MissingRequiredArgument),
-        (&["apf", "serve", "c", "r"], ErrorKind::UnknownArgument),
-        (
-            &["apf", "serve", "c", "--slots", "0"],
-            ErrorKind::ValueValidation,
-        ),
-        (
-            &["apf", "serve", "c", "--slots", "10001"],
-            ErrorKind::ValueValidation,
-        ),
-        (
-            &["apf", "serve", "c", "--slots", "x"],
-            ErrorKind::ValueValidation,
-        ),
-        (&["apf", "serve", "c", "--slots"], ErrorKind::InvalidValue),
-        (&["apf", "serve", "c", "--name"], ErrorKind::InvalidValue),
-        (
-            &["apf", "serve", "c", "--slots=1", "--slots=2"],
-            ErrorKind::ArgumentConflict,
-        ),
-    ];
-    for (words, kind) in rows {
-        let _ = refused(&rt, rt.alloc(), words, kind);
-    }
 }
 
 #[test]
@@ -543,136 +397,34 @@ fn reads_a_patience(rt: HostRuntime) {
     }
 }
 
-// Each command on a trace wants all of its words, and no more.
+// Words that `clap` refuses, a name that it takes and no level may have, and help. `tests/command_line.py` has the others.
 #[test]
-fn refuses_other_words_of_traces(rt: HostRuntime) {
-    let rows: [(&[&str], ErrorKind); 13] = [
-        (
-            &["apf", "simulate", "c", "t"],
-            ErrorKind::MissingRequiredArgument,
-        ),
-        (
-            &["apf", "simulate", "c", "t", "0", "0"],
-            ErrorKind::UnknownArgument,
-        ),
-        (
-            &["apf", "simulate", "c", "t", "-1"],
-            ErrorKind::UnknownArgument,
-        ),
-        (
-            &["apf", "timeline", "c", "t"],
-            ErrorKind::MissingRequiredArgument,
-        ),
-        (
-            &["apf", "timeline", "c", "t", "0", "0"],
-            ErrorKind::UnknownArgument,
-        ),
-        (
-            &["apf", "fates", "c", "t"],
-            ErrorKind::MissingRequiredArgument,
-        ),
-        (
-            &["apf", "compare", "c", "o", "t"],
-            ErrorKind::MissingRequiredArgument,
-        ),
-        (
-            &["apf", "compare", "c", "o", "t", "0", "0"],
-            ErrorKind::UnknownArgument,
-        ),
-        (&["apf", "requests"], ErrorKind::MissingRequiredArgument),
-        (&["apf", "requests", "c", "t"], ErrorKind::UnknownArgument),
-        (&["apf", "hands", "c"], ErrorKind::MissingRequiredArgument),
-        (&["apf", "hands", "c", "t", "0"], ErrorKind::UnknownArgument),
-        (
-            &["apf", "simulation", "c", "t", "0"],
-            ErrorKind::InvalidSubcommand,
-        ),
-    ];
-    for (words, kind) in rows {
-        let _ = refused(&rt, rt.alloc(), words, kind);
-    }
-}
-
-#[test]
-fn refuses_other_words(rt: HostRuntime) {
-    let rows: [(&[&str], ErrorKind); 17] = [
-        (&[], ErrorKind::MissingSubcommand),
+fn refuses_words(rt: HostRuntime) {
+    let rows: [(&[&str], ErrorKind); 3] = [
         (&["apf"], ErrorKind::MissingSubcommand),
-        (&["apf", "nonsense"], ErrorKind::InvalidSubcommand),
-        (&["apf", "hash", "a"], ErrorKind::MissingRequiredArgument),
-        (&["apf", "hash", "a", "b", "c"], ErrorKind::UnknownArgument),
-        (&["apf", "hash", "-a", "b"], ErrorKind::UnknownArgument),
         (
-            &["apf", "deal", "1", "2"],
-            ErrorKind::MissingRequiredArgument,
-        ),
-        (&["apf", "deal", "a", "1", "1"], ErrorKind::ValueValidation),
-        (
-            &["apf", "deal", "4294967296", "1", "0"],
+            &["apf", "serve", "c", "--name", "A"],
             ErrorKind::ValueValidation,
         ),
-        (
-            &["apf", "deal", "1", "4294967296", "0"],
-            ErrorKind::ValueValidation,
-        ),
-        (
-            &["apf", "deal", "1", "1", "18446744073709551616"],
-            ErrorKind::ValueValidation,
-        ),
-        (
-            &["apf", "deal", "1", "1", "1.0"],
-            ErrorKind::ValueValidation,
-        ),
-        (&["apf", "run", "a", "b", "0"], ErrorKind::ValueValidation),
-        (&["apf", "run", "a", "b", "65"], ErrorKind::ValueValidation),
-        (
-            &["apf", "services", "a", "b"],
-            ErrorKind::MissingRequiredArgument,
-        ),
-        (
-            &["apf", "waits", "a", "b"],
-            ErrorKind::MissingRequiredArgument,
-        ),
-        (
-            &["apf", "explain", "a", "b"],
-            ErrorKind::MissingRequiredArgument,
-        ),
+        (&["apf", "help", "run"], ErrorKind::DisplayHelp),
     ];
     for (words, kind) in rows {
         let _ = refused(&rt, rt.alloc(), words, kind);
     }
 }
 
+// The name of a level.
 #[test]
-fn answers_with_help(rt: HostRuntime) -> Result<(), Fail> {
-    let rows: [(&[&str], &str); 12] = [
-        (&["apf", "serve", "--help"], "docs/SERVE.md"),
-        (&["apf", "help", "run"], "<WORKERS>"),
-        (&["apf", "compare", "--help"], "median"),
-        (&["apf", "help", "fates"], "concurrency-limit"),
-        (&["apf", "simulate", "--help"], "in microseconds"),
-        (&["apf", "timeline", "--help"], "not kube-apiserver"),
-        (&["apf", "help", "requests"], "JSON Lines"),
-        (&["apf", "help", "hands"], "covered by"),
-        (&["apf", "--help"], "Print the hand of queues"),
-        (&["apf", "help"], "Print the hand of queues"),
-        (&["apf", "deal", "--help"], "Number of queues in a hand"),
-        (&["apf", "help", "deal"], "Number of queues in a hand"),
-    ];
-    for (words, line) in rows {
-        let help = refused(&rt, rt.alloc(), words, ErrorKind::DisplayHelp);
-        let text = format!(in rt.alloc(); "{help}")?;
-        assert!(rt; text.as_str().contains(line), "{words:?}: {text}");
-    }
-    Ok(())
-}
-
-#[test]
-fn answers_with_the_version(rt: HostRuntime) -> Result<(), Fail> {
-    for words in [&["apf", "--version"], &["apf", "-V"]] {
-        let version = refused(&rt, rt.alloc(), words, ErrorKind::DisplayVersion);
-        let text = format!(in rt.alloc(); "{version}")?;
-        assert_eq!(rt; text.as_str(), "apf 0.1.0\n", "{words:?}");
-    }
+fn reads_the_name_of_a_level(rt: HostRuntime) -> Result<(), Fail> {
+    let words = ["apf", "serve", "--name", "a.b-9", "--slots=3", "c"];
+    let serve = Action {
+        command: "serve",
+        arguments: Arguments::Level {
+            config: "c",
+            slots: 3,
+            name: "a.b-9",
+        },
+    };
+    assert_eq!(rt; read_words(rt.alloc(), &words)?, serve);
     Ok(())
 }

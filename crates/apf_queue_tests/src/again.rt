@@ -1,7 +1,9 @@
 //! Requests whose numbers are pushed again and again.
 
+use crate::asserts::is;
 use crate::slow::Slow;
 use apf_checked::Checked;
+use std::alloc::Global;
 use std::process::Abort;
 use std::test::Fail;
 
@@ -13,37 +15,63 @@ fn cost_in(round: u32) -> u32 {
     1 + round.wrapping_mul(7) % 20_000
 }
 
-// Both requests are pushed, and one of them leaves its queue, by a dispatch or struck out of it.
-fn one_round(
-    rt: &impl Abort,
-    queues: &mut Checked,
-    slow: &mut Slow,
-    round: u32,
-) -> Result<(), Fail> {
-    for request in 0..2 {
-        if queues.queue_of(request) == Some(None) {
-            let queue = round.wrapping_add(request) % 2;
-            let cost = cost_in(round.wrapping_add(request));
-            assert!(rt; slow.push(queue, request, cost)?);
-            assert_eq!(rt; queues.push(queue, request, cost), Some(Ok(())));
+// Two queues, and plain lists beside them.
+#[derive(Drop)]
+struct Both {
+    queues: Checked,
+    slow: Slow,
+}
+
+impl Both {
+    fn new(alloc: Global) -> Result<Both, Fail> {
+        let slow = Slow::new(alloc, 2, 2)?;
+        let queues = Checked::new(alloc, 2, 2, 2)?;
+        Ok(Both { queues, slow })
+    }
+
+    // The request is pushed if it waits nowhere, and then it can't be pushed again.
+    fn push(&mut self, rt: &impl Abort, queue: u32, request: u32, cost: u32) -> Result<(), Fail> {
+        if self.queues.queue_of(request) == Some(None) {
+            let has_room = self.slow.push(queue, request, cost)?;
+            assert!(rt; has_room);
+            is(rt, self.queues.push(queue, request, cost), Some(Ok(())));
         }
-        assert_eq!(rt; queues.push(0, request, 1), None);
+        is(rt, self.queues.push(0, request, 1), None);
+        Ok(())
     }
-    if round % 4 == 3 {
-        let request = round / 4 % 2;
-        assert_eq!(rt; queues.remove(request), Some(slow.remove(request)));
-    } else {
-        assert_eq!(rt; queues.dispatch(), slow.dispatch());
+
+    fn remove(&mut self, rt: &impl Abort, request: u32) {
+        is(
+            rt,
+            self.queues.remove(request),
+            Some(self.slow.remove(request)),
+        );
     }
-    Ok(())
+
+    fn dispatch(&mut self, rt: &impl Abort) {
+        is(rt, self.queues.dispatch(), self.slow.dispatch());
+    }
+
+    // Both requests are pushed, and one of them leaves its queue, by a dispatch or struck out of it.
+    fn one_round(&mut self, rt: &impl Abort, round: u32) -> Result<(), Fail> {
+        for request in 0..2 {
+            let number = round.wrapping_add(request);
+            self.push(rt, number % 2, request, cost_in(number))?;
+        }
+        if round % 4 == 3 {
+            self.remove(rt, round / 4 % 2);
+        } else {
+            self.dispatch(rt);
+        }
+        Ok(())
+    }
 }
 
 #[test]
 fn a_request_is_pushed_a_million_times(rt: HostRuntime) -> Result<(), Fail> {
-    let mut queues = Checked::new(rt.alloc(), 2, 2, 2)?;
-    let mut slow = Slow::new(rt.alloc(), 2, 2)?;
+    let mut both = Both::new(rt.alloc())?;
     for round in 0..ROUNDS {
-        one_round(&rt, &mut queues, &mut slow, round)?;
+        both.one_round(&rt, round)?;
     }
     Ok(())
 }

@@ -1,5 +1,6 @@
 //! Queues beside plain lists, with the history of what happened to them.
 
+use crate::asserts::is;
 use crate::draws::Xorshift;
 use crate::slow::Slow;
 use apf_checked::Checked;
@@ -79,7 +80,9 @@ impl Level {
         };
         let has_room = self.slow.push(queue, request, cost)?;
         let answer = self.checked.push(queue, request, cost);
-        assert_eq!(rt; answer.map(|entered| entered.is_ok()), Some(has_room));
+        let has_entered = matches!(answer, Some(Ok(())));
+        assert!(rt; answer.is_some());
+        is(rt, has_entered, has_room);
         self.drawn.push(queue)?;
         if has_room {
             self.history.insert(0, Event::Enter(request, queue))?;
@@ -113,9 +116,9 @@ impl Level {
         let Some(request) = self.slow.at(queue, at) else {
             return Ok(());
         };
-        assert_eq!(rt; self.slow.remove(request), Some(queue));
-        assert_eq!(rt; self.checked.remove(request), Some(Some(queue)));
-        assert_eq!(rt; self.checked.remove(request), Some(None));
+        is(rt, self.slow.remove(request), Some(queue));
+        is(rt, self.checked.remove(request), Some(Some(queue)));
+        is(rt, self.checked.remove(request), Some(None));
         self.history.insert(0, Event::Strike(request, queue))?;
         if at == 0 {
             seen.heads = seen.heads.saturating_add(1);
@@ -155,11 +158,11 @@ impl Level {
     ) -> Result<(), Fail> {
         let chosen = self.checked.choose();
         if plainly {
-            assert_eq!(rt; chosen, self.plainly_chosen(rt)?);
+            is(rt, chosen, self.plainly_chosen(rt)?);
             seen.plainly = seen.plainly.saturating_add(1);
         }
-        assert_eq!(rt; self.slow.dispatch(), chosen);
-        assert_eq!(rt; self.checked.dispatch(), chosen);
+        is(rt, self.slow.dispatch(), chosen);
+        is(rt, self.checked.dispatch(), chosen);
         if let Some(next) = chosen {
             self.history
                 .insert(0, Event::Dispatch(next.request, next.queue))?;

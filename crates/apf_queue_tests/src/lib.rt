@@ -10,13 +10,15 @@
 //! - `agreement`: many more for several numbers of queues, also compared with what `apf_plain`
 //!   computes of the history so far.
 //! - `levels`: queues beside plain lists, with their history. `slow`: the plain lists.
-//! - `draws`: random numbers.
+//! - `draws`: random numbers. `asserts`: assertions as calls.
 #![tactic(auto)]
 
 #[cfg(test)]
 mod again;
 #[cfg(test)]
 mod agreement;
+#[cfg(test)]
+mod asserts;
 #[cfg(test)]
 mod draws;
 #[cfg(test)]

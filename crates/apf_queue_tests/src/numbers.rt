@@ -5,10 +5,11 @@
 //! queues, one queue or both are emptied by strikes, which move no number, and a request of each cost
 //! in turn is put there. R is told by a third queue, which was empty all the time and so starts at R.
 
+use crate::asserts::{is, is_at};
 use apf_checked::Checked;
 use apf_model::Event::{self, Dispatch, Enter, Strike};
 use apf_plain::{choice, names_queues, numbers_of, waiting};
-use apf_queue::{Chosen, Full};
+use apf_queue::Chosen;
 use std::alloc::{AllocError, Global};
 use std::process::Abort;
 use std::test::Fail;
@@ -76,10 +77,27 @@ impl Numbers {
     }
 }
 
+fn push(rt: &impl Abort, queues: &mut Checked, queue: u32, request: u32, cost: u32) {
+    is(rt, queues.push(queue, request, cost), Some(Ok(())));
+}
+
+fn dispatch(rt: &impl Abort, queues: &mut Checked, queue: u32, request: u32, cost: u32) {
+    let next = Chosen {
+        queue,
+        request,
+        cost,
+    };
+    is(rt, queues.dispatch(), Some(next));
+}
+
+fn strike(rt: &impl Abort, queues: &mut Checked, queue: u32, request: u32) {
+    is(rt, queues.remove(request), Some(Some(queue)));
+}
+
 // The requests that wait in the queue are struck.
 fn empty(rt: &impl Abort, queues: &mut Checked, waiting: &[u32], queue: u32) {
     for request in waiting {
-        assert_eq!(rt; queues.remove(*request), Some(Some(queue)));
+        strike(rt, queues, queue, *request);
     }
 }
 
@@ -90,7 +108,13 @@ fn probe(rt: &impl Abort, queues: &mut Checked, waiting: &[u32], place: (u32, u3
         return;
     }
     empty(rt, queues, waiting, queue);
-    assert_eq!(rt; queues.push(queue, request, cost), Some(Ok(())));
+    push(rt, queues, queue, request, cost);
+}
+
+// Asserts that these queues choose this one at a place of a row, with requests of these costs.
+fn chooses(rt: &impl Abort, queues: &Checked, want: Option<u32>, place: usize, costs: (u32, u32)) {
+    let found = queues.choose().map(|next| next.queue);
+    is_at(rt, found, want, (place, costs));
 }
 
 impl Row<'_> {
@@ -98,10 +122,16 @@ impl Row<'_> {
         self.costs.get(request as usize).copied().unwrap_or(0)
     }
 
+    // What happened before this place.
+    fn before(&self, place: usize) -> &[Event] {
+        self.events.get(..place).unwrap_or(self.events)
+    }
+
     // The history at this place, the newest event first.
     fn history(&self, alloc: Global, place: usize) -> Result<Vec<Event>, AllocError> {
-        let events = self.events.get(..place).unwrap_or(self.events);
-        events.iter().rev().copied().collect(alloc)
+        let mut history = Vec::from_slice(alloc, self.before(place))?;
+        history.reverse();
+        Ok(history)
     }
 
     // So many new queues on which the calls so far are made, each of which answers what happened.
@@ -113,7 +143,7 @@ impl Row<'_> {
         place: usize,
     ) -> Result<Checked, Fail> {
         let mut queues = Checked::new(alloc, count, 10, 10)?;
-        for event in self.events.get(..place).unwrap_or(self.events) {
+        for event in self.before(place) {
             self.make(rt, &mut queues, *event);
         }
         Ok(queues)
@@ -121,24 +151,10 @@ impl Row<'_> {
 
     fn make(&self, rt: &impl Abort, queues: &mut Checked, event: Event) {
         match event {
-            Enter(request, queue) => {
-                let answer = queues.push(queue, request, self.cost(request));
-                assert_eq!(rt; answer, Some(Ok(())));
-            }
-            Event::Full(request, queue) => {
-                let answer = queues.push(queue, request, self.cost(request));
-                assert_eq!(rt; answer, Some(Err(Full)));
-            }
-            Dispatch(request, queue) => {
-                let cost = self.cost(request);
-                let next = Chosen {
-                    queue,
-                    request,
-                    cost,
-                };
-                assert_eq!(rt; queues.dispatch(), Some(next));
-            }
-            Strike(request, queue) => assert_eq!(rt; queues.remove(request), Some(Some(queue))),
+            Enter(request, queue) => push(rt, queues, queue, request, self.cost(request)),
+            Dispatch(request, queue) => dispatch(rt, queues, queue, request, self.cost(request)),
+            Strike(request, queue) => strike(rt, queues, queue, request),
+            Event::Full(..) => panic!(rt; "no row has one"),
         }
     }
 
@@ -152,26 +168,46 @@ impl Row<'_> {
     ) -> Result<(), Fail> {
         let history = self.history(alloc, place)?;
         let history = history.as_slice();
+        self.has_numbers(rt, alloc, history, want)?;
+        self.finishes(rt, alloc, history, 0, want.next.0, want.finishes.0)?;
+        self.finishes(rt, alloc, history, 1, want.next.1, want.finishes.1)
+    }
+
+    // The numbers of the history, and its choice.
+    fn has_numbers(
+        &self,
+        rt: &impl Abort,
+        alloc: Global,
+        history: &[Event],
+        want: &Numbers,
+    ) -> Result<(), Fail> {
         assert!(rt; names_queues(2, history));
         assert!(rt; history.len() < 1 << 20);
         let numbers = numbers_of(alloc, 2, self.costs, history)?;
-        assert_eq!(rt;
-            numbers.next.as_slice(),
-            [want.next.0, want.next.1].as_slice(),
-            "place {place}"
-        );
-        assert_eq!(rt; numbers.virtual_time, want.virtual_time, "place {place}");
-        assert_eq!(rt; numbers.robin, want.robin, "place {place}");
-        for (queue, next, finish) in [
-            (0, want.next.0, want.finishes.0),
-            (1, want.next.1, want.finishes.1),
-        ] {
-            let first = waiting(alloc, history, queue)?.first().copied();
-            let found = first.map(|request| next.saturating_add(u64::from(self.cost(request))));
-            assert_eq!(rt; found, finish, "place {place}");
-        }
+        let next = [want.next.0, want.next.1];
+        is(rt, numbers.next.as_slice(), next.as_slice());
+        is(rt, numbers.virtual_time, want.virtual_time);
+        is(rt, numbers.robin, want.robin);
         let chosen = choice(alloc, 2, self.costs, history)?;
-        assert_eq!(rt; chosen, want.choice_beside((0, 0)), "place {place}");
+        is(rt, chosen, want.choice_beside((0, 0)));
+        Ok(())
+    }
+
+    // The finish of a queue that has this number `next`.
+    fn finishes(
+        &self,
+        rt: &impl Abort,
+        alloc: Global,
+        history: &[Event],
+        queue: u32,
+        next: u64,
+        want: Option<u64>,
+    ) -> Result<(), Fail> {
+        let waiting = waiting(alloc, history, queue)?;
+        let found = waiting.first().map(|request| next.saturating_add(u64::from(self.cost(
+            *request,
+        ))));
+        is(rt, found, want);
         Ok(())
     }
 
@@ -186,20 +222,32 @@ impl Row<'_> {
         let history = self.history(alloc, place)?;
         let first = waiting(alloc, history.as_slice(), 0)?;
         let second = waiting(alloc, history.as_slice(), 1)?;
-        let [request, other] = PROBES;
+        let wait = (first.as_slice(), second.as_slice());
         for cost in 0..=GREATEST_COST {
             for beside in 0..=GREATEST_COST {
-                let mut queues = self.queues(rt, alloc, 2, place)?;
-                probe(rt, &mut queues, first.as_slice(), (0, request), cost);
-                probe(rt, &mut queues, second.as_slice(), (1, other), beside);
-                let chosen = queues.choose().map(|next| next.queue);
-                assert_eq!(rt;
-                    chosen,
-                    want.choice_beside((cost, beside)),
-                    "place {place}, costs {cost} and {beside}"
-                );
+                let costs = (cost, beside);
+                let choice = want.choice_beside(costs);
+                self.choose_beside(rt, alloc, place, wait, costs, choice)?;
             }
         }
+        Ok(())
+    }
+
+    // Of two queues, in which these wait and then requests of these costs alone, this one is chosen.
+    fn choose_beside(
+        &self,
+        rt: &impl Abort,
+        alloc: Global,
+        place: usize,
+        wait: (&[u32], &[u32]),
+        costs: (u32, u32),
+        want: Option<u32>,
+    ) -> Result<(), Fail> {
+        let [request, other] = PROBES;
+        let mut queues = self.queues(rt, alloc, 2, place)?;
+        probe(rt, &mut queues, wait.0, (0, request), costs.0);
+        probe(rt, &mut queues, wait.1, (1, other), costs.1);
+        chooses(rt, &queues, want, place, costs);
         Ok(())
     }
 
@@ -214,22 +262,45 @@ impl Row<'_> {
         let history = self.history(alloc, place)?;
         let first = waiting(alloc, history.as_slice(), 0)?;
         let second = waiting(alloc, history.as_slice(), 1)?;
-        let has_dispatched = history.iter().any(|event| matches!(*event, Dispatch(..)));
-        let [request, other] = PROBES;
+        let wait = (first.as_slice(), second.as_slice());
+        let has_dispatched = self.has_dispatched(place);
         for cost in 1..=GREATEST_COST {
             for beside in 1..=GREATEST_COST {
-                let mut queues = self.queues(rt, alloc, 3, place)?;
-                probe(rt, &mut queues, first.as_slice(), (0, request), cost);
-                empty(rt, &mut queues, second.as_slice(), 1);
-                probe(rt, &mut queues, &[], (2, other), beside);
-                let chosen = queues.choose().map(|next| next.queue);
-                assert_eq!(rt;
-                    chosen,
-                    want.choice_with_third(has_dispatched, (cost, beside)),
-                    "place {place}, costs {cost} and {beside} in the third queue"
-                );
+                let costs = (cost, beside);
+                let choice = want.choice_with_third(has_dispatched, costs);
+                self.choose_with_third(rt, alloc, place, wait, costs, choice)?;
             }
         }
+        Ok(())
+    }
+
+    // Whether a request was dispatched before this place.
+    fn has_dispatched(&self, place: usize) -> bool {
+        for event in self.before(place) {
+            if let Dispatch(..) = *event {
+                return true;
+            }
+        }
+        false
+    }
+
+    // Of three queues, in the first two of which these wait, and then requests of these costs alone in the first and
+    // in the third, this one is chosen.
+    fn choose_with_third(
+        &self,
+        rt: &impl Abort,
+        alloc: Global,
+        place: usize,
+        wait: (&[u32], &[u32]),
+        costs: (u32, u32),
+        want: Option<u32>,
+    ) -> Result<(), Fail> {
+        let [request, other] = PROBES;
+        let mut queues = self.queues(rt, alloc, 3, place)?;
+        probe(rt, &mut queues, wait.0, (0, request), costs.0);
+        empty(rt, &mut queues, wait.1, 1);
+        probe(rt, &mut queues, &[], (2, other), costs.1);
+        chooses(rt, &queues, want, place, costs);
         Ok(())
     }
 
@@ -271,7 +342,7 @@ fn numbers_of_virtual_time(rt: HostRuntime) -> Result<(), Fail> {
         };
         row.are(&rt, rt.alloc(), place, want)?;
     }
-    assert_eq!(rt; row.queues(&rt, rt.alloc(), 2, 8)?.dispatch(), None);
+    is(&rt, row.queues(&rt, rt.alloc(), 2, 8)?.dispatch(), None);
     Ok(())
 }
 
@@ -295,7 +366,7 @@ fn a_tie_goes_to_the_queue_after_the_robin(rt: HostRuntime) -> Result<(), Fail> 
         finishes: (Some(2), Some(2)),
     };
     row.are(&rt, rt.alloc(), 4, want)?;
-    assert_eq!(rt; row.queues(&rt, rt.alloc(), 2, 6)?.dispatch(), None);
+    is(&rt, row.queues(&rt, rt.alloc(), 2, 6)?.dispatch(), None);
     Ok(())
 }
 
@@ -319,6 +390,6 @@ fn a_strike_moves_no_number(rt: HostRuntime) -> Result<(), Fail> {
         finishes: (Some(1), Some(3)),
     };
     row.are(&rt, rt.alloc(), 4, want)?;
-    assert_eq!(rt; row.queues(&rt, rt.alloc(), 2, 6)?.dispatch(), None);
+    is(&rt, row.queues(&rt, rt.alloc(), 2, 6)?.dispatch(), None);
     Ok(())
 }

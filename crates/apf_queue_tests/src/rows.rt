@@ -1,5 +1,6 @@
 //! Worked rows of calls, and the shapes that are refused.
 
+use crate::asserts::is;
 use apf_checked::Checked;
 use apf_queue::{Chosen, Full, QueueFault, Queues};
 use std::process::Abort;
@@ -8,9 +9,9 @@ use std::test::Fail;
 // What is dispatched in turn, until nothing waits.
 fn dispatched(rt: &impl Abort, checked: &mut Checked, expected: &[Chosen]) {
     for chosen in expected {
-        assert_eq!(rt; checked.dispatch(), Some(*chosen));
+        is(rt, checked.dispatch(), Some(*chosen));
     }
-    assert_eq!(rt; checked.dispatch(), None);
+    is(rt, checked.dispatch(), None);
 }
 
 fn chosen(queue: u32, request: u32, cost: u32) -> Chosen {
@@ -25,16 +26,16 @@ fn chosen(queue: u32, request: u32, cost: u32) -> Chosen {
 fn requests_are_taken_out_of_any_place(rt: HostRuntime) -> Result<(), Fail> {
     let mut queues = Checked::new(rt.alloc(), 2, 3, 5)?;
     for request in 0..3 {
-        assert_eq!(rt; queues.push(1, request, 1), Some(Ok(())));
+        is(&rt, queues.push(1, request, 1), Some(Ok(())));
     }
-    assert_eq!(rt; queues.push(1, 3, 1), Some(Err(Full)));
-    assert_eq!(rt; queues.remove(1), Some(Some(1)));
-    assert_eq!(rt; queues.remove(1), Some(None));
-    assert_eq!(rt; queues.push(1, 3, 1), Some(Ok(())));
-    assert_eq!(rt; queues.len(1), Some(3));
-    assert_eq!(rt; queues.remove(3), Some(Some(1)));
-    assert_eq!(rt; queues.remove(0), Some(Some(1)));
-    assert_eq!(rt; queues.len(1), Some(1));
+    is(&rt, queues.push(1, 3, 1), Some(Err(Full)));
+    is(&rt, queues.remove(1), Some(Some(1)));
+    is(&rt, queues.remove(1), Some(None));
+    is(&rt, queues.push(1, 3, 1), Some(Ok(())));
+    is(&rt, queues.len(1), Some(3));
+    is(&rt, queues.remove(3), Some(Some(1)));
+    is(&rt, queues.remove(0), Some(Some(1)));
+    is(&rt, queues.len(1), Some(1));
     dispatched(&rt, &mut queues, &[chosen(1, 2, 1)]);
     Ok(())
 }
@@ -43,10 +44,10 @@ fn requests_are_taken_out_of_any_place(rt: HostRuntime) -> Result<(), Fail> {
 fn a_request_that_left_is_not_dispatched(rt: HostRuntime) -> Result<(), Fail> {
     let mut queues = Checked::new(rt.alloc(), 2, 3, 5)?;
     for request in 0..3 {
-        assert_eq!(rt; queues.push(1, request, 1), Some(Ok(())));
+        is(&rt, queues.push(1, request, 1), Some(Ok(())));
     }
-    assert_eq!(rt; queues.remove(1), Some(Some(1)));
-    assert_eq!(rt; queues.push(1, 3, 1), Some(Ok(())));
+    is(&rt, queues.remove(1), Some(Some(1)));
+    is(&rt, queues.push(1, 3, 1), Some(Ok(())));
     dispatched(
         &rt,
         &mut queues,
@@ -59,11 +60,11 @@ fn a_request_that_left_is_not_dispatched(rt: HostRuntime) -> Result<(), Fail> {
 fn a_queue_that_was_empty_starts_at_the_level_s_time(rt: HostRuntime) -> Result<(), Fail> {
     let mut queues = Checked::new(rt.alloc(), 2, 10, 6)?;
     for request in 1..3 {
-        assert_eq!(rt; queues.push(0, request, 1), Some(Ok(())));
+        is(&rt, queues.push(0, request, 1), Some(Ok(())));
     }
     dispatched(&rt, &mut queues, &[chosen(0, 1, 1), chosen(0, 2, 1)]);
     for (queue, request) in [(1, 3), (0, 4), (1, 5)] {
-        assert_eq!(rt; queues.push(queue, request, 1), Some(Ok(())));
+        is(&rt, queues.push(queue, request, 1), Some(Ok(())));
     }
     dispatched(
         &rt,
@@ -76,11 +77,11 @@ fn a_queue_that_was_empty_starts_at_the_level_s_time(rt: HostRuntime) -> Result<
 #[test]
 fn the_shortest_of_a_hand_was_dealt_first(rt: HostRuntime) -> Result<(), Fail> {
     let mut queues = Checked::new(rt.alloc(), 3, 10, 4)?;
-    assert_eq!(rt; queues.shortest(&[2, 0, 1]), Some(2));
-    assert_eq!(rt; queues.push(2, 0, 1), Some(Ok(())));
-    assert_eq!(rt; queues.shortest(&[2, 1, 0]), Some(1));
-    assert_eq!(rt; queues.shortest(&[2]), Some(2));
-    assert_eq!(rt; queues.shortest(&[]), None);
+    is(&rt, queues.shortest(&[2, 0, 1]), Some(2));
+    is(&rt, queues.push(2, 0, 1), Some(Ok(())));
+    is(&rt, queues.shortest(&[2, 1, 0]), Some(1));
+    is(&rt, queues.shortest(&[2]), Some(2));
+    is(&rt, queues.shortest(&[]), None);
     Ok(())
 }
 
@@ -107,6 +108,6 @@ fn shapes(rt: HostRuntime) {
             "at {queues}, {length_limit}, {requests}"
         );
     }
-    assert_eq!(rt; QueueFault::BadShape.number(), 1);
-    assert_eq!(rt; QueueFault::NoMemory.number(), 3);
+    is(&rt, QueueFault::BadShape.number(), 1);
+    is(&rt, QueueFault::NoMemory.number(), 3);
 }

@@ -1,5 +1,6 @@
 //! Worked orders, and random calls beside a plain list.
 
+use crate::asserts::is;
 use crate::calls::add;
 use crate::draws::Xorshift;
 use apf_times::{Agenda, Due, Kind};
@@ -37,11 +38,11 @@ fn in_turn(rt: HostRuntime) -> Result<(), Fail> {
         due(60, Kind::Arrive, 3),
         due(61, Kind::Finish, 7),
     ] {
-        assert_eq!(rt; agenda.next(), Some(want));
-        assert_eq!(rt; agenda.time(), want.at);
+        is(&rt, agenda.next(), Some(want));
+        is(&rt, agenda.time(), want.at);
     }
-    assert_eq!(rt; agenda.next(), None);
-    assert_eq!(rt; agenda.time(), 61);
+    is(&rt, agenda.next(), None);
+    is(&rt, agenda.time(), 61);
     Ok(())
 }
 
@@ -51,12 +52,12 @@ fn a_finish_at_once(rt: HostRuntime) -> Result<(), Fail> {
     let mut agenda = Agenda::new(rt.alloc(), 3)?;
     add(&rt, &mut agenda, Due::arrive(0, 5))?;
     add(&rt, &mut agenda, Due::arrive(1, 5))?;
-    assert_eq!(rt; agenda.next(), Some(due(5, Kind::Arrive, 0)));
+    is(&rt, agenda.next(), Some(due(5, Kind::Arrive, 0)));
     let finish = Due::finish(0, agenda.time(), 0);
     add(&rt, &mut agenda, finish)?;
-    assert_eq!(rt; agenda.next(), Some(due(5, Kind::Finish, 0)));
-    assert_eq!(rt; agenda.next(), Some(due(5, Kind::Arrive, 1)));
-    assert_eq!(rt; agenda.next(), None);
+    is(&rt, agenda.next(), Some(due(5, Kind::Finish, 0)));
+    is(&rt, agenda.next(), Some(due(5, Kind::Arrive, 1)));
+    is(&rt, agenda.next(), None);
     Ok(())
 }
 
@@ -65,9 +66,9 @@ fn alike(rt: HostRuntime) -> Result<(), Fail> {
     let mut agenda = Agenda::new(rt.alloc(), 2)?;
     add(&rt, &mut agenda, Due::arrive(9, u64::MAX))?;
     add(&rt, &mut agenda, Due::arrive(9, u64::MAX))?;
-    assert_eq!(rt; agenda.next(), Some(due(u64::MAX, Kind::Arrive, 9)));
-    assert_eq!(rt; agenda.next(), Some(due(u64::MAX, Kind::Arrive, 9)));
-    assert_eq!(rt; agenda.next(), None);
+    is(&rt, agenda.next(), Some(due(u64::MAX, Kind::Arrive, 9)));
+    is(&rt, agenda.next(), Some(due(u64::MAX, Kind::Arrive, 9)));
+    is(&rt, agenda.next(), None);
     Ok(())
 }
 
@@ -127,15 +128,15 @@ fn agree(rt: &impl Abort, alloc: Global, span: u32, random: &mut Xorshift) -> Re
             list.push(it)?;
         } else {
             let want = take_first(&mut list);
-            assert_eq!(rt; agenda.next(), want);
+            is(rt, agenda.next(), want);
             taken = taken.saturating_add(want.is_some() as u32);
         }
     }
     for _ in 0..list.len() {
-        assert_eq!(rt; agenda.next(), take_first(&mut list));
+        is(rt, agenda.next(), take_first(&mut list));
         taken = taken.saturating_add(1);
     }
-    assert_eq!(rt; agenda.next(), None);
+    is(rt, agenda.next(), None);
     Ok(taken)
 }
 

@@ -1,5 +1,6 @@
 //! Worked calendars, and random ones beside a plain scan over the requests.
 
+use crate::asserts::is;
 use crate::calls::{may_start, open, start};
 use crate::draws::Xorshift;
 use apf_times::{Calendar, Due, Kind, Seats};
@@ -14,8 +15,8 @@ fn next_is<A: Allocator>(
     kind: Kind,
     request: u32,
 ) {
-    assert_eq!(rt; calendar.next(), Some(Due { at, kind, request }));
-    assert_eq!(rt; calendar.time(), at);
+    is(rt, calendar.next(), Some(Due { at, kind, request }));
+    is(rt, calendar.time(), at);
 }
 
 // Three requests and one seat, by hand. Request 0 has the seat from 0 to 100. The patience of 1 and 2
@@ -32,11 +33,11 @@ fn nobody_is_given_the_seat(rt: HostRuntime) -> Result<(), Fail> {
     next_is(&rt, &mut calendar, 60, Kind::GiveUp, 1);
     next_is(&rt, &mut calendar, 70, Kind::GiveUp, 2);
     next_is(&rt, &mut calendar, 100, Kind::Finish, 0);
-    assert_eq!(rt; calendar.next(), None);
-    assert_eq!(rt; calendar.time(), 100);
+    is(&rt, calendar.next(), None);
+    is(&rt, calendar.time(), 100);
     for (request, want) in [(0, Some(0)), (1, None), (2, None)] {
         if (request as usize) < calendar.courses().len() {
-            assert_eq!(rt; calendar.wait(request), want);
+            is(&rt, calendar.wait(request), want);
         }
     }
     Ok(())
@@ -56,15 +57,15 @@ fn each_is_given_the_seat(rt: HostRuntime) -> Result<(), Fail> {
     next_is(&rt, &mut calendar, 105, Kind::Finish, 1);
     start(&rt, &mut calendar, 2);
     next_is(&rt, &mut calendar, 105, Kind::Finish, 2);
-    assert_eq!(rt; calendar.next(), None);
+    is(&rt, calendar.next(), None);
     for (request, want) in [(0, Some(0)), (1, Some(90)), (2, Some(85))] {
         if (request as usize) < calendar.courses().len() {
-            assert_eq!(rt; calendar.wait(request), want);
+            is(&rt, calendar.wait(request), want);
         }
     }
     for (place, want) in [(0, 0), (1, 100), (2, 105)] {
         let seats = calendar.courses().get(place).map(|c| c.seats);
-        assert_eq!(rt; seats, Some(Seats::Returned(want)));
+        is(&rt, seats, Some(Seats::Returned(want)));
     }
     Ok(())
 }
@@ -92,8 +93,8 @@ fn the_latest(rt: HostRuntime) -> Result<(), Fail> {
             start(&rt, &mut calendar, finished);
         }
     }
-    assert_eq!(rt; (carried_out, finished), (30_000, 10_000));
-    assert_eq!(rt; calendar.time(), 101_000_000_000_000);
+    is(&rt, (carried_out, finished), (30_000, 10_000));
+    is(&rt, calendar.time(), 101_000_000_000_000);
     Ok(())
 }
 
@@ -194,7 +195,7 @@ fn agree(
         let chosen = random.below(requests);
         if let Some(it) = plain.get_mut(chosen as usize) {
             let is_free = it.has_arrived && it.since.is_none();
-            assert_eq!(rt; may_start(&calendar, chosen), is_free);
+            is(rt, may_start(&calendar, chosen), is_free);
             if is_free {
                 it.since = Some(at);
                 it.finishes_at = Some(at.saturating_add(it.runs_for));
@@ -202,11 +203,11 @@ fn agree(
             }
         }
     }
-    assert_eq!(rt; calendar.next(), None);
+    is(rt, calendar.next(), None);
     for (place, it) in plain.iter().enumerate() {
         if place < calendar.courses().len() {
             let want = it.since.map(|since| since.saturating_sub(it.arrives_at));
-            assert_eq!(rt; calendar.wait(place as u32), want);
+            is(rt, calendar.wait(place as u32), want);
         }
     }
     Ok(carried_out)

@@ -6,11 +6,13 @@
 //! - `agenda`: worked orders, and random calls beside a plain list.
 //! - `calendar`: worked calendars, and random ones beside a plain scan.
 //! - `memory`: allocations refused.
-//! - `calls`: calls that test what is asked of callers. `draws`: random numbers.
+//! - `calls`: calls that test what is asked of callers. `draws`: random numbers. `asserts`: assertions as calls.
 #![tactic(auto)]
 
 #[cfg(test)]
 mod agenda;
+#[cfg(test)]
+mod asserts;
 #[cfg(test)]
 mod calendar;
 #[cfg(test)]

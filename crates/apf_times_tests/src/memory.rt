@@ -1,5 +1,6 @@
 //! Allocations refused.
 
+use crate::asserts::{is, is_at};
 use crate::calls::add;
 use apf_short::Refusing;
 use apf_times::{Agenda, Due};
@@ -27,7 +28,7 @@ fn each_refusal_is_returned(rt: HostRuntime) {
     for refused in 1..1_000 {
         let alloc = Refusing::new(rt.alloc(), refused);
         let is_made = filled(&rt, &alloc, 2, 500).is_ok();
-        assert_eq!(rt; is_made, !alloc.has_refused(), "at {refused}");
+        is_at(&rt, is_made, !alloc.has_refused(), refused);
         if is_made {
             break;
         }
@@ -54,8 +55,8 @@ fn a_refused_addition_changes_nothing(rt: HostRuntime) -> Result<(), AllocError>
     assert!(rt; alloc.has_refused());
     assert!(rt; add(&rt, &mut agenda, Due::arrive(4, 8)).is_ok());
     for (at, request) in [(1, 2), (2, 1), (3, 0), (8, 4)] {
-        assert_eq!(rt; agenda.next(), Some(Due::arrive(request, at)));
+        is(&rt, agenda.next(), Some(Due::arrive(request, at)));
     }
-    assert_eq!(rt; agenda.next(), None);
+    is(&rt, agenda.next(), None);
     Ok(())
 }

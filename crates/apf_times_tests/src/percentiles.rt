@@ -1,5 +1,6 @@
 //! Worked percentiles, and random ones beside a plain count.
 
+use crate::asserts::is_at;
 use crate::draws::Xorshift;
 use apf_times::percentile;
 use std::alloc::Global;
@@ -11,6 +12,13 @@ fn percentile_of(alloc: Global, waits: &[u64], percent: u32) -> Result<u64, Fail
     let mut copy = Vec::from_slice(alloc, waits)?;
     let percent = percent.clamp(1, 100);
     Ok(percentile(copy.as_mut_slice(), percent))
+}
+
+// Asserts that this is the percentile of these waits.
+fn has(rt: &impl Abort, alloc: Global, waits: &[u64], percent: u32, want: u64) -> Result<(), Fail> {
+    let found = percentile_of(alloc, waits, percent)?;
+    is_at(rt, found, want, (percent, waits));
+    Ok(())
 }
 
 // By hand: of n waits in order, the wait at place percent * n / 100, rounded up.
@@ -36,11 +44,7 @@ fn worked(rt: HostRuntime) -> Result<(), Fail> {
         ([u64::MAX, 0, u64::MAX].as_slice(), 34, u64::MAX),
         ([u64::MAX, 0, u64::MAX].as_slice(), 33, 0),
     ] {
-        assert_eq!(rt;
-            percentile_of(rt.alloc(), waits, percent)?,
-            want,
-            "{percent} of {waits:?}"
-        );
+        has(&rt, rt.alloc(), waits, percent, want)?;
     }
     Ok(())
 }
@@ -53,17 +57,18 @@ fn of_a_hundred(rt: HostRuntime) -> Result<(), Fail> {
         waits.push(1_000 - number)?;
     }
     for percent in 1..101 {
-        let want = 900 + u64::from(percent);
-        assert_eq!(rt;
-            percentile_of(rt.alloc(), waits.as_slice(), percent)?,
-            want,
-            "{percent}"
-        );
+        has(
+            &rt,
+            rt.alloc(),
+            waits.as_slice(),
+            percent,
+            900 + u64::from(percent),
+        )?;
     }
     waits.push(0)?;
-    assert_eq!(rt; percentile_of(rt.alloc(), waits.as_slice(), 1)?, 901);
-    assert_eq!(rt; percentile_of(rt.alloc(), waits.as_slice(), 99)?, 999);
-    assert_eq!(rt; percentile_of(rt.alloc(), waits.as_slice(), 100)?, 1_000);
+    for (percent, want) in [(1, 901), (99, 999), (100, 1_000)] {
+        has(&rt, rt.alloc(), waits.as_slice(), percent, want)?;
+    }
     Ok(())
 }
 
@@ -94,7 +99,7 @@ fn agree(rt: &impl Abort, alloc: Global, widest: u32, random: &mut Xorshift) -> 
     }
     for percent in 1..101 {
         let want = plainly(waits.as_slice(), percent);
-        assert_eq!(rt; percentile_of(alloc, waits.as_slice(), percent)?, want);
+        has(rt, alloc, waits.as_slice(), percent, want)?;
     }
     Ok(())
 }

@@ -1,12 +1,15 @@
 //! Flow hashes and hands, with values from outside.
 
+use crate::asserts::{is, is_at};
 use apf_flow::{Dealer, DealerFault, flow_hash};
+use std::alloc::Global;
+use std::process::Abort;
 use std::test::Fail;
 
 // Two empty texts leave the zero byte alone, whose digest begins 6e340b9cffb37a98.
 #[test]
 fn hash(rt: HostRuntime) {
-    assert_eq!(rt; flow_hash("", ""), 0x987a_b3ff_9c0b_346e);
+    is(&rt, flow_hash("", ""), 0x987a_b3ff_9c0b_346e);
 }
 
 // Computed with Python's hashlib.
@@ -20,12 +23,16 @@ fn hashes_of_texts(rt: HostRuntime) {
         ("", "ab", 0xaf14_5b5f_9ada_d10b),
         ("Ä", "ß€😀", 0xa558_af8b_c7e3_a4b9),
     ] {
-        assert_eq!(rt;
-            flow_hash(schema, distinguisher),
-            want,
-            "{schema} {distinguisher}"
-        );
+        let found = flow_hash(schema, distinguisher);
+        is_at(&rt, found, want, (schema, distinguisher));
     }
+}
+
+// Asserts that this hand is dealt.
+fn is_dealt(rt: &impl Abort, deck: u32, hand: u32, hash: u64, want: &[u32]) -> Result<(), Fail> {
+    let dealer = Dealer::new(deck, hand)?;
+    is_at(rt, dealer.deal(hash).as_slice(), want, (deck, hand, hash));
+    Ok(())
 }
 
 #[test]
@@ -48,9 +55,22 @@ fn deals(rt: HostRuntime) -> Result<(), Fail> {
         ),
         (67_108_864, 2, u64::MAX, [67_108_863, 4095].as_slice()),
     ] {
-        let dealer = Dealer::new(deck, hand)?;
-        assert_eq!(rt; dealer.deal(hash).as_slice(), want, "{deck} {hand} {hash}");
+        is_dealt(&rt, deck, hand, hash, want)?;
     }
+    Ok(())
+}
+
+// Asserts that this is the number of a fault, and this its text.
+fn is_told(
+    rt: &impl Abort,
+    alloc: Global,
+    fault: DealerFault,
+    number: u8,
+    text: &str,
+) -> Result<(), Fail> {
+    is(rt, fault.number(), number);
+    let written = fault.to_string(alloc)?;
+    is(rt, written.as_str(), text);
     Ok(())
 }
 
@@ -84,9 +104,8 @@ fn dealer_faults(rt: HostRuntime) -> Result<(), Fail> {
             "too much entropy",
         ),
     ] {
-        assert_eq!(rt; Dealer::new(deck, hand), Err(fault), "{deck} {hand}");
-        assert_eq!(rt; fault.number(), number);
-        assert_eq!(rt; fault.to_string(rt.alloc())?.as_str(), text);
+        is_at(&rt, Dealer::new(deck, hand), Err(fault), (deck, hand));
+        is_told(&rt, rt.alloc(), fault, number, text)?;
     }
     Ok(())
 }

@@ -1,7 +1,8 @@
 //! Histories, whose choices, numbers and services the plain program computes.
 
+use crate::asserts::{is, is_at};
 use apf_model::Event;
-use apf_model::Event::{Dispatch, Enter, Strike};
+use apf_model::Event::{Dispatch, Enter, Full, Strike};
 use apf_plain::{choice, is_never_empty, names_queues, numbers_of, service, shortest, waiting};
 use std::alloc::{AllocError, Global};
 use std::process::Abort;
@@ -28,7 +29,9 @@ const VIRTUAL_TIME: [Event; 8] = [
 ];
 
 fn newest_first(alloc: Global, events: &[Event]) -> Result<Vec<Event>, AllocError> {
-    events.iter().rev().copied().collect(alloc)
+    let mut history = Vec::from_slice(alloc, events)?;
+    history.reverse();
+    Ok(history)
 }
 
 fn choice_of(
@@ -42,6 +45,37 @@ fn choice_of(
     choice(alloc, row.queues, row.widths, history)
 }
 
+// The queue is the shortest of the request's hand.
+fn is_entered(
+    rt: &impl Abort,
+    alloc: Global,
+    row: &Row<'_>,
+    before: &[Event],
+    request: u32,
+    queue: u32,
+) -> Result<(), AllocError> {
+    let hand = row.hands.get(request as usize).copied().unwrap_or(&[]);
+    let found = shortest(alloc, before, hand)?;
+    is_at(rt, found, Some(queue), before.len());
+    Ok(())
+}
+
+// The queue is the choice, and the request its first one.
+fn is_dispatched(
+    rt: &impl Abort,
+    alloc: Global,
+    row: &Row<'_>,
+    before: &[Event],
+    request: u32,
+    queue: u32,
+) -> Result<(), AllocError> {
+    let found = choice_of(rt, alloc, row, before)?;
+    is_at(rt, found, Some(queue), before.len());
+    let waiting = waiting(alloc, before, queue)?;
+    is_at(rt, waiting.first(), Some(&request), before.len());
+    Ok(())
+}
+
 // Each Enter names the shortest queue of its hand, and each Dispatch the first request of the choice.
 fn check(rt: &impl Abort, alloc: Global, row: &Row<'_>) -> Result<(), AllocError> {
     let history = newest_first(alloc, row.events)?;
@@ -49,33 +83,9 @@ fn check(rt: &impl Abort, alloc: Global, row: &Row<'_>) -> Result<(), AllocError
         assert!(rt; place <= history.len());
         let before = &history[history.len() - place..];
         match *event {
-            Enter(request, queue) => {
-                let hand = row.hands.get(request as usize).copied().unwrap_or(&[]);
-                assert_eq!(rt;
-                    shortest(alloc, before, hand)?,
-                    Some(queue),
-                    "place {place}"
-                );
-            }
-            Dispatch(request, queue) => {
-                assert_eq!(rt;
-                    choice_of(rt, alloc, row, before)?,
-                    Some(queue),
-                    "place {place}"
-                );
-                assert_eq!(rt;
-                    waiting(alloc, before, queue)?.first().copied(),
-                    Some(request),
-                    "place {place}"
-                );
-            }
-            Strike(request, queue) => {
-                assert!(rt;
-                    waiting(alloc, before, queue)?.iter().any(|r| *r == request),
-                    "place {place}"
-                );
-            }
-            Event::Full(..) => {}
+            Enter(request, queue) => is_entered(rt, alloc, row, before, request, queue)?,
+            Dispatch(request, queue) => is_dispatched(rt, alloc, row, before, request, queue)?,
+            Strike(..) | Full(..) => panic!(rt; "no row has one"),
         }
     }
     Ok(())
@@ -132,7 +142,26 @@ fn shortest_of_the_hand(rt: HostRuntime) -> Result<(), Fail> {
         events: &[Enter(1, 1), Enter(2, 0), Enter(3, 0)],
     };
     check(&rt, rt.alloc(), &row)?;
-    assert_eq!(rt; shortest(rt.alloc(), &[], &[])?, None);
+    is(&rt, shortest(rt.alloc(), &[], &[])?, None);
+    Ok(())
+}
+
+// Asserts that these are the two numbers `next`, R and the robin now.
+fn numbers_are(
+    rt: &impl Abort,
+    alloc: Global,
+    row: &Row<'_>,
+    now: &[Event],
+    next: &[u64],
+    virtual_time: u64,
+    robin: u32,
+) -> Result<(), AllocError> {
+    assert!(rt; names_queues(row.queues, now));
+    assert!(rt; now.len() < 1 << 20);
+    let numbers = numbers_of(alloc, row.queues, row.widths, now)?;
+    is(rt, numbers.next.as_slice(), next);
+    is(rt, numbers.virtual_time, virtual_time);
+    is(rt, numbers.robin, robin);
     Ok(())
 }
 
@@ -146,8 +175,8 @@ fn virtual_time(rt: HostRuntime) -> Result<(), Fail> {
     };
     check(&rt, rt.alloc(), &row)?;
     let history = newest_first(rt.alloc(), row.events)?;
-    assert!(rt; names_queues(row.queues, history.as_slice()));
-    assert_eq!(rt; choice_of(&rt, rt.alloc(), &row, history.as_slice())?, None);
+    let chosen = choice_of(&rt, rt.alloc(), &row, history.as_slice())?;
+    is(&rt, chosen, None);
 
     // After each dispatch: the two numbers `next`, R and the robin.
     for (place, next_0, next_1, virtual_time, robin) in [
@@ -159,23 +188,32 @@ fn virtual_time(rt: HostRuntime) -> Result<(), Fail> {
     ] {
         assert!(rt; place <= history.len());
         let now = &history[history.len() - place..];
-        assert!(rt; names_queues(row.queues, now));
-        assert!(rt; now.len() < 1 << 20);
-        let numbers = numbers_of(rt.alloc(), row.queues, row.widths, now)?;
-        assert_eq!(rt;
-            numbers.next.as_slice(),
-            [next_0, next_1].as_slice(),
-            "place {place}"
-        );
-        assert_eq!(rt; numbers.virtual_time, virtual_time, "place {place}");
-        assert_eq!(rt; numbers.robin, robin, "place {place}");
+        let next = [next_0, next_1];
+        numbers_are(&rt, rt.alloc(), &row, now, &next, virtual_time, robin)?;
     }
     Ok(())
 }
 
+// What the two queues were served in so many last events, if neither was empty in them.
+fn services(
+    rt: &impl Abort,
+    alloc: Global,
+    now: &[Event],
+    events: usize,
+) -> Result<Option<(u64, u64)>, AllocError> {
+    assert!(rt; events <= now.len() && now.len() < 1 << 20);
+    for queue in 0..2 {
+        if !is_never_empty(alloc, now, events, queue)? {
+            return Ok(None);
+        }
+    }
+    let stretch = &now[..events];
+    let widths = [3, 3, 3, 1, 1];
+    Ok(Some((service(&widths, stretch, 0), service(&widths, stretch, 1))))
+}
+
 #[test]
 fn balance(rt: HostRuntime) -> Result<(), Fail> {
-    let widths = [3, 3, 3, 1, 1];
     let history = newest_first(rt.alloc(), &VIRTUAL_TIME)?;
     for (from, to, want) in [
         (4, 5, Some((0, 1))),
@@ -183,17 +221,14 @@ fn balance(rt: HostRuntime) -> Result<(), Fail> {
         (2, 5, None),
         (4, 6, None),
     ] {
-        assert!(rt; from <= to && to <= history.len() && history.len() < 1 << 20);
+        assert!(rt; from <= to && to <= history.len());
         let now = &history[history.len() - to..];
-        assert!(rt; to - from <= now.len());
-        let stretch = &now[..to - from];
-        let mut services = None;
-        if is_never_empty(rt.alloc(), now, to - from, 0)?
-            && is_never_empty(rt.alloc(), now, to - from, 1)?
-        {
-            services = Some((service(&widths, stretch, 0), service(&widths, stretch, 1)));
-        }
-        assert_eq!(rt; services, want, "from {from} to {to}");
+        is_at(
+            &rt,
+            services(&rt, rt.alloc(), now, to - from)?,
+            want,
+            (from, to),
+        );
     }
     Ok(())
 }

@@ -1,5 +1,6 @@
 //! Histories, which the plain program judges.
 
+use crate::asserts::{is, is_at};
 use apf_model::Event::{self, Dispatch, Enter, Full, Strike};
 use apf_model::Status;
 use apf_plain::{
@@ -18,13 +19,26 @@ const WIDTHS: [u32; 5] = [3, 3, 3, 1, 1];
 
 // Whether the events, in the order of time, are legal, and whether they are fair.
 fn judge(rt: &impl Abort, alloc: Global, events: &[Event]) -> Result<(bool, bool), AllocError> {
-    let history: Vec<Event> = events.iter().rev().copied().collect(alloc)?;
+    let mut history = Vec::from_slice(alloc, events)?;
+    history.reverse();
     assert!(rt; names_queues(2, history.as_slice()));
     assert!(rt; names_requests(5, history.as_slice()));
     assert!(rt; history.len() < 1 << 20);
     let legal = is_legal(alloc, &HANDS, 1, 2, history.as_slice())?;
     let fair = is_fair(alloc, 2, &WIDTHS, &HANDS, 1, 2, history.as_slice())?;
     Ok((legal, fair))
+}
+
+// Asserts that events, in the order of time, are judged so.
+fn is_judged(
+    rt: &impl Abort,
+    alloc: Global,
+    events: &[Event],
+    want: (bool, bool),
+) -> Result<(), AllocError> {
+    let found = judge(rt, alloc, events)?;
+    is_at(rt, found, want, events);
+    Ok(())
 }
 
 #[test]
@@ -66,23 +80,30 @@ fn legal_and_fair(rt: HostRuntime) -> Result<(), Fail> {
         ),
     ];
     for (events, want) in cases {
-        assert_eq!(rt; judge(&rt, rt.alloc(), events)?, want, "{events:?}");
+        is_judged(&rt, rt.alloc(), events, want)?;
     }
     Ok(())
 }
 
+// Request 0 took its seats; 3 was cancelled while it waited, 4 was refused, and 2 still waits.
+const HISTORY: [Event; 6] = [
+    Full(4, 0),
+    Strike(3, 0),
+    Dispatch(1, 0),
+    Enter(2, 0),
+    Enter(3, 0),
+    Enter(1, 0),
+];
+
+const EXECUTE: Option<Decision> = Some(Decision::Execute);
+
+const CANCELLED: Option<Decision> = Some(Decision::Cancelled);
+
+const FULL: Option<Decision> = Some(Decision::QueueFull);
+
 #[test]
-fn numbers_and_agreement(rt: HostRuntime) -> Result<(), Fail> {
-    // Request 0 took its seats; 3 was cancelled while it waited, 4 was refused, and 2 still waits.
-    let history = [
-        Full(4, 0),
-        Strike(3, 0),
-        Dispatch(1, 0),
-        Enter(2, 0),
-        Enter(3, 0),
-        Enter(1, 0),
-    ];
-    let stats = stats_of(rt.alloc(), 1, &history)?;
+fn numbers_of_a_history(rt: HostRuntime) -> Result<(), Fail> {
+    let stats = stats_of(rt.alloc(), 1, &HISTORY)?;
     let want = Stats {
         entered: 3,
         dispatched: 1,
@@ -90,7 +111,12 @@ fn numbers_and_agreement(rt: HostRuntime) -> Result<(), Fail> {
         full: 1,
         waiting: 1,
     };
-    assert_eq!(rt; stats, want);
+    is(&rt, stats, want);
+    Ok(())
+}
+
+#[test]
+fn statuses(rt: HostRuntime) {
     for (request, want) in [
         (0, Status::Away),
         (1, Status::Dispatched),
@@ -98,29 +124,41 @@ fn numbers_and_agreement(rt: HostRuntime) -> Result<(), Fail> {
         (3, Status::Struck),
         (4, Status::Full),
     ] {
-        assert_eq!(rt; status(&history, request), want, "request {request}");
+        is_at(&rt, status(&HISTORY, request), want, request);
     }
+}
 
-    let execute = Some(Decision::Execute);
-    let cancelled = Some(Decision::Cancelled);
-    let full = Some(Decision::QueueFull);
-    for (decisions, want) in [
-        ([execute, execute, None, cancelled, full], true),
-        ([execute, execute, cancelled, cancelled, full], true),
-        ([execute, None, None, cancelled, full], false),
-        ([execute, execute, None, execute, full], false),
-        ([execute, execute, None, cancelled, None], false),
-        ([full, execute, None, cancelled, full], false),
-    ] {
-        assert_eq!(rt; agrees(&history, &decisions), want, "{decisions:?}");
-    }
+// Asserts whether these decisions agree with the history.
+fn agree(rt: &impl Abort, decisions: &[Option<Decision>; 5], want: bool) {
+    is_at(rt, agrees(&HISTORY, decisions), want, decisions);
+}
 
-    let decisions = [execute, execute, None, cancelled, full];
+#[test]
+fn agreement(rt: HostRuntime) {
+    agree(&rt, &[EXECUTE, EXECUTE, None, CANCELLED, FULL], true);
+    agree(&rt, &[EXECUTE, EXECUTE, CANCELLED, CANCELLED, FULL], true);
+    agree(&rt, &[EXECUTE, None, None, CANCELLED, FULL], false);
+    agree(&rt, &[EXECUTE, EXECUTE, None, EXECUTE, FULL], false);
+    agree(&rt, &[EXECUTE, EXECUTE, None, CANCELLED, None], false);
+    agree(&rt, &[FULL, EXECUTE, None, CANCELLED, FULL], false);
+}
+
+#[test]
+fn arrivals_that_execute(rt: HostRuntime) {
+    let decisions = [EXECUTE, EXECUTE, None, CANCELLED, FULL];
     let took = [true, false, false, false, false];
-    assert!(rt; executes_arrivals(&history, &decisions, &took));
-    assert!(rt; !executes_arrivals(&history, &decisions, &[false; 5]));
-    assert_eq!(rt; decided(Decision::Execute, &decisions), 2);
-    assert_eq!(rt; decided(Decision::QueueFull, &decisions), 1);
-    assert_eq!(rt; decided(Decision::Closed, &decisions), 0);
-    Ok(())
+    assert!(rt; executes_arrivals(&HISTORY, &decisions, &took));
+    assert!(rt; !executes_arrivals(&HISTORY, &decisions, &[false; 5]));
+}
+
+#[test]
+fn decisions_of_a_kind(rt: HostRuntime) {
+    let decisions = [EXECUTE, EXECUTE, None, CANCELLED, FULL];
+    for (decision, want) in [
+        (Decision::Execute, 2),
+        (Decision::QueueFull, 1),
+        (Decision::Closed, 0),
+    ] {
+        is(&rt, decided(decision, &decisions), want);
+    }
 }

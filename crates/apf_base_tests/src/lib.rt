@@ -7,8 +7,11 @@
 //! - `short`: which request of memory is refused.
 //! - `histories`: worked histories. `judges`: which histories are legal, fair and agree.
 //! - `worlds`: the worlds of a level after worked steps.
+//! - `asserts`: assertions as calls.
 #![tactic(auto)]
 
+#[cfg(test)]
+mod asserts;
 #[cfg(test)]
 mod flow;
 #[cfg(test)]

@@ -1,5 +1,6 @@
 //! Which request of memory is refused.
 
+use crate::asserts::is_at;
 use apf_short::Refusing;
 use std::alloc::{AllocError, Allocator};
 
@@ -18,7 +19,7 @@ fn each_request_is_refused_in_turn(rt: HostRuntime) {
     for refused in 1..1_000 {
         let alloc = Refusing::new(rt.alloc(), refused);
         let is_made = first_numbers(&alloc, 100).is_ok();
-        assert_eq!(rt; is_made, !alloc.has_refused(), "at {refused}");
+        is_at(&rt, is_made, !alloc.has_refused(), refused);
         if is_made {
             break;
         }

@@ -1,5 +1,6 @@
 //! Worlds after steps, which the plain program makes.
 
+use crate::asserts::{is, is_at};
 use apf_model::Move::{Close, Decide, Enter, Grant, Leave, Release, See, SetLimit, Take};
 use apf_model::{Move, Response, Stage};
 use apf_plain::{World, are_widths};
@@ -8,7 +9,15 @@ use std::alloc::{AllocError, Global};
 use std::process::Abort;
 use std::test::Fail;
 
-// The steps are allowed or not as said, and leave this many seats and waiters.
+// The step is allowed or not as said.
+fn make(rt: &impl Abort, world: &mut World, step: Move, allowed: bool) {
+    if let SetLimit(limit) = step {
+        assert!(rt; limit <= 10_000);
+    }
+    is_at(rt, world.step(step), allowed, step);
+}
+
+// The world after steps, each of which is allowed or not as said.
 fn steps(
     rt: &impl Abort,
     alloc: Global,
@@ -20,10 +29,7 @@ fn steps(
     assert!(rt; limit <= 10_000 && widths.len() <= 10_000 && are_widths(widths));
     let mut world = World::new(alloc, limit, response, widths)?;
     for (step, allowed) in steps {
-        if let SetLimit(limit) = *step {
-            assert!(rt; limit <= 10_000);
-        }
-        assert_eq!(rt; world.step(*step), *allowed, "{step:?}");
+        make(rt, &mut world, *step, *allowed);
     }
     Ok(world)
 }
@@ -43,8 +49,12 @@ fn over_wide(rt: HostRuntime) -> Result<(), Fail> {
         (Decide(1, Decision::Cancelled), false),
     ];
     let world = steps(&rt, rt.alloc(), 2, Response::Queue, &[5, 1], &first)?;
-    assert_eq!(rt; world.seats(), 1);
-    assert_eq!(rt; world.waiters(), 0);
+    is(&rt, [world.seats(), world.waiters()], [1, 0]);
+    Ok(())
+}
+
+#[test]
+fn over_wide_on_an_empty_level(rt: HostRuntime) -> Result<(), Fail> {
     let second = [
         (Take(0), true),
         (Take(1), false),
@@ -57,8 +67,7 @@ fn over_wide(rt: HostRuntime) -> Result<(), Fail> {
         (Decide(1, Decision::Execute), false),
     ];
     let world = steps(&rt, rt.alloc(), 2, Response::Queue, &[1, 5], &second)?;
-    assert_eq!(rt; world.seats(), 5);
-    assert_eq!(rt; world.largest(), 2);
+    is(&rt, [world.seats(), world.largest()], [5, 2]);
     Ok(())
 }
 
@@ -79,16 +88,15 @@ fn closing_and_cancelling(rt: HostRuntime) -> Result<(), Fail> {
         (Release(0), false),
     ];
     let world = steps(&rt, rt.alloc(), 1, Response::Queue, &[1, 1, 1], &closing)?;
-    assert_eq!(rt; world.is_open(), false);
-    assert_eq!(rt; world.waiters(), 0);
-    assert_eq!(rt; world.stage(0), Stage::Gone);
-    assert_eq!(rt; world.decision(1), Some(Decision::Closed));
-    assert_eq!(rt; world.decision(2), None);
+    is(&rt, (world.is_open(), world.waiters()), (false, 0));
+    is(&rt, world.stage(0), Stage::Gone);
+    let decisions = [world.decision(1), world.decision(2)];
+    is(&rt, decisions, [Some(Decision::Closed), None]);
     Ok(())
 }
 
 #[test]
-fn changing_the_limit_and_rejecting(rt: HostRuntime) -> Result<(), Fail> {
+fn changing_the_limit(rt: HostRuntime) -> Result<(), Fail> {
     let changing = [
         (Take(0), true),
         (Take(1), false),
@@ -99,9 +107,13 @@ fn changing_the_limit_and_rejecting(rt: HostRuntime) -> Result<(), Fail> {
         (Take(2), false),
     ];
     let world = steps(&rt, rt.alloc(), 2, Response::Queue, &[2, 2, 1], &changing)?;
-    assert_eq!(rt; world.limit(), 1);
-    assert_eq!(rt; world.largest(), 4);
-    assert_eq!(rt; world.seats(), 4);
+    let numbers = [world.limit(), world.largest(), world.seats()];
+    is(&rt, numbers, [1, 4, 4]);
+    Ok(())
+}
+
+#[test]
+fn rejecting(rt: HostRuntime) -> Result<(), Fail> {
     let rejecting = [
         (Take(0), true),
         (Enter(1), false),
@@ -112,7 +124,7 @@ fn changing_the_limit_and_rejecting(rt: HostRuntime) -> Result<(), Fail> {
         (Decide(2, Decision::QueueFull), true),
     ];
     let world = steps(&rt, rt.alloc(), 2, Response::Reject, &[1, 2, 1], &rejecting)?;
-    assert_eq!(rt; world.decision(1), Some(Decision::ConcurrencyLimit));
-    assert_eq!(rt; world.stage(1), Stage::Away);
+    is(&rt, world.decision(1), Some(Decision::ConcurrencyLimit));
+    is(&rt, world.stage(1), Stage::Away);
     Ok(())
 }

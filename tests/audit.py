@@ -351,9 +351,9 @@ def check_bad_choices():
         (["--since", "2026-07-01T10:00:00", "--by", "user"], f"--since {instant}"),
     ]:
         tally.check(f"{COMMAND} {words}", run(program, [COMMAND, files("audit.log", content), "s", *words]), (2, b"", f"apf: {line}\n".encode()))
-    missing = files.folder / "missing.log"
+    missing = f"{files.folder.name}/missing.log"
     absent = f"apf: cannot read audit log: {missing}: there is no such file\n"
-    tally.check(f"{COMMAND} of a file that is not there", run(program, [COMMAND, str(missing), "s"]), (1, b"", absent.encode()))
+    tally.check(f"{COMMAND} of a file that is not there", run(program, [COMMAND, missing, "s"]), (1, b"", absent.encode()))
     many = b"".join(logs.line(logs.event((NOON + number * 10**6, 5, "alice", None))) + b"\n" for number in range(10_001))
     span = "received from 2026-11-25T12:00:00Z to 2026-11-25T14:46:40Z"
     tell = f"apf: audit fault 9: there are 10001 requests, {span}: at most 10000 may be there: --since, --until and --user choose some of them\n"

@@ -61,6 +61,11 @@ fn copied<K: Naming, R: Wait>(rt: &R, session: &Session<K>) -> Told {
     Told::Copied(copied.from, copied.count, room[0])
 }
 
+// How many events there were of each kind. The lock is given back at the end.
+fn numbers<K: Naming, R: Wait>(rt: &R, session: &Session<K>) -> Told {
+    Told::Numbers(session.level.lock(rt).stats())
+}
+
 // The calls, one after another.
 fn make<K: Naming, R: Wait>(rt: &R, session: &mut Session<K>) -> [Told; CALLS]
     requires slots { K.level.gate.shape.slots ≡ 3 }
@@ -81,7 +86,7 @@ fn make<K: Naming, R: Wait>(rt: &R, session: &mut Session<K>) -> [Told; CALLS]
         Told::Limit(session.set_limit(rt, 2)),
         Told::Is(session.poll(rt, 1)),
         copied(rt, session),
-        Told::Numbers(session.level.lock(rt).stats()),
+        numbers(rt, session),
         Told::Is(session.finish(rt, 2)),
         Told::Is(session.finish(rt, 1)),
         Told::Is(session.finish(rt, 1)),

@@ -1,6 +1,6 @@
 //! The calls of the level, one after another.
 
-ghost use Rattle.std.specs.Prelude.{◌≡◌, length};
+ghost use Rattle.std.specs.Prelude.{◌≡◌, ◌<◌, length};
 
 use crate::answers::Answer;
 use apf_level::Naming;
@@ -18,6 +18,18 @@ fn copied<K: Naming, R: Wait>(rt: &R, session: &Session<K>) -> Answer {
     Answer::Copied(count, into)
 }
 
+// Strikes the request. The lock is given back at the end.
+fn struck<K: Naming, R: Wait>(rt: &R, session: &Session<K>, request: u32) -> Answer
+    requires { request < length K.level.gate.shape.widths }
+{
+    Answer::Struck(session.level.lock(rt).strike(rt, request))
+}
+
+// Dispatches. The lock is given back at the end.
+fn dispatched<K: Naming, R: Wait>(rt: &R, session: &Session<K>) -> Answer {
+    Answer::Dispatched(session.level.lock(rt).dispatch(rt))
+}
+
 /// Makes the calls on a level whose four requests did not arrive yet, and tells what they answered.
 pub fn make<K: Naming, R: Wait>(rt: &R, session: &mut Session<K>) -> [Answer; CALLS]
     requires requests { length K.level.gate.shape.widths ≡ 4 }
@@ -30,12 +42,12 @@ pub fn make<K: Naming, R: Wait>(rt: &R, session: &mut Session<K>) -> [Answer; CA
         session.poll(rt, 1).into(),
         Answer::Over(session.operators[0].cancel(&session.level, 1)),
         Answer::Word(session.look()),
-        Answer::Struck(session.level.lock(rt).strike(rt, 1)),
+        struck(rt, session, 1),
         Answer::Word(session.look()),
         Answer::Numbers(session.stats(rt)),
         copied(rt, session),
         session.requests[0].release(&session.level).into(),
-        Answer::Dispatched(session.level.lock(rt).dispatch(rt)),
+        dispatched(rt, session),
         Answer::Numbers(session.stats(rt)),
         session.poll(rt, 1).into(),
         session.poll(rt, 2).into(),

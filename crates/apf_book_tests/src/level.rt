@@ -12,7 +12,7 @@ use crate::opening::{Fault, requests_of};
 use crate::requests::{Request, Stage, Tried};
 use crate::stations;
 use apf_book::{Arrived, Ask, Book, Config};
-use apf_gate::{Close, Desk, Gate, Opened, Pass, Station, TrySetLimit};
+use apf_gate::{Close, Desk, Gate, Opened, Pass, Station};
 use apf_model::Event;
 use apf_words::Decision;
 use std::alloc::Allocator;
@@ -35,8 +35,6 @@ pub enum Command {
     CancelAlone(u32),
     /// The level is closed.
     Close,
-    /// The level gets this limit, 1 to 10,000 seats.
-    Limit(u32),
 }
 
 /// What a command answers.
@@ -60,9 +58,7 @@ pub enum Answer {
     Cancel(Decision),
     /// What a close found.
     Close(Close),
-    /// The limit that was changed.
-    LimitWas(u32),
-    /// No such request, or no such limit.
+    /// No such request.
     Unknown,
     /// A lost exchange, which one thread never has.
     Raced,
@@ -137,7 +133,6 @@ impl<A: Allocator, K: Mark> Level<A, K> {
             Command::Cancel(request) => self.cancel(rt, request),
             Command::CancelAlone(request) => self.cancel_alone(request),
             Command::Close => Answer::Close(self.gate.close(&mut self.station)),
-            Command::Limit(limit) => self.limit(rt, limit),
         };
         self.poll();
         answer
@@ -225,21 +220,6 @@ impl<A: Allocator, K: Mark> Level<A, K> {
             return Answer::Unknown;
         }
         Answer::Cancel(stations::cancel(&self.gate, &mut self.station, request))
-    }
-
-    // The level gets this limit, and where requests wait the heads that fit are dispatched.
-    fn limit<R: Wait>(&mut self, rt: &R, limit: u32) -> Answer {
-        if !(1..=10_000).contains(&limit) {
-            return Answer::Unknown;
-        }
-        match self.gate.try_set_limit(&mut self.station, limit) {
-            TrySetLimit::Raced => Answer::Raced,
-            TrySetLimit::Set(old, false) => Answer::LimitWas(old),
-            TrySetLimit::Set(old, true) => {
-                self.book.dispatch(rt, &self.gate);
-                Answer::LimitWas(old)
-            }
-        }
     }
 
     // Each request that waits reads its decision.

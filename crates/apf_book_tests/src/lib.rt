@@ -13,7 +13,6 @@
 //! In one thread:
 //!
 //! - `rows`: worked scripts.
-//! - `deeds`: rows of single deeds on a level of one seat.
 //! - `stretches`: the services of two queues in a stretch of a log. `overtaking`: what is granted while a request
 //!   waits.
 //! - `memory`: each allocation refused in turn.
@@ -25,8 +24,6 @@
 //! - `grants`: requests that wait are dispatched while they are cancelled, and some grants are lost.
 #![tactic(auto)]
 
-#[cfg(test)]
-mod deeds;
 #[cfg(test)]
 mod faults;
 #[cfg(test)]

@@ -1,10 +1,11 @@
-"""The planted bugs still apply: those of planted/, which ./plant tries, and those of crates/*/must-fail, which `rt ci` tries."""
+"""The planted bugs still apply: those of planted/, which ./plant tries, and those of crates/*/must-fail, which `rt ci` tries. Of each of the
+first it is recorded what refused it."""
 
 import os
 import sys
 
 sys.path.insert(0, os.path.join(os.path.dirname(os.path.abspath(__file__)), "lib"))
-from edits import CRATES, PLANTED, BadEdit, must_fail_of, planted_of, reader_of
+from edits import CRATES, PLANTED, BadEdit, goals_of, must_fail_of, planted_of, reader_of
 from harness import Tally
 
 # as many as `rt ci` tries at most: the first of a crate proves the crate once more, and each further one takes half a minute
@@ -31,6 +32,7 @@ for crate in crates:
     read = reader_of(os.path.join(CRATES, crate))
     for it in [*kept, *planted]:
         tally.check(f"{crate}/{it.name} applies", fault(it, read), None)
+    tally.check(f"{crate}: goals.txt has each", sorted(goals_of(crate)), [it.name for it in planted])
     bodies = [(tuple(it.pairs), it.name) for it in [*kept, *planted]]
     tally.check(f"{crate}: no two are the same", [name for at, (pairs, name) in enumerate(bodies) if pairs in [other for other, _ in bodies[:at]]], [])
 tally.check(f"at most {MOST} in crates/*/must-fail", tried <= MOST, True)

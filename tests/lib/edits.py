@@ -104,6 +104,29 @@ def must_fail_of(crate):
     return edits_of(os.path.join(CRATES, crate, MUST_FAIL), crate)
 
 
+def goals_file(crate):
+    return os.path.join(PLANTED, crate, "goals.txt")
+
+
+def goals_of(crate):
+    """What refused each bug of a crate's folder in planted/ when it was recorded: by the bug's name, the goals of each function, or of each file where no function is named.
+    A line of the file is 'BUG: FUNCTION GOAL..; FUNCTION GOAL..'."""
+    if not os.path.isfile(goals_file(crate)):
+        return {}
+    with open(goals_file(crate), encoding="utf-8") as it:
+        lines = [line.split(": ", 1) for line in it.read().splitlines()]
+    return {name: {words[0]: set(words[1:]) for words in map(str.split, told.split("; "))} for name, told in lines}
+
+
+def record_goals(crate, goals):
+    """Writes these goals of the bugs in the crate's folder of planted/."""
+    names = {it.name for it in planted_of(crate)}
+    with open(goals_file(crate), "w", encoding="utf-8") as it:
+        for name in sorted(names & set(goals)):
+            told = "; ".join(" ".join([of, *sorted(goals[name][of])]) for of in sorted(goals[name]))
+            it.write(f"{name}: {told}\n")
+
+
 def reader_of(folder):
     """Reads a file of the crate in this folder."""
 

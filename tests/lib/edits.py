@@ -5,9 +5,11 @@ import re
 
 TOP = os.path.dirname(os.path.dirname(os.path.dirname(os.path.abspath(__file__))))
 CRATES = os.path.join(TOP, "crates")
-# those that ./plant tries, a folder for each crate, and those that ./test tries, in the crate's own folder
+# those that ./plant tries, a folder for each crate, and those that `rt ci` tries, in the crate's own folder
 PLANTED = os.path.join(TOP, "planted")
 MUST_FAIL = "must-fail"
+# those of planted/ that ./test all tries, a line 'CRATE NAME' for each
+LISTED = os.path.join(PLANTED, "must-fail.txt")
 FUNCTION = re.compile(r"^\s*(?:pub(?:\([^)]*\))? )?(?:const |unsafe )*fn (\w+)")
 BLOCK = re.compile(r"^(?:impl\b(?:<.*?>)? ?(?:(\w+)(?:<.*?>)? for )?&?(\w+)|(?:pub )?trait (\w+))")
 CONSTANT = re.compile(r"^(?:pub(?:\([^)]*\))? )?(?:const|static) (\w+)")
@@ -104,12 +106,18 @@ def must_fail_of(crate):
     return edits_of(os.path.join(CRATES, crate, MUST_FAIL), crate)
 
 
+def listed():
+    """The crates and names of the bugs in planted/ that ./test all tries."""
+    with open(LISTED, encoding="utf-8") as it:
+        return [tuple(line.split(" ")) for line in it.read().splitlines()]
+
+
 def goals_file(crate):
     return os.path.join(PLANTED, crate, "goals.txt")
 
 
 def goals_of(crate):
-    """What refused each bug of a crate's folder in planted/ when it was recorded: by the bug's name, the goals of each function, or of each file where no function is named.
+    """What refused each bug of a crate when it was recorded: by the bug's name, the goals of each function, or of each file where no function is named.
     A line of the file is 'BUG: FUNCTION GOAL..; FUNCTION GOAL..'."""
     if not os.path.isfile(goals_file(crate)):
         return {}
@@ -119,8 +127,8 @@ def goals_of(crate):
 
 
 def record_goals(crate, goals):
-    """Writes these goals of the bugs in the crate's folder of planted/."""
-    names = {it.name for it in planted_of(crate)}
+    """Writes these goals of the crate's bugs."""
+    names = {it.name for it in [*planted_of(crate), *must_fail_of(crate)]}
     with open(goals_file(crate), "w", encoding="utf-8") as it:
         for name in sorted(names & set(goals)):
             told = "; ".join(" ".join([of, *sorted(goals[name][of])]) for of in sorted(goals[name]))

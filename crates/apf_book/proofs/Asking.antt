@@ -3,6 +3,7 @@ use Rattle.std.proofs.Common.{◌≡◌, ◌≢◌, ℕ, ◌<◌, ◌≤◌, inl
 use Rattle.std.specs.Prelude.{◌||◌, Contains, slice_index}
 use Rattle.std.proofs.lemmas.Bool.{cases_eq, eq-eqb, false≢true}
 use Rattle.std.proofs.lemmas.List.{get_or-map, length-map}
+use Rattle.apf_words.specs.Limits.{max_cost}
 use Rattle.apf_history.specs.declared.events.Event.{Event}
 use Rattle.apf_history.specs.declared.events.Event.TheVariants.{Enter, Full, Dispatch, Strike}
 use Rattle.apf_history.specs.declared.events.Status.TheVariants as status_is
@@ -64,7 +65,7 @@ Contains-holding holders slots slot c = (
 )
 
 module _ (laws : Laws) (stands : Stands) (v : LifeView) (s : LifeState) (is : IsLifeOf v s) (r : ℕ) (hand : List ℕ) (cost : ℕ)
-    (is_request : r < length v.costs) (is_new : has_arrived v.history r ≡ false) (low : cost ≤ 20000) where
+    (is_request : r < length v.costs) (is_new : has_arrived v.history r ≡ false) (low : cost ≤ max_cost) where
   others : EachNames (λ j. j ≢ r) v.history
   others = names_others laws v.hands v.limit r v.history is.fair.0 is_new
 
@@ -82,7 +83,7 @@ module _ (laws : Laws) (stands : Stands) (v : LifeView) (s : LifeState) (is : Is
       waits_nowhere laws v.hands v.limit r v.history is.fair.0 is_new q
       (subst (λ (xs : List ℕ). Contains xs r) (is.queue_is q) (subst (λ (i : ℕ). Contains (holding s.holders (queue_in s.queues q)) i) same (Contains-holding s.holders (queue_in s.queues q) slot c)))
 
-  low_asked : (j : ℕ) → width (set v.costs r cost) j ≤ 20000
+  low_asked : (j : ℕ) → width (set v.costs r cost) j ≤ max_cost
   low_asked j = elim (cases_eq j r) [
     | inl e ↦ let same : get_or (set v.costs r cost) j 0 ≡ cost = ap (λ i. get_or (set v.costs r cost) i 0) e ∙ get_or-set_same v.costs r cost 0 is_request in omega arith
     | inr ne ↦ let same = cost_else j ne in let n = is.low j in omega arith

@@ -5,6 +5,7 @@ use Rattle.std.proofs.lemmas.Bool.{cases_eq}
 use Rattle.std.proofs.lemmas.List.{map_push, length-map}
 use Rattle.std.proofs.lemmas.List.Elements.{Contains-push_cases}
 use Rattle.apf_gate.specs.Slots.{slot_of}
+use Rattle.apf_words.specs.Limits.{max_cost}
 use Rattle.apf_history.specs.declared.events.Event.TheVariants.{Enter}
 use Rattle.apf_model.specs.World.{put, width}
 use Rattle.apf_model.specs.History.{waiting, IsShortest, MayFollow}
@@ -29,7 +30,7 @@ enter_same q holders [] n = refl
 enter_same q holders (x ∷ xs) n = refl
 
 module _ (laws : Laws) (stands : Stands) (v : LifeView) (s : LifeState) (is : IsLifeOf v s) (r : ℕ) (hand : List ℕ) (q cost : ℕ)
-    (comes : Comes v r hand q) (low : cost ≤ 20000) (has_slot : slot_of r < length s.holders)
+    (comes : Comes v r hand q) (low : cost ≤ max_cost) (has_slot : slot_of r < length s.holders)
     (nowhere : StandsNowhere s.queues (slot_of r)) (room : length (queue_in s.queues q) ≢ s.queues.length_limit)
     (t : QueuesView) (enters : Enters s.queues t q (slot_of r) cost) where
   known : IsLifeOf (asked v r hand cost) s

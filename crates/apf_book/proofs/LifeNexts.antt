@@ -3,6 +3,7 @@ use Rattle.std.proofs.Common.{◌≡◌, ◌≢◌, ℕ, ◌≤◌, inl, inr, Li
 use Rattle.std.specs.Prelude.{Contains, slice_get, slice_index, MatchOption}
 use Rattle.std.proofs.lemmas.Bool.{cases_eq, cases_lt}
 use Rattle.std.proofs.lemmas.List.{get_or_past, drop-map, length-map}
+use Rattle.apf_words.specs.Limits.{max_cost}
 use Rattle.apf_history.specs.declared.events.Event.TheVariants.{Full, Dispatch}
 use Rattle.apf_model.specs.World.{put, width}
 use Rattle.apf_model.specs.History.{waiting, IsShortest, MayFollow}
@@ -85,7 +86,7 @@ module _ (v : LifeView) (s : LifeState) (is : IsLifeOf v s) where
       let k = is.few in
       let some = count_within is_dispatch v.history in
       let e : slice_index s.queues.next q ≡ (numbers v.queues v.costs v.history).next q = ap (λ (n : Numbers). n.next q) is.numbers_are in
-      let b = (numbers_within v.queues v.costs 20000 is.low v.history).next q in
+      let b = (numbers_within v.queues v.costs max_cost is.low v.history).next q in
       omega arith
 
   module _ (laws : Laws) (c : Chosen) (t : QueuesView) (chosen : IsChosen s.queues c) (d : Dispatches s.queues t c.queue c.cost) where
@@ -140,7 +141,7 @@ module _ (v : LifeView) (s : LifeState) (is : IsLifeOf v s) where
 
 -- it is refused, as the queue is full, and nothing that is stored changes
 pub life_refuses : (laws : Laws) (stands : Stands) (v : LifeView) (s : LifeState) (is : IsLifeOf v s) (r : ℕ) (hand : List ℕ) (q cost : ℕ)
-    → Comes v r hand q → cost ≤ 20000 → length (queue_in s.queues q) ≡ s.queues.length_limit → IsLifeOf (then_came (asked v r hand cost) (Full r q)) s
+    → Comes v r hand q → cost ≤ max_cost → length (queue_in s.queues q) ≡ s.queues.length_limit → IsLifeOf (then_came (asked v r hand cost) (Full r q)) s
 life_refuses laws stands v s is r hand q cost comes low full =
     let known = is_asked laws stands v s is r hand cost comes.is_request comes.is_new low in
     let count : length (queue_in s.queues q) ≡ length (waiting v.history q) = sym (length-map (queue_in s.queues q) (λ i. slice_index s.holders i)) ∙ ap (λ (xs : List ℕ). length xs) (is.queue_is q) in

@@ -5,7 +5,7 @@ use Rattle.std.proofs.lemmas.Bool.{cases_lt}
 use Rattle.std.proofs.lemmas.List.{get_or_past, length-replicate}
 use Rattle.apf_history.specs.declared.events.Event.{Event}
 use Rattle.apf_model.specs.World.{width}
-use Rattle.apf_model.specs.Schedule.{AreWidths}
+use Rattle.apf_model.specs.Schedule.{AreCosts}
 use Rattle.apf_model.specs.History.{NamesRequests, NamesQueues, has_arrived, waiting}
 use Rattle.apf_model.specs.Fair.{Numbers, opening_numbers, numbers, finish, steps_round, IsChoice, IsFair}
 use Rattle.apf_queue.specs.declared.choice.Chosen.{Chosen}
@@ -98,7 +98,7 @@ module _ (v : LedgerView) (s : QueuesView) (marks : List Bool) (capacity : ℕ) 
 
 -- how it begins
 pub opens : (v : LedgerView) (s : QueuesView) (marks : List Bool) (capacity n : ℕ) → v.history ≡ [] → s ≡ opening_view v.sizes.deck v.limit n → numbers_in s ≡ opening_numbers v.sizes.deck → marks ≡ replicate n false
-    → length v.costs ≡ n → length v.hashes ≡ n → AreWidths v.costs → n ≤ 10000 → 2 * n ≤ capacity → AreOfLog v s marks capacity
+    → length v.costs ≡ n → length v.hashes ≡ n → AreCosts v.costs → n ≤ 10000 → 2 * n ≤ capacity → AreOfLog v s marks capacity
 opens v s marks capacity n nothing opening start unmarked costs hashes are few room =
     let empty : (q : ℕ) → queue_in s q ≡ [] = λ (q : ℕ). ap (λ (x : QueuesView). queue_in x q) opening ∙ no_queue v.sizes.deck q in
     record {

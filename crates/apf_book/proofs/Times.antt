@@ -3,13 +3,14 @@ use Rattle.std.proofs.Common.{◌≡◌, ◌≢◌, ℕ, zero, suc, ◌+◌, ◌
 use Rattle.std.specs.Prelude.{max, count_by, slice_index}
 use Rattle.std.proofs.lemmas.Bool.{cases_eq, cases_lt}
 use Rattle.std.proofs.lemmas.List.{get_or_past}
+use Rattle.apf_words.specs.Limits.{max_cost}
 use Rattle.apf_history.specs.declared.events.Event.{Event}
 use Rattle.apf_history.specs.declared.events.Event.TheVariants.{Enter, Full, Dispatch, Strike}
 use Rattle.apf_history.specs.Tally.{tally}
 use Rattle.apf_model.specs.World.{put, width}
 use Rattle.apf_model.specs.History.{waiting}
 use Rattle.apf_model.specs.Outcome.{is_enter, is_full, is_dispatch, is_strike, stats_of}
-use Rattle.apf_model.specs.Fair.{Numbers, after_enter, numbers}
+use Rattle.apf_model.specs.Fair.{Numbers, after_enter, numbers, widest}
 use Rattle.apf_queue.specs.View.{QueuesView, HasTime}
 use Rattle.apf_book.specs.LedgerView.{LedgerView, hand_in, AreSmall}
 use Rattle.apf_book.specs.LedgerKept.{AreOfLog}
@@ -81,6 +82,20 @@ some_length : (xs : List ℕ) → xs ≢ [] → 1 ≤ length xs
 some_length [] some = absurd (some refl)
 some_length (x ∷ xs) some = omega arith
 
+-- no cost is above the largest, and that is no more than what bounds them all
+cost_within : (costs : List ℕ) (r : ℕ) → width costs r ≤ widest costs
+cost_within [] r = omega arith
+cost_within (k ∷ ks) zero = omega arith
+cost_within (k ∷ ks) (suc r) = let l = cost_within ks r in omega arith
+
+widest_within : (costs : List ℕ) (most : ℕ) → ((r : ℕ) → r < length costs → width costs r ≤ most) → widest costs ≤ most
+widest_within [] most low = omega arith
+widest_within (k ∷ ks) most low = let first = low 0 (omega arith) in let l = widest_within ks most (λ r inside. low (suc r) (omega arith)) in omega arith
+
+times_le : (n m k : ℕ) → n ≤ m → n * k ≤ m * k
+times_le n m zero l = omega arith
+times_le n m (suc k) l = let b = times_le n m k l in omega arith
+
 module _ (laws : Laws) (v : LedgerView) (s : QueuesView) (marks : List Bool) (capacity : ℕ) (is : AreOfLog v s marks capacity) where
   -- there are two events of each request that was dispatched, and one of each that waits
   few_dispatched : 2 * count_by is_dispatch v.history + (stats_of v.sizes.deck v.history).waiting ≤ 2 * length v.costs
@@ -91,14 +106,15 @@ module _ (laws : Laws) (v : LedgerView) (s : QueuesView) (marks : List Bool) (ca
       let k = kinds v.history in
       omega arith
 
-  low : (r : ℕ) → width v.costs r ≤ 20000
-  low r = elim (cases_lt r (length v.costs)) [
-    | inl l ↦ (is.costs r l).1
-    | inr past ↦ let none = get_or_past v.costs r 0 past in omega arith
-  ]
+  low : widest v.costs ≤ max_cost
+  low = widest_within v.costs max_cost (λ r l. (is.costs r l).1)
 
-  times : AreWithin (count_by is_dispatch v.history * 20000) (numbers v.sizes.deck v.costs v.history)
-  times = numbers_within v.sizes.deck v.costs 20000 low v.history
+  times : AreWithin (count_by is_dispatch v.history * widest v.costs) (numbers v.sizes.deck v.costs v.history)
+  times = numbers_within v.sizes.deck v.costs (widest v.costs) (cost_within v.costs) v.history
+
+  -- at most so many were dispatched
+  few_times : (n m : ℕ) → n ≤ m → n * widest v.costs ≤ m * widest v.costs
+  few_times n m l = times_le n m (widest v.costs) l
 
   -- virtual time may go on in each queue
   pub has_time : (q : ℕ) → HasTime s q
@@ -106,6 +122,7 @@ module _ (laws : Laws) (v : LedgerView) (s : QueuesView) (marks : List Bool) (ca
       let d = few_dispatched in let k = is.few in
       let e : slice_index s.next q ≡ (numbers v.sizes.deck v.costs v.history).next q = ap (λ (n : Numbers). n.next q) is.numbers_are in
       let b = times.next q in
+      let t = few_times (count_by is_dispatch v.history) 10000 (omega arith) in let c = low in
       omega arith
 
   -- who waits is counted
@@ -119,7 +136,9 @@ module _ (laws : Laws) (v : LedgerView) (s : QueuesView) (marks : List Bool) (ca
   small =
       let t = times in let d = few_dispatched in let k = is.few in
       record {
-        next = λ q. (let b = t.next q in omega arith);
-        virtual_time = (let b = t.virtual_time in omega arith);
-        finish = λ q some. (let b = t.next q in let one = some_waits q some in let cost = low (slice_index (waiting v.history q) 0) in omega arith);
+        next = λ q. (let b = t.next q in let l = few_times (count_by is_dispatch v.history) 10000 (omega arith) in omega arith);
+        virtual_time = (let b = t.virtual_time in let l = few_times (count_by is_dispatch v.history) 10000 (omega arith) in omega arith);
+        finish = λ q some. (let b = t.next q in let one = some_waits q some in let cost = cost_within v.costs (slice_index (waiting v.history q) 0) in
+          let l = few_times (suc (count_by is_dispatch v.history)) 10000 (omega arith) in
+          let more : suc (count_by is_dispatch v.history) * widest v.costs ≡ count_by is_dispatch v.history * widest v.costs + widest v.costs = omega arith in omega arith);
       }

@@ -6,7 +6,7 @@ use Rattle.apf_model.specs.declared.config.Config.{Config}
 use Rattle.apf_model.specs.declared.config.Ask.{Ask}
 use Rattle.apf_model.specs.declared.response.Response.TheVariants.{Queue}
 use Rattle.apf_model.specs.History.{has_arrived, waiting}
-use Rattle.apf_model.specs.Schedule.{AreWidths}
+use Rattle.apf_model.specs.Schedule.{AreCosts}
 use Rattle.apf_gate.specs.Records.{new_desk}
 use Rattle.apf_gate.specs.Tokens.{GateId, PassToken, DeskToken, pass_gate, desk_gate}
 use Rattle.apf_gate.specs.JoinedSteps.{JoinedLoadsDecision}
@@ -27,10 +27,10 @@ pub record IsDeskFor (asks : List Ask) (desk : DeskToken) : Type 0 where
   pub has_queues : desk.desk.knows.shape.response ≡ Queue
   pub batch : length desk.desk.knows.shape.widths ≡ desk.desk.knows.shape.slots
 
--- one cost of 1 to 20,000 for each ask
+-- one cost of 1 to 4,294,967,295 for each ask
 pub record AreCostsFor (asks : List Ask) (charges : List ℕ) : Type 0 where
   pub one_cost_each : length charges ≡ length asks
-  pub costs : AreWidths charges
+  pub costs : AreCosts charges
 
 -- the book that was made has the Desk as it was given and this ledger, and it is stopped; or the fault is the first of the settings
 pub record MakesBook (config : Config) (asks : List Ask) (given : DeskToken) (opening : LedgerView) (made : Result BookView BookFault) : Type 0 where

@@ -3,7 +3,7 @@ use Rattle.std.specs.Prelude.{◌≡◌, ℕ, ◌*◌, ◌≤◌, Bool, false, L
 use Rattle.apf_words.specs.Limits.{max_requests}
 use Rattle.apf_history.specs.declared.events.Event.{Event}
 use Rattle.apf_model.specs.World.{width}
-use Rattle.apf_model.specs.Schedule.{AreWidths}
+use Rattle.apf_model.specs.Schedule.{AreCosts}
 use Rattle.apf_model.specs.History.{NamesRequests, NamesQueues, has_arrived, waiting}
 use Rattle.apf_model.specs.Outcome as outcome
 use Rattle.apf_model.specs.Fair.{numbers}
@@ -25,7 +25,7 @@ pub record AreOfLog (v : LedgerView) (queues : QueuesView) (arrived : List Bool)
   pub marked : (r : ℕ) → slice_index_or arrived r false ≡ has_arrived v.history r
   pub names_queues : NamesQueues v.sizes.deck v.history
   pub names_requests : NamesRequests (length v.costs) v.history
-  pub costs : AreWidths v.costs
+  pub costs : AreCosts v.costs
   pub few : length v.costs ≤ max_requests
   pub one_hash_each : length v.hashes ≡ length v.costs
   pub one_place_each : length queues.costs ≡ length v.costs

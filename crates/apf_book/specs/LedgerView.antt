@@ -1,13 +1,13 @@
 -- The queues and the log, as contracts see them.
-use Rattle.std.specs.Prelude.{◌≡◌, ◌≢◌, ℕ, ◌<◌, ◌≤◌, false, List, [], ◌∷◌, length, slice_get, slice_index, Some}
+use Rattle.std.specs.Prelude.{◌≡◌, ◌≢◌, ℕ, ◌*◌, ◌<◌, ◌≤◌, false, List, [], ◌∷◌, length, slice_get, slice_index, Some}
 use Rattle.apf_words.specs.Limits.{max_requests}
 use Rattle.apf_flow.specs.Sizes.{Sizes}
 use Rattle.apf_flow.specs.Deal.{hand_of}
 use Rattle.apf_history.specs.declared.events.Event.{Event}
 use Rattle.apf_model.specs.World.{width}
-use Rattle.apf_model.specs.Schedule.{AreWidths}
+use Rattle.apf_model.specs.Schedule.{AreCosts}
 use Rattle.apf_model.specs.History.{NamesRequests, NamesQueues, has_arrived, waiting, IsShortest}
-use Rattle.apf_model.specs.Fair.{numbers, finish, IsChoice, IsFair}
+use Rattle.apf_model.specs.Fair.{numbers, finish, widest, IsChoice, IsFair}
 use Rattle.apf_queue.specs.declared.choice.Chosen.{Chosen}
 
 -- the log of a level, and what its queues were made of
@@ -30,12 +30,12 @@ hand_in v r = hand_of v.sizes (slice_index v.hashes r)
 abbrev pub HasFairLog : LedgerView → Type 0
 HasFairLog v = IsFair v.sizes.deck v.costs (hand_in v) v.limit v.history
 
--- the log is fair, names requests and queues of the level, and there are at most so many requests, of costs in the range of widths
+-- the log is fair, names requests and queues of the level, and there are at most so many requests, of costs in their range
 pub record IsLogOf (v : LedgerView) : Type 0 where
   pub fair : HasFairLog v
   pub names_requests : NamesRequests (length v.costs) v.history
   pub names_queues : NamesQueues v.sizes.deck v.history
-  pub costs : AreWidths v.costs
+  pub costs : AreCosts v.costs
   pub few : length v.costs ≤ max_requests
 
 -- with one event more, after what the log has
@@ -59,8 +59,8 @@ pub record IsNext (v : LedgerView) (c : Chosen) : Type 0 where
   pub is_first : slice_get (waiting v.history c.queue) 0 ≡ Some c.request
   pub cost_is : c.cost ≡ width v.costs c.request
 
--- no number of virtual time and no finish is above 200,000,000
+-- no number of virtual time and no finish is above 10,000 times the largest cost: where the widths are the costs, above 200,000,000
 pub record AreSmall (v : LedgerView) : Type 0 where
-  pub next : (q : ℕ) → (numbers v.sizes.deck v.costs v.history).next q ≤ 200000000
-  pub virtual_time : (numbers v.sizes.deck v.costs v.history).virtual_time ≤ 200000000
-  pub finish : (q : ℕ) → waiting v.history q ≢ [] → finish v.costs (waiting v.history) (numbers v.sizes.deck v.costs v.history) q ≤ 200000000
+  pub next : (q : ℕ) → (numbers v.sizes.deck v.costs v.history).next q ≤ max_requests * widest v.costs
+  pub virtual_time : (numbers v.sizes.deck v.costs v.history).virtual_time ≤ max_requests * widest v.costs
+  pub finish : (q : ℕ) → waiting v.history q ≢ [] → finish v.costs (waiting v.history) (numbers v.sizes.deck v.costs v.history) q ≤ max_requests * widest v.costs

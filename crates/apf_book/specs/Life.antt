@@ -1,6 +1,6 @@
 -- The queues of a level whose slots are used again, and the history that they are of. A request's hand and its cost come with its arrival.
 use Rattle.std.specs.Prelude.{◌≡◌, ℕ, ◌^◌, ◌<◌, ◌≤◌, false, List, [], ◌∷◌, length, map, slice_get, slice_index, slice_set, Contains, Some}
-use Rattle.apf_words.specs.Limits.{max_width}
+use Rattle.apf_words.specs.Limits.{max_cost}
 use Rattle.apf_gate.specs.Slots.{slot_of}
 use Rattle.apf_history.specs.declared.events.Event.{Event}
 use Rattle.apf_model.specs.World.{put, width}
@@ -43,7 +43,7 @@ pub record IsLifeOf (v : LifeView) (s : LifeState) : Type 0 where
   pub one_holder_each : length s.holders ≡ length s.queues.costs
   pub names_queues : NamesQueues v.queues v.history
   pub names_requests : NamesRequests (length v.costs) v.history
-  pub low : (r : ℕ) → width v.costs r ≤ max_width
+  pub low : (r : ℕ) → width v.costs r ≤ max_cost
   -- how many numbers there are
   pub few : length v.costs ≤ 2 ^ 76
 
@@ -73,5 +73,5 @@ pub record IsOpening (v : LifeView) (queues limit : ℕ) : Type 0 where
   pub nothing : v.history ≡ []
   pub queues_are : v.queues ≡ queues
   pub limit_is : v.limit ≡ limit
-  pub low : (r : ℕ) → width v.costs r ≤ max_width
+  pub low : (r : ℕ) → width v.costs r ≤ max_cost
   pub few : length v.costs ≤ 2 ^ 76

@@ -1,6 +1,6 @@
 -- What the calls of a book for life ask and answer, and what a caller may rely on after them.
 use Rattle.std.specs.Prelude.{◌≡◌, ◌≢◌, ◌↔◌, ◌*◌, ◌≤◌, ◌<◌, ℕ, Bool, true, false, List, length, All, Contains, Option, Result, Some, None, IfOk, IfErr, OnOk}
-use Rattle.apf_words.specs.Limits.{max_width}
+use Rattle.apf_words.specs.Limits.{max_cost}
 use Rattle.apf_words.specs.declared.decision.Decision.{Decision}
 use Rattle.apf_words.specs.declared.decision.Decision.TheVariants.{Cancelled}
 use Rattle.apf_model.specs.declared.config.Config.{Config}
@@ -51,12 +51,12 @@ pub record IsNew (token : PassToken) : Type 0 where
   pub in_line : token.pass.state ≡ InLine
   pub not_handed : token.pass.handed ≡ false
 
--- a hand of queues of the book, and a cost of 1 to 20,000
+-- a hand of queues of the book, and a cost of 1 to 4,294,967,295
 pub record IsAsk (book : LifeBookView) (hand : List ℕ) (cost : ℕ) : Type 0 where
   pub has_cards : 0 < length hand
   pub are_queues : All (λ (q : ℕ). q < queue_count book.queues.queues) hand
   pub some_cost : 1 ≤ cost
-  pub low : cost ≤ max_width
+  pub low : cost ≤ max_cost
 
 -- the Desk is of the same gate still and knows more than it did, and the book has as many queues, slots and places for events as it had
 pub record SameLifeBook (book book' : LifeBookView) : Type 0 where

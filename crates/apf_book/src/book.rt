@@ -66,7 +66,7 @@ impl<A: Allocator + Copy> Book<A> {
     /// As `new`, but a dispatch is charged the request's cost: its queue's next and the level's virtual
     /// time go on by it. Seats are taken by the width, as ever.
     ///
-    /// There is one cost for each request, 1 to 20,000, in a unit of the caller's: its width, or an
+    /// There is one cost for each request, 1 to 4,294,967,295, in a unit of the caller's: its width, or an
     /// estimate of its seats times the time that it holds them.
     ///
     /// # Errors

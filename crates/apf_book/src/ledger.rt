@@ -4,7 +4,7 @@ ghost use Rattle.std.specs.Prelude.{◌≡◌, ◌≢◌, ◌↔◌, ℕ, ◌+�
 ghost use Rattle.apf_words.specs.Limits.{max_requests};
 ghost use Rattle.apf_history.specs.declared.events.Event.TheVariants as events;
 ghost use Rattle.apf_model.specs.History.{has_arrived, waiting, IsShortest};
-ghost use Rattle.apf_model.specs.Schedule.{AreWidths};
+ghost use Rattle.apf_model.specs.Schedule.{AreCosts};
 ghost use Rattle.apf_model.specs.Outcome.{stats_of};
 ghost use Rattle.apf_book.specs.Opening.{opening_ledger_with, IsFaultOf, AreSettings};
 ghost use Rattle.apf_book.specs.LedgerView.{hand_in, after, IsLogOf, Arrives, NothingWaits, IsNext, AreSmall};
@@ -66,7 +66,7 @@ impl<A: Allocator> Model for Ledger<A> {
 
 impl<A: Allocator + Copy> Ledger<A> {
     // Empty queues, and an empty log with room for two events of each request. All other memory is
-    // taken here. There are at most 10,000 requests, each with a cost of 1 to 20,000. Where the costs
+    // taken here. There are at most 10,000 requests, each with a cost of 1 to 4,294,967,295. Where the costs
     // found no memory, that is the last fault.
     pub fn new(
         alloc: A,
@@ -75,7 +75,7 @@ impl<A: Allocator + Copy> Ledger<A> {
         costs: Result<Vec<u32, A>, AllocError>,
     ) -> Result<Ledger<A>, BookFault>
         requires one_cost_each { IfOk costs (λ v. length v.items ≡ length asks.now) }
-        requires costs { IfOk costs (λ v. AreWidths v.items) }
+        requires costs { IfOk costs (λ v. AreCosts v.items) }
         requires few { length asks.now ≤ max_requests }
         ensures opening { IfOk result (λ l. IsOkAnd costs (λ v. l ≡ opening_ledger_with config.now asks.now v.items)) }
         ensures settings { OnOk result (AreSettings config.now asks.now) }

@@ -3,7 +3,7 @@
 //! The history is stored nowhere. Each call says what becomes of every history that the queues are of.
 
 ghost use Rattle.std.specs.Prelude.{◌≡◌, ◌≢◌, ℕ, ◌<◌, ◌≤◌, List, [], length, slice_index, All, Contains, ◌↔◌, IsTrue, MatchBool, IsErrOf, OnOk, IfOk, IfSome, IfNone, MatchOption};
-ghost use Rattle.apf_words.specs.Limits.{max_width};
+ghost use Rattle.apf_words.specs.Limits.{max_cost};
 ghost use Rattle.apf_gate.specs.Slots.{slot_of};
 ghost use Rattle.apf_history.specs.declared.events.Event.TheVariants as events;
 ghost use Rattle.apf_model.specs.World.{width};
@@ -64,7 +64,7 @@ impl<A: Allocator> LifeLedger<A> {
         requires is_nowhere { StandsNowhere self.old.queues (slot_of request) }
         requires room { length (queue_in self.old.queues queue) ≢ self.old.queues.length_limit }
         requires has_cost { 1 ≤ cost }
-        requires low { cost ≤ max_width }
+        requires low { cost ≤ max_cost }
         ensures enters { (v : LifeView) (hand : List ℕ) → IsLifeOf v self.old → Comes v request hand queue
             → IsLifeOf (then_came (asked v request hand cost) (events.Enter request queue)) self.new }
         ensures slots { length self.new.holders ≡ length self.old.holders }
@@ -80,7 +80,7 @@ impl<A: Allocator> LifeLedger<A> {
     // The request is refused, as the queue is full. Nothing that is stored changes.
     pub fn refuse(&self, request: u128, queue: u32)
         requires full { length (queue_in self.now.queues queue) ≡ self.now.queues.length_limit }
-        ensures { (v : LifeView) (hand : List ℕ) (cost : ℕ) → IsLifeOf v self.now → Comes v request hand queue → cost ≤ max_width
+        ensures { (v : LifeView) (hand : List ℕ) (cost : ℕ) → IsLifeOf v self.now → Comes v request hand queue → cost ≤ max_cost
             → IsLifeOf (then_came (asked v request hand cost) (events.Full request queue)) self.now }
     {
         legal_histories_are_in_order();

@@ -23,7 +23,7 @@ from the trace's beginning:
   hash              the flow, 0 to 18446744073709551615; or else both of
   schema, distinguisher  two texts, of which the hash is made
   width             seats that the request takes, 1 to 20000; 1 if absent
-  cost              what a dispatch is charged, 1 to 20000; the width if absent
+  cost              what a dispatch is charged, 1 to 4294967295; the width if absent
 PATIENCE is a whole number with s, ms or us behind it, or a plain number of microseconds: at most
 1000s. A request that waits so long after its arrival gives up. With 0 nobody gives up. An API
 server lets a request wait for a quarter of its time-out, by default 15s.

@@ -4,12 +4,12 @@ use Rattle.std.specs.Prelude.{nat_le}
 use Rattle.std.proofs.lemmas.Bool.Decides.{nat_tests}
 use Rattle.serde_json.specs.Data.{Data}
 use Rattle.serde_json.specs.Find.{get, as_object}
-use Rattle.apf_words.specs.Limits.{max_width}
+use Rattle.apf_words.specs.Limits.{max_cost, max_width}
 use Rattle.apf_files.specs.FirstFault.{◌>>=◌, or_fault}
 use Rattle.apf_files.specs.JsonFile.{known_object}
 use Rattle.apf_files.specs.RequestsFile.{flow_of, number_or}
 use Rattle.apf_times.specs.Limits.{max_arrival, max_run}
-use Rattle.apf_traces.specs.TraceValue.{is_key, number_at, entry_of, max_cost}
+use Rattle.apf_traces.specs.TraceValue.{is_key, number_at, entry_of}
 use Rattle.apf_files.specs.JsonFile.{value_of}
 use Rattle.apf_traces.specs.TraceFile.{Line, lines_of, demand, judged_line, trace_from, trace_of, max_lines, max_bytes}
 use Rattle.apf_traces.specs.TraceFaults.{line_of}

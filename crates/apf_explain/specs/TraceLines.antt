@@ -3,10 +3,9 @@ use Rattle.std.specs.Prelude.{ℕ, zero, suc, ◌-◌, List, [], ◌∷◌, ◌+
 use Rattle.std.specs.Io.KnownBytes.{Appends}
 use Rattle.serde_json.specs.Data.{Data}
 use Rattle.serde_json.specs.Find.{get}
-use Rattle.apf_words.specs.Limits.{max_width}
+use Rattle.apf_words.specs.Limits.{max_cost, max_width}
 use Rattle.apf_files.specs.JsonFile.{value_of}
 use Rattle.apf_times.specs.Limits.{max_arrival, max_run}
-use Rattle.apf_traces.specs.TraceValue.{max_cost}
 use Rattle.apf_traces.specs.TraceFile.{Line, lines_of, max_lines, max_bytes}
 use Rattle.apf_traces.specs.TraceFaults.{trace_fault_number, line_of}
 use Rattle.apf_traces.specs.declared.fault.TraceFault.{TraceFault}

@@ -2,10 +2,9 @@
 use Rattle.std.specs.Prelude.{◌≡◌, ℕ, ◌+◌, ◌<◌, ⊤, List, false, Option, Some, None, codes, length}
 use Rattle.serde_json.specs.Data.{Data}
 use Rattle.serde_json.specs.Find.{get, as_object}
-use Rattle.apf_words.specs.Limits.{max_width}
+use Rattle.apf_words.specs.Limits.{max_cost, max_width}
 use Rattle.apf_files.specs.JsonFile.{value_of}
 use Rattle.apf_times.specs.Limits.{max_arrival, max_run}
-use Rattle.apf_traces.specs.TraceValue.{max_cost}
 use Rattle.apf_traces.specs.TraceFile.{Line, lines_of, max_lines, max_bytes}
 use Rattle.apf_traces.specs.TraceFaults.{line_of}
 use Rattle.apf_traces.specs.declared.fault.TraceFault.{TraceFault}

@@ -15,8 +15,8 @@ use crate::lines::{line_value, numbered, write_not_json, write_required, write_t
 use crate::place::{Part, Place};
 use crate::wanted::Wanted;
 use apf_times::{MOST_ARRIVES_AT, MOST_RUNS_FOR};
-use apf_traces::{MAX_BYTES, MAX_COST, MAX_LINES, TraceFault};
-use apf_words::MAX_WIDTH;
+use apf_traces::{MAX_BYTES, MAX_LINES, TraceFault};
+use apf_words::{MAX_COST, MAX_WIDTH};
 use serde_json::Value;
 use std::alloc::Global;
 use std::io;

@@ -8,7 +8,11 @@ use Rattle.apf_level.specs.declared.answers.Attempt.{Attempt}
 use Rattle.apf_level.specs.declared.answers.Attempt.TheVariants as attempted
 use Rattle.apf_level.specs.declared.answers.TryAdmit.{TryAdmit}
 use Rattle.apf_level.specs.declared.answers.TryAdmit.TheVariants as tried
+use Rattle.apf_gate.specs.Tokens.{PassToken}
+use Rattle.apf_level.specs.declared.answers.Tried.{Tried}
+use Rattle.apf_level.specs.declared.answers.Tried.TheVariants as tries
 use Rattle.apf_level.specs.Admission.{TriesToAdmit}
+use Rattle.apf_level.specs.Tokens.{IsRunning, IsDone}
 
 -- what `try_admit` answers
 abbrev pub tried_of : Attempt → TryAdmit
@@ -27,3 +31,17 @@ StaysOut pass (attempted.Run token) = token.pass.entered ≡ pass.entered
 StaysOut pass (attempted.Over token decision waiters) = (token.pass.entered ≡ pass.entered) × (decision ≢ QueueFull)
 StaysOut pass (attempted.Blocked token) = (token.pass.state ≡ Fresh) × (token.pass.entered ≡ pass.entered)
 StaysOut pass (attempted.Raced token) = (token.pass.state ≡ Fresh) × (token.pass.entered ≡ pass.entered)
+
+-- what an attempt answers, with the Pass that it left in its place
+abbrev pub attempt_of : Tried → PassToken → Attempt
+attempt_of tries.Run token = attempted.Run token
+attempt_of (tries.Over decision waiters) token = attempted.Over token decision waiters
+attempt_of tries.Blocked token = attempted.Blocked token
+attempt_of tries.Raced token = attempted.Raced token
+
+-- the Pass that an attempt left is what its answer says: of a request that executes, or that is over
+abbrev pub IsKeptBy : Tried → PassToken → Type 0
+IsKeptBy tries.Run token = IsRunning token
+IsKeptBy (tries.Over decision waiters) token = IsDone token
+IsKeptBy tries.Blocked token = Unit {0}
+IsKeptBy tries.Raced token = Unit {0}

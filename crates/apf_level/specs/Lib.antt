@@ -10,6 +10,7 @@ pub mod Copies
 pub mod Locked
 pub mod Limits
 pub mod Heard
+pub mod InPlace
 pub mod Keepers
 pub mod Reports
 pub mod LevelCalls

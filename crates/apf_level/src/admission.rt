@@ -7,12 +7,12 @@ ghost use Rattle.apf_words.specs.declared.decision.Decision.TheVariants.{Execute
 ghost use Rattle.apf_gate.specs.Records.{told_own};
 ghost use Rattle.apf_gate.specs.PassSteps.{PassSubtractsLevel};
 ghost use Rattle.apf_gate.specs.Tokens.{pass_gate};
-ghost use Rattle.apf_level.specs.Tokens.{IsOf};
+ghost use Rattle.apf_level.specs.Tokens.{IsOf, IsRunning, IsDone};
 ghost use Rattle.apf_level.specs.Admission.{tried_pass, IsTriedTold, TriesToAdmit, SaysOpen};
-ghost use Rattle.apf_level.specs.Attempts.{tried_of, TakesOrDecides};
+ghost use Rattle.apf_level.specs.Attempts.{tried_of, TakesOrDecides, attempt_of, IsKeptBy};
 ghost use Rattle.apf_level.specs.LevelCalls.{IsFreshPass, AfterAttempt};
 
-use crate::answers::{Attempt, TryAdmit};
+use crate::answers::{Attempt, Tried, TryAdmit};
 use crate::level::Level;
 use crate::naming::Naming;
 use crate::shared::Shared;
@@ -110,5 +110,65 @@ impl<K: Naming> Level<K> {
         let Running { mut pass } = running;
         let waiting = self.gate.release(&mut pass);
         (Done { pass }, waiting)
+    }
+
+    /// As `attempt`, of a Pass that stays in its place.
+    pub fn attempt_in(&self, pass: &mut Pass) -> Tried
+        requires { IsFreshPass K.level pass.old }
+        ensures kept { IsKeptBy result pass.new }
+        ensures after { AfterAttempt pass.old (attempt_of result pass.new) }
+        ensures steps { TriesToAdmit pass.old.pass (tried_of (attempt_of result pass.new)) }
+        ensures never_entered { pass.old.pass.entered ≡ false }
+    {
+        let _request = self.number(pass);
+        if let Some(decision) = self.gate.told(pass) {
+            return Tried::Over(decision, false);
+        }
+        self.take_in(pass)
+    }
+
+    // As `take`, of a Pass that stays in its place.
+    pub(crate) fn take_in(&self, pass: &mut Pass) -> Tried
+        requires { IsFreshPass K.level pass.old }
+        ensures kept { IsKeptBy result pass.new }
+        ensures after { AfterAttempt pass.old (attempt_of result pass.new) }
+        ensures steps { TakesOrDecides pass.old.pass (attempt_of result pass.new) }
+    {
+        let _request = self.number(pass);
+        match self.gate.try_take(pass) {
+            TryTake::Taken => {
+                let decision = self.gate.decide(pass, Decision::Execute);
+                if decision == Decision::Execute {
+                    return Tried::Run;
+                }
+                let waiting = self.gate.release(pass);
+                Tried::Over(decision, waiting)
+            }
+            TryTake::Closed => {
+                let decision = self.gate.decide(pass, Decision::Closed);
+                Tried::Over(decision, false)
+            }
+            TryTake::Waiters => Tried::Blocked,
+            TryTake::NoRoom => match &self.shared {
+                Shared::Queued(_queued) => Tried::Blocked,
+                Shared::Alone(_alone) => {
+                    let decision = self.gate.decide(pass, Decision::ConcurrencyLimit);
+                    Tried::Over(decision, false)
+                }
+            },
+            TryTake::Raced => Tried::Raced,
+        }
+    }
+
+    /// As `release`, of a Pass that stays in its place.
+    pub fn release_in(&self, pass: &mut Pass) -> bool
+        requires own { pass_gate pass.old ≡ K.level.gate }
+        requires runs { IsRunning pass.old }
+        ensures done { IsDone pass.new }
+        ensures same { IsOf pass.old pass.new }
+        ensures told { told_own pass.new.pass ≡ Some Execute }
+        ensures answer { (level : Word) × PassSubtractsLevel pass.old.pass level pass.new.pass × (result ≡ not (level.waiters == 0)) }
+    {
+        self.gate.release(pass)
     }
 }

@@ -28,6 +28,19 @@ pub enum Attempt {
     Raced(Pass),
 }
 
+/// What became of an attempt to be admitted, with why it is busy, where its Pass stays in its place.
+#[derive(Clone, Copy, PartialEq, Eq)]
+pub enum Tried {
+    /// It executes.
+    Run,
+    /// It is decided so. Where the bool is true a dispatch is owed, as after `TryAdmit::Over`.
+    Over(Decision, bool),
+    /// Requests wait, or it does not fit. Never on a level without queues.
+    Blocked,
+    /// The level word changed in between.
+    Raced,
+}
+
 /// What became of an arrival.
 pub enum Begin {
     /// It executes.
@@ -36,6 +49,17 @@ pub enum Begin {
     Over(Done, Decision),
     /// It waits in a queue.
     Waiting(Waiting),
+}
+
+/// What became of an arrival, or was read of a request that waits, where its Pass stays in its place.
+#[derive(Clone, Copy, PartialEq, Eq)]
+pub enum Begun {
+    /// It executes.
+    Run,
+    /// It is decided so.
+    Over(Decision),
+    /// It waits.
+    Waits,
 }
 
 /// What became of an arrival under the lock.

@@ -3,12 +3,13 @@
 ghost use Rattle.std.specs.Prelude.{◌≡◌, true};
 ghost use Rattle.apf_model.specs.declared.response.Response.TheVariants.{Queue};
 ghost use Rattle.apf_gate.specs.Tokens.{pass_gate};
-ghost use Rattle.apf_level.specs.Tokens.{IsOf};
+ghost use Rattle.apf_level.specs.Tokens.{IsOf, IsInLine};
+ghost use Rattle.apf_level.specs.InPlace.{begin_of, poll_of, IsLeftBy, SaysWaits, IsDecided};
 ghost use Rattle.apf_level.specs.Admission.{begun_pass, polled_pass, admitted_pass, IsBegunTold, IsAdmittedTold, SaysWaiting, Polls, IsNotExecuted};
 ghost use Rattle.apf_level.specs.Arrivals.{Logs};
 ghost use Rattle.apf_level.specs.LevelCalls.{IsFreshPass, AfterBegin};
 
-use crate::answers::{Admit, Attempt, Begin, Poll, Stood};
+use crate::answers::{Admit, Attempt, Begin, Begun, Poll, Stood, Tried};
 use crate::level::Level;
 use crate::naming::Naming;
 use crate::queued::QueuedLock;
@@ -171,6 +172,119 @@ impl<K: Naming> Level<K> {
             Poll::Run(running) => Begin::Run(running),
             Poll::Over(done, decision) => Begin::Over(done, decision),
             Poll::Still(waiting) => Begin::Waiting(waiting),
+        }
+    }
+
+    /// As `poll`, of a Pass that stays in its place.
+    pub fn poll_in<R: Wait>(&self, rt: &R, pass: &mut Pass) -> Begun
+        requires own { pass_gate pass.old ≡ K.level.gate }
+        requires waits { IsInLine pass.old }
+        ensures left { IsLeftBy result pass.new }
+        ensures same { IsOf pass.old pass.new }
+        ensures answer { Polls pass.old.pass (poll_of result pass.new) }
+        ensures not_executed { IsNotExecuted (poll_of result pass.new) }
+    {
+        match self.gate.told(pass) {
+            None => Begun::Waits,
+            Some(Decision::Execute) => Begun::Run,
+            Some(Decision::Cancelled) => {
+                let request = self.number(pass);
+                self.lock(rt).strike(rt, request);
+                Begun::Over(Decision::Cancelled)
+            }
+            Some(decision) => Begun::Over(decision),
+        }
+    }
+
+    /// As `admit`, of a Pass that stays in its place.
+    pub fn admit_in<R: Wait>(&self, rt: &R, pass: &mut Pass) -> Begun
+        requires { IsFreshPass K.level pass.old }
+        ensures left { IsLeftBy result pass.new }
+        ensures same { IsOf pass.old pass.new }
+        ensures told { IsDecided result pass.new }
+    {
+        let (begun, _event) = self.arrive_in(rt, pass);
+        match begun {
+            Begun::Run => return Begun::Run,
+            Begun::Over(decision) => return Begun::Over(decision),
+            Begun::Waits => {}
+        }
+        let mut readings = 0;
+        for _ in rt.forever() {
+            match self.poll_in(rt, pass) {
+                Begun::Run => return Begun::Run,
+                Begun::Over(decision) => return Begun::Over(decision),
+                Begun::Waits => {}
+            }
+            if readings < READINGS_AWAKE {
+                readings += 1;
+                if readings == READINGS_AWAKE {
+                    self.shared.will_sleep(rt, self.number(pass));
+                }
+                hint::spin_loop();
+            } else {
+                self.gate.park(rt, pass.number());
+            }
+        }
+        unreachable!()
+    }
+
+    /// As `begin_with_event`, of a Pass that stays in its place.
+    pub fn arrive_in<R: Wait>(&self, rt: &R, pass: &mut Pass) -> (Begun, Option<Event>)
+        requires { IsFreshPass K.level pass.old }
+        ensures left { IsLeftBy result.0 pass.new }
+        ensures after { AfterBegin pass.old (begin_of result.0 pass.new) }
+        ensures queues { SaysWaits result.0 → self.now.gate.shape.response ≡ Queue }
+        ensures logs { Logs K.level pass.old.pass.number (begin_of result.0 pass.new) result.1 }
+    {
+        let mut tried = self.attempt_in(pass);
+        for _ in rt.forever() {
+            match tried {
+                Tried::Run => return (Begun::Run, None),
+                Tried::Over(decision, waiting) => {
+                    if waiting {
+                        self.lock(rt).dispatch(rt);
+                    }
+                    return (Begun::Over(decision), None);
+                }
+                Tried::Blocked => match &self.shared {
+                    Shared::Queued(queued) => return self.stand_in(rt, queued, pass),
+                    // without queues a request is busy after a lost exchange alone
+                    Shared::Alone(_alone) => {}
+                },
+                Tried::Raced => {}
+            }
+            tried = self.take_in(pass);
+        }
+        unreachable!()
+    }
+
+    // As `stand`, of a Pass that stays in its place.
+    fn stand_in<R: Wait>(
+        &self,
+        rt: &R,
+        queued: &QueuedLock<K>,
+        pass: &mut Pass,
+    ) -> (Begun, Option<Event>)
+        requires { IsFreshPass K.level pass.old }
+        ensures left { IsLeftBy result.0 pass.new }
+        ensures after { AfterBegin pass.old (begin_of result.0 pass.new) }
+        ensures logs { Logs K.level pass.old.pass.number (begin_of result.0 pass.new) result.1 }
+        ensures queues { self.now.gate.shape.response ≡ Queue }
+    {
+        self.gate.ask(pass);
+        let request = self.number(pass);
+        let stood = queued.lock.lock(rt).arrive(rt, &self.gate, pass);
+        match stood {
+            Stood::Entered(queue) => {
+                let begun = self.poll_in(rt, pass);
+                (begun, Some(Event::Enter(request, queue)))
+            }
+            Stood::Full(queue) => (
+                Begun::Over(Decision::QueueFull),
+                Some(Event::Full(request, queue)),
+            ),
+            Stood::Over(decision) => (Begun::Over(decision), None),
         }
     }
 }

@@ -3,7 +3,7 @@
 ghost use Rattle.std.specs.Prelude.{◌≡◌, ◌≤◌, [], length, map, IfOk, IfErr, OnOk};
 ghost use Rattle.apf_words.specs.Limits.{max_requests};
 ghost use Rattle.apf_model.specs.declared.response.Response.TheVariants.{Queue, Reject};
-ghost use Rattle.apf_model.specs.Schedule.{AreWidths};
+ghost use Rattle.apf_model.specs.Schedule.{AreCosts};
 ghost use Rattle.apf_gate.specs.Records.{new_desk};
 ghost use Rattle.apf_book.specs.Stopped.{IsStopped};
 ghost use Rattle.apf_book.specs.Opening.{opening_ledger, opening_ledger_with, AreSettings, IsFaultOf};
@@ -117,7 +117,7 @@ impl<K: Naming> Level<K> {
     /// As `open`, but a dispatch is charged the request's cost: its queue's next and the level's virtual
     /// time go on by it. Seats are taken by the width, as ever.
     ///
-    /// There is one cost for each request, 1 to 20,000, in a unit of the caller's: its width, or an
+    /// There is one cost for each request, 1 to 4,294,967,295, in a unit of the caller's: its width, or an
     /// estimate of its seats times the time that it holds them. On a level whose response is Reject nothing
     /// is charged.
     ///
@@ -203,7 +203,7 @@ fn alone<K: Naming>(desk: Desk) -> Shared<K>
     requires fresh { desk.desk ≡ new_desk desk.desk.knows.shape }
     requires nothing { K.level.opening.history ≡ [] }
     requires one_cost_each { length K.level.opening.costs ≡ length K.level.gate.shape.widths }
-    requires costs { AreWidths K.level.opening.costs }
+    requires costs { AreCosts K.level.opening.costs }
     requires no_queues { K.level.gate.shape.response ≡ Reject }
 {
     desk.is_of_a_gate();

@@ -29,7 +29,7 @@ mod shared;
 mod stations;
 mod tokens;
 
-pub use answers::{Admit, Begin, Poll, TryAdmit};
+pub use answers::{Admit, Begin, Begun, Poll, Tried, TryAdmit};
 pub use apf_stats::{Board, StatsPass, Window, open as open_statistics};
 pub use laws::every_reported_wait_is_bounded;
 pub use level::{Ends, Level, LevelFault, Opened};

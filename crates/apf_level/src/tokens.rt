@@ -56,6 +56,14 @@ impl Model for Done {
 }
 
 impl Waiting {
+    /// That of a request that waits in a queue, of its Pass.
+    pub fn of(pass: Pass) -> Waiting
+        requires { IsInLine pass }
+        ensures { result ≡ pass }
+    {
+        Waiting { pass }
+    }
+
     /// The request's number, from 0.
     pub fn number(&self) -> u32
         ensures number { result ≡ self.now.pass.number }
@@ -66,6 +74,14 @@ impl Waiting {
 }
 
 impl Running {
+    /// That of a request that executes, of its Pass.
+    pub fn of(pass: Pass) -> Running
+        requires { IsRunning pass }
+        ensures { result ≡ pass }
+    {
+        Running { pass }
+    }
+
     /// The request's number, from 0.
     pub fn number(&self) -> u32
         ensures number { result ≡ self.now.pass.number }
@@ -76,6 +92,14 @@ impl Running {
 }
 
 impl Done {
+    /// That of a request that is over, of its Pass.
+    pub fn of(pass: Pass) -> Done
+        requires { IsDone pass }
+        ensures { result ≡ pass }
+    {
+        Done { pass }
+    }
+
     /// The request's number, from 0.
     pub fn number(&self) -> u32
         ensures number { result ≡ self.now.pass.number }

@@ -4,7 +4,7 @@
 //! the least is served, and of equals the one reached first round from the queue after the one served last.
 
 ghost use Rattle.std.specs.Prelude.{◌≡◌, length};
-ghost use Rattle.apf_model.specs.Schedule.{AreWidths};
+ghost use Rattle.apf_model.specs.Schedule.{AreCosts};
 ghost use Rattle.apf_session.specs.Openings.{level_with};
 
 use crate::endings::{Ended, Ending};
@@ -82,7 +82,7 @@ fn play_named<K: Naming, R: Wait + Abort>(
 ) -> Result<Ended, OpenFault>
     requires level { K.level ≡ level_with opening.gate opening.board.cell opening.config opening.asks.now costs.now }
     requires one_cost_each { length costs.now ≡ length opening.asks.now }
-    requires costs { AreWidths costs.now }
+    requires costs { AreCosts costs.now }
 {
     let mut session = Session::<K>::open_with_costs(rt, alloc, opening, costs)?;
     Script::of(steps).play(rt, &mut session);
@@ -239,10 +239,10 @@ fn faults_beside_costs(rt: HostRuntime) -> Result<(), Fail> {
     Ok(())
 }
 
-// 1 to 20,000 are costs.
+// All numbers of 32 bits but 0 are costs.
 #[test]
 fn costs_in_range(rt: HostRuntime) {
-    assert!(rt; are_costs(&[]) && are_costs(&[1, 20_000, 3]));
+    assert!(rt; are_costs(&[]) && are_costs(&[1, 4_294_967_295, 3]));
     assert!(rt; !are_costs(&[1, 0]));
-    assert!(rt; !are_costs(&[20_001, 1]));
+    assert!(rt; !are_costs(&[4_294_967_295, 0]));
 }

@@ -64,7 +64,7 @@ pub record IsFreshPass (k : LifeId) (token : PassToken) : Type 0 where
   pub own : pass_gate token ≡ k.gate
   pub fresh : token.pass.state ≡ Fresh
 
--- it stands in line, and was never handed over, with a hand of queues of the level and a cost of 1 to 20,000
+-- it stands in line, and was never handed over, with a hand of queues of the level and a cost of 1 to 4,294,967,295
 pub record StandsInLine (k : LifeId) (token : PassToken) (hand : List ℕ) (cost : ℕ) : Type 0 where
   pub own : pass_gate token ≡ k.gate
   pub in_line : token.pass.state ≡ InLine
@@ -72,7 +72,7 @@ pub record StandsInLine (k : LifeId) (token : PassToken) (hand : List ℕ) (cost
   pub has_cards : 0 < length hand
   pub are_queues : All (λ (q : ℕ). q < k.sizes.deck) hand
   pub some_cost : 1 ≤ cost
-  pub low : cost ≤ max_width
+  pub low : cost ≤ max_cost
 
 -- what an attempt leaves and answers, beside its steps: the Pass of the same request, which was told what is answered. One that saw the level closed finds it closed, and nobody enters
 pub record AfterAttempt (token : PassToken) (answer : Attempt) : Type 0 where

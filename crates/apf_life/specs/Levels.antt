@@ -41,6 +41,6 @@ pub record IsHistoryOf (k : LifeId) (v : LifeView) : Type 0 where
   pub fair : IsFair v.queues v.costs v.hands v.limit v.history
   pub names_requests : NamesRequests (length k.gate.shape.widths) v.history
   pub names_queues : NamesQueues v.queues v.history
-  pub low : (r : ℕ) → width v.costs r ≤ max_width
+  pub low : (r : ℕ) → width v.costs r ≤ max_cost
   pub queues_are : v.queues ≡ k.sizes.deck
   pub limit_is : v.limit ≡ k.queue_limit

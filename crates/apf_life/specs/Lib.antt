@@ -6,6 +6,7 @@ pub mod Attempts
 pub mod Arrivals
 pub mod Sections
 pub mod Locked
+pub mod InPlace
 pub mod Calls
 pub mod Reports
 pub mod Stopped

@@ -21,7 +21,7 @@ pub record Arriving : Type 0 where
 pub record IsArriving (a : Arriving) : Type 0 where
   pub fresh : a.token.pass.state ≡ Fresh
   pub some_cost : 1 ≤ a.cost
-  pub low_cost : a.cost ≤ max_width
+  pub low_cost : a.cost ≤ max_cost
 
 -- it is in line, and its request entered, at a gate with queues
 pub record IsInLine (token : PassToken) : Type 0 where

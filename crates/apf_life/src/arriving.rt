@@ -1,16 +1,17 @@
 //! The arrival of a request, and its wait.
 
 ghost use Rattle.std.specs.Prelude.{◌≡◌, ◌≤◌};
-ghost use Rattle.apf_words.specs.Limits.{max_width};
+ghost use Rattle.apf_words.specs.Limits.{max_cost};
 ghost use Rattle.apf_flow.specs.Deal.{hand_of};
 ghost use Rattle.apf_model.specs.declared.response.Response.TheVariants.{Queue};
 ghost use Rattle.apf_gate.specs.Tokens.{pass_gate};
-ghost use Rattle.apf_life.specs.Tokens.{IsOf};
+ghost use Rattle.apf_life.specs.Tokens.{IsOf, IsInLine};
+ghost use Rattle.apf_life.specs.InPlace.{begin_of, poll_of, IsLeftBy, IsDecided};
 ghost use Rattle.apf_life.specs.Admission.{begun_pass, polled_pass, admitted_pass, IsBegunTold, IsAdmittedTold, SaysWaiting, Polls};
 ghost use Rattle.apf_life.specs.Arrivals.{HasEntered, Logs};
 ghost use Rattle.apf_life.specs.Calls.{IsFreshPass, AfterBegin};
 
-use crate::answers::{Admit, Attempt, Begin, Poll, Stood};
+use crate::answers::{Admit, Attempt, Begin, Begun, Poll, Stood, Tried};
 use crate::level::Level;
 use crate::naming::Naming;
 use crate::queued::QueuedLock;
@@ -131,7 +132,7 @@ impl<K: Naming> Level<K> {
     ) -> (Begin, Option<LifeEvent>)
         requires fresh { IsFreshPass K.level pass }
         requires some_cost { 1 ≤ cost }
-        requires low_cost { cost ≤ max_width }
+        requires low_cost { cost ≤ max_cost }
         ensures after { AfterBegin pass result.0 }
         ensures logs { Logs K.level pass.pass.number (hand_of K.level.sizes hash) cost result.0 result.1 }
         ensures queues { self.now.shape.response ≡ Queue }
@@ -168,5 +169,141 @@ impl<K: Naming> Level<K> {
             Poll::Over(done, decision) => Begin::Over(done, decision),
             Poll::Still(waiting) => Begin::Waiting(waiting),
         }
+    }
+
+    /// As `poll`, of a Pass that stays in its place.
+    pub fn poll_in<R: Wait>(&self, rt: &R, pass: &mut apf_gate::Pass) -> Begun
+        requires own { pass_gate pass.old ≡ K.level.gate }
+        requires waits { IsInLine pass.old }
+        ensures left { IsLeftBy result pass.new }
+        ensures same { IsOf pass.old pass.new }
+        ensures answer { Polls pass.old.pass (poll_of result pass.new) }
+    {
+        match self.gate.told(pass) {
+            None => Begun::Waits,
+            Some(Decision::Execute) => Begun::Run,
+            Some(decision) => {
+                self.shared.withdraw(rt, &self.gate, pass);
+                Begun::Over(decision)
+            }
+        }
+    }
+
+    /// As `begin_with_event`, of a Pass that stays in its place.
+    pub fn arrive_in<R: Wait>(
+        &self,
+        rt: &R,
+        pass: &mut apf_gate::Pass,
+        hash: u64,
+        cost: u32,
+    ) -> (Begun, Option<LifeEvent>)
+        requires fresh { IsFreshPass K.level pass.old }
+        requires some_cost { 1 ≤ cost }
+        requires low_cost { cost ≤ max_cost }
+        ensures left { IsLeftBy result.0 pass.new }
+        ensures after { AfterBegin pass.old (begin_of result.0 pass.new) }
+        ensures queues { SaysWaiting (begin_of result.0 pass.new) → self.now.shape.response ≡ Queue }
+        ensures logs { Logs K.level pass.old.pass.number (hand_of K.level.sizes hash) cost (begin_of result.0 pass.new) result.1 }
+    {
+        let mut tried = self.attempt_in(pass);
+        for _ in rt.forever() {
+            match tried {
+                Tried::Run => return (Begun::Run, None),
+                Tried::Over(decision, waiting) => {
+                    if waiting {
+                        self.lock(rt).dispatch(rt);
+                    }
+                    return (Begun::Over(decision), None);
+                }
+                Tried::Blocked => match &self.shared {
+                    Shared::Queued(queued) => {
+                        return self.stand_in(rt, queued, pass, hash, cost);
+                    }
+                    // without queues a request is busy after a lost exchange alone
+                    Shared::Alone(_alone) => {}
+                },
+                Tried::Raced => {}
+            }
+            tried = self.take_in(pass);
+        }
+        unreachable!()
+    }
+
+    // As `stand`, of a Pass that stays in its place.
+    fn stand_in<R: Wait>(
+        &self,
+        rt: &R,
+        queued: &QueuedLock<K>,
+        pass: &mut apf_gate::Pass,
+        hash: u64,
+        cost: u32,
+    ) -> (Begun, Option<LifeEvent>)
+        requires fresh { IsFreshPass K.level pass.old }
+        requires some_cost { 1 ≤ cost }
+        requires low_cost { cost ≤ max_cost }
+        ensures left { IsLeftBy result.0 pass.new }
+        ensures after { AfterBegin pass.old (begin_of result.0 pass.new) }
+        ensures logs { Logs K.level pass.old.pass.number (hand_of K.level.sizes hash) cost (begin_of result.0 pass.new) result.1 }
+        ensures queues { self.now.shape.response ≡ Queue }
+    {
+        self.gate.ask(pass);
+        let hand = queued.dealer.deal(hash);
+        let ticket = pass.ticket();
+        let stood = queued
+            .lock
+            .lock(rt)
+            .arrive(rt, &self.gate, pass, hand.as_slice(), cost);
+        match stood {
+            Stood::Entered(queue) => {
+                let begun = self.poll_in(rt, pass);
+                (begun, Some(LifeEvent::Enter(ticket, queue)))
+            }
+            Stood::Full(queue) => (
+                Begun::Over(Decision::QueueFull),
+                Some(LifeEvent::Full(ticket, queue)),
+            ),
+            Stood::Over(decision) => (Begun::Over(decision), None),
+        }
+    }
+
+    /// As `admit`, of a Pass that stays in its place.
+    pub fn admit_in<R: Wait>(
+        &self,
+        rt: &R,
+        pass: &mut apf_gate::Pass,
+        hash: u64,
+        cost: u32,
+    ) -> Begun
+        requires fresh { IsFreshPass K.level pass.old }
+        requires some_cost { 1 ≤ cost }
+        requires low_cost { cost ≤ max_cost }
+        ensures left { IsLeftBy result pass.new }
+        ensures same { IsOf pass.old pass.new }
+        ensures told { IsDecided result pass.new }
+    {
+        let (begun, _event) = self.arrive_in(rt, pass, hash, cost);
+        match begun {
+            Begun::Run => return Begun::Run,
+            Begun::Over(decision) => return Begun::Over(decision),
+            Begun::Waits => {}
+        }
+        let mut readings = 0;
+        for _ in rt.forever() {
+            match self.poll_in(rt, pass) {
+                Begun::Run => return Begun::Run,
+                Begun::Over(decision) => return Begun::Over(decision),
+                Begun::Waits => {}
+            }
+            if readings < READINGS_AWAKE {
+                readings += 1;
+                if readings == READINGS_AWAKE {
+                    self.shared.will_sleep(rt, pass.ticket());
+                }
+                hint::spin_loop();
+            } else {
+                self.gate.park(rt, pass.ticket().number);
+            }
+        }
+        unreachable!()
     }
 }

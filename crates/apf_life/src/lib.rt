@@ -29,7 +29,7 @@ mod shared;
 mod stations;
 mod tokens;
 
-pub use answers::{Admit, Begin, Poll, Renewed, TryAdmit};
+pub use answers::{Admit, Begin, Begun, Poll, Renewed, Tried, TryAdmit};
 pub use laws::{
     every_life_history_isolates, every_life_wait_is_bounded, no_life_request_is_forgotten,
 };

@@ -1,7 +1,12 @@
 //! A slot goes on to its next request.
 
-ghost use Rattle.std.specs.Prelude.{◌≡◌, ◌≤◌, ◌↔◌, length};
-ghost use Rattle.apf_words.specs.Limits.{max_width};
+ghost use Rattle.std.specs.Prelude.{◌≡◌, ◌≤◌, ◌↔◌, length, true, false, Option};
+ghost use Rattle.apf_words.specs.declared.decision.Decision.{Decision};
+ghost use Rattle.apf_gate.specs.Records.{own_width};
+ghost use Rattle.apf_gate.specs.PassSteps.{PassRenews};
+ghost use Rattle.apf_life.specs.Tokens.{IsDone};
+ghost use Rattle.apf_life.specs.Calls.{IsFreshPass};
+ghost use Rattle.apf_words.specs.Limits.{max_cost, max_width};
 ghost use Rattle.apf_gate.specs.Slots.{next_of};
 ghost use Rattle.apf_gate.specs.Tokens.{pass_gate};
 ghost use Rattle.apf_life.specs.Admission.{Renews, SaysSpent};
@@ -29,13 +34,13 @@ impl<K: Naming> Level<K> {
         self.renew_with_cost(done, ask, ask.width)
     }
 
-    /// As `renew`, but its dispatch is charged this cost, of 1 to 20,000 in a unit of the caller's.
+    /// As `renew`, but its dispatch is charged this cost, of 1 to 4,294,967,295 in a unit of the caller's.
     pub fn renew_with_cost(&self, done: Done, ask: Ask, cost: u32) -> Renewed
         requires own { pass_gate done ≡ K.level.gate }
         requires some_width { 1 ≤ ask.width }
         requires narrow { ask.width ≤ max_width }
         requires some_cost { 1 ≤ cost }
-        requires low_cost { cost ≤ max_width }
+        requires low_cost { cost ≤ max_cost }
         ensures renews { Renews done ask.width ask.hash cost result }
         ensures spent { SaysSpent result ↔ (length K.level.gate.shape.widths ≤ next_of done.pass.number ask.width) }
     {
@@ -47,6 +52,24 @@ impl<K: Naming> Level<K> {
                 cost,
             }),
             Renew::Spent => Renewed::Spent(Done { pass }),
+        }
+    }
+
+    /// As `renew`, of a Pass that stays in its place. Says whether the next request is there.
+    pub fn renew_in(&self, pass: &mut apf_gate::Pass, width: u32) -> bool
+        requires own { pass_gate pass.old ≡ K.level.gate }
+        requires done { IsDone pass.old }
+        requires some_width { 1 ≤ width }
+        requires narrow { width ≤ max_width }
+        ensures spent { result ≡ false → pass.new ≡ pass.old }
+        ensures spent_only { (result ≡ false) ↔ (length K.level.gate.shape.widths ≤ next_of pass.old.pass.number width) }
+        ensures fresh { result ≡ true → IsFreshPass K.level pass.new }
+        ensures wide { result ≡ true → own_width pass.new.pass ≡ width }
+        ensures renews { result ≡ true → ((found : Option Decision) × PassRenews (next_of pass.old.pass.number width) pass.old.pass found pass.new.pass) }
+    {
+        match self.gate.renew(pass, width) {
+            Renew::Began(_decision) => true,
+            Renew::Spent => false,
         }
     }
 }

@@ -98,6 +98,14 @@ impl Pass {
 }
 
 impl Waiting {
+    /// That of a request that waits in a queue, of its Pass.
+    pub fn of(pass: apf_gate::Pass) -> Waiting
+        requires { IsInLine pass }
+        ensures { result ≡ pass }
+    {
+        Waiting { pass }
+    }
+
     /// What names the request for ever.
     pub fn ticket(&self) -> Ticket
         ensures number { result.number ≡ self.now.pass.number }
@@ -109,6 +117,14 @@ impl Waiting {
 }
 
 impl Running {
+    /// That of a request that executes, of its Pass.
+    pub fn of(pass: apf_gate::Pass) -> Running
+        requires { IsRunning pass }
+        ensures { result ≡ pass }
+    {
+        Running { pass }
+    }
+
     /// What names the request for ever.
     pub fn ticket(&self) -> Ticket
         ensures number { result.number ≡ self.now.pass.number }
@@ -120,6 +136,14 @@ impl Running {
 }
 
 impl Done {
+    /// That of a request that is over, of its Pass.
+    pub fn of(pass: apf_gate::Pass) -> Done
+        requires { IsDone pass }
+        ensures { result ≡ pass }
+    {
+        Done { pass }
+    }
+
     /// What names the slot's newest request for ever.
     pub fn ticket(&self) -> Ticket
         ensures number { result.number ≡ self.now.pass.number }
@@ -129,7 +153,8 @@ impl Done {
         self.pass.ticket()
     }
 
-    pub(crate) fn into_pass(self) -> apf_gate::Pass
+    /// Its Pass.
+    pub fn into_pass(self) -> apf_gate::Pass
         ensures same { result ≡ self }
         ensures done { IsDone result }
     {

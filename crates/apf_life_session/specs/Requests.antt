@@ -18,6 +18,7 @@ use Rattle.apf_life.specs.declared.answers.TryAdmit.TheVariants as tried
 use Rattle.apf_life.specs.declared.answers.Admit.{Admit}
 use Rattle.apf_life.specs.declared.answers.Admit.TheVariants as admitted
 use Rattle.apf_life.specs.Levels.{LifeId}
+use Rattle.apf_life.specs.Tokens.{IsInLine, IsRunning, IsDone}
 use Rattle.apf_life.specs.Arrivals.{Came}
 use Rattle.apf_life_session.specs.declared.token.Token.{Token}
 use Rattle.apf_life_session.specs.declared.token.Token.TheVariants as tokens
@@ -39,6 +40,23 @@ number_in (tokens.Free pass) = pass.pass.number
 number_in (tokens.Waiting pass) = pass.pass.number
 number_in (tokens.Running pass) = pass.pass.number
 number_in tokens.Gone = 0
+
+-- what a slot holds whose Pass stands at this place
+abbrev pub token_at : Place → PassToken → Token
+token_at places.Free pass = tokens.Free pass
+token_at places.Waits pass = tokens.Waiting pass
+token_at places.Runs pass = tokens.Running pass
+
+-- the Pass is what its place says
+abbrev pub IsAt : Place → PassToken → Type 0
+IsAt places.Free pass = IsDone pass
+IsAt places.Waits pass = IsInLine pass
+IsAt places.Runs pass = IsRunning pass
+
+-- a slot of the level whose Pass stands at this place
+pub record IsPlacedOf (k : LifeId) (place : Place) (pass : PassToken) : Type 0 where
+  pub own : pass_gate pass ≡ k.gate
+  pub at : IsAt place pass
 
 -- where it is
 abbrev pub place_of : Token → Place

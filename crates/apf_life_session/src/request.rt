@@ -1,7 +1,7 @@
 //! A slot of a level, whose requests come one after another.
 
 ghost use Rattle.std.specs.Prelude.{◌≡◌, ◌≢◌, ◌≤◌, Some};
-ghost use Rattle.apf_words.specs.Limits.{max_width};
+ghost use Rattle.apf_words.specs.Limits.{max_cost, max_width};
 ghost use Rattle.apf_words.specs.declared.decision.Decision.TheVariants.{Execute};
 ghost use Rattle.apf_flow.specs.Deal.{hand_of};
 ghost use Rattle.apf_gate.specs.Records.{told_own};
@@ -13,89 +13,29 @@ ghost use Rattle.apf_life_session.specs.declared.token.Token.TheVariants as toke
 ghost use Rattle.apf_life_session.specs.Requests.{number_in, place_of, Answers, Arrives, Tries, Polls, LogsFor, ReleasesAs, KeepsBegun, KeepsTried, KeepsAdmitted};
 
 use crate::answer::{Answer, Place};
-use crate::token::Token;
 use apf_book::LifeEvent;
 use apf_gate::Ticket;
-use apf_life::{Admit, Begin, Done, Level, Naming, Poll, Renewed, Running, TryAdmit, Waiting};
+use apf_life::{Begun, Done, Level, Naming, Poll, Running, Tried, Waiting};
 use apf_model::Ask;
 use std::marker::{Model, PhantomData};
-use std::mem;
 use std::sync::Wait;
 
 /// A slot of the level that K names, for one request after another. It must be spent, by `end`.
 pub struct Request<K: Naming> {
-    token: Token,
+    pass: apf_gate::Pass,
+    place: Place,
     of: PhantomData<K>,
 }
 
 impl<K: Naming> Model for Request<K> {
     ghost use Rattle.apf_life_session.specs.declared.token.Token.{Token};
-    ghost use Rattle.apf_life_session.specs.Requests.{IsTokenOf};
+    ghost use Rattle.apf_life_session.specs.Requests.{token_at, IsPlacedOf};
 
     ghost Value = { Token };
 
-    ghost view = { λ r. r.token };
+    ghost view = { λ r. token_at r.place r.pass };
 
-    ghost invariant = { λ r. IsTokenOf K.level r.token };
-}
-
-// Takes the token, in whose place there is none then.
-fn take(place: &mut Token) -> Token
-    ensures token { result ≡ place.old }
-    ensures gone { place.new ≡ tokens.Gone }
-{
-    mem::replace(place, Token::Gone)
-}
-
-// Puts a token where there is none, and answers so.
-fn put(place: &mut Token, token: Token, answer: Answer) -> Answer
-    requires { place.old ≡ tokens.Gone }
-    ensures token { place.new ≡ token }
-    ensures answer { result ≡ answer }
-{
-    match mem::replace(place, token) {
-        Token::Gone => answer,
-        _token => unreachable!(),
-    }
-}
-
-// Puts what an arrival gave where there is no token.
-fn put_begun(place: &mut Token, begun: Begin) -> Answer
-    requires { place.old ≡ tokens.Gone }
-    ensures { KeepsBegun begun result place.new }
-{
-    match begun {
-        Begin::Run(running) => put(place, Token::Running(running), Answer::Run),
-        Begin::Over(done, decision) => put(place, Token::Free(done), Answer::Over(decision)),
-        Begin::Waiting(waiting) => put(place, Token::Waiting(waiting), Answer::Waits),
-    }
-}
-
-// Puts what an attempt gave where there is no token. The slot of a request that was busy is free.
-fn put_tried(place: &mut Token, tried: TryAdmit) -> Answer
-    requires { place.old ≡ tokens.Gone }
-    ensures { KeepsTried tried result place.new }
-{
-    match tried {
-        TryAdmit::Run(running) => put(place, Token::Running(running), Answer::Run),
-        TryAdmit::Over(done, decision, waiting) => put(
-            place,
-            Token::Free(done),
-            Answer::Tried(decision, waiting),
-        ),
-        TryAdmit::Busy(pass) => put(place, Token::Free(pass.leave()), Answer::Busy),
-    }
-}
-
-// Puts what a wait gave where there is no token.
-fn put_admitted(place: &mut Token, admitted: Admit) -> Answer
-    requires { place.old ≡ tokens.Gone }
-    ensures { KeepsAdmitted admitted result place.new }
-{
-    match admitted {
-        Admit::Run(running) => put(place, Token::Running(running), Answer::Run),
-        Admit::Over(done, decision) => put(place, Token::Free(done), Answer::Over(decision)),
-    }
+    ghost invariant = { λ r. IsPlacedOf K.level r.place r.pass };
 }
 
 /// Gives the seats back, and dispatches if requests wait.
@@ -135,7 +75,8 @@ impl<K: Naming> Request<K> {
         ensures free { result ≡ tokens.Free slot }
     {
         Request {
-            token: Token::Free(slot),
+            pass: slot.into_pass(),
+            place: Place::Free,
             of: PhantomData,
         }
     }
@@ -145,23 +86,14 @@ impl<K: Naming> Request<K> {
         ensures number { result.number ≡ number_in self.now }
         ensures is_ticket { IsTicket K.level.gate.shape result.number }
     {
-        match &self.token {
-            Token::Free(done) => done.ticket(),
-            Token::Waiting(waiting) => waiting.ticket(),
-            Token::Running(running) => running.ticket(),
-            Token::Gone => unreachable!(),
-        }
+        self.pass.ticket()
     }
 
     /// Where the slot's request is.
     pub fn place(&self) -> Place
         ensures { result ≡ place_of self.now }
     {
-        match self.token {
-            Token::Free(_) | Token::Gone => Place::Free,
-            Token::Waiting(_) => Place::Waits,
-            Token::Running(_) => Place::Runs,
-        }
+        self.place
     }
 
     /// The next request of a free slot arrives, which asks for this: it takes its seats, or enters a queue, or is
@@ -181,7 +113,7 @@ impl<K: Naming> Request<K> {
         self.arrive_with_cost(rt, level, ask, ask.width)
     }
 
-    /// As `arrive`, but its dispatch is charged this cost, of 1 to 20,000 in a unit of the caller's.
+    /// As `arrive`, but its dispatch is charged this cost, of 1 to 4,294,967,295 in a unit of the caller's.
     pub fn arrive_with_cost<R: Wait>(
         &mut self,
         rt: &R,
@@ -192,22 +124,30 @@ impl<K: Naming> Request<K> {
         requires some_width { 1 ≤ ask.width }
         requires narrow { ask.width ≤ max_width }
         requires some_cost { 1 ≤ cost }
-        requires low_cost { cost ≤ max_width }
+        requires low_cost { cost ≤ max_cost }
         ensures arrives { Arrives ask.width self.old result.0 self.new }
         ensures logs { LogsFor K.level (number_in self.new) (hand_of K.level.sizes ask.hash) cost result.0 result.1 }
     {
-        match take(&mut self.token) {
-            Token::Free(done) => match level.renew_with_cost(done, ask, cost) {
-                Renewed::Fresh(pass) => {
-                    let (begun, event) = level.begin_with_event(rt, pass);
-                    (put_begun(&mut self.token, begun), event)
-                }
-                Renewed::Spent(done) => (
-                    put(&mut self.token, Token::Free(done), Answer::Spent),
-                    None,
-                ),
-            },
-            token => (put(&mut self.token, token, Answer::Wrong), None),
+        if self.place != Place::Free {
+            return (Answer::Wrong, None);
+        }
+        if !level.renew_in(&mut self.pass, ask.width) {
+            return (Answer::Spent, None);
+        }
+        let (begun, event) = level.arrive_in(rt, &mut self.pass, ask.hash, cost);
+        match begun {
+            Begun::Run => {
+                self.place = Place::Runs;
+                (Answer::Run, event)
+            }
+            Begun::Over(decision) => {
+                self.place = Place::Free;
+                (Answer::Over(decision), event)
+            }
+            Begun::Waits => {
+                self.place = Place::Waits;
+                (Answer::Waits, event)
+            }
         }
     }
 
@@ -219,12 +159,22 @@ impl<K: Naming> Request<K> {
         ensures arrives { Arrives ask.width self.old result self.new }
         ensures decided { result ≢ answers.Waits }
     {
-        match take(&mut self.token) {
-            Token::Free(done) => match level.renew(done, ask) {
-                Renewed::Fresh(pass) => put_admitted(&mut self.token, level.admit(rt, pass)),
-                Renewed::Spent(done) => put(&mut self.token, Token::Free(done), Answer::Spent),
-            },
-            token => put(&mut self.token, token, Answer::Wrong),
+        if self.place != Place::Free {
+            return Answer::Wrong;
+        }
+        if !level.renew_in(&mut self.pass, ask.width) {
+            return Answer::Spent;
+        }
+        match level.admit_in(rt, &mut self.pass, ask.hash, ask.width) {
+            Begun::Run => {
+                self.place = Place::Runs;
+                Answer::Run
+            }
+            Begun::Over(decision) => {
+                self.place = Place::Free;
+                Answer::Over(decision)
+            }
+            Begun::Waits => unreachable!(),
         }
     }
 
@@ -235,12 +185,22 @@ impl<K: Naming> Request<K> {
         requires narrow { ask.width ≤ max_width }
         ensures tries { Tries ask.width self.old result self.new }
     {
-        match take(&mut self.token) {
-            Token::Free(done) => match level.renew(done, ask) {
-                Renewed::Fresh(pass) => put_tried(&mut self.token, level.try_admit(pass)),
-                Renewed::Spent(done) => put(&mut self.token, Token::Free(done), Answer::Spent),
-            },
-            token => put(&mut self.token, token, Answer::Wrong),
+        if self.place != Place::Free {
+            return Answer::Wrong;
+        }
+        if !level.renew_in(&mut self.pass, ask.width) {
+            return Answer::Spent;
+        }
+        match level.attempt_in(&mut self.pass) {
+            Tried::Run => {
+                self.place = Place::Runs;
+                Answer::Run
+            }
+            Tried::Over(decision, waiting) => {
+                self.place = Place::Free;
+                Answer::Tried(decision, waiting)
+            }
+            Tried::Blocked | Tried::Raced => Answer::Busy,
         }
     }
 
@@ -249,21 +209,22 @@ impl<K: Naming> Request<K> {
     pub fn poll<R: Wait>(&mut self, rt: &R, level: &Level<K>) -> Answer
         ensures polls { Polls self.old result self.new }
     {
-        match take(&mut self.token) {
-            Token::Waiting(waiting) => match level.poll(rt, waiting) {
-                Poll::Run(running) => put(&mut self.token, Token::Running(running), Answer::Run),
-                Poll::Over(done, decision) => put(
-                    &mut self.token,
-                    Token::Free(done),
-                    Answer::Over(decision),
-                ),
-                Poll::Still(waiting) => put(
-                    &mut self.token,
-                    Token::Waiting(waiting),
-                    Answer::Waits,
-                ),
-            },
-            token => put(&mut self.token, token, Answer::Wrong),
+        if self.place != Place::Waits {
+            return Answer::Wrong;
+        }
+        match level.poll_in(rt, &mut self.pass) {
+            Begun::Run => {
+                self.place = Place::Runs;
+                Answer::Run
+            }
+            Begun::Over(decision) => {
+                self.place = Place::Free;
+                Answer::Over(decision)
+            }
+            Begun::Waits => {
+                self.place = Place::Waits;
+                Answer::Waits
+            }
         }
     }
 
@@ -272,17 +233,12 @@ impl<K: Naming> Request<K> {
         ensures answers { Answers places.Runs self.old result self.new }
         ensures steps { ReleasesAs self.old result self.new }
     {
-        match take(&mut self.token) {
-            Token::Running(running) => {
-                let (done, waiting) = level.release(running);
-                put(
-                    &mut self.token,
-                    Token::Free(done),
-                    Answer::Released(waiting),
-                )
-            }
-            token => put(&mut self.token, token, Answer::Wrong),
+        if self.place != Place::Runs {
+            return Answer::Wrong;
         }
+        let waiting = level.release_in(&mut self.pass);
+        self.place = Place::Free;
+        Answer::Released(waiting)
     }
 
     /// A request that executes gives its seats back. Then requests that wait are dispatched. Answers `Released`.
@@ -303,12 +259,15 @@ impl<K: Naming> Request<K> {
         ensures own { pass_gate result ≡ K.level.gate }
         ensures number { result.pass.number ≡ number_in self }
     {
-        let Request { token, of: _ } = self;
-        match token {
-            Token::Free(done) => done,
-            Token::Waiting(waiting) => wait(rt, level, waiting),
-            Token::Running(running) => release(rt, level, running),
-            Token::Gone => unreachable!(),
+        let Request {
+            pass,
+            place,
+            of: _,
+        } = self;
+        match place {
+            Place::Free => Done::of(pass),
+            Place::Waits => wait(rt, level, Waiting::of(pass)),
+            Place::Runs => release(rt, level, Running::of(pass)),
         }
     }
 }

@@ -1,6 +1,6 @@
 -- Schedules: steps by any actors in any order, each allowed where it comes. The newest step comes first in the list.
 use Rattle.std.specs.Prelude.{◌≡◌, ℕ, ◌<◌, ◌≤◌, ◌==◌, Bool, false, List, [], ◌∷◌, length}
-use Rattle.apf_words.specs.Limits.{max_width}
+use Rattle.apf_words.specs.Limits.{max_width, max_cost}
 use Rattle.apf_model.specs.declared.moves.Move.{Move}
 use Rattle.apf_model.specs.declared.moves.Move.TheVariants.{Take, Enter, Grant, Leave, Decide, Release}
 use Rattle.apf_model.specs.World.{Opening, World, opening_world, width, seats, IsStanding, Allowed, after}
@@ -18,6 +18,10 @@ IsSchedule o (m ∷ ms) = Allowed o.widths m (world o ms) × IsSchedule o ms
 -- the widths that requests have: 1 to 20,000
 abbrev pub AreWidths : List ℕ → Type 0
 AreWidths widths = (r : ℕ) → r < length widths → (1 ≤ width widths r) × (width widths r ≤ max_width)
+
+-- the costs that requests have: 1 to 4,294,967,295
+abbrev pub AreCosts : List ℕ → Type 0
+AreCosts costs = (r : ℕ) → r < length costs → (1 ≤ width costs r) × (width costs r ≤ max_cost)
 
 -- r stands, is wider than the largest limit so far, and nobody else stands
 pub record StandsAlone (widths : List ℕ) (w : World) (r : ℕ) : Type 0 where

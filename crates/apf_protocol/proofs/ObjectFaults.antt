@@ -3,11 +3,10 @@ use Rattle.std.proofs.Common.{subst, ◌≡◌, ℕ, List, Option, Some, None, E
 use Rattle.serde_json.specs.Data.{Data}
 use Rattle.serde_json.specs.Find.{get, as_object}
 use Rattle.serde_json.specs.Read.{read}
-use Rattle.apf_words.specs.Limits.{max_width}
+use Rattle.apf_words.specs.Limits.{max_cost, max_width}
 use Rattle.apf_files.specs.FirstFault.{◌>>=◌, or_fault}
 use Rattle.apf_files.specs.JsonFile.{known_object}
 use Rattle.apf_files.specs.RequestsFile.{flow_of, number_or}
-use Rattle.apf_traces.specs.TraceValue.{max_cost}
 use Rattle.apf_explain.specs.Keys.{is_arrival_key}
 use Rattle.apf_explain.specs.declared.keys.Keys.TheVariants.{OfArrival}
 use Rattle.apf_explain.proofs.RequestFaults.{flow_told, number_by}

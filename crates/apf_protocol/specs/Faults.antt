@@ -4,8 +4,7 @@ use Rattle.serde_json.specs.Data.{Data}
 use Rattle.serde_json.specs.Find.{get}
 use Rattle.serde_json.specs.Read.{read}
 use Rattle.serde_json.specs.View.{view}
-use Rattle.apf_words.specs.Limits.{max_width}
-use Rattle.apf_traces.specs.TraceValue.{max_cost}
+use Rattle.apf_words.specs.Limits.{max_cost, max_width}
 use Rattle.apf_explain.specs.declared.place.Part.TheVariants.{Sent}
 use Rattle.apf_explain.specs.declared.keys.Keys.TheVariants.{OfArrival}
 use Rattle.apf_explain.specs.declared.wanted.Wanted.TheVariants.{Whole}

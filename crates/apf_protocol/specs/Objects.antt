@@ -3,11 +3,10 @@ use Rattle.std.specs.Prelude.{ℕ, ◌≤◌, List, Result, Ok, codes}
 use Rattle.serde_json.specs.Data.{Data}
 use Rattle.serde_json.specs.Find.{get, as_object}
 use Rattle.serde_json.specs.Read.{read}
-use Rattle.apf_words.specs.Limits.{max_width}
+use Rattle.apf_words.specs.Limits.{max_cost, max_width}
 use Rattle.apf_files.specs.FirstFault.{◌>>=◌, or_fault}
 use Rattle.apf_files.specs.JsonFile.{known_object}
 use Rattle.apf_files.specs.RequestsFile.{flow_of, number_or}
-use Rattle.apf_traces.specs.TraceValue.{max_cost}
 use Rattle.apf_explain.specs.Keys.{is_arrival_key}
 use Rattle.apf_protocol.specs.declared.arrival.Arrival.{Arrival}
 use Rattle.apf_protocol.specs.declared.fault.FaultKind.{FaultKind}

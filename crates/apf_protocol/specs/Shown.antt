@@ -2,8 +2,7 @@
 use Rattle.std.specs.Prelude.{◌≡◌, ℕ, List, Some, None, Err, codes}
 use Rattle.serde_json.specs.Data.{Data}
 use Rattle.serde_json.specs.Read.{read}
-use Rattle.apf_words.specs.Limits.{max_width}
-use Rattle.apf_traces.specs.TraceValue.{max_cost}
+use Rattle.apf_words.specs.Limits.{max_cost, max_width}
 use Rattle.apf_explain.specs.Shown.{IsUnwanted, NamesUnknown, IsFlowTold}
 use Rattle.apf_explain.specs.declared.keys.Keys.TheVariants.{OfArrival}
 use Rattle.apf_explain.specs.declared.wanted.Wanted.TheVariants.{Whole}

@@ -11,8 +11,7 @@ use crate::fault::{FaultKind, Found, LineFault};
 use apf_explain::{is_arrival_key, line_reason};
 use apf_files::{flow_of, number_or};
 use apf_model::Ask;
-use apf_traces::MAX_COST;
-use apf_words::MAX_WIDTH;
+use apf_words::{MAX_COST, MAX_WIDTH};
 use serde_json::{Error, Map, Value};
 use std::alloc::Global;
 
@@ -23,7 +22,7 @@ const DEFAULT_WIDTH: u32 = 1;
 pub struct Arrival {
     /// Its seats and the hash of its flow: given itself, or the `flow_hash` of its two names. The width is 1 if absent.
     pub ask: Ask,
-    /// What its dispatch is charged, 1 to 20,000; the width if absent.
+    /// What its dispatch is charged, 1 to 4,294,967,295; the width if absent.
     pub cost: u32,
 }
 

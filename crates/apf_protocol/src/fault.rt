@@ -10,8 +10,7 @@ use apf_explain::{
     Keys, Part, Place, Wanted, value_at, write_bad_flow, write_column, write_unknown_key,
     write_unwanted,
 };
-use apf_traces::MAX_COST;
-use apf_words::MAX_WIDTH;
+use apf_words::{MAX_COST, MAX_WIDTH};
 use serde_json::Value;
 use std::error::Error;
 use std::io::Write;
@@ -41,7 +40,7 @@ pub enum FaultKind {
     BadFlow,
     /// `width` is not a whole number from 1 to 20,000.
     BadWidth,
-    /// `cost` is not a whole number from 1 to 20,000.
+    /// `cost` is not a whole number from 1 to 4,294,967,295.
     BadCost,
     /// The limit is outside 1 to 10,000.
     BadLimit,

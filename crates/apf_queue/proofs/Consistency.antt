@@ -4,6 +4,7 @@ use Rattle.std.specs.Prelude.{Contains, max, replicate}
 use Rattle.std.proofs.lemmas.Bool.{cases_eq, cases_lt, eq-eqb, ne_eqb}
 use Rattle.std.proofs.lemmas.List.{length_push, get_or_past, length-replicate}
 use Rattle.std.proofs.lemmas.List.Elements.{Contains-push_cases}
+use Rattle.apf_words.specs.Limits.{max_cost}
 use Rattle.apf_model.specs.World.{put, width}
 use Rattle.apf_model.specs.Fair.{Numbers, after_enter, after_dispatch}
 use Rattle.apf_queue.specs.RingsView.{RingsView, ring, without}
@@ -53,10 +54,10 @@ with_queue_else rings q xs p ne = get_or-set_other rings.queues q p xs [] ne
 
 -- a request is pushed
 module _ (rings : RingsView) (time : TimeView) (limit : ℕ) (old : AreConsistent rings time limit)
-    (q r k : ℕ) (q_in : q < length rings.queues) (r_in : r < length rings.costs) (low : k ≤ 20000)
+    (q r k : ℕ) (q_in : q < length rings.queues) (r_in : r < length rings.costs) (low : k ≤ max_cost)
     (room : length (ring rings q) ≡ limit → ⊥)
     (time' : TimeView) (numbers : numbers_of time' ≡ after_enter q (ring rings q) (numbers_of time)) (one_for_each : length time'.next ≡ length time.next) where
-  low_push : (x : ℕ) → width (set rings.costs r k) x ≤ 20000
+  low_push : (x : ℕ) → width (set rings.costs r k) x ≤ max_cost
   low_push x = elim (cases_eq x r) [
     | inl e ↦ let same : get_or (set rings.costs r k) x 0 ≡ k = ap (λ i. get_or (set rings.costs r k) i 0) e ∙ get_or-set_same rings.costs r k 0 r_in in omega arith
     | inr ne ↦ let same = get_or-set_other rings.costs r x k 0 ne in let n = old.low x in omega arith
@@ -96,8 +97,8 @@ module _ (rings : RingsView) (time : TimeView) (limit : ℕ) (old : AreConsisten
         within_limit = within_push;
         low = low_push;
         are_requests = λ p x c. (let l = requests_push p x c in omega arith);
-        next_within = λ p. subst (λ (n : ℕ). n ≤ latest_time + 20000) (sym (ap (λ (v : Numbers). v.next p) numbers))
-            (enter_bounded q (ring rings q) (numbers_of time) (latest_time + 20000) old.next_within old.time_within p);
+        next_within = λ p. subst (λ (n : ℕ). n ≤ latest_time + max_cost) (sym (ap (λ (v : Numbers). v.next p) numbers))
+            (enter_bounded q (ring rings q) (numbers_of time) (latest_time + max_cost) old.next_within old.time_within p);
         time_within = (let e = ap (λ (v : Numbers). v.virtual_time) numbers ∙ enter_time q (ring rings q) (numbers_of time) in let a = old.time_within in omega arith);
       }
 
@@ -136,7 +137,7 @@ module _ (rings : RingsView) (time : TimeView) (limit : ℕ) (old : AreConsisten
 
   -- whatever the numbers are then
   left_consistent : (time' : TimeView) → length time'.next ≡ length time.next → time'.robin < length rings.queues
-      → ((p : ℕ) → get_or time'.next p 0 ≤ latest_time + 20000) → time'.virtual_time ≤ latest_time + 20000
+      → ((p : ℕ) → get_or time'.next p 0 ≤ latest_time + max_cost) → time'.virtual_time ≤ latest_time + max_cost
       → AreConsistent (with_queue rings q (without r (ring rings q))) time' limit
   left_consistent time' one_for_each robin next_within time_within =
       let queues = length-set rings.queues q (without r (ring rings q)) in
@@ -165,11 +166,11 @@ module _ (rings : RingsView) (time : TimeView) (limit : ℕ) (old : AreConsisten
   -- it is dispatched, where virtual time may go on
   module _ (k : ℕ) (k_is : k ≡ width rings.costs r) (early : get_or time.next q 0 ≤ latest_time)
       (time' : TimeView) (numbers : numbers_of time' ≡ after_dispatch q k (numbers_of time)) (one_for_each : length time'.next ≡ length time.next) where
-    next_after : (p : ℕ) → get_or time'.next p 0 ≤ latest_time + 20000
+    next_after : (p : ℕ) → get_or time'.next p 0 ≤ latest_time + max_cost
     next_after p =
         let low = old.low r in
-        subst (λ (n : ℕ). n ≤ latest_time + 20000) (sym (ap (λ (v : Numbers). v.next p) numbers))
-        (put_bounded (numbers_of time).next q (get_or time.next q 0 + k) (latest_time + 20000) old.next_within (let a = early in omega arith) p)
+        subst (λ (n : ℕ). n ≤ latest_time + max_cost) (sym (ap (λ (v : Numbers). v.next p) numbers))
+        (put_bounded (numbers_of time).next q (get_or time.next q 0 + k) (latest_time + max_cost) old.next_within (let a = early in omega arith) p)
 
     pub dispatch_consistent : AreConsistent (with_queue rings q (without r (ring rings q))) time' limit
     dispatch_consistent =

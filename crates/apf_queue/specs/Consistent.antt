@@ -1,6 +1,6 @@
 -- What the fields of the queues keep true of one another.
 use Rattle.std.specs.Prelude.{◌≡◌, ℕ, ◌+◌, ◌<◌, ◌≤◌, List, length, slice_index, slice_get, Contains, Option, Some, None}
-use Rattle.apf_words.specs.Limits.{max_width}
+use Rattle.apf_words.specs.Limits.{max_cost}
 use Rattle.apf_model.specs.World.{width}
 use Rattle.apf_queue.specs.Finishes.{no_finish}
 use Rattle.apf_queue.specs.RingsView.{RingsView, ring}
@@ -14,12 +14,12 @@ pub record AreConsistent (rings : RingsView) (time : TimeView) (length_limit : �
   pub one_next_each : length time.next ≡ length rings.queues
   pub robin_is_queue : time.robin < length rings.queues
   pub within_limit : (q : ℕ) → length (ring rings q) ≤ length_limit
-  pub low : (r : ℕ) → width rings.costs r ≤ max_width
+  pub low : (r : ℕ) → width rings.costs r ≤ max_cost
   -- who stands in a queue is one of the requests
   pub are_requests : (q r : ℕ) → Contains (ring rings q) r → r < length rings.costs
   -- a dispatch may bring them past the latest time by one cost
-  pub next_within : (q : ℕ) → slice_index time.next q ≤ latest_time + max_width
-  pub time_within : time.virtual_time ≤ latest_time + max_width
+  pub next_within : (q : ℕ) → slice_index time.next q ≤ latest_time + max_cost
+  pub time_within : time.virtual_time ≤ latest_time + max_cost
 
 -- the finish of a queue with this first request, if any
 abbrev pub finish_with : List ℕ → ℕ → Option ℕ → ℕ

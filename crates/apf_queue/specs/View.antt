@@ -94,7 +94,7 @@ pub record IsChosen (s : QueuesView) (c : Chosen) : Type 0 where
   pub is_choice : IsChoice (queue_count s) s.costs (queue_in s) (numbers_in s) c.queue
   pub is_head : IsHead s c.queue c
 
--- up to this, the number of a queue may grow: far more than 20,000 times all requests that can ever be numbered, and far less than 2^128
+-- up to this, the number of a queue may grow: far more than 2^32 times all requests that can ever be numbered, and far less than 2^128
 abbrev pub latest_time : ℕ
 latest_time = 2 ^ 127
 

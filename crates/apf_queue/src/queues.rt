@@ -1,7 +1,6 @@
 //! The queues of a level.
 
 ghost use Rattle.std.specs.Prelude.{◌≡◌, ◌≢◌, ◌≤◌, ◌<◌, ◌↔◌, ◌+◌, ◌^◌, ℕ, List, [], ◌∷◌, ◌++◌, length, slice_index, All, Contains, IsTrue, IsErr, IsErrOf, OnOk, OnErr, IfOk, IfSome, IfNone, MatchOption};
-ghost use Rattle.apf_words.specs.Limits.{max_width};
 ghost use Rattle.apf_model.specs.History.{IsShortest};
 ghost use Rattle.apf_model.specs.Fair.{opening_numbers, IsChoice};
 ghost use Rattle.apf_queue.specs.RingsView.{without};
@@ -145,7 +144,7 @@ impl<A: Allocator> Queues<A> {
     /// Puts the request, whose dispatch is charged this cost, at the end of the queue. A queue that was
     /// empty starts no earlier than the level's virtual time.
     ///
-    /// The request stands in no queue now, which `queue_of` tells. A cost is 1 to 20,000.
+    /// The request stands in no queue now, which `queue_of` tells. A cost is 1 to 4,294,967,295.
     ///
     /// # Errors
     ///
@@ -155,7 +154,6 @@ impl<A: Allocator> Queues<A> {
         requires is_queue { queue < queue_count self.old }
         requires is_request { request < request_count self.old }
         requires has_cost { 1 ≤ cost }
-        requires low { cost ≤ max_width }
         requires is_nowhere { StandsNowhere self.old request }
         ensures full { IsErr result ↔ (length (queue_in self.old queue) ≡ self.old.length_limit) }
         ensures unchanged { OnErr result (self.new ≡ self.old) }

@@ -15,6 +15,8 @@ use Rattle.apf_level.specs.Admission.{TriesToAdmit}
 use Rattle.apf_level.specs.declared.answers.Begin.{Begin}
 use Rattle.apf_level.specs.declared.answers.Begin.TheVariants as begun
 use Rattle.apf_level.specs.Levels.{LevelId}
+use Rattle.apf_level.specs.Tokens.{IsInLine, IsRunning, IsDone}
+use Rattle.apf_words.specs.Limits.{max_requests}
 use Rattle.apf_level.specs.Arrivals.{Appended}
 use Rattle.apf_session.specs.declared.token.Token.{Token}
 use Rattle.apf_session.specs.declared.token.Token.TheVariants as tokens
@@ -44,6 +46,27 @@ pub record RequestView : Type 0 where
 pub record IsRequestOf (k : LevelId) (r : RequestView) : Type 0 where
   pub own : IsTokenOf k r.number r.token
   pub inside : r.number < length k.gate.shape.widths
+
+-- what a request holds whose Pass stands at this place
+abbrev pub token_at : Place → PassToken → Token
+token_at places.Away pass = tokens.Fresh pass
+token_at places.Waits pass = tokens.Waiting pass
+token_at places.Runs pass = tokens.Running pass
+token_at places.Over pass = tokens.Done pass
+
+-- the Pass is what its place says
+abbrev pub IsAt : Place → PassToken → Type 0
+IsAt places.Away pass = pass.pass.state ≡ Fresh
+IsAt places.Waits pass = IsInLine pass
+IsAt places.Runs pass = IsRunning pass
+IsAt places.Over pass = IsDone pass
+
+-- a request of the level whose Pass stands at this place
+pub record IsPlacedOf (k : LevelId) (place : Place) (pass : PassToken) : Type 0 where
+  pub own : IsPassOf k pass.pass.number pass
+  pub inside : pass.pass.number < length k.gate.shape.widths
+  pub small : pass.pass.number < max_requests
+  pub at : IsAt place pass
 
 -- where the request is
 abbrev pub place_of : Token → Place

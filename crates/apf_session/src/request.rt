@@ -7,65 +7,30 @@ ghost use Rattle.apf_gate.specs.declared.record.State.TheVariants as states;
 ghost use Rattle.apf_gate.specs.Records.{told_own};
 ghost use Rattle.apf_gate.specs.Tokens.{pass_gate};
 ghost use Rattle.apf_session.specs.declared.answer.Place.TheVariants as places;
-ghost use Rattle.apf_session.specs.declared.token.Token.TheVariants as tokens;
-ghost use Rattle.apf_session.specs.Requests.{place_of, told_by, Answers, KeepsBegun, LogsFor, SaysWhere, TriesAs, ReleasesAs};
+ghost use Rattle.apf_session.specs.Requests.{place_of, told_by, Answers, LogsFor, SaysWhere, TriesAs, ReleasesAs};
 
 use crate::answer::{Answer, Place};
-use crate::token::Token;
 use apf_gate::Pass;
-use apf_level::{Admit, Begin, Done, Level, Naming, Poll, Running, TryAdmit, Waiting};
+use apf_level::{Begun, Done, Level, Naming, Poll, Running, Tried, Waiting};
 use apf_model::Event;
 use std::marker::{Model, PhantomData};
-use std::mem;
 use std::sync::Wait;
 
 /// A request of the level that K names. It must be spent, by `end`.
 pub struct Request<K: Naming> {
-    token: Token,
-    number: u32,
+    pass: Pass,
+    place: Place,
     of: PhantomData<K>,
 }
 
 impl<K: Naming> Model for Request<K> {
-    ghost use Rattle.apf_session.specs.Requests.{RequestView, IsRequestOf};
+    ghost use Rattle.apf_session.specs.Requests.{RequestView, token_at, IsPlacedOf};
 
     ghost Value = { RequestView };
 
-    ghost view = { λ r. record { number = r.number; token = r.token } };
+    ghost view = { λ r. record { number = r.pass.pass.number; token = token_at r.place r.pass } };
 
-    ghost invariant = { λ r. IsRequestOf K.level (record { number = r.number; token = r.token }) };
-}
-
-// Takes the token, in whose place there is none then.
-fn take(place: &mut Token) -> Token
-    ensures token { result ≡ place.old }
-    ensures gone { place.new ≡ tokens.Gone }
-{
-    mem::replace(place, Token::Gone)
-}
-
-// Puts a token where there is none, and answers so.
-fn put(place: &mut Token, token: Token, answer: Answer) -> Answer
-    requires { place.old ≡ tokens.Gone }
-    ensures token { place.new ≡ token }
-    ensures answer { result ≡ answer }
-{
-    match mem::replace(place, token) {
-        Token::Gone => answer,
-        _token => unreachable!(),
-    }
-}
-
-// Puts what an arrival gave where there is no token.
-fn put_begun(place: &mut Token, begun: Begin) -> Answer
-    requires { place.old ≡ tokens.Gone }
-    ensures { KeepsBegun begun result place.new }
-{
-    match begun {
-        Begin::Run(running) => put(place, Token::Running(running), Answer::Run),
-        Begin::Over(done, decision) => put(place, Token::Done(done), Answer::Over(decision)),
-        Begin::Waiting(waiting) => put(place, Token::Waiting(waiting), Answer::Waits),
-    }
+    ghost invariant = { λ r. IsPlacedOf K.level r.place r.pass };
 }
 
 /// Gives the seats back, and dispatches if requests wait.
@@ -107,10 +72,9 @@ impl<K: Naming> Request<K> {
         ensures number { result.number ≡ pass.pass.number }
         ensures away { place_of result.token ≡ places.Away }
     {
-        let number = pass.number() as u32;
         Request {
-            token: Token::Fresh(pass),
-            number,
+            pass,
+            place: Place::Away,
             of: PhantomData,
         }
     }
@@ -120,19 +84,14 @@ impl<K: Naming> Request<K> {
         ensures number { result ≡ self.now.number }
         ensures inside { result < length K.level.gate.shape.widths }
     {
-        self.number
+        self.pass.number() as u32
     }
 
     /// Where it is on its way.
     pub fn place(&self) -> Place
         ensures { result ≡ place_of self.now.token }
     {
-        match self.token {
-            Token::Fresh(_) => Place::Away,
-            Token::Waiting(_) => Place::Waits,
-            Token::Running(_) => Place::Runs,
-            Token::Done(_) | Token::Gone => Place::Over,
-        }
+        self.place
     }
 
     /// Admits it, if nobody waits and it fits. It takes no lock. Answers `Run`, `Tried` or `Busy`.
@@ -140,21 +99,19 @@ impl<K: Naming> Request<K> {
         ensures answers { Answers places.Away self.old result self.new }
         ensures steps { TriesAs self.old.token result self.new.token }
     {
-        match take(&mut self.token) {
-            Token::Fresh(pass) => match level.try_admit(pass) {
-                TryAdmit::Run(running) => put(
-                    &mut self.token,
-                    Token::Running(running),
-                    Answer::Run,
-                ),
-                TryAdmit::Over(done, decision, waiting) => put(
-                    &mut self.token,
-                    Token::Done(done),
-                    Answer::Tried(decision, waiting),
-                ),
-                TryAdmit::Busy(pass) => put(&mut self.token, Token::Fresh(pass), Answer::Busy),
-            },
-            token => put(&mut self.token, token, Answer::Wrong),
+        if self.place != Place::Away {
+            return Answer::Wrong;
+        }
+        match level.attempt_in(&mut self.pass) {
+            Tried::Run => {
+                self.place = Place::Runs;
+                Answer::Run
+            }
+            Tried::Over(decision, waiting) => {
+                self.place = Place::Over;
+                Answer::Tried(decision, waiting)
+            }
+            Tried::Blocked | Tried::Raced => Answer::Busy,
         }
     }
 
@@ -163,9 +120,23 @@ impl<K: Naming> Request<K> {
         ensures answers { Answers places.Away self.old result self.new }
         ensures kind { SaysWhere result }
     {
-        match take(&mut self.token) {
-            Token::Fresh(pass) => put_begun(&mut self.token, level.begin(rt, pass)),
-            token => put(&mut self.token, token, Answer::Wrong),
+        if self.place != Place::Away {
+            return Answer::Wrong;
+        }
+        let (begun, _event) = level.arrive_in(rt, &mut self.pass);
+        match begun {
+            Begun::Run => {
+                self.place = Place::Runs;
+                Answer::Run
+            }
+            Begun::Over(decision) => {
+                self.place = Place::Over;
+                Answer::Over(decision)
+            }
+            Begun::Waits => {
+                self.place = Place::Waits;
+                Answer::Waits
+            }
         }
     }
 
@@ -176,12 +147,23 @@ impl<K: Naming> Request<K> {
         ensures kind { SaysWhere result.0 }
         ensures logs { LogsFor K.level self.old.number result.0 result.1 }
     {
-        match take(&mut self.token) {
-            Token::Fresh(pass) => {
-                let (begun, event) = level.begin_with_event(rt, pass);
-                (put_begun(&mut self.token, begun), event)
+        if self.place != Place::Away {
+            return (Answer::Wrong, None);
+        }
+        let (begun, event) = level.arrive_in(rt, &mut self.pass);
+        match begun {
+            Begun::Run => {
+                self.place = Place::Runs;
+                (Answer::Run, event)
             }
-            token => (put(&mut self.token, token, Answer::Wrong), None),
+            Begun::Over(decision) => {
+                self.place = Place::Over;
+                (Answer::Over(decision), event)
+            }
+            Begun::Waits => {
+                self.place = Place::Waits;
+                (Answer::Waits, event)
+            }
         }
     }
 
@@ -191,16 +173,19 @@ impl<K: Naming> Request<K> {
         ensures kind { SaysWhere result }
         ensures decided { result ≢ Answer.Waits }
     {
-        match take(&mut self.token) {
-            Token::Fresh(pass) => match level.admit(rt, pass) {
-                Admit::Run(running) => put(&mut self.token, Token::Running(running), Answer::Run),
-                Admit::Over(done, decision) => put(
-                    &mut self.token,
-                    Token::Done(done),
-                    Answer::Over(decision),
-                ),
-            },
-            token => put(&mut self.token, token, Answer::Wrong),
+        if self.place != Place::Away {
+            return Answer::Wrong;
+        }
+        match level.admit_in(rt, &mut self.pass) {
+            Begun::Run => {
+                self.place = Place::Runs;
+                Answer::Run
+            }
+            Begun::Over(decision) => {
+                self.place = Place::Over;
+                Answer::Over(decision)
+            }
+            Begun::Waits => unreachable!(),
         }
     }
 
@@ -209,21 +194,19 @@ impl<K: Naming> Request<K> {
         ensures answers { Answers places.Waits self.old result self.new }
         ensures kind { SaysWhere result }
     {
-        match take(&mut self.token) {
-            Token::Waiting(waiting) => match level.poll(rt, waiting) {
-                Poll::Run(running) => put(&mut self.token, Token::Running(running), Answer::Run),
-                Poll::Over(done, decision) => put(
-                    &mut self.token,
-                    Token::Done(done),
-                    Answer::Over(decision),
-                ),
-                Poll::Still(waiting) => put(
-                    &mut self.token,
-                    Token::Waiting(waiting),
-                    Answer::Waits,
-                ),
-            },
-            token => put(&mut self.token, token, Answer::Wrong),
+        if self.place != Place::Waits {
+            return Answer::Wrong;
+        }
+        match level.poll_in(rt, &mut self.pass) {
+            Begun::Run => {
+                self.place = Place::Runs;
+                Answer::Run
+            }
+            Begun::Over(decision) => {
+                self.place = Place::Over;
+                Answer::Over(decision)
+            }
+            Begun::Waits => Answer::Waits,
         }
     }
 
@@ -232,17 +215,12 @@ impl<K: Naming> Request<K> {
         ensures answers { Answers places.Runs self.old result self.new }
         ensures steps { ReleasesAs self.old.token result self.new.token }
     {
-        match take(&mut self.token) {
-            Token::Running(running) => {
-                let (done, waiting) = level.release(running);
-                put(
-                    &mut self.token,
-                    Token::Done(done),
-                    Answer::Released(waiting),
-                )
-            }
-            token => put(&mut self.token, token, Answer::Wrong),
+        if self.place != Place::Runs {
+            return Answer::Wrong;
         }
+        let waiting = level.release_in(&mut self.pass);
+        self.place = Place::Over;
+        Answer::Released(waiting)
     }
 
     /// A request that executes gives its seats back. Then requests that wait are dispatched. Answers `Released`.
@@ -265,19 +243,19 @@ impl<K: Naming> Request<K> {
         ensures told { told_by self.token ≢ None → told_own result.pass ≡ told_by self.token }
     {
         let Request {
-            token,
-            number: _,
+            mut pass,
+            place,
             of: _,
         } = self;
-        match token {
-            Token::Fresh(pass) => match level.admit(rt, pass) {
-                Admit::Run(running) => release(rt, level, running),
-                Admit::Over(done, _decision) => done,
+        match place {
+            Place::Away => match level.admit_in(rt, &mut pass) {
+                Begun::Run => release(rt, level, Running::of(pass)),
+                Begun::Over(_decision) => Done::of(pass),
+                Begun::Waits => unreachable!(),
             },
-            Token::Waiting(waiting) => wait(rt, level, waiting),
-            Token::Running(running) => release(rt, level, running),
-            Token::Done(done) => done,
-            Token::Gone => unreachable!(),
+            Place::Waits => wait(rt, level, Waiting::of(pass)),
+            Place::Runs => release(rt, level, Running::of(pass)),
+            Place::Over => Done::of(pass),
         }
     }
 }

@@ -2,7 +2,7 @@
 
 ghost use Rattle.std.specs.Prelude.{◌≡◌, ◌≢◌, ◌+◌, ◌<◌, ◌≤◌, ℕ, [], ◌∷◌, length, slice_index_or, All, IfOk, IfErr, OnOk};
 ghost use Rattle.apf_words.specs.Limits.{max_limit};
-ghost use Rattle.apf_model.specs.Schedule.{AreWidths};
+ghost use Rattle.apf_model.specs.Schedule.{AreCosts};
 ghost use Rattle.apf_gate.specs.declared.record.State.TheVariants.{Fresh};
 ghost use Rattle.apf_gate.specs.StationSteps.{StationLoadsLevel};
 ghost use Rattle.apf_gate.specs.StationCalls.{CancelsTo, ClosesTo};
@@ -242,7 +242,7 @@ impl<K: Naming> Session<K> {
         Ok(Session::of(rt, alloc, opened)?)
     }
 
-    /// The level of this opening, where a dispatch is charged the request's cost, 1 to 20,000, in a unit of the
+    /// The level of this opening, where a dispatch is charged the request's cost, 1 to 4,294,967,295, in a unit of the
     /// caller's.
     ///
     /// # Errors
@@ -256,7 +256,7 @@ impl<K: Naming> Session<K> {
     ) -> Result<Session<K>, OpenFault>
         requires level { K.level ≡ level_with opening.gate opening.board.cell opening.config opening.asks.now costs.now }
         requires one_cost_each { length costs.now ≡ length opening.asks.now }
-        requires costs { AreWidths costs.now }
+        requires costs { AreCosts costs.now }
         ensures numbered { IfOk result (λ s. AreNumbered s.requests.items) }
         ensures away { IfOk result (λ s. AreAway s.requests.items) }
         ensures new { IfOk result (λ s. All (IsNew K.level.gate) s.operators.items) }

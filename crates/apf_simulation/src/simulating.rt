@@ -3,7 +3,7 @@
 ghost use Rattle.std.specs.Prelude.{◌≡◌, ◌≤◌, ◌^◌, [], All, length, slice_get, IfOk, IfErr, OnOk};
 ghost use Rattle.std.specs.List.{AllByRecursion};
 ghost use Rattle.apf_words.specs.Limits.{max_limit, max_requests};
-ghost use Rattle.apf_model.specs.Schedule.{AreWidths};
+ghost use Rattle.apf_model.specs.Schedule.{AreCosts};
 ghost use Rattle.apf_level.specs.Reports.{AreSums};
 ghost use Rattle.apf_session.specs.Openings.{level_with, CanOpen, IsOpenFault};
 ghost use Rattle.apf_times.specs.Courses.{AreInRange, all_dues};
@@ -99,7 +99,7 @@ fn run_named<K: Naming, R: Wait>(
     requires level { K.level ≡ level_with opening.gate opening.board.cell opening.config opening.asks.now costs.now }
     requires one { opening.gate.shape.stations ≡ 1 }
     requires one_cost_each { length costs.now ≡ length opening.asks.now }
-    requires costs { AreWidths costs.now }
+    requires costs { AreCosts costs.now }
     requires one_course_each { length diary.calendar.courses ≡ length opening.asks.now }
     requires awaited { AreAwaited diary.calendar }
     requires nothing { diary.carried ≡ [] }

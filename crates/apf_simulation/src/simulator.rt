@@ -2,7 +2,7 @@
 
 ghost use Rattle.std.specs.Prelude.{◌≡◌, ◌≢◌, ◌⊎◌, ◌*◌, ◌<◌, ◌≤◌, false, true, [], length, slice_index_or, All, IfOk, IfErr, IfNone, IfSome, OnOk};
 ghost use Rattle.apf_words.specs.Limits.{max_requests};
-ghost use Rattle.apf_model.specs.Schedule.{AreWidths};
+ghost use Rattle.apf_model.specs.Schedule.{AreCosts};
 ghost use Rattle.apf_session.specs.declared.answer.Place.TheVariants as places;
 ghost use Rattle.apf_session.specs.Ends.{SessionEnds};
 ghost use Rattle.apf_session.specs.Openings.{level_with, CanOpen, IsNew, IsOpenFault};
@@ -45,7 +45,7 @@ impl<K: Naming> Simulator<K> {
         requires level { K.level ≡ level_with opening.gate opening.board.cell opening.config opening.asks.now costs.now }
         requires one { opening.gate.shape.stations ≡ 1 }
         requires one_cost_each { length costs.now ≡ length opening.asks.now }
-        requires costs { AreWidths costs.now }
+        requires costs { AreCosts costs.now }
         requires one_course_each { length diary.calendar.courses ≡ length opening.asks.now }
         requires awaited { AreAwaited diary.calendar }
         ensures diary { IfOk result (λ s. s.diary ≡ diary) }

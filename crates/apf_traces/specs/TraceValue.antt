@@ -2,7 +2,7 @@
 use Rattle.std.specs.Prelude.{◌≡◌, ℕ, ◌≤◌, List, Bool, ◌||◌, Option, Some, None, option_map, option_and_then, IfSome, Result, Ok, codes, bytes_eq, string_bytes}
 use Rattle.serde_json.specs.Data.{Data}
 use Rattle.serde_json.specs.Find.{get, as_object}
-use Rattle.apf_words.specs.Limits.{max_width}
+use Rattle.apf_words.specs.Limits.{max_cost, max_width}
 use Rattle.apf_flow.specs.Flow.{flow_hash_of}
 use Rattle.apf_files.specs.FirstFault.{◌>>=◌, or_fault}
 use Rattle.apf_files.specs.JsonFile.{known_object, text_at, whole_in}
@@ -12,10 +12,6 @@ use Rattle.apf_traces.specs.declared.fault.TraceFault.{TraceFault}
 use Rattle.apf_traces.specs.declared.fault.TraceFault.TheVariants.{NotObject, UnknownKey, BadArrival, BadRun, BadFlow, BadWidth, BadCost}
 use Rattle.apf_traces.specs.declared.request.FlowNames.{FlowNames}
 use Rattle.apf_traces.specs.declared.request.TraceRequest.{TraceRequest}
-
--- the largest cost, which is the largest width
-abbrev pub max_cost : ℕ
-max_cost = max_width
 
 -- a request as a line says it, with the bytes of the flow's two names, schema and distinguisher, where it has them
 pub record Entry : Type 0 where

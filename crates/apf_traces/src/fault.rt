@@ -37,7 +37,7 @@ pub enum TraceFault {
     /// 9: `width` is not a whole number from 1 to 20,000.
     #[error("bad width")]
     BadWidth(u32),
-    /// 10: `cost` is not a whole number from 1 to 20,000.
+    /// 10: `cost` is not a whole number from 1 to 4,294,967,295.
     #[error("bad cost")]
     BadCost(u32),
     /// 11: the line is not ended by LF.

@@ -17,4 +17,4 @@ pub use fault::TraceFault;
 pub use line::{MAX_BYTES, MAX_LINES};
 pub use request::{FlowNames, TraceRequest};
 pub use trace::{First, first_line, read_trace};
-pub use value::{MAX_COST, is_trace_key};
+pub use value::is_trace_key;

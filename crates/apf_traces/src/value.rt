@@ -9,14 +9,11 @@ use crate::fault::TraceFault;
 use crate::request::{FlowNames, TraceRequest};
 use apf_files::{flow_of, number_or, text_at};
 use apf_times::{MOST_ARRIVES_AT, MOST_RUNS_FOR};
-use apf_words::MAX_WIDTH;
+use apf_words::{MAX_COST, MAX_WIDTH};
 use serde_json::{Map, Value};
 use std::alloc::{AllocError, Global};
 
 const DEFAULT_WIDTH: u32 = 1;
-
-/// The largest cost, which is the largest width.
-pub const MAX_COST: u32 = MAX_WIDTH;
 
 /// Whether the name is that of a key of a trace's requests.
 #[tactic(auto, unfolding(crate::specs::TraceValue::is_key))]

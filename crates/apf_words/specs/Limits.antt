@@ -13,6 +13,10 @@ max_requests = 10000
 abbrev pub max_width : ℕ
 max_width = 20000
 
+-- the largest cost, which a dispatch is charged, in a unit of the caller's
+abbrev pub max_cost : ℕ
+max_cost = 4294967295
+
 -- the most Stations
 abbrev pub max_stations : ℕ
 max_stations = 64

@@ -19,6 +19,8 @@ mod seats;
 
 pub use decision::{Decision, UNDECIDED};
 pub use level_word::LevelWord;
-pub use limits::{MAX_LIMIT, MAX_QUEUE_LENGTH, MAX_QUEUES, MAX_REQUESTS, MAX_STATIONS, MAX_WIDTH};
+pub use limits::{
+    MAX_COST, MAX_LIMIT, MAX_QUEUE_LENGTH, MAX_QUEUES, MAX_REQUESTS, MAX_STATIONS, MAX_WIDTH,
+};
 pub use marks::{decided, decision_in, mark_in, undecided};
 pub use seats::fits;

@@ -10,6 +10,9 @@ pub const MAX_REQUESTS: u32 = 10_000;
 /// is smaller and a request that is wider than the limit runs alone.
 pub const MAX_WIDTH: u32 = 20_000;
 
+/// The largest cost of a request, which its dispatch is charged, in a unit of the caller's.
+pub const MAX_COST: u32 = 4_294_967_295;
+
 /// The most Stations of a level.
 pub const MAX_STATIONS: u32 = 64;
 

@@ -3,7 +3,7 @@ use Rattle.std.proofs.Common.{◌≡◌, ℕ, List, length, sym, ap, ◌∙◌, 
 use Rattle.std.proofs.lemmas.List.{length-map}
 use Rattle.apf_model.specs.declared.config.Ask.{Ask}
 use Rattle.apf_model.specs.declared.config.Config.{Config}
-use Rattle.apf_model.specs.Schedule.{AreWidths}
+use Rattle.apf_model.specs.Schedule.{AreCosts}
 use Rattle.apf_level.specs.declared.report.Report.{Report}
 use Rattle.apf_session.specs.Openings.{level_with}
 use Rattle.apf_traces.specs.declared.request.TraceRequest.{TraceRequest}
@@ -17,8 +17,8 @@ use Rattle.apf_simulation.proofs.simulating.simulate.Goals as goal
 pub run_named-requires-clause-costs : goal.run_named-requires-clause-costs
 run_named-requires-clause-costs g c =
     let costs : c.as_slice-2.result.now ≡ costs_of c.args.trace.now = c.as_slice-2.ensures.value ∙ c.in_ok-costs.ensures in
-    let ranges : AreWidths (costs_of c.args.trace.now) = costs_in_range c.args.trace.now c.requires.ranges in
-    λ lifetimes lives. subst (λ (xs : List ℕ). AreWidths xs) (sym costs) ranges
+    let ranges : AreCosts (costs_of c.args.trace.now) = costs_in_range c.args.trace.now c.requires.ranges in
+    λ lifetimes lives. subst (λ (xs : List ℕ). AreCosts xs) (sym costs) ranges
 
 pub simulation_of-requires-clause-run : goal.simulation_of-requires-clause-run
 simulation_of-requires-clause-run g c =

@@ -16,7 +16,7 @@ finish_in-finish-requires-clause-fits g c =
     let is_queue : c.args.queue < length s.rings.queues = omega (arith, c.requires.is_queue) in
     let is_request : c.args.request < length s.rings.costs = omega (arith, c.requires.is_request) in
     let consistent = push_consistent s.rings s.time s.length_limit c.self.invariant.consistent c.args.queue c.args.request c.args.cost
-    is_queue is_request c.requires.low (λ full. c.if-len-self.false (c.len-len.ensures ∙ full))
+    is_queue is_request (let f = c.ranges.cost.fits in omega arith) (λ full. c.if-len-self.false (c.len-len.ensures ∙ full))
     c.enter.new.self (c.enter.ensures.numbers (ring s.rings c.args.queue) (sym c.len-len.ensures)) c.enter.ensures.one_for_each in
     λ r. let a = small_sum _ _ _ consistent c.args.queue r in rw c.push.ensures (omega arith)
 
@@ -30,7 +30,7 @@ invariant_of-self g c =
     let numbers = c.enter.ensures.numbers (ring s.rings c.args.queue) (sym c.len-len.ensures) in
     let nowhere = subst (λ (v : QueuesView). StandsNowhere v c.args.request) (sym c.self.view_is) c.requires.is_nowhere in
     let consistent = push_consistent s.rings s.time s.length_limit c.self.invariant.consistent c.args.queue c.args.request c.args.cost
-    is_queue is_request c.requires.low (λ full. c.if-len-self.false (c.len-len.ensures ∙ full))
+    is_queue is_request (let f = c.ranges.cost.fits in omega arith) (λ full. c.if-len-self.false (c.len-len.ensures ∙ full))
     c.enter.new.self numbers c.enter.ensures.one_for_each in
     let some : ring s.rings c.args.queue ≢ [] = λ none. (let n = ap (λ (xs : List ℕ). length xs) none in let l = c.len-len.ensures in absurd (omega (arith, c.if-len-gt0.true))) in
     let finishes = busy_finishes s.rings s.time c.enter.new.self s.finishes s.length_limit c.args.queue c.args.request c.args.cost c.self.invariant is_queue some nowhere numbers in
@@ -46,7 +46,7 @@ invariant_of-self-2 g c =
     let numbers = c.enter.ensures.numbers (ring s.rings c.args.queue) (sym c.len-len.ensures) in
     let nowhere = subst (λ (v : QueuesView). StandsNowhere v c.args.request) (sym c.self.view_is) c.requires.is_nowhere in
     let consistent = push_consistent s.rings s.time s.length_limit c.self.invariant.consistent c.args.queue c.args.request c.args.cost
-    is_queue is_request c.requires.low (λ full. c.if-len-self.false (c.len-len.ensures ∙ full))
+    is_queue is_request (let f = c.ranges.cost.fits in omega arith) (λ full. c.if-len-self.false (c.len-len.ensures ∙ full))
     c.enter.new.self numbers c.enter.ensures.one_for_each in
     let finishes = push_finishes s.rings s.time c.enter.new.self s.finishes s.length_limit c.args.queue c.args.request c.args.cost c.self.invariant is_queue nowhere numbers in
     rw (c.set.ensures, c.finish_in-finish.ensures, c.push.ensures) (record { consistent = consistent; finishes_are = finishes })

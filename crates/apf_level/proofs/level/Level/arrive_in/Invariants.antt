@@ -1,0 +1,18 @@
+-- The request is the same and did not enter. Whoever is not decided is fresh.
+use Rattle.std.proofs.Common.{◌≡◌, false}
+use Rattle.apf_level.specs.Admission.{tried_pass, IsTriedTold}
+use Rattle.apf_level.specs.Attempts.{tried_of, attempt_of, IsKeptBy, StaysOut}
+use Rattle.apf_level.specs.Tokens.{IsOf}
+use Rattle.apf_level.proofs.level.Level.arrive_in.Given as goal
+
+abbrev pub invariant-loop : goal.invariant-loop
+invariant-loop g l =
+    record {
+      next : (goal.iterator-loop g).can_next l.iterator';
+      ends : (goal.iterator-loop g).is_finite l.iterator';
+      kept : IsKeptBy l.tried l.pass;
+      same : IsOf l.fn.pass (tried_pass (tried_of (attempt_of l.tried l.pass)));
+      told : IsTriedTold (tried_of (attempt_of l.tried l.pass));
+      outside : StaysOut l.fn.pass.pass (attempt_of l.tried l.pass);
+      never_entered : l.fn.pass.pass.entered ≡ false;
+    }

@@ -1,0 +1,29 @@
+-- A request that waited and is over was cancelled.
+use Rattle.std.proofs.Common.{rules, ◌≡◌, ◌∙◌, Option, Some, sym, ap}
+use Rattle.apf_words.specs.declared.decision.Decision.{Decision}
+use Rattle.apf_words.specs.declared.decision.Decision.TheVariants.{Cancelled}
+use Rattle.apf_gate.specs.Records.{told_own}
+use Rattle.apf_gate.specs.PassSteps.{PassLoadsDecision}
+use Rattle.apf_life.proofs.level.Level.poll_in.Goals as goal
+
+some_is : (a b : Decision) → ◌≡◌ {A = Option Decision} (Some a) (Some b) → a ≡ b
+some_is a b is = cc
+
+pub returns-in-Some : goal.returns-in-Some
+returns-in-Some g c =
+    let between = c.told.new.pass in
+    let told : told_own between.pass ≡ Some c.in-Some.decision = search rules in
+    let loads : PassLoadsDecision c.args.pass.now.pass (Some c.in-Some.decision) between.pass = search rules in
+    record {
+      left = search rules;
+      same = record {
+        gate = c.withdraw.ensures.same.gate ∙ c.told.ensures.same.gate;
+        number = c.withdraw.ensures.same.number ∙ c.told.ensures.same.number;
+      };
+      answer = (
+        (between.pass, loads),
+        some_is c.in-Some.decision Cancelled (sym told ∙ (sym c.withdraw.ensures.told ∙ c.withdraw.ensures.cancelled)),
+        c.withdraw.ensures.told ∙ told,
+        c.withdraw.ensures.left,
+      );
+    }

@@ -1,5 +1,5 @@
 """README.md, docs/FORMATS.md and docs/SERVE.md: each file that they show is written, each command is run, and its output compared. The other pages, where they name
-what the sources have; docs/AUDIT.md is made again.
+what the sources have; docs/proof/AUDIT.md is made again.
 
 A block whose first line is ```LANGUAGE NAME is a file of that name. A block ```console has commands after `$ `, each
 followed by what it prints. A block ```session CONFIG WORDS has what `apf serve` is sent, after `> `, and what it answers to each line; `>` alone is the
@@ -139,12 +139,12 @@ for example in sorted(os.listdir(os.path.join(TOP, "examples"))):
         shown = [it for it in ("README.md", os.path.join("docs", "FORMATS.md")) if f"examples/{example}/{wanted[0]}" in open(os.path.join(TOP, it)).read()]
         tally.check(f"examples/{example} is shown", len(shown) > 0, True)
 
-# each row of docs/PROVED.md names a contract and its files: the files are there, and they or their crates' definitions have each name
-page = open(os.path.join(TOP, "docs", "PROVED.md"), encoding="utf-8").read()
+# each row of docs/proof/PROVED.md names a contract and its files: the files are there, and they or their crates' definitions have each name
+page = open(os.path.join(TOP, "docs", "proof", "PROVED.md"), encoding="utf-8").read()
 heads = {("Promise", "Contract", "File"), ("Behavior", "Test", "File")}
 cells = [tuple(cell.strip() for cell in line.strip("|").split("|")) for line in re.findall(r"^\|.*$", page, re.M)]
 rows = [it for it in cells if it not in heads and not all(re.fullmatch("-+", cell) for cell in it)]
-tally.check("docs/PROVED.md: at least 200 rows", len(rows) >= 200, True)
+tally.check("docs/proof/PROVED.md: at least 200 rows", len(rows) >= 200, True)
 
 
 def code_of(path):
@@ -155,18 +155,18 @@ def code_of(path):
 
 for row in rows:
     promise = row[0][:70]
-    tally.check(f"docs/PROVED.md: a row has three cells: {promise}", (len(row), len(row[0]) > 0), (3, True))
+    tally.check(f"docs/proof/PROVED.md: a row has three cells: {promise}", (len(row), len(row[0]) > 0), (3, True))
     if len(row) != 3:
         continue
     names, named = re.findall(r"`([^`]+)`", row[1]), re.findall(r"`([^`]+)`", row[2])
-    tally.check(f"docs/PROVED.md: a contract and a file of: {promise}", (len(names) > 0, len(named) > 0), (True, True))
+    tally.check(f"docs/proof/PROVED.md: a contract and a file of: {promise}", (len(names) > 0, len(named) > 0), (True, True))
     paths = [os.path.join(TOP, it) if it.startswith("tests/") else os.path.join(TOP, "crates", it) for it in named]
-    tally.check(f"docs/PROVED.md: the files of: {promise}", [it for it in paths if not os.path.isfile(it)], [])
+    tally.check(f"docs/proof/PROVED.md: the files of: {promise}", [it for it in paths if not os.path.isfile(it)], [])
     specs = {re.sub(r"(crates/\w+)/.*", r"\1/specs", it) for it in paths if not it.startswith(os.path.join(TOP, "tests"))}
     files = [*paths, *(os.path.join(it, name) for it in specs if os.path.isdir(it) for name in sorted(os.listdir(it)))]
     text = "\n".join(code_of(it) for it in files if os.path.isfile(it))
     parts = [part for it in names for part in it.split("::")]
-    tally.check(f"docs/PROVED.md: the names of: {promise}", [it for it in parts if not re.search(rf"(?<![\w]){re.escape(it)}(?![\w])", text)], [])
+    tally.check(f"docs/proof/PROVED.md: the names of: {promise}", [it for it in parts if not re.search(rf"(?<![\w]){re.escape(it)}(?![\w])", text)], [])
 
 # each function that such a row names has a contract, and it, or a definition that it cites, has each name that stands behind the function
 contracts = Contracts()
@@ -176,16 +176,16 @@ for row in rows:
     for part in row[1].split(";") if len(row) == 3 else []:
         front, _, behind = part.partition(": ")
         named = [it.split("::")[-1] for it in re.findall(r"`(\w+::\w+)`", front)] if files else []
-        tally.check(f"docs/PROVED.md: the files of {front}: {row[0][:70]}", [it for it in named if not any(it in contracts.of(path) for path in files)], [])
+        tally.check(f"docs/proof/PROVED.md: the files of {front}: {row[0][:70]}", [it for it in named if not any(it in contracts.of(path) for path in files)], [])
         functions = {it.split("::")[-1] for it in re.findall(r"`([^`]+)`", front)}
         found = [(name, it) for path in files if os.path.isfile(path) for name, those in contracts.of(path).items() if name in functions for it in those]
         said = set().union(*(words for _, (_, words) in found))
         for name in sorted({name for name, _ in found}):
             asked += 1
-            tally.check(f"docs/PROVED.md: {name} has a contract: {row[0][:70]}", any("ensures" in clauses for it, (clauses, _) in found if it == name), True)
+            tally.check(f"docs/proof/PROVED.md: {name} has a contract: {row[0][:70]}", any("ensures" in clauses for it, (clauses, _) in found if it == name), True)
         lacking = [it for it in re.findall(r"`([^`]+)`", behind) if it.split("::")[-1] not in said] if found else []
-        tally.check(f"docs/PROVED.md: what {', '.join(sorted(functions))} says: {row[0][:70]}", lacking, [])
-tally.check("docs/PROVED.md: contracts are found", asked > 300, True)
+        tally.check(f"docs/proof/PROVED.md: what {', '.join(sorted(functions))} says: {row[0][:70]}", lacking, [])
+tally.check("docs/proof/PROVED.md: contracts are found", asked > 300, True)
 
 # the library's example stands in a program, which is proved and run
 page = open(os.path.join(TOP, "README.md"), encoding="utf-8").read()
@@ -197,17 +197,17 @@ tally.check("README.md: the example of the library", [len(shown), *(body in sour
 edits = sum(name.endswith(".edit") for folder in ("crates", "planted") for _, _, names in os.walk(os.path.join(TOP, folder)) for name in names)
 tally.check("README.md: the number of planted bugs", re.findall(r"(\d+) planted bugs", page), [str(edits)])
 
-# and stand by crate as docs/PROOFS.md says
+# and stand by crate as docs/proof/PROOFS.md says
 def count(*path):
     folder = os.path.join(TOP, *path)
     return sum(name.endswith(".edit") for name in os.listdir(folder)) if os.path.isdir(folder) else 0
 
 
-page = open(os.path.join(TOP, "docs", "PROOFS.md"), encoding="utf-8").read()
+page = open(os.path.join(TOP, "docs", "proof", "PROOFS.md"), encoding="utf-8").read()
 counts = [(f"`{it}`", count("planted", it), count("crates", it, "must-fail")) for it in sorted(os.listdir(os.path.join(TOP, "planted")))]
 counts.append(("all", *(sum(it[at] for it in counts) for at in (1, 2))))
 rows = [(name, int(planted), int(kept)) for name, planted, kept in re.findall(r"^\| (`apf\w*`|all) \| (\d+) \| (\d+) \|$", page, re.M)]
-tally.check("docs/PROOFS.md: the planted bugs of each crate", rows, counts)
+tally.check("docs/proof/PROOFS.md: the planted bugs of each crate", rows, counts)
 
 # the crates of docs/ARCHITECTURE.md are those of crates.txt, and stand on the same ones
 page = open(os.path.join(TOP, "docs", "ARCHITECTURE.md"), encoding="utf-8").read()
@@ -215,7 +215,7 @@ shown = {name: sorted(re.findall(r"`(\w+)`", below)) for name, below in re.finda
 listed = {name: sorted(line.partition(":")[2].split()) for name, line in lines_of_crates().items()}
 tally.check("docs/ARCHITECTURE.md: the crates", shown, listed)
 
-# docs/AUDIT.md is what its script makes of the sources
-with open(os.path.join(TOP, "docs", "AUDIT.md"), encoding="utf-8") as page:
-    tally.check("docs/AUDIT.md: as python3 tests/lib/statements.py makes it", page.read() == audit_page(), True)
+# docs/proof/AUDIT.md is what its script makes of the sources
+with open(os.path.join(TOP, "docs", "proof", "AUDIT.md"), encoding="utf-8") as page:
+    tally.check("docs/proof/AUDIT.md: as python3 tests/lib/statements.py makes it", page.read() == audit_page(), True)
 tally.end()

@@ -1,5 +1,5 @@
-"""README.md, docs/FORMATS.md and docs/SERVE.md: each file that they show is written, each command is run, and its output compared. The other pages, where they name
-what the sources have; docs/proof/AUDIT.md is made again.
+"""The pages for users, README.md and those of PAGES: each file that they show is written, each command is run, and its output compared. The other
+pages, where they name what the sources have. docs/proof/AUDIT.md is made again. The links of all pages.
 
 A block whose first line is ```LANGUAGE NAME is a file of that name. A block ```console has commands after `$ `, each
 followed by what it prints. A block ```session CONFIG WORDS has what `apf serve` is sent, after `> `, and what it answers to each line; `>` alone is the
@@ -23,6 +23,7 @@ tally = Tally()
 program = build()
 # what is shown and not run: the tests, which run this one
 SHOWN = {"./test", "./test all"}
+COMMANDS = "hash|deal|replay|services|waits|run|explain|simulate|timeline|compare|fates|requests|hands|picture|trace|serve"
 
 
 def blocks(page):
@@ -56,7 +57,7 @@ def talk(folder, words, body):
 
 def checked(name, folder):
     page = open(os.path.join(TOP, name), encoding="utf-8").read()
-    ran = wrote = 0
+    ran = 0
     for head, body in blocks(page):
         language, *names = head.split() or [""]
         if language == "session":
@@ -65,7 +66,6 @@ def checked(name, folder):
         elif names:
             with open(os.path.join(folder, names[0]), "w", encoding="utf-8") as file:
                 file.write(body)
-            wrote += 1
         elif language == "console":
             found, before = commands(body)
             tally.check(f"{name}: a console block begins with a command", (before, len(found) > 0), ("", True))
@@ -79,19 +79,59 @@ def checked(name, folder):
                 ran += 1
         else:
             tally.check(f"{name}: a block of a known kind: {head}", language in ("rust", "toml", "sh"), True)
-    return ran, wrote, page
+    return ran, page
 
 
+# the pages with commands, and those of the library and of speed, each with the fewest commands that it may have, and the program that they call
 serving, _ = build_serving()
-for name, least, runs in (("README.md", 2, program), (os.path.join("docs", "FORMATS.md"), 10, program), (os.path.join("docs", "SERVE.md"), 4, serving)):
+PAGES = {
+    "README.md": (3, program),
+    os.path.join("docs", "GUIDE.md"): (18, program),
+    os.path.join("docs", "LIBRARY.md"): (0, program),
+    os.path.join("docs", "SPEED.md"): (0, program),
+    os.path.join("docs", "FORMATS.md"): (59, program),
+    os.path.join("docs", "SERVE.md"): (6, serving),
+}
+written = {}
+for name, (least, runs) in PAGES.items():
     with tempfile.TemporaryDirectory(prefix="apf-test-") as folder:
         os.symlink(runs, os.path.join(folder, "apf"))
         shutil.copytree(os.path.join(TOP, "examples"), os.path.join(folder, "examples"))
-        ran, wrote, page = checked(name, folder)
-    tally.check(f"{name}: at least {least} commands", ran >= least, True)
+        ran, page = checked(name, folder)
+        written[name] = set(os.listdir(folder)) - {"apf", "examples", "__pycache__"}
+    tally.check(f"{name}: at least {least} commands, {ran} were run", ran >= least, True)
     # no command of the program stands outside of what was run
     outside = re.sub(r"^```.*?^```$", "", page, flags=re.M | re.S)
-    tally.check(f"{name}: each command line is in a block that is run", re.findall(r"^\s*\$ .*|\./apf (?:hash|deal|replay|services|waits|explain|simulate|timeline|compare|fates|requests|hands) \S.*", outside, re.M), [])
+    tally.check(f"{name}: each command line is in a block that is run", re.findall(rf"^\s*\$ .*|\./apf (?:{COMMANDS}) \S.*", outside, re.M), [])
+# who reads two pages in one folder has the files of both
+for name in PAGES:
+    others = set().union(*(files for other, files in written.items() if other != name))
+    tally.check(f"{name}: no file that it writes is one of another page", sorted(written[name] & others), [])
+
+# each link leads to a file that is there, and to a heading of it where it names one
+def prose(path):
+    with open(path, encoding="utf-8") as page:
+        return re.sub(r"^```.*?^```$", "", page.read(), flags=re.M | re.S)
+
+
+def headings(path):
+    """The names by which links call a page's headings."""
+    return {re.sub(r"[^\w\- ]", "", it.lower()).replace(" ", "-") for it in re.findall(r"^#+ (.*)$", prose(path), re.M)}
+
+
+everywhere = ["README.md", *sorted(os.path.relpath(os.path.join(folder, it), TOP) for folder, _, names in os.walk(os.path.join(TOP, "docs")) for it in names)]
+links = 0
+for name in everywhere:
+    for link in re.findall(r"\]\(([^)\s]+)\)", prose(os.path.join(TOP, name))):
+        if not link.startswith("https://"):
+            links += 1
+            to, _, heading = link.partition("#")
+            path = os.path.normpath(os.path.join(TOP, os.path.dirname(name), to)) if to else os.path.join(TOP, name)
+            tally.check(f"{name}: the link to {link}", os.path.isfile(path) and (not heading or heading in headings(path)), True)
+tally.check("links are found", links > 40, True)
+tally.check("README.md: it links each page", [it for it in everywhere[1:] if f"]({it})" not in prose(os.path.join(TOP, "README.md"))], [])
+lines = sum(1 for _ in open(os.path.join(TOP, "README.md"), encoding="utf-8"))
+tally.check(f"README.md: at most 150 lines, of {lines}", lines <= 150, True)
 
 # the unit and the container of docs/SERVE.md call the gateway by options that it has, and copy files that are there
 with open(os.path.join(TOP, "docs", "SERVE.md"), encoding="utf-8") as page, open(os.path.join(TOP, "examples", "gateway", "gateway.py"), encoding="utf-8") as gateway:
@@ -136,7 +176,7 @@ for example in sorted(os.listdir(os.path.join(TOP, "examples"))):
         level = ["config.json", "requests.json", "script.txt"]
         wanted = {"audit": ["audit.log", "trace.jsonl"], "gateway": ["backend.py", "gateway.py", "http1.py"], "noisy-client": ["config.json", "picture.svg", *level[1:], "trace.jsonl"]}.get(example, level)
         tally.check(f"examples/{example}", names, wanted)
-        shown = [it for it in ("README.md", os.path.join("docs", "FORMATS.md")) if f"examples/{example}/{wanted[0]}" in open(os.path.join(TOP, it)).read()]
+        shown = [it for it in PAGES if f"examples/{example}/{wanted[0]}" in open(os.path.join(TOP, it)).read()]
         tally.check(f"examples/{example} is shown", len(shown) > 0, True)
 
 # each row of docs/proof/PROVED.md names a contract and its files: the files are there, and they or their crates' definitions have each name
@@ -188,12 +228,14 @@ for row in rows:
 tally.check("docs/proof/PROVED.md: contracts are found", asked > 300, True)
 
 # the library's example stands in a program, which is proved and run
-page = open(os.path.join(TOP, "README.md"), encoding="utf-8").read()
 source = open(os.path.join(TOP, "crates", "apf_example", "src", "main.rt"), encoding="utf-8").read()
-shown = [body for head, body in blocks(page) if head == "rust"]
-tally.check("README.md: the example of the library", [len(shown), *(body in source for body in shown)], [1, True])
+for name in ("README.md", os.path.join("docs", "LIBRARY.md")):
+    page = open(os.path.join(TOP, name), encoding="utf-8").read()
+    shown = [body for head, body in blocks(page) if head == "rust"]
+    tally.check(f"{name}: the example of the library", [len(shown), *(body in source for body in shown)], [1, True])
 
 # the planted bugs are as many as the README says
+page = open(os.path.join(TOP, "README.md"), encoding="utf-8").read()
 edits = sum(name.endswith(".edit") for folder in ("crates", "planted") for _, _, names in os.walk(os.path.join(TOP, folder)) for name in names)
 tally.check("README.md: the number of planted bugs", re.findall(r"(\d+) planted bugs", page), [str(edits)])
 

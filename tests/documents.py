@@ -251,11 +251,11 @@ counts.append(("all", *(sum(it[at] for it in counts) for at in (1, 2))))
 rows = [(name, int(planted), int(kept)) for name, planted, kept in re.findall(r"^\| (`apf\w*`|all) \| (\d+) \| (\d+) \|$", page, re.M)]
 tally.check("docs/proof/PROOFS.md: the planted bugs of each crate", rows, counts)
 
-# the crates of docs/ARCHITECTURE.md are those of crates.txt, and stand on the same ones
+# the crates of docs/ARCHITECTURE.md are those of crates.txt, each with a job, and those of the product come in its order
 page = open(os.path.join(TOP, "docs", "ARCHITECTURE.md"), encoding="utf-8").read()
-shown = {name: sorted(re.findall(r"`(\w+)`", below)) for name, below in re.findall(r"^\| `(apf\w*)` \|[^|]*\|([^|]*)\|$", page, re.M)}
-listed = {name: sorted(line.partition(":")[2].split()) for name, line in lines_of_crates().items()}
-tally.check("docs/ARCHITECTURE.md: the crates", shown, listed)
+shown = re.findall(r"^\| `(apf\w*)` \| [^|]+ \|$", page, re.M)
+tally.check("docs/ARCHITECTURE.md: the crates", sorted(shown), sorted(lines_of_crates()))
+tally.check("docs/ARCHITECTURE.md: the product's crates, each behind those that it stands on", [(name, it) for at, name in enumerate(shown) for it in lines_of_crates(name) if it in shown[at + 1 :]], [])
 
 # docs/proof/AUDIT.md is what its script makes of the sources
 with open(os.path.join(TOP, "docs", "proof", "AUDIT.md"), encoding="utf-8") as page:

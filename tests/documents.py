@@ -1,5 +1,5 @@
 """The pages for users, README.md and those of PAGES: each file that they show is written, each command is run, and its output compared. The other
-pages, where they name what the sources have. docs/proof/AUDIT.md is made again. The links of all pages.
+pages, where they name what the sources have. docs/proof/AUDIT.md and DEFINITIONS.md are made again. The links of all pages.
 
 A block whose first line is ```LANGUAGE NAME is a file of that name. A block ```console has commands after `$ `, each
 followed by what it prints. A block ```session CONFIG WORDS has what `apf serve` is sent, after `> `, and what it answers to each line; `>` alone is the
@@ -16,6 +16,7 @@ import tempfile
 
 sys.path.insert(0, os.path.join(os.path.dirname(os.path.abspath(__file__)), "lib"))
 from contracts import Contracts
+from definitions import page as definitions_page, rows_of_proved
 from harness import TOP, Tally, build, build_serving, lines_of_crates
 from statements import page as audit_page
 
@@ -180,10 +181,7 @@ for example in sorted(os.listdir(os.path.join(TOP, "examples"))):
         tally.check(f"examples/{example} is shown", len(shown) > 0, True)
 
 # each row of docs/proof/PROVED.md names a contract and its files: the files are there, and they or their crates' definitions have each name
-page = open(os.path.join(TOP, "docs", "proof", "PROVED.md"), encoding="utf-8").read()
-heads = {("Promise", "Contract", "File"), ("Behavior", "Test", "File")}
-cells = [tuple(cell.strip() for cell in line.strip("|").split("|")) for line in re.findall(r"^\|.*$", page, re.M)]
-rows = [it for it in cells if it not in heads and not all(re.fullmatch("-+", cell) for cell in it)]
+rows = rows_of_proved()
 tally.check("docs/proof/PROVED.md: at least 200 rows", len(rows) >= 200, True)
 
 
@@ -257,7 +255,8 @@ shown = re.findall(r"^\| `(apf\w*)` \| [^|]+ \|$", page, re.M)
 tally.check("docs/ARCHITECTURE.md: the crates", sorted(shown), sorted(lines_of_crates()))
 tally.check("docs/ARCHITECTURE.md: the product's crates, each behind those that it stands on", [(name, it) for at, name in enumerate(shown) for it in lines_of_crates(name) if it in shown[at + 1 :]], [])
 
-# docs/proof/AUDIT.md is what its script makes of the sources
-with open(os.path.join(TOP, "docs", "proof", "AUDIT.md"), encoding="utf-8") as page:
-    tally.check("docs/proof/AUDIT.md: as python3 tests/lib/statements.py makes it", page.read() == audit_page(), True)
+# docs/proof/AUDIT.md and DEFINITIONS.md are what their scripts make of the sources
+for name, script, made in (("AUDIT.md", "statements.py", audit_page()), ("DEFINITIONS.md", "definitions.py", definitions_page())):
+    with open(os.path.join(TOP, "docs", "proof", name), encoding="utf-8") as page:
+        tally.check(f"docs/proof/{name}: as python3 tests/lib/{script} makes it", page.read() == made, True)
 tally.end()

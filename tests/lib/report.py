@@ -1,6 +1,6 @@
 """What a level and its callers told, judged by the rules: each event, request and call is looked at once.
 
-It is written from the definitions (docs/proof/DEFINITIONS.md), and shares no step with the program.
+It is written from the definitions (docs/proof/AUDIT.md), and shares no step with the program.
 """
 
 from collections import Counter

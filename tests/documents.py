@@ -145,7 +145,7 @@ tally.check("docs/SERVE.md: files of the container", (len(copied), [it for it in
 # each fault that a table lists is one that its sources have, and the other way round, with a place or without
 page = open(os.path.join(TOP, "docs", "FORMATS.md"), encoding="utf-8").read()
 listed = {}
-for name, rows in re.findall(r"^Of .*\(`apf: (\w+) fault \.\.`\).*\n\n((?:\|.*\n)+)", page, re.M):
+for name, rows in re.findall(r"^For .*\(`apf: (\w+) fault \.\.`\).*\n\n((?:\|.*\n)+)", page, re.M):
     listed[name] = [(number, place != "", line) for number, place, line in re.findall(r"^\| `(\d+)( at I| at line L|): ([^`]*)`", rows, re.M)]
 wanted = {}
 for name, path in (
@@ -163,7 +163,7 @@ wanted["dealer"] = [(numbers[name], False, line) for name, line in re.findall(r"
 tally.check("the files whose faults are listed", sorted(listed), sorted(wanted))
 # the lines of a trace's and an audit log's faults say more than their texts, so their tables have the numbers, in order; the last is out of memory
 for name in ("trace", "audit"):
-    rows = re.search(rf"^Of .*\(`apf: {name} fault N at line L: \.\.`\).*\n\n((?:\|.*\n)+)", page, re.M)[1]
+    rows = re.search(rf"^For .*\(`apf: {name} fault N at line L: \.\.`\).*\n\n((?:\|.*\n)+)", page, re.M)[1]
     text = open(os.path.join(TOP, "crates", {"trace": "apf_traces", "audit": "apf_audit"}[name], "src", "fault.rt"), encoding="utf-8").read()
     *numbered, _ = re.findall(r"=> (\d+),", text)
     tally.check(f"the faults of the {name} that are listed", re.findall(r"^\| (\d+) \|", rows, re.M), numbered)

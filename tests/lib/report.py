@@ -94,7 +94,7 @@ class History:
         self.widest = max((width for width, *_ in report.requests), default=0)
         self.hands = {}
         self.faults = set()
-        # how often two queues were compared
+        # how many times two queues were compared
         self.compared = 0
 
     def width(self, request):

@@ -58,8 +58,8 @@ def sentence(lines):
 
 
 def words_of(definition):
-    """What the comments say of a definition and of its fields; without comments its equations."""
-    above, said, held, equations = [], [], [], []
+    """What the comments say of a definition and of its fields; without comments what it says itself."""
+    above, said, held = [], [], []
     for line in definition.text.split("\n"):
         field = re.match(r"\s+pub ([\w'-]+) :", line)
         if line.startswith("--"):
@@ -69,10 +69,8 @@ def words_of(definition):
         elif field:
             said += [f"`{field[1]}`: {sentence(held)}"] if held else []
             held = []
-        elif " = " in line:
-            equations.append(line.strip())
     said = ([sentence(above)] if above else []) + said
-    return " ".join(said or [f"`{it}`" for it in equations]).replace("|", "\\|")
+    return " ".join(said or [f"`{' '.join(definition.text.split())}`"]).replace("|", "\\|")
 
 
 def page():

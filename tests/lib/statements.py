@@ -1,4 +1,4 @@
-"""The page docs/proof/AUDIT.md: every definition that the statements of the headline rest on, each once, in reading order.
+"""The page docs/proof/AUDIT.md: every definition that the statements of PARTS rest on, each once, in reading order.
 
 usage: python3 tests/lib/statements.py >docs/proof/AUDIT.md
 

@@ -184,7 +184,7 @@ def check_examples():
 
 
 def check_patience(command, levels):
-    """A patience with a unit is so many microseconds. One that is none is told before any file is read."""
+    """A patience with a unit is this many microseconds. One that is none is told before any file is read."""
     contents = [CONFIG, OTHER, CONFIG][: levels] + [TRACE]
     missing = [os.path.join(files.folder.name, "missing")] * len(contents)
     fault = (2, b"", f"{BAD_PATIENCE}\n".encode())

@@ -29,7 +29,7 @@ for line in out.decode().split("\n")[1:-1]:
     found[int(hand), int(deck), int(noisy)] = float(published), float(dealt)
 tally.check("its rows", {row: both[0] for row, both in found.items()}, PUBLISHED)
 for row, chance in PUBLISHED.items():
-    # five times the deviation of so many samples
+    # five times the deviation of this many samples
     noise = 5 * (chance * (1 - chance) / SAMPLES) ** 0.5
     dealt = found.get(row, (0, 9))[1]
     tally.check(f"{row}: {dealt} is {chance} within {noise:.5f}", abs(dealt - chance) <= noise, True)

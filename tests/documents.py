@@ -1,5 +1,5 @@
-"""README.md, docs/FORMATS.md and docs/SERVE.md: each file that they show is written, each command is run, and its output compared. The other pages, where they name
-what the sources have; docs/AUDIT.md is made again.
+"""The pages for users, README.md and those of PAGES: each file that they show is written, each command is run, and its output compared. The other
+pages, where they name what the sources have. docs/proof/AUDIT.md and DEFINITIONS.md are made again. The links of all pages.
 
 A block whose first line is ```LANGUAGE NAME is a file of that name. A block ```console has commands after `$ `, each
 followed by what it prints. A block ```session CONFIG WORDS has what `apf serve` is sent, after `> `, and what it answers to each line; `>` alone is the
@@ -16,6 +16,7 @@ import tempfile
 
 sys.path.insert(0, os.path.join(os.path.dirname(os.path.abspath(__file__)), "lib"))
 from contracts import Contracts
+from definitions import page as definitions_page, rows_of_proved
 from harness import TOP, Tally, build, build_serving, lines_of_crates
 from statements import page as audit_page
 
@@ -23,6 +24,7 @@ tally = Tally()
 program = build()
 # what is shown and not run: the tests, which run this one
 SHOWN = {"./test", "./test all"}
+COMMANDS = "hash|deal|replay|services|waits|run|explain|simulate|timeline|compare|fates|requests|hands|picture|trace|serve"
 
 
 def blocks(page):
@@ -56,7 +58,7 @@ def talk(folder, words, body):
 
 def checked(name, folder):
     page = open(os.path.join(TOP, name), encoding="utf-8").read()
-    ran = wrote = 0
+    ran = 0
     for head, body in blocks(page):
         language, *names = head.split() or [""]
         if language == "session":
@@ -65,7 +67,6 @@ def checked(name, folder):
         elif names:
             with open(os.path.join(folder, names[0]), "w", encoding="utf-8") as file:
                 file.write(body)
-            wrote += 1
         elif language == "console":
             found, before = commands(body)
             tally.check(f"{name}: a console block begins with a command", (before, len(found) > 0), ("", True))
@@ -79,19 +80,59 @@ def checked(name, folder):
                 ran += 1
         else:
             tally.check(f"{name}: a block of a known kind: {head}", language in ("rust", "toml", "sh"), True)
-    return ran, wrote, page
+    return ran, page
 
 
+# the pages with commands, and those of the library and of speed, each with the fewest commands that it may have, and the program that they call
 serving, _ = build_serving()
-for name, least, runs in (("README.md", 2, program), (os.path.join("docs", "FORMATS.md"), 10, program), (os.path.join("docs", "SERVE.md"), 4, serving)):
+PAGES = {
+    "README.md": (3, program),
+    os.path.join("docs", "GUIDE.md"): (18, program),
+    os.path.join("docs", "LIBRARY.md"): (0, program),
+    os.path.join("docs", "SPEED.md"): (0, program),
+    os.path.join("docs", "FORMATS.md"): (59, program),
+    os.path.join("docs", "SERVE.md"): (6, serving),
+}
+written = {}
+for name, (least, runs) in PAGES.items():
     with tempfile.TemporaryDirectory(prefix="apf-test-") as folder:
         os.symlink(runs, os.path.join(folder, "apf"))
         shutil.copytree(os.path.join(TOP, "examples"), os.path.join(folder, "examples"))
-        ran, wrote, page = checked(name, folder)
-    tally.check(f"{name}: at least {least} commands", ran >= least, True)
+        ran, page = checked(name, folder)
+        written[name] = set(os.listdir(folder)) - {"apf", "examples", "__pycache__"}
+    tally.check(f"{name}: at least {least} commands, {ran} were run", ran >= least, True)
     # no command of the program stands outside of what was run
     outside = re.sub(r"^```.*?^```$", "", page, flags=re.M | re.S)
-    tally.check(f"{name}: each command line is in a block that is run", re.findall(r"^\s*\$ .*|\./apf (?:hash|deal|replay|services|waits|explain|simulate|timeline|compare|fates|requests|hands) \S.*", outside, re.M), [])
+    tally.check(f"{name}: each command line is in a block that is run", re.findall(rf"^\s*\$ .*|\./apf (?:{COMMANDS}) \S.*", outside, re.M), [])
+# who reads two pages in one folder has the files of both
+for name in PAGES:
+    others = set().union(*(files for other, files in written.items() if other != name))
+    tally.check(f"{name}: no file that it writes is one of another page", sorted(written[name] & others), [])
+
+# each link leads to a file that is there, and to a heading of it where it names one
+def prose(path):
+    with open(path, encoding="utf-8") as page:
+        return re.sub(r"^```.*?^```$", "", page.read(), flags=re.M | re.S)
+
+
+def headings(path):
+    """The names by which links call a page's headings."""
+    return {re.sub(r"[^\w\- ]", "", it.lower()).replace(" ", "-") for it in re.findall(r"^#+ (.*)$", prose(path), re.M)}
+
+
+everywhere = ["README.md", *sorted(os.path.relpath(os.path.join(folder, it), TOP) for folder, _, names in os.walk(os.path.join(TOP, "docs")) for it in names)]
+links = 0
+for name in everywhere:
+    for link in re.findall(r"\]\(([^)\s]+)\)", prose(os.path.join(TOP, name))):
+        if not link.startswith("https://"):
+            links += 1
+            to, _, heading = link.partition("#")
+            path = os.path.normpath(os.path.join(TOP, os.path.dirname(name), to)) if to else os.path.join(TOP, name)
+            tally.check(f"{name}: the link to {link}", os.path.isfile(path) and (not heading or heading in headings(path)), True)
+tally.check("links are found", links > 40, True)
+tally.check("README.md: it links each page", [it for it in everywhere[1:] if f"]({it})" not in prose(os.path.join(TOP, "README.md"))], [])
+lines = sum(1 for _ in open(os.path.join(TOP, "README.md"), encoding="utf-8"))
+tally.check(f"README.md: at most 150 lines, of {lines}", lines <= 150, True)
 
 # the unit and the container of docs/SERVE.md call the gateway by options that it has, and copy files that are there
 with open(os.path.join(TOP, "docs", "SERVE.md"), encoding="utf-8") as page, open(os.path.join(TOP, "examples", "gateway", "gateway.py"), encoding="utf-8") as gateway:
@@ -104,7 +145,7 @@ tally.check("docs/SERVE.md: files of the container", (len(copied), [it for it in
 # each fault that a table lists is one that its sources have, and the other way round, with a place or without
 page = open(os.path.join(TOP, "docs", "FORMATS.md"), encoding="utf-8").read()
 listed = {}
-for name, rows in re.findall(r"^Of .*\(`apf: (\w+) fault \.\.`\).*\n\n((?:\|.*\n)+)", page, re.M):
+for name, rows in re.findall(r"^For .*\(`apf: (\w+) fault \.\.`\).*\n\n((?:\|.*\n)+)", page, re.M):
     listed[name] = [(number, place != "", line) for number, place, line in re.findall(r"^\| `(\d+)( at I| at line L|): ([^`]*)`", rows, re.M)]
 wanted = {}
 for name, path in (
@@ -122,7 +163,7 @@ wanted["dealer"] = [(numbers[name], False, line) for name, line in re.findall(r"
 tally.check("the files whose faults are listed", sorted(listed), sorted(wanted))
 # the lines of a trace's and an audit log's faults say more than their texts, so their tables have the numbers, in order; the last is out of memory
 for name in ("trace", "audit"):
-    rows = re.search(rf"^Of .*\(`apf: {name} fault N at line L: \.\.`\).*\n\n((?:\|.*\n)+)", page, re.M)[1]
+    rows = re.search(rf"^For .*\(`apf: {name} fault N at line L: \.\.`\).*\n\n((?:\|.*\n)+)", page, re.M)[1]
     text = open(os.path.join(TOP, "crates", {"trace": "apf_traces", "audit": "apf_audit"}[name], "src", "fault.rt"), encoding="utf-8").read()
     *numbered, _ = re.findall(r"=> (\d+),", text)
     tally.check(f"the faults of the {name} that are listed", re.findall(r"^\| (\d+) \|", rows, re.M), numbered)
@@ -136,15 +177,12 @@ for example in sorted(os.listdir(os.path.join(TOP, "examples"))):
         level = ["config.json", "requests.json", "script.txt"]
         wanted = {"audit": ["audit.log", "trace.jsonl"], "gateway": ["backend.py", "gateway.py", "http1.py"], "noisy-client": ["config.json", "picture.svg", *level[1:], "trace.jsonl"]}.get(example, level)
         tally.check(f"examples/{example}", names, wanted)
-        shown = [it for it in ("README.md", os.path.join("docs", "FORMATS.md")) if f"examples/{example}/{wanted[0]}" in open(os.path.join(TOP, it)).read()]
+        shown = [it for it in PAGES if f"examples/{example}/{wanted[0]}" in open(os.path.join(TOP, it)).read()]
         tally.check(f"examples/{example} is shown", len(shown) > 0, True)
 
-# each row of docs/PROVED.md names a contract and its files: the files are there, and they or their crates' definitions have each name
-page = open(os.path.join(TOP, "docs", "PROVED.md"), encoding="utf-8").read()
-heads = {("Promise", "Contract", "File"), ("Behavior", "Test", "File")}
-cells = [tuple(cell.strip() for cell in line.strip("|").split("|")) for line in re.findall(r"^\|.*$", page, re.M)]
-rows = [it for it in cells if it not in heads and not all(re.fullmatch("-+", cell) for cell in it)]
-tally.check("docs/PROVED.md: at least 200 rows", len(rows) >= 200, True)
+# each row of docs/proof/PROVED.md names a contract and its files: the files are there, and they or their crates' definitions have each name
+rows = rows_of_proved()
+tally.check("docs/proof/PROVED.md: at least 200 rows", len(rows) >= 200, True)
 
 
 def code_of(path):
@@ -155,18 +193,18 @@ def code_of(path):
 
 for row in rows:
     promise = row[0][:70]
-    tally.check(f"docs/PROVED.md: a row has three cells: {promise}", (len(row), len(row[0]) > 0), (3, True))
+    tally.check(f"docs/proof/PROVED.md: a row has three cells: {promise}", (len(row), len(row[0]) > 0), (3, True))
     if len(row) != 3:
         continue
     names, named = re.findall(r"`([^`]+)`", row[1]), re.findall(r"`([^`]+)`", row[2])
-    tally.check(f"docs/PROVED.md: a contract and a file of: {promise}", (len(names) > 0, len(named) > 0), (True, True))
+    tally.check(f"docs/proof/PROVED.md: a contract and a file of: {promise}", (len(names) > 0, len(named) > 0), (True, True))
     paths = [os.path.join(TOP, it) if it.startswith("tests/") else os.path.join(TOP, "crates", it) for it in named]
-    tally.check(f"docs/PROVED.md: the files of: {promise}", [it for it in paths if not os.path.isfile(it)], [])
+    tally.check(f"docs/proof/PROVED.md: the files of: {promise}", [it for it in paths if not os.path.isfile(it)], [])
     specs = {re.sub(r"(crates/\w+)/.*", r"\1/specs", it) for it in paths if not it.startswith(os.path.join(TOP, "tests"))}
     files = [*paths, *(os.path.join(it, name) for it in specs if os.path.isdir(it) for name in sorted(os.listdir(it)))]
     text = "\n".join(code_of(it) for it in files if os.path.isfile(it))
     parts = [part for it in names for part in it.split("::")]
-    tally.check(f"docs/PROVED.md: the names of: {promise}", [it for it in parts if not re.search(rf"(?<![\w]){re.escape(it)}(?![\w])", text)], [])
+    tally.check(f"docs/proof/PROVED.md: the names of: {promise}", [it for it in parts if not re.search(rf"(?<![\w]){re.escape(it)}(?![\w])", text)], [])
 
 # each function that such a row names has a contract, and it, or a definition that it cites, has each name that stands behind the function
 contracts = Contracts()
@@ -176,46 +214,49 @@ for row in rows:
     for part in row[1].split(";") if len(row) == 3 else []:
         front, _, behind = part.partition(": ")
         named = [it.split("::")[-1] for it in re.findall(r"`(\w+::\w+)`", front)] if files else []
-        tally.check(f"docs/PROVED.md: the files of {front}: {row[0][:70]}", [it for it in named if not any(it in contracts.of(path) for path in files)], [])
+        tally.check(f"docs/proof/PROVED.md: the files of {front}: {row[0][:70]}", [it for it in named if not any(it in contracts.of(path) for path in files)], [])
         functions = {it.split("::")[-1] for it in re.findall(r"`([^`]+)`", front)}
         found = [(name, it) for path in files if os.path.isfile(path) for name, those in contracts.of(path).items() if name in functions for it in those]
         said = set().union(*(words for _, (_, words) in found))
         for name in sorted({name for name, _ in found}):
             asked += 1
-            tally.check(f"docs/PROVED.md: {name} has a contract: {row[0][:70]}", any("ensures" in clauses for it, (clauses, _) in found if it == name), True)
+            tally.check(f"docs/proof/PROVED.md: {name} has a contract: {row[0][:70]}", any("ensures" in clauses for it, (clauses, _) in found if it == name), True)
         lacking = [it for it in re.findall(r"`([^`]+)`", behind) if it.split("::")[-1] not in said] if found else []
-        tally.check(f"docs/PROVED.md: what {', '.join(sorted(functions))} says: {row[0][:70]}", lacking, [])
-tally.check("docs/PROVED.md: contracts are found", asked > 300, True)
+        tally.check(f"docs/proof/PROVED.md: what {', '.join(sorted(functions))} says: {row[0][:70]}", lacking, [])
+tally.check("docs/proof/PROVED.md: contracts are found", asked > 300, True)
 
 # the library's example stands in a program, which is proved and run
-page = open(os.path.join(TOP, "README.md"), encoding="utf-8").read()
 source = open(os.path.join(TOP, "crates", "apf_example", "src", "main.rt"), encoding="utf-8").read()
-shown = [body for head, body in blocks(page) if head == "rust"]
-tally.check("README.md: the example of the library", [len(shown), *(body in source for body in shown)], [1, True])
+for name in ("README.md", os.path.join("docs", "LIBRARY.md")):
+    page = open(os.path.join(TOP, name), encoding="utf-8").read()
+    shown = [body for head, body in blocks(page) if head == "rust"]
+    tally.check(f"{name}: the example of the library", [len(shown), *(body in source for body in shown)], [1, True])
 
 # the planted bugs are as many as the README says
+page = open(os.path.join(TOP, "README.md"), encoding="utf-8").read()
 edits = sum(name.endswith(".edit") for folder in ("crates", "planted") for _, _, names in os.walk(os.path.join(TOP, folder)) for name in names)
 tally.check("README.md: the number of planted bugs", re.findall(r"(\d+) planted bugs", page), [str(edits)])
 
-# and stand by crate as docs/PROOFS.md says
+# and stand by crate as docs/proof/PROOFS.md says
 def count(*path):
     folder = os.path.join(TOP, *path)
     return sum(name.endswith(".edit") for name in os.listdir(folder)) if os.path.isdir(folder) else 0
 
 
-page = open(os.path.join(TOP, "docs", "PROOFS.md"), encoding="utf-8").read()
+page = open(os.path.join(TOP, "docs", "proof", "PROOFS.md"), encoding="utf-8").read()
 counts = [(f"`{it}`", count("planted", it), count("crates", it, "must-fail")) for it in sorted(os.listdir(os.path.join(TOP, "planted")))]
 counts.append(("all", *(sum(it[at] for it in counts) for at in (1, 2))))
 rows = [(name, int(planted), int(kept)) for name, planted, kept in re.findall(r"^\| (`apf\w*`|all) \| (\d+) \| (\d+) \|$", page, re.M)]
-tally.check("docs/PROOFS.md: the planted bugs of each crate", rows, counts)
+tally.check("docs/proof/PROOFS.md: the planted bugs of each crate", rows, counts)
 
-# the crates of docs/ARCHITECTURE.md are those of crates.txt, and stand on the same ones
+# the crates of docs/ARCHITECTURE.md are those of crates.txt, each with a job, and those of the product come in its order
 page = open(os.path.join(TOP, "docs", "ARCHITECTURE.md"), encoding="utf-8").read()
-shown = {name: sorted(re.findall(r"`(\w+)`", below)) for name, below in re.findall(r"^\| `(apf\w*)` \|[^|]*\|([^|]*)\|$", page, re.M)}
-listed = {name: sorted(line.partition(":")[2].split()) for name, line in lines_of_crates().items()}
-tally.check("docs/ARCHITECTURE.md: the crates", shown, listed)
+shown = re.findall(r"^\| `(apf\w*)` \| [^|]+ \|$", page, re.M)
+tally.check("docs/ARCHITECTURE.md: the crates", sorted(shown), sorted(lines_of_crates()))
+tally.check("docs/ARCHITECTURE.md: the product's crates, each behind those that it stands on", [(name, it) for at, name in enumerate(shown) for it in lines_of_crates(name) if it in shown[at + 1 :]], [])
 
-# docs/AUDIT.md is what its script makes of the sources
-with open(os.path.join(TOP, "docs", "AUDIT.md"), encoding="utf-8") as page:
-    tally.check("docs/AUDIT.md: as python3 tests/lib/statements.py makes it", page.read() == audit_page(), True)
+# docs/proof/AUDIT.md and DEFINITIONS.md are what their scripts make of the sources
+for name, script, made in (("AUDIT.md", "statements.py", audit_page()), ("DEFINITIONS.md", "definitions.py", definitions_page())):
+    with open(os.path.join(TOP, "docs", "proof", name), encoding="utf-8") as page:
+        tally.check(f"docs/proof/{name}: as python3 tests/lib/{script} makes it", page.read() == made, True)
 tally.end()

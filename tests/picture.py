@@ -208,7 +208,7 @@ def check_sizes():
     tally.check(f"the picture of 1,000 requests: {size} bytes", size < 300_000, True)
 
 
-# rows by hand: a level, a trace, a patience, and how often each of some parts stands in the picture
+# rows by hand: a level, a trace, a patience, and how many times each of some parts stands in the picture
 
 ROOM = b'{"limit":100,"queues":2,"handSize":1}'
 

@@ -27,7 +27,7 @@ def replay(config, requests, script):
     return run(program, ["replay", config, requests, script])
 
 
-# from the top as the README has it, and from another folder
+# from the top, and from another folder
 names = [os.path.join("examples", "first", name) for name in ("config.json", "requests.json", "script.txt")]
 tally.check("first run", run("./apf", ["replay", *names], cwd=TOP), (0, FIRST, b""))
 with tempfile.TemporaryDirectory() as elsewhere:

@@ -71,7 +71,7 @@ for config, requests, workers in [
 
 
 def faults(config, requests, workers, rounds, text):
-    """The sentences that the book of so many rounds breaks."""
+    """The sentences that the book of this many rounds breaks."""
     found = BOOK.fullmatch(text)
     if not found:
         return ["it has four lines"]
@@ -195,7 +195,7 @@ tally.check("a file fault", ran({"limit": 0}, [], 1, 2), (1, b"", b"apf: config 
 
 
 def memory(rounds):
-    """The most memory that a run of so many rounds had, in KiB, and how many requests it executed."""
+    """The most memory that a run of this many rounds had, in KiB, and how many requests it executed."""
     child = subprocess.Popen([program, *words(one_queue(2), [plain, {"hash": 1, "cancels": 0}], 2, rounds)], stdin=subprocess.DEVNULL, stdout=subprocess.PIPE)
     out = child.stdout.read()
     _, status, usage = os.wait4(child.pid, 0)

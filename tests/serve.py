@@ -139,7 +139,7 @@ def line_in(service):
 
 
 def drawn(service, count, rest=b""):
-    """A session of so many lines: what is read, with these bytes behind the last LF, and what is printed for each line."""
+    """A session of this many lines: what is read, with these bytes behind the last LF, and what is printed for each line."""
     lines, answers = [], []
     while len(lines) < count:
         for line in line_in(service).split(b"\n"):
@@ -209,7 +209,7 @@ class Conversation:
         return len(part) > 0
 
     def hear(self, lines=None):
-        """Reads until so many lines stand there, or to the end."""
+        """Reads until this many lines stand there, or to the end."""
         while (lines is None or self.told.count(b"\n") < lines) and self.more():
             pass
         return self.told
@@ -270,7 +270,7 @@ for what, count in seen.items():
 
 
 def once(count):
-    """A level, a script in which each of so many requests arrives once, and the lines of `serve` for it. Who finishes or is cancelled is there."""
+    """A level, a script in which each of this many requests arrives once, and the lines of `serve` for it. Who finishes or is cancelled is there."""
     level, asks = config(), [json.loads(asked()) for _ in range(count)]
     service, script = service_of(level, count), []
     for it in asks:
@@ -331,7 +331,7 @@ turns = [b'arrive 0 {"hash":0}', b'arrive 1 {"hash":0}', b"finish 0", b"finish 1
 want = b"serve 1 slots 10000 limit 1 queues 1 hand 1 length 10000 queue\n" + b"arrive 0 execute\narrive 1 queued 0\nfinish 0\ndispatch 1 queue 0\nfinish 1\n" * 5_000
 want += b"level open seats 0 waiting 0\nexecuted 10000 rejected 0 cancelled 0 undecided 0\nqueue-full 0 closed 0 concurrency-limit 0\nentered 5000 dispatched 5000 struck 0\n"
 tally.check("20,000 lines at once", serve(as_bytes(turns), ONE), (0, want, b""))
-# as many requests at once as there are numbers; the next number is none. The independent computation takes too long for so many
+# as many requests at once as there are numbers; the next number is none. The independent computation takes too long for that many
 most = 10_000 if is_built else 300
 content = as_bytes(b'arrive %d {"hash":0}' % number for number in range(most + 1))
 want = b"serve 1 slots %d limit 1 queues 1 hand 1 length 10000 queue\narrive 0 execute\n" % most + b"".join(b"arrive %d queued 0\n" % number for number in range(1, most))
@@ -620,7 +620,7 @@ FAULTS = (TURN.index(b'arrive 99 {"hash":0,"width":"1"}') + 1, TURN.index(b"try 
 
 
 def passed(turns):
-    """So many turns: the status, whether each byte of the answers was right, and the process's memory after the first tenth and at the end."""
+    """This many turns: the status, whether each byte of the answers was right, and the process's memory after the first tenth and at the end."""
     talk = Conversation(FAIR, "--slots", "100")
     talk.ends = time.monotonic() + 20 * MOST
     talk.hear(1)

@@ -343,7 +343,7 @@ def check_reading(command):
 
 
 def trace_for_requests(size):
-    """A trace whose requests file has so many bytes: 10,000 requests, of which the last has the name that is left."""
+    """A trace whose requests file has this many bytes: 10,000 requests, of which the last has the name that is left."""
     count, plain = 10_000, len('{"schema":"","distinguisher":""}')
     left = size - len("[\n\n]\n") - count * plain - 2 * (count - 1)
     each, rest = divmod(left, count)

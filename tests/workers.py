@@ -109,7 +109,7 @@ print(f"{4 * rounds} runs of 10,000 requests by 64 workers took {time.monotonic(
 
 
 def processor_time(units):
-    """The time that a processor was busy with a run of a hundred requests that work so many units each."""
+    """The time that a processor was busy with a run of a hundred requests that work this many units each."""
     before = resource.getrusage(resource.RUSAGE_CHILDREN).ru_utime
     got = ran(one_queue(100), [{"hash": 0, "work": units}] * 100, 1)
     tally.check(f"requests of {units} units", got, (0, book("open", 100, 0, 0, 0, 0, 0, 0, 0, 0), b""))

@@ -92,7 +92,7 @@ async def answer_from(reader):
 
 
 async def pass_bytes(left, reader, writer):
-    """Passes so many bytes on, or all to the end."""
+    """Passes this many bytes on, or all to the end."""
     while left > 0:
         part = await reader.read(min(left, HEAD))
         if not part and left < ALL:
@@ -105,7 +105,7 @@ async def pass_bytes(left, reader, writer):
 
 
 async def pass_body(message, reader, writer, otherwise):
-    """Passes a body on: chunks, or as many bytes as its head says, and otherwise so many."""
+    """Passes a body on: chunks, or as many bytes as its head says, and otherwise this many."""
     if not message.chunked:
         return await pass_bytes(otherwise if message.length is None else message.length, reader, writer)
     size = -1

@@ -226,7 +226,7 @@ class Logs:
         return b"".join(it + b"\n" for it in lines) + self.draw.choice([b"", b"", b"{"]), place
 
     def all_faulty(self, count):
-        """So many logs with their faults' numbers and lines. Of too many requests, which make large files, there are few."""
+        """This many logs with their faults' numbers and lines. Of too many requests, which make large files, there are few."""
         for number in range(count):
             fault = TOO_MANY if number % 100 == 99 else (*range(NOT_JSON, TOO_MANY), BAD_ARRIVAL)[number % 8]
             content, line = self.faulty(fault)

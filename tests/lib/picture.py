@@ -2,14 +2,14 @@
 
 from simulation import flows_of
 
-# the plots are this wide: so many columns, of one pixel each
+# the width of the plots: this many columns, of one pixel each
 COLUMNS = 880
-# so many flows have a row of their own
+# this many flows have a row of their own
 OWN_ROWS = 12
 SHADES = 8
 # the parts begin at these heights, and the seats' part is so high, of which the limit or the most seats take so much
 SEATS, QUEUES, HIGH, FULL = 124, 310, 140, 130
-# so many columns of letters are shown of a name: of one alone, of a schema and of a distinguisher beside it, of a schema in the title
+# this many columns of letters are shown of a name: of one alone, of a schema and of a distinguisher beside it, of a schema in the title
 ALONE, SCHEMA, DISTINGUISHER, TITLE = 36, 14, 20, 28
 LIGHT = "#b1551e #421871 #05a1b4 #91186c #fd8975 #6448a6 #8579de #6c2100 #a6a22f #096d8c #baabfc #8b072e #7b7b7b".split()
 DARK = "#fd8867 #7c4dab #e3ce5d #0492a9 #d6e9fd #a07fe4 #f7a3ff #b0541d #8df097 #b89a2c #fdf2e4 #d14c54 #b5b5b5".split()

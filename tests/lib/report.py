@@ -1,6 +1,6 @@
 """What a level and its callers told, judged by the rules: each event, request and call is looked at once.
 
-It is written from the definitions (docs/DEFINITIONS.md), and shares no step with the program.
+It is written from the definitions (docs/proof/AUDIT.md), and shares no step with the program.
 """
 
 from collections import Counter
@@ -94,7 +94,7 @@ class History:
         self.widest = max((width for width, *_ in report.requests), default=0)
         self.hands = {}
         self.faults = set()
-        # how often two queues were compared
+        # how many times two queues were compared
         self.compared = 0
 
     def width(self, request):

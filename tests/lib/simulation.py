@@ -93,7 +93,7 @@ def of_names(trace, members):
 
 
 def nearest_rank(waits, percent):
-    """The least wait such that at least so many of a hundred are not above it; 0 of none."""
+    """The least wait such that at least this many of a hundred are not above it; 0 of none."""
     ordered = sorted(waits)
     for place, wait in enumerate(ordered, 1):
         if 100 * place >= percent * len(ordered):

@@ -1,6 +1,6 @@
-"""The page docs/AUDIT.md: every definition that the statements of the headline rest on, each once, in reading order.
+"""The page docs/proof/AUDIT.md: every definition that the statements of PARTS rest on, each once, in reading order.
 
-usage: python3 tests/lib/statements.py >docs/AUDIT.md
+usage: python3 tests/lib/statements.py >docs/proof/AUDIT.md
 
 A statement is a contract in a crate's sources. What it cites is looked up in the `specs/` of the crates, and what these definitions cite in turn, to
 the end. So the page has nothing that was listed by hand, but for the names of the statements.
@@ -241,7 +241,7 @@ def page():
 
 The prover checks that the code keeps its contracts. It can't check that the contracts say what you want. For that a person reads the definitions that the statements cite. This page has them all, each once, with its comment: **{len(told)} definitions, {lines} lines without comments and blank lines, in {len(files)} files**. No proof stands here, and none need be read.
 
-`python3 tests/lib/statements.py >docs/AUDIT.md` makes this page from the sources. The tests make it again and compare. [DEFINITIONS.md](DEFINITIONS.md) has the same definitions, and those of the other crates, in words.
+`python3 tests/lib/statements.py >docs/proof/AUDIT.md` makes this page from the sources. The tests make it again and compare. [DEFINITIONS.md](DEFINITIONS.md) has the definitions that PROVED names, in words.
 
 How to read a definition: `→` is "implies" or "a function from .. to ..", `×` is "and", `⊎` is "or", `λ x. ..` is the function of x, `Σ` is "there is". A `record` is a list of named facts that all hold. `abbrev` gives a name to what stands behind it. A list is written `x ∷ xs`, its first element and the rest. `ℕ` are the whole numbers from 0. Words that are not defined here are those of the kit's library (`Rattle.std.specs.Prelude`).
 

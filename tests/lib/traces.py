@@ -145,7 +145,7 @@ class Traces:
         return b"\n".join(lines) + (b"" if is_cut else b"\n"), place
 
     def all_faulty(self, count):
-        """So many files with their numbers and lines. Of the last line but 10,000, which makes large files, there are few."""
+        """This many files with their numbers and lines. Of the last line but 10,000, which makes large files, there are few."""
         for number in range(count):
             fault = TOO_MANY if number % 100 == 99 else TOO_LONG + number % (TRUNCATED - TOO_LONG + 1)
             content, line = self.faulty(fault)

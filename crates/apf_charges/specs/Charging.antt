@@ -4,7 +4,7 @@ use Rattle.apf_charges.specs.declared.charges.Charges.{Charges}
 use Rattle.apf_charges.specs.declared.charges.Charges.TheVariants.{Time, Seats}
 use Rattle.apf_charges.specs.declared.charges.ChargedBy.{ChargedBy}
 use Rattle.apf_charges.specs.declared.charges.ChargedBy.TheVariants as by
-use Rattle.apf_charges.specs.Table.{Table, new_table, table_with, cost_of}
+use Rattle.apf_charges.specs.Table.{new_table, table_with, cost_of}
 
 -- what a word of a command line names
 abbrev pub named : List ℕ → Option ChargedBy

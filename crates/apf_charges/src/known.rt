@@ -1,7 +1,7 @@
 //! The flows of one set, each with its mean.
 
 ghost use Rattle.std.specs.Prelude.{◌≡◌, ◌≢◌, ℕ, ◌<◌, ◌≤◌, MatchOption, length, []};
-ghost use Rattle.apf_charges.specs.Table.{learned, mean_in as mean_of_flow, flow_at};
+ghost use Rattle.apf_charges.specs.Table.{learned, or_none, others, mean_in as mean_of_flow, flow_at};
 
 use crate::mean::Mean;
 use arrayvec::ArrayVec;
@@ -18,7 +18,7 @@ pub struct Known {
 }
 
 /// At most 8 flows, of which that stands first of which a request ended last.
-#[derive(Clone, Drop)]
+#[derive(Drop)]
 pub(crate) struct KnownFlows {
     flows: ArrayVec<Known, 8>,
 }
@@ -56,22 +56,29 @@ impl KnownFlows {
     pub(crate) fn mean_of(&self, flow: u64) -> Option<Mean>
         ensures { result ≡ mean_of_flow flow self.now }
     {
-        let at = place_of(self.flows.as_slice(), flow)?;
-        Some(self.flows[at].mean)
+        match place_of(self.flows.as_slice(), flow) {
+            Some(at) => Some(self.flows[at].mean),
+            None => None,
+        }
+    }
+
+    // Takes the flow out. Tells its mean, that of none if it is not known.
+    fn forget(&mut self, flow: u64) -> Mean
+        ensures mean { result ≡ or_none (mean_of_flow flow self.old) }
+        ensures rest { self.new ≡ others flow self.old }
+    {
+        match place_of(self.flows.as_slice(), flow) {
+            Some(at) => self.flows.remove(at).mean,
+            None => Mean::none(),
+        }
     }
 
     /// A request of the flow ran this many microseconds. The flow comes first, and where there is no room the last one goes.
     pub(crate) fn learn(&mut self, flow: u64, micros: u64)
         ensures { self.new ≡ learned flow micros self.old }
     {
-        let before = match place_of(self.flows.as_slice(), flow) {
-            Some(at) => self.flows.remove(at).mean,
-            None => Mean::none(),
-        };
-        if self.flows.len() == ROOM {
-            self.flows.pop();
-        }
-        let mean = before.with(micros);
+        let mean = self.forget(flow).with(micros);
+        self.flows.truncate(ROOM - 1);
         self.flows.insert(0, Known { flow, mean });
     }
 }

@@ -42,7 +42,10 @@ impl<A: Allocator> Means<A> {
     pub fn new(alloc: A) -> Result<Means<A>, AllocError>
         ensures { IfOk result (λ m. m ≡ new_table) }
     {
-        let sets = (0..SETS).map(|_set| KnownFlows::none()).collect(alloc)?;
+        let mut sets = Vec::with_capacity(alloc, SETS as usize)?;
+        for _set in 0..SETS {
+            sets.push(KnownFlows::none())?;
+        }
         Ok(Means {
             sets,
             firsts: Mean::none(),

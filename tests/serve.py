@@ -70,7 +70,7 @@ def asked():
     if draw.random() < 0.4:
         flow["width"] = draw.choice([1, 1, 2, 3, 7, 20_000])
     if draw.random() < 0.3:
-        flow["cost"] = draw.choice([1, 2, 3, 50, 20_000])
+        flow["cost"] = draw.choice([1, 2, 3, 50, 20_000, 4_294_967_295])
     items = [*flow.items()]
     draw.shuffle(items)
     text = json.dumps(dict(items), ensure_ascii=draw.random() < 0.5, separators=draw.choice([(",", ":"), (", ", ": ")]))
@@ -80,14 +80,15 @@ def asked():
 
 # lines that are no command, and objects that are none of an arrival
 NO_LINES = [b"", b" ", b"\r", b"arrive", b"arrive 0", b"arrive 0 ", b"arrive 0 []", b"arrive 0  {}", b"arrive  0 {}", b"arrive 00 {}", b"arrive -1 {}", b"try", b"try 0 1"]
-NO_LINES += [b"finish", b"finish ", b"finish 0 ", b" finish 0", b"finish 00", b"finish +0", b"finish 0\r", b"FINISH 0", b"finish\t0", b"cancel x", b"cancel 0 0", b"limit", b"limit 01"]
+NO_LINES += [b"finish", b"finish ", b"finish 0 ", b" finish 0", b"finish 00", b"finish +0", b"finish 0\r", b"FINISH 0", b"finish\t0", b"finish 0 x", b"finish 0 01", b"finish 0  1", b"finish 0 1 ", b"finish 0 1 2", b"finish 0 -1", b"finish x 1", b"cancel x", b"cancel 0 1", b"cancel 0 0", b"limit", b"limit 01"]
 NO_LINES += [b"limit 1.5", b"close ", b"close 0", b"books", b"queues 0", b"metrics\r", b"\xff", b"arrive 0 {\xff}", b"finish \xc3\xbc", b"\0", b"again 0", b"dispatch 0 queue 0", b"arrive 0 \xef\xbb\xbf{}"]
 NO_LIMITS = [b"limit 0", b"limit 10001", b"limit 4294967296", b"limit 18446744073709551617", b"limit " + b"9" * 5_000]
-NO_NUMBERS = [b"finish 4294967296", b"cancel 18446744073709551616", b"finish " + b"9" * 5_000, b'arrive 10000 {"hash":0}', b"try 10000 {"]
+NO_TIMES = [b"finish 0 1000000000001", b"finish 0 18446744073709551616", b"finish 1 " + b"9" * 5_000]
+NO_NUMBERS = [b"finish 10000 1000000000001", b"finish 4294967296", b"cancel 18446744073709551616", b"finish " + b"9" * 5_000, b'arrive 10000 {"hash":0}', b"try 10000 {"]
 NO_OBJECTS = ["{}", "{", '{"hash":0', '{"hash":0}}', '{"hash":0} 1', '{"hash":01}', '{"hash":0,}', '{"hash":-1}', '{"hash":1.0}', '{"hash":1e3}', '{"hash":1e999}', '{"hash":18446744073709551616}']
 NO_OBJECTS += ['{"hash":"0"}', '{"hash":null}', '{"hash":[]}', '{"hash":0,"schema":"a"}', '{"schema":"a"}', '{"distinguisher":"a"}', '{"schema":1,"distinguisher":"a"}']
 NO_OBJECTS += ['{"schema":"a","distinguisher":true}', '{"hash":0,"width":0}', '{"hash":0,"width":20001}', '{"hash":0,"width":"\\u001b"}', '{"hash":0,"width":-0}', '{"hash":0,"cost":0}']
-NO_OBJECTS += ['{"hash":0,"cost":20001}', '{"hash":0,"cost":{}}', '{"hash":0,"cost":2.5}', '{"hash":0,"work":1}', '{"hash":0,"arrivesAt":0}', '{"hash":0,"Width":1}', '{"\\u202e":1,"hash":0}']
+NO_OBJECTS += ['{"hash":0,"cost":4294967296}', '{"hash":0,"cost":{}}', '{"hash":0,"cost":2.5}', '{"hash":0,"work":1}', '{"hash":0,"arrivesAt":0}', '{"hash":0,"Width":1}', '{"\\u202e":1,"hash":0}']
 NO_OBJECTS += ['{"%s":1}' % ("k" * 65), '{"hash":"%s"}' % ("v" * 65), '{"a":%s1%s}' % ("[" * 127, "]" * 127), '{"a":%s1%s}' % ("[" * 126, "]" * 126), "{'hash':0}", '{"hash":0,"width":1,"width":0}']
 
 
@@ -107,13 +108,20 @@ def fault_in(service):
         [
             lambda: draw.choice(NO_LINES),
             lambda: draw.choice(NO_LIMITS),
-            lambda: draw.choice(NO_NUMBERS),
+            lambda: draw.choice([*NO_NUMBERS, *NO_TIMES]),
             lambda: f"{draw.choice(['arrive', 'try'])} {number} {draw.choice(NO_OBJECTS)}".encode(),
             lambda: f"{draw.choice(['arrive', 'try'])} {number} {asked()}".encode() if draw.random() < 0.5 else f"{draw.choice(['finish', 'cancel'])} {number}".encode(),
             lambda: spoiled(f"arrive {number} {asked()}".encode()),
             lambda: spoiled(f"{draw.choice(['finish', 'cancel', 'limit'])} {number}".encode()),
         ]
     )()
+
+
+def ran():
+    """How long a request ran, as a finish says it, or nothing of that."""
+    if draw.random() < 0.3:
+        return ""
+    return f" {draw.choice([0, 1, 999, 10_000, 10**12, 2**32, draw.randrange(1, 100_000), draw.randrange(1, 100_000)])}"
 
 
 def line_in(service):
@@ -126,9 +134,9 @@ def line_in(service):
             if number not in service.there:
                 return f"{'arrive' if kind < 0.36 else 'try'} {number} {asked()}".encode()
     if kind < 0.70 and running:
-        return f"finish {draw.choice(running)}".encode()
+        return f"finish {draw.choice(running)}{ran()}".encode()
     if kind < 0.72 and waiting:
-        return f"finish {draw.choice(waiting)}".encode()
+        return f"finish {draw.choice(waiting)}{ran()}".encode()
     if kind < 0.79 and service.there:
         return f"cancel {draw.choice(waiting if waiting and draw.random() < 0.8 else [*service.there])}".encode()
     if kind < 0.82:
@@ -242,7 +250,7 @@ class Conversation:
 SESSIONS = int(os.environ.get("APF_SESSIONS", "2000" if is_built else "40"))
 KINDS = ["arrive N execute", "arrive N queued", "arrive N queue-full", "arrive N closed", "arrive N concurrency-limit", "try N execute", "try N busy", "try N closed", "try N concurrency-limit"]
 KINDS += ["finish N", "finish N not running", "cancel N cancelled", "cancel N execute", "limit N was", "close first", "close already", "level open", "level closed", "queue N waiting", "end", "# EOF"]
-KINDS += ["dispatch N queue", "strike N queue", "fault N bad line", "fault N bad number", "fault N N is there", "fault N N is not there", "fault N this is not JSON", "fault N bad limit"]
+KINDS += ["dispatch N queue", "strike N queue", "fault N bad line", "fault N bad number", "fault N bad time", "fault N N is there", "fault N N is not there", "fault N this is not JSON", "fault N bad limit"]
 KINDS += ["fault N truncated", "fault N the key", "fault N width is", "fault N cost is", "fault N hash"]
 # words that are numbers
 NUMBERS = re.compile(r"(?<![^ ])[0-9]+(?![^ ])")
@@ -252,11 +260,13 @@ for number in range(SESSIONS):
     words = [] if slots == 10_000 and draw.random() < 0.5 else ["--slots", str(slots)]
     name = draw.choice(["level", "level", "global-default", "a.b-0"])
     words += [] if name == "level" else ["--name", name]
-    service = service_of(level, slots, name)
+    charge = draw.choice(["time", "time", "seats"])
+    words += [] if charge == "time" and draw.random() < 0.8 else ["--charge", charge]
+    service = service_of(level, slots, name, charge)
     lines, answers = drawn(service, draw.choice([5, 20, 60, 150]))
     rest = draw.choice([b"", b"", b"", b"finish 0", b"x", b"\0"])
     content = as_bytes(lines) + rest
-    want = "".join(f"{it}\n" for it in [service_of(level, slots, name).first(), *sum(answers, [])] + ([f"fault {len(lines) + 1} truncated"] if rest else []) + service.book()).encode()
+    want = "".join(f"{it}\n" for it in [service_of(level, slots, name, charge).first(), *sum(answers, [])] + ([f"fault {len(lines) + 1} truncated"] if rest else []) + service.book()).encode()
     status, out, err = serve(content, level, *words)
     tally.check(f"session {number} of {level}, {words}: {content}", (status, first_difference(out, want), err), (0, "no difference", b""))
     shapes = "".join(f"\n{it} " for it in {NUMBERS.sub("N", line) for line in want.decode().split("\n")})
@@ -294,7 +304,8 @@ def once(count):
 for number in range(max(10, SESSIONS // 20)):
     level, asks, script, lines = once(draw.choice([1, 5, 20, 50]))
     names = [files("config", json.dumps(level)), files("requests", json.dumps(asks)), files("script", "".join(f"{it}\n" for it in script))]
-    status, out, err = serve(as_bytes(lines), level, "--slots", str(len(asks)))
+    # where no time is told, each request is expected to run as long as any other, so both ways serve in one order
+    status, out, err = serve(as_bytes(lines), level, "--slots", str(len(asks)), "--charge", draw.choice(["time", "seats"]))
     transcript = run(other, ["replay", *names])
     tally.check(f"replay {number} as the model has it", transcript, replayed(json.dumps(level).encode(), json.dumps(asks).encode(), "".join(f"{it}\n" for it in script).encode()))
     tally.check(f"replay {number} of {level}: {lines}", (status, first_difference(out.partition(b"\n")[2], transcript[1]), err), (0, "no difference", b""))
@@ -344,13 +355,17 @@ tally.check(f"{most} requests at once", serve(content, ONE, "--slots", str(most)
 FLOW = "a flow is either hash alone, or both schema and distinguisher"
 KEYS = "an arrival has schema, distinguisher, hash, width and cost"
 HASH, SEATS = "it must be a whole number from 0 to 18446744073709551615", "it must be a whole number from 1 to 20000"
+COST = "it must be a whole number from 1 to 4294967295"
 BY_HAND = [
     *((it, "fault L bad line") for it in ("", " ", "close ", " close", "Close", "close 1", "closed", "books", "queue", "metrics ", "close\r")),
-    *((it, "fault L bad line") for it in ("finish", "finish ", "finish 099", "finish 1 ", "finish 1 2", "finish  1", "cancel 1x", "cancel -1", "cancel +1", "limit", "limit ", "limit 010", "limit 1.5", "limit 1e3", "finish\t1")),
+    *((it, "fault L bad line") for it in ("finish", "finish ", "finish 099", "finish 1 ", "finish 1 x", "finish 1 02", "finish 1  2", "finish 1 2 ", "finish 1 2 3", "finish  1", "cancel 1 2", "cancel 1x", "cancel -1", "cancel +1", "limit", "limit ", "limit 010", "limit 1.5", "limit 1e3", "finish\t1")),
     *((it, "fault L bad line") for it in ("arrive", "arrive ", "arrive 0", "arrive 0 ", "arrive 0 x", "arrive 0 []", "arrive 0  {}", "arrive  0 {}", "arrive 00 {}", "arrive 01 {}", "arrive +1 {}", "arrive -1 {}")),
     *((it, "fault L bad line") for it in ("arrive 0x {}", "tri 0 {}", "arrive 0\t{}", "arrive 100 x", "try 4294967297 []", "arrive {}", "arrive  {}", b"arrive 0 {\xff}")),
     *((it, "fault L bad number") for it in ("arrive 100 {}", "try 100 {", "finish 100", "cancel 100", "finish 4294967295", "finish 4294967296", "finish 4294967297", "finish 18446744073709551616")),
     *((it, "fault L bad number") for it in (f"arrive {26 * '9'} {{}}", "finish " + 65_529 * "9")),
+    *((f"finish {it}", "fault L bad number") for it in ("100 1", "100 1000000000001")),
+    *((f"finish 99 {it}", "fault L bad time") for it in ("1000000000001", "18446744073709551616", 65_000 * "9")),
+    *((f"finish 99 {it}", "fault L 99 is not there") for it in ("0", "1000000000000")),
     *((f"limit {it}", "fault L bad limit") for it in ("0", "10001", "4294967296", "4294967297", 20 * "9")),
     ("x" * 65_536, "fault L bad line"),
     ("x" * 65_537, "fault L line too long"),
@@ -373,7 +388,7 @@ BY_HAND = [
     ('arrive 0 {"schema":"a","distinguisher":null}', "fault L distinguisher is null: it must be a text"),
     *((f'arrive 0 {{"hash":{it},"width":0}}', f"fault L hash is {shown}: {HASH}") for it, shown in (('"1"', '"1"'), ("-1", "-1"), ("1.5", "1.5"), ("18446744073709551616", "1.8446744073709552e+19"), ("[1]", "an array"))),
     *((f'arrive 0 {{"hash":1,"width":{it},"cost":0}}', f"fault L width is {it}: {SEATS}") for it in ("0", "20001", '"x"', "null", "1.0")),
-    *((f'arrive 0 {{"hash":1,"cost":{it}}}', f"fault L cost is {shown}: {SEATS}") for it, shown in (("0", "0"), ("20001", "20001"), ("[1]", "an array"), ("{}", "an object"), ("true", "true"))),
+    *((f'arrive 0 {{"hash":1,"cost":{it}}}', f"fault L cost is {shown}: {COST}") for it, shown in (("0", "0"), ("4294967296", "4294967296"), ("[1]", "an array"), ("{}", "an object"), ("true", "true"))),
     # the first unknown key by its bytes; one of 64 bytes, and one of 65
     ('arrive 0 {"zz":1,"aa":2,"hash":"x","width":0}', f'fault L the key "aa" is unknown: {KEYS}'),
     *((f'arrive 0 {{"hash":1,"{it}":1}}', f'fault L the key "{it}" is unknown: {KEYS}') for it in ("work", "arrivesAt", "", 64 * "k")),
@@ -422,14 +437,70 @@ BY_HAND = [
 ]
 content = as_bytes(it.encode() if isinstance(it, str) else it for it, _ in BY_HAND)
 want = [it.replace("fault L ", f"fault {number} ") for number, (_, it) in enumerate(BY_HAND, 1)]
-status, out, err = serve(content, ONE, "--slots", "100")
+status, out, err = serve(content, ONE, "--slots", "100", "--charge", "seats")
 told, at = out.decode().split("\n"), 1
 for (line, _), it in zip(BY_HAND, want):
     lines = it.split("\n")
     tally.check(f"the line {line[:200]!r}", told[at : at + len(lines)], lines)
     at += len(lines)
 tally.check("the lines by hand", (status, out.decode(), err), (0, "\n".join([told[0], *want, *want[-1].split("\n"), ""]), b""))
-tally.check("the lines by hand, by the model", session(service_of(ONE, 100), content).split("\n")[1:-1], [*"\n".join(want).split("\n"), *want[-1].split("\n")])
+tally.check("the lines by hand, by the model", session(service_of(ONE, 100, charge="seats"), content).split("\n")[1:-1], [*"\n".join(want).split("\n"), *want[-1].split("\n")])
+
+# ---- what is charged, by hand: one seat, and the two flows of even and of odd hashes in a queue each
+
+TWO = {"limit": 1, "queues": 2, "handSize": 1, "queueLengthLimit": 10}
+LEARNT = [
+    # nothing ran yet, so 10 ms are expected of a seat
+    ('arrive 0 {"hash":0}', "arrive 0 execute"),
+    ('arrive 1 {"hash":0,"width":3}', "arrive 1 queued 0"),
+    ('arrive 2 {"hash":1,"cost":7}', "arrive 2 queued 1"),
+    # the first flow took 300 ms. What waits keeps its cost
+    ("finish 0 300000", "finish 0\ndispatch 2 queue 1"),
+    ("finish 2 10000", "finish 2\ndispatch 1 queue 0"),
+    ("queues", "queue 0 waiting 0 entered 1 service 30000\nqueue 1 waiting 0 entered 1 service 7\nend"),
+    ("finish 1", "finish 1"),
+    ("finish 1 5", "fault L 1 is not there"),
+    # 300 ms are expected of the first flow, 10 ms of the second, and (300 + 10) / 2 of any other
+    ('arrive 9 {"hash":8}', "arrive 9 execute"),
+    ('arrive 0 {"hash":0}', "arrive 0 queued 0"),
+    ('arrive 1 {"hash":1}', "arrive 1 queued 1"),
+    ('arrive 2 {"hash":1,"width":2}', "arrive 2 queued 1"),
+    ('arrive 3 {"hash":3}', "arrive 3 queued 1"),
+    ("finish 9 0", "finish 9\ndispatch 1 queue 1"),
+    ("finish 1", "finish 1\ndispatch 2 queue 1"),
+    ("finish 2", "finish 2\ndispatch 3 queue 1"),
+    ("queues", "queue 0 waiting 1 entered 2 service 30000\nqueue 1 waiting 0 entered 4 service 185007\nend"),
+    # one that waits learns nothing
+    ("finish 0 1", "finish 0 not running"),
+    ("finish 3 1000000000000", "finish 3\ndispatch 0 queue 0"),
+    ("queues", "queue 0 waiting 0 entered 2 service 330000\nqueue 1 waiting 0 entered 4 service 185007\nend"),
+    # a mean of 4,294,967,295, and of two of it: (300000 + (0 - 300000) / 2)
+    ("finish 0 0", "finish 0"),
+    ('arrive 9 {"hash":8}', "arrive 9 execute"),
+    ('arrive 0 {"hash":0}', "arrive 0 queued 0"),
+    ('arrive 1 {"hash":3,"width":2}', "arrive 1 queued 1"),
+    ("finish 9", "finish 9\ndispatch 0 queue 0"),
+    ("finish 0", "finish 0\ndispatch 1 queue 1"),
+    ("queues", "queue 0 waiting 0 entered 3 service 480000\nqueue 1 waiting 0 entered 5 service 4295152302\nend"),
+]
+BY_SEATS = [
+    ('arrive 0 {"hash":0}', "arrive 0 execute"),
+    ('arrive 1 {"hash":0,"width":3}', "arrive 1 queued 0"),
+    ('arrive 2 {"hash":1,"cost":7}', "arrive 2 queued 1"),
+    ("finish 0 300000", "finish 0\ndispatch 1 queue 0"),
+    ("finish 1 1", "finish 1\ndispatch 2 queue 1"),
+    ("queues", "queue 0 waiting 0 entered 1 service 3\nqueue 1 waiting 0 entered 1 service 1\nend"),
+]
+for by, rows in (("time", LEARNT), ("seats", BY_SEATS)):
+    content = as_bytes(it.encode() for it, _ in rows)
+    want = [it.replace("fault L ", f"fault {number} ") for number, (_, it) in enumerate(rows, 1)]
+    status, out, err = serve(content, TWO, "--slots", "10", "--charge", by)
+    told = "\n".join(want).split("\n")
+    tally.check(f"charged by {by}, by hand", (status, out.decode().split("\n")[1:-5], err), (0, told, b""))
+    tally.check(f"charged by {by}, by the model", session(service_of(TWO, 10, charge=by), content).split("\n")[1:-5], told)
+tally.check("charged by time where nothing is said", serve(as_bytes(it.encode() for it, _ in LEARNT), TWO, "--slots", "10"), serve(as_bytes(it.encode() for it, _ in LEARNT), TWO, "--slots", "10", "--charge", "time"))
+done = subprocess.run([program, "serve", file_of(json.dumps(TWO)), "--charge", "widths"], input=b"", capture_output=True, timeout=MOST)
+tally.check("charged by nothing that is known", (done.returncode, done.stdout, done.stderr), (2, b"", b"apf: --charge must be time or seats\n"))
 
 # the first line says the level: what a config of its limit alone has, and one of the most; a level that rejects has no queues
 for text, said in (

@@ -1,7 +1,7 @@
 #!/usr/bin/env python3
 """A live level, as `apf serve` answers: an independent computation, written from the rules and slow on purpose.
 
-usage: python3 tests/lib/serve.py serve CONFIG [--slots S] [--name NAME]
+usage: python3 tests/lib/serve.py serve CONFIG [--slots S] [--name NAME] [--charge time|seats]
 
 By itself it is a co-process with that protocol, for the tests of what talks to one.
 """
@@ -12,9 +12,10 @@ import re
 import sys
 
 sys.path.insert(0, os.path.dirname(os.path.abspath(__file__)))
+from charges import MOST_RAN, Means
 from explain import flow_line, line_not_json, unknown
 from judge import NotJson, Refused, config_of, dealer_fault, flow_of, whole_in
-from level import Level
+from level import Level, hash_of
 from trace import SEATS, needed, value_of
 
 MOST = 65_536
@@ -26,13 +27,14 @@ NUMBER = "(0|[1-9][0-9]*)"
 ARRIVAL = re.compile(rf"(arrive|try) {NUMBER} (\{{.*)", re.DOTALL)
 LIMIT = re.compile(f"limit {NUMBER}")
 NUMBERED = re.compile(f"(finish|cancel) {NUMBER}")
+TIMED = re.compile(f"finish {NUMBER} {NUMBER}")
 WORDS = ("close", "book", "queues", "metrics")
 
 
 class Service:
     """One level, and who is there under which number."""
 
-    def __init__(self, config, slots=10_000, name="level", refused=()):
+    def __init__(self, config, slots=10_000, name="level", charge="time", refused=()):
         fault = config["limitResponse"] == "Queue" and dealer_fault(config["queues"], config["handSize"])
         if fault:
             raise Refused(fault)
@@ -40,6 +42,8 @@ class Service:
         # the model's requests are all that ever arrived; each has a number of the protocol while it is there
         self.requests, self.there, self.number = [], {}, {}
         self.level = Level(config, self.requests)
+        # where requests are charged by time
+        self.means = Means() if charge == "time" else None
         # the lines, from 1, that find no memory for their object
         self.line, self.refused = 0, refused
 
@@ -67,6 +71,8 @@ class Service:
             return self.arrival(arrival[1], int(arrival[2]), arrival[3])
         if change := LIMIT.fullmatch(text):
             return self.change(int(change[1]))
+        if ended := TIMED.fullmatch(text):
+            return self.ended(int(ended[1]), int(ended[2]))
         if found := NUMBERED.fullmatch(text):
             return getattr(self, found[1])(self.known(int(found[2])))
         if text in WORDS:
@@ -106,6 +112,7 @@ class Service:
         if self.line in self.refused:
             raise Refused("out of memory")
         asked = asked_of(text)
+        asked["cost"] = asked["cost"] or self.cost_of(asked)
         request, before = len(self.requests), len(self.level.lines)
         self.requests.append(asked)
         self.there[number], self.number[request] = request, number
@@ -116,6 +123,22 @@ class Service:
         self.level.arrive(request)
         first, *rest = self.said(before)
         return [first.replace("arrive", word), *rest]
+
+    def cost_of(self, asked):
+        """What the dispatch of a request is charged to which no cost was given."""
+        return self.means.cost(flow_hash(asked["flow"]), asked["width"]) if self.means else asked["width"]
+
+    def ended(self, number, ran):
+        """The request of this number ends, and is said to have run so long."""
+        self.judged(number)
+        if ran > MOST_RAN:
+            raise Refused("bad time")
+        request = self.known(number)
+        ran_at_all = request in self.level.running
+        lines = self.finish(request)
+        if ran_at_all and self.means:
+            self.means.learn(flow_hash(self.requests[request]["flow"]), ran)
+        return lines
 
     def change(self, limit):
         if not 1 <= limit <= 10_000:
@@ -145,10 +168,14 @@ class Service:
         lines = []
         for queue, waiting in enumerate(self.level.queues):
             entered = [request for kind, request, at in self.level.log if (kind, at) == ("enter", queue)]
-            served = sum(self.level.width(request) for kind, request, at in self.level.log if (kind, at) == ("dispatch", queue))
+            served = sum(self.charged(request) for kind, request, at in self.level.log if (kind, at) == ("dispatch", queue))
             if entered:
                 lines.append(f"queue {queue} waiting {len(waiting)} entered {len(entered)} service {served}")
         return [*lines, "end"]
+
+    def charged(self, request):
+        """What the queue of a dispatched request is said to have been charged."""
+        return self.requests[request]["cost"] if self.means else self.level.width(request)
 
     def numbers(self):
         """The samples of `metrics`: each by its name and its labels."""
@@ -176,6 +203,11 @@ class Service:
         return [*lines, "# EOF"]
 
 
+def flow_hash(flow):
+    """The hash of a flow, which is given itself or as the flow's two names."""
+    return flow if isinstance(flow, int) else hash_of(*flow)
+
+
 def asked_of(text):
     """What an arrival's object asks: a line of a trace without its times. What is wrong with it is said as a trace's fault says it."""
     line = text.encode()
@@ -190,8 +222,7 @@ def asked_of(text):
     for key, (low, high, _) in SEATS.items():
         if key in value and not whole_in(value[key], low, high):
             raise Refused(needed(value, key, f"a whole number from {low} to {high}"))
-    width = value.get("width", 1)
-    return {"flow": flow_of(value), "width": width, "cost": value.get("cost", width)}
+    return {"flow": flow_of(value), "width": value.get("width", 1), "cost": value.get("cost")}
 
 
 def session(service, content):
@@ -224,10 +255,11 @@ def main():
     ask.add_argument("config")
     ask.add_argument("--slots", type=slots_of, default=10_000)
     ask.add_argument("--name", type=name_of, default="level")
+    ask.add_argument("--charge", choices=["time", "seats"], default="time")
     asked = ask.parse_args()
     try:
         with open(asked.config, "rb") as file:
-            service = Service(config_of(file.read()), asked.slots, asked.name)
+            service = Service(config_of(file.read()), asked.slots, asked.name, asked.charge)
     except OSError:
         sys.exit("apf: cannot read config")
     except Refused as line:

@@ -18,7 +18,7 @@ TOO_MANY, TOO_LONG, NOT_JSON, NOT_OBJECT, UNKNOWN_KEY, BAD_ARRIVAL, BAD_RUN, BAD
 KEYS = ("arrivesAt", "runsFor", "schema", "distinguisher", "hash", "width", "cost")
 # key: lowest, highest, and the fault of another value; the two times must be there
 TIMES = {"arrivesAt": (0, 1_000_000_000_000, BAD_ARRIVAL), "runsFor": (0, 10_000_000_000, BAD_RUN)}
-SEATS = {"width": (1, 20_000, BAD_WIDTH), "cost": (1, 20_000, BAD_COST)}
+SEATS = {"width": (1, 20_000, BAD_WIDTH), "cost": (1, 4_294_967_295, BAD_COST)}
 
 
 class TraceFault(Refused):

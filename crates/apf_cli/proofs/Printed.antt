@@ -17,7 +17,7 @@ prints_kept holds (Workers config requests workers rounds) old mid new h k = rec
   one = λ is. let p = h.one is in record { report = p.report; run = p.run; written = appends_kept old mid new _ p.written k };
   more = λ is. let p = h.more is in record { report = p.report; run = p.run; written = appends_kept old mid new _ p.written k };
 }
-prints_kept holds (Level config slots name) old mid new h k = tt
+prints_kept holds (Level config slots name charge) old mid new h k = tt
 prints_kept holds (Flow schema distinguisher) old mid new h k = tt
 prints_kept holds (Deck deck hand hash) old mid new h k = tt
 prints_kept holds (Script config requests script) old mid new h k = tt

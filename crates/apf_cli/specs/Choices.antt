@@ -1,4 +1,4 @@
--- Which requests the words of a command line choose.
+-- Which requests the words of a command line choose, and what those of a level are charged.
 use Rattle.std.specs.Prelude.{◌≡◌, ⊤, ℕ, List, Option, Some, None}
 use Rattle.std.specs.Borrow.{Bor}
 use Rattle.apf_audit.specs.Choice.{by_named}
@@ -6,6 +6,9 @@ use Rattle.apf_audit.specs.Times.{instant_of}
 use Rattle.apf_audit.specs.declared.choice.By.{By}
 use Rattle.apf_audit.specs.declared.choice.By.TheVariants.{User}
 use Rattle.apf_audit.specs.declared.choice.Choice.{Choice}
+use Rattle.apf_charges.specs.Charging.{named}
+use Rattle.apf_charges.specs.declared.charges.ChargedBy.{ChargedBy}
+use Rattle.apf_charges.specs.declared.charges.ChargedBy.TheVariants.{Time}
 use Rattle.apf_commands.specs.declared.words.Chosen.{Chosen}
 
 -- what makes a flow: what the word says, and users where there is none
@@ -35,3 +38,13 @@ pub record IsChoiceFor (chosen : Chosen) (choice : Choice) : Type 0 where
   pub user : choice.user ≡ chosen.user
   pub since : IsInstantFor chosen.since choice.since
   pub until : IsInstantFor chosen.until choice.until
+
+-- what requests are charged: what the word says, and time where there is none
+abbrev pub IsChargeFor : Option (Bor (List ℕ)) → ChargedBy → Type 0
+IsChargeFor None charged = charged ≡ Time
+IsChargeFor (Some word) charged = named word.now ≡ Some charged
+
+-- the word says nothing that requests are charged
+abbrev pub IsNoChargeFor : Option (Bor (List ℕ)) → Type 0
+IsNoChargeFor None = ⊥
+IsNoChargeFor (Some word) = named word.now ≡ None

@@ -51,6 +51,8 @@ pub enum Fault {
     BadPatience,
     /// What makes a flow is neither `user` nor `namespace`.
     BadBy,
+    /// What requests are charged is neither `time` nor `seats`.
+    BadCharge,
     /// The bound of the choice is no instant from 1970 on.
     BadInstant(Bound),
     /// The level was not opened, for another cause than the dealer's. What the readers accept has none.
@@ -82,6 +84,7 @@ impl Fault {
             | Fault::LongSchema
             | Fault::BadPatience
             | Fault::BadBy
+            | Fault::BadCharge
             | Fault::BadInstant(_) => 2,
             Fault::Worker(_) | Fault::NoMemory => 3,
             Fault::Dealer(_, Sizes::OfConfig)
@@ -233,6 +236,7 @@ impl fmt::Display for Fault {
                 "apf: PATIENCE must be a whole number, alone or with us, ms or s behind it, of at most 1000000000 microseconds",
             ),
             Fault::BadBy => f.write_str("apf: --by must be user or namespace"),
+            Fault::BadCharge => f.write_str("apf: --charge must be time or seats"),
             Fault::BadInstant(bound) => write!(
                 f,
                 "apf: {bound} must be an instant from 1970 on, as 2026-01-31T12:00:00Z"

@@ -14,7 +14,7 @@ use crate::faults::{Fault, Sizes};
 use crate::files::{Files, Input, judge_names, read_input};
 use crate::pictures::print_picture;
 use crate::running::{print_run, read_level};
-use crate::serving::print_served;
+use crate::serving::{Served, print_served};
 use crate::traces::{print_hands, print_requests, print_simulation, print_timeline};
 use apf_commands::{Action, Arguments, read_words};
 use apf_flow::{Dealer, flow_hash};
@@ -146,7 +146,16 @@ fn print_action<F: Files, O: Write, E: Write, R: Wait + Threads + Sync>(
             config,
             slots,
             name,
-        } => print_served(rt, alloc, files, (config, slots, name), out),
+            charge,
+        } => {
+            let level = Served {
+                config,
+                slots,
+                name,
+                charge,
+            };
+            print_served(rt, alloc, files, level, out)
+        }
         Arguments::Simulation {
             config,
             trace,

@@ -1,7 +1,11 @@
 //! Serves a level over standard input.
 
+ghost use Rattle.std.specs.Prelude.{◌≡◌, IfOk, IfErr};
+ghost use Rattle.apf_cli.specs.Choices.{IsChargeFor, IsNoChargeFor};
+
 use crate::faults::Fault;
 use crate::files::{Files, Input, STANDARD_INPUT, judge_names, read_input};
+use apf_charges::ChargedBy;
 use apf_life_session::OpenFault;
 use apf_run::{Config, ReplayFault, read_config};
 use apf_service::{ServeFault, serve};
@@ -50,15 +54,40 @@ fn config_of<F: Files>(alloc: Global, files: &mut F, name: &str) -> Result<Confi
     Ok(read_config(alloc, bytes.as_slice())?)
 }
 
-/// Opens the level of the file, with so many slots and under this name, and carries out the commands of standard input.
+/// The words of a command line for a level that stays open.
+#[derive(Clone, Copy)]
+pub(crate) struct Served<'a> {
+    /// The name of the file of its settings.
+    pub(crate) config: &'a str,
+    /// How many requests may be there at once.
+    pub(crate) slots: u32,
+    /// Its name in metrics.
+    pub(crate) name: &'a str,
+    /// What its requests are charged.
+    pub(crate) charge: Option<&'a str>,
+}
+
+// What requests are charged, by the words of a command line: time if none are given.
+fn charged_by(word: Option<&str>) -> Result<ChargedBy, Fault>
+    ensures ok { IfOk result (IsChargeFor word.entry) }
+    ensures err { IfErr result (λ fault. (fault ≡ Fault.BadCharge) × IsNoChargeFor word.entry) }
+{
+    match word {
+        Some(word) => ChargedBy::named(word).ok_or(Fault::BadCharge),
+        None => Ok(ChargedBy::Time),
+    }
+}
+
+/// Opens the level of the file, as the words say, and carries out the commands of standard input.
 pub(crate) fn print_served<F: Files, O: Write, R: Wait>(
     rt: &R,
     alloc: Global,
     files: &mut F,
-    level: (&str, u32, &str),
+    level: Served<'_>,
     out: &mut O,
 ) -> Result<(), Fault> {
-    let config = config_of(alloc, files, level.0)?;
+    let by = charged_by(level.charge)?;
+    let config = config_of(alloc, files, level.config)?;
     let mut commands = Commands { files };
-    Ok(serve(rt, alloc, &config, level.1, level.2, &mut commands, out)?)
+    Ok(serve(rt, alloc, &config, level.slots, level.name, by, &mut commands, out)?)
 }

@@ -95,7 +95,7 @@ workers_given name words e =
 level_given : (name : Text) (words : List Text) → IsFaultFree (of_kind name Level) words → HasArguments Level (rows_after (of_kind name Level).rules [] words)
 unfolding apf_app
 level_given name words e =
-    let plain : IsPlainShape (of_kind name Level) = record { rules = refl; own_ids = (refl, (refl, (refl, (refl, tt)))); defaults = refl; negates = refl } in
+    let plain : IsPlainShape (of_kind name Level) = record { rules = refl; own_ids = (refl, (refl, (refl, (refl, (refl, tt))))); defaults = refl; negates = refl } in
     let given = all_given (of_kind name Level) plain words e in
     let met = all_met (of_kind name Level) plain words e in
     let config = given.0 refl refl in

@@ -27,7 +27,7 @@ in_range name rows action is named = go action.arguments known is.arguments name
     go : (arguments : Arguments) → has_kind (kind_of arguments) action.command.now ≡ true → AreArguments rows arguments → HasLevelName arguments
         → IsInRange (record { command = action.command; arguments = arguments })
     go (Workers config requests workers rounds) known read named = record { command = known; workers = (let some = read.2.1 in omega arith); rounds = (read.3.1, read.3.2); slots = tt; name = tt }
-    go (Level config slots level) known read named = record { command = known; workers = tt; rounds = tt; slots = (read.1.1, read.1.2); name = named }
+    go (Level config slots level charge) known read named = record { command = known; workers = tt; rounds = tt; slots = (read.1.1, read.1.2); name = named }
     go (Flow schema distinguisher) known read named = record { command = known; workers = tt; rounds = tt; slots = tt; name = tt }
     go (Deck deck hand hash) known read named = record { command = known; workers = tt; rounds = tt; slots = tt; name = tt }
     go (Script config requests script) known read named = record { command = known; workers = tt; rounds = tt; slots = tt; name = tt }
@@ -53,7 +53,7 @@ no_name_fault name rows action is named = go action.arguments is.kind is.argumen
   where
     go : (arguments : Arguments) → kind_named name ≡ Some (kind_of arguments) → AreArguments rows arguments → HasLevelName arguments → name_fault (Some (name, rows)) ≡ []
     go (Workers config requests workers rounds) kind read named = other_kind name rows _ kind refl
-    go (Level config slots level) kind read named = served name rows level.now true kind read.2 named
+    go (Level config slots level charge) kind read named = served name rows level.now true kind read.2 named
     go (Flow schema distinguisher) kind read named = other_kind name rows _ kind refl
     go (Deck deck hand hash) kind read named = other_kind name rows _ kind refl
     go (Script config requests script) kind read named = other_kind name rows _ kind refl
@@ -71,7 +71,7 @@ has_name_fault name rows action is named = go action.arguments is.kind is.argume
     go : (arguments : Arguments) → kind_named name ≡ Some (kind_of arguments) → AreArguments rows arguments → HasBadName arguments
         → name_fault (Some (name, rows)) ≡ ValueValidation ∷ []
     go (Workers config requests workers rounds) kind read named = absurd named
-    go (Level config slots level) kind read named = served name rows level.now false kind read.2 named
+    go (Level config slots level charge) kind read named = served name rows level.now false kind read.2 named
     go (Flow schema distinguisher) kind read named = absurd named
     go (Deck deck hand hash) kind read named = absurd named
     go (Script config requests script) kind read named = absurd named

@@ -123,7 +123,8 @@ rules_of Script = text_rule (codes "CONFIG") ∷ text_rule (codes "REQUESTS") �
 rules_of Workers =
     text_rule (codes "CONFIG") ∷ text_rule (codes "REQUESTS") ∷ number_rule (codes "WORKERS") worker_count
     ∷ number_option_rule (codes "rounds") round_count ∷ []
-rules_of Level = text_rule (codes "CONFIG") ∷ number_option_rule (codes "slots") slot_count ∷ option_rule (codes "name") ∷ []
+rules_of Level =
+    text_rule (codes "CONFIG") ∷ number_option_rule (codes "slots") slot_count ∷ option_rule (codes "name") ∷ option_rule (codes "charge") ∷ []
 rules_of Simulation = text_rule (codes "CONFIG") ∷ text_rule (codes "TRACE") ∷ text_rule (codes "PATIENCE") ∷ []
 rules_of Comparison =
     text_rule (codes "CONFIG") ∷ text_rule (codes "OTHER") ∷ text_rule (codes "TRACE") ∷ text_rule (codes "PATIENCE") ∷ []

@@ -68,9 +68,10 @@ AreArguments rows (Workers config requests workers rounds) = IsText rows (codes 
     × IsText rows (codes "REQUESTS") requests.now
     × IsWorkerCount rows workers
     × IsRoundCount rows rounds
-AreArguments rows (Level config slots name) = IsText rows (codes "CONFIG") config.now
+AreArguments rows (Level config slots name charge) = IsText rows (codes "CONFIG") config.now
     × IsSlotCount rows slots
     × IsTextOr (codes "level") rows (codes "name") name.now
+    × IsOption rows (codes "charge") charge
 AreArguments rows (Simulation config trace patience) = IsText rows (codes "CONFIG") config.now
     × IsText rows (codes "TRACE") trace.now
     × IsText rows (codes "PATIENCE") patience.now
@@ -92,7 +93,7 @@ kind_of (Flow a b) = of_kind.Flow
 kind_of (Deck a b c) = of_kind.Deck
 kind_of (Script a b c) = of_kind.Script
 kind_of (Workers a b c d) = of_kind.Workers
-kind_of (Level a b c) = of_kind.Level
+kind_of (Level a b c d) = of_kind.Level
 kind_of (Simulation a b c) = of_kind.Simulation
 kind_of (Comparison a b c d) = of_kind.Comparison
 kind_of (Trace a) = of_kind.Trace
@@ -117,17 +118,17 @@ HasRounds _ = Unit {0}
 
 -- a level that stays open has 1 to 10,000 slots
 abbrev pub HasSlots : Arguments → Type 0
-HasSlots (Level config slots name) = (1 ≤ slots) × (slots ≤ 10000)
+HasSlots (Level config slots name charge) = (1 ≤ slots) × (slots ≤ 10000)
 HasSlots _ = Unit {0}
 
 -- a level that stays open has a name that a level may have
 abbrev pub HasLevelName : Arguments → Type 0
-HasLevelName (Level config slots name) = is_level_name name.now ≡ true
+HasLevelName (Level config slots name charge) = is_level_name name.now ≡ true
 HasLevelName _ = Unit {0}
 
 -- a level that stays open has a name that none may have
 abbrev pub HasBadName : Arguments → Type 0
-HasBadName (Level config slots name) = is_level_name name.now ≡ false
+HasBadName (Level config slots name charge) = is_level_name name.now ≡ false
 HasBadName _ = ⊥
 
 -- the numbers and the name of an action are in their ranges, and its command is one of those that have its kind of arguments

@@ -148,7 +148,7 @@ fn with_workers<'a>(alloc: Global, command: Command<'a>) -> Result<Command<'a>, 
         ))
 }
 
-// A level that stays open: its settings, its slots and its name.
+// A level that stays open: its settings, its slots, its name and what its requests are charged.
 fn with_level<'a>(alloc: Global, command: Command<'a>) -> Result<Command<'a>, AllocError>
     ensures { IfOk result (AddsRules (rules_of of_kind.Level) command.entry) }
 {
@@ -167,6 +167,12 @@ fn with_level<'a>(alloc: Global, command: Command<'a>) -> Result<Command<'a>, Al
             "name",
             "NAME",
             "Name of the level in metrics, 1 to 253 of a-z, 0-9, . and -; level if left out",
+        ))?
+        .arg(option(
+            alloc,
+            "charge",
+            "BY",
+            "What a request is charged: time (the default), its seats times what its flow took so far, or seats",
         ))
 }
 

@@ -50,11 +50,12 @@ pub enum Arguments<'a> {
         rounds: u32,
     },
     /// A level that stays open for a server's whole life: the name of its configuration file, its 1 to 10,000 slots, of which
-    /// each request there has one, and its name in metrics.
+    /// each request there has one, its name in metrics, and the word that says what its requests are charged, if one is given.
     Level {
         config: &'a str,
         slots: u32,
         name: &'a str,
+        charge: Option<&'a str>,
     },
     /// The names of a configuration file and of a trace, and a patience for [`read_patience`](crate::read_patience).
     Simulation {
@@ -217,6 +218,7 @@ fn level_of<'a>(matches: &ArgMatches<'a>) -> Arguments<'a>
         config: text_of(matches, "CONFIG"),
         slots: u32_or(matches, "slots", 10_000),
         name: text_or(matches, "name", "level"),
+        charge: option_of(matches, "charge"),
     }
 }
 
@@ -357,7 +359,7 @@ fn judged<'a>(alloc: Global, action: Action<'a>) -> Result<Action<'a>, Error>
 /// Its texts and numbers are those that `clap` reads of the words. The second word names the command, and the command says
 /// of which kind its arguments are. `DECK` and `HAND` are whole decimal numbers of 32 bits, `HASH` is one of 64 bits,
 /// `WORKERS` is 1 to 64, `--rounds` 1 to 1,000,000 and 1 if absent, `--slots` 1 to 10,000 and 10,000 if absent. `--name` is
-/// 1 to 253 bytes of `a-z`, `0-9`, `.` and `-`, and `level` if absent. The other arguments are texts, `PATIENCE` too.
+/// 1 to 253 bytes of `a-z`, `0-9`, `.` and `-`, and `level` if absent. The other arguments are texts, `PATIENCE` and `--charge` too.
 ///
 /// # Errors
 ///

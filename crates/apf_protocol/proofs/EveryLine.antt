@@ -4,11 +4,12 @@ use Rattle.std.specs.Prelude.{nat_le, nat_lt, codes, decimal}
 use Rattle.std.proofs.lemmas.Bool.Decides.{nat_tests}
 use Rattle.apf_words.specs.Limits.{max_limit}
 use Rattle.apf_traces.specs.TraceFile.{max_bytes}
-use Rattle.apf_protocol.specs.Lines.{cut_of, alone, word_of, number_of, limit_of, object_text, arrival_of, behind_word, form_from, form_of, IsHeadInRange}
+use Rattle.apf_protocol.specs.Lines.{cut_of, alone, word_of, number_of, limit_of, object_text, arrival_of, behind_word, form_from, form_of, ending_of, most_ran, IsHeadInRange}
+use Rattle.apf_protocol.specs.Numerals.{told}
 use Rattle.apf_protocol.specs.Grammar.{line_of, IsObjectOf, IsEveryLineRead}
 use Rattle.apf_protocol.specs.declared.head.Head.{Head}
 use Rattle.apf_protocol.specs.declared.head.Head.TheVariants.{Arrive, Try, Finish, Cancel, Limit, Close, Book, Queues, Metrics}
-use Rattle.apf_protocol.proofs.Written.{read_back, digits, cut_digits}
+use Rattle.apf_protocol.proofs.Written.{read_back, digits, cut_digits, uncut_digits}
 
 below : (n m : ℕ) → n < m → nat_lt n m ≡ true
 below n m h = grind (arith, nat_tests)
@@ -47,9 +48,23 @@ try_read : (slots n : ℕ) (object : List ℕ) → slots < 2 ^ 32 → n < slots 
 unfolding behind_word
 try_read slots n object few one is = rw (arrival_read slots n object few one is) refl
 
-finish_read : (slots n : ℕ) → slots < 2 ^ 32 → n < slots → behind_word slots (codes "finish") (decimal n) ≡ Ok (alone (Finish n))
+ended_read : (slots n : ℕ) → slots < 2 ^ 32 → n < slots → ending_of slots (decimal n) ≡ Ok (Finish n None)
+unfolding ending_of
+ended_read slots n few one = rw (uncut_digits (decimal n) (digits n (omega (arith, few, one))), number_read slots n few one) refl
+
+timed_read : (slots n micros : ℕ) → slots < 2 ^ 32 → n < slots → micros ≤ most_ran → ending_of slots (decimal n ++ 32 ∷ decimal micros) ≡ Ok (Finish n (Some micros))
+unfolding ending_of
+timed_read slots n micros few one within =
+    let same : told micros ≡ micros = omega (arith, within) in
+    rw (cut_digits (decimal n) (decimal micros) (digits n (omega (arith, few, one))), read_back micros (omega (arith, within)), number_read slots n few one, same, at_most micros most_ran within) refl
+
+finish_read : (slots n : ℕ) → slots < 2 ^ 32 → n < slots → behind_word slots (codes "finish") (decimal n) ≡ Ok (alone (Finish n None))
 unfolding behind_word
-finish_read slots n few one = rw (number_read slots n few one) refl
+finish_read slots n few one = rw (ended_read slots n few one) refl
+
+finish_timed : (slots n micros : ℕ) → slots < 2 ^ 32 → n < slots → micros ≤ most_ran → behind_word slots (codes "finish") (decimal n ++ 32 ∷ decimal micros) ≡ Ok (alone (Finish n (Some micros)))
+unfolding behind_word
+finish_timed slots n micros few one within = rw (timed_read slots n micros few one within) refl
 
 cancel_read : (slots n : ℕ) → slots < 2 ^ 32 → n < slots → behind_word slots (codes "cancel") (decimal n) ≡ Ok (alone (Cancel n))
 unfolding behind_word
@@ -107,8 +122,11 @@ from_read slots (Arrive n) object few one is =
 from_read slots (Try n) object few one is =
     behind slots (line_of (Try n) object) (codes "try") (decimal n ++ 32 ∷ object) (cut_try (decimal n ++ 32 ∷ object))
     ∙ try_read slots n object few one is
-from_read slots (Finish n) object few one is =
-    rw is (behind slots (line_of (Finish n) []) (codes "finish") (decimal n) (cut_finish (decimal n)) ∙ finish_read slots n few one)
+from_read slots (Finish n None) object few one is =
+    rw is (behind slots (line_of (Finish n None) []) (codes "finish") (decimal n) (cut_finish (decimal n)) ∙ finish_read slots n few one.0)
+from_read slots (Finish n (Some micros)) object few one is =
+    rw is (behind slots (line_of (Finish n (Some micros)) []) (codes "finish") (decimal n ++ 32 ∷ decimal micros) (cut_finish (decimal n ++ 32 ∷ decimal micros))
+    ∙ finish_timed slots n micros few one.0 one.1)
 from_read slots (Cancel n) object few one is =
     rw is (behind slots (line_of (Cancel n) []) (codes "cancel") (decimal n) (cut_cancel (decimal n)) ∙ cancel_read slots n few one)
 from_read slots (Limit n) object few one is =

@@ -17,7 +17,7 @@ use Rattle.apf_protocol.specs.Objects.{asked_of, arrival_in}
 use Rattle.apf_protocol.specs.Shown.{IsValueShown, IsObjectShown, IsEveryFaultShown}
 use Rattle.apf_protocol.proofs.Braces.{IsObject, object_read}
 use Rattle.apf_protocol.specs.declared.fault.FaultKind.{FaultKind}
-use Rattle.apf_protocol.specs.declared.fault.FaultKind.TheVariants.{TooLong, BadLine, BadNumber, IsThere, IsNotThere, NoMemory, NotJson, UnknownKey, BadFlow, BadWidth, BadCost, BadLimit, UsedUp, Truncated}
+use Rattle.apf_protocol.specs.declared.fault.FaultKind.TheVariants.{TooLong, BadLine, BadNumber, IsThere, IsNotThere, NoMemory, NotJson, UnknownKey, BadFlow, BadWidth, BadCost, BadTime, BadLimit, UsedUp, Truncated}
 
 -- what the fault says of the value, which may be no object yet
 abbrev pub IsShownAs : Data → FaultKind → Type 0
@@ -46,9 +46,9 @@ value_shown d kind h =
     (λ e. at_step d flow BadFlow kind e (λ no. flow_told (get (codes "hash") d) (get (codes "schema") d) (get (codes "distinguisher") d) no)) (λ _ h2.
     stepped (or_fault BadWidth width) _ kind h2
     (λ e. at_step d width BadWidth kind e (λ no. number_by 1 max_width 1 (codes "width") d (get (codes "width") d) refl no)) (λ w h3.
-    let cost = number_or 1 max_cost w (get (codes "cost") d) in
+    let cost = number_or 1 max_cost 1 (get (codes "cost") d) in
     stepped (or_fault BadCost cost) _ kind h3
-    (λ e. at_step d cost BadCost kind e (λ no. number_by 1 max_cost w (codes "cost") d (get (codes "cost") d) refl no)) (λ _ h4. absurd cc))))
+    (λ e. at_step d cost BadCost kind e (λ no. number_by 1 max_cost 1 (codes "cost") d (get (codes "cost") d) refl no)) (λ _ h4. absurd cc))))
 
 no_object : {C : Type 0} (d : Data) → IsObject d → as_object d ≡ None → C
 no_object d some none = let is = some.1 in absurd cc
@@ -65,6 +65,7 @@ of_value object d UnknownKey is some shown = (d, is, shown)
 of_value object d BadFlow is some shown = (d, is, shown)
 of_value object d BadWidth is some shown = (d, is, shown)
 of_value object d BadCost is some shown = (d, is, shown)
+of_value object d BadTime is some shown = absurd shown
 of_value object d BadLimit is some shown = absurd shown
 of_value object d (UsedUp number) is some shown = absurd shown
 of_value object d Truncated is some shown = absurd shown

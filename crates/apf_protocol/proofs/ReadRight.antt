@@ -8,11 +8,12 @@ use Rattle.std.proofs.lemmas.Slice.Eq.{bytes_eq-Decides}
 use Rattle.apf_words.specs.Limits.{max_limit}
 use Rattle.apf_files.specs.FirstFault.{◌>>=◌, or_fault}
 use Rattle.apf_traces.specs.TraceFile.{max_bytes}
-use Rattle.apf_protocol.specs.Numerals.{numeral}
-use Rattle.apf_protocol.specs.Lines.{Words, Cut, cut_of, alone, word_of, one_of, number_of, one_limit, limit_of, object_text, arrival_of, behind_word, form_from, form_of, IsHeadInRange}
+use Rattle.apf_protocol.specs.Numerals.{numeral, told}
+use Rattle.apf_protocol.specs.Lines.{Words, Cut, cut_of, alone, word_of, one_of, number_of, one_limit, limit_of, object_text, arrival_of, time_of, most_ran, ending_by, ending_of, behind_word, form_from, form_of, IsHeadInRange}
 use Rattle.apf_protocol.specs.Grammar.{line_of, IsObjectOf, IsLineOf, IsReadRight}
 use Rattle.apf_protocol.specs.declared.fault.FaultKind.{FaultKind}
-use Rattle.apf_protocol.specs.declared.fault.FaultKind.TheVariants.{TooLong, BadLine, BadNumber, BadLimit}
+use Rattle.apf_protocol.specs.declared.fault.FaultKind.TheVariants.{TooLong, BadLine, BadNumber, BadTime, BadLimit}
+use Rattle.apf_protocol.specs.declared.head.Head.{Head}
 use Rattle.apf_protocol.specs.declared.head.Head.TheVariants.{Arrive, Try, Finish, Cancel, Limit, Close, Book, Queues, Metrics}
 use Rattle.apf_protocol.proofs.Written.{both, written, joined}
 
@@ -44,6 +45,27 @@ number_right slots ds n few h =
     let at = number_by slots m n (nat_lt m slots) refl next in
     let num : numeral ds ≡ Some n = rw (sym at.0) (there BadLine (numeral ds) m is) in
     (written ds n num (omega (arith, at.1, few)), at.1))
+
+time_by : (n m : ℕ) (b : Bool) → nat_le n most_ran ≡ b → (if b then Ok n else Err BadTime) ≡ Ok m → (n ≡ m) × (m ≤ most_ran)
+time_by n m true is h =
+    let eq : n ≡ m = cc in
+    let within : n ≤ most_ran = grind (arith, nat_tests) in
+    (eq, rw (sym eq) within)
+time_by n m false is h = absurd cc
+
+-- digits that say a number which 64 bits can say
+time_of_numeral : (ds : List ℕ) (n : ℕ) (o : Option ℕ) → numeral ds ≡ o → option_map told o ≡ Some n → n ≤ most_ran → (ds ≡ decimal n) × (n ≤ most_ran)
+time_of_numeral ds n None is h within = absurd cc
+time_of_numeral ds n (Some k) is h within =
+    let same : told k ≡ n = cc in
+    let exact : k ≡ n = omega (arith, same, within) in
+    (written ds n (is ∙ ap (λ (i : ℕ). Some i) exact) (omega (arith, within)), within)
+
+-- a time that is read back is what the digits say
+time_right : (ds : List ℕ) (ran n : ℕ) → option_map told (numeral ds) ≡ Some ran → time_of ran ≡ Ok n → (ds ≡ decimal n) × (n ≤ most_ran)
+time_right ds ran n is h =
+    let at = time_by ran n (nat_le ran most_ran) refl h in
+    time_of_numeral ds n (numeral ds) refl (is ∙ ap (λ (k : ℕ). Some k) at.0) at.1
 
 limit_by : (n m : ℕ) (b : Bool) → (nat_le 1 n && nat_le n max_limit) ≡ b → (if b then Ok n else Err BadLimit) ≡ Ok m
     → (n ≡ m) × (1 ≤ m) × (m ≤ max_limit)
@@ -92,6 +114,30 @@ arrival_right slots bytes a few h =
     (whole ∙ rw (at.0, rest) refl, at.1, rw rest at text) in
     subst (λ (p : ℕ × List ℕ). IsArrival slots bytes p) pair good)))
 
+-- ---- ends
+
+head_by : (slots : ℕ) (bytes : List ℕ) (head made : Head) → Ok {T = Head} {E = FaultKind} made ≡ Ok head
+    → (codes "finish " ++ bytes ≡ line_of made []) × IsHeadInRange slots made × IsObjectOf made []
+    → (codes "finish " ++ bytes ≡ line_of head []) × IsHeadInRange slots head × IsObjectOf head []
+head_by slots bytes head made h of =
+    let is : made ≡ head = cc in
+    subst (λ (x : Head). (codes "finish " ++ bytes ≡ line_of x []) × IsHeadInRange slots x × IsObjectOf x []) is of
+
+ending_by_right : (slots : ℕ) (bytes : List ℕ) (o : Option Cut) (head : Head) → slots < 2 ^ 32 → cut_of bytes ≡ o → ending_by slots bytes o ≡ Ok head
+    → (codes "finish " ++ bytes ≡ line_of head []) × IsHeadInRange slots head × IsObjectOf head []
+ending_by_right slots bytes None head few is h =
+    went_on (number_of slots bytes) _ head h (λ n is_n next.
+    let good = number_right slots bytes n few is_n in
+    head_by slots bytes head (Finish n None) next (rw good.0 refl, (good.1, tt), refl))
+ending_by_right slots bytes (Some cut) head few is h =
+    went_on (or_fault BadLine (option_map told (numeral cut.rest))) _ head h (λ ran is_ran h1.
+    went_on (number_of slots cut.front) _ head h1 (λ n is_n h2.
+    went_on (time_of ran) _ head h2 (λ micros is_micros next.
+    let at = number_right slots cut.front n few is_n in
+    let time = time_right cut.rest ran micros (there BadLine (option_map told (numeral cut.rest)) ran is_ran) is_micros in
+    let whole = joined bytes cut is in
+    head_by slots bytes head (Finish n (Some micros)) next (rw (whole, at.0, time.0) refl, (at.1, time.1), refl))))
+
 -- ---- words
 
 -- what is to be shown of the words that a line is read as, but for its length
@@ -106,6 +152,11 @@ words_by : (slots : ℕ) (line : List ℕ) (words made : Words) → read_as made
 words_by slots line words made h of =
     let is : made ≡ words = cc in
     subst (λ (w : Words). IsOf slots line w) is of
+
+ending_right : (slots : ℕ) (word bytes : List ℕ) (head : Head) → slots < 2 ^ 32 → word ≡ codes "finish" → ending_of slots bytes ≡ Ok head
+    → IsOf slots (word ++ 32 ∷ bytes) (alone head)
+unfolding ending_of
+ending_right slots word bytes head few is h = rw is (ending_by_right slots bytes (cut_of bytes) head few refl h)
 
 word_by : (slots : ℕ) (line : List ℕ) (words : Words) (b1 b2 b3 b4 : Bool) → bytes_eq line (codes "close") ≡ b1 → bytes_eq line (codes "book") ≡ b2
     → bytes_eq line (codes "queues") ≡ b3 → bytes_eq line (codes "metrics") ≡ b4
@@ -144,11 +195,10 @@ try_right slots word rest words few is h =
     words_by slots (word ++ 32 ∷ rest) words (record { head = Try a.0; object = a.1 }) next (rw (is, good.0) refl, good.1, good.2))
 
 finish_right : (slots : ℕ) (word rest : List ℕ) (words : Words) → slots < 2 ^ 32 → word ≡ codes "finish"
-    → number_of slots rest >>= (λ n. Ok (alone (Finish n))) ≡ Ok words → IsOf slots (word ++ 32 ∷ rest) words
+    → ending_of slots rest >>= (λ head. Ok (alone head)) ≡ Ok words → IsOf slots (word ++ 32 ∷ rest) words
 finish_right slots word rest words few is h =
-    went_on (number_of slots rest) _ words h (λ n is_n next.
-    let good = number_right slots rest n few is_n in
-    words_by slots (word ++ 32 ∷ rest) words (alone (Finish n)) next (rw (is, good.0) refl, good.1, refl))
+    went_on (ending_of slots rest) _ words h (λ head is_head next.
+    words_by slots (word ++ 32 ∷ rest) words (alone head) next (ending_right slots word rest head few is is_head))
 
 cancel_right : (slots : ℕ) (word rest : List ℕ) (words : Words) → slots < 2 ^ 32 → word ≡ codes "cancel"
     → number_of slots rest >>= (λ n. Ok (alone (Cancel n))) ≡ Ok words → IsOf slots (word ++ 32 ∷ rest) words
@@ -169,7 +219,7 @@ behind_by : (slots : ℕ) (word rest : List ℕ) (words : Words) (b1 b2 b3 b4 b5
     → bytes_eq word (codes "cancel") ≡ b4 → bytes_eq word (codes "limit") ≡ b5
     → (if b1 then arrival_of slots rest >>= arrives
     else (if b2 then arrival_of slots rest >>= tries
-    else (if b3 then number_of slots rest >>= (λ n. Ok (alone (Finish n)))
+    else (if b3 then ending_of slots rest >>= (λ head. Ok (alone head))
     else (if b4 then number_of slots rest >>= (λ n. Ok (alone (Cancel n)))
     else (if b5 then limit_of rest >>= (λ n. Ok (alone (Limit n))) else Err BadLine))))) ≡ Ok words
     → IsOf slots (word ++ 32 ∷ rest) words

@@ -78,6 +78,13 @@ cut_digits (d ∷ ds) rest h =
     let parts = both (is_digit d) (list_all is_digit ds) h in
     rw (no_blank d parts.0, cut_digits ds rest parts.1) refl
 
+-- digits alone
+pub uncut_digits : (ds : List ℕ) → list_all is_digit ds ≡ true → cut_of ds ≡ None
+uncut_digits [] h = refl
+uncut_digits (d ∷ ds) h =
+    let parts = both (is_digit d) (list_all is_digit ds) h in
+    rw (no_blank d parts.0, uncut_digits ds parts.1) refl
+
 joined_by : (b : ℕ) (bs : List ℕ) (cut : Cut) (e : Bool) (o : Option Cut) → nat_eq b 32 ≡ e
     → ((c : Cut) → o ≡ Some c → bs ≡ c.front ++ 32 ∷ c.rest)
     → (if e then Some (record { front = []; rest = bs }) else option_map (longer b) o) ≡ Some cut → b ∷ bs ≡ cut.front ++ 32 ∷ cut.rest

@@ -2,7 +2,7 @@
 use Rattle.std.specs.Prelude.{ℕ, ◌<◌, ◌≤◌, ⊤, List, Result, Ok}
 use Rattle.apf_words.specs.Limits.{max_limit}
 use Rattle.apf_files.specs.FirstFault.{◌>>=◌}
-use Rattle.apf_protocol.specs.Lines.{IsHeadInRange}
+use Rattle.apf_protocol.specs.Lines.{IsHeadInRange, IsTimeInRange}
 use Rattle.apf_protocol.specs.Objects.{arrival_in, IsArrivalInRange}
 use Rattle.apf_protocol.specs.declared.command.Command.{Command}
 use Rattle.apf_protocol.specs.declared.command.Command.TheVariants as commands
@@ -14,7 +14,7 @@ use Rattle.apf_protocol.specs.declared.head.Head.TheVariants.{Arrive, Try, Finis
 unfoldable pub command_from : Head → List ℕ → Result Command FaultKind
 command_from (Arrive n) object = arrival_in object >>= (λ a. Ok (commands.Arrive n a))
 command_from (Try n) object = arrival_in object >>= (λ a. Ok (commands.Try n a))
-command_from (Finish n) object = Ok (commands.Finish n)
+command_from (Finish n ran) object = Ok (commands.Finish n ran)
 command_from (Cancel n) object = Ok (commands.Cancel n)
 command_from (Limit n) object = Ok (commands.Limit n)
 command_from Close object = Ok commands.Close
@@ -32,7 +32,7 @@ HasObject head = ⊥
 abbrev pub IsCommandInRange : ℕ → Command → Type 0
 IsCommandInRange slots (commands.Arrive n arrival) = (n < slots) × IsArrivalInRange arrival
 IsCommandInRange slots (commands.Try n arrival) = (n < slots) × IsArrivalInRange arrival
-IsCommandInRange slots (commands.Finish n) = n < slots
+IsCommandInRange slots (commands.Finish n ran) = (n < slots) × IsTimeInRange ran
 IsCommandInRange slots (commands.Cancel n) = n < slots
 IsCommandInRange slots (commands.Limit n) = (1 ≤ n) × (n ≤ max_limit)
 IsCommandInRange slots command = ⊤

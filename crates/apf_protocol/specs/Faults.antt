@@ -13,7 +13,7 @@ use Rattle.apf_explain.specs.Lines.{place_text, unwanted_text, unknown_text, bad
 use Rattle.apf_explain.specs.Reasons.{IsSaid, line_mark_text}
 use Rattle.apf_explain.specs.TraceLines.{column_text}
 use Rattle.apf_protocol.specs.declared.fault.FaultKind.{FaultKind}
-use Rattle.apf_protocol.specs.declared.fault.FaultKind.TheVariants.{TooLong, BadLine, BadNumber, IsThere, IsNotThere, NoMemory, NotJson, UnknownKey, BadFlow, BadWidth, BadCost, BadLimit, UsedUp, Truncated}
+use Rattle.apf_protocol.specs.declared.fault.FaultKind.TheVariants.{TooLong, BadLine, BadNumber, IsThere, IsNotThere, NoMemory, NotJson, UnknownKey, BadFlow, BadWidth, BadCost, BadTime, BadLimit, UsedUp, Truncated}
 use Rattle.apf_protocol.specs.declared.fault.Found.{Found}
 use Rattle.apf_protocol.specs.declared.fault.Found.TheVariants.{Nothing, Column, Object}
 
@@ -30,6 +30,7 @@ kind_text UnknownKey = codes "a key is unknown"
 kind_text BadFlow = codes "the flow is bad"
 kind_text BadWidth = codes "the width is bad"
 kind_text BadCost = codes "the cost is bad"
+kind_text BadTime = codes "bad time"
 kind_text BadLimit = codes "bad limit"
 kind_text (UsedUp number) = decimal number ++ codes " is used up"
 kind_text Truncated = codes "truncated"

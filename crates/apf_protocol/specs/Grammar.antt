@@ -1,5 +1,5 @@
 -- The lines of the protocol, as they are written.
-use Rattle.std.specs.Prelude.{◌≡◌, ℕ, ◌^◌, ◌<◌, ◌≤◌, List, [], ◌++◌, length, Some, Ok, codes, decimal}
+use Rattle.std.specs.Prelude.{◌≡◌, ℕ, ◌^◌, ◌<◌, ◌≤◌, List, [], ◌++◌, length, Some, None, Ok, codes, decimal}
 use Rattle.apf_traces.specs.TraceFile.{max_bytes}
 use Rattle.apf_protocol.specs.Lines.{Words, form_of, object_text, IsHeadInRange}
 use Rattle.apf_protocol.specs.declared.head.Head.{Head}
@@ -9,7 +9,8 @@ use Rattle.apf_protocol.specs.declared.head.Head.TheVariants.{Arrive, Try, Finis
 abbrev pub line_of : Head → List ℕ → List ℕ
 line_of (Arrive n) object = codes "arrive " ++ (decimal n ++ (codes " " ++ object))
 line_of (Try n) object = codes "try " ++ (decimal n ++ (codes " " ++ object))
-line_of (Finish n) object = codes "finish " ++ decimal n
+line_of (Finish n None) object = codes "finish " ++ decimal n
+line_of (Finish n (Some micros)) object = codes "finish " ++ (decimal n ++ (codes " " ++ decimal micros))
 line_of (Cancel n) object = codes "cancel " ++ decimal n
 line_of (Limit n) object = codes "limit " ++ decimal n
 line_of Close object = codes "close"

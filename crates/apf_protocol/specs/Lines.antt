@@ -5,9 +5,9 @@ use Rattle.std.specs.Str.{is_utf8}
 use Rattle.apf_words.specs.Limits.{max_limit}
 use Rattle.apf_files.specs.FirstFault.{◌>>=◌, or_fault}
 use Rattle.apf_traces.specs.TraceFile.{max_bytes}
-use Rattle.apf_protocol.specs.Numerals.{numeral}
+use Rattle.apf_protocol.specs.Numerals.{numeral, told}
 use Rattle.apf_protocol.specs.declared.fault.FaultKind.{FaultKind}
-use Rattle.apf_protocol.specs.declared.fault.FaultKind.TheVariants.{TooLong, BadLine, BadNumber, IsThere, IsNotThere, BadLimit}
+use Rattle.apf_protocol.specs.declared.fault.FaultKind.TheVariants.{TooLong, BadLine, BadNumber, IsThere, IsNotThere, BadTime, BadLimit}
 use Rattle.apf_protocol.specs.declared.form.Form.{Form}
 use Rattle.apf_protocol.specs.declared.head.Head.{Head}
 use Rattle.apf_protocol.specs.declared.head.Head.TheVariants.{Arrive, Try, Finish, Cancel, Limit, Close, Book, Queues, Metrics}
@@ -63,6 +63,30 @@ one_limit n = if nat_le 1 n && nat_le n max_limit then Ok n else Err BadLimit
 unfoldable pub limit_of : List ℕ → Result ℕ FaultKind
 limit_of digits = or_fault BadLine (numeral digits) >>= one_limit
 
+-- the longest that a request is said to have run, in microseconds
+abbrev pub most_ran : ℕ
+most_ran = 1000000000000
+
+-- a time, if a request may have run so long
+abbrev pub time_of : ℕ → Result ℕ FaultKind
+time_of n = if nat_le n most_ran then Ok n else Err BadTime
+
+-- a number, and how long its request ran, in bytes that are cut so
+abbrev pub ended_at : ℕ → Cut → Result Head FaultKind
+ended_at slots cut = do
+  ran ← or_fault BadLine (option_map told (numeral cut.rest))
+  number ← number_of slots cut.front
+  micros ← time_of ran
+  Ok (Finish number (Some micros))
+
+-- the number of a request that ends, alone or with a blank and how long it ran
+abbrev pub ending_by : ℕ → List ℕ → Option Cut → Result Head FaultKind
+ending_by slots bytes None = number_of slots bytes >>= (λ n. Ok (Finish n None))
+ending_by slots bytes (Some cut) = ended_at slots cut
+
+unfoldable pub ending_of : ℕ → List ℕ → Result Head FaultKind
+ending_of slots bytes = ending_by slots bytes (cut_of bytes)
+
 -- the text of an object: UTF-8 that begins with a brace, 123
 unfoldable pub object_text : List ℕ → Option (List ℕ)
 object_text bytes = if starts_with nat_eq bytes (123 ∷ []) && is_utf8 bytes then Some bytes else None
@@ -80,7 +104,7 @@ unfoldable pub behind_word : ℕ → (word rest : List ℕ) → Result Words Fau
 behind_word slots word rest =
     if bytes_eq word (codes "arrive") then arrival_of slots rest >>= (λ a. Ok (record { head = Arrive a.0; object = a.1 }))
     else (if bytes_eq word (codes "try") then arrival_of slots rest >>= (λ a. Ok (record { head = Try a.0; object = a.1 }))
-    else (if bytes_eq word (codes "finish") then number_of slots rest >>= (λ n. Ok (alone (Finish n)))
+    else (if bytes_eq word (codes "finish") then ending_of slots rest >>= (λ head. Ok (alone head))
     else (if bytes_eq word (codes "cancel") then number_of slots rest >>= (λ n. Ok (alone (Cancel n)))
     else (if bytes_eq word (codes "limit") then limit_of rest >>= (λ n. Ok (alone (Limit n))) else Err BadLine))))
 
@@ -97,7 +121,7 @@ form_of slots line = if nat_le (length line) max_bytes then form_from slots line
 abbrev pub request_in : Head → Option ℕ
 request_in (Arrive n) = Some n
 request_in (Try n) = Some n
-request_in (Finish n) = Some n
+request_in (Finish n ran) = Some n
 request_in (Cancel n) = Some n
 request_in head = None
 
@@ -105,15 +129,20 @@ request_in head = None
 abbrev pub there_fault : Bool → Head → Option FaultKind
 there_fault there (Arrive n) = if there then Some (IsThere n) else None
 there_fault there (Try n) = if there then Some (IsThere n) else None
-there_fault there (Finish n) = if there then None else Some (IsNotThere n)
+there_fault there (Finish n ran) = if there then None else Some (IsNotThere n)
 there_fault there (Cancel n) = if there then None else Some (IsNotThere n)
 there_fault there head = None
+
+-- a time is one that a request may have run
+abbrev pub IsTimeInRange : Option ℕ → Type 0
+IsTimeInRange None = ⊤
+IsTimeInRange (Some micros) = micros ≤ most_ran
 
 -- the number of a request is below slots, and a limit is one that a level may have
 abbrev pub IsHeadInRange : ℕ → Head → Type 0
 IsHeadInRange slots (Arrive n) = n < slots
 IsHeadInRange slots (Try n) = n < slots
-IsHeadInRange slots (Finish n) = n < slots
+IsHeadInRange slots (Finish n ran) = (n < slots) × IsTimeInRange ran
 IsHeadInRange slots (Cancel n) = n < slots
 IsHeadInRange slots (Limit n) = (1 ≤ n) × (n ≤ max_limit)
 IsHeadInRange slots head = ⊤

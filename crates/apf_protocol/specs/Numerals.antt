@@ -13,6 +13,6 @@ is_numeral digits =
 unfoldable pub numeral : List ℕ → Option ℕ
 numeral digits = if is_numeral digits then Some (decimal digits) else None
 
--- a number, as far as 32 bits can say it
+-- a number, as far as 64 bits can say it
 abbrev pub told : ℕ → ℕ
-told n = min n (2 ^ 32 - 1)
+told n = min n (2 ^ 64 - 1)

@@ -1,5 +1,5 @@
 -- What an arrival's object says.
-use Rattle.std.specs.Prelude.{ℕ, ◌≤◌, List, Result, Ok, codes}
+use Rattle.std.specs.Prelude.{ℕ, ◌≤◌, List, Option, option_map, IfSome, Result, Ok, codes}
 use Rattle.serde_json.specs.Data.{Data}
 use Rattle.serde_json.specs.Find.{get, as_object}
 use Rattle.serde_json.specs.Read.{read}
@@ -18,8 +18,8 @@ asked_of d = do
   known ← known_object is_arrival_key NotJson UnknownKey (as_object d)
   hash ← or_fault BadFlow (flow_of (get (codes "hash") d) (get (codes "schema") d) (get (codes "distinguisher") d))
   width ← or_fault BadWidth (number_or 1 max_width 1 (get (codes "width") d))
-  cost ← or_fault BadCost (number_or 1 max_cost width (get (codes "cost") d))
-  Ok (record { ask = record { width = width; hash = hash }; cost = cost })
+  cost ← or_fault BadCost (number_or 1 max_cost 1 (get (codes "cost") d))
+  Ok (record { ask = record { width = width; hash = hash }; cost = option_map (λ given. cost) (get (codes "cost") d) })
 
 -- what the text of an object asks, or its first fault
 unfoldable pub arrival_in : List ℕ → Result Arrival FaultKind
@@ -28,4 +28,4 @@ arrival_in object = or_fault NotJson (read object) >>= asked_of
 -- each number is in its range
 abbrev pub IsArrivalInRange : Arrival → Type 0
 IsArrivalInRange arrival =
-    (1 ≤ arrival.ask.width) × (arrival.ask.width ≤ max_width) × (1 ≤ arrival.cost) × (arrival.cost ≤ max_cost)
+    (1 ≤ arrival.ask.width) × (arrival.ask.width ≤ max_width) × IfSome arrival.cost (λ cost. (1 ≤ cost) × (cost ≤ max_cost))

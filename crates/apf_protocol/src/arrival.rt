@@ -22,8 +22,8 @@ const DEFAULT_WIDTH: u32 = 1;
 pub struct Arrival {
     /// Its seats and the hash of its flow: given itself, or the `flow_hash` of its two names. The width is 1 if absent.
     pub ask: Ask,
-    /// What its dispatch is charged, 1 to 4,294,967,295; the width if absent.
-    pub cost: u32,
+    /// What its dispatch is charged, 1 to 4,294,967,295, where that is said.
+    pub cost: Option<u32>,
 }
 
 fn has_arrival_keys(members: &Map<String, Value>) -> bool
@@ -46,8 +46,9 @@ fn asked(value: &Value) -> Result<Arrival, FaultKind>
     }
     let hash = flow_of(value).ok_or(FaultKind::BadFlow)?;
     let width = number_or(value, "width", 1, MAX_WIDTH, DEFAULT_WIDTH).ok_or(FaultKind::BadWidth)?;
-    let cost = number_or(value, "cost", 1, MAX_COST, width).ok_or(FaultKind::BadCost)?;
+    let cost = number_or(value, "cost", 1, MAX_COST, 1).ok_or(FaultKind::BadCost)?;
     let ask = Ask { width, hash };
+    let cost = value.get("cost").map(|_given| cost);
     Ok(Arrival { ask, cost })
 }
 

@@ -16,8 +16,9 @@ use std::error::Error;
 use std::io::Write;
 use std::{fmt, io};
 
-/// Why a line is no command, in the order in which a line is judged, but for the last three: `BadLimit` is of lines that
-/// have no other fault behind `BadLine`, `UsedUp` is found by the level, and `Truncated` is of bytes that no LF ends.
+/// Why a line is no command, in the order in which a line is judged, but for the last four: `BadTime` comes behind `BadNumber`,
+/// `BadLimit` is of lines that have no other fault behind `BadLine`, `UsedUp` is found by the level, and `Truncated` is of bytes
+/// that no LF ends.
 #[derive(Clone, Copy, Debug, PartialEq, Eq)]
 pub enum FaultKind {
     /// The line has more than 65,536 bytes. Its LF does not count.
@@ -42,6 +43,8 @@ pub enum FaultKind {
     BadWidth,
     /// `cost` is not a whole number from 1 to 4,294,967,295.
     BadCost,
+    /// The time that a request is said to have run is above 10^12 microseconds.
+    BadTime,
     /// The limit is outside 1 to 10,000.
     BadLimit,
     /// The number was given to as many requests as it can be, 2^46, and none of them is there.
@@ -69,6 +72,7 @@ impl fmt::Display for FaultKind {
             FaultKind::BadFlow => f.write_str("the flow is bad"),
             FaultKind::BadWidth => f.write_str("the width is bad"),
             FaultKind::BadCost => f.write_str("the cost is bad"),
+            FaultKind::BadTime => f.write_str("bad time"),
             FaultKind::BadLimit => f.write_str("bad limit"),
             FaultKind::UsedUp(number) => write!(f, "{number} is used up"),
             FaultKind::Truncated => f.write_str("truncated"),

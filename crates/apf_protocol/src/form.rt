@@ -2,7 +2,7 @@
 
 ghost use Rattle.std.specs.Prelude.{◌≡◌, ℕ, ◌<◌, ◌≤◌, IfOk, IfErr, IfSome, Ok, Err, option_map};
 ghost use Rattle.apf_words.specs.Limits.{max_limit};
-ghost use Rattle.apf_protocol.specs.Lines.{form_of, behind_word as behind_word_of, word_of, number_of, limit_of, object_text as object_text_of, arrival_of, alone as alone_words, words, IsHeadInRange};
+ghost use Rattle.apf_protocol.specs.Lines.{form_of, behind_word as behind_word_of, word_of, number_of, limit_of, time_of, most_ran, ending_of, object_text as object_text_of, arrival_of, alone as alone_words, words, IsHeadInRange};
 
 use crate::cut::cut_at_blank;
 use crate::fault::FaultKind;
@@ -10,6 +10,9 @@ use crate::head::Head;
 use crate::numeral::numeral;
 use apf_traces::MAX_BYTES;
 use apf_words::MAX_LIMIT;
+
+/// The longest that a request is said to have run, in microseconds.
+pub const MOST_RAN: u64 = 1_000_000_000_000;
 
 /// The words of a line, and the text of its object.
 #[derive(Clone, Copy, Debug)]
@@ -48,7 +51,7 @@ fn number(digits: &[u8], slots: u32) -> Result<u32, FaultKind>
     ensures below { IfOk result (λ n. n < slots) }
 {
     match numeral(digits) {
-        Some(number) if number < slots => Ok(number),
+        Some(number) if number < u64::from(slots) => Ok(number as u32),
         Some(_) => Err(FaultKind::BadNumber),
         None => Err(FaultKind::BadLine),
     }
@@ -61,9 +64,37 @@ fn limit(digits: &[u8]) -> Result<u32, FaultKind>
     ensures within { IfOk result (λ n. (1 ≤ n) × (n ≤ max_limit)) }
 {
     match numeral(digits) {
-        Some(limit) if 1 <= limit && limit <= MAX_LIMIT => Ok(limit),
+        Some(limit) if 1 <= limit && limit <= u64::from(MAX_LIMIT) => Ok(limit as u32),
         Some(_) => Err(FaultKind::BadLimit),
         None => Err(FaultKind::BadLine),
+    }
+}
+
+// How long a request ran, where digits say that at all.
+fn time(micros: u64) -> Result<u64, FaultKind>
+    ensures value { result ≡ time_of micros }
+    ensures within { IfOk result (λ n. n ≤ most_ran) }
+{
+    if micros <= MOST_RAN {
+        Ok(micros)
+    } else {
+        Err(FaultKind::BadTime)
+    }
+}
+
+// The number of a request that ends, and how long it ran where a blank and digits say that.
+#[tactic(auto, unfolding(crate::specs::Lines::ending_of))]
+fn ending(bytes: &[u8], slots: u32) -> Result<Head, FaultKind>
+    ensures value { result ≡ ending_of slots bytes.now }
+    ensures ranges { IfOk result (λ head. IsHeadInRange slots head) }
+{
+    match cut_at_blank(bytes) {
+        None => Ok(Head::Finish(number(bytes, slots)?, None)),
+        Some(cut) => {
+            let ran = numeral(cut.rest).ok_or(FaultKind::BadLine)?;
+            let number = number(cut.front, slots)?;
+            Ok(Head::Finish(number, Some(time(ran)?)))
+        }
     }
 }
 
@@ -121,7 +152,7 @@ fn behind_word<'a>(word: &[u8], rest: &'a [u8], slots: u32) -> Result<Form<'a>, 
         });
     }
     if word == b"finish".as_slice() {
-        return Ok(alone(Head::Finish(number(rest, slots)?)));
+        return Ok(alone(ending(rest, slots)?));
     }
     if word == b"cancel".as_slice() {
         return Ok(alone(Head::Cancel(number(rest, slots)?)));
@@ -134,14 +165,14 @@ fn behind_word<'a>(word: &[u8], rest: &'a [u8], slots: u32) -> Result<Form<'a>, 
 
 /// Reads the words of a line, whose bytes come without its LF, on a level with so many slots.
 ///
-/// A line is `arrive N OBJECT`, `try N OBJECT`, `finish N`, `cancel N`, `limit L`, `close`, `book`, `queues` or
-/// `metrics`, with one blank between its words and nothing else. N and L are decimal digits with no zero before another.
+/// A line is `arrive N OBJECT`, `try N OBJECT`, `finish N`, `finish N T`, `cancel N`, `limit L`, `close`, `book`, `queues` or
+/// `metrics`, with one blank between its words and nothing else. N, T and L are decimal digits with no zero before another.
 /// An object begins with a brace and is UTF-8; what else it says is not asked here.
 ///
 /// # Errors
 ///
-/// The first of `TooLong`, over 65,536 bytes; `BadLine`, none of these forms; `BadNumber`, N is `slots` or more; and
-/// `BadLimit`, L is outside 1 to 10,000.
+/// The first of `TooLong`, over 65,536 bytes; `BadLine`, none of these forms; `BadNumber`, N is `slots` or more;
+/// `BadTime`, T is above 10^12; and `BadLimit`, L is outside 1 to 10,000.
 #[tactic(auto, unfolding(crate::specs::Lines::form_of))]
 pub fn read_form(line: &[u8], slots: u32) -> Result<Form<'_>, FaultKind>
     ensures ok { IfOk result (λ form. form_of slots line.now ≡ Ok (words form)) }

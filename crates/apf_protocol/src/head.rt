@@ -12,8 +12,8 @@ pub enum Head {
     Arrive(u32),
     /// The same, but it never waits.
     Try(u32),
-    /// The request of this number gives its seats back.
-    Finish(u32),
+    /// The request of this number gives its seats back. It ran this many microseconds, where that is said: at most 10^12.
+    Finish(u32, Option<u64>),
     /// The request of this number is cancelled.
     Cancel(u32),
     /// The level's limit becomes this one, 1 to 10,000 seats.
@@ -36,7 +36,7 @@ impl Head {
     {
         match self {
             Head::Arrive(number) | Head::Try(number) if there => Some(FaultKind::IsThere(number)),
-            Head::Finish(number) | Head::Cancel(number) if !there => {
+            Head::Finish(number, _) | Head::Cancel(number) if !there => {
                 Some(FaultKind::IsNotThere(number))
             }
             _ => None,
@@ -50,7 +50,7 @@ impl Head {
         match self {
             Head::Arrive(number)
             | Head::Try(number)
-            | Head::Finish(number)
+            | Head::Finish(number, _)
             | Head::Cancel(number) => { Some(number) }
             Head::Limit(_) | Head::Close | Head::Book | Head::Queues | Head::Metrics => None,
         }

@@ -25,7 +25,7 @@ pub use answer::{Answer, Arrived, FirstLine, Given, Tried};
 pub use arrival::Arrival;
 pub use command::{Command, read_command};
 pub use fault::{FaultKind, Found, LineFault};
-pub use form::{Form, read_form};
+pub use form::{Form, MOST_RAN, read_form};
 pub use head::Head;
 pub use laws::{
     every_arrival_fault_is_shown, every_form_is_its_line, every_line_of_a_form_is_read,

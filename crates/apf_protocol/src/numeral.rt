@@ -18,24 +18,24 @@ fn is_numeral(bytes: &[u8]) -> bool
     !bytes.is_empty() && are_digits(bytes) && (bytes.len() == 1 || bytes[0] != b'0')
 }
 
-// The number, or the largest of 32 bits where it is larger.
-fn value(numeral: &[u8]) -> u32
+// The number, or the largest of 64 bits where it is larger.
+fn value(numeral: &[u8]) -> u64
     requires { is_numeral_of numeral.now ≡ true }
     ensures { result ≡ told (decimal numeral.now) }
 {
-    let mut number: u32 = 0;
+    let mut number: u64 = 0;
     for digit in numeral {
         number = number
             .saturating_mul(10)
-            .saturating_add(u32::from(*digit - b'0'));
+            .saturating_add(u64::from(*digit - b'0'));
     }
     number
 }
 
-/// The number that decimal digits say, or the largest of 32 bits where it is larger. None where something else stands
+/// The number that decimal digits say, or the largest of 64 bits where it is larger. None where something else stands
 /// there, or a zero before another digit.
 #[tactic(auto, unfolding(crate::specs::Numerals::numeral))]
-pub(crate) fn numeral(bytes: &[u8]) -> Option<u32>
+pub(crate) fn numeral(bytes: &[u8]) -> Option<u64>
     ensures { result ≡ option_map told (numeral_of bytes.now) }
 {
     if is_numeral(bytes) {

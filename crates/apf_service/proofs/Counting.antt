@@ -30,7 +30,7 @@ use Rattle.apf_protocol.specs.declared.command.Command.TheVariants as commands
 use Rattle.apf_service.specs.declared.replies.Refusal.{Refusal}
 use Rattle.apf_service.specs.declared.tally.Tally.{Tally}
 use Rattle.apf_service.specs.Tallies.{arrived_in, started, queued, ended, left, finished, after_arrival, after_poll, after_finish, waits_in, IsTallyOf}
-use Rattle.apf_service.specs.Kept.{State, slot_in, width_in, Leaves, Follows, FollowsAll, with_event}
+use Rattle.apf_service.specs.Kept.{State, slot_in, width_in, Leaves, Follows, FollowsAll, charged_by, with_event}
 use Rattle.apf_service.specs.Replies.{told_of_arrival, told_of_attempt, told_of_finish, told_of_cancel, told_of_close}
 use Rattle.apf_service.specs.Turns.{Turns, ArrivesAt, TriesAt, FinishesAt, OperatorDoes}
 use Rattle.apf_service.specs.Counted.{came_by}
@@ -263,7 +263,7 @@ try_inside n a old reply new kept at (inl inside) =
     (slot_grows old n at.token (after_arrival (width_in at.token) at.answer old.tally) (came_by (told_of_attempt n at.answer)) kept inside
     (attempt_adds a.ask.width n (slot_in old n) at.token at.answer old.tally (width_in at.token) at.tries)))
 
-finish_inside : (n : ℕ) (old : State) (reply : Result Told Refusal) (new : State) → old.tally.waiting ≡ sum_by waits_in old.slots → FinishesAt n old reply new
+finish_inside : (n : ℕ) (ran : Option ℕ) (old : State) (reply : Result Told Refusal) (new : State) → old.tally.waiting ≡ sum_by waits_in old.slots → FinishesAt n old reply new
     → (n < length old.slots) ⊎ (length old.slots ≤ n) → Grows old new 0
 finish_inside n old reply new kept at (inl inside) =
     subst (λ (s : State). Grows old s 0) (sym at.after)
@@ -293,7 +293,7 @@ counts_as old new n reply is grows = subst (λ (m : ℕ). Grows old new m) (sym 
 turn_grows : (k : LifeId) (command : Command) (old : State) (reply : Result Told Refusal) (new : State) → old.tally.waiting ≡ sum_by waits_in old.slots → Turns k command old reply new → Grows old new (came_by reply)
 turn_grows k (commands.Arrive n a) old reply new kept turns = arrive_inside k n a old reply new kept turns (inside_or n old.slots)
 turn_grows k (commands.Try n a) old reply new kept turns = try_inside n a old reply new kept turns (inside_or n old.slots)
-turn_grows k (commands.Finish n) old reply new kept turns = counts_as old new 0 reply (ap came_by turns.told ∙ finish_told n turns.answer) (finish_inside n old reply new kept turns (inside_or n old.slots))
+turn_grows k (commands.Finish n ran) old reply new kept turns = counts_as old new 0 reply (ap came_by turns.told ∙ finish_told n turns.answer) (finish_inside n old reply new kept turns (inside_or n old.slots))
 turn_grows k (commands.Cancel n) old reply new kept turns =
     counts_as old new 0 reply (ap came_by turns.told ∙ cancel_told n turns.answer) (operator_grows (λ s s'. TriesToCancel s.station (number_in (slot_in old n)) turns.answer s'.station) old new kept turns.does)
 turn_grows k (commands.Limit limit) old reply new kept turns = counts_as old new 0 reply (ap came_by turns.told) (operator_grows (λ s s'. LastSet s.station limit turns.was s'.station) old new kept turns.does)
@@ -315,10 +315,10 @@ follow_grows : (event : LifeEvent) (old new : State) → old.tally.waiting ≡ s
 follow_grows (events.Enter t q) old new kept follows = subst (λ (s : State). Grows old s 0) (sym follows) (record { waiting = kept; arrived = omega arith })
 follow_grows (events.Full t q) old new kept follows = subst (λ (s : State). Grows old s 0) (sym follows) (record { waiting = kept; arrived = omega arith })
 follow_grows (events.Dispatch t q) old new kept follows =
-    let grows = leave_inside (slot_of t.number) (record old { queues = with_event (events.Dispatch t q) old.queues }) new kept follows (inside_or (slot_of t.number) old.slots) in
+    let grows = leave_inside (slot_of t.number) (record old { queues = with_event (charged_by old.charges old.asked (events.Dispatch t q)) (events.Dispatch t q) old.queues }) new kept follows (inside_or (slot_of t.number) old.slots) in
     record { waiting = grows.waiting; arrived = grows.arrived }
 follow_grows (events.Strike t q) old new kept follows =
-    let grows = leave_inside (slot_of t.number) (record old { queues = with_event (events.Strike t q) old.queues }) new kept follows (inside_or (slot_of t.number) old.slots) in
+    let grows = leave_inside (slot_of t.number) (record old { queues = with_event 0 (events.Strike t q) old.queues }) new kept follows (inside_or (slot_of t.number) old.slots) in
     record { waiting = grows.waiting; arrived = grows.arrived }
 
 all_grow : (log : List LifeEvent) (old new : State) → old.tally.waiting ≡ sum_by waits_in old.slots → FollowsAll log old new → Grows old new 0

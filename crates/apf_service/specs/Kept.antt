@@ -13,21 +13,26 @@ use Rattle.apf_life_session.specs.Requests.{Polls as ReadsDecision, number_in}
 use Rattle.apf_model.specs.declared.config.Config.{Config}
 use Rattle.apf_model.specs.declared.response.Response.{Response}
 use Rattle.apf_model.specs.declared.response.Response.TheVariants as responses
+use Rattle.apf_charges.specs.declared.charges.Charges.{Charges}
+use Rattle.apf_charges.specs.Charging.{charge_of}
+use Rattle.apf_service.specs.declared.notes.Asked.{Asked}
 use Rattle.apf_service.specs.declared.notes.Notes.{Notes}
 use Rattle.apf_service.specs.declared.tally.Tally.{Tally}
 use Rattle.apf_service.specs.Tallies.{after_poll}
 
--- the slots with their requests, the operators, the numbers, what each queue was given, and up to which place the events of the queues were read
+-- the slots with their requests, the operators, the numbers, what each queue was given, up to which place the events of the queues were read, what requests are charged, and what the newest request of each slot asked
 pub record State : Type 0 where
   pub slots : List Token
   pub operators : List StationToken
   pub tally : Tally
   pub queues : List Given
   pub seen : ℕ
+  pub charges : Charges
+  pub asked : List Asked
 
 -- these slots and operators, and what is kept beside them
 abbrev pub state_of : List Token → List StationToken → Notes → State
-state_of slots operators notes = record { slots = slots; operators = operators; tally = notes.tally; queues = notes.queues.items; seen = notes.seen }
+state_of slots operators notes = record { slots = slots; operators = operators; tally = notes.tally; queues = notes.queues.items; seen = notes.seen; charges = notes.charges; asked = notes.asked.items }
 
 -- what the slot of this number holds
 abbrev pub slot_in : State → ℕ → Token
@@ -72,12 +77,25 @@ told n = min n (2 ^ 64 - 1)
 abbrev pub told_short : ℕ → ℕ
 told_short n = min n (2 ^ 32 - 1)
 
--- each queue by one event more: who enters waits there and counts; who is dispatched waits no longer, and its seats are added to the service; who is struck waits no longer
-abbrev pub with_event : LifeEvent → List Given → List Given
-with_event (events.Enter t q) given = changed q (λ g. record g { waiting = told_short (g.waiting + 1); entered = told (g.entered + 1) }) given
-with_event (events.Full t q) given = given
-with_event (events.Dispatch t q) given = changed q (λ g. record g { waiting = g.waiting - 1; service = told (g.service + coded_width t.number) }) given
-with_event (events.Strike t q) given = changed q (λ g. record g { waiting = g.waiting - 1 }) given
+-- nobody asked anything
+abbrev pub none_asked : Asked
+none_asked = record { flow = 0; cost = 0 }
+
+-- what the newest request of a slot asked
+abbrev pub asked_at : List Asked → ℕ → Asked
+asked_at asked n = slice_index_or asked n none_asked
+
+-- what a queue is charged by an event: for who is dispatched its cost, or where seats are charged its width
+abbrev pub charged_by : Charges → List Asked → LifeEvent → ℕ
+charged_by charges asked (events.Dispatch t q) = charge_of charges (coded_width t.number) (asked_at asked (slot_of t.number)).cost
+charged_by charges asked event = 0
+
+-- each queue by one event more: who enters waits there and counts; who is dispatched waits no longer, and the charge is added to the service; who is struck waits no longer
+abbrev pub with_event : ℕ → LifeEvent → List Given → List Given
+with_event charge (events.Enter t q) given = changed q (λ g. record g { waiting = told_short (g.waiting + 1); entered = told (g.entered + 1) }) given
+with_event charge (events.Full t q) given = given
+with_event charge (events.Dispatch t q) given = changed q (λ g. record g { waiting = g.waiting - 1; service = told (g.service + charge) }) given
+with_event charge (events.Strike t q) given = changed q (λ g. record g { waiting = g.waiting - 1 }) given
 
 -- the request of the slot read its decision, if it waits, and is counted so
 pub record Polls (slot : ℕ) (old new : State) : Type 0 where
@@ -92,10 +110,10 @@ Leaves slot old new = (slot < length old.slots → Polls slot old new) × (nat_l
 
 -- what follows of one event: it is counted of its queue, and who left the queue read its decision
 abbrev pub Follows : LifeEvent → State → State → Type 0
-Follows (events.Enter t q) old new = new ≡ record old { queues = with_event (events.Enter t q) old.queues }
+Follows (events.Enter t q) old new = new ≡ record old { queues = with_event 0 (events.Enter t q) old.queues }
 Follows (events.Full t q) old new = new ≡ old
-Follows (events.Dispatch t q) old new = Leaves (slot_of t.number) (record old { queues = with_event (events.Dispatch t q) old.queues }) new
-Follows (events.Strike t q) old new = Leaves (slot_of t.number) (record old { queues = with_event (events.Strike t q) old.queues }) new
+Follows (events.Dispatch t q) old new = Leaves (slot_of t.number) (record old { queues = with_event (charged_by old.charges old.asked (events.Dispatch t q)) (events.Dispatch t q) old.queues }) new
+Follows (events.Strike t q) old new = Leaves (slot_of t.number) (record old { queues = with_event 0 (events.Strike t q) old.queues }) new
 
 -- what follows of these events, one after another, of which the oldest stands first
 abbrev pub FollowsAll : List LifeEvent → State → State → Type 0

@@ -1,6 +1,6 @@
 //! What the commands that change something do to a level, and how that is counted.
 
-ghost use Rattle.std.specs.Prelude.{◌≡◌, ◌+◌, ◌^◌, ◌<◌, ◌≤◌, length, slice_index_or, Bool};
+ghost use Rattle.std.specs.Prelude.{◌≡◌, ◌+◌, ◌^◌, ◌<◌, ◌≤◌, length, slice_index_or, slice_set, Bool};
 ghost use Rattle.apf_gate.specs.Tokens.{StationToken};
 ghost use Rattle.apf_gate.specs.StationSteps.{StationLoadsLevel};
 ghost use Rattle.apf_life_session.specs.Ends.{StayButFirst};
@@ -8,10 +8,11 @@ ghost use Rattle.apf_words.specs.Limits.{max_requests, max_limit};
 ghost use Rattle.apf_life_session.specs.declared.answer.Answer.TheVariants.{Released};
 ghost use Rattle.apf_protocol.specs.Objects.{IsArrivalInRange};
 ghost use Rattle.apf_service.specs.Tallies.{IsTallyOf, decided_in, after_arrival as after_answer, after_finish as after_finished};
-ghost use Rattle.apf_service.specs.Kept.{state_of};
-ghost use Rattle.apf_service.specs.Turns.{ArrivesAt, TriesAt, FinishesAt, CancelsAt, LimitsTo, Closes};
+ghost use Rattle.apf_charges.specs.Charging.{cost_for};
+ghost use Rattle.apf_service.specs.Kept.{state_of, asked_at};
+ghost use Rattle.apf_service.specs.Turns.{ArrivesAt, TriesAt, FinishesAt, charges_after, CancelsAt, LimitsTo, Closes};
 
-use crate::notes::Notes;
+use crate::notes::{Asked, Notes};
 use crate::queues::width_of;
 use crate::replies::{Refusal, of_arrival, of_attempt, of_cancel, of_close, of_finish};
 use crate::tally::Tally;
@@ -48,6 +49,28 @@ fn after_finish(tally: Tally, width: u32, answer: Answer) -> Tally
     }
 }
 
+// What an arrival asks: its flow, and its cost.
+fn asked_by(notes: &Notes, arrival: Arrival) -> Asked
+    requires range { IsArrivalInRange arrival }
+    ensures asks { result ≡ record { flow = arrival.ask.hash; cost = cost_for notes.now.charges arrival.ask.hash arrival.ask.width arrival.cost } }
+    ensures some { 1 ≤ result.cost }
+{
+    let flow = arrival.ask.hash;
+    let cost = notes
+        .charges
+        .cost_of(flow, arrival.ask.width, arrival.cost);
+    Asked { flow, cost }
+}
+
+// The newest request of the slot asked this.
+fn note_asked(all: &mut [Asked], slot: u32, asked: Asked)
+    ensures { all.new ≡ slice_set all.old slot asked }
+{
+    if let Some(place) = all.get_mut(slot as usize) {
+        *place = asked;
+    }
+}
+
 /// The next request of the slot arrives.
 #[tactic(auto, using(crate::proofs::Keeps::arrival_keeps))]
 pub fn arrive<K: Naming, R: Wait>(
@@ -65,11 +88,13 @@ pub fn arrive<K: Naming, R: Wait>(
     ensures tally { IsTallyOf session.new.slots.items notes.new.tally }
     ensures count { length session.new.slots.items ≡ length session.old.slots.items }
 {
-    let Arrival { ask, cost } = arrival;
+    let ask = arrival.ask;
+    let asked = asked_by(notes, arrival);
     let request = &mut session.slots[slot as usize];
-    let (answer, event) = request.arrive_with_cost(rt, &session.level, ask, cost);
+    let (answer, event) = request.arrive_with_cost(rt, &session.level, ask, asked.cost);
     let width = width_of(request.ticket());
     notes.tally = after_arrival(notes.tally, width, answer);
+    note_asked(&mut notes.asked, slot, asked);
     of_arrival(slot, answer, event)
 }
 
@@ -90,10 +115,12 @@ pub fn attempt<K: Naming, R: Wait>(
     ensures tally { IsTallyOf session.new.slots.items notes.new.tally }
     ensures count { length session.new.slots.items ≡ length session.old.slots.items }
 {
+    let asked = asked_by(notes, arrival);
     let request = &mut session.slots[slot as usize];
     let answer = request.try_arrive(&session.level, arrival.ask);
     let width = width_of(request.ticket());
     notes.tally = after_arrival(notes.tally, width, answer);
+    note_asked(&mut notes.asked, slot, asked);
     make_up(rt, &session.level, answer);
     of_attempt(slot, answer)
 }
@@ -105,18 +132,38 @@ fn make_up<K: Naming, R: Wait>(rt: &R, level: &Level<K>, answer: Answer) {
     }
 }
 
-/// The request of the slot gives its seats back, if it executes.
+// What is learned where the request of the slot answered so and is said to have run so long.
+fn learn(notes: &mut Notes, slot: u32, ran: Option<u64>, answer: Answer)
+    ensures charges { notes.new.charges ≡ charges_after answer ran (asked_at notes.old.asked.items slot).flow notes.old.charges }
+    ensures same { (notes.new.tally ≡ notes.old.tally) × (notes.new.queues.items ≡ notes.old.queues.items) × (notes.new.seen ≡ notes.old.seen) × (notes.new.asked.items ≡ notes.old.asked.items) }
+{
+    let Answer::Released(_) = answer else {
+        return;
+    };
+    let Some(micros) = ran else {
+        return;
+    };
+    let flow = match notes.asked.get(slot as usize) {
+        Some(asked) => asked.flow,
+        None => 0,
+    };
+    notes.charges.learn(flow, micros);
+}
+
+/// The request of the slot gives its seats back, if it executes. Where it is said how long it ran, in microseconds, its flow learns
+/// that.
 #[tactic(auto, using(crate::proofs::Keeps::finish_keeps, crate::proofs::Keeps::seats_there))]
 pub fn finish<K: Naming, R: Wait>(
     rt: &R,
     session: &mut Session<K>,
     notes: &mut Notes,
     slot: u32,
+    ran: Option<u64>,
 ) -> Result<Told, Refusal>
     requires few { length session.old.slots.items ≤ max_requests }
     requires tally { IsTallyOf session.old.slots.items notes.old.tally }
     requires is_slot { slot < length session.old.slots.items }
-    ensures turns { FinishesAt slot (state_of session.old.slots.items session.old.operators.items notes.old) result (state_of session.new.slots.items session.new.operators.items notes.new) }
+    ensures turns { FinishesAt slot ran (state_of session.old.slots.items session.old.operators.items notes.old) result (state_of session.new.slots.items session.new.operators.items notes.new) }
     ensures tally { IsTallyOf session.new.slots.items notes.new.tally }
     ensures count { length session.new.slots.items ≡ length session.old.slots.items }
 {
@@ -124,6 +171,7 @@ pub fn finish<K: Naming, R: Wait>(
     let answer = request.finish(rt, &session.level);
     let width = width_of(request.ticket());
     notes.tally = after_finish(notes.tally, width, answer);
+    learn(notes, slot, ran, answer);
     of_finish(slot, answer)
 }
 

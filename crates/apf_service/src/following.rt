@@ -4,7 +4,7 @@ ghost use Rattle.std.specs.Prelude.{◌≡◌, ◌+◌, ◌^◌, ◌<◌, ◌≤
 ghost use Rattle.apf_words.specs.Limits.{max_requests};
 ghost use Rattle.apf_life_session.specs.Requests.{SaysWhere};
 ghost use Rattle.apf_service.specs.Tallies.{IsTallyOf, decided_in, after_poll as after_answer};
-ghost use Rattle.apf_service.specs.Kept.{state_of, Leaves, Follows, FollowsAll};
+ghost use Rattle.apf_service.specs.Kept.{state_of, charged_by, Leaves, Follows, FollowsAll};
 
 use crate::notes::Notes;
 use crate::queues::{count, width_of};
@@ -47,6 +47,20 @@ fn leave<K: Naming, R: Wait>(rt: &R, session: &mut Session<K>, notes: &mut Notes
     notes.tally = after_poll(notes.tally, width, answer);
 }
 
+// What a queue is charged by the event.
+fn charge(notes: &Notes, event: LifeEvent) -> u32
+    ensures { result ≡ charged_by notes.now.charges notes.now.asked.items event }
+{
+    let LifeEvent::Dispatch(request, _) = event else {
+        return 0;
+    };
+    let cost = match notes.asked.get(request.slot() as usize) {
+        Some(asked) => asked.cost,
+        None => 0,
+    };
+    notes.charges.charge_of(width_of(request), cost)
+}
+
 // What follows of one event.
 fn follow<K: Naming, R: Wait>(rt: &R, session: &mut Session<K>, notes: &mut Notes, event: LifeEvent)
     requires few { length session.old.slots.items ≤ max_requests }
@@ -56,7 +70,8 @@ fn follow<K: Naming, R: Wait>(rt: &R, session: &mut Session<K>, notes: &mut Note
     ensures seen { notes.new.seen ≡ notes.old.seen }
     ensures follows { Follows event (state_of session.old.slots.items session.old.operators.items notes.old) (state_of session.new.slots.items session.new.operators.items notes.new) }
 {
-    count(notes.queues.as_mut_slice(), event);
+    let charge = charge(notes, event);
+    count(notes.queues.as_mut_slice(), event, charge);
     match event {
         LifeEvent::Enter(..) | LifeEvent::Full(..) => {}
         LifeEvent::Dispatch(request, _) | LifeEvent::Strike(request, _) => {

@@ -35,9 +35,9 @@ pub fn width_of(request: Ticket) -> u32
     code.clamp(1, 20000)
 }
 
-/// One event more is counted of its queue.
-pub fn count(queues: &mut [Given], event: LifeEvent)
-    ensures { queues.new ≡ with_event event queues.old }
+/// One event more is counted of its queue, which is charged this by it.
+pub fn count(queues: &mut [Given], event: LifeEvent, charge: u32)
+    ensures { queues.new ≡ with_event charge event queues.old }
 {
     match event {
         LifeEvent::Enter(_, queue) => {
@@ -52,15 +52,14 @@ pub fn count(queues: &mut [Given], event: LifeEvent)
             }
         }
         LifeEvent::Full(..) => {}
-        LifeEvent::Dispatch(request, queue) => {
+        LifeEvent::Dispatch(_, queue) => {
             if (queue as usize) < queues.len() {
                 let given = queues[queue as usize];
-                let width: u32 = width_of(request);
                 queues[queue as usize] = Given {
                     queue: given.queue,
                     waiting: given.waiting.saturating_sub(1),
                     entered: given.entered,
-                    service: given.service.saturating_add(u64::from(width)),
+                    service: given.service.saturating_add(u64::from(charge)),
                 };
             }
         }

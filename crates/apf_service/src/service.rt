@@ -1,6 +1,6 @@
 //! A level with its slots, which takes one line of the protocol after another.
 
-ghost use Rattle.std.specs.Prelude.{◌≡◌, ℕ, ◌+◌, ◌^◌, ◌<◌, ◌≤◌, List, ◌++◌, length, string_bytes, take, IfOk, IfErr, OnOk, Ok, Err};
+ghost use Rattle.std.specs.Prelude.{◌≡◌, ℕ, ◌+◌, ◌^◌, ◌<◌, ◌≤◌, List, ◌++◌, length, string_bytes, replicate, take, IfOk, IfErr, OnOk, Ok, Err};
 ghost use Rattle.std.specs.List.{flat_map};
 ghost use Rattle.std.specs.Io.KnownBytes.{Appends};
 ghost use Rattle.apf_words.specs.Limits.{max_requests};
@@ -11,17 +11,19 @@ ghost use Rattle.apf_protocol.specs.Lines.{words as words_of, request_in, IsHead
 ghost use Rattle.apf_protocol.specs.Commands.{IsCommandInRange};
 ghost use Rattle.apf_protocol.specs.Texts.{answer_text};
 ghost use Rattle.apf_service.specs.Tallies.{IsTallyOf, no_tally};
-ghost use Rattle.apf_service.specs.Kept.{state_of, slot_in, is_there as there, none_given, queues_of, FollowsAll};
+ghost use Rattle.apf_service.specs.Kept.{state_of, slot_in, is_there as there, none_given, queues_of, none_asked, FollowsAll};
+ghost use Rattle.apf_charges.specs.Charging.{opening_charges};
 ghost use Rattle.apf_service.specs.Lines.{there_in, words_in, command_in, IsFaultOf, AreNewEvents, Tells, TellsBook, TellsMetrics, Obeys, Serves, given_text};
 
 use crate::acting::{arrive, attempt, cancel, close, finish, look, set_limit};
 use crate::following::follow_all;
 use crate::metrics::write_metrics;
-use crate::notes::Notes;
+use crate::notes::{Asked, Notes};
 use crate::queues::no_queues;
 use crate::replies::{Refusal, write_told};
 use crate::tally::Tally;
 use apf_book::LifeEvent;
+use apf_charges::{ChargedBy, Charges};
 use apf_gate::Ticket;
 use apf_life::{Naming, Report};
 use apf_life_session::{OpenFault, Opening, Place, Session};
@@ -70,7 +72,7 @@ fn write_queues<W: Write>(out: &mut W, queues: &[Given]) -> io::Result<()>
 }
 
 impl<K: Naming> Service<K> {
-    /// The level of this opening, under a name that its metrics have. All memory of the level is taken here.
+    /// The level of this opening, under a name that its metrics have, and charged so. All memory of the level is taken here.
     ///
     /// # Errors
     ///
@@ -81,6 +83,7 @@ impl<K: Naming> Service<K> {
         alloc: Global,
         opening: Opening,
         name: String,
+        by: ChargedBy,
     ) -> Result<Service<K>, OpenFault>
         requires level { K.level ≡ level_of opening.gate opening.config }
         requires one { opening.gate.shape.stations ≡ 1 }
@@ -88,6 +91,7 @@ impl<K: Naming> Service<K> {
         ensures free { IfOk result (λ s. AreFree s.session.slots.items) }
         ensures operators { IfOk result (λ s. s.session.operators.items ≡ opening.stations.items) }
         ensures none { IfOk result (λ s. (s.notes.tally ≡ no_tally) × (s.notes.queues.items ≡ none_given (queues_of opening.config)) × (s.notes.seen ≡ 0)) }
+        ensures charged { IfOk result (λ s. (s.notes.charges ≡ opening_charges by) × (s.notes.asked.items ≡ replicate opening.gate.shape.slots none_asked)) }
         ensures config { IfOk result (λ s. s.config ≡ opening.config) }
         ensures name { IfOk result (λ s. s.name ≡ name) }
         ensures fault { IfErr result (IsOpenFault opening.config opening.gate.shape.slots opening.gate.shape.stations) }
@@ -101,6 +105,8 @@ impl<K: Naming> Service<K> {
             tally: Tally::none(),
             queues: no_queues(alloc, queues)?,
             seen: 0,
+            charges: Charges::new(alloc, by)?,
+            asked: vec![in alloc; Asked { flow: 0, cost: 0 }; opening.passes.len()]?,
         };
         let no_event = LifeEvent::Enter(Ticket::of(0), 0);
         let room = vec![in alloc; no_event; 2 * opening.passes.len()]?;
@@ -270,7 +276,9 @@ impl<K: Naming> Service<K> {
             Command::Try(slot, arrival) => {
                 attempt(rt, &mut self.session, &mut self.notes, slot, arrival)
             }
-            Command::Finish(slot) => finish(rt, &mut self.session, &mut self.notes, slot),
+            Command::Finish(slot, ran) => {
+                finish(rt, &mut self.session, &mut self.notes, slot, ran)
+            }
             Command::Cancel(slot) => cancel(rt, &mut self.session, &self.notes, slot),
             Command::Limit(limit) => set_limit(rt, &mut self.session, &self.notes, limit),
             Command::Close => close(&mut self.session, &self.notes),

@@ -7,6 +7,7 @@ ghost use Rattle.apf_life_session.specs.Openings.{level_of};
 
 use crate::lines::{Cut, Lines};
 use crate::service::Service;
+use apf_charges::ChargedBy;
 use apf_life::Naming;
 use apf_life_session::{OpenFault, Opening};
 use apf_model::Config;
@@ -66,7 +67,7 @@ fn cannot_write(_error: io::Error) -> ServeFault
     ServeFault::CannotWrite
 }
 
-/// Opens a level with so many slots, 1 to 10,000, and carries out the lines of the input, in one thread, to its end. At
+/// Opens a level with so many slots, 1 to 10,000, whose requests are charged so, and carries out the lines of the input, in one thread, to its end. At
 /// the end the book is written, and then the level is ended, of which nothing is told. What was answered is handed to the
 /// system before the input is read again.
 ///
@@ -82,6 +83,7 @@ pub fn serve<R: Wait, I: Read, O: Write>(
     config: &Config,
     slots: u32,
     name: &str,
+    by: ChargedBy,
     input: &mut I,
     out: &mut O,
 ) -> Result<(), ServeFault>
@@ -89,7 +91,7 @@ pub fn serve<R: Wait, I: Read, O: Write>(
 {
     let name = String::from_str(alloc, name)?;
     let opening = Opening::new(alloc, config, slots, 1)?;
-    serve_named::<Brand, R, I, O>(rt, alloc, opening, name, input, out)
+    serve_named::<Brand, R, I, O>(rt, alloc, opening, name, by, input, out)
 }
 
 fn serve_named<K: Naming, R: Wait, I: Read, O: Write>(
@@ -97,6 +99,7 @@ fn serve_named<K: Naming, R: Wait, I: Read, O: Write>(
     alloc: Global,
     opening: Opening,
     name: String,
+    by: ChargedBy,
     input: &mut I,
     out: &mut O,
 ) -> Result<(), ServeFault>
@@ -105,7 +108,7 @@ fn serve_named<K: Naming, R: Wait, I: Read, O: Write>(
     ensures fault { IfErr result (IsServeFault opening.config opening.gate.shape.slots) }
 {
     let mut lines = Lines::new(alloc)?;
-    let mut service = Service::<K>::open(rt, alloc, opening, name)?;
+    let mut service = Service::<K>::open(rt, alloc, opening, name, by)?;
     let answered = answer_all(rt, alloc, &mut service, &mut lines, input, out);
     // what the end could tell, the book told before it: memory that is refused for its report takes nothing from anybody
     let _ = service.end(rt, alloc);

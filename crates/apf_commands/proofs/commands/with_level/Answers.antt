@@ -10,6 +10,6 @@ pub returns : goal.returns
 returns c =
     let range : c.range-slots.result ≡ Signed (pos 1) (pos 10000) = rw (c.value_parser.ensures, c.new.ensures.start, c.new.ensures.end) at c.range-slots.ensures in
     let slots = c.number_option.ensures.rule ∙ ap (number_option_rule (codes "slots")) range in
-    IfOk-weaker c.arg-3.result _ _
-    (λ r h app made. added (added (added made c.text.ensures.rule c.text.ensures.local c.in_ok-arg.ensures) slots c.number_option.ensures.local c.in_ok-arg-2.ensures) c.option.ensures.rule c.option.ensures.local h)
-    c.arg-3.ensures
+    IfOk-weaker c.arg-4.result _ _
+    (λ r h app made. added (added (added (added made c.text.ensures.rule c.text.ensures.local c.in_ok-arg.ensures) slots c.number_option.ensures.local c.in_ok-arg-2.ensures) c.option.ensures.rule c.option.ensures.local c.in_ok-arg-3.ensures) c.option-2.ensures.rule c.option-2.ensures.local h)
+    c.arg-4.ensures

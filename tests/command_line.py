@@ -51,7 +51,7 @@ LINES = ["arrive N", "finish N", "cancel N", "close", "limit N"]
 TIMES = ["<TRACE>", "JSON Lines", "microseconds", "not kube-apiserver"]
 LEVEL = ["<CONFIG>", *TIMES]
 PATIENCE = [*LEVEL, "<PATIENCE>", "0 to 1000000000", "15s", "500ms"]
-TRACE = ["arrivesAt", "1000000000000", "runsFor", "10000000000", "hash", "schema", "distinguisher", "width", "cost", "20000", "10000 lines", "65536"]
+TRACE = ["arrivesAt", "1000000000000", "runsFor", "10000000000", "hash", "schema", "distinguisher", "width", "cost", "20000", "4294967295", "10000 lines", "65536"]
 FLOW = ["flow H requests N executed E rejected J cancelled X seat-time T wait median A p99 B longest C of", "SCHEMA DISTINGUISHER", "end T seat-time U of V waited W patience P"]
 for words, says in [
     (["--help"], COMMANDS),
@@ -62,7 +62,7 @@ for words, says in [
     (["help", "deal"], DEAL),
     (["replay", "--help"], SCRIPT + CONFIG + REQUESTS + LINES),
     (["run", "--help"], ["<CONFIG>", "<REQUESTS>", "<WORKERS>", "1 to 64", "--rounds <N>", "1 (the default) to 1000000"] + CONFIG + REQUESTS),
-    (["serve", "--help"], ["<CONFIG>", "--slots <S>", "--name <NAME>", "10000", "253", "standard input", "docs/SERVE.md"]),
+    (["serve", "--help"], ["<CONFIG>", "--slots <S>", "--name <NAME>", "--charge <BY>", "10000", "253", "time", "seats", "standard input", "docs/SERVE.md"]),
     (["help", "serve"], ["--slots <S>"]),
     (["help", "run"], ["<WORKERS>"]),
     (["help", "requests"], TIMES),
@@ -213,6 +213,7 @@ for words, line in [
     (["serve", "c", "--slots", "10001"], "invalid value '10001' for '--slots <S>': 10001 is not in 1..=10000\n"),
     (["serve", "c", "--slots", "x"], "invalid value 'x' for '--slots <S>'"),
     (["serve", "c", "--slots"], NO_VALUE + "'--slots <S>' but none was supplied\n"),
+    (["serve", "c", "--charge"], NO_VALUE + "'--charge <BY>' but none was supplied\n"),
     (["serve", "c", "--name"], NO_VALUE + "'--name <NAME>' but none was supplied\n"),
     (["serve", "c", "--slots=1", "--slots=2"], "the argument '--slots <S>' cannot be used multiple times\n"),
     (["simulate", "c", "t", "-1"], UNKNOWN + "'-1' found\n"),

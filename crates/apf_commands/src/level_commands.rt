@@ -185,6 +185,9 @@ printed. docs/SERVE.md has the protocol.
 
 CONFIG is that of apf replay; apf replay --help says what it holds. It is a file, and not -.
 
+A request is charged its seats times the mean time of its flow's requests so far, as the commands
+finish N T tell it. With --charge seats it is charged its seats.
+
 Example:
   apf serve config.json --slots 500 --name workload-low
 

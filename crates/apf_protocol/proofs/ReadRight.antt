@@ -116,7 +116,11 @@ arrival_right slots bytes a few h =
 
 -- ---- ends
 
-head_by : (slots : ℕ) (bytes : List ℕ) (head made : Head) → Ok {T = Head} {E = FaultKind} made ≡ Ok head
+-- read as this head
+abbrev pub head_read : Head → Result Head FaultKind
+head_read head = Ok head
+
+head_by : (slots : ℕ) (bytes : List ℕ) (head made : Head) → head_read made ≡ Ok head
     → (codes "finish " ++ bytes ≡ line_of made []) × IsHeadInRange slots made × IsObjectOf made []
     → (codes "finish " ++ bytes ≡ line_of head []) × IsHeadInRange slots head × IsObjectOf head []
 head_by slots bytes head made h of =

@@ -30,9 +30,11 @@ use Rattle.apf_protocol.specs.declared.command.Command.TheVariants as commands
 use Rattle.apf_service.specs.declared.replies.Refusal.{Refusal}
 use Rattle.apf_service.specs.declared.tally.Tally.{Tally}
 use Rattle.apf_service.specs.Tallies.{arrived_in, started, queued, ended, left, finished, after_arrival, after_poll, after_finish, waits_in, IsTallyOf}
-use Rattle.apf_service.specs.Kept.{State, slot_in, width_in, Leaves, Follows, FollowsAll, charged_by, with_event}
+use Rattle.apf_service.specs.Kept.{State, slot_in, width_in, Leaves, Follows, FollowsAll, asked_at, charged_by, with_event}
+use Rattle.apf_charges.specs.declared.charges.Charges.{Charges}
+use Rattle.apf_service.specs.declared.notes.Asked.{Asked}
 use Rattle.apf_service.specs.Replies.{told_of_arrival, told_of_attempt, told_of_finish, told_of_cancel, told_of_close}
-use Rattle.apf_service.specs.Turns.{Turns, ArrivesAt, TriesAt, FinishesAt, OperatorDoes}
+use Rattle.apf_service.specs.Turns.{Turns, ArrivesAt, TriesAt, FinishesAt, OperatorDoes, asks, charges_after}
 use Rattle.apf_service.specs.Counted.{came_by}
 use Rattle.apf_service.proofs.Sums.{sum_at, part_at}
 use Rattle.apf_service.proofs.Keeps.{decided_counted}
@@ -219,9 +221,9 @@ record Grows (s s' : State) (n : ℕ) : Type 0 where
   arrived : arrived_in s'.tally ≡ arrived_in s.tally + n
 
 -- one slot went on
-slot_grows : (s : State) (slot : ℕ) (token : Token) (t' : Tally) (n : ℕ) → s.tally.waiting ≡ sum_by waits_in s.slots → slot < length s.slots → Adds (slot_in s slot) token s.tally t' n
-    → Grows s (record s { slots = set s.slots slot token; tally = t' }) n
-slot_grows s slot token t' n kept inside adds = record {
+slot_grows : (s : State) (slot : ℕ) (token : Token) (t' : Tally) (charges : Charges) (asked : List Asked) (n : ℕ) → s.tally.waiting ≡ sum_by waits_in s.slots → slot < length s.slots → Adds (slot_in s slot) token s.tally t' n
+    → Grows s (record s { slots = set s.slots slot token; tally = t'; charges = charges; asked = asked }) n
+slot_grows s slot token t' charges asked n kept inside adds = record {
   waiting = omega (arith, kept, adds.waiting, sum_at waits_in s.slots slot token inside);
   arrived = adds.arrived;
 }
@@ -235,9 +237,9 @@ inside_or slot slots = by (nat_lt slot (length slots)) refl
     by false e = inr (ltb-false slot (length slots) e)
 
 -- a slot that is not there stays so
-past_grows : (s : State) (slot : ℕ) (token : Token) (t' : Tally) → s.tally.waiting ≡ sum_by waits_in s.slots → length s.slots ≤ slot → t' ≡ s.tally
-    → Grows s (record s { slots = set s.slots slot token; tally = t' }) 0
-past_grows s slot token t' kept past same = record {
+past_grows : (s : State) (slot : ℕ) (token : Token) (t' : Tally) (charges : Charges) → s.tally.waiting ≡ sum_by waits_in s.slots → length s.slots ≤ slot → t' ≡ s.tally
+    → Grows s (record s { slots = set s.slots slot token; tally = t'; charges = charges }) 0
+past_grows s slot token t' charges kept past same = record {
   waiting = ap (λ (t : Tally). t.waiting) same ∙ kept ∙ ap (sum_by waits_in) (sym (set_past s.slots slot token past));
   arrived = omega (arith, ap arrived_in same);
 }
@@ -250,29 +252,29 @@ arrive_inside : (k : LifeId) (n : ℕ) (a : Arrival) (old : State) (reply : Resu
 arrive_inside k n a old reply new kept at (inr past) = absurd (subst (λ (t : Token). Arrives a.ask.width t at.answer at.token) (none_inside old n past) at.arrives)
 arrive_inside k n a old reply new kept at (inl inside) =
     subst (λ (s : State). Grows old s (came_by reply)) (sym at.after)
-    (subst (λ (r : Result Told Refusal). Grows old (record old { slots = set old.slots n at.token; tally = after_arrival (width_in at.token) at.answer old.tally }) (came_by r)) (sym at.told)
-    (slot_grows old n at.token (after_arrival (width_in at.token) at.answer old.tally) (came_by (told_of_arrival n at.answer at.event)) kept inside
-    (arrival_adds k (number_in at.token) (hand_of k.sizes a.ask.hash) a.cost a.ask.width n (slot_in old n) at.token at.answer at.event old.tally (width_in at.token) at.arrives at.logs)))
+    (subst (λ (r : Result Told Refusal). Grows old (record old { slots = set old.slots n at.token; tally = after_arrival (width_in at.token) at.answer old.tally; asked = set old.asked n (asks old a) }) (came_by r)) (sym at.told)
+    (slot_grows old n at.token (after_arrival (width_in at.token) at.answer old.tally) old.charges (set old.asked n (asks old a)) (came_by (told_of_arrival n at.answer at.event)) kept inside
+    (arrival_adds k (number_in at.token) (hand_of k.sizes a.ask.hash) (asks old a).cost a.ask.width n (slot_in old n) at.token at.answer at.event old.tally (width_in at.token) at.arrives at.logs)))
 
 try_inside : (n : ℕ) (a : Arrival) (old : State) (reply : Result Told Refusal) (new : State) → old.tally.waiting ≡ sum_by waits_in old.slots → TriesAt n a old reply new
     → (n < length old.slots) ⊎ (length old.slots ≤ n) → Grows old new (came_by reply)
 try_inside n a old reply new kept at (inr past) = absurd (subst (λ (t : Token). Tries a.ask.width t at.answer at.token) (none_inside old n past) at.tries)
 try_inside n a old reply new kept at (inl inside) =
     subst (λ (s : State). Grows old s (came_by reply)) (sym at.after)
-    (subst (λ (r : Result Told Refusal). Grows old (record old { slots = set old.slots n at.token; tally = after_arrival (width_in at.token) at.answer old.tally }) (came_by r)) (sym at.told)
-    (slot_grows old n at.token (after_arrival (width_in at.token) at.answer old.tally) (came_by (told_of_attempt n at.answer)) kept inside
+    (subst (λ (r : Result Told Refusal). Grows old (record old { slots = set old.slots n at.token; tally = after_arrival (width_in at.token) at.answer old.tally; asked = set old.asked n (asks old a) }) (came_by r)) (sym at.told)
+    (slot_grows old n at.token (after_arrival (width_in at.token) at.answer old.tally) old.charges (set old.asked n (asks old a)) (came_by (told_of_attempt n at.answer)) kept inside
     (attempt_adds a.ask.width n (slot_in old n) at.token at.answer old.tally (width_in at.token) at.tries)))
 
-finish_inside : (n : ℕ) (ran : Option ℕ) (old : State) (reply : Result Told Refusal) (new : State) → old.tally.waiting ≡ sum_by waits_in old.slots → FinishesAt n old reply new
+finish_inside : (n : ℕ) (ran : Option ℕ) (old : State) (reply : Result Told Refusal) (new : State) → old.tally.waiting ≡ sum_by waits_in old.slots → FinishesAt n ran old reply new
     → (n < length old.slots) ⊎ (length old.slots ≤ n) → Grows old new 0
-finish_inside n old reply new kept at (inl inside) =
+finish_inside n ran old reply new kept at (inl inside) =
     subst (λ (s : State). Grows old s 0) (sym at.after)
-    (slot_grows old n at.token (after_finish (width_in at.token) at.answer old.tally) 0 kept inside
+    (slot_grows old n at.token (after_finish (width_in at.token) at.answer old.tally) (charges_after at.answer ran (asked_at old.asked n).flow old.charges) old.asked 0 kept inside
     (finish_adds (slot_in old n) at.token at.answer old.tally (width_in at.token) at.answers at.steps))
-finish_inside n old reply new kept at (inr past) =
+finish_inside n ran old reply new kept at (inr past) =
     let answers : Answers places.Runs tokens.Gone at.answer at.token = subst (λ (t : Token). Answers places.Runs t at.answer at.token) (none_inside old n past) at.answers in
     subst (λ (s : State). Grows old s 0) (sym at.after)
-    (past_grows old n at.token (after_finish (width_in at.token) at.answer old.tally) kept past (ap (λ (a : Answer). after_finish (width_in at.token) a old.tally) (answers.wrong (λ e. cc)).0))
+    (past_grows old n at.token (after_finish (width_in at.token) at.answer old.tally) (charges_after at.answer ran (asked_at old.asked n).flow old.charges) kept past (ap (λ (a : Answer). after_finish (width_in at.token) a old.tally) (answers.wrong (λ e. cc)).0))
 
 -- an operator's steps count nobody
 operator_grows : (steps : StationToken → StationToken → Type 0) (old new : State) → old.tally.waiting ≡ sum_by waits_in old.slots → OperatorDoes steps old new → Grows old new 0
@@ -293,7 +295,7 @@ counts_as old new n reply is grows = subst (λ (m : ℕ). Grows old new m) (sym 
 turn_grows : (k : LifeId) (command : Command) (old : State) (reply : Result Told Refusal) (new : State) → old.tally.waiting ≡ sum_by waits_in old.slots → Turns k command old reply new → Grows old new (came_by reply)
 turn_grows k (commands.Arrive n a) old reply new kept turns = arrive_inside k n a old reply new kept turns (inside_or n old.slots)
 turn_grows k (commands.Try n a) old reply new kept turns = try_inside n a old reply new kept turns (inside_or n old.slots)
-turn_grows k (commands.Finish n ran) old reply new kept turns = counts_as old new 0 reply (ap came_by turns.told ∙ finish_told n turns.answer) (finish_inside n old reply new kept turns (inside_or n old.slots))
+turn_grows k (commands.Finish n ran) old reply new kept turns = counts_as old new 0 reply (ap came_by turns.told ∙ finish_told n turns.answer) (finish_inside n ran old reply new kept turns (inside_or n old.slots))
 turn_grows k (commands.Cancel n) old reply new kept turns =
     counts_as old new 0 reply (ap came_by turns.told ∙ cancel_told n turns.answer) (operator_grows (λ s s'. TriesToCancel s.station (number_in (slot_in old n)) turns.answer s'.station) old new kept turns.does)
 turn_grows k (commands.Limit limit) old reply new kept turns = counts_as old new 0 reply (ap came_by turns.told) (operator_grows (λ s s'. LastSet s.station limit turns.was s'.station) old new kept turns.does)
@@ -308,7 +310,7 @@ leave_inside slot old new kept leaves (inr past) = subst (λ (s : State). Grows 
 leave_inside slot old new kept leaves (inl inside) =
     let polls = leaves.0 inside in
     subst (λ (s : State). Grows old s 0) (sym polls.after)
-    (slot_grows old slot polls.token (after_poll (width_in polls.token) polls.answer old.tally) 0 kept inside
+    (slot_grows old slot polls.token (after_poll (width_in polls.token) polls.answer old.tally) old.charges old.asked 0 kept inside
     (poll_adds (slot_in old slot) polls.token polls.answer old.tally (width_in polls.token) polls.reads (omega (arith, kept, part_at waits_in old.slots slot inside))))
 
 follow_grows : (event : LifeEvent) (old new : State) → old.tally.waiting ≡ sum_by waits_in old.slots → Follows event old new → Grows old new 0

@@ -66,8 +66,8 @@ fn asked_by(notes: &Notes, arrival: Arrival) -> Asked
 fn note_asked(all: &mut [Asked], slot: u32, asked: Asked)
     ensures { all.new ≡ slice_set all.old slot asked }
 {
-    if let Some(place) = all.get_mut(slot as usize) {
-        *place = asked;
+    if (slot as usize) < all.len() {
+        all[slot as usize] = asked;
     }
 }
 

@@ -21,5 +21,5 @@ returns-clause-tally g c =
     let answers : Answers places.Runs (get_or slots c.args.slot Gone) answer token = subst (λ (t : Token). Answers places.Runs t answer token) (get_or_read_under slots c.args.slot (length slots) c.index_mut-request.result.now Gone c.index_mut-request.ensures.value c.requires.is_slot refl) c.finish-answer.ensures.answers in
     let steps : ReleasesAs (get_or slots c.args.slot Gone) answer token = subst (λ (t : Token). ReleasesAs t answer token) (get_or_read_under slots c.args.slot (length slots) c.index_mut-request.result.now Gone c.index_mut-request.ensures.value c.requires.is_slot refl) c.finish-answer.ensures.steps in
     subst (λ (t : Tally). IsTallyOf (set slots c.args.slot token) t)
-    (sym (c.after_finish-notes.ensures ∙ ap (λ (n : ℕ). after_finish n answer c.args.notes.now.tally) width))
+    (sym (c.learn.ensures.same.0 ∙ c.after_finish-notes.ensures ∙ ap (λ (n : ℕ). after_finish n answer c.args.notes.now.tally) width))
     (finish_keeps slots c.args.slot token answer c.args.notes.now.tally c.requires.is_slot c.requires.tally answers steps)

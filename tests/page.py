@@ -217,17 +217,29 @@ def check_begin():
     root, words, rows = picture_of()
     tally.check("the picture", page.run("const it = document.getElementById('picture'); return [it.alt, it.complete, it.naturalWidth, it.naturalHeight]"), [words, True, int(root.get("width")), int(root.get("height"))])
     tally.check("the config", json.loads(page.text("#config")), LEVEL)
-    style = root.find(f"{SVG}style").text
-    for scheme, part in zip(("light", "dark"), style.split("@media(prefers-color-scheme:dark)")):
-        page.prefer(scheme)
-        colours = page.run("return [...document.querySelectorAll('.swatch')].map(it => [it.parentNode.innerText.trim(), getComputedStyle(it).backgroundColor.match(/\\d+/g).map(one => Number(one).toString(16).padStart(2, 0)).join('')])")
-        want = {name: re.search(rf"\.f{row}{{fill:#(\w+)}}", part)[1] for name, row in rows.items()}
-        tally.check(f"the colours of the flows, {scheme}", {name: colour for name, colour in colours}, want)
-        rules = re.findall(r"\.f(\d+) { background: #(\w+); }", open(os.path.join(TOP, "browser", "page.css")).read())
-        tally.check(f"the colours of the rows, {scheme}", rules[13 * (scheme == "dark") :][:13], re.findall(r"\.f(\d+){fill:#(\w+)}", part))
-    page.prefer("light")
+    check_colours("the noisy client", root, rows)
     tally.check("nothing is refused", faults(), [])
     tally.check("the status", page.text("#status"), "The noisy client: 703 requests, 402 executed, 76 rejected, 225 gave up. The longest wait is 7,998 ms.")
+
+
+def check_colours(name, root, rows):
+    """Each flow has the colour of its row in the picture."""
+    styles = root.find(f"{SVG}style").text.split("@media(prefers-color-scheme:dark)")
+    rules = re.findall(r"\.f(\d+) { background: #(\w+); }", open(os.path.join(TOP, "browser", "page.css")).read())
+    for scheme, style, own in zip(("light", "dark"), styles, (rules[:13], rules[13:])):
+        page.prefer(scheme)
+        colours = dict(page.run(COLOURS))
+        tally.check(f"the colours of the flows of {name}, {scheme}", colours, {it: re.search(rf"\.f{row}{{fill:#(\w+)}}", style)[1] for it, row in rows.items()})
+        tally.check(f"the colours of the rows, {scheme}", own, re.findall(r"\.f(\d+){fill:#(\w+)}", style))
+    page.prefer("light")
+
+
+COLOURS = """
+const hexadecimal = colour => colour.match(/\\d+/g).map(it => Number(it).toString(16).padStart(2, 0)).join('')
+return [...document.querySelectorAll('.swatch')].map(it => [it.parentNode.innerText.trim(), hexadecimal(getComputedStyle(it).backgroundColor)])
+"""
+# the busy flow has more requests, and the late one waits
+FEW = "".join(json.dumps({"schema": "s", "distinguisher": name, "arrivesAt": at, "runsFor": 9}) + "\n" for name, at in [("busy", 0), ("busy", 100), ("busy", 200), ("late", 300), ("late", 300)])
 
 
 SMALL = b"".join(
@@ -251,6 +263,11 @@ def check_files():
     time.sleep(0.1)
     rests()
     tally.check("a trace that is chosen", shown(), table_of_one(config=small))
+    drop("few.jsonl", FEW.encode())
+    write("limit", "1")
+    root, _, rows = picture_of(trace=files("few.jsonl", FEW), config={**small, "limit": 1})
+    check_colours("a few requests", root, rows)
+    write("limit", "2")
     bad = open(os.path.join(TOP, "README.md"), "rb").read()
     drop("README.md", bad)
     tally.check("a bad file", (fault("file"), faults()), (said("simulate", trace=os.path.join(TOP, "README.md"), config=small)[1], ["file-fault"]))
@@ -291,13 +308,14 @@ def check_audit():
     trace = files("audit.jsonl", run(program, ["trace", "--by=namespace", "--", AUDIT, "a <b> schema"])[1])
     tally.check("the namespaces of an audit log", shown(), table_of_one(trace=trace))
     lines = open(AUDIT).read().split("\n")
-    turned = json.dumps({**json.loads(lines[0]), "responseStatus": {"code": 429}})
+    turned = json.dumps({**json.loads(next(it for it in lines if "ResponseComplete" in it)), "responseStatus": {"code": 429}})
     log = files("turned.log", "\n".join([turned, *lines]))
     drop("turned.log", open(log, "rb").read())
     page.click("#audit button")
     time.sleep(0.1)
     rests()
-    tally.check("what is said beside a log", page.text("#file-note"), run(program, ["trace", "--", log, "x"])[2].decode().strip())
+    want = run(program, ["trace", "--", log, "x"])[2].decode().strip()
+    tally.check("what is said beside a log", (page.text("#file-note"), want[:9]), (want, "apf: 1 of"))
 
 
 def rejected():
@@ -312,7 +330,8 @@ def check_settings():
     want = table_of_one(config={**LEVEL, "limit": 11})
     tally.check("the limit by its slider and a key", (page.run("return document.getElementById('limit').value"), shown()), ("11", want))
     tally.check("the rejected change", rejected() != before, True)
-    tally.check("what changed", re.match(r"Limit 10 → 11: executed 402 → (\d+), rejected 76 → (\d+), gave up 225 → (\d+)\. Longest wait", page.text("#status")).groups(), tuple(want[-1][it] for it in (2, 3, 4)))
+    counts = [want[-1][it] for it in (2, 3, 4)]
+    tally.check("what changed", page.text("#status").split(". Longest wait ")[0], "Limit 10 → 11: executed 402 → {}, rejected 76 → {}, gave up 225 → {}".format(*counts))
     left, top, width, height = page.run("const it = document.getElementById('limit-slider').getBoundingClientRect(); return [it.left, it.top, it.width, it.height]")
     page.click_at(int(left + width * 0.3), int(top + height / 2))
     time.sleep(0.1)
@@ -336,7 +355,7 @@ def check_settings():
     tally.check("without queues", page.run("return [document.getElementById('queues').matches(':disabled'), document.querySelectorAll('#queues-list button').length]"), [True, 0])
     page.click("#copy")
     page.until("return document.getElementById('copy').textContent !== 'Copy'")
-    tally.check("the config to copy", json.loads(page.run("return getSelection().toString()")), level)
+    tally.check("the config to copy", page.run("return getSelection().toString().trim()"), page.text("#config").strip())
 
 
 def check_faults():
@@ -443,6 +462,10 @@ def check_keyboard():
     tally.check("Enter shows its requests", shown("requests"), requests_of(shown()[1][0], config={**LEVEL, "limit": 12}))
     tally.check("the focus stays", page.run("return document.activeElement.innerText.trim()"), shown()[1][0])
     tally.check("that is said", page.run("return document.getElementById('said').textContent"), f"The requests of {shown()[1][0]} are shown below the flows.")
+    for limit in (13, 12):
+        page.run("const it = document.getElementById('limit'); it.value = arguments[0]; it.dispatchEvent(new Event('input', { bubbles: true }))", limit)
+        rests()
+    tally.check("the focus stays where the table is drawn again", page.run("return document.activeElement.innerText.trim()"), shown()[1][0])
     queue = page.run("return document.querySelector('#queues-list button').dataset.queue")
     tally.check("Tab comes to the queues", go(f"queue {queue}"), True)
     page.keys(driver.END + driver.LEFT + driver.ENTER)

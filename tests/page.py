@@ -7,6 +7,7 @@ import http.client
 import json
 import os
 import re
+import signal
 import subprocess
 import sys
 import time
@@ -32,6 +33,9 @@ DECISIONS = {"execute": "executed", "queue-full": "rejected: queue full", "concu
 # nothing is asked for any more, and all of it is drawn
 RESTS = "return document.readyState === 'complete' && !document.body.hasAttribute('aria-busy') && document.getElementById('status').textContent !== 'The noisy client is read.'"
 
+# in each case what was started ends: what runs in the background of a shell ignores an interrupt, unless it is told so
+signal.signal(signal.SIGINT, signal.default_int_handler)
+signal.signal(signal.SIGTERM, lambda *_: sys.exit(1))
 tally = Tally()
 program = build()
 files = Files()
@@ -58,7 +62,7 @@ class Served:
 
     def ask(self, method, path, body=None, **fields):
         """The status and the text of an answer. The fields are the head's, without what else a client would say."""
-        connection = http.client.HTTPConnection("127.0.0.1", self.port, timeout=20)
+        connection = http.client.HTTPConnection("127.0.0.1", self.port, timeout=10)
         connection.putrequest(method, path, skip_host=True, skip_accept_encoding=True)
         for name, value in fields.items():
             for each in value if isinstance(value, list) else [value]:
@@ -66,10 +70,13 @@ class Served:
         connection.endheaders()
         with contextlib.suppress(ConnectionError):
             connection.send(body or b"")
-        answer = connection.getresponse()
-        said = answer.status, answer.read().decode(), dict(answer.headers)
-        connection.close()
-        return said
+        try:
+            answer = connection.getresponse()
+            return answer.status, answer.read().decode(), dict(answer.headers)
+        except (OSError, http.client.HTTPException) as why:
+            return 0, repr(why), {}
+        finally:
+            connection.close()
 
 
 # what the program says, read here
@@ -576,52 +583,54 @@ sleep 0.12
 
 
 def check_time():
-    """With a stand-in for the program that takes long at a limit of 11 or 17, and elsewhere longer than the page looks away."""
+    """With a stand-in for the program that takes long at a limit of 11 or 17, and elsewhere longer than the server looks away."""
     global served
     notes, slow = files("notes", ""), files("slow", SLOW)
     os.chmod(slow, 0o755)
+    environment = {"APF_PROGRAM": slow, "REAL": program, "NOTES": notes}
     before = served
 
     def noted(word):
         return [int(it.split()[1]) for it in open(notes) if it.startswith(word)]
 
-    def is_running(process):
-        return os.path.exists(f"/proc/{process}")
+    def still():
+        """The slow ones that run, when they have had time to end."""
+        end = time.monotonic() + 5
+        while (found := [it for it in noted("slow") if os.path.exists(f"/proc/{it}")]) and time.monotonic() < end:
+            time.sleep(0.01)
+        return found
 
-    with Served(APF_PROGRAM=slow, REAL=program, NOTES=notes, APF_LONGEST="1") as served:
+    def begin_slow():
+        many = len(noted("slow"))
+        page.write("#limit", "11")
+        end = time.monotonic() + 5
+        while len(noted("slow")) == many and time.monotonic() < end:
+            time.sleep(0.01)
+        return len(noted("slow")) - many
+
+    with Served(**environment, APF_LONGEST="15") as served:
         begin()
         tally.check("a program that reads late", shown(), table_of_one())
-        page.write("#limit", "11")
-        tally.check("it takes long", bool(page.until("return document.body.hasAttribute('aria-busy')")), True)
-        end = time.monotonic() + 5
-        while not noted("slow") and time.monotonic() < end:
-            time.sleep(0.01)
+        tally.check("one that takes long", begin_slow(), 1)
         page.write("#limit", "12")
         begun = time.monotonic()
-        page.until("return document.getElementById('status').textContent.startsWith('Limit 10 → 12')")
-        tally.check("the newest change wins, and soon", (time.monotonic() - begun < 0.95, faults()), (True, []))
         rests()
-        tally.check("the newest change is shown", shown(), table_of_one(config={**LEVEL, "limit": 12}))
-        tally.check("the one before is ended", [it for it in noted("slow") if is_running(it)], [])
-        page.write("#limit", "17")
-        time.sleep(0.1)
-        rests()
+        tally.check("the newest change is shown, and soon", (shown(), faults(), time.monotonic() - begun < 10), (table_of_one(config={**LEVEL, "limit": 12}), [], True))
+        tally.check("the one before is ended", still(), [])
+        tally.check("another one that takes long", begin_slow(), 1)
+        page.go("about:blank")
+        tally.check("it ends with the page that asked", still(), [])
+        begin()
+        tally.check("one that takes long at the end", begin_slow(), 1)
+    tally.check("it ends with the server", still(), [])
+    with Served(**environment, APF_LONGEST="1") as served:
+        begin()
+        write("limit", "17")
         tally.check("a run that takes too long", (fault("run"), faults()), ("page: apf simulate was ended, as it took more than 1 s", ["run-fault"]))
-        tally.check("that is ended, too", [it for it in noted("slow") if is_running(it)], [])
+        tally.check("that is ended, too", still(), [])
         write("limit", "10")
         tally.check("and it goes on", (shown(), faults()), (table_of_one(), []))
-        tally.check("one runs at a time", (noted("beside"), len(noted("alone")) > 10), ([], True))
-        page.write("#limit", "11")
-        time.sleep(0.3)
-        page.go("about:blank")
-        end = time.monotonic() + 0.6
-        while any(map(is_running, noted("slow"))) and time.monotonic() < end:
-            time.sleep(0.01)
-        tally.check("it ends with the page that asked", [it for it in noted("slow") if is_running(it)], [])
-        begin()
-        page.write("#limit", "11")
-        time.sleep(0.5)
-    tally.check("it ends with the server", [it for it in noted("slow") if is_running(it)], [])
+    tally.check("one runs at a time", (noted("beside"), len(noted("alone")) > 10), ([], True))
     served = before
 
 

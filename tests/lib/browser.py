@@ -46,7 +46,7 @@ class Browser:
                     break
             else:
                 raise Refused("chromedriver did not start")
-            words = ["--headless=new", "--no-sandbox", "--disable-gpu", "--disable-dev-shm-usage", "--no-first-run", "--disable-background-networking"]
+            words = ["--headless=new", "--no-sandbox", "--disable-gpu", "--disable-dev-shm-usage", "--disable-crash-reporter", "--no-first-run", "--disable-background-networking"]
             words += [f"--user-data-dir={self.profile.name}/profile", f"--window-size={self.size[0]},{self.size[1]}", *self.words]
             options = {"binary": shutil.which("chromium"), "args": words}
             wanted = {"alwaysMatch": {"goog:chromeOptions": options, "goog:loggingPrefs": {"browser": "ALL"}}}

@@ -93,7 +93,7 @@ function refuse(why) {
   clearFaults()
   showFault(why.place ?? 'run', why.message)
   showOld(true)
-  if (last) tell('What stands below is of the settings before.')
+  if (last) tell('There is a fault. What stands here was asked before it.')
 }
 
 // the file
@@ -114,7 +114,7 @@ async function takeFile(file) {
       $('schema').focus()
       $('schema').select()
       showOld(true)
-      tell(`${file.name} is an audit log. Which flow schema have its requests?`)
+      tell(`${file.name} is an audit log. Of which flow schema are its requests?`)
     } else takeTrace({ name: file.name, content })
   } catch (why) {
     refuse(why)

@@ -119,7 +119,7 @@ export function showFlows({ flows, whole }) {
   state.shown = { flows, whole, two, unit: unitOf(longest) }
   const schemas = new Set(flows.map(it => it.schema))
   const schema = schemas.size === 1 && flows[0].schema ? ` of ${plain(flows[0].schema)}` : ''
-  const order = two ? 'The longest wait that changes most comes first.' : 'The longest wait comes first. Waits are those of executed requests.'
+  const order = two ? 'The longest wait that changes most comes first.' : 'The longest wait comes first; waits are those of executed requests.'
   const seats = two ? '' : ` ${grouped(whole.seatTime / 1e6, 1)} of ${grouped(whole.most / 1e6, 1)} seat-seconds are used.`
   $('flows-hint').textContent = `${counted(flows.length, 'flow')}${schema}. ${order}${seats}`
   $('flows-place').classList.toggle('two', two)

@@ -57,7 +57,11 @@ class Served:
 
     def __exit__(self, *_):
         self.process.terminate()
-        self.process.wait(20)
+        try:
+            self.process.wait(20)
+        except subprocess.TimeoutExpired:
+            self.process.kill()
+            self.process.wait()
         self.process.stdout.close()
 
     def ask(self, method, path, body=None, **fields):
@@ -376,7 +380,7 @@ def check_faults():
         tally.check(f"{field} {value!r}", (fault(place), faults(), want[:5]), (want, [f"{place}-fault"], "apf: "))
         tally.check(f"{field} {value!r} is marked", page.run("return document.getElementById(arguments[0]).ariaInvalid", field), "true")
         write(field, kept)
-        tally.check(f"{field} {kept} again", (faults(), shown()), ([], table_of_one()))
+        tally.check(f"{field} {kept} again", faults(), [])
     for value in ("8 s", "-1", "1001s", "--help"):
         write("patience", value)
         tally.check(f"patience {value!r}", (fault("patience"), faults()), (run(program, ["simulate", "--", files("c", json.dumps(LEVEL)), TRACE, value])[2].decode().strip(), ["patience-fault"]))

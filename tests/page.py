@@ -46,8 +46,9 @@ class Served:
 
     def __init__(self, **environment):
         self.room = Files()
+        self.said = open(files("said", ""), "w+")
         self.process = subprocess.Popen(
-            [os.path.join(TOP, "page")], stdin=subprocess.DEVNULL, stdout=subprocess.PIPE, text=True, env={**os.environ, "TMPDIR": self.room.folder.name, **environment}
+            [os.path.join(TOP, "page")], stdin=subprocess.DEVNULL, stdout=subprocess.PIPE, stderr=self.said, text=True, env={**os.environ, "TMPDIR": self.room.folder.name, **environment}
         )
         self.address = self.process.stdout.readline().split()[0]
         self.port = int(self.address.rstrip("/").rsplit(":", 1)[1])
@@ -63,6 +64,9 @@ class Served:
             self.process.kill()
             self.process.wait()
         self.process.stdout.close()
+        self.said.seek(0)
+        with self.said:
+            tally.check("the server ends in order, and says nothing", (self.process.returncode, self.said.read()), (0, ""))
 
     def ask(self, method, path, body=None, **fields):
         """The status and the text of an answer. The fields are the head's, without what else a client would say."""
@@ -638,6 +642,56 @@ def check_time():
     served = before
 
 
+CHARGING = """#!/bin/bash
+# a program that has --charge
+words=()
+for word; do
+  if [[ $word = --charge=* ]]; then echo "$1 $word" >>"$NOTES"; else words+=("$word"); fi
+done
+[ "$2" != --help ] || echo "--charge <BY>"
+exec "$REAL" "${words[@]}"
+"""
+
+
+def check_charge():
+    """Who is charged by what is asked where the program knows it."""
+    global served
+    notes, charging = files("notes", ""), files("charging", CHARGING)
+    os.chmod(charging, 0o755)
+    before = served
+
+    def noted():
+        with open(notes, "r+") as file:
+            lines = sorted({it.rstrip("\n") for it in file})
+            file.truncate(0)
+        return lines
+
+    begin()
+    is_shown = page.run("return document.getElementById('charging').checkVisibility()")
+    tally.check("a charge where the program knows it", is_shown, b"--charge" in run(program, ["simulate", "--help"])[1])
+    with Served(APF_PROGRAM=charging, REAL=program, NOTES=notes) as served:
+        begin()
+        tally.check("by time at first", noted(), ["fates --charge=time", "picture --charge=time", "simulate --charge=time"])
+        page.click("input[value=seats]")
+        time.sleep(0.05)
+        rests()
+        tally.check("by seats", (noted(), page.text("#status").split(":")[0]), (["fates --charge=seats", "picture --charge=seats", "simulate --charge=seats"], "Charged by time → seats"))
+        page.click("#keep")
+        rests()
+        tally.check("two levels by seats", (noted(), "The patience and the charge of now hold for both." in page.text("#kept")), (["compare --charge=seats", "fates --charge=seats", "picture --charge=seats"], True))
+    served = before
+
+
+def check_launcher():
+    """What ./page runs where nothing else is named is ./apf."""
+    global served
+    before = served
+    with Served() as served:
+        begin()
+        tally.check("the noisy client, by ./apf", (shown(), faults()), (table_of_one(), []))
+    served = before
+
+
 def listing():
     """Each file of the repository, without what builds and git write."""
     found = {}
@@ -648,8 +702,9 @@ def listing():
 
 
 before = listing()
-with Served() as served, driver.Browser() as page:
-    for check in (check_begin, check_files, check_audit, check_settings, check_faults, check_two, check_details, check_keyboard, check_hostile, check_sizes, check_hosts, check_time):
+# the launcher beside it takes as long as the program
+with Served(APF_PROGRAM=program) as served, driver.Browser() as page:
+    for check in (check_begin, check_files, check_audit, check_settings, check_faults, check_two, check_details, check_keyboard, check_hostile, check_sizes, check_hosts, check_time, check_charge, check_launcher):
         if len(sys.argv) > 1 and check.__name__.removeprefix("check_") not in sys.argv[1:]:
             continue
         begun = time.monotonic()
@@ -657,6 +712,5 @@ with Served() as served, driver.Browser() as page:
         if os.environ.get("APF_TIMES"):
             print(f"{check.__name__}: {time.monotonic() - begun:.1f} s")
 tally.check("no file is left", os.listdir(served.room.folder.name), [])
-tally.check("the server ends in order", served.process.returncode, 0)
 tally.check("no file of the repository changes", {it for it, _ in set(listing().items()) ^ set(before.items())}, set())
 tally.end()

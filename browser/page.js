@@ -2,7 +2,7 @@
 
 import { ask, coloursOf, Fault, flowsOf, handsOf, pairsOf, pictureOf, requestsOf } from './program.js'
 import { changesOf, clearFaults, configOf, onChange, put, showFault, values, wordsOf } from './settings.js'
-import { counted, grouped, onChoice, showDetails, showFlows, showOld, showPicture, unitOf } from './results.js'
+import { counted, grouped, imageOf, onChoice, showDetails, showFlows, showOld, showPicture, unitOf } from './results.js'
 
 const $ = id => document.getElementById(id)
 // a run that is younger, in milliseconds, is shown before the next change is
@@ -13,6 +13,8 @@ let options = null
 let trace = null
 let log = null
 let kept = null
+// which file was taken last
+let turns = 0
 // what is asked for and not yet begun, what runs, and what was shown last
 let isWanted = false
 let running = null
@@ -58,11 +60,11 @@ async function draw(signal) {
   const [command, read, levels] = held ? ['compare', pairsOf, { ...asked, config: configOf(held), other: asked.config }] : ['simulate', flowsOf, asked]
   const table = read((await ask(command, levels, content, signal)).output)
   const { output: svg } = await ask('picture', asked, content, signal)
+  const image = await imageOf(svg)
   clearFaults()
   showOld(false)
   showFlows(table)
-  const picture = pictureOf(svg)
-  showPicture(svg, picture)
+  showPicture(image, pictureOf(svg))
   $('file-about').textContent = counted(table.whole.requests, 'request')
   say(from, now, table.whole)
   if (isWanted) return
@@ -92,6 +94,8 @@ function say(from, now, whole) {
 function refuse(why) {
   clearFaults()
   showFault(why.place ?? 'run', why.message)
+  // too many requests, or too far apart: some are to be chosen
+  if (/^apf: audit fault (9|10)\b/.test(why.message)) $('some').open = true
   showOld(true)
   if (last) tell('There is a fault. What stands here was asked before it.')
 }
@@ -99,6 +103,7 @@ function refuse(why) {
 // the file
 
 async function takeFile(file) {
+  const turn = ++turns
   clearFaults()
   $('audit').hidden = true
   $('file-note').hidden = true
@@ -107,6 +112,7 @@ async function takeFile(file) {
   try {
     if (file.size > options.bytes) throw new Fault(`page: the file has ${file.size} bytes: at most ${options.bytes} may be there`)
     const content = await file.arrayBuffer().catch(() => { throw new Fault('page: the file cannot be read') })
+    if (turn !== turns) return
     const begin = new TextDecoder().decode(content.slice(0, 65536)).split('\n')[0]
     if (/"(stage|auditID|requestReceivedTimestamp)"\s*:/.test(begin)) {
       log = { name: file.name, content }
@@ -133,10 +139,11 @@ async function readLog(event) {
   const from = log
   clearFaults()
   tell('The audit log is read.')
+  const turn = ++turns
   try {
     const asked = Object.fromEntries(['schema', 'by', 'user', 'since', 'until'].map(it => [it, $(it).value]))
     const { output, note } = await ask('trace', asked, from.content)
-    if (from !== log) return
+    if (turn !== turns) return
     $('file-note').textContent = note
     $('file-note').hidden = !note
     takeTrace({ name: from.name, content: output })
@@ -147,7 +154,9 @@ async function readLog(event) {
 
 /** Begins with the noisy client, and with the settings that it has. */
 async function begin() {
+  const turn = ++turns
   const [config, content] = await Promise.all([fetch('noisy-client/config.json').then(it => it.json()), fetch('noisy-client/trace.jsonl').then(it => it.arrayBuffer())])
+  if (turn !== turns) return
   log = null
   $('audit').hidden = true
   $('file-note').hidden = true

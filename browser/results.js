@@ -137,20 +137,22 @@ function drawFlows() {
 
 // the picture
 
-let address = null
+/** Makes an image of a picture, and waits until it can be seen. In an image no script runs, whatever stands in it. */
+export async function imageOf(svg) {
+  const image = new Image()
+  image.src = URL.createObjectURL(new Blob([svg], { type: 'image/svg+xml' }))
+  await image.decode().catch(() => {})
+  return image
+}
 
-/** Shows a picture as an image, in which no script runs, whatever stands in it. */
-export function showPicture(svg, { width, height, words, strips }) {
-  const before = address
-  address = URL.createObjectURL(new Blob([svg], { type: 'image/svg+xml' }))
+/** Shows an image of a picture, with what a reader hears of it. */
+export function showPicture(image, { width, height, words, strips }) {
   const picture = $('picture')
-  picture.src = address
-  picture.alt = words
-  picture.width = width
-  picture.height = height
+  const before = picture.src
+  Object.assign(picture, { src: image.src, alt: words, width, height })
   state.strips = strips && { ...strips, pictureWidth: width, pictureHeight: height }
   $('strip').hidden = true
-  if (before) setTimeout(() => URL.revokeObjectURL(before), 1000)
+  if (before) URL.revokeObjectURL(before)
 }
 
 const usedQueues = () => [...new Set((state.requests ?? []).map(it => it.queue).filter(it => it !== '-'))].sort((one, other) => one - other)
@@ -190,13 +192,13 @@ export function showDetails(requests, hands, colours) {
 }
 
 function drawRequests() {
+  if (!flowNamed(state.flow)) state.flow = null
   $('requests-place').hidden = state.flow === null
   if (state.flow === null || !state.requests) return
   const requests = state.requests.filter(it => it.hash === state.flow)
   const hand = state.hands.find(it => it.hash === state.flow)
-  const name = flowNamed(state.flow)
   const time = it => (it === null ? '' : grouped(it / 1000, 3))
-  $('requests-head').replaceChildren('Requests of ', element('bdi', {}, name ? nameOf(name) : state.flow))
+  $('requests-head').replaceChildren('Requests of ', element('bdi', {}, nameOf(flowNamed(state.flow))))
   const covered = hand?.covered.length ? ` All of them are in the hand of ${hand.covered.map(it => it.split(' ').map(one => (flowNamed(one) ? nameOf(flowNamed(one)) : one)).join(', ')).join(', ')}.` : ''
   $('requests-hint').textContent = `${counted(requests.length, 'request')}. Times are milliseconds. ${hand?.hand.length ? `Its hand is the queues ${hand.hand.join(', ')}.` : 'It has no queues.'}${covered}`
   const columns = [

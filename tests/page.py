@@ -544,6 +544,11 @@ def check_hostile():
 
 
 def check_sizes():
+    begin(400, 900)
+    name = "system:serviceaccount:kube-system:generic-garbage-collector"
+    drop("long.jsonl", json.dumps({"schema": "s", "distinguisher": name, "arrivesAt": 0, "runsFor": 9}).encode() + b"\n")
+    lines = page.run("const it = document.querySelector('#flows bdi'); return [it.textContent, it.offsetHeight / parseFloat(getComputedStyle(it).fontSize) < 10]")
+    tally.check("a long name has room at 400", lines, [name, True])
     for scheme in ("light", "dark"):
         page.prefer(scheme)
         for width in (400, 2000):

@@ -3,6 +3,7 @@
 import http.client
 import json
 import os
+import re
 import shutil
 import signal
 import subprocess
@@ -31,20 +32,33 @@ class Browser:
 
     def __init__(self, width=1400, height=1000, words=()):
         self.profile = tempfile.TemporaryDirectory(prefix="apf-browser-", ignore_cleanup_errors=True)
+        self.driver, self.session, self.size, self.words = None, None, (width, height), words
+
+    def start(self):
+        """The port of a new driver, or None: it ends where the port that it draws is in use."""
         self.driver = subprocess.Popen(
             ["chromedriver", "--port=0"], stdin=subprocess.DEVNULL, stdout=subprocess.PIPE, stderr=subprocess.DEVNULL, start_new_session=True,
             env={**os.environ, "HOME": self.profile.name, "TMPDIR": self.profile.name},
         )
-        self.session = None
-        self.size, self.words = (width, height), words
+        for line in self.driver.stdout:
+            if found := re.search(rb"started successfully on port (\d+)", line):
+                return int(found[1])
+        self.end()
+        return None
+
+    def end(self):
+        """Ends the driver. Its group has the browser's processes too."""
+        try:
+            os.killpg(self.driver.pid, signal.SIGKILL)
+        except ProcessLookupError:
+            pass
+        self.driver.wait()
+        self.driver.stdout.close()
 
     def __enter__(self):
         try:
-            for line in self.driver.stdout:
-                if b"started successfully on port" in line:
-                    self.port = int(line.rstrip(b".\n").split()[-1])
-                    break
-            else:
+            self.port = next((port for _ in range(10) if (port := self.start())), None)
+            if not self.port:
                 raise Refused("chromedriver did not start")
             words = ["--headless=new", "--no-sandbox", "--disable-gpu", "--disable-dev-shm-usage", "--disable-crash-reporter", "--no-first-run", "--disable-background-networking"]
             words += [f"--user-data-dir={self.profile.name}/profile", f"--window-size={self.size[0]},{self.size[1]}", *self.words]
@@ -62,13 +76,8 @@ class Browser:
                 self.ask("DELETE", "")
             except (OSError, Refused, http.client.HTTPException):
                 pass
-        # the driver's group has the browser's processes too
-        try:
-            os.killpg(self.driver.pid, signal.SIGKILL)
-        except ProcessLookupError:
-            pass
-        self.driver.wait()
-        self.driver.stdout.close()
+        if self.driver and not self.driver.stdout.closed:
+            self.end()
         self.profile.cleanup()
 
     def ask(self, method, path, body=None):

@@ -24,12 +24,26 @@ let last = null
 const tell = text => ($('status').textContent = text)
 const mention = text => ($('said').textContent = text)
 
+let works = 0
+
+/** Does some work, and marks the page as busy until it and all other work are done. */
+async function busy(work) {
+  works += 1
+  document.body.setAttribute('aria-busy', 'true')
+  try {
+    await work()
+  } finally {
+    works -= 1
+    if (!works) document.body.removeAttribute('aria-busy')
+  }
+}
+
 // the program
 
 function change() {
   if (!trace) return
   isWanted = true
-  if (!running) return work()
+  if (!running) return busy(work)
   // a run that takes long is ended by the next change
   const run = running
   setTimeout(() => isWanted && run.abort(), Math.max(0, YOUNG - (performance.now() - run.since)))
@@ -39,7 +53,6 @@ async function work() {
   while (isWanted) {
     isWanted = false
     running = Object.assign(new AbortController(), { since: performance.now() })
-    document.body.setAttribute('aria-busy', 'true')
     try {
       await draw(running.signal)
     } catch (why) {
@@ -47,7 +60,6 @@ async function work() {
     }
   }
   running = null
-  document.body.removeAttribute('aria-busy')
 }
 
 /** Asks the program for all that the page shows of the settings. The table and the picture change together. */
@@ -134,8 +146,7 @@ function takeTrace(taken) {
 }
 
 /** Makes a trace of the audit log. */
-async function readLog(event) {
-  event.preventDefault()
+async function readLog() {
   const from = log
   clearFaults()
   tell('The audit log is read.')
@@ -181,9 +192,12 @@ function keep(settings) {
 function listen() {
   onChange(change)
   onChoice(mention)
-  $('file').addEventListener('change', () => $('file').files[0] && takeFile($('file').files[0]))
-  $('audit').addEventListener('submit', readLog)
-  $('example').addEventListener('click', begin)
+  $('file').addEventListener('change', () => $('file').files[0] && busy(() => takeFile($('file').files[0])))
+  $('audit').addEventListener('submit', event => {
+    event.preventDefault()
+    busy(readLog)
+  })
+  $('example').addEventListener('click', () => busy(begin))
   $('keep').addEventListener('click', () => keep(values()))
   $('let-go').addEventListener('click', () => keep(null))
   $('back').addEventListener('click', () => {
@@ -209,11 +223,11 @@ function listen() {
     const file = event.dataTransfer.files[0]
     if (!file) return
     $('file').value = ''
-    takeFile(file)
+    busy(() => takeFile(file))
   })
 }
 
 options = await fetch('options').then(it => it.json())
 $('charging').hidden = !options.charge
 listen()
-await begin()
+await busy(begin)

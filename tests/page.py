@@ -205,7 +205,6 @@ def drop(name, content):
           document.getElementById('file-place').dispatchEvent(new DragEvent(kind, { bubbles: true, cancelable: true, dataTransfer: moved }))""",
         name, base64.b64encode(content).decode(),
     )
-    time.sleep(0.05)
     rests()
 
 
@@ -281,7 +280,6 @@ def check_files():
     tally.check("schemas where they differ", sorted(it[0].split("\n") for it in shown()), [["0000000000000011"], ["All"], ["alice", "users"], ["bob", "users"], ["crawler", "batch"]])
     tally.check("the name of the file", page.text("#file-name"), "small.jsonl")
     page.type("#file", TRACE)
-    time.sleep(0.1)
     rests()
     tally.check("a trace that is chosen", shown(), table_of_one(config=small))
     page.click("#flows button[data-flow]")
@@ -292,7 +290,6 @@ def check_files():
         moved.items.add(new File([new Uint8Array(size)], name))
         document.dispatchEvent(new DragEvent('drop', { bubbles: true, cancelable: true, dataTransfer: moved }))
       }""")
-    time.sleep(0.3)
     rests()
     tally.check("of two files the last one", (page.text("#file-name"), faults(), shown()), ("second", [], table_of_one(trace=files("none", ""), config=small)))
     tally.check("the requests of another file are closed", page.run("return document.getElementById('requests-place').hidden"), True)
@@ -306,7 +303,6 @@ def check_files():
     tally.check("a bad file", (fault("file"), faults()), (said("simulate", trace=os.path.join(TOP, "README.md"), config=small)[1], ["file-fault"]))
     tally.check("what was shown before is marked", page.run("return [...document.querySelectorAll('.result')].every(it => it.matches('.old'))"), True)
     page.click("#example")
-    time.sleep(0.1)
     rests()
     tally.check("the noisy client again", (shown(), faults(), page.run("return document.querySelectorAll('.old').length")), (table_of_one(), [], 0))
     large = files("large.jsonl", b"")
@@ -336,7 +332,6 @@ def check_audit():
     tally.check("their schema", "a <b> schema" in page.text("#flows-hint"), True)
     page.run("document.getElementById('by').value = 'namespace'")
     page.click("#audit button")
-    time.sleep(0.1)
     rests()
     trace = files("audit.jsonl", run(program, ["trace", "--by=namespace", "--", AUDIT, "a <b> schema"])[1])
     tally.check("the namespaces of an audit log", shown(), table_of_one(trace=trace))
@@ -353,7 +348,6 @@ def check_audit():
     log = files("turned.log", "\n".join([turned, *lines]))
     drop("turned.log", open(log, "rb").read())
     page.click("#audit button")
-    time.sleep(0.1)
     rests()
     want = run(program, ["trace", "--", log, "x"])[2].decode().strip()
     tally.check("what is said beside a log", (page.text("#file-note"), want[:9]), (want, "apf: 1 of"))
@@ -375,7 +369,6 @@ def check_settings():
     tally.check("what changed", page.text("#status").split(". Longest wait ")[0], "Limit 10 → 11: executed 402 → {}, rejected 76 → {}, gave up 225 → {}".format(*counts))
     left, top, width, height = page.run("const it = document.getElementById('limit-slider').getBoundingClientRect(); return [it.left, it.top, it.width, it.height]")
     page.click_at(int(left + width * 0.3), int(top + height / 2))
-    time.sleep(0.1)
     rests()
     limit = int(page.run("return document.getElementById('limit').value"))
     tally.check("the limit by its slider and a pointer", (limit > 15, shown()), (True, table_of_one(config={**LEVEL, "limit": limit})))
@@ -704,7 +697,6 @@ def check_charge():
         begin()
         tally.check("by time at first", noted(), ["fates --charge=time", "picture --charge=time", "simulate --charge=time"])
         page.click("input[value=seats]")
-        time.sleep(0.05)
         rests()
         tally.check("by seats", (noted(), page.text("#status").split(":")[0]), (["fates --charge=seats", "picture --charge=seats", "simulate --charge=seats"], "Charged by time → seats"))
         page.click("#keep")

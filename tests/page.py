@@ -11,25 +11,20 @@ import signal
 import subprocess
 import sys
 import time
-import xml.etree.ElementTree as ElementTree
 from urllib.parse import urlencode
 
 sys.path.insert(0, os.path.join(os.path.dirname(os.path.abspath(__file__)), "lib"))
 import browser as driver
 from harness import TOP, Files, Tally, build, run
+from page import LEVEL, SVG, TRACE, Served, Told
 
 if driver.missing():
     print(f"not tried: the page in a browser, as {driver.missing()} is not installed")
     print("0 passed, 0 failed, 1 skipped")
     sys.exit(0)
 
-SVG = "{http://www.w3.org/2000/svg}"
-EXAMPLE = os.path.join(TOP, "examples", "noisy-client")
-TRACE = os.path.join(EXAMPLE, "trace.jsonl")
 AUDIT = os.path.join(TOP, "examples", "audit", "audit.log")
-LEVEL = {"limit": 10, "queues": 64, "handSize": 8, "queueLengthLimit": 50, "limitResponse": "Queue"}
 LARGEST = 64 * 1024 * 1024
-DECISIONS = {"execute": "executed", "queue-full": "rejected: queue full", "concurrency-limit": "rejected: no seat", "cancelled": "gave up"}
 # nothing is asked for any more, and all of it is drawn
 RESTS = "return document.readyState === 'complete' && !document.body.hasAttribute('aria-busy') && document.getElementById('status').textContent !== 'The noisy client is read.'"
 
@@ -39,135 +34,9 @@ signal.signal(signal.SIGTERM, lambda *_: sys.exit(1))
 tally = Tally()
 program = build()
 files = Files()
-
-
-class Served:
-    """The page, which is served until the end of a block. Its temporary files would stand in a folder that is looked at."""
-
-    def __init__(self, **environment):
-        self.room = Files()
-        self.said = open(files("said", ""), "w+")
-        self.process = subprocess.Popen(
-            [os.path.join(TOP, "page")], stdin=subprocess.DEVNULL, stdout=subprocess.PIPE, stderr=self.said, text=True, env={**os.environ, "TMPDIR": self.room.folder.name, **environment}
-        )
-        self.address = self.process.stdout.readline().split()[0]
-        self.port = int(self.address.rstrip("/").rsplit(":", 1)[1])
-
-    def __enter__(self):
-        return self
-
-    def __exit__(self, *_):
-        self.process.terminate()
-        try:
-            self.process.wait(20)
-        except subprocess.TimeoutExpired:
-            self.process.kill()
-            self.process.wait()
-        self.process.stdout.close()
-        self.said.seek(0)
-        with self.said:
-            tally.check("the server ends in order, and says nothing", (self.process.returncode, self.said.read()), (0, ""))
-
-    def ask(self, method, path, body=None, **fields):
-        """The status and the text of an answer. The fields are the head's, without what else a client would say."""
-        connection = http.client.HTTPConnection("127.0.0.1", self.port, timeout=10)
-        connection.putrequest(method, path, skip_host=True, skip_accept_encoding=True)
-        for name, value in fields.items():
-            for each in value if isinstance(value, list) else [value]:
-                connection.putheader(name.replace("_", "-"), each)
-        connection.endheaders()
-        with contextlib.suppress(ConnectionError):
-            connection.send(body or b"")
-        try:
-            answer = connection.getresponse()
-            return answer.status, answer.read().decode(), dict(answer.headers)
-        except (OSError, http.client.HTTPException) as why:
-            return 0, repr(why), {}
-        finally:
-            connection.close()
-
-
-# what the program says, read here
-
-
-def said(command, *words, config=LEVEL, other=None, trace=TRACE, patience="8s"):
-    """The output of a command on a level, and its error."""
-    levels = [files(f"level-{number}.json", it if isinstance(it, str) else json.dumps(it)) for number, it in enumerate((config, other)) if it is not None]
-    _, out, err = run(program, [command, *levels, trace, *([] if command == "hands" else [patience]), *words])
-    return out.decode().split("\n")[:-1], err.decode().strip()
-
-
-def names_of(line):
-    """The numbers and words of a line, and the name of its flow as the page shows it."""
-    found = re.fullmatch(r'(.*?)(?: of)?(?: ("(?:[^"\\]|\\.)*") ("(?:[^"\\]|\\.)*"))?', line)
-    words, name = found[1].split(" "), found[3]
-    if name is not None and not re.search(r'\\|^"(\s|"$)|\s"$', name):
-        name = name[1:-1]
-    return words, name
-
-
-def rounded(number, size, digits):
-    tenths = (number * 10**digits * 2 + size) // (2 * size)
-    return f"{tenths // 10**digits:,}" + (f".{tenths % 10**digits:0{digits}d}" if digits else "")
-
-
-def scale(longest):
-    """The size and the digits of times, by the longest one of the table."""
-    return (1, 0) if longest < 10_000 else (1000, 1) if longest < 1_000_000 else (1000, 0) if longest < 1_000_000_000 else (1_000_000, 0)
-
-
-def table_of_one(**level):
-    """The rows that `simulate` makes."""
-    lines, _ = said("simulate", **level)
-    flows = [names_of(it) for it in lines if it.startswith("flow ")]
-    rows = sorted(([name or words[1], *(int(words[it]) for it in (3, 5, 7, 9, 14, 16, 18, 11))] for words, name in flows), key=lambda it: -it[7])
-    size, digits = scale(max((it[7] for it in rows), default=0))
-    shown = [[it[0], *(f"{count:,}" for count in it[1:5]), *(rounded(wait, size, digits) for wait in it[5:8]), rounded(it[8], 1_000_000, 1)] for it in rows]
-    sums = [sum(it[place] for it in rows) for place in range(1, 5)]
-    last = [*(f"{it:,}" for it in sums), "", "", rounded(max((it[7] for it in rows), default=0), size, digits), rounded(sum(it[8] for it in rows), 1_000_000, 1)]
-    return [*shown, ["All", *last]]
-
-
-def table_of_two(**levels):
-    """The rows that `compare` makes, in its order."""
-    lines, _ = said("compare", **levels)
-    rows = [(name or words[0], [int(it) for it in words[1:]]) for words, name in map(names_of, lines[1:])]
-    size, digits = scale(max(max(it[5:7]) for _, it in rows[:-1]))
-    waits = [(name, [f"{it[0]:,}", *(rounded(wait, size, digits) for wait in it[1:7]), *(f"{count:,}" for count in it[7:11])]) for name, it in rows]
-    return [["All" if name == "whole" else name, *it] for name, it in waits]
-
-
-def requests_of(flow, **level):
-    """The rows that `fates` makes of a flow."""
-    rows = []
-    for words, name in map(names_of, said("fates", **level)[0][1:]):
-        number, _, arrival, queue, start, end, decision = words
-        wait = int(start if decision == "execute" else end) - int(arrival)
-        times = [rounded(int(it), 1000, 3) if it != "-" else "" for it in (arrival, wait, start, end) if it is not None]
-        if name == flow:
-            rows.append([number, times[0], "" if queue == "-" else queue, *times[1:], DECISIONS[decision]])
-    return rows
-
-
-def hands_of(**level):
-    """The hand of each flow."""
-    return {name or words[1]: words[3:] for words, name in map(names_of, (it for it in said("hands", **level)[0] if it.startswith("flow ")))}
-
-
-def sharers_of(queue, **level):
-    entered = [name for words, name in map(names_of, said("fates", **level)[0][1:]) if words[3] == queue]
-    return [[name, str(entered.count(name)), " ".join(hand)] for name, hand in hands_of(**level).items() if queue in hand]
-
-
-def picture_of(**level):
-    """The picture's title and description, and the row's number of each flow."""
-    root = ElementTree.fromstring("\n".join(said("picture", **level)[0]))
-    rows = {}
-    for group in root.iter(f"{SVG}g"):
-        mark = group.find(f"{SVG}rect")
-        if mark is not None and re.fullmatch(r"f\d+", mark.get("class")):
-            rows[group.find(f"{SVG}text").text.strip()] = int(mark.get("class")[1:])
-    return root, f"{root[0].text}. {root[1].text}", rows
+told = Told(program, files)
+said, table_of_one, table_of_two, requests_of = told.said, told.table_of_one, told.table_of_two, told.requests_of
+hands_of, sharers_of, picture_of = told.hands_of, told.sharers_of, told.picture_of
 
 
 # what the page shows
@@ -640,7 +509,7 @@ def check_time():
             time.sleep(0.01)
         return len(noted("slow")) - many
 
-    with Served(**environment, APF_LONGEST="15") as served:
+    with Served(tally, **environment, APF_LONGEST="15") as served:
         begin()
         tally.check("a program that reads late", shown(), table_of_one())
         tally.check("one that takes long", begin_slow(), 1)
@@ -655,7 +524,7 @@ def check_time():
         begin()
         tally.check("one that takes long at the end", begin_slow(), 1)
     tally.check("it ends with the server", still(), [])
-    with Served(**environment, APF_LONGEST="1") as served:
+    with Served(tally, **environment, APF_LONGEST="1") as served:
         begin()
         write("limit", "17")
         tally.check("a run that takes too long", (fault("run"), faults()), ("page: apf simulate was ended, as it took more than 1 s", ["run-fault"]))
@@ -693,7 +562,7 @@ def check_charge():
     begin()
     is_shown = page.run("return document.getElementById('charging').checkVisibility()")
     tally.check("a charge where the program knows it", is_shown, b"--charge" in run(program, ["simulate", "--help"])[1])
-    with Served(APF_PROGRAM=charging, REAL=program, NOTES=notes) as served:
+    with Served(tally, APF_PROGRAM=charging, REAL=program, NOTES=notes) as served:
         begin()
         tally.check("by time at first", noted(), ["fates --charge=time", "picture --charge=time", "simulate --charge=time"])
         page.click("input[value=seats]")
@@ -709,7 +578,7 @@ def check_launcher():
     """What ./page runs where nothing else is named is ./apf."""
     global served
     before = served
-    with Served() as served:
+    with Served(tally) as served:
         begin()
         tally.check("the noisy client, by ./apf", (shown(), faults()), (table_of_one(), []))
     served = before
@@ -726,7 +595,7 @@ def listing():
 
 before = listing()
 # the launcher beside it takes as long as the program
-with Served(APF_PROGRAM=program) as served, driver.Browser() as page:
+with Served(tally, APF_PROGRAM=program) as served, driver.Browser() as page:
     for check in (check_begin, check_files, check_audit, check_settings, check_faults, check_two, check_details, check_keyboard, check_hostile, check_sizes, check_hosts, check_time, check_charge, check_launcher):
         if len(sys.argv) > 1 and check.__name__.removeprefix("check_") not in sys.argv[1:]:
             continue

@@ -82,8 +82,8 @@ def write(field, text):
     rests()
 
 
-def press(text, held=""):
-    page.keys(text, held)
+def press(text):
+    page.keys(text)
     rests()
 
 
@@ -266,7 +266,7 @@ def check_faults():
     places = [("limit", "0", "limit"), ("limit", "abc", "limit"), ("limit", "", "limit"), ("limit", "1.5", "limit"), ("queues", "1025", "queues"), ("handSize", "15", "handSize"), ("queueLengthLimit", "-1", "queueLengthLimit")]
     for field, value, place in places:
         kept = page.run("return document.getElementById(arguments[0]).value", field)
-        write(field, value or driver.HOME + "\ue017" * 9)
+        write(field, value)
         number = json.loads(value) if re.fullmatch(r"-?[0-9.]+", value) else value
         want = said("simulate", config={**LEVEL, field: number})[1]
         tally.check(f"{field} {value!r}", (fault(place), faults(), want[:5]), (want, [f"{place}-fault"], "apf: "))

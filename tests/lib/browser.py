@@ -13,7 +13,8 @@ import time
 # the name of an element's number in the protocol
 ELEMENT = "element-6066-11e4-a52e-4f735466cecf"
 # keys, as the protocol has them
-TAB, ENTER, SPACE, UP, DOWN, LEFT, RIGHT, HOME, END, SHIFT = "\ue004", "\ue007", "\ue00d", "\ue013", "\ue015", "\ue012", "\ue014", "\ue011", "\ue010", "\ue008"
+TAB, ENTER, SPACE, DELETE = "\ue004", "\ue007", "\ue00d", "\ue017"
+UP, DOWN, LEFT, RIGHT, HOME, END = "\ue013", "\ue015", "\ue012", "\ue014", "\ue011", "\ue010"
 # no wait is longer, in seconds
 MOST = 20
 
@@ -110,15 +111,16 @@ class Browser:
         self.ask("POST", f"/element/{self.find(selector)}/value", {"text": text})
 
     def write(self, selector, text):
-        """Writes a text in the place of what an input has, key by key."""
+        """Writes a text in the place of what an input has, as if it were pasted."""
         self.run("const it = document.querySelector(arguments[0]); it.focus(); it.select()", selector)
-        self.keys(text)
+        if text:
+            self.command("Input.insertText", text=text)
+        else:
+            self.keys(DELETE)
 
-    def keys(self, text, held=""):
-        """Presses keys, while others are held."""
-        actions = [{"type": "keyDown", "value": it} for it in held]
-        actions += [{"type": kind, "value": it} for it in text for kind in ("keyDown", "keyUp")]
-        actions += [{"type": "keyUp", "value": it} for it in held]
+    def keys(self, text):
+        """Presses keys, one after the other."""
+        actions = [{"type": kind, "value": it} for it in text for kind in ("keyDown", "keyUp")]
         self.ask("POST", "/actions", {"actions": [{"type": "key", "id": "keys", "actions": actions}]})
 
     def click_at(self, x, y):

@@ -183,6 +183,7 @@ def check_files():
 
 def check_audit():
     begin()
+    page.log()
     page.type("#file", AUDIT)
     page.until("return !document.getElementById('audit').hidden")
     tally.check("an audit log: the schema is asked for", focused(), "schema")
@@ -220,6 +221,7 @@ def check_audit():
     rests()
     want = run(program, ["trace", "--", log, "x"])[2].decode().strip()
     tally.check("what is said beside a log", (page.text("#file-note"), want[:9]), (want, "apf: 1 of"))
+    tally.check("the browser says nothing of a log", page.log(), [])
 
 
 def rejected():

@@ -128,7 +128,8 @@ class Browser:
         self.ask("POST", "/actions", {"actions": [{"type": "pointer", "id": "mouse", "actions": moves}]})
 
     def text(self, selector):
-        return self.run("return document.querySelector(arguments[0])?.innerText ?? null", selector)
+        """The text of an element that is to be seen, or None."""
+        return self.run("const it = document.querySelector(arguments[0]); return it?.checkVisibility() ? it.innerText : null", selector)
 
     def until(self, script, *words):
         """Waits until a script answers something that is true, and answers that, or the last answer."""

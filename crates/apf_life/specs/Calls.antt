@@ -1,6 +1,6 @@
 -- What the calls of a level ask and answer, where more than one call does.
 use Rattle.std.specs.Prelude.{◌≡◌, ◌≤◌, ◌<◌, ℕ, true, false, List, length, All, Some, Result, IfErr, OnOk}
-use Rattle.apf_words.specs.Limits.{max_width}
+use Rattle.apf_words.specs.Limits.{max_cost}
 use Rattle.apf_flow.specs.Fault.{fault_of}
 use Rattle.apf_flow.specs.Sizes.{IsDealable}
 use Rattle.apf_model.specs.declared.response.Response.{Response}

@@ -1,6 +1,6 @@
 -- Which level it is, and which histories are its own.
 use Rattle.std.specs.Prelude.{◌≡◌, ℕ, ◌≤◌, length}
-use Rattle.apf_words.specs.Limits.{max_width}
+use Rattle.apf_words.specs.Limits.{max_cost}
 use Rattle.apf_flow.specs.Sizes.{Sizes}
 use Rattle.apf_model.specs.declared.response.Response.TheVariants.{Reject}
 use Rattle.apf_model.specs.World.{width}

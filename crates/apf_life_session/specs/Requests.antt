@@ -11,12 +11,6 @@ use Rattle.apf_gate.specs.Tokens.{PassToken, pass_gate}
 use Rattle.apf_gate.specs.PassSteps.{PassSubtractsLevel}
 use Rattle.apf_book.specs.declared.life_event.LifeEvent.{LifeEvent}
 use Rattle.apf_book.specs.Notes.{event_of}
-use Rattle.apf_life.specs.declared.answers.Begin.{Begin}
-use Rattle.apf_life.specs.declared.answers.Begin.TheVariants as begun
-use Rattle.apf_life.specs.declared.answers.TryAdmit.{TryAdmit}
-use Rattle.apf_life.specs.declared.answers.TryAdmit.TheVariants as tried
-use Rattle.apf_life.specs.declared.answers.Admit.{Admit}
-use Rattle.apf_life.specs.declared.answers.Admit.TheVariants as admitted
 use Rattle.apf_life.specs.Levels.{LifeId}
 use Rattle.apf_life.specs.Tokens.{IsInLine, IsRunning, IsDone}
 use Rattle.apf_life.specs.Arrivals.{Came}
@@ -26,13 +20,6 @@ use Rattle.apf_life_session.specs.declared.answer.Answer.{Answer}
 use Rattle.apf_life_session.specs.declared.answer.Answer.TheVariants as answers
 use Rattle.apf_life_session.specs.declared.answer.Place.{Place}
 use Rattle.apf_life_session.specs.declared.answer.Place.TheVariants as places
-
--- there is a token of the level
-abbrev pub IsTokenOf : LifeId → Token → Type 0
-IsTokenOf k (tokens.Free pass) = pass_gate pass ≡ k.gate
-IsTokenOf k (tokens.Waiting pass) = pass_gate pass ≡ k.gate
-IsTokenOf k (tokens.Running pass) = pass_gate pass ≡ k.gate
-IsTokenOf k tokens.Gone = ⊥
 
 -- the number of the slot's newest request
 abbrev pub number_in : Token → ℕ
@@ -166,23 +153,6 @@ pub record CallsOne (calls : Token → Answer → Token → Type 0) (slot : ℕ)
   pub one : (d : Token) → calls (slice_index_or old slot d) answer (slice_index_or new slot d)
   pub others : (i : ℕ) (d : Token) → i ≢ slot → slice_index_or new i d ≡ slice_index_or old i d
 
--- what is answered of an arrival, and the token that is kept of it
-abbrev pub KeepsBegun : Begin → Answer → Token → Type 0
-KeepsBegun (begun.Run pass) answer token = (answer ≡ answers.Run) × (token ≡ tokens.Running pass)
-KeepsBegun (begun.Over pass decision) answer token = (answer ≡ answers.Over decision) × (token ≡ tokens.Free pass)
-KeepsBegun (begun.Waiting pass) answer token = (answer ≡ answers.Waits) × (token ≡ tokens.Waiting pass)
-
--- what is answered of an attempt, and the token that is kept of it
-abbrev pub KeepsTried : TryAdmit → Answer → Token → Type 0
-KeepsTried (tried.Run pass) answer token = (answer ≡ answers.Run) × (token ≡ tokens.Running pass)
-KeepsTried (tried.Over pass decision waiting) answer token = (answer ≡ answers.Tried decision waiting) × (token ≡ tokens.Free pass)
-KeepsTried (tried.Busy a) answer token = (answer ≡ answers.Busy) × (token ≡ tokens.Free a.token)
-
 -- all slots are free
 abbrev pub AreFree : List Token → Type 0
 AreFree slots = All (λ (t : Token). place_of t ≡ places.Free) slots
-
--- what is answered of a request that was waited for, and the token that is kept of it
-abbrev pub KeepsAdmitted : Admit → Answer → Token → Type 0
-KeepsAdmitted (admitted.Run pass) answer token = (answer ≡ answers.Run) × (token ≡ tokens.Running pass)
-KeepsAdmitted (admitted.Over pass decision) answer token = (answer ≡ answers.Over decision) × (token ≡ tokens.Free pass)

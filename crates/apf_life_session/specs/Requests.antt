@@ -8,9 +8,12 @@ use Rattle.apf_history.specs.declared.events.Event.TheVariants as events
 use Rattle.apf_gate.specs.Records.{told_own}
 use Rattle.apf_gate.specs.Slots.{next_of}
 use Rattle.apf_gate.specs.Tokens.{PassToken, pass_gate}
-use Rattle.apf_gate.specs.PassSteps.{PassSubtractsLevel}
+use Rattle.apf_gate.specs.PassSteps.{PassRenews, PassSubtractsLevel}
 use Rattle.apf_book.specs.declared.life_event.LifeEvent.{LifeEvent}
 use Rattle.apf_book.specs.Notes.{event_of}
+use Rattle.apf_life.specs.declared.answers.Tried.{Tried}
+use Rattle.apf_life.specs.declared.answers.Tried.TheVariants as tries
+use Rattle.apf_life.specs.Attempts.{Attempts}
 use Rattle.apf_life.specs.Levels.{LifeId}
 use Rattle.apf_life.specs.Tokens.{IsInLine, IsRunning, IsDone}
 use Rattle.apf_life.specs.Arrivals.{Came}
@@ -121,6 +124,30 @@ Tries width (tokens.Free pass) answer token' = ((answer ≡ answers.Spent) × (t
 Tries width (tokens.Waiting pass) answer token' = (answer ≡ answers.Wrong) × (token' ≡ tokens.Waiting pass)
 Tries width (tokens.Running pass) answer token' = (answer ≡ answers.Wrong) × (token' ≡ tokens.Running pass)
 Tries width tokens.Gone answer token' = ⊥
+
+-- what is answered of an attempt, and the token that is kept of the Pass that it left. The slot of a request that is busy is free
+abbrev pub KeepsTried : Tried → PassToken → Answer → Token → Type 0
+KeepsTried tries.Run pass answer token = (answer ≡ answers.Run) × (token ≡ tokens.Running pass)
+KeepsTried (tries.Over decision waiting) pass answer token = (answer ≡ answers.Tried decision waiting) × (token ≡ tokens.Free pass)
+KeepsTried tries.Blocked pass answer token = (answer ≡ answers.Busy) × (token ≡ tokens.Free pass)
+KeepsTried tries.Raced pass answer token = (answer ≡ answers.Busy) × (token ≡ tokens.Free pass)
+
+-- the slot of this Pass went on to its next request, of this width, and what is answered is what the steps of its attempt found: that requests waited when seats were given back, too
+pub record AttemptsNext (width : ℕ) (pass : PassToken) (answer : Answer) (token' : Token) : Type 0 where
+  pub next : PassToken
+  pub found : Option Decision
+  pub renews : PassRenews (next_of pass.pass.number width) pass.pass found next.pass
+  pub tried : Tried
+  pub left : PassToken
+  pub steps : Attempts next.pass tried left
+  pub keeps : KeepsTried tried left answer token'
+
+-- what an attempt in a free slot answers is what its steps found, unless the slot's numbers are used up
+abbrev pub TriesAs : ℕ → Token → Answer → Token → Type 0
+TriesAs width (tokens.Free pass) answer token' = answer ≢ answers.Spent → AttemptsNext width pass answer token'
+TriesAs width (tokens.Waiting pass) answer token' = Unit {0}
+TriesAs width (tokens.Running pass) answer token' = Unit {0}
+TriesAs width tokens.Gone answer token' = Unit {0}
 
 -- what the history got by the arrival of the request of this number, with this hand and this cost, that is answered so: its Enter, or its Full if a queue was full, of a request that came; and no event only if it does not wait, and no queue was full
 abbrev pub LogsFor : LifeId → ℕ → List ℕ → ℕ → Answer → Option LifeEvent → Type 0

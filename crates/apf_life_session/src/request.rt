@@ -10,7 +10,7 @@ ghost use Rattle.apf_gate.specs.Tokens.{pass_gate};
 ghost use Rattle.apf_life_session.specs.declared.answer.Answer.TheVariants as answers;
 ghost use Rattle.apf_life_session.specs.declared.answer.Place.TheVariants as places;
 ghost use Rattle.apf_life_session.specs.declared.token.Token.TheVariants as tokens;
-ghost use Rattle.apf_life_session.specs.Requests.{number_in, place_of, Answers, Arrives, Tries, Polls, LogsFor, ReleasesAs};
+ghost use Rattle.apf_life_session.specs.Requests.{number_in, place_of, Answers, Arrives, Tries, TriesAs, Polls, LogsFor, ReleasesAs};
 
 use crate::answer::{Answer, Place};
 use apf_book::LifeEvent;
@@ -184,6 +184,7 @@ impl<K: Naming> Request<K> {
         requires some_width { 1 ≤ ask.width }
         requires narrow { ask.width ≤ max_width }
         ensures tries { Tries ask.width self.old result self.new }
+        ensures steps { TriesAs ask.width self.old result self.new }
     {
         if self.place != Place::Free {
             return Answer::Wrong;

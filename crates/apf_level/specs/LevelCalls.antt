@@ -13,11 +13,11 @@ use Rattle.apf_book.specs.Laws.{decision_in}
 use Rattle.atomic_table.specs.Seated.{TableId}
 use Rattle.apf_stats.specs.Numbers.{BoardView, PassView}
 use Rattle.apf_level.specs.declared.answers.Begin.{Begin}
-use Rattle.apf_level.specs.declared.answers.Attempt.{Attempt}
+use Rattle.apf_level.specs.declared.answers.Tried.{Tried}
 use Rattle.apf_level.specs.Levels.{LevelId, LevelView}
 use Rattle.apf_level.specs.Opening.{FaultBy, SettledBy}
 use Rattle.apf_level.specs.Tokens.{IsOf}
-use Rattle.apf_level.specs.Admission.{begun_pass, tried_pass, IsBegunTold, IsTriedTold, EnteredNow, SaysOpen}
+use Rattle.apf_level.specs.Admission.{begun_pass, IsBegunTold, IsTriedTold, EnteredNow, SaysOpen}
 use Rattle.apf_level.specs.Attempts.{tried_of, StaysOut}
 use Rattle.apf_level.specs.Reports.{Ended}
 
@@ -56,12 +56,12 @@ pub record IsFreshPass (k : LevelId) (token : PassToken) : Type 0 where
   pub own : pass_gate token ≡ k.gate
   pub fresh : token.pass.state ≡ Fresh
 
--- what an attempt leaves and answers, beside its steps: the Pass of the same request, which was told what is answered. One that saw the level closed finds it closed, and nobody enters
-pub record AfterAttempt (token : PassToken) (answer : Attempt) : Type 0 where
-  pub same : IsOf token (tried_pass (tried_of answer))
-  pub told : IsTriedTold (tried_of answer)
-  pub stays_closed : token.pass.knows.saw_closed ≡ true → ¬ SaysOpen (tried_of answer)
-  pub outside : StaysOut token.pass answer
+-- what an attempt answers and leaves, beside its steps: the Pass of the same request, which was told what is answered. One that saw the level closed finds it closed, and nobody enters
+pub record AfterAttempt (token : PassToken) (answer : Tried) (left : PassToken) : Type 0 where
+  pub same : IsOf token left
+  pub told : IsTriedTold (tried_of answer left)
+  pub stays_closed : token.pass.knows.saw_closed ≡ true → ¬ SaysOpen (tried_of answer left)
+  pub outside : StaysOut token.pass answer left
 
 -- what an arrival leaves and answers: the Pass of the same request, which was told what is answered, and has whether its request entered
 pub record AfterBegin (token : PassToken) (answer : Begin) : Type 0 where

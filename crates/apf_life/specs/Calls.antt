@@ -14,11 +14,11 @@ use Rattle.apf_gate.specs.Tokens.{GateId, PassToken, DeskToken, StationToken, pa
 use Rattle.apf_book.specs.declared.fault.BookFault.{BookFault}
 use Rattle.apf_book.specs.declared.fault.BookFault.TheVariants.{Dealer, Queues, NoMemory}
 use Rattle.apf_life.specs.declared.answers.Begin.{Begin}
-use Rattle.apf_life.specs.declared.answers.Attempt.{Attempt}
+use Rattle.apf_life.specs.declared.answers.Tried.{Tried}
 use Rattle.apf_life.specs.Levels.{LifeId}
 use Rattle.apf_life.specs.Tokens.{IsOf}
 use Rattle.apf_life.specs.Admission.{begun_pass, IsBegunTold, EnteredNow}
-use Rattle.apf_life.specs.Attempts.{attempted_pass, IsAttemptedTold, FoundOpen, StaysOut}
+use Rattle.apf_life.specs.Attempts.{IsAttemptedTold, FoundOpen, StaysOut}
 
 -- the gate is the level's, as it was opened for life for these settings, with its Desk
 pub record IsGateFor (k : LifeId) (config : Config) (gate : GateId) (given : DeskToken) : Type 0 where
@@ -74,12 +74,12 @@ pub record StandsInLine (k : LifeId) (token : PassToken) (hand : List ℕ) (cost
   pub some_cost : 1 ≤ cost
   pub low : cost ≤ max_cost
 
--- what an attempt leaves and answers, beside its steps: the Pass of the same request, which was told what is answered. One that saw the level closed finds it closed, and nobody enters
-pub record AfterAttempt (token : PassToken) (answer : Attempt) : Type 0 where
-  pub same : IsOf token (attempted_pass answer)
-  pub told : IsAttemptedTold answer
+-- what an attempt answers and leaves, beside its steps: the Pass of the same request, which was told what is answered. One that saw the level closed finds it closed, and nobody enters
+pub record AfterAttempt (token : PassToken) (answer : Tried) (left : PassToken) : Type 0 where
+  pub same : IsOf token left
+  pub told : IsAttemptedTold answer left
   pub stays_closed : token.pass.knows.saw_closed ≡ true → ¬ FoundOpen answer
-  pub outside : StaysOut token.pass answer
+  pub outside : StaysOut token.pass answer left
 
 -- what an arrival leaves and answers: the Pass of the same request, which was told what is answered, and has whether its request entered
 pub record AfterBegin (token : PassToken) (answer : Begin) : Type 0 where

@@ -3,10 +3,6 @@ use Rattle.std.specs.Prelude.{◌≡◌, ◌≢◌, Some}
 use Rattle.apf_words.specs.declared.decision.Decision.TheVariants as decisions
 use Rattle.apf_gate.specs.Records.{told_own}
 use Rattle.apf_gate.specs.Tokens.{PassToken}
-use Rattle.apf_life.specs.declared.answers.Tried.{Tried}
-use Rattle.apf_life.specs.declared.answers.Tried.TheVariants as tries
-use Rattle.apf_life.specs.declared.answers.Attempt.{Attempt}
-use Rattle.apf_life.specs.declared.answers.Attempt.TheVariants as attempted
 use Rattle.apf_life.specs.declared.answers.Begun.{Begun}
 use Rattle.apf_life.specs.declared.answers.Begun.TheVariants as begins
 use Rattle.apf_life.specs.declared.answers.Begin.{Begin}
@@ -14,20 +10,6 @@ use Rattle.apf_life.specs.declared.answers.Begin.TheVariants as begun
 use Rattle.apf_life.specs.declared.answers.Poll.{Poll}
 use Rattle.apf_life.specs.declared.answers.Poll.TheVariants as polled
 use Rattle.apf_life.specs.Tokens.{IsInLine, IsRunning, IsDone}
-
--- what an attempt answers, with the Pass that it left in its place
-abbrev pub attempt_of : Tried → PassToken → Attempt
-attempt_of tries.Run token = attempted.Run token
-attempt_of (tries.Over decision waiters) token = attempted.Over token decision waiters
-attempt_of tries.Blocked token = attempted.Blocked token
-attempt_of tries.Raced token = attempted.Raced token
-
--- the Pass that an attempt left is what its answer says: of a request that executes, or that is over
-abbrev pub IsKeptBy : Tried → PassToken → Type 0
-IsKeptBy tries.Run token = IsRunning token
-IsKeptBy (tries.Over decision waiters) token = IsDone token
-IsKeptBy tries.Blocked token = Unit {0}
-IsKeptBy tries.Raced token = Unit {0}
 
 -- what an arrival answers, with the Pass that it left in its place
 abbrev pub begin_of : Begun → PassToken → Begin

@@ -1,5 +1,8 @@
 //! What the calls of a request answer.
 
+ghost use Rattle.std.specs.Prelude.{◌≡◌};
+ghost use Rattle.apf_life.specs.InPlace.{begin_of, IsLeftBy};
+
 use crate::tokens::{Done, Pass, Running, Waiting};
 use apf_words::Decision;
 
@@ -23,19 +26,7 @@ pub enum TryAdmit {
     Busy(Pass),
 }
 
-/// What became of an attempt to be admitted, with why it is busy.
-pub enum Attempt {
-    /// It executes.
-    Run(Running),
-    /// It is decided so. Where the bool is true a dispatch is owed, as after `TryAdmit::Over`.
-    Over(Done, Decision, bool),
-    /// Requests wait, or it does not fit. Never on a level without queues.
-    Blocked(apf_gate::Pass),
-    /// The level word changed in between.
-    Raced(apf_gate::Pass),
-}
-
-/// What became of an attempt to be admitted, with why it is busy, where its Pass stays in its place.
+/// What became of an attempt to be admitted, and why it is busy. Its Pass stays in its place.
 #[derive(Clone, Copy, PartialEq, Eq)]
 pub enum Tried {
     /// It executes.
@@ -48,7 +39,7 @@ pub enum Tried {
     Raced,
 }
 
-/// What became of an arrival, or was read of a request that waits, where its Pass stays in its place.
+/// What became of an arrival, or was read of a request that waits. Its Pass stays in its place.
 #[derive(Clone, Copy, PartialEq, Eq)]
 pub enum Begun {
     /// It executes.
@@ -57,6 +48,20 @@ pub enum Begun {
     Over(Decision),
     /// It waits.
     Waits,
+}
+
+impl Begun {
+    /// The same of an arrival, with its Pass.
+    pub(crate) fn with(self, pass: apf_gate::Pass) -> Begin
+        requires { IsLeftBy self pass }
+        ensures { result ≡ begin_of self pass }
+    {
+        match self {
+            Begun::Run => Begin::Run(Running { pass }),
+            Begun::Over(decision) => Begin::Over(Done { pass }, decision),
+            Begun::Waits => Begin::Waiting(Waiting { pass }),
+        }
+    }
 }
 
 /// What became of an arrival.

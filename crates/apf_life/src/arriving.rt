@@ -7,11 +7,11 @@ ghost use Rattle.apf_model.specs.declared.response.Response.TheVariants.{Queue};
 ghost use Rattle.apf_gate.specs.Tokens.{pass_gate};
 ghost use Rattle.apf_life.specs.Tokens.{IsOf, IsInLine};
 ghost use Rattle.apf_life.specs.InPlace.{begin_of, poll_of, IsLeftBy, IsDecided};
-ghost use Rattle.apf_life.specs.Admission.{begun_pass, polled_pass, admitted_pass, IsBegunTold, IsAdmittedTold, SaysWaiting, Polls};
-ghost use Rattle.apf_life.specs.Arrivals.{HasEntered, Logs};
+ghost use Rattle.apf_life.specs.Admission.{polled_pass, admitted_pass, IsAdmittedTold, SaysWaiting, Polls};
+ghost use Rattle.apf_life.specs.Arrivals.{Logs};
 ghost use Rattle.apf_life.specs.Calls.{IsFreshPass, AfterBegin};
 
-use crate::answers::{Admit, Attempt, Begin, Begun, Poll, Stood, Tried};
+use crate::answers::{Admit, Begin, Begun, Poll, Stood, Tried};
 use crate::level::Level;
 use crate::naming::Naming;
 use crate::queued::QueuedLock;
@@ -48,27 +48,13 @@ impl<K: Naming> Level<K> {
         ensures queues { SaysWaiting result.0 → self.now.shape.response ≡ Queue }
         ensures logs { Logs K.level pass.token.pass.number (hand_of K.level.sizes pass.hash) pass.cost result.0 result.1 }
     {
-        let Pass { pass, hash, cost } = pass;
-        let mut attempt = self.attempt(pass);
-        for _ in rt.forever() {
-            let pass = match attempt {
-                Attempt::Run(running) => return (Begin::Run(running), None),
-                Attempt::Over(done, decision, waiting) => {
-                    if waiting {
-                        self.lock(rt).dispatch(rt);
-                    }
-                    return (Begin::Over(done, decision), None);
-                }
-                Attempt::Blocked(pass) => match &self.shared {
-                    Shared::Queued(queued) => return self.stand(rt, queued, pass, hash, cost),
-                    // without queues a request is busy after a lost exchange alone
-                    Shared::Alone(_alone) => pass,
-                },
-                Attempt::Raced(pass) => pass,
-            };
-            attempt = self.take(pass);
-        }
-        unreachable!()
+        let Pass {
+            mut pass,
+            hash,
+            cost,
+        } = pass;
+        let (begun, event) = self.arrive(rt, &mut pass, hash, cost);
+        (begun.with(pass), event)
     }
 
     /// Reads the decision of a request that waits, by one load. One that is cancelled leaves its queue, and then
@@ -79,13 +65,10 @@ impl<K: Naming> Level<K> {
         ensures answer { Polls waiting.pass result }
     {
         let Waiting { mut pass } = waiting;
-        match self.gate.told(&mut pass) {
-            None => Poll::Still(Waiting { pass }),
-            Some(Decision::Execute) => Poll::Run(Running { pass }),
-            Some(decision) => {
-                self.shared.withdraw(rt, &self.gate, &mut pass);
-                Poll::Over(Done { pass }, decision)
-            }
+        match self.read_decision(rt, &mut pass) {
+            Begun::Run => Poll::Run(Running { pass }),
+            Begun::Over(decision) => Poll::Over(Done { pass }, decision),
+            Begun::Waits => Poll::Still(Waiting { pass }),
         }
     }
 
@@ -96,101 +79,27 @@ impl<K: Naming> Level<K> {
         ensures same { IsOf pass.token (admitted_pass result) }
         ensures told { IsAdmittedTold result }
     {
-        let mut waiting = match self.begin(rt, pass) {
-            Begin::Run(running) => return Admit::Run(running),
-            Begin::Over(done, decision) => return Admit::Over(done, decision),
-            Begin::Waiting(waiting) => waiting,
-        };
-        let mut readings = 0;
-        for _ in rt.forever() {
-            waiting = match self.poll(rt, waiting) {
-                Poll::Run(running) => return Admit::Run(running),
-                Poll::Over(done, decision) => return Admit::Over(done, decision),
-                Poll::Still(waiting) => waiting,
-            };
-            if readings < READINGS_AWAKE {
-                readings += 1;
-                if readings == READINGS_AWAKE {
-                    self.shared.will_sleep(rt, waiting.ticket());
-                }
-                hint::spin_loop();
-            } else {
-                self.gate.park(rt, waiting.ticket().number);
-            }
-        }
-        unreachable!()
-    }
-
-    // The request asks, and arrives under the lock.
-    fn stand<R: Wait>(
-        &self,
-        rt: &R,
-        queued: &QueuedLock<K>,
-        mut pass: apf_gate::Pass,
-        hash: u64,
-        cost: u32,
-    ) -> (Begin, Option<LifeEvent>)
-        requires fresh { IsFreshPass K.level pass }
-        requires some_cost { 1 ≤ cost }
-        requires low_cost { cost ≤ max_cost }
-        ensures after { AfterBegin pass result.0 }
-        ensures logs { Logs K.level pass.pass.number (hand_of K.level.sizes hash) cost result.0 result.1 }
-        ensures queues { self.now.shape.response ≡ Queue }
-    {
-        self.gate.ask(&mut pass);
-        let hand = queued.dealer.deal(hash);
-        let ticket = pass.ticket();
-        let stood = queued
-            .lock
-            .lock(rt)
-            .arrive(rt, &self.gate, &mut pass, hand.as_slice(), cost);
-        match stood {
-            Stood::Entered(queue) => {
-                let begun = self.look_again(rt, Waiting { pass });
-                (begun, Some(LifeEvent::Enter(ticket, queue)))
-            }
-            Stood::Full(queue) => {
-                let begun = Begin::Over(Done { pass }, Decision::QueueFull);
-                (begun, Some(LifeEvent::Full(ticket, queue)))
-            }
-            Stood::Over(decision) => (Begin::Over(Done { pass }, decision), None),
+        let Pass {
+            mut pass,
+            hash,
+            cost,
+        } = pass;
+        match self.arrive_and_wait(rt, &mut pass, hash, cost) {
+            Begun::Run => Admit::Run(Running { pass }),
+            Begun::Over(decision) => Admit::Over(Done { pass }, decision),
+            Begun::Waits => unreachable!(),
         }
     }
 
-    // Reads the decision of a request that entered, as `poll`.
-    fn look_again<R: Wait>(&self, rt: &R, waiting: Waiting) -> Begin
-        requires own { pass_gate waiting ≡ K.level.gate }
-        ensures same { IsOf waiting (begun_pass result) }
-        ensures told { IsBegunTold result }
-        ensures entered { HasEntered (begun_pass result).pass }
-    {
-        match self.poll(rt, waiting) {
-            Poll::Run(running) => Begin::Run(running),
-            Poll::Over(done, decision) => Begin::Over(done, decision),
-            Poll::Still(waiting) => Begin::Waiting(waiting),
-        }
-    }
-
-    /// As `poll`, of a Pass that stays in its place.
-    pub fn poll_in<R: Wait>(&self, rt: &R, pass: &mut apf_gate::Pass) -> Begun
-        requires own { pass_gate pass.old ≡ K.level.gate }
-        requires waits { IsInLine pass.old }
-        ensures left { IsLeftBy result pass.new }
-        ensures same { IsOf pass.old pass.new }
-        ensures answer { Polls pass.old.pass (poll_of result pass.new) }
-    {
-        match self.gate.told(pass) {
-            None => Begun::Waits,
-            Some(Decision::Execute) => Begun::Run,
-            Some(decision) => {
-                self.shared.withdraw(rt, &self.gate, pass);
-                Begun::Over(decision)
-            }
-        }
-    }
-
-    /// As `begin_with_event`, of a Pass that stays in its place.
-    pub fn arrive_in<R: Wait>(
+    /// The request arrives, of a flow with this hash, and its dispatch is charged this cost: it takes its seats,
+    /// or enters a queue, or is decided otherwise. On a level without queues it never waits. Answers also the
+    /// event that the history got by it: the request's Enter or Full, which name its queue, or none, of a request
+    /// that took its seats or was decided without a queue. The slot's Pass stays in its place, that of a request
+    /// that executes, is over or waits, by the answer.
+    ///
+    /// It takes the lock only where requests wait or it does not fit, or to dispatch where its decision was
+    /// lost and requests waited when its seats were given back. Its hand of queues is dealt before the lock.
+    pub fn arrive<R: Wait>(
         &self,
         rt: &R,
         pass: &mut apf_gate::Pass,
@@ -205,7 +114,7 @@ impl<K: Naming> Level<K> {
         ensures queues { SaysWaiting (begin_of result.0 pass.new) → self.now.shape.response ≡ Queue }
         ensures logs { Logs K.level pass.old.pass.number (hand_of K.level.sizes hash) cost (begin_of result.0 pass.new) result.1 }
     {
-        let mut tried = self.attempt_in(pass);
+        let mut tried = self.attempt(pass);
         for _ in rt.forever() {
             match tried {
                 Tried::Run => return (Begun::Run, None),
@@ -217,20 +126,20 @@ impl<K: Naming> Level<K> {
                 }
                 Tried::Blocked => match &self.shared {
                     Shared::Queued(queued) => {
-                        return self.stand_in(rt, queued, pass, hash, cost);
+                        return self.enqueue(rt, queued, pass, hash, cost);
                     }
                     // without queues a request is busy after a lost exchange alone
                     Shared::Alone(_alone) => {}
                 },
                 Tried::Raced => {}
             }
-            tried = self.take_in(pass);
+            tried = self.take(pass);
         }
         unreachable!()
     }
 
-    // As `stand`, of a Pass that stays in its place.
-    fn stand_in<R: Wait>(
+    // The request asks, and arrives under the lock.
+    fn enqueue<R: Wait>(
         &self,
         rt: &R,
         queued: &QueuedLock<K>,
@@ -255,7 +164,7 @@ impl<K: Naming> Level<K> {
             .arrive(rt, &self.gate, pass, hand.as_slice(), cost);
         match stood {
             Stood::Entered(queue) => {
-                let begun = self.poll_in(rt, pass);
+                let begun = self.read_decision(rt, pass);
                 (begun, Some(LifeEvent::Enter(ticket, queue)))
             }
             Stood::Full(queue) => (
@@ -266,8 +175,30 @@ impl<K: Naming> Level<K> {
         }
     }
 
-    /// As `admit`, of a Pass that stays in its place.
-    pub fn admit_in<R: Wait>(
+    /// Reads the decision of a request that waits, by one load. One that is cancelled leaves its queue, and then
+    /// others are dispatched. The slot's Pass stays in its place, that of a request that executes, is over or
+    /// still waits, by the answer.
+    pub fn read_decision<R: Wait>(&self, rt: &R, pass: &mut apf_gate::Pass) -> Begun
+        requires own { pass_gate pass.old ≡ K.level.gate }
+        requires waits { IsInLine pass.old }
+        ensures left { IsLeftBy result pass.new }
+        ensures same { IsOf pass.old pass.new }
+        ensures answer { Polls pass.old.pass (poll_of result pass.new) }
+    {
+        match self.gate.told(pass) {
+            None => Begun::Waits,
+            Some(Decision::Execute) => Begun::Run,
+            Some(decision) => {
+                self.shared.withdraw(rt, &self.gate, pass);
+                Begun::Over(decision)
+            }
+        }
+    }
+
+    /// The request arrives, of a flow with this hash, and its dispatch is charged this cost. Its caller waits
+    /// until it is decided: it executes, or is over. After some readings the caller sleeps; a dispatch or a
+    /// cancel by any thread wakes it. The slot's Pass stays in its place.
+    pub fn arrive_and_wait<R: Wait>(
         &self,
         rt: &R,
         pass: &mut apf_gate::Pass,
@@ -281,7 +212,7 @@ impl<K: Naming> Level<K> {
         ensures same { IsOf pass.old pass.new }
         ensures told { IsDecided result pass.new }
     {
-        let (begun, _event) = self.arrive_in(rt, pass, hash, cost);
+        let (begun, _event) = self.arrive(rt, pass, hash, cost);
         match begun {
             Begun::Run => return Begun::Run,
             Begun::Over(decision) => return Begun::Over(decision),
@@ -289,7 +220,7 @@ impl<K: Naming> Level<K> {
         }
         let mut readings = 0;
         for _ in rt.forever() {
-            match self.poll_in(rt, pass) {
+            match self.read_decision(rt, pass) {
                 Begun::Run => return Begun::Run,
                 Begun::Over(decision) => return Begun::Over(decision),
                 Begun::Waits => {}

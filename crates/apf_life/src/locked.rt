@@ -99,7 +99,8 @@ impl<K: Naming> Level<K> {
     /// Takes the level's lock. A level without queues takes none.
     ///
     /// It is given back where the `Locked` is dropped. A thread that holds it must not take it once more before: it would
-    /// wait for itself for ever. `begin`, `admit`, `poll` and `set_limit` take it too.
+    /// wait for itself for ever. `arrive`, `arrive_and_wait`, `read_decision` and `set_limit` take it too, and so do `begin`,
+    /// `admit` and `poll`.
     pub fn lock<R: Wait>(&self, rt: &R) -> Locked<'_, K> {
         let queued = match &self.shared {
             Shared::Queued(queued) => Some(queued.lock.lock(rt)),

@@ -45,18 +45,21 @@ impl<K: Naming> Level<K> {
         ensures spent { SaysSpent result ↔ (length K.level.gate.shape.widths ≤ next_of done.pass.number ask.width) }
     {
         let mut pass = done.into_pass();
-        match self.gate.renew(&mut pass, ask.width) {
-            Renew::Began(_decision) => Renewed::Fresh(Pass {
+        if self.renew_slot(&mut pass, ask.width) {
+            Renewed::Fresh(Pass {
                 pass,
                 hash: ask.hash,
                 cost,
-            }),
-            Renew::Spent => Renewed::Spent(Done { pass }),
+            })
+        } else {
+            Renewed::Spent(Done { pass })
         }
     }
 
-    /// As `renew`, of a Pass that stays in its place. Says whether the next request is there.
-    pub fn renew_in(&self, pass: &mut apf_gate::Pass, width: u32) -> bool
+    /// The slot goes on to its next request, of this width: 1 to 20,000 seats. Answers whether it did: no, exactly
+    /// if the slot's numbers are used up, and then nothing changed. The slot's Pass stays in its place, and is fresh
+    /// then. It takes no lock and no memory: it makes one swap of the slot's word.
+    pub fn renew_slot(&self, pass: &mut apf_gate::Pass, width: u32) -> bool
         requires own { pass_gate pass.old ≡ K.level.gate }
         requires done { IsDone pass.old }
         requires some_width { 1 ≤ width }

@@ -8,15 +8,12 @@ use Rattle.apf_history.specs.declared.events.Event.TheVariants as events
 use Rattle.apf_gate.specs.Records.{told_own}
 use Rattle.apf_gate.specs.Slots.{next_of}
 use Rattle.apf_gate.specs.Tokens.{PassToken, pass_gate}
-use Rattle.apf_gate.specs.PassSteps.{PassSubtractsLevel}
+use Rattle.apf_gate.specs.PassSteps.{PassRenews, PassSubtractsLevel}
 use Rattle.apf_book.specs.declared.life_event.LifeEvent.{LifeEvent}
 use Rattle.apf_book.specs.Notes.{event_of}
-use Rattle.apf_life.specs.declared.answers.Begin.{Begin}
-use Rattle.apf_life.specs.declared.answers.Begin.TheVariants as begun
-use Rattle.apf_life.specs.declared.answers.TryAdmit.{TryAdmit}
-use Rattle.apf_life.specs.declared.answers.TryAdmit.TheVariants as tried
-use Rattle.apf_life.specs.declared.answers.Admit.{Admit}
-use Rattle.apf_life.specs.declared.answers.Admit.TheVariants as admitted
+use Rattle.apf_life.specs.declared.answers.Tried.{Tried}
+use Rattle.apf_life.specs.declared.answers.Tried.TheVariants as tries
+use Rattle.apf_life.specs.Attempts.{Attempts}
 use Rattle.apf_life.specs.Levels.{LifeId}
 use Rattle.apf_life.specs.Tokens.{IsInLine, IsRunning, IsDone}
 use Rattle.apf_life.specs.Arrivals.{Came}
@@ -26,13 +23,6 @@ use Rattle.apf_life_session.specs.declared.answer.Answer.{Answer}
 use Rattle.apf_life_session.specs.declared.answer.Answer.TheVariants as answers
 use Rattle.apf_life_session.specs.declared.answer.Place.{Place}
 use Rattle.apf_life_session.specs.declared.answer.Place.TheVariants as places
-
--- there is a token of the level
-abbrev pub IsTokenOf : LifeId → Token → Type 0
-IsTokenOf k (tokens.Free pass) = pass_gate pass ≡ k.gate
-IsTokenOf k (tokens.Waiting pass) = pass_gate pass ≡ k.gate
-IsTokenOf k (tokens.Running pass) = pass_gate pass ≡ k.gate
-IsTokenOf k tokens.Gone = ⊥
 
 -- the number of the slot's newest request
 abbrev pub number_in : Token → ℕ
@@ -135,6 +125,30 @@ Tries width (tokens.Waiting pass) answer token' = (answer ≡ answers.Wrong) × 
 Tries width (tokens.Running pass) answer token' = (answer ≡ answers.Wrong) × (token' ≡ tokens.Running pass)
 Tries width tokens.Gone answer token' = ⊥
 
+-- what is answered of an attempt, and the token that is kept of the Pass that it left. The slot of a request that is busy is free
+abbrev pub KeepsTried : Tried → PassToken → Answer → Token → Type 0
+KeepsTried tries.Run pass answer token = (answer ≡ answers.Run) × (token ≡ tokens.Running pass)
+KeepsTried (tries.Over decision waiting) pass answer token = (answer ≡ answers.Tried decision waiting) × (token ≡ tokens.Free pass)
+KeepsTried tries.Blocked pass answer token = (answer ≡ answers.Busy) × (token ≡ tokens.Free pass)
+KeepsTried tries.Raced pass answer token = (answer ≡ answers.Busy) × (token ≡ tokens.Free pass)
+
+-- the slot of this Pass went on to its next request, of this width, and what is answered is what the steps of its attempt found: that requests waited when seats were given back, too
+pub record AttemptsNext (width : ℕ) (pass : PassToken) (answer : Answer) (token' : Token) : Type 0 where
+  pub next : PassToken
+  pub found : Option Decision
+  pub renews : PassRenews (next_of pass.pass.number width) pass.pass found next.pass
+  pub tried : Tried
+  pub left : PassToken
+  pub steps : Attempts next.pass tried left
+  pub keeps : KeepsTried tried left answer token'
+
+-- what an attempt in a free slot answers is what its steps found, unless the slot's numbers are used up
+abbrev pub TriesAs : ℕ → Token → Answer → Token → Type 0
+TriesAs width (tokens.Free pass) answer token' = answer ≢ answers.Spent → AttemptsNext width pass answer token'
+TriesAs width (tokens.Waiting pass) answer token' = Unit {0}
+TriesAs width (tokens.Running pass) answer token' = Unit {0}
+TriesAs width tokens.Gone answer token' = Unit {0}
+
 -- what the history got by the arrival of the request of this number, with this hand and this cost, that is answered so: its Enter, or its Full if a queue was full, of a request that came; and no event only if it does not wait, and no queue was full
 abbrev pub LogsFor : LifeId → ℕ → List ℕ → ℕ → Answer → Option LifeEvent → Type 0
 LogsFor k r hand cost answer None = (answer ≢ answers.Waits) × (answer ≢ answers.Over QueueFull)
@@ -166,23 +180,6 @@ pub record CallsOne (calls : Token → Answer → Token → Type 0) (slot : ℕ)
   pub one : (d : Token) → calls (slice_index_or old slot d) answer (slice_index_or new slot d)
   pub others : (i : ℕ) (d : Token) → i ≢ slot → slice_index_or new i d ≡ slice_index_or old i d
 
--- what is answered of an arrival, and the token that is kept of it
-abbrev pub KeepsBegun : Begin → Answer → Token → Type 0
-KeepsBegun (begun.Run pass) answer token = (answer ≡ answers.Run) × (token ≡ tokens.Running pass)
-KeepsBegun (begun.Over pass decision) answer token = (answer ≡ answers.Over decision) × (token ≡ tokens.Free pass)
-KeepsBegun (begun.Waiting pass) answer token = (answer ≡ answers.Waits) × (token ≡ tokens.Waiting pass)
-
--- what is answered of an attempt, and the token that is kept of it
-abbrev pub KeepsTried : TryAdmit → Answer → Token → Type 0
-KeepsTried (tried.Run pass) answer token = (answer ≡ answers.Run) × (token ≡ tokens.Running pass)
-KeepsTried (tried.Over pass decision waiting) answer token = (answer ≡ answers.Tried decision waiting) × (token ≡ tokens.Free pass)
-KeepsTried (tried.Busy a) answer token = (answer ≡ answers.Busy) × (token ≡ tokens.Free a.token)
-
 -- all slots are free
 abbrev pub AreFree : List Token → Type 0
 AreFree slots = All (λ (t : Token). place_of t ≡ places.Free) slots
-
--- what is answered of a request that was waited for, and the token that is kept of it
-abbrev pub KeepsAdmitted : Admit → Answer → Token → Type 0
-KeepsAdmitted (admitted.Run pass) answer token = (answer ≡ answers.Run) × (token ≡ tokens.Running pass)
-KeepsAdmitted (admitted.Over pass decision) answer token = (answer ≡ answers.Over decision) × (token ≡ tokens.Free pass)

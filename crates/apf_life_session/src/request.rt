@@ -10,7 +10,7 @@ ghost use Rattle.apf_gate.specs.Tokens.{pass_gate};
 ghost use Rattle.apf_life_session.specs.declared.answer.Answer.TheVariants as answers;
 ghost use Rattle.apf_life_session.specs.declared.answer.Place.TheVariants as places;
 ghost use Rattle.apf_life_session.specs.declared.token.Token.TheVariants as tokens;
-ghost use Rattle.apf_life_session.specs.Requests.{number_in, place_of, Answers, Arrives, Tries, Polls, LogsFor, ReleasesAs, KeepsBegun, KeepsTried, KeepsAdmitted};
+ghost use Rattle.apf_life_session.specs.Requests.{number_in, place_of, Answers, Arrives, Tries, TriesAs, Polls, LogsFor, ReleasesAs};
 
 use crate::answer::{Answer, Place};
 use apf_book::LifeEvent;
@@ -131,10 +131,10 @@ impl<K: Naming> Request<K> {
         if self.place != Place::Free {
             return (Answer::Wrong, None);
         }
-        if !level.renew_in(&mut self.pass, ask.width) {
+        if !level.renew_slot(&mut self.pass, ask.width) {
             return (Answer::Spent, None);
         }
-        let (begun, event) = level.arrive_in(rt, &mut self.pass, ask.hash, cost);
+        let (begun, event) = level.arrive(rt, &mut self.pass, ask.hash, cost);
         match begun {
             Begun::Run => {
                 self.place = Place::Runs;
@@ -162,10 +162,10 @@ impl<K: Naming> Request<K> {
         if self.place != Place::Free {
             return Answer::Wrong;
         }
-        if !level.renew_in(&mut self.pass, ask.width) {
+        if !level.renew_slot(&mut self.pass, ask.width) {
             return Answer::Spent;
         }
-        match level.admit_in(rt, &mut self.pass, ask.hash, ask.width) {
+        match level.arrive_and_wait(rt, &mut self.pass, ask.hash, ask.width) {
             Begun::Run => {
                 self.place = Place::Runs;
                 Answer::Run
@@ -184,14 +184,15 @@ impl<K: Naming> Request<K> {
         requires some_width { 1 ≤ ask.width }
         requires narrow { ask.width ≤ max_width }
         ensures tries { Tries ask.width self.old result self.new }
+        ensures steps { TriesAs ask.width self.old result self.new }
     {
         if self.place != Place::Free {
             return Answer::Wrong;
         }
-        if !level.renew_in(&mut self.pass, ask.width) {
+        if !level.renew_slot(&mut self.pass, ask.width) {
             return Answer::Spent;
         }
-        match level.attempt_in(&mut self.pass) {
+        match level.attempt(&mut self.pass) {
             Tried::Run => {
                 self.place = Place::Runs;
                 Answer::Run
@@ -212,7 +213,7 @@ impl<K: Naming> Request<K> {
         if self.place != Place::Waits {
             return Answer::Wrong;
         }
-        match level.poll_in(rt, &mut self.pass) {
+        match level.read_decision(rt, &mut self.pass) {
             Begun::Run => {
                 self.place = Place::Runs;
                 Answer::Run
@@ -221,10 +222,7 @@ impl<K: Naming> Request<K> {
                 self.place = Place::Free;
                 Answer::Over(decision)
             }
-            Begun::Waits => {
-                self.place = Place::Waits;
-                Answer::Waits
-            }
+            Begun::Waits => Answer::Waits,
         }
     }
 
@@ -236,7 +234,7 @@ impl<K: Naming> Request<K> {
         if self.place != Place::Runs {
             return Answer::Wrong;
         }
-        let waiting = level.release_in(&mut self.pass);
+        let waiting = level.give_back(&mut self.pass);
         self.place = Place::Free;
         Answer::Released(waiting)
     }

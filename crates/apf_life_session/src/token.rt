@@ -1,4 +1,4 @@
-//! What a slot holds, by what became of its request so far.
+//! What a slot holds, by what became of its request so far, as contracts see it.
 
 use apf_life::{Done, Running, Waiting};
 
@@ -10,6 +10,6 @@ pub enum Token {
     Waiting(Waiting),
     /// Its request executes.
     Running(Running),
-    /// A call has its token.
+    /// Nothing, where there is no slot.
     Gone,
 }

@@ -12,8 +12,6 @@ use Rattle.apf_gate.specs.PassSteps.{PassSubtractsLevel}
 use Rattle.apf_level.specs.declared.answers.TryAdmit.{TryAdmit}
 use Rattle.apf_level.specs.declared.answers.TryAdmit.TheVariants as tried
 use Rattle.apf_level.specs.Admission.{TriesToAdmit}
-use Rattle.apf_level.specs.declared.answers.Begin.{Begin}
-use Rattle.apf_level.specs.declared.answers.Begin.TheVariants as begun
 use Rattle.apf_level.specs.Levels.{LevelId}
 use Rattle.apf_level.specs.Tokens.{IsInLine, IsRunning, IsDone}
 use Rattle.apf_words.specs.Limits.{max_requests}
@@ -29,23 +27,10 @@ use Rattle.apf_session.specs.declared.answer.Place.TheVariants as places
 abbrev pub IsPassOf : LevelId → ℕ → PassToken → Type 0
 IsPassOf k number pass = (pass_gate pass ≡ k.gate) × (pass.pass.number ≡ number)
 
--- there is a token of this request of the level, and it is fresh if it says so
-abbrev pub IsTokenOf : LevelId → ℕ → Token → Type 0
-IsTokenOf k number (tokens.Fresh pass) = IsPassOf k number pass × (pass.pass.state ≡ Fresh)
-IsTokenOf k number (tokens.Waiting pass) = IsPassOf k number pass
-IsTokenOf k number (tokens.Running pass) = IsPassOf k number pass
-IsTokenOf k number (tokens.Done pass) = IsPassOf k number pass
-IsTokenOf k number tokens.Gone = ⊥
-
 -- a request, as contracts see it: its number, and what it holds
 pub record RequestView : Type 0 where
   pub number : ℕ
   pub token : Token
-
--- the request is one of the level's, and holds a token of its own
-pub record IsRequestOf (k : LevelId) (r : RequestView) : Type 0 where
-  pub own : IsTokenOf k r.number r.token
-  pub inside : r.number < length k.gate.shape.widths
 
 -- what a request holds whose Pass stands at this place
 abbrev pub token_at : Place → PassToken → Token
@@ -167,12 +152,6 @@ pub record IsLeftOf (request : RequestView) (pass : PassToken) : Type 0 where
 abbrev pub AreLeftOf : List RequestView → List PassToken → Type 0
 AreLeftOf requests passes = (i : ℕ) (d : RequestView) (e : PassToken) → i < length requests
     → IsLeftOf (slice_index_or requests i d) (slice_index_or passes (length requests - 1 - i) e)
-
--- what is answered of an arrival, and the token that is kept of it
-abbrev pub KeepsBegun : Begin → Answer → Token → Type 0
-KeepsBegun (begun.Run pass) answer token = (answer ≡ answers.Run) × (token ≡ tokens.Running pass)
-KeepsBegun (begun.Over pass decision) answer token = (answer ≡ answers.Over decision) × (token ≡ tokens.Done pass)
-KeepsBegun (begun.Waiting pass) answer token = (answer ≡ answers.Waits) × (token ≡ tokens.Waiting pass)
 
 -- what the log got by the arrival of a request of this number that is answered so: its Enter; its Full, if a queue was full; and no event only if it does not wait, and no queue was full
 abbrev pub LogsFor : LevelId → ℕ → Answer → Option Event → Type 0

@@ -102,7 +102,7 @@ impl<K: Naming> Request<K> {
         if self.place != Place::Away {
             return Answer::Wrong;
         }
-        match level.attempt_in(&mut self.pass) {
+        match level.attempt(&mut self.pass) {
             Tried::Run => {
                 self.place = Place::Runs;
                 Answer::Run
@@ -123,7 +123,7 @@ impl<K: Naming> Request<K> {
         if self.place != Place::Away {
             return Answer::Wrong;
         }
-        let (begun, _event) = level.arrive_in(rt, &mut self.pass);
+        let (begun, _event) = level.arrive(rt, &mut self.pass);
         match begun {
             Begun::Run => {
                 self.place = Place::Runs;
@@ -150,7 +150,7 @@ impl<K: Naming> Request<K> {
         if self.place != Place::Away {
             return (Answer::Wrong, None);
         }
-        let (begun, event) = level.arrive_in(rt, &mut self.pass);
+        let (begun, event) = level.arrive(rt, &mut self.pass);
         match begun {
             Begun::Run => {
                 self.place = Place::Runs;
@@ -176,7 +176,7 @@ impl<K: Naming> Request<K> {
         if self.place != Place::Away {
             return Answer::Wrong;
         }
-        match level.admit_in(rt, &mut self.pass) {
+        match level.arrive_and_wait(rt, &mut self.pass) {
             Begun::Run => {
                 self.place = Place::Runs;
                 Answer::Run
@@ -197,7 +197,7 @@ impl<K: Naming> Request<K> {
         if self.place != Place::Waits {
             return Answer::Wrong;
         }
-        match level.poll_in(rt, &mut self.pass) {
+        match level.read_decision(rt, &mut self.pass) {
             Begun::Run => {
                 self.place = Place::Runs;
                 Answer::Run
@@ -218,7 +218,7 @@ impl<K: Naming> Request<K> {
         if self.place != Place::Runs {
             return Answer::Wrong;
         }
-        let waiting = level.release_in(&mut self.pass);
+        let waiting = level.give_back(&mut self.pass);
         self.place = Place::Over;
         Answer::Released(waiting)
     }
@@ -248,7 +248,7 @@ impl<K: Naming> Request<K> {
             of: _,
         } = self;
         match place {
-            Place::Away => match level.admit_in(rt, &mut pass) {
+            Place::Away => match level.arrive_and_wait(rt, &mut pass) {
                 Begun::Run => release(rt, level, Running::of(pass)),
                 Begun::Over(_decision) => Done::of(pass),
                 Begun::Waits => unreachable!(),

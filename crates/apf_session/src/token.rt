@@ -1,4 +1,4 @@
-//! What a request holds, by what became of it so far.
+//! What a request holds, by what became of it so far, as contracts see it.
 
 use apf_gate::Pass;
 use apf_level::{Done, Running, Waiting};
@@ -13,6 +13,6 @@ pub enum Token {
     Running(Running),
     /// It is decided, and holds no seats.
     Done(Done),
-    /// A call has its token.
+    /// Nothing, where there is no request.
     Gone,
 }

@@ -1,5 +1,5 @@
 -- The last Pass's request is put behind those of the Passes that came after it.
-use Rattle.std.proofs.Common.{rules, sym, subst, List, ℕ, ◌≡◌, ◌+◌, ◌<◌, [], ◌∷◌, ◌++◌, length, get_or, All}
+use Rattle.std.proofs.Common.{rules, sym, subst, List, ℕ, ◌≡◌, ◌+◌, ◌<◌, length, get_or}
 use Rattle.std.proofs.lemmas.List.Elements.{All-push}
 use Rattle.apf_gate.specs.declared.record.State.TheVariants.{Fresh}
 use Rattle.apf_gate.specs.Tokens.{PassToken, pass_gate}

@@ -13,7 +13,7 @@ returns-else-eq-clause-steps g c = λ pass same reads.
       released.0,
       released.2,
       record {
-        read = c.args.pass.pass;
+        read = c.args.pass.now.pass;
         took = c.try_take.new.pass.pass;
         lost = c.decide-decision.new.pass.pass;
         reads = reads;
@@ -28,7 +28,7 @@ pub returns-in-Closed-clause-steps : goal.returns-in-Closed-clause-steps
 returns-in-Closed-clause-steps g c = λ pass same reads. inr (inl (
   refl,
   record {
-    read = c.args.pass.pass;
+    read = c.args.pass.now.pass;
     found = c.try_take.new.pass.pass;
     reads = reads;
     takes = c.in-Closed.ensures.answer;
@@ -46,21 +46,21 @@ has_queues Reject other = absurd (other refl)
 
 pub returns-in-Waiters-clause-steps : goal.returns-in-Waiters-clause-steps
 returns-in-Waiters-clause-steps g c = λ pass same reads. record {
-  read = c.args.pass.pass;
+  read = c.args.pass.now.pass;
   reads = reads;
   takes = inr (has_queues _ (λ rejects. c.in-Waiters.ensures.after.no_queues (ap (λ (s : Shape). s.response) (sym same) ∙ rejects) refl), inl c.in-Waiters.ensures.answer);
 }
 
 pub returns-in-Queued-clause-steps : goal.returns-in-Queued-clause-steps
 returns-in-Queued-clause-steps g c = λ pass same reads. record {
-  read = c.args.pass.pass;
+  read = c.args.pass.now.pass;
   reads = reads;
   takes = inr (responds g.K.Naming.level _ pass.knows.shape Queue c.requires.fresh.own same c.in-Queued._queued.has_queues, inr c.in-NoRoom.ensures.answer);
 }
 
 pub returns-in-Raced-clause-steps : goal.returns-in-Raced-clause-steps
 returns-in-Raced-clause-steps g c = λ pass same reads. record {
-  read = c.args.pass.pass;
+  read = c.args.pass.now.pass;
   reads = reads;
   takes = inl c.in-Raced.ensures.answer;
 }
@@ -70,7 +70,7 @@ returns-in-Alone-clause-steps g c = λ pass same reads. inr (inr (inl (
   refl,
   record {
     no_queues = responds g.K.Naming.level _ pass.knows.shape Reject c.requires.fresh.own same c.in-Alone._alone.no_queues;
-    read = c.args.pass.pass;
+    read = c.args.pass.now.pass;
     found = c.try_take.new.pass.pass;
     reads = reads;
     takes = c.in-NoRoom.ensures.answer;

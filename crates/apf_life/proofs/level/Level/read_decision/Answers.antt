@@ -1,10 +1,10 @@
 -- A request that waited and is over was cancelled.
-use Rattle.std.proofs.Common.{rules, ◌≡◌, ◌∙◌, Option, Some, sym, ap}
+use Rattle.std.proofs.Common.{rules, ◌≡◌, ◌∙◌, Option, Some, sym}
 use Rattle.apf_words.specs.declared.decision.Decision.{Decision}
 use Rattle.apf_words.specs.declared.decision.Decision.TheVariants.{Cancelled}
 use Rattle.apf_gate.specs.Records.{told_own}
 use Rattle.apf_gate.specs.PassSteps.{PassLoadsDecision}
-use Rattle.apf_life.proofs.level.Level.poll_in.Goals as goal
+use Rattle.apf_life.proofs.level.Level.read_decision.Goals as goal
 
 some_is : (a b : Decision) → ◌≡◌ {A = Option Decision} (Some a) (Some b) → a ≡ b
 some_is a b is = cc

@@ -1,16 +1,17 @@
 -- The request is the same and did not enter. Whoever is not decided is fresh.
 use Rattle.std.proofs.Common.{◌≡◌, false}
-use Rattle.apf_life.specs.Attempts.{attempted_pass, IsAttemptedTold, StaysOut}
+use Rattle.apf_life.specs.Attempts.{IsKeptBy, IsAttemptedTold, StaysOut}
 use Rattle.apf_life.specs.Tokens.{IsOf}
-use Rattle.apf_life.proofs.level.Level.begin_with_event.Given as goal
+use Rattle.apf_life.proofs.level.Level.arrive.Given as goal
 
 abbrev pub invariant-loop : goal.invariant-loop
 invariant-loop g l =
     record {
       next : (goal.iterator-loop g).can_next l.iterator';
       ends : (goal.iterator-loop g).is_finite l.iterator';
-      same : IsOf l.fn.pass.token (attempted_pass l.attempt);
-      told : IsAttemptedTold l.attempt;
-      outside : StaysOut l.fn.pass.token.pass l.attempt;
-      never_entered : l.fn.pass.token.pass.entered ≡ false;
+      kept : IsKeptBy l.tried l.pass;
+      same : IsOf l.fn.pass l.pass;
+      told : IsAttemptedTold l.tried l.pass;
+      outside : StaysOut l.fn.pass.pass l.tried l.pass;
+      never_entered : l.fn.pass.pass.entered ≡ false;
     }

@@ -488,12 +488,13 @@ def test_backend_that_never_answers():
 
 
 def test_clients_that_hang_up_while_the_backend_works():
-    backend = Backend(works=0.1)
+    backend = Backend(works=0.4)
     gateway = Gateway(backend, limit=3)
-    for number in range(60):
+    for number in range(20):
         it = gateway.ask(f"/{number}", user=f"user {number % 5}")
-        if number % 3 == 0:
-            backend.wait(lambda came: f"/{number}" in came or len(came) >= 3)
+        with backend.lock:
+            # only the first ones come to the backend so soon
+            backend.lock.wait_for(lambda: f"/{number}" in backend.came, 0.05)
         it.close()
     tally.check("one that stays is served", gateway.get("/stays")[0], 200)
     tally.check("all seats came back", gateway.is_idle(), True)

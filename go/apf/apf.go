@@ -12,16 +12,13 @@ import (
 	"encoding/json"
 	"errors"
 	"fmt"
+	"net/http"
+	"net/netip"
 	"strconv"
 	"strings"
 	"time"
-)
 
-const (
-	// maxLine is the longest line that the level reads, without its end.
-	maxLine = 65536
-	// maxLimit is the largest limit that a level may have.
-	maxLimit = 10000
+	"burtxeltz/internal/flow"
 )
 
 // Options says which level Start opens.
@@ -44,7 +41,7 @@ type Options struct {
 type Request struct {
 	// Schema and Distinguisher name the flow of the request. Schema is the level's name where it is empty.
 	Schema, Distinguisher string
-	// Width is how many seats the request takes while it runs: 1 to 20,000. It is 1 where it is 0.
+	// Width is how many seats the request takes while it runs, 1 to 20,000. It is 1 where it is 0.
 	Width int
 	// Cost is what its dispatch is charged. The level chooses it where it is 0.
 	Cost int
@@ -68,12 +65,12 @@ type Fault struct {
 // Error says what was wrong with the line.
 func (f *Fault) Error() string { return "apf: fault: " + f.Text }
 
-// ErrShutdown is the error of a request that comes, or still waits for a number, when the level is shut down.
-var ErrShutdown = errors.New("apf: the level is shut down")
-
-// ErrDown is the error of a question that was open when the level died, or that comes before it is there again. It counts
-// as not done.
-var ErrDown = errors.New("apf: the level is not there")
+var (
+	// ErrShutdown is the error of a request that comes, or still waits, when the level is shut down.
+	ErrShutdown = errors.New("apf: the level is shut down")
+	// ErrDown is the error of a question that was open when the level died, or that comes while it is away.
+	ErrDown = errors.New("apf: the level is not there")
+)
 
 // object is the request as a line has it. A text that is no UTF-8 has U+FFFD where it is broken.
 func (r Request) object(schema string) ([]byte, error) {
@@ -86,13 +83,10 @@ func (r Request) object(schema string) ([]byte, error) {
 		Width         int    `json:"width,omitempty"`
 		Cost          int    `json:"cost,omitempty"`
 	}{schema, r.Distinguisher, r.Width, r.Cost})
-	if err != nil {
-		return nil, err
+	if err == nil && len("arrive 10000 ")+len(object) > maxLine {
+		err = &Fault{"line too long"}
 	}
-	if len(object)+len("arrive 10000 ") > maxLine {
-		return nil, &Fault{"line too long"}
-	}
-	return object, nil
+	return object, err
 }
 
 // Seat is held by a request that runs.
@@ -107,10 +101,10 @@ type Seat struct {
 // it waits for one first, within the context.
 func (l *Level) Acquire(ctx context.Context, ask Request) (*Seat, error) {
 	object, err := ask.object(l.options.Name)
-	if err != nil {
-		return nil, err
+	if err == nil {
+		err = ctx.Err()
 	}
-	if err := ctx.Err(); err != nil {
+	if err != nil {
 		return nil, err
 	}
 	number, err := l.number(ctx)
@@ -141,29 +135,24 @@ func (l *Level) Acquire(ctx context.Context, ask Request) (*Seat, error) {
 // Release gives the seats back, and tells the level how long the request ran. Only the first call does something.
 func (s *Seat) Release() {
 	s.level.mu.Lock()
+	defer s.level.mu.Unlock()
 	s.level.release(s.request)
-	s.level.mu.Unlock()
 }
 
-// Book is what the level counted since it was opened, or since it was started again after it died.
+// Book is what the level counted since it was opened, or since it was started again after it died: whether it lets
+// requests in, the seats in use, the requests that wait, those decided and undecided, the rejected by their reasons, and
+// those that entered a queue and left it by their turn or a cancel.
 type Book struct {
-	// Open says whether the level lets requests in.
-	Open bool
-	// Seats are in use, and so many requests are Waiting.
-	Seats, Waiting int64
-	// Executed, Rejected and Cancelled requests are decided. The executed include those that run. Undecided ones wait.
+	Open                                     bool
+	Seats, Waiting                           int64
 	Executed, Rejected, Cancelled, Undecided int64
-	// QueueFull, Closed and ConcurrencyLimit are the rejected by their reasons.
-	QueueFull, Closed, ConcurrencyLimit int64
-	// Entered, Dispatched and Struck count the requests that entered a queue, and that left one by their turn or a cancel.
-	Entered, Dispatched, Struck int64
+	QueueFull, Closed, ConcurrencyLimit      int64
+	Entered, Dispatched, Struck              int64
 }
 
-// bookOf reads the four lines of a book.
-func bookOf(text string) (Book, error) {
-	var b Book
+func bookOf(text string) (b Book, err error) {
 	var state string
-	_, err := fmt.Sscanf(text, "level %s seats %d waiting %d\nexecuted %d rejected %d cancelled %d undecided %d\n"+
+	_, err = fmt.Sscanf(text, "level %s seats %d waiting %d\nexecuted %d rejected %d cancelled %d undecided %d\n"+
 		"queue-full %d closed %d concurrency-limit %d\nentered %d dispatched %d struck %d\n",
 		&state, &b.Seats, &b.Waiting, &b.Executed, &b.Rejected, &b.Cancelled, &b.Undecided,
 		&b.QueueFull, &b.Closed, &b.ConcurrencyLimit, &b.Entered, &b.Dispatched, &b.Struck)
@@ -171,17 +160,16 @@ func bookOf(text string) (Book, error) {
 	return b, err
 }
 
-// Queue is one queue of the level.
+// Queue is one queue of the level: its number from 0, how many requests wait in it and entered it, and what was dispatched
+// from it, as the level charges it.
 type Queue struct {
-	// Number is the queue's number, from 0.
-	Number int
-	// Waiting requests are in it, so many Entered it, and Service is what was dispatched from it, as the level charges it.
+	Number                    int
 	Waiting, Entered, Service int64
 }
 
 // Book asks the level for its book.
 func (l *Level) Book(ctx context.Context) (Book, error) {
-	text, err := l.text(ctx, "book", bookLines)
+	text, err := l.ask(ctx, "book", "entered ", nil)
 	if err != nil {
 		return Book{}, err
 	}
@@ -190,25 +178,20 @@ func (l *Level) Book(ctx context.Context) (Book, error) {
 
 // Queues asks the level for each queue that a request ever entered.
 func (l *Level) Queues(ctx context.Context) ([]Queue, error) {
-	text, err := l.text(ctx, "queues", untilEnd)
-	if err != nil {
-		return nil, err
-	}
+	text, err := l.ask(ctx, "queues", "end", nil)
 	queues := []Queue{}
-	for len(text) > 0 && text != "end\n" {
+	for err == nil && len(text) > 0 && text != "end\n" {
 		var q Queue
-		if _, err := fmt.Sscanf(text, "queue %d waiting %d entered %d service %d\n", &q.Number, &q.Waiting, &q.Entered, &q.Service); err != nil {
-			return nil, err
-		}
+		_, err = fmt.Sscanf(text, "queue %d waiting %d entered %d service %d\n", &q.Number, &q.Waiting, &q.Entered, &q.Service)
 		queues = append(queues, q)
 		_, text, _ = strings.Cut(text, "\n")
 	}
-	return queues, nil
+	return queues, err
 }
 
 // Metrics asks the level for its metrics, in the text format of Prometheus, with "# EOF" as the last line.
 func (l *Level) Metrics(ctx context.Context) (string, error) {
-	return l.text(ctx, "metrics", untilEOF)
+	return l.ask(ctx, "metrics", "# EOF", nil)
 }
 
 // SetLimit gives the level so many seats, 1 to 10,000, and answers how many it had. No seats are taken back. A level that
@@ -217,7 +200,7 @@ func (l *Level) SetLimit(ctx context.Context, seats int) (was int, err error) {
 	if seats < 1 || seats > maxLimit {
 		return 0, &Fault{"bad limit"}
 	}
-	text, err := l.change(ctx, fmt.Sprintf("limit %d", seats), func() string {
+	text, err := l.ask(ctx, fmt.Sprintf("limit %d", seats), "limit ", func() string {
 		was := l.limit
 		l.limit = seats
 		return strconv.Itoa(was)
@@ -231,7 +214,7 @@ func (l *Level) SetLimit(ctx context.Context, seats int) (was int, err error) {
 // CloseLevel closes the level: no request takes seats or enters a queue any more, and those that wait are still served. It
 // answers whether this is the first time. A level that is started again is closed again.
 func (l *Level) CloseLevel(ctx context.Context) (first bool, err error) {
-	text, err := l.change(ctx, "close", func() string {
+	text, err := l.ask(ctx, "close", "close ", func() string {
 		was := l.closed
 		l.closed = true
 		return strconv.FormatBool(!was)
@@ -244,4 +227,50 @@ func (l *Level) Restarts() int {
 	l.mu.Lock()
 	defer l.mu.Unlock()
 	return l.restarts
+}
+
+// Handler calls next for a request once it has its seats, and gives them back when next has returned. The function says
+// what a request asks, as ByHeader does. A request that has no seats is answered by Refuse. A request whose client goes
+// away while it waits is cancelled. How long it may wait is for its context to say.
+func Handler(level *Level, next http.Handler, asks func(*http.Request) Request) http.Handler {
+	return http.HandlerFunc(func(w http.ResponseWriter, r *http.Request) {
+		seat, err := level.Acquire(r.Context(), asks(r))
+		if err != nil {
+			Refuse(w, err)
+			return
+		}
+		defer seat.Release()
+		next.ServeHTTP(w, r)
+	})
+}
+
+// ByHeader takes the flow of a request from the header of this name, and its width from X-Seats, where the request comes
+// from one of these addresses, or from 127.0.0.1 where none is given. The flow of any other request is its client's
+// address, and the two headers are taken out of it.
+func ByHeader(name string, trusted ...netip.Prefix) func(*http.Request) Request {
+	if len(trusted) == 0 {
+		trusted = flow.Local
+	}
+	return func(r *http.Request) Request {
+		distinguisher, seats := flow.Of(r, name, trusted)
+		return Request{Distinguisher: distinguisher, Width: seats}
+	}
+}
+
+// Refuse answers a request for which Acquire had this error: 429 with Retry-After and the reason where the level rejects
+// it, 431 where the level can't read what it asks, and 503 where it waited in vain. It answers the decision in a word.
+func Refuse(w http.ResponseWriter, err error) string {
+	var rejected *Rejected
+	var fault *Fault
+	if errors.As(err, &fault) {
+		http.Error(w, fault.Text, http.StatusRequestHeaderFieldsTooLarge)
+		return "fault"
+	}
+	w.Header().Set("Retry-After", "1")
+	if errors.As(err, &rejected) {
+		http.Error(w, rejected.Reason, http.StatusTooManyRequests)
+		return rejected.Reason
+	}
+	http.Error(w, "no seat in time", http.StatusServiceUnavailable)
+	return "cancelled"
 }

@@ -643,18 +643,18 @@ func TestByHeader(t *testing.T) {
 		if asks.Distinguisher != it.flow || asks.Width != it.width {
 			t.Errorf("%+v: %+v", it, asks)
 		}
-		if _, kept := r.Header[it.name]; kept != it.kept || r.Header.Get("Connection") != "close" {
+		if _, kept := r.Header[it.name]; kept != it.kept || strings.Trim(r.Header.Get("Connection"), ", ") != "close" {
 			t.Errorf("%+v: %v", it, r.Header)
 		}
 	}
 }
 
 func TestTheEndOfARequest(t *testing.T) {
-	line := string(appendTime([]byte("finish 7"), 1500*time.Nanosecond))
+	line := string(finish([]byte("finish 7"), 1500*time.Nanosecond))
 	if want := map[bool]string{false: "finish 7", true: "finish 7 1"}[tellsTime]; line != want {
 		t.Fatal(line)
 	}
-	line = string(appendTime([]byte("finish 7"), 1<<62))
+	line = string(finish([]byte("finish 7"), 1<<62))
 	if want := map[bool]string{false: "finish 7", true: "finish 7 1000000000000"}[tellsTime]; line != want {
 		t.Fatal(line)
 	}

@@ -3,53 +3,59 @@ package apf
 import (
 	"container/list"
 	"context"
+	"errors"
 	"sort"
 	"strconv"
+	"strings"
 	"sync"
 	"time"
 )
 
-// stage says how far a request is.
+const (
+	// maxLine is the longest line that the level reads, without its end, and maxLimit the largest limit that it may have.
+	maxLine, maxLimit = 65536, 10000
+	// tellsTime says whether the end of a request is sent with how long it ran.
+	tellsTime = false
+)
+
+// stage says how far a request is: its line has no answer yet, it waits in a queue, it has its seats, or it ended.
 type stage int
 
 const (
-	asked stage = iota // its line is sent and not answered, or is still to be sent
-	waits              // it waits in a queue of the level
-	runs               // it has its seats
-	over               // it ended, and its number is free, or is so once its finish is answered
+	asked stage = iota
+	waits
+	runs
+	over
 )
 
 // request is one request from its number to its end. The level's lock guards it.
 type request struct {
-	number int
-	object []byte
-	width  int
-	stage  stage
-	// came is its place in the order in which requests came.
-	came uint64
-	// since is when it got its seats.
+	number, width int
+	object        []byte
+	stage         stage
+	// came is its place in the order in which requests came, and since is when it got its seats.
+	came  uint64
 	since time.Time
-	// known says that the level behind the pipe has it among those that run, so that a finish is owed.
-	known bool
-	// late says that it came when the level was closed already.
-	late bool
-	// leaves is why its cancel was sent.
+	// known says that the level behind the pipe may have it among those that run, so that a finish is owed, and late that it
+	// came when the level was closed already.
+	known, late bool
+	// leaves is why its cancel was sent, and told hears once that it runs (nil), or why it does not.
 	leaves error
-	// told hears once that it runs (nil), or why it does not.
-	told chan error
+	told   chan error
 }
 
 // Level is a level that stays open for a server's whole life. Its methods may be called by many goroutines at once.
 type Level struct {
 	options Options
-	// done is closed when the level has ended.
-	done chan struct{}
+	// config is what the config file had, and shape what the level's first line said of it beside the limit.
+	config []byte
+	shape  string
+	// done is closed when the level has ended, idle once no request is there after Shutdown, and stop when no process is
+	// started any more.
+	done, idle, stop chan struct{}
 
 	// mu guards all below, each request and each pipe's questions. It is never held over a system call.
 	mu sync.Mutex
-	// config is what the config file had, and first the level's first line that came of it.
-	config []byte
-	first  first
 	// pipe leads to the level's process. It is nil while there is none.
 	pipe *pipe
 	// there has the requests by their numbers, count is how many those are, and free has the numbers of no request.
@@ -60,32 +66,26 @@ type Level struct {
 	wanting list.List
 	came    uint64
 	// seats is how many seats the running requests have together.
-	seats    int
-	limit    int
-	closed   bool
-	restarts int
-	// ending says that Shutdown was called, and idle is closed once no request is there then. shut says that no process is
-	// started any more, and stop is closed then.
-	ending, shut bool
-	idle, stop   chan struct{}
+	seats, limit, restarts int
+	// ending says that Shutdown was called, and shut that it waits for nobody any more.
+	closed, ending, shut bool
 }
 
 // number waits for a number of no request.
 func (l *Level) number(ctx context.Context) (int, error) {
 	l.mu.Lock()
-	if l.ending {
-		l.mu.Unlock()
-		return 0, ErrShutdown
-	}
-	if last := len(l.free) - 1; last >= 0 {
+	if last := len(l.free) - 1; last >= 0 && !l.ending {
+		defer l.mu.Unlock()
 		number := l.free[last]
 		l.free = l.free[:last]
 		l.count++
-		l.mu.Unlock()
 		return number, nil
 	}
 	turn := make(chan int, 1)
 	place := l.wanting.PushBack(turn)
+	if l.ending {
+		l.refuse()
+	}
 	l.mu.Unlock()
 	select {
 	case number, ok := <-turn:
@@ -97,16 +97,22 @@ func (l *Level) number(ctx context.Context) (int, error) {
 	}
 	l.mu.Lock()
 	defer l.mu.Unlock()
+	l.wanting.Remove(place)
 	select {
 	case number, ok := <-turn:
-		// it came too late
 		if ok {
 			l.giveBack(number)
 		}
 	default:
-		l.wanting.Remove(place)
 	}
 	return 0, ctx.Err()
+}
+
+// refuse ends those that wait for a number.
+func (l *Level) refuse() {
+	for place := l.wanting.Front(); place != nil; place = l.wanting.Front() {
+		close(l.wanting.Remove(place).(chan int))
+	}
 }
 
 // giveBack frees a number, or hands it to the first that wants one.
@@ -116,8 +122,7 @@ func (l *Level) giveBack(number int) {
 		return
 	}
 	l.free = append(l.free, number)
-	l.count--
-	if l.ending && l.count == 0 {
+	if l.count--; l.ending && l.count == 0 {
 		close(l.idle)
 	}
 }
@@ -129,7 +134,7 @@ func (l *Level) enter(r *request) {
 	l.there[r.number] = r
 	switch {
 	case l.pipe != nil:
-		l.pipe.ask(question{kind: arrive, request: r}, "arrive", r)
+		l.pipe.ask("arrive", r)
 	case l.closed:
 		l.end(r, &Rejected{"closed"})
 	case l.seats == 0 || l.seats+r.width <= l.limit:
@@ -161,15 +166,13 @@ func (l *Level) drop(r *request) {
 
 // leave cancels a request that waits. The level's answer decides whether that came in time.
 func (l *Level) leave(r *request, why error) {
-	if r.stage == runs || r.stage == over {
-		return
-	}
-	r.leaves = why
-	if l.pipe == nil {
+	switch r.leaves = why; {
+	case r.stage >= runs:
+	case l.pipe == nil:
 		l.end(r, why)
-		return
+	default:
+		l.pipe.ask("cancel", r)
 	}
-	l.pipe.ask(question{kind: cancel, request: r}, "cancel", r)
 }
 
 // release ends a request that runs. Its number is free once the level has said so.
@@ -183,15 +186,27 @@ func (l *Level) release(r *request) {
 		l.drop(r)
 		return
 	}
-	l.pipe.ask(question{kind: finish, request: r, ran: time.Since(r.since)}, "finish", r)
+	l.pipe.ask("finish", r)
+}
+
+// finish is the end of the line that says that a request is over: how long it ran, in whole microseconds, at most 10^12.
+func finish(line []byte, ran time.Duration) []byte {
+	if !tellsTime {
+		return line
+	}
+	microseconds := ran.Microseconds()
+	if most := int64(1_000_000_000_000); microseconds > most {
+		microseconds = most
+	}
+	return strconv.AppendInt(append(line, ' '), microseconds, 10)
 }
 
 // adopt makes this pipe the level's. The limit is restored, those that run are tried in, those that wait arrive in the
 // order in which they came, and the level is closed again.
 func (l *Level) adopt(p *pipe) {
 	l.pipe = p
-	if l.limit != p.first.limit {
-		p.askText("limit "+strconv.Itoa(l.limit), oneLine)
+	if l.limit != p.limit {
+		p.askText("limit "+strconv.Itoa(l.limit), "limit ", nil)
 	}
 	var there []*request
 	for _, r := range l.there {
@@ -200,24 +215,19 @@ func (l *Level) adopt(p *pipe) {
 		}
 	}
 	sort.Slice(there, func(i, j int) bool { return there[i].came < there[j].came })
-	for _, r := range there {
-		if r.stage == runs {
-			p.ask(question{kind: try, request: r}, "try", r)
+	send := func(word string, of stage, late bool) {
+		for _, r := range there {
+			if r.stage == of && (r.late == late || of == runs) {
+				p.ask(word, r)
+			}
 		}
 	}
-	for _, r := range there {
-		if r.stage == asked && !r.late {
-			p.ask(question{kind: arrive, request: r}, "arrive", r)
-		}
-	}
+	send("try", runs, false)
+	send("arrive", asked, false)
 	if l.closed {
-		p.askText("close", oneLine)
+		p.askText("close", "close ", nil)
 	}
-	for _, r := range there {
-		if r.stage == asked && r.late {
-			p.ask(question{kind: arrive, request: r}, "arrive", r)
-		}
-	}
+	send("arrive", asked, true)
 }
 
 // lose settles what was open when the level died: a line that was not answered counts as not done.
@@ -225,11 +235,11 @@ func (l *Level) lose(p *pipe) {
 	l.pipe = nil
 	for _, q := range p.open() {
 		switch {
-		case q.kind == finish:
+		case q.word == "finish":
 			l.drop(q.request)
-		case q.kind == cancel && q.request.stage <= waits:
+		case q.word == "cancel" && q.request.stage <= waits:
 			l.end(q.request, q.request.leaves)
-		case q.kind == text:
+		case q.told != nil:
 			q.told <- answer{err: ErrDown}
 		}
 	}
@@ -238,8 +248,7 @@ func (l *Level) lose(p *pipe) {
 		if r == nil {
 			continue
 		}
-		r.known = false
-		if r.stage == waits {
+		if r.known = false; r.stage == waits {
 			r.stage = asked
 		}
 	}
@@ -257,14 +266,18 @@ func (l *Level) dismiss() {
 	}
 }
 
-// text sends a question whose answer is not of one request, and waits for all of its lines.
-func (l *Level) text(ctx context.Context, line string, until func(string) bool) (string, error) {
+// ask sends a question that is of no request, and waits for its answer, whose last line begins so. A question that changes
+// the level is noted once it is answered; while no level is there it is noted at once, and the next level is given it.
+func (l *Level) ask(ctx context.Context, line, last string, note func() string) (string, error) {
 	l.mu.Lock()
 	if l.pipe == nil {
-		l.mu.Unlock()
-		return "", ErrDown
+		defer l.mu.Unlock()
+		if note == nil {
+			return "", ErrDown
+		}
+		return note(), nil
 	}
-	told := l.pipe.askText(line, until)
+	told := l.pipe.askText(line, last, note)
 	l.mu.Unlock()
 	select {
 	case a := <-told:
@@ -274,21 +287,83 @@ func (l *Level) text(ctx context.Context, line string, until func(string) bool) 
 	}
 }
 
-// change sends a line that changes the level, and notes the change once it is answered. While no level is there it is
-// noted at once, and the next level is given it.
-func (l *Level) change(ctx context.Context, line string, note func() string) (string, error) {
-	l.mu.Lock()
-	if l.pipe == nil {
-		defer l.mu.Unlock()
-		return note(), nil
+// errBroken is the error of a level that says what no level says.
+var errBroken = errors.New("it does not keep to the protocol")
+
+// hear notes one line of the level: what happened to a request that waited, or a line of the answer to the oldest question.
+func (l *Level) hear(p *pipe, line string) error {
+	p.silent = 0
+	word, rest, _ := strings.Cut(line, " ")
+	number, said, _ := strings.Cut(rest, " ")
+	var q *question
+	if len(p.open()) > 0 {
+		q = &p.asked[p.head]
 	}
-	told := l.pipe.askText(line, oneLine)
-	l.pipe.last().note = note
-	l.mu.Unlock()
-	select {
-	case a := <-told:
-		return a.text, a.err
-	case <-ctx.Done():
-		return "", ctx.Err()
+	switch {
+	case q != nil && len(q.lines) > 0:
+	case word == "strike":
+		return nil
+	case word == "dispatch":
+		n, err := strconv.Atoi(number)
+		if err != nil || n < 0 || n >= len(l.there) || l.there[n] == nil || l.there[n].stage != waits {
+			return errBroken
+		}
+		l.run(l.there[n])
+		return nil
 	}
+	if q == nil {
+		return errBroken
+	}
+	if q.told == nil {
+		// a question that has no answer yet stays open
+		if err := l.settle(q, word, number, said); err != nil {
+			return err
+		}
+		p.next()
+		return nil
+	}
+	isFault := word == "fault" && len(q.lines) == 0
+	if q.lines = append(q.lines, line); !isFault && !strings.HasPrefix(line, q.last) {
+		return nil
+	}
+	a := answer{text: strings.Join(q.lines, "\n") + "\n"}
+	if isFault {
+		a.err = &Fault{said}
+	} else if q.note != nil {
+		a.text = q.note()
+	}
+	q.told <- a
+	p.next()
+	return nil
+}
+
+// settle notes the answer to a question of one request.
+func (l *Level) settle(q *question, word, number, said string) error {
+	r := q.request
+	reason, _, _ := strings.Cut(said, " ")
+	switch {
+	case word == "fault" && q.word == "arrive" && r.stage == asked:
+		l.end(r, &Fault{said})
+	case word != "fault" && (word != q.word || number != strconv.Itoa(r.number)):
+		return errBroken
+	case q.word == "finish" && (word == "fault" || said == ""):
+		// a fault is of a request that the level did not let in
+		l.drop(r)
+	case q.word == "try":
+		// who does not fit any more runs on, and owes no finish
+		r.known = said == "execute"
+	case q.word == "cancel" && said == "cancelled" && r.stage == waits:
+		l.end(r, r.leaves)
+	case q.word == "cancel" && (word == "fault" || said == "execute" && r.stage >= runs):
+		// it came too late
+	case q.word != "arrive" || r.stage != asked:
+		return errBroken
+	case said == "execute":
+		l.run(r)
+	case reason == "queued":
+		r.stage = waits
+	default:
+		l.end(r, &Rejected{reason})
+	}
+	return nil
 }

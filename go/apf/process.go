@@ -2,6 +2,7 @@ package apf
 
 import (
 	"bufio"
+	"bytes"
 	"context"
 	"errors"
 	"fmt"
@@ -10,17 +11,138 @@ import (
 	"os/exec"
 	"strconv"
 	"strings"
-	"sync"
 	"syscall"
 	"time"
 )
 
-const (
-	// A level that died is started again after 10 ms, and after twice as long each time, until it answers something.
-	leastPause, mostPause = 10 * time.Millisecond, 5 * time.Second
-	// maxConfig is more than the program reads of a config.
-	maxConfig = 1 << 20
-)
+// A level that died is started again after 10 ms, and after twice as long each time, until it answers something.
+const leastPause, mostPause = 10 * time.Millisecond, 5 * time.Second
+
+// question is a line that the level has not answered yet: one of a request, or one whose answer is told.
+type question struct {
+	word    string
+	request *request
+	told    chan answer
+	// last is how the last line of the answer begins, and note is called before it is told.
+	last  string
+	note  func() string
+	lines []string
+}
+
+type answer struct {
+	text string
+	err  error
+}
+
+// pipe is one process of the level, with what it was asked. The level's lock guards what is not of the reader alone.
+type pipe struct {
+	command *exec.Cmd
+	in      io.WriteCloser
+	out     io.ReadCloser
+	reader  *bufio.Reader
+	// limit and shape are what its first line says: its limit, and all behind it.
+	limit int
+	shape string
+	// asked has the open questions, the oldest one at head.
+	asked []question
+	head  int
+	// answered says that it ever answered, and silent for how many ticks it has left its questions open.
+	answered bool
+	silent   int
+	// pending is what the writer sends next. wake tells it so, and closing that nothing follows.
+	pending []byte
+	wake    chan struct{}
+	closing bool
+}
+
+// ask sends a line of a request.
+func (p *pipe) ask(word string, r *request) {
+	p.asked = append(p.asked, question{word: word, request: r})
+	line := strconv.AppendInt(append(append(p.pending, word...), ' '), int64(r.number), 10)
+	switch word {
+	case "arrive", "try":
+		line, r.known = append(append(line, ' '), r.object...), true
+	case "finish":
+		line = finish(line, time.Since(r.since))
+	}
+	p.pending = append(line, '\n')
+	p.nudge()
+}
+
+// askText sends a line that is of no request.
+func (p *pipe) askText(line, last string, note func() string) chan answer {
+	told := make(chan answer, 1)
+	p.asked = append(p.asked, question{told: told, last: last, note: note})
+	p.pending = append(append(p.pending, line...), '\n')
+	p.nudge()
+	return told
+}
+
+// nudge wakes the writer.
+func (p *pipe) nudge() {
+	select {
+	case p.wake <- struct{}{}:
+	default:
+	}
+}
+
+// open has the open questions, and next takes the oldest one off.
+func (p *pipe) open() []question { return p.asked[p.head:] }
+
+func (p *pipe) next() {
+	p.answered = true
+	p.asked[p.head] = question{}
+	if p.head++; p.head == len(p.asked) || p.head > 1000 && 2*p.head > len(p.asked) {
+		p.asked, p.head = p.asked[:copy(p.asked, p.open())], 0
+	}
+}
+
+// write sends what is pending, all that was asked meanwhile at once, until the pipe is closed or breaks.
+func (l *Level) write(p *pipe) {
+	var spare []byte
+	for range p.wake {
+		for {
+			l.mu.Lock()
+			line, closing := p.pending, p.closing
+			p.pending, spare = spare[:0], line
+			l.mu.Unlock()
+			if len(line) == 0 {
+				if closing {
+					p.in.Close()
+				}
+				break
+			}
+			if _, err := p.in.Write(line); err != nil {
+				// the reader sees that the level has ended
+				return
+			}
+		}
+	}
+}
+
+// read hears what the level says until its output ends. What its lines say together is noted under one lock.
+func (l *Level) read(p *pipe) error {
+	for {
+		line, err := p.reader.ReadSlice('\n')
+		if err != nil {
+			// a line without its end says nothing
+			return err
+		}
+		l.mu.Lock()
+		for err == nil && line != nil {
+			err = l.hear(p, string(line[:len(line)-1]))
+			// what is there already needs no call of the system
+			if there, _ := p.reader.Peek(p.reader.Buffered()); bytes.IndexByte(there, '\n') < 0 {
+				break
+			}
+			line, _ = p.reader.ReadSlice('\n')
+		}
+		l.mu.Unlock()
+		if err != nil {
+			return err
+		}
+	}
+}
 
 // Start opens a level, and waits until its process says that it is open. The context bounds that wait alone: Shutdown ends
 // the level.
@@ -29,7 +151,7 @@ func Start(ctx context.Context, options Options) (*Level, error) {
 		options.Program = "apf"
 	}
 	if options.Slots == 0 {
-		options.Slots = maxLimit
+		options.Slots = 10000
 	}
 	if options.Name == "" {
 		options.Name = "level"
@@ -40,21 +162,19 @@ func Start(ctx context.Context, options Options) (*Level, error) {
 	if options.Log == nil {
 		options.Log = func(string) {}
 	}
-	config, err := readConfig(options.Config)
+	l := &Level{options: options, done: make(chan struct{}), idle: make(chan struct{}), stop: make(chan struct{})}
+	var err error
+	if l.config, err = os.ReadFile(options.Config); err != nil {
+		return nil, err
+	}
+	p, err := l.open(ctx, l.config)
 	if err != nil {
 		return nil, err
 	}
-	p, err := open(ctx, &options, config)
-	if err != nil {
-		return nil, err
-	}
-	l := &Level{options: options, config: config, first: p.first, limit: p.first.limit}
-	l.done, l.idle, l.stop = make(chan struct{}), make(chan struct{}), make(chan struct{})
-	l.there = make([]*request, options.Slots)
+	l.pipe, l.limit, l.shape, l.there = p, p.limit, p.shape, make([]*request, options.Slots)
 	for number := options.Slots - 1; number >= 0; number-- {
 		l.free = append(l.free, number)
 	}
-	l.pipe = p
 	go l.keep(p)
 	go l.watch()
 	return l, nil
@@ -69,9 +189,7 @@ func (l *Level) Shutdown(ctx context.Context) (Book, error) {
 		return Book{}, ErrShutdown
 	}
 	l.ending = true
-	for place := l.wanting.Front(); place != nil; place = l.wanting.Front() {
-		close(l.wanting.Remove(place).(chan int))
-	}
+	l.refuse()
 	if l.count == 0 {
 		close(l.idle)
 	}
@@ -82,21 +200,22 @@ func (l *Level) Shutdown(ctx context.Context) (Book, error) {
 	case <-ctx.Done():
 		late = ctx.Err()
 	}
-	told := make(chan answer, 1)
+	last := answer{err: ErrDown}
 	l.mu.Lock()
 	l.shut = true
 	close(l.stop)
 	if p := l.pipe; p != nil {
 		// the book comes at the end of its input
-		p.asked = append(p.asked, question{kind: text, told: told, until: bookLines})
+		told := make(chan answer, 1)
+		p.asked = append(p.asked, question{told: told, last: "entered "})
 		p.closing = true
 		p.nudge()
+		l.mu.Unlock()
+		last = <-told
 	} else {
 		l.dismiss()
-		told <- answer{err: ErrDown}
+		l.mu.Unlock()
 	}
-	l.mu.Unlock()
-	last := <-told
 	<-l.done
 	if last.err != nil {
 		return Book{}, last.err
@@ -111,72 +230,35 @@ func (l *Level) Shutdown(ctx context.Context) (Book, error) {
 // Reload reads the config file again. Where only the limit is another one, the level is given it. Another change, or a
 // config that the program refuses, is an error, and the level stays as it is. It answers the limit before and after.
 func (l *Level) Reload(ctx context.Context) (was, is int, err error) {
-	config, err := readConfig(l.options.Config)
+	config, err := os.ReadFile(l.options.Config)
 	if err != nil {
 		return 0, 0, err
 	}
 	// a second process says what the file means
-	p, err := open(ctx, &l.options, config)
+	p, err := l.open(ctx, config)
 	if err != nil {
 		return 0, 0, err
 	}
-	p.in.Close()
 	p.end()
-	l.mu.Lock()
-	shape := l.first.shape
-	l.mu.Unlock()
-	if p.first.shape != shape {
+	if p.shape != l.shape {
 		return 0, 0, errors.New("more than the limit changed in the config, which needs a new start")
 	}
-	was, err = l.SetLimit(ctx, p.first.limit)
-	return was, p.first.limit, err
-}
-
-func readConfig(path string) ([]byte, error) {
-	file, err := os.Open(path)
-	if err != nil {
-		return nil, err
-	}
-	defer file.Close()
-	return io.ReadAll(io.LimitReader(file, maxConfig))
-}
-
-// tail keeps the last line of what is written to it.
-type tail struct {
-	mu   sync.Mutex
-	text []byte
-}
-
-func (t *tail) Write(part []byte) (int, error) {
-	t.mu.Lock()
-	defer t.mu.Unlock()
-	t.text = append(t.text, part...)
-	if most := 1000; len(t.text) > most {
-		t.text = append([]byte{}, t.text[len(t.text)-most:]...)
-	}
-	return len(part), nil
-}
-
-func (t *tail) line() string {
-	t.mu.Lock()
-	defer t.mu.Unlock()
-	lines := strings.Split(strings.TrimSpace(string(t.text)), "\n")
-	return strings.TrimSpace(lines[len(lines)-1])
+	was, err = l.SetLimit(ctx, p.limit)
+	return was, p.limit, err
 }
 
 // open starts the program, and reads its first line. The process is of a group of its own, so an interrupt of a terminal
 // does not reach it. It reads the config from a pipe, so what the file has later does not count.
-func open(ctx context.Context, options *Options, config []byte) (*pipe, error) {
+func (l *Level) open(ctx context.Context, config []byte) (*pipe, error) {
 	from, to, err := os.Pipe()
 	if err != nil {
 		return nil, err
 	}
 	defer from.Close()
-	said := &tail{}
+	slots, said := strconv.Itoa(l.options.Slots), &bytes.Buffer{}
 	p := &pipe{wake: make(chan struct{}, 1)}
-	p.command = exec.Command(options.Program, "serve", "/dev/fd/3", "--slots", strconv.Itoa(options.Slots), "--name", options.Name)
-	p.command.ExtraFiles = []*os.File{from}
-	p.command.Stderr = said
+	p.command = exec.Command(l.options.Program, "serve", "/dev/fd/3", "--slots", slots, "--name", l.options.Name)
+	p.command.ExtraFiles, p.command.Stderr = []*os.File{from}, said
 	p.command.SysProcAttr = &syscall.SysProcAttr{Setpgid: true}
 	if p.in, err = p.command.StdinPipe(); err == nil {
 		if p.out, err = p.command.StdoutPipe(); err == nil {
@@ -204,43 +286,32 @@ func open(ctx context.Context, options *Options, config []byte) (*pipe, error) {
 	line, err := p.reader.ReadString('\n')
 	close(read)
 	<-watched
-	if err == nil {
-		p.first, err = readFirst(line, options.Slots)
+	var version, limit int
+	if words := strings.SplitN(strings.TrimSpace(line), " ", 7); err == nil && len(words) == 7 {
+		version, _ = strconv.Atoi(words[1])
+		limit, _ = strconv.Atoi(words[5])
+		p.limit, p.shape = limit, words[6]
 	}
-	if err == nil {
+	if version == 1 && limit > 0 && strings.HasPrefix(line, "serve 1 slots "+slots+" limit ") {
 		return p, nil
 	}
 	p.end()
-	switch text := said.line(); {
+	lines := strings.Split(strings.TrimSpace(said.String()), "\n")
+	switch {
 	case ctx.Err() != nil:
-		return nil, fmt.Errorf("%s serve said no first line: %w", options.Program, ctx.Err())
-	case text != "":
-		return nil, errors.New(text)
-	case err == io.EOF:
-		return nil, fmt.Errorf("%s serve ended without a first line: %v", options.Program, p.command.ProcessState)
+		return nil, fmt.Errorf("%s serve said no first line: %w", l.options.Program, ctx.Err())
+	case version > 1:
+		return nil, fmt.Errorf("the level's protocol has version %d, and version 1 is known here", version)
+	case line != "":
+		return nil, fmt.Errorf("this is no first line of a level: %.100q", line)
+	case lines[0] != "":
+		return nil, errors.New(lines[len(lines)-1])
 	}
-	return nil, err
+	return nil, fmt.Errorf("%s serve ended without a first line: %v", l.options.Program, p.command.ProcessState)
 }
 
-// readFirst reads the first line of a level.
-func readFirst(line string, slots int) (first, error) {
-	words := strings.Fields(line)
-	if len(words) < 7 || words[0] != "serve" {
-		return first{}, fmt.Errorf("no first line of a level: %.100q", line)
-	}
-	if words[1] != "1" {
-		return first{}, fmt.Errorf("the level's protocol has version %.20s, and version 1 is known here", words[1])
-	}
-	limit, err := strconv.Atoi(words[5])
-	if err != nil || words[2] != "slots" || words[3] != strconv.Itoa(slots) || words[4] != "limit" {
-		return first{}, fmt.Errorf("no first line of a level: %.100q", line)
-	}
-	return first{limit, strings.Join(words[6:], " ")}, nil
-}
-
-// end kills what is left of the process and waits for it.
+// end kills what is left of the process, and of all that it started, and waits for it.
 func (p *pipe) end() {
-	// all of its group: a program that started another one is ended with it
 	syscall.Kill(-p.command.Process.Pid, syscall.SIGKILL)
 	p.command.Wait()
 }
@@ -252,16 +323,18 @@ func (l *Level) keep(p *pipe) {
 		go l.write(p)
 		why := l.read(p)
 		l.mu.Lock()
-		answered := p.heard > 0
 		l.lose(p)
-		shut := l.shut
+		answered, shut := p.answered, l.shut
 		l.mu.Unlock()
 		if shut {
-			l.waitFor(p)
+			// it ends by itself
+			late := time.AfterFunc(l.options.Patience, func() { syscall.Kill(-p.command.Process.Pid, syscall.SIGKILL) })
+			p.command.Wait()
+			late.Stop()
 			break
 		}
 		p.end()
-		if why == io.EOF || errors.Is(why, os.ErrClosed) {
+		if why != errBroken {
 			why = errors.New(p.command.ProcessState.String())
 		}
 		l.options.Log(fmt.Sprintf("the level ended and is started again: %v", why))
@@ -271,13 +344,6 @@ func (l *Level) keep(p *pipe) {
 		p = l.again(&pause)
 	}
 	close(l.done)
-}
-
-// waitFor lets the process of a level that was shut down end by itself.
-func (l *Level) waitFor(p *pipe) {
-	late := time.AfterFunc(l.options.Patience, func() { syscall.Kill(-p.command.Process.Pid, syscall.SIGKILL) })
-	p.command.Wait()
-	late.Stop()
 }
 
 // again starts the level until it is there, with longer and longer pauses. It answers nil once the level is shut down.
@@ -292,21 +358,23 @@ func (l *Level) again(pause *time.Duration) *pipe {
 			*pause = mostPause
 		}
 		ctx, cancel := context.WithTimeout(context.Background(), l.options.Patience)
-		p, err := open(ctx, &l.options, l.config)
+		p, err := l.open(ctx, l.config)
 		cancel()
 		if err != nil {
 			l.options.Log(fmt.Sprintf("the level does not start: %v", err))
 			continue
 		}
 		l.mu.Lock()
-		if l.shut {
-			l.mu.Unlock()
+		shut := l.shut
+		if !shut {
+			l.restarts++
+			l.adopt(p)
+		}
+		l.mu.Unlock()
+		if shut {
 			p.end()
 			return nil
 		}
-		l.restarts++
-		l.adopt(p)
-		l.mu.Unlock()
 		return p
 	}
 }
@@ -316,9 +384,6 @@ func (l *Level) watch() {
 	const parts = 4
 	tick := time.NewTicker(l.options.Patience / parts)
 	defer tick.Stop()
-	var seen *pipe
-	var heard uint64
-	silent := 0
 	for {
 		select {
 		case <-tick.C:
@@ -327,20 +392,16 @@ func (l *Level) watch() {
 		}
 		l.mu.Lock()
 		p := l.pipe
-		if p == nil || p != seen || p.heard != heard || len(p.open()) == 0 {
-			silent = 0
-		} else {
-			silent++
-		}
-		seen = p
 		if p != nil {
-			heard = p.heard
+			if p.silent++; len(p.open()) == 0 {
+				p.silent = 0
+			}
 		}
+		dead := p != nil && p.silent > parts
 		l.mu.Unlock()
-		if silent >= parts {
+		if dead {
 			// the reader then starts it again
 			p.out.Close()
-			silent = 0
 		}
 	}
 }

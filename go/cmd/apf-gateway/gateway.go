@@ -21,22 +21,25 @@ import (
 	"burtxeltz/internal/flow"
 )
 
-// smallAnswer is how long an answer may be that is read whole before it is passed on.
-const smallAnswer = 64 << 10
+const (
+	// smallAnswer is how long an answer may be that is read whole before it is passed on.
+	smallAnswer = 64 << 10
+	// partSize is how much of an answer is read at once.
+	partSize = 32 << 10
+)
 
 // gateway passes on what the level lets run.
 type gateway struct {
+	*options
 	level    *apf.Level
-	options  *options
-	trust    flow.Trust
+	trusted  flow.Trust
 	proxy    *httputil.ReverseProxy
 	journal  *journal
 	stopping atomic.Bool
 }
 
-func newGateway(level *apf.Level, backend *url.URL, trust flow.Trust, o *options) *gateway {
-	g := &gateway{level: level, options: o, trust: trust, journal: newJournal(o.quiet)}
-	g.proxy = httputil.NewSingleHostReverseProxy(backend)
+func newGateway(level *apf.Level, backend *url.URL, trusted flow.Trust, o *options) *gateway {
+	g := &gateway{options: o, level: level, trusted: trusted, journal: newJournal(o.quiet), proxy: httputil.NewSingleHostReverseProxy(backend)}
 	dial := (&net.Dialer{Timeout: 10 * time.Second}).DialContext
 	g.proxy.Transport = &http.Transport{
 		DialContext: func(ctx context.Context, network, address string) (net.Conn, error) {
@@ -46,17 +49,13 @@ func newGateway(level *apf.Level, backend *url.URL, trust flow.Trust, o *options
 			}
 			return &backendConn{Conn: conn}, nil
 		},
-		TLSHandshakeTimeout: 10 * time.Second,
-		MaxIdleConns:        0,
-		MaxIdleConnsPerHost: 1000,
-		IdleConnTimeout:     time.Minute,
-		DisableCompression:  true,
-		// one request has one connection, so that it can be closed
+		TLSHandshakeTimeout: 10 * time.Second, MaxIdleConnsPerHost: 1000, IdleConnTimeout: time.Minute, DisableCompression: true,
+		// a connection has one request at a time, so that it can be closed
 		TLSNextProto: map[string]func(string, *tls.Conn) http.RoundTripper{},
 	}
 	g.proxy.ModifyResponse = func(response *http.Response) error { return runOf(response.Request).answered(response) }
 	g.proxy.ErrorHandler = func(w http.ResponseWriter, r *http.Request, err error) { runOf(r).failed(w) }
-	g.proxy.BufferPool = parts
+	g.proxy.BufferPool = &pool{sync.Pool{New: func() any { return make([]byte, partSize) }}}
 	g.proxy.ErrorLog = log.New(io.Discard, "", 0)
 	return g
 }
@@ -69,92 +68,71 @@ func (g *gateway) ServeHTTP(writer http.ResponseWriter, r *http.Request) {
 		said.Status, said.Bytes = w.status, w.bytes
 		g.journal.note(said)
 	}()
-	distinguisher, seats := flow.Of(r, g.options.header, g.trust)
+	distinguisher, seats := flow.Of(r, g.header, g.trusted)
 	said.Flow = distinguisher
-	c := clientOf(r)
+	c := r.Context().Value(clientKey{}).(client)
 	if status := g.readBody(c, r); status != 0 {
 		w.Header().Set("Connection", "close")
 		http.Error(w, "the body did not come", status)
 		return
 	}
-	seat, err := g.seat(r, apf.Request{Schema: g.options.schema, Distinguisher: distinguisher, Width: seats}, said)
-	if err != nil {
-		apf.Refuse(w, err)
-		return
-	}
-	it := g.newRun(seat, c, r)
-	defer it.end(said)
-	g.proxy.ServeHTTP(w, r.WithContext(it.context()))
-}
-
-// seat waits for the seats of a request as long as the patience is.
-func (g *gateway) seat(r *http.Request, asks apf.Request, said *entry) (*apf.Seat, error) {
-	ctx, cancel := context.WithTimeout(r.Context(), g.options.patience)
-	defer cancel()
+	ctx, cancel := context.WithTimeout(r.Context(), g.patience)
 	began := time.Now()
-	seat, err := g.level.Acquire(ctx, asks)
-	if err == nil && r.Context().Err() != nil {
+	seat, err := g.level.Acquire(ctx, apf.Request{Schema: g.schema, Distinguisher: distinguisher, Width: seats})
+	cancel()
+	if said.Wait = time.Since(began).Seconds(); err == nil && r.Context().Err() != nil {
 		// its client is gone, and the backend knows nothing of it
 		seat.Release()
 		err = r.Context().Err()
 	}
-	said.Wait = time.Since(began).Seconds()
-	var rejected *apf.Rejected
-	var fault *apf.Fault
-	switch {
-	case err == nil:
-		said.Decision = "execute"
-	case errors.As(err, &rejected):
-		said.Decision = rejected.Reason
-	case errors.As(err, &fault):
-		said.Decision = "fault"
-	default:
-		said.Decision = "cancelled"
+	g.journal.waited(err == nil, said.Wait)
+	if err != nil {
+		said.Decision = apf.Refuse(w, err)
+		return
 	}
-	g.journal.waited(said.Decision == "execute", said.Wait)
-	return seat, err
+	said.Decision = "execute"
+	it := g.newRun(seat, c, r)
+	defer it.end(said)
+	g.proxy.ServeHTTP(w, r.WithContext(it.ctx))
 }
 
 // readBody reads so much of a body as the buffer takes. It answers a status where it does not come.
-func (g *gateway) readBody(c *client, r *http.Request) int {
+func (g *gateway) readBody(c client, r *http.Request) int {
 	// what comes behind a body is not passed on
 	defer func() { r.Trailer = nil }()
 	r.Header.Del("Expect")
 	if r.Body == nil || r.Body == http.NoBody || r.ContentLength == 0 {
 		return 0
 	}
-	limit := time.AfterFunc(g.options.runLimit, func() { c.stopReading(r) })
+	limit := time.AfterFunc(g.runLimit, func() { c.stopReading(r) })
 	var kept bytes.Buffer
-	_, err := io.CopyN(&kept, r.Body, int64(g.options.bodyBuffer))
+	_, err := io.CopyN(&kept, r.Body, g.bodyBuffer)
 	if !limit.Stop() {
 		return http.StatusRequestTimeout
 	}
-	switch {
-	case err == io.EOF && kept.Len() == 0:
-		r.Body, r.ContentLength, r.TransferEncoding = http.NoBody, 0, nil
-	case err == io.EOF:
-		r.Body, r.ContentLength, r.TransferEncoding = io.NopCloser(&kept), int64(kept.Len()), nil
-	case err != nil:
+	if err != nil && err != io.EOF {
 		return http.StatusBadRequest
-	default:
-		// the rest of it comes while the request runs
-		rest := r.Body
-		r.Body = struct {
-			io.Reader
-			io.Closer
-		}{io.MultiReader(&kept, rest), rest}
 	}
+	if err == io.EOF {
+		r.Body, r.ContentLength, r.TransferEncoding = io.NopCloser(&kept), int64(kept.Len()), nil
+		return 0
+	}
+	// the rest of it comes while the request runs
+	r.Body = struct {
+		io.Reader
+		io.Closer
+	}{io.MultiReader(&kept, r.Body), r.Body}
 	return 0
 }
 
-// run is one request that has its seats.
+// run is one request that has its seats. Its context ends by the run limit, and not with the client.
 type run struct {
 	gateway *gateway
 	seat    *apf.Seat
-	client  *client
+	client  client
 	request *http.Request
-	values  context.Context
-	done    chan struct{}
+	ctx     context.Context
+	cancel  context.CancelFunc
 	began   time.Time
 	limit   *time.Timer
 	// upgraded says that the backend switched protocols, and refused that the client has an answer of the gateway's own.
@@ -173,39 +151,17 @@ type runKey struct{}
 // runOf is the run of a request that is passed on.
 func runOf(r *http.Request) *run { return r.Context().Value(runKey{}).(*run) }
 
-func (g *gateway) newRun(seat *apf.Seat, c *client, r *http.Request) *run {
-	it := &run{gateway: g, seat: seat, client: c, request: r, values: r.Context(), done: make(chan struct{}), began: time.Now()}
-	it.limit = time.AfterFunc(g.options.runLimit, it.expire)
-	return it
-}
+// detached is a context with the values of another one, that does not end with it.
+type detached struct{ context.Context }
 
-// The run is the context of the request that is passed on: it ends by the run limit, and not with the client.
-func (it *run) Deadline() (time.Time, bool) { return time.Time{}, false }
+func (detached) Deadline() (time.Time, bool) { return time.Time{}, false }
+func (detached) Done() <-chan struct{}       { return nil }
+func (detached) Err() error                  { return nil }
 
-// Done is closed by the run limit.
-func (it *run) Done() <-chan struct{} { return it.done }
-
-// Err says that the run limit passed.
-func (it *run) Err() error {
-	select {
-	case <-it.done:
-		return context.DeadlineExceeded
-	default:
-		return nil
-	}
-}
-
-// Value is what the client's request knows, and the run.
-func (it *run) Value(key any) any {
-	if key == (runKey{}) {
-		return it
-	}
-	return it.values.Value(key)
-}
-
-// context is the run's context, which notes the backend's connection.
-func (it *run) context() context.Context {
-	return httptrace.WithClientTrace(it, &httptrace.ClientTrace{GotConn: func(info httptrace.GotConnInfo) {
+func (g *gateway) newRun(seat *apf.Seat, c client, r *http.Request) *run {
+	it := &run{gateway: g, seat: seat, client: c, request: r, began: time.Now()}
+	it.ctx, it.cancel = context.WithCancel(context.WithValue(detached{r.Context()}, runKey{}, it))
+	it.ctx = httptrace.WithClientTrace(it.ctx, &httptrace.ClientTrace{GotConn: func(info httptrace.GotConnInfo) {
 		conn := info.Conn
 		if secured, ok := conn.(*tls.Conn); ok {
 			conn = secured.NetConn()
@@ -213,11 +169,13 @@ func (it *run) context() context.Context {
 		if conn, ok := conn.(*backendConn); ok {
 			conn.run.Store(it)
 			it.conn.Store(conn)
-			if it.Err() != nil {
+			if it.ctx.Err() != nil {
 				it.cut()
 			}
 		}
 	}})
+	it.limit = time.AfterFunc(g.runLimit, it.expire)
+	return it
 }
 
 // cut closes the backend's connection, where it is still of this request.
@@ -227,16 +185,15 @@ func (it *run) cut() {
 	}
 }
 
-// over gives the seats back, once.
+// over gives the seats back.
 func (it *run) over() {
+	it.seat.Release()
 	it.mu.Lock()
+	defer it.mu.Unlock()
 	if it.ended.IsZero() {
 		it.ended = time.Now()
 	}
-	left := it.left
-	it.mu.Unlock()
-	it.seat.Release()
-	if left {
+	if it.left {
 		it.limit.Stop()
 	}
 }
@@ -244,7 +201,7 @@ func (it *run) over() {
 // expire ends a request whose run limit has passed: the backend's connection is closed, then the seats come back. A client
 // that sends or reads nothing is ended too.
 func (it *run) expire() {
-	close(it.done)
+	it.cancel()
 	it.cut()
 	it.over()
 	it.mu.Lock()
@@ -267,14 +224,16 @@ func (it *run) answered(response *http.Response) error {
 		it.over()
 	case response.ContentLength >= 0 && response.ContentLength <= smallAnswer || response.Body == http.NoBody:
 		text, err := io.ReadAll(response.Body)
-		response.Body.Close()
 		if err != nil {
 			return err
 		}
+		response.Body.Close()
 		it.over()
 		response.Body = io.NopCloser(bytes.NewReader(text))
 	default:
-		response.Body = newAnswer(response.Body, int(it.gateway.options.bodyBuffer), it.over)
+		a := &answer{parts: make(chan []byte, it.gateway.bodyBuffer/partSize), gone: make(chan struct{})}
+		go a.read(response.Body, it.over)
+		response.Body = a
 	}
 	return nil
 }
@@ -283,7 +242,7 @@ func (it *run) answered(response *http.Response) error {
 func (it *run) failed(w http.ResponseWriter) {
 	it.over()
 	it.refused = true
-	if it.Err() != nil {
+	if it.ctx.Err() != nil {
 		w.Header().Set("Connection", "close")
 		http.Error(w, "the backend did not answer in time", http.StatusGatewayTimeout)
 		return
@@ -297,21 +256,68 @@ func (it *run) end(said *entry) {
 	it.left = true
 	ended, expired := it.ended, it.expired
 	it.mu.Unlock()
-	switch {
-	case it.upgraded:
-		it.cut()
-	case !ended.IsZero():
-		it.limit.Stop()
-	}
 	if ended.IsZero() {
 		ended = time.Now()
+	} else if it.limit.Stop(); it.upgraded {
+		it.cut()
 	}
-	said.Run = ended.Sub(it.began).Seconds()
-	if expired && !it.refused {
+	if said.Run = ended.Sub(it.began).Seconds(); expired && !it.refused {
 		// the answer is not whole, and the connection is of no use any more
 		panic(http.ErrAbortHandler)
 	}
 }
+
+// answer is what a backend answers. It is read to its end, whether the client reads it or not: some parts of it are kept
+// for a slow client, and once the client is gone the rest is dropped.
+type answer struct {
+	parts chan []byte
+	gone  chan struct{}
+	once  sync.Once
+	part  []byte
+	err   error
+}
+
+func (a *answer) read(from io.ReadCloser, over func()) {
+	defer close(a.parts)
+	for a.err == nil {
+		part, n := make([]byte, partSize), 0
+		if n, a.err = from.Read(part); a.err != nil {
+			from.Close()
+			over()
+		}
+		select {
+		case a.parts <- part[:n]:
+		case <-a.gone:
+		}
+	}
+}
+
+// Read reads what came, and waits where nothing did.
+func (a *answer) Read(into []byte) (int, error) {
+	for len(a.part) == 0 {
+		part, ok := <-a.parts
+		if !ok {
+			return 0, a.err
+		}
+		a.part = part
+	}
+	n := copy(into, a.part)
+	a.part = a.part[n:]
+	return n, nil
+}
+
+// Close drops what is left.
+func (a *answer) Close() error {
+	a.once.Do(func() { close(a.gone) })
+	return nil
+}
+
+// pool keeps the buffers that answers pass through.
+type pool struct{ sync.Pool }
+
+// Get takes a buffer, and Put gives it back.
+func (p *pool) Get() []byte     { return p.Pool.Get().([]byte) }
+func (p *pool) Put(part []byte) { p.Pool.Put(part) }
 
 // backendConn is a connection to the backend, with the run that used it last.
 type backendConn struct {
@@ -319,29 +325,26 @@ type backendConn struct {
 	run atomic.Pointer[run]
 }
 
-// client is the connection of a client.
+// client is the connection of a client. One of HTTP/2 has other requests too, so it is never ended for one of them.
 type client struct{ net.Conn }
 
 type clientKey struct{}
 
 func withClient(ctx context.Context, conn net.Conn) context.Context {
-	return context.WithValue(ctx, clientKey{}, &client{conn})
+	return context.WithValue(ctx, clientKey{}, client{conn})
 }
-
-func clientOf(r *http.Request) *client { return r.Context().Value(clientKey{}).(*client) }
 
 // stopReading ends the reading of a request's body.
-func (c *client) stopReading(r *http.Request) {
-	if r.ProtoMajor >= 2 {
-		// its connection has other requests too
+func (c client) stopReading(r *http.Request) {
+	if r.ProtoMajor < 2 {
+		c.SetReadDeadline(time.Unix(1, 0))
+	} else {
 		r.Body.Close()
-		return
 	}
-	c.SetReadDeadline(time.Unix(1, 0))
 }
 
-// stopWriting leaves a second to write what is there. Of HTTP/2 the server's own limit ends the one stream later.
-func (c *client) stopWriting(r *http.Request) {
+// stopWriting leaves a second to write what is there. Of HTTP/2 the server's own limit ends the stream later.
+func (c client) stopWriting(r *http.Request) {
 	if r.ProtoMajor < 2 {
 		c.SetWriteDeadline(time.Now().Add(time.Second))
 	}
@@ -356,7 +359,7 @@ type counted struct {
 
 // WriteHeader notes the status.
 func (w *counted) WriteHeader(status int) {
-	if w.status == 0 && (status >= 200 || status == http.StatusSwitchingProtocols) {
+	if w.status == 0 && status >= 200 {
 		w.status = status
 	}
 	w.ResponseWriter.WriteHeader(status)
@@ -364,20 +367,13 @@ func (w *counted) WriteHeader(status int) {
 
 // Write counts the bytes.
 func (w *counted) Write(part []byte) (int, error) {
-	if w.status == 0 {
-		w.status = http.StatusOK
-	}
 	n, err := w.ResponseWriter.Write(part)
 	w.bytes += int64(n)
 	return n, err
 }
 
 // Flush sends what is written.
-func (w *counted) Flush() {
-	if it, ok := w.ResponseWriter.(http.Flusher); ok {
-		it.Flush()
-	}
-}
+func (w *counted) Flush() { w.ResponseWriter.(http.Flusher).Flush() }
 
 // Hijack gives the connection to an upgrade.
 func (w *counted) Hijack() (net.Conn, *bufio.ReadWriter, error) {

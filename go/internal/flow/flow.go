@@ -56,23 +56,29 @@ func (t Trust) Has(address netip.Addr) bool {
 // not trusted is taken out of its headers, and so is what some servers read as the same names. No header Connection can
 // say that the two are not to be passed on.
 func Of(r *http.Request, header string, trust Trust) (distinguisher string, seats int) {
-	host := r.RemoteAddr
-	var address netip.Addr
+	distinguisher, seats = r.RemoteAddr, 1
+	trusted := false
 	if peer, err := netip.ParseAddrPort(r.RemoteAddr); err == nil {
-		address = peer.Addr().Unmap().WithZone("")
-		host = address.String()
+		address := peer.Addr().Unmap().WithZone("")
+		distinguisher, trusted = address.String(), trust.Has(address)
 	}
-	trusted := trust.Has(address)
 	for name := range r.Header {
 		// a server behind may read X_Seats as X-Seats
-		for _, kept := range []string{header, Seats} {
-			if like(name, kept) && (!trusted || !strings.EqualFold(name, kept)) {
+		if like := strings.ReplaceAll(name, "_", "-"); strings.EqualFold(like, header) || strings.EqualFold(like, Seats) {
+			if !trusted || like != name {
 				delete(r.Header, name)
 			}
 		}
 	}
-	keep(r.Header, header)
-	distinguisher, seats = host, 1
+	for i, value := range r.Header["Connection"] {
+		words := strings.Split(value, ",")
+		for at, word := range words {
+			if word = strings.TrimSpace(word); strings.EqualFold(word, header) || strings.EqualFold(word, Seats) {
+				words[at] = ""
+			}
+		}
+		r.Header["Connection"][i] = strings.Join(words, ",")
+	}
 	if values := r.Header.Values(header); len(values) > 0 && values[len(values)-1] != "" {
 		distinguisher = values[len(values)-1]
 	}
@@ -80,22 +86,4 @@ func Of(r *http.Request, header string, trust Trust) (distinguisher string, seat
 		seats = int(n)
 	}
 	return distinguisher, seats
-}
-
-// like says whether two names of headers are the same but for case and for _ in place of -.
-func like(a, b string) bool {
-	return strings.EqualFold(strings.ReplaceAll(a, "_", "-"), strings.ReplaceAll(b, "_", "-"))
-}
-
-// keep takes the two names out of what Connection says of one connection alone.
-func keep(headers http.Header, header string) {
-	for i, value := range headers["Connection"] {
-		var words []string
-		for _, word := range strings.Split(value, ",") {
-			if word = strings.TrimSpace(word); !strings.EqualFold(word, header) && !strings.EqualFold(word, Seats) {
-				words = append(words, word)
-			}
-		}
-		headers["Connection"][i] = strings.Join(words, ", ")
-	}
 }

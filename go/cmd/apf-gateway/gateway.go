@@ -72,8 +72,7 @@ func (g *gateway) ServeHTTP(writer http.ResponseWriter, r *http.Request) {
 	said.Flow = distinguisher
 	c := r.Context().Value(clientKey{}).(client)
 	if status := g.readBody(c, r); status != 0 {
-		w.Header().Set("Connection", "close")
-		http.Error(w, "the body did not come", status)
+		c.refuse(w, r, "the body did not come", status)
 		return
 	}
 	ctx, cancel := context.WithTimeout(r.Context(), g.patience)
@@ -243,8 +242,7 @@ func (it *run) failed(w http.ResponseWriter) {
 	it.over()
 	it.refused = true
 	if it.ctx.Err() != nil {
-		w.Header().Set("Connection", "close")
-		http.Error(w, "the backend did not answer in time", http.StatusGatewayTimeout)
+		it.client.refuse(w, it.request, "the backend did not answer in time", http.StatusGatewayTimeout)
 		return
 	}
 	http.Error(w, "the backend can't be reached, or broke off", http.StatusBadGateway)
@@ -348,6 +346,14 @@ func (c client) stopWriting(r *http.Request) {
 	if r.ProtoMajor < 2 {
 		c.SetWriteDeadline(time.Now().Add(time.Second))
 	}
+}
+
+// refuse answers a request whose connection is of no use any more.
+func (c client) refuse(w http.ResponseWriter, r *http.Request, text string, status int) {
+	if r.ProtoMajor < 2 {
+		w.Header().Set("Connection", "close")
+	}
+	http.Error(w, text, status)
 }
 
 // counted counts what is written to a client.

@@ -16,6 +16,7 @@ import (
 	"net/url"
 	"os"
 	"os/signal"
+	"runtime/debug"
 	"strconv"
 	"strings"
 	"syscall"
@@ -41,6 +42,8 @@ func say(format string, words ...any) {
 }
 
 func main() {
+	// what is in use is little, so collecting it seldom costs little memory
+	debug.SetGCPercent(400)
 	o := &options{bodyBuffer: 1 << 20}
 	flags := flag.NewFlagSet("apf-gateway", flag.ContinueOnError)
 	flags.StringVar(&o.level.Config, "config", "", "the level's config `file`")

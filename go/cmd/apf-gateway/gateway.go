@@ -41,7 +41,7 @@ type gateway struct {
 func newGateway(level *apf.Level, backend *url.URL, trusted flow.Trust, o *options) *gateway {
 	g := &gateway{options: o, level: level, trusted: trusted, journal: newJournal(o.quiet), proxy: httputil.NewSingleHostReverseProxy(backend)}
 	dial := (&net.Dialer{Timeout: 10 * time.Second}).DialContext
-	g.proxy.Transport = &http.Transport{
+	g.proxy.Transport = transport{&http.Transport{
 		DialContext: func(ctx context.Context, network, address string) (net.Conn, error) {
 			conn, err := dial(ctx, network, address)
 			if err != nil {
@@ -52,12 +52,23 @@ func newGateway(level *apf.Level, backend *url.URL, trusted flow.Trust, o *optio
 		TLSHandshakeTimeout: 10 * time.Second, MaxIdleConnsPerHost: 1000, IdleConnTimeout: time.Minute, DisableCompression: true,
 		// a connection has one request at a time, so that it can be closed
 		TLSNextProto: map[string]func(string, *tls.Conn) http.RoundTripper{},
-	}
-	g.proxy.ModifyResponse = func(response *http.Response) error { return runOf(response.Request).answered(response) }
+	}}
 	g.proxy.ErrorHandler = func(w http.ResponseWriter, r *http.Request, err error) { runOf(r).failed(w) }
 	g.proxy.BufferPool = &pool{sync.Pool{New: func() any { return make([]byte, partSize) }}}
 	g.proxy.ErrorLog = log.New(io.Discard, "", 0)
 	return g
+}
+
+// transport hands what the backend answers to the run of the request.
+type transport struct{ *http.Transport }
+
+// RoundTrip passes a request on.
+func (t transport) RoundTrip(r *http.Request) (*http.Response, error) {
+	response, err := t.Transport.RoundTrip(r)
+	if err != nil {
+		return nil, err
+	}
+	return runOf(r).answered(response)
 }
 
 // ServeHTTP serves one request: its body is read, it waits for its seats, and it is passed on.
@@ -212,29 +223,32 @@ func (it *run) expire() {
 }
 
 // answered takes the backend's answer: it is read to its end, and then the seats come back.
-func (it *run) answered(response *http.Response) error {
+func (it *run) answered(response *http.Response) (*http.Response, error) {
 	switch {
 	case response.StatusCode == http.StatusSwitchingProtocols:
 		// from now on it is no request any more
-		if !it.limit.Stop() {
-			return context.DeadlineExceeded
+		if it.upgraded = it.limit.Stop(); !it.upgraded {
+			return nil, context.DeadlineExceeded
 		}
-		it.upgraded = true
 		it.over()
 	case response.ContentLength >= 0 && response.ContentLength <= smallAnswer || response.Body == http.NoBody:
 		text, err := io.ReadAll(response.Body)
-		if err != nil {
-			return err
-		}
 		response.Body.Close()
+		if err != nil {
+			return nil, err
+		}
 		it.over()
 		response.Body = io.NopCloser(bytes.NewReader(text))
 	default:
-		a := &answer{parts: make(chan []byte, it.gateway.bodyBuffer/partSize), gone: make(chan struct{})}
-		go a.read(response.Body, it.over)
-		response.Body = a
+		// a copy: at the end of its body the first one gets the trailers
+		copied := *response
+		copied.Trailer = response.Trailer.Clone()
+		a := &answer{Response: response, copied: &copied, parts: make(chan []byte, it.gateway.bodyBuffer/partSize), gone: make(chan struct{})}
+		copied.Body = a
+		go a.read(it.over)
+		return &copied, nil
 	}
-	return nil
+	return response, nil
 }
 
 // failed answers a request that the backend did not answer.
@@ -268,19 +282,21 @@ func (it *run) end(said *entry) {
 // answer is what a backend answers. It is read to its end, whether the client reads it or not: some parts of it are kept
 // for a slow client, and once the client is gone the rest is dropped.
 type answer struct {
-	parts chan []byte
-	gone  chan struct{}
-	once  sync.Once
-	part  []byte
-	err   error
+	*http.Response
+	copied *http.Response
+	parts  chan []byte
+	gone   chan struct{}
+	once   sync.Once
+	part   []byte
+	err    error
 }
 
-func (a *answer) read(from io.ReadCloser, over func()) {
+func (a *answer) read(over func()) {
 	defer close(a.parts)
 	for a.err == nil {
 		part, n := make([]byte, partSize), 0
-		if n, a.err = from.Read(part); a.err != nil {
-			from.Close()
+		if n, a.err = a.Body.Read(part); a.err != nil {
+			a.Body.Close()
 			over()
 		}
 		select {
@@ -295,6 +311,7 @@ func (a *answer) Read(into []byte) (int, error) {
 	for len(a.part) == 0 {
 		part, ok := <-a.parts
 		if !ok {
+			a.copied.Trailer = a.Trailer
 			return 0, a.err
 		}
 		a.part = part

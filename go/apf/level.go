@@ -1,7 +1,6 @@
 package apf
 
 import (
-	"container/list"
 	"context"
 	"errors"
 	"sort"
@@ -50,80 +49,38 @@ type Level struct {
 	// config is what the config file had, and shape what the level's first line said of it beside the limit.
 	config []byte
 	shape  string
-	// done is closed when the level has ended, idle once no request is there after Shutdown, and stop when no process is
-	// started any more.
-	done, idle, stop chan struct{}
+	// free has the numbers of no request. Who waits for one is served in order.
+	free chan int
+	// ending is closed by Shutdown, stop once it waits for nobody any more, and done when the level has ended.
+	ending, stop, done chan struct{}
 
 	// mu guards all below, each request and each pipe's questions. It is never held over a system call.
 	mu sync.Mutex
 	// pipe leads to the level's process. It is nil while there is none.
 	pipe *pipe
-	// there has the requests by their numbers, count is how many those are, and free has the numbers of no request.
+	// there has the requests by their numbers.
 	there []*request
-	count int
-	free  []int
-	// wanting has the channels of those that wait for a number, the first one in front.
-	wanting list.List
-	came    uint64
+	came  uint64
 	// seats is how many seats the running requests have together.
 	seats, limit, restarts int
-	// ending says that Shutdown was called, and shut that it waits for nobody any more.
-	closed, ending, shut bool
+	// shut says that Shutdown waits for nobody any more.
+	closed, shut bool
 }
 
 // number waits for a number of no request.
 func (l *Level) number(ctx context.Context) (int, error) {
-	l.mu.Lock()
-	if last := len(l.free) - 1; last >= 0 && !l.ending {
-		defer l.mu.Unlock()
-		number := l.free[last]
-		l.free = l.free[:last]
-		l.count++
-		return number, nil
-	}
-	turn := make(chan int, 1)
-	place := l.wanting.PushBack(turn)
-	if l.ending {
-		l.refuse()
-	}
-	l.mu.Unlock()
 	select {
-	case number, ok := <-turn:
-		if !ok {
-			return 0, ErrShutdown
-		}
-		return number, nil
-	case <-ctx.Done():
-	}
-	l.mu.Lock()
-	defer l.mu.Unlock()
-	l.wanting.Remove(place)
-	select {
-	case number, ok := <-turn:
-		if ok {
-			l.giveBack(number)
-		}
+	case <-l.ending:
+		return 0, ErrShutdown
 	default:
 	}
-	return 0, ctx.Err()
-}
-
-// refuse ends those that wait for a number.
-func (l *Level) refuse() {
-	for place := l.wanting.Front(); place != nil; place = l.wanting.Front() {
-		close(l.wanting.Remove(place).(chan int))
-	}
-}
-
-// giveBack frees a number, or hands it to the first that wants one.
-func (l *Level) giveBack(number int) {
-	if place := l.wanting.Front(); place != nil {
-		l.wanting.Remove(place).(chan int) <- number
-		return
-	}
-	l.free = append(l.free, number)
-	if l.count--; l.ending && l.count == 0 {
-		close(l.idle)
+	select {
+	case number := <-l.free:
+		return number, nil
+	case <-ctx.Done():
+		return 0, ctx.Err()
+	case <-l.ending:
+		return 0, ErrShutdown
 	}
 }
 
@@ -161,7 +118,7 @@ func (l *Level) end(r *request, why error) {
 // drop frees the number of a request that is over.
 func (l *Level) drop(r *request) {
 	l.there[r.number] = nil
-	l.giveBack(r.number)
+	l.free <- r.number
 }
 
 // leave cancels a request that waits. The level's answer decides whether that came in time.
@@ -233,7 +190,7 @@ func (l *Level) adopt(p *pipe) {
 // lose settles what was open when the level died: a line that was not answered counts as not done.
 func (l *Level) lose(p *pipe) {
 	l.pipe = nil
-	for _, q := range p.open() {
+	for _, q := range p.asked {
 		switch {
 		case q.word == "finish":
 			l.drop(q.request)
@@ -296,8 +253,8 @@ func (l *Level) hear(p *pipe, line string) error {
 	word, rest, _ := strings.Cut(line, " ")
 	number, said, _ := strings.Cut(rest, " ")
 	var q *question
-	if len(p.open()) > 0 {
-		q = &p.asked[p.head]
+	if len(p.asked) > 0 {
+		q = &p.asked[0]
 	}
 	switch {
 	case q != nil && len(q.lines) > 0:

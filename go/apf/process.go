@@ -43,9 +43,8 @@ type pipe struct {
 	// limit and shape are what its first line says: its limit, and all behind it.
 	limit int
 	shape string
-	// asked has the open questions, the oldest one at head.
+	// asked has the open questions, the oldest one first.
 	asked []question
-	head  int
 	// answered says that it ever answered, and silent for how many ticks it has left its questions open.
 	answered bool
 	silent   int
@@ -86,15 +85,11 @@ func (p *pipe) nudge() {
 	}
 }
 
-// open has the open questions, and next takes the oldest one off.
-func (p *pipe) open() []question { return p.asked[p.head:] }
-
+// next takes the oldest question off.
 func (p *pipe) next() {
 	p.answered = true
-	p.asked[p.head] = question{}
-	if p.head++; p.head == len(p.asked) || p.head > 1000 && 2*p.head > len(p.asked) {
-		p.asked, p.head = p.asked[:copy(p.asked, p.open())], 0
-	}
+	p.asked[0] = question{}
+	p.asked = p.asked[1:]
 }
 
 // write sends what is pending, all that was asked meanwhile at once, until the pipe is closed or breaks.
@@ -147,58 +142,61 @@ func (l *Level) read(p *pipe) error {
 // Start opens a level, and waits until its process says that it is open. The context bounds that wait alone: Shutdown ends
 // the level.
 func Start(ctx context.Context, options Options) (*Level, error) {
-	if options.Program == "" {
-		options.Program = "apf"
-	}
-	if options.Slots == 0 {
-		options.Slots = 10000
-	}
-	if options.Name == "" {
-		options.Name = "level"
-	}
-	if options.Patience <= 0 {
-		options.Patience = 5 * time.Second
-	}
+	options.Program = or(options.Program, "apf")
+	options.Slots = or(options.Slots, 10000)
+	options.Name = or(options.Name, "level")
+	options.Patience = or(options.Patience, 5*time.Second)
 	if options.Log == nil {
 		options.Log = func(string) {}
 	}
-	l := &Level{options: options, done: make(chan struct{}), idle: make(chan struct{}), stop: make(chan struct{})}
-	var err error
-	if l.config, err = os.ReadFile(options.Config); err != nil {
-		return nil, err
-	}
-	p, err := l.open(ctx, l.config)
+	config, err := os.ReadFile(options.Config)
 	if err != nil {
 		return nil, err
 	}
-	l.pipe, l.limit, l.shape, l.there = p, p.limit, p.shape, make([]*request, options.Slots)
-	for number := options.Slots - 1; number >= 0; number-- {
-		l.free = append(l.free, number)
+	l := &Level{options: options, config: config, there: make([]*request, options.Slots), free: make(chan int, options.Slots)}
+	l.ending, l.stop, l.done = make(chan struct{}), make(chan struct{}), make(chan struct{})
+	for number := range l.there {
+		l.free <- number
 	}
+	p, err := l.open(ctx, config)
+	if err != nil {
+		return nil, err
+	}
+	l.pipe, l.limit, l.shape = p, p.limit, p.shape
 	go l.keep(p)
 	go l.watch()
 	return l, nil
+}
+
+// or is the first value, or the other one where that is none.
+func or[T comparable](value, other T) T {
+	var none T
+	if value == none {
+		return other
+	}
+	return value
 }
 
 // Shutdown lets no request in any more, and waits for those that are there until the context ends. Then it ends the level,
 // and answers its last book. Who still waits then has ErrShutdown.
 func (l *Level) Shutdown(ctx context.Context) (Book, error) {
 	l.mu.Lock()
-	if l.ending {
+	select {
+	case <-l.ending:
 		l.mu.Unlock()
 		return Book{}, ErrShutdown
+	default:
 	}
-	l.ending = true
-	l.refuse()
-	if l.count == 0 {
-		close(l.idle)
-	}
+	close(l.ending)
 	l.mu.Unlock()
+	// all are over once their numbers are free
 	var late error
-	select {
-	case <-l.idle:
-	case <-ctx.Done():
-		late = ctx.Err()
+	for range l.there {
+		select {
+		case <-l.free:
+		case <-ctx.Done():
+			late = ctx.Err()
+		}
 	}
 	last := answer{err: ErrDown}
 	l.mu.Lock()
@@ -255,9 +253,9 @@ func (l *Level) open(ctx context.Context, config []byte) (*pipe, error) {
 		return nil, err
 	}
 	defer from.Close()
-	slots, said := strconv.Itoa(l.options.Slots), &bytes.Buffer{}
+	said := &bytes.Buffer{}
 	p := &pipe{wake: make(chan struct{}, 1)}
-	p.command = exec.Command(l.options.Program, "serve", "/dev/fd/3", "--slots", slots, "--name", l.options.Name)
+	p.command = exec.Command(l.options.Program, "serve", "/dev/fd/3", "--slots", strconv.Itoa(l.options.Slots), "--name", l.options.Name)
 	p.command.ExtraFiles, p.command.Stderr = []*os.File{from}, said
 	p.command.SysProcAttr = &syscall.SysProcAttr{Setpgid: true}
 	if p.in, err = p.command.StdinPipe(); err == nil {
@@ -283,16 +281,12 @@ func (l *Level) open(ctx context.Context, config []byte) (*pipe, error) {
 		case <-read:
 		}
 	}()
-	line, err := p.reader.ReadString('\n')
+	line, _ := p.reader.ReadString('\n')
 	close(read)
 	<-watched
-	var version, limit int
-	if words := strings.SplitN(strings.TrimSpace(line), " ", 7); err == nil && len(words) == 7 {
-		version, _ = strconv.Atoi(words[1])
-		limit, _ = strconv.Atoi(words[5])
-		p.limit, p.shape = limit, words[6]
-	}
-	if version == 1 && limit > 0 && strings.HasPrefix(line, "serve 1 slots "+slots+" limit ") {
+	var version, there int
+	if _, err := fmt.Sscanf(line, "serve %d slots %d limit %d ", &version, &there, &p.limit); err == nil && version == 1 && there == l.options.Slots {
+		p.shape = strings.SplitN(line, " ", 7)[6]
 		return p, nil
 	}
 	p.end()
@@ -393,7 +387,7 @@ func (l *Level) watch() {
 		l.mu.Lock()
 		p := l.pipe
 		if p != nil {
-			if p.silent++; len(p.open()) == 0 {
+			if p.silent++; len(p.asked) == 0 {
 				p.silent = 0
 			}
 		}

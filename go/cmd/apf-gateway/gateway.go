@@ -143,17 +143,17 @@ type run struct {
 	request *http.Request
 	ctx     context.Context
 	cancel  context.CancelFunc
-	began   time.Time
+	// began says when it had its seats, and ended is closed when they came back, which was at.
+	began, at time.Time
+	once      sync.Once
+	ended     chan struct{}
+	// limit is the run limit's timer, and expired is closed when that has ended the request.
 	limit   *time.Timer
+	expired chan struct{}
 	// upgraded says that the backend switched protocols, and refused that the client has an answer of the gateway's own.
 	upgraded, refused bool
 	// conn is the backend's connection that it used last.
 	conn atomic.Pointer[backendConn]
-
-	mu sync.Mutex
-	// ended says when the seats came back, expired that the run limit passed, and left that its handler has returned.
-	ended         time.Time
-	expired, left bool
 }
 
 type runKey struct{}
@@ -169,7 +169,7 @@ func (detached) Done() <-chan struct{}       { return nil }
 func (detached) Err() error                  { return nil }
 
 func (g *gateway) newRun(seat *apf.Seat, c client, r *http.Request) *run {
-	it := &run{gateway: g, seat: seat, client: c, request: r, began: time.Now()}
+	it := &run{gateway: g, seat: seat, client: c, request: r, began: time.Now(), ended: make(chan struct{}), expired: make(chan struct{})}
 	it.ctx, it.cancel = context.WithCancel(context.WithValue(detached{r.Context()}, runKey{}, it))
 	it.ctx = httptrace.WithClientTrace(it.ctx, &httptrace.ClientTrace{GotConn: func(info httptrace.GotConnInfo) {
 		conn := info.Conn
@@ -197,15 +197,11 @@ func (it *run) cut() {
 
 // over gives the seats back.
 func (it *run) over() {
-	it.seat.Release()
-	it.mu.Lock()
-	defer it.mu.Unlock()
-	if it.ended.IsZero() {
-		it.ended = time.Now()
-	}
-	if it.left {
-		it.limit.Stop()
-	}
+	it.once.Do(func() {
+		it.at = time.Now()
+		it.seat.Release()
+		close(it.ended)
+	})
 }
 
 // expire ends a request whose run limit has passed: the backend's connection is closed, then the seats come back. A client
@@ -214,12 +210,9 @@ func (it *run) expire() {
 	it.cancel()
 	it.cut()
 	it.over()
-	it.mu.Lock()
-	defer it.mu.Unlock()
-	if it.expired = true; !it.left {
-		it.client.stopReading(it.request)
-		it.client.stopWriting(it.request)
-	}
+	it.client.stopReading(it.request)
+	it.client.stopWriting(it.request)
+	close(it.expired)
 }
 
 // answered takes the backend's answer: it is read to its end, and then the seats come back.
@@ -262,20 +255,17 @@ func (it *run) failed(w http.ResponseWriter) {
 	http.Error(w, "the backend can't be reached, or broke off", http.StatusBadGateway)
 }
 
-// end is called when the handler returns. Where the client left, the backend is still read to its end.
+// end is called when the answer is passed on, or the client has left. The backend is read to its end, whoever left.
 func (it *run) end(said *entry) {
-	it.mu.Lock()
-	it.left = true
-	ended, expired := it.ended, it.expired
-	it.mu.Unlock()
-	if ended.IsZero() {
-		ended = time.Now()
-	} else if it.limit.Stop(); it.upgraded {
+	<-it.ended
+	said.Run = it.at.Sub(it.began).Seconds()
+	if it.upgraded {
 		it.cut()
-	}
-	if said.Run = ended.Sub(it.began).Seconds(); expired && !it.refused {
-		// the answer is not whole, and the connection is of no use any more
-		panic(http.ErrAbortHandler)
+	} else if !it.limit.Stop() {
+		if <-it.expired; !it.refused {
+			// the answer is not whole, and the connection is of no use any more
+			panic(http.ErrAbortHandler)
+		}
 	}
 }
 

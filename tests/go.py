@@ -23,6 +23,7 @@ import sys
 import tempfile
 import threading
 import time
+import traceback
 
 sys.path.insert(0, os.path.join(os.path.dirname(os.path.abspath(__file__)), "lib"))
 from harness import TOP, Files, Tally, build
@@ -116,7 +117,10 @@ class Backend:
 
     def answer(self, path):
         with self.lock:
-            connection = self.open.pop(path)
+            connection = self.open.pop(path, None)
+            if connection is None:
+                # it is answered already
+                return
             self.inside -= 1
             self.answered.append(path)
         text = path.encode() + self.bodies.get(path, b"")
@@ -267,6 +271,12 @@ def answer_of(connection):
         return 0, type(why).__name__, None
     finally:
         connection.close()
+
+
+def is_open(port):
+    """Whether a connection to this port is accepted."""
+    with socket.socket() as it:
+        return it.connect_ex(("127.0.0.1", port)) == 0
 
 
 def raw(gateway, *parts):
@@ -558,9 +568,7 @@ def test_stopping():
             # as a terminal does, to the whole group
             os.killpg(gateway.process.pid, number)
         tally.check(f"{name}: not ready while it stops", gateway.until(lambda: gateway.page("/readyz")[0] == 503), True)
-        with contextlib.suppress(OSError):
-            socket.create_connection(("127.0.0.1", gateway.port), timeout=MOST).close()
-            tally.check(f"{name}: no new connection", "connected", "refused")
+        tally.check(f"{name}: no new connection", gateway.until(lambda: not is_open(gateway.port)), True)
         backend.at_once = True
         for path in list(backend.open):
             backend.answer(path)
@@ -818,7 +826,10 @@ if set(chosen) - {"sources"}:
 
 def passed(name):
     began = time.monotonic()
-    chosen[name]()
+    try:
+        chosen[name]()
+    except Exception:
+        tally.check(f"{name}: runs to its end", traceback.format_exc(), "")
     over(name)
     if os.environ.get("APF_TIMES"):
         print(f"{time.monotonic() - began:.1f} s {name}")

@@ -66,7 +66,7 @@ class Backend:
         # those beside so many wait in the order in which they came
         self.workers = concurrent.futures.ThreadPoolExecutor(workers) if workers else None
         # what came, by path and in order, with the fields and bodies, and how many were in work at once at most
-        self.came, self.fields, self.bodies, self.raw, self.open, self.ended, self.answered = [], {}, {}, {}, {}, [], []
+        self.came, self.fields, self.bodies, self.raw, self.open, self.ended, self.answered, self.broken = [], {}, {}, {}, {}, [], [], []
         self.inside = self.highest = 0
         self.lock = threading.Condition()
         threading.Thread(target=self.accept, daemon=True).start()
@@ -100,6 +100,12 @@ class Backend:
                     pass
             else:
                 body = reader.read(int(names.get("content-length", 0)))
+            if len(body) < int(names.get("content-length", 0)):
+                with self.lock:
+                    self.broken.append(path)
+                    self.inside -= 1
+                    self.lock.notify_all()
+                return
             self.bodies[path] = body
             if self.workers:
                 self.workers.submit(time.sleep, self.works).result()
@@ -474,6 +480,15 @@ def test_stalled_clients():
         while part := unread.recv(1_000_000):
             got += len(part)
     tally.check("and its answer is cut off", got < big, True)
+    gateway.end()
+    # a body that is longer than the buffer has its seat while the rest of it comes, within the run limit
+    backend = Backend()
+    gateway = Gateway(backend, "--run-limit", "500ms", "--body-buffer", "64KiB", limit=1)
+    stalled = gateway.ask("/upload", method="POST", **{"Content-Length": "300000"})
+    stalled.sendall(b"x" * 100_000)
+    tally.check("a long body that stalls ends at the run limit", (answer_of(stalled)[0], gateway.is_idle()), (504, True))
+    with backend.lock:
+        tally.check("and the backend has the end of it", backend.lock.wait_for(lambda: backend.broken == ["/upload"], MOST), True)
 
 
 def test_half_sent_heads():

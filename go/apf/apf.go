@@ -40,11 +40,12 @@ type Options struct {
 // Request is what a request asks of the level.
 type Request struct {
 	// Schema and Distinguisher name the flow of the request. Schema is the level's name where it is empty.
-	Schema, Distinguisher string
+	Schema        string `json:"schema"`
+	Distinguisher string `json:"distinguisher"`
 	// Width is how many seats the request takes while it runs, 1 to 20,000. It is 1 where it is 0.
-	Width int
+	Width int `json:"width,omitempty"`
 	// Cost is what its dispatch is charged. The level chooses it where it is 0.
-	Cost int
+	Cost int `json:"cost,omitempty"`
 }
 
 // Rejected is the error of a request that the level rejects.
@@ -74,15 +75,8 @@ var (
 
 // object is the request as a line has it. A text that is no UTF-8 has U+FFFD where it is broken.
 func (r Request) object(schema string) ([]byte, error) {
-	if r.Schema != "" {
-		schema = r.Schema
-	}
-	object, err := json.Marshal(struct {
-		Schema        string `json:"schema"`
-		Distinguisher string `json:"distinguisher"`
-		Width         int    `json:"width,omitempty"`
-		Cost          int    `json:"cost,omitempty"`
-	}{schema, r.Distinguisher, r.Width, r.Cost})
+	r.Schema = or(r.Schema, schema)
+	object, err := json.Marshal(r)
 	if err == nil && len("arrive 10000 ")+len(object) > maxLine {
 		err = &Fault{"line too long"}
 	}

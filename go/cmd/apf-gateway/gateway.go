@@ -10,7 +10,6 @@ import (
 	"log"
 	"net"
 	"net/http"
-	"net/http/httptrace"
 	"net/http/httputil"
 	"net/url"
 	"sync"
@@ -31,44 +30,27 @@ const (
 // gateway passes on what the level lets run.
 type gateway struct {
 	*options
-	level    *apf.Level
-	trusted  flow.Trust
-	proxy    *httputil.ReverseProxy
-	journal  *journal
-	stopping atomic.Bool
+	level     *apf.Level
+	trusted   flow.Trust
+	director  func(*http.Request)
+	transport *http.Transport
+	buffers   *pool
+	journal   *journal
+	stopping  atomic.Bool
 }
 
 func newGateway(level *apf.Level, backend *url.URL, trusted flow.Trust, o *options) *gateway {
-	g := &gateway{options: o, level: level, trusted: trusted, journal: newJournal(o.quiet), proxy: httputil.NewSingleHostReverseProxy(backend)}
-	dial := (&net.Dialer{Timeout: 10 * time.Second}).DialContext
-	g.proxy.Transport = transport{&http.Transport{
-		DialContext: func(ctx context.Context, network, address string) (net.Conn, error) {
-			conn, err := dial(ctx, network, address)
-			if err != nil {
-				return nil, err
-			}
-			return &backendConn{Conn: conn}, nil
+	return &gateway{
+		options: o, level: level, trusted: trusted, journal: newJournal(o.quiet),
+		director: httputil.NewSingleHostReverseProxy(backend).Director,
+		buffers:  &pool{sync.Pool{New: func() any { return make([]byte, partSize) }}},
+		transport: &http.Transport{
+			DialContext:         (&net.Dialer{Timeout: 10 * time.Second}).DialContext,
+			TLSHandshakeTimeout: 10 * time.Second, MaxIdleConnsPerHost: 1000, IdleConnTimeout: time.Minute, DisableCompression: true,
+			// a connection has one request at a time, so that it is closed with it
+			TLSNextProto: map[string]func(string, *tls.Conn) http.RoundTripper{},
 		},
-		TLSHandshakeTimeout: 10 * time.Second, MaxIdleConnsPerHost: 1000, IdleConnTimeout: time.Minute, DisableCompression: true,
-		// a connection has one request at a time, so that it can be closed
-		TLSNextProto: map[string]func(string, *tls.Conn) http.RoundTripper{},
-	}}
-	g.proxy.ErrorHandler = func(w http.ResponseWriter, r *http.Request, err error) { runOf(r).failed(w) }
-	g.proxy.BufferPool = &pool{sync.Pool{New: func() any { return make([]byte, partSize) }}}
-	g.proxy.ErrorLog = log.New(io.Discard, "", 0)
-	return g
-}
-
-// transport hands what the backend answers to the run of the request.
-type transport struct{ *http.Transport }
-
-// RoundTrip passes a request on.
-func (t transport) RoundTrip(r *http.Request) (*http.Response, error) {
-	response, err := t.Transport.RoundTrip(r)
-	if err != nil {
-		return nil, err
 	}
-	return runOf(r).answered(response)
 }
 
 // ServeHTTP serves one request: its body is read, it waits for its seats, and it is passed on.
@@ -101,9 +83,12 @@ func (g *gateway) ServeHTTP(writer http.ResponseWriter, r *http.Request) {
 		return
 	}
 	said.Decision = "execute"
-	it := g.newRun(seat, c, r)
+	it := &run{gateway: g, seat: seat, client: c, request: r, began: time.Now(), ended: make(chan struct{}), expired: make(chan struct{})}
+	it.ctx, it.cancel = context.WithCancel(detached{r.Context()})
+	it.limit = time.AfterFunc(g.runLimit, it.expire)
 	defer it.end(said)
-	g.proxy.ServeHTTP(w, r.WithContext(it.ctx))
+	proxy := httputil.ReverseProxy{Director: g.director, Transport: it, ErrorHandler: it.failed, BufferPool: g.buffers, ErrorLog: quiet}
+	proxy.ServeHTTP(w, r.WithContext(it.ctx))
 }
 
 // readBody reads so much of a body as the buffer takes. It answers a status where it does not come.
@@ -135,6 +120,16 @@ func (g *gateway) readBody(c client, r *http.Request) int {
 	return 0
 }
 
+// quiet is for what a proxy says of each client that leaves.
+var quiet = log.New(io.Discard, "", 0)
+
+// detached is a context with the values of another one, that does not end with it.
+type detached struct{ context.Context }
+
+func (detached) Deadline() (time.Time, bool) { return time.Time{}, false }
+func (detached) Done() <-chan struct{}       { return nil }
+func (detached) Err() error                  { return nil }
+
 // run is one request that has its seats. Its context ends by the run limit, and not with the client.
 type run struct {
 	gateway *gateway
@@ -150,49 +145,10 @@ type run struct {
 	// limit is the run limit's timer, and expired is closed when that has ended the request.
 	limit   *time.Timer
 	expired chan struct{}
-	// upgraded says that the backend switched protocols, and refused that the client has an answer of the gateway's own.
-	upgraded, refused bool
-	// conn is the backend's connection that it used last.
-	conn atomic.Pointer[backendConn]
-}
-
-type runKey struct{}
-
-// runOf is the run of a request that is passed on.
-func runOf(r *http.Request) *run { return r.Context().Value(runKey{}).(*run) }
-
-// detached is a context with the values of another one, that does not end with it.
-type detached struct{ context.Context }
-
-func (detached) Deadline() (time.Time, bool) { return time.Time{}, false }
-func (detached) Done() <-chan struct{}       { return nil }
-func (detached) Err() error                  { return nil }
-
-func (g *gateway) newRun(seat *apf.Seat, c client, r *http.Request) *run {
-	it := &run{gateway: g, seat: seat, client: c, request: r, began: time.Now(), ended: make(chan struct{}), expired: make(chan struct{})}
-	it.ctx, it.cancel = context.WithCancel(context.WithValue(detached{r.Context()}, runKey{}, it))
-	it.ctx = httptrace.WithClientTrace(it.ctx, &httptrace.ClientTrace{GotConn: func(info httptrace.GotConnInfo) {
-		conn := info.Conn
-		if secured, ok := conn.(*tls.Conn); ok {
-			conn = secured.NetConn()
-		}
-		if conn, ok := conn.(*backendConn); ok {
-			conn.run.Store(it)
-			it.conn.Store(conn)
-			if it.ctx.Err() != nil {
-				it.cut()
-			}
-		}
-	}})
-	it.limit = time.AfterFunc(g.runLimit, it.expire)
-	return it
-}
-
-// cut closes the backend's connection, where it is still of this request.
-func (it *run) cut() {
-	if conn := it.conn.Load(); conn != nil && conn.run.CompareAndSwap(it, nil) {
-		conn.Close()
-	}
+	// upgraded is the connection of a backend that switched protocols, and refused says that the client has an answer of the
+	// gateway's own.
+	upgraded io.Closer
+	refused  bool
 }
 
 // over gives the seats back.
@@ -204,23 +160,25 @@ func (it *run) over() {
 	})
 }
 
-// expire ends a request whose run limit has passed: the backend's connection is closed, then the seats come back. A client
-// that sends or reads nothing is ended too.
+// expire ends a request whose run limit has passed: the backend's connection is closed, and whoever waits for its answer
+// hears so and gives the seats back. A client that sends or reads nothing is ended too.
 func (it *run) expire() {
 	it.cancel()
-	it.cut()
-	it.over()
 	it.client.stopReading(it.request)
 	it.client.stopWriting(it.request)
 	close(it.expired)
 }
 
-// answered takes the backend's answer: it is read to its end, and then the seats come back.
-func (it *run) answered(response *http.Response) (*http.Response, error) {
+// RoundTrip passes the request on. The backend's answer is read to its end, and then the seats come back.
+func (it *run) RoundTrip(r *http.Request) (*http.Response, error) {
+	response, err := it.gateway.transport.RoundTrip(r)
 	switch {
+	case err != nil:
+		return nil, err
 	case response.StatusCode == http.StatusSwitchingProtocols:
 		// from now on it is no request any more
-		if it.upgraded = it.limit.Stop(); !it.upgraded {
+		it.upgraded = response.Body.(io.Closer)
+		if !it.limit.Stop() {
 			return nil, context.DeadlineExceeded
 		}
 		it.over()
@@ -236,16 +194,16 @@ func (it *run) answered(response *http.Response) (*http.Response, error) {
 		// a copy: at the end of its body the first one gets the trailers
 		copied := *response
 		copied.Trailer = response.Trailer.Clone()
-		a := &answer{Response: response, copied: &copied, parts: make(chan []byte, it.gateway.bodyBuffer/partSize), gone: make(chan struct{})}
+		a := &answer{run: it, from: response, copied: &copied, parts: make(chan []byte, it.gateway.bodyBuffer/partSize), gone: make(chan struct{})}
 		copied.Body = a
-		go a.read(it.over)
+		go a.read()
 		return &copied, nil
 	}
 	return response, nil
 }
 
 // failed answers a request that the backend did not answer.
-func (it *run) failed(w http.ResponseWriter) {
+func (it *run) failed(w http.ResponseWriter, _ *http.Request, _ error) {
 	it.over()
 	it.refused = true
 	if it.ctx.Err() != nil {
@@ -259,9 +217,10 @@ func (it *run) failed(w http.ResponseWriter) {
 func (it *run) end(said *entry) {
 	<-it.ended
 	said.Run = it.at.Sub(it.began).Seconds()
-	if it.upgraded {
-		it.cut()
-	} else if !it.limit.Stop() {
+	if it.upgraded != nil {
+		it.upgraded.Close()
+	}
+	if !it.limit.Stop() && (it.upgraded == nil || it.ctx.Err() != nil) {
 		if <-it.expired; !it.refused {
 			// the answer is not whole, and the connection is of no use any more
 			panic(http.ErrAbortHandler)
@@ -272,26 +231,27 @@ func (it *run) end(said *entry) {
 // answer is what a backend answers. It is read to its end, whether the client reads it or not: some parts of it are kept
 // for a slow client, and once the client is gone the rest is dropped.
 type answer struct {
-	*http.Response
-	copied *http.Response
-	parts  chan []byte
-	gone   chan struct{}
-	once   sync.Once
-	part   []byte
-	err    error
+	run          *run
+	from, copied *http.Response
+	parts        chan []byte
+	gone         chan struct{}
+	once         sync.Once
+	part         []byte
+	err          error
 }
 
-func (a *answer) read(over func()) {
+func (a *answer) read() {
 	defer close(a.parts)
 	for a.err == nil {
 		part, n := make([]byte, partSize), 0
-		if n, a.err = a.Body.Read(part); a.err != nil {
-			a.Body.Close()
-			over()
+		if n, a.err = a.from.Body.Read(part); a.err != nil {
+			a.from.Body.Close()
+			a.run.over()
 		}
 		select {
 		case a.parts <- part[:n]:
 		case <-a.gone:
+		case <-a.run.ctx.Done():
 		}
 	}
 }
@@ -301,7 +261,7 @@ func (a *answer) Read(into []byte) (int, error) {
 	for len(a.part) == 0 {
 		part, ok := <-a.parts
 		if !ok {
-			a.copied.Trailer = a.Trailer
+			a.copied.Trailer = a.from.Trailer
 			return 0, a.err
 		}
 		a.part = part
@@ -323,12 +283,6 @@ type pool struct{ sync.Pool }
 // Get takes a buffer, and Put gives it back.
 func (p *pool) Get() []byte     { return p.Pool.Get().([]byte) }
 func (p *pool) Put(part []byte) { p.Pool.Put(part) }
-
-// backendConn is a connection to the backend, with the run that used it last.
-type backendConn struct {
-	net.Conn
-	run atomic.Pointer[run]
-}
 
 // client is the connection of a client. One of HTTP/2 has other requests too, so it is never ended for one of them.
 type client struct{ net.Conn }

@@ -753,6 +753,8 @@ def test_faults_at_the_start():
         ("no program", ["--apf", "/nowhere/apf"], 1, "no such file"),
         ("a bad address that is trusted", ["--trust", "localhost"], 1, "no address"),
         ("a patience of nothing", ["--patience", "0s"], 1, "more than 0"),
+        ("fewer slots than one", ["--slots", "-1"], 1, "'-1'"),
+        ("a name that the level refuses", ["--schema", "a b"], 1, "'a b'"),
         ("no certificate", ["--cert", "/nowhere"], 1, "open"),
         ("a bad number of bytes", ["--body-buffer", "1MB"], 2, "bytes are such as"),
         ("a word too many", ["more"], 2, "is no option"),

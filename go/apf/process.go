@@ -153,16 +153,16 @@ func Start(ctx context.Context, options Options) (*Level, error) {
 	if err != nil {
 		return nil, err
 	}
-	l := &Level{options: options, config: config, there: make([]*request, options.Slots), free: make(chan int, options.Slots)}
-	l.ending, l.stop, l.done = make(chan struct{}), make(chan struct{}), make(chan struct{})
-	for number := range l.there {
-		l.free <- number
-	}
+	l := &Level{options: options, config: config, ending: make(chan struct{}), stop: make(chan struct{}), done: make(chan struct{})}
 	p, err := l.open(ctx, config)
 	if err != nil {
 		return nil, err
 	}
 	l.pipe, l.limit, l.shape = p, p.limit, p.shape
+	l.there, l.free = make([]*request, options.Slots), make(chan int, options.Slots)
+	for number := range l.there {
+		l.free <- number
+	}
 	go l.keep(p)
 	go l.watch()
 	return l, nil
@@ -286,7 +286,8 @@ func (l *Level) open(ctx context.Context, config []byte) (*pipe, error) {
 	<-watched
 	var version, there int
 	if _, err := fmt.Sscanf(line, "serve %d slots %d limit %d ", &version, &there, &p.limit); err == nil && version == 1 && there == l.options.Slots {
-		p.shape = strings.SplitN(line, " ", 7)[6]
+		words := strings.SplitN(line, " ", 7)
+		p.shape = words[len(words)-1]
 		return p, nil
 	}
 	p.end()
@@ -298,6 +299,8 @@ func (l *Level) open(ctx context.Context, config []byte) (*pipe, error) {
 		return nil, fmt.Errorf("the level's protocol has version %d, and version 1 is known here", version)
 	case line != "":
 		return nil, fmt.Errorf("this is no first line of a level: %.100q", line)
+	case strings.HasPrefix(lines[0], "error: "):
+		return nil, errors.New(lines[0])
 	case lines[0] != "":
 		return nil, errors.New(lines[len(lines)-1])
 	}

@@ -44,7 +44,7 @@ program = build()
 room = tempfile.mkdtemp(prefix="apf-test-")
 atexit.register(shutil.rmtree, room, ignore_errors=True)
 # nothing is fetched
-environment = {**os.environ, "GOPROXY": "off", "GOFLAGS": "", "APF_PROGRAM": program}
+environment = {**os.environ, "GOPROXY": "off", "GOFLAGS": "", "GOTOOLCHAIN": "local", "CGO_ENABLED": "1", "CC": os.environ.get("CC", "cc"), "APF_PROGRAM": program}
 environment.setdefault("GOCACHE", os.path.join(os.path.expanduser("~"), ".cache", "go-build") if os.access(os.path.expanduser("~"), os.W_OK) else os.path.join(room, "cache"))
 soft, hard = resource.getrlimit(resource.RLIMIT_NOFILE)
 resource.setrlimit(resource.RLIMIT_NOFILE, (min(hard, 20_000) if hard != resource.RLIM_INFINITY else 20_000, hard))
@@ -332,7 +332,6 @@ def test_passing_on():
     tally.check("a body of 2 MB, there and back", connection.getresponse().read() == b"/large" + large, True)
     for path, method, want in (
         ("/chunks", "GET", (200, "hello", None)),
-        ("/early", "GET", (200, "hello", None)),
         ("/none", "GET", (204, "", None)),
         ("/old", "GET", (200, "hello to the end", None)),
         ("/garbage", "GET", (502, "the backend can't be reached, or broke off\n", None)),
@@ -341,6 +340,8 @@ def test_passing_on():
         tally.check(f"an answer to {method} {path}", gateway.get(path, method=method), want)
     found = raw(gateway, b"HEAD /head HTTP/1.1\r\nHost: there\r\nConnection: close\r\n\r\n")
     tally.check("an answer to HEAD", (found.startswith(b"HTTP/1.1 200"), b"Content-Length: 5" in found, found.endswith(b"\r\n\r\n")), (True, True, True))
+    found = raw(gateway, b"GET /early HTTP/1.1\r\nHost: there\r\nConnection: close\r\n\r\n")
+    tally.check("an answer behind early hints", (b"HTTP/1.1 200 OK" in found, found.endswith(b"\r\n\r\nhello")), (True, True))
     found = raw(gateway, b"GET /chunks HTTP/1.1\r\nHost: there\r\nConnection: close\r\n\r\n")
     tally.check("the trailers of an answer", found.endswith(b"\r\n0\r\nFirst: 1\r\n\r\n"), True)
     tally.check("all seats came back", (gateway.is_idle(), gateway.numbers()["dispatched_requests_total"]), (True, 13))
@@ -698,6 +699,19 @@ def test_upgrade():
     it.close()
     with backend.lock:
         tally.check("and its end reaches the backend", backend.lock.wait_for(lambda: "/socket" in backend.ended, MOST), True)
+
+
+def test_https():
+    if not (shutil.which("openssl") and shutil.which("curl")):
+        print("not tried: HTTPS, as openssl or curl is missing")
+        return
+    certificate, key = os.path.join(room, "certificate"), os.path.join(room, "key")
+    subprocess.run(["openssl", "req", "-x509", "-newkey", "rsa:2048", "-nodes", "-keyout", key, "-out", certificate, "-days", "1", "-subj", "/CN=here"], capture_output=True, check=True)
+    gateway = Gateway(Backend(), "--cert", certificate, "--key", key)
+    for option, version in (("--http2", "2"), ("--http1.1", "1.1")):
+        words = ["curl", "-sk", option, "-o", "/dev/null", "-w", "%{http_version} %{http_code}", f"https://127.0.0.1:{gateway.port}/{version}"]
+        tally.check(f"HTTPS with {option}", subprocess.run(words, capture_output=True, text=True, timeout=MOST).stdout, f"{version} 200")
+    tally.check("HTTP without a certificate", gateway.get("/")[0], 400)
 
 
 def test_pages():

@@ -491,6 +491,16 @@ func TestThePlainLimitWhileTheLevelIsAway(t *testing.T) {
 	everyNumber(t, l)
 }
 
+func TestALevelThatDiesAgainAndAgainIsStartedLessAndLessOften(t *testing.T) {
+	t.Setenv("FAKE_DIES", "1")
+	began := time.Now()
+	l := opened(t, Options{Program: "fake"})
+	until(t, "five restarts", func() bool { return l.Restarts() >= 5 })
+	if took, least := time.Since(began), (10+20+40+80+160)*time.Millisecond; took < least {
+		t.Fatalf("five restarts within %v, and the pauses alone are %v", took, least)
+	}
+}
+
 func TestShutdownWaitsForThoseThatRun(t *testing.T) {
 	each(t, func(t *testing.T, program string) {
 		l := opened(t, Options{Program: program})

@@ -58,7 +58,7 @@ type small struct {
 }
 
 // fake runs a small level on standard input and output. FAKE_NOTE names a file to which it writes what it is sent.
-// FAKE_FIRST is how it begins where that file is empty: what it says to each word of a line before it dies.
+// With FAKE_DIES it ends behind its first line. FAKE_FIRST is how it begins where that file is empty: what it says to each word of a line before it dies.
 func fake() {
 	var config struct{ Limit int }
 	text, err := os.ReadFile(os.Args[2])
@@ -80,6 +80,9 @@ func fake() {
 		version = "1"
 	}
 	fmt.Printf("serve %s slots %d limit %d queues 8 hand 1 length 50 queue\n", version, slots, l.limit)
+	if os.Getenv("FAKE_DIES") != "" {
+		return
+	}
 	lines := bufio.NewReader(os.Stdin)
 	for number := 1; ; number++ {
 		line, err := lines.ReadString('\n')

@@ -303,8 +303,8 @@ func (l *Level) settle(q *question, word, number, said string) error {
 		l.end(r, &Fault{said})
 	case word != "fault" && (word != q.word || number != strconv.Itoa(r.number)):
 		return errBroken
-	case q.word == "finish" && (word == "fault" || said == ""):
-		// a fault is of a request that the level did not let in
+	case q.word == "finish" && (said == "" || word == "fault" && strings.HasSuffix(said, " is not there")):
+		// a fault is of a request that was tried in, and did not fit
 		l.drop(r)
 	case q.word == "try":
 		// who does not fit any more runs on, and owes no finish

@@ -867,7 +867,7 @@ def passed(name):
 
 
 # these do nothing but wait most of their time
-idle = [threading.Thread(target=passed, args=(name,)) for name in ("half_sent_heads", "level_that_is_stopped") if name in chosen]
+idle = [threading.Thread(target=passed, args=(name,), daemon=True) for name in ("half_sent_heads", "level_that_is_stopped") if name in chosen]
 for it in idle:
     it.start()
 for name in chosen:

@@ -79,7 +79,7 @@ def checked(name, folder):
                 tally.check(f"{name}: {command}", done.stdout.decode(), want)
                 ran += 1
         else:
-            tally.check(f"{name}: a block of a known kind: {head}", language in ("rust", "toml", "sh"), True)
+            tally.check(f"{name}: a block of a known kind: {head}", language in ("rust", "toml", "sh", "go"), True)
     return ran, page
 
 
@@ -134,13 +134,15 @@ tally.check("README.md: it links each page", [it for it in everywhere[1:] if f"]
 lines = sum(1 for _ in open(os.path.join(TOP, "README.md"), encoding="utf-8"))
 tally.check(f"README.md: at most 150 lines, of {lines}", lines <= 150, True)
 
-# the unit and the container of docs/SERVE.md call the gateway by options that it has, and copy files that are there
-with open(os.path.join(TOP, "docs", "SERVE.md"), encoding="utf-8") as page, open(os.path.join(TOP, "examples", "gateway", "gateway.py"), encoding="utf-8") as gateway:
-    shown = {head.split()[0]: body for head, body in blocks(page.read()) if head.split()[:1] in (["ini"], ["dockerfile"])}
-    options = set(re.findall(r'add_argument\("(--[a-z-]+)"', gateway.read()))
-tally.check("docs/SERVE.md: options of the gateway", set(re.findall(r"--[a-z-]+", "".join(shown.values()))) - options, set())
-copied = [it for line in re.findall(r"^COPY (.*) \S+$", shown["dockerfile"], re.M) for it in line.split()]
-tally.check("docs/SERVE.md: files of the container", (len(copied), [it for it in copied if not os.path.isfile(os.path.join(TOP, it))]), (4, []))
+# the unit and the container of docs/SERVE.md call the gateway by options that it has, and copy files that are there or that go build makes
+with open(os.path.join(TOP, "docs", "SERVE.md"), encoding="utf-8") as page, open(os.path.join(TOP, "go", "cmd", "apf-gateway", "main.go"), encoding="utf-8") as gateway:
+    text = page.read()
+    shown = {head.split()[0]: body for head, body in blocks(text) if head.split()[:1] in (["ini"], ["dockerfile"])}
+    options = {f"--{it}" for it in re.findall(r'flags\.\w*Var\(&[\w.]+, "([a-z-]+)"', gateway.read())} | {"--from"}
+tally.check("docs/SERVE.md: options of the gateway", set(re.findall(r"(?<!\S)--[a-z-]+", "".join(shown.values()))) - options, set())
+copied = [it for line in re.findall(r"^COPY (?!--from)(.*) \S+$", shown["dockerfile"], re.M) for it in line.split()]
+tally.check("docs/SERVE.md: files of the container", (len(copied), [it for it in copied if not os.path.exists(os.path.join(TOP, it))]), (3, []))
+tally.check("docs/SERVE.md: each option of the gateway has a row", options - {"--from"} - set(re.findall(r"`(--[a-z-]+)", "".join(re.findall(r"^\|.*$", text, re.M)))), set())
 
 # each fault that a table lists is one that its sources have, and the other way round, with a place or without
 page = open(os.path.join(TOP, "docs", "FORMATS.md"), encoding="utf-8").read()
@@ -170,12 +172,12 @@ for name in ("trace", "audit"):
 for name in wanted:
     tally.check(f"the faults of the {name} that are listed", sorted(listed.get(name, [])), sorted(wanted[name]))
 
-# each example is shown, and has its three files; the one of an audit log has the log and its trace, and the gateway is a program, beside a backend
+# each example is shown, and has its three files; the one of an audit log has the log and its trace, and that of the gateway is a backend to try it with
 for example in sorted(os.listdir(os.path.join(TOP, "examples"))):
     if os.path.isdir(os.path.join(TOP, "examples", example)):
         names = sorted(it for it in os.listdir(os.path.join(TOP, "examples", example)) if it != "__pycache__")
         level = ["config.json", "requests.json", "script.txt"]
-        wanted = {"audit": ["audit.log", "trace.jsonl"], "gateway": ["backend.py", "gateway.py", "http1.py"], "noisy-client": ["config.json", "picture.svg", *level[1:], "trace.jsonl"]}.get(example, level)
+        wanted = {"audit": ["audit.log", "trace.jsonl"], "gateway": ["backend.py"], "noisy-client": ["config.json", "picture.svg", *level[1:], "trace.jsonl"]}.get(example, level)
         tally.check(f"examples/{example}", names, wanted)
         shown = [it for it in PAGES if f"examples/{example}/{wanted[0]}" in open(os.path.join(TOP, it)).read()]
         tally.check(f"examples/{example} is shown", len(shown) > 0, True)

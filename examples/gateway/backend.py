@@ -1,17 +1,22 @@
 #!/usr/bin/env python3
-"""A backend to try the gateway with: it answers each request after a tenth of a second, however many there are.
+"""A backend to try the gateway with: ten workers answer each request after a tenth of a second. Who finds all of them at work waits for its turn.
 
 usage: backend.py [PORT]
 """
 
+import concurrent.futures
 import http.server
 import sys
 import time
 
+WORKERS = 10
+
 
 class Slow(http.server.BaseHTTPRequestHandler):
+    workers = concurrent.futures.ThreadPoolExecutor(WORKERS)
+
     def do_GET(self):
-        time.sleep(0.1)
+        self.workers.submit(time.sleep, 0.1).result()
         self.send_response(200)
         self.send_header("Content-Length", "6")
         self.end_headers()
@@ -21,6 +26,9 @@ class Slow(http.server.BaseHTTPRequestHandler):
         pass
 
 
+class Server(http.server.ThreadingHTTPServer):
+    request_queue_size = 1000
+
+
 if __name__ == "__main__":
-    server = http.server.ThreadingHTTPServer(("127.0.0.1", int(sys.argv[1]) if len(sys.argv) > 1 else 9000), Slow)
-    server.serve_forever()
+    Server(("127.0.0.1", int(sys.argv[1]) if len(sys.argv) > 1 else 9000), Slow).serve_forever()

@@ -1,0 +1,109 @@
+package main
+
+import (
+	"context"
+	"io"
+	"net/http"
+	"net/http/httptest"
+	"net/http/httptrace"
+	"net/url"
+	"os"
+	"path/filepath"
+	"strings"
+	"sync"
+	"testing"
+	"time"
+
+	"burtxeltz/apf"
+	"burtxeltz/internal/flow"
+)
+
+// over2 is a gateway that speaks HTTP/2, in front of this backend, with a client of one connection.
+func over2(t *testing.T, o *options, backend http.HandlerFunc) (*gateway, func(method, path string, body io.Reader) (*http.Response, bool)) {
+	t.Helper()
+	if os.Getenv("APF_PROGRAM") == "" {
+		t.Skip("APF_PROGRAM names no program")
+	}
+	config := filepath.Join(t.TempDir(), "level.json")
+	os.WriteFile(config, []byte(`{"limit":2,"queues":8,"handSize":1,"queueLengthLimit":50}`), 0o644)
+	level, err := apf.Start(context.Background(), apf.Options{Program: os.Getenv("APF_PROGRAM"), Config: config, Slots: 100})
+	if err != nil {
+		t.Fatal(err)
+	}
+	behind := httptest.NewServer(backend)
+	to, _ := url.Parse(behind.URL)
+	o.header, o.patience, o.bodyBuffer, o.quiet = "X-Remote-User", time.Minute, 1<<20, true
+	g := newGateway(level, to, flow.Local, o)
+	server := httptest.NewUnstartedServer(g)
+	server.EnableHTTP2, server.Config.ConnContext = true, withClient
+	server.StartTLS()
+	t.Cleanup(func() {
+		server.Close()
+		behind.Close()
+		book, err := level.Shutdown(context.Background())
+		if err != nil || book.Seats != 0 || book.Waiting != 0 {
+			t.Errorf("%+v %v", book, err)
+		}
+	})
+	return g, func(method, path string, body io.Reader) (*http.Response, bool) {
+		reused := false
+		ctx := httptrace.WithClientTrace(context.Background(), &httptrace.ClientTrace{GotConn: func(info httptrace.GotConnInfo) { reused = info.Reused }})
+		r, _ := http.NewRequestWithContext(ctx, method, server.URL+path, body)
+		answer, err := server.Client().Do(r)
+		if err != nil {
+			t.Errorf("%s: %v", path, err)
+			return &http.Response{}, reused
+		}
+		defer answer.Body.Close()
+		io.Copy(io.Discard, answer.Body)
+		return answer, reused
+	}
+}
+
+func TestRequestsOfOneConnection(t *testing.T) {
+	_, ask := over2(t, &options{runLimit: time.Minute}, func(w http.ResponseWriter, r *http.Request) {
+		body, _ := io.ReadAll(r.Body)
+		w.Write(body)
+	})
+	var all sync.WaitGroup
+	for i := 0; i < 20; i++ {
+		all.Add(1)
+		go func() {
+			defer all.Done()
+			if answer, _ := ask("POST", "/", strings.NewReader(strings.Repeat("x", 300_000))); answer.StatusCode != 200 || answer.ProtoMajor != 2 {
+				t.Error(answer.Status, answer.Proto)
+			}
+		}()
+	}
+	all.Wait()
+}
+
+func TestOneRequestThatStallsEndsNoOther(t *testing.T) {
+	release := make(chan struct{})
+	g, ask := over2(t, &options{runLimit: 300 * time.Millisecond}, func(w http.ResponseWriter, r *http.Request) {
+		if r.URL.Path == "/hangs" {
+			select {
+			case <-release:
+			case <-r.Context().Done():
+			}
+		}
+	})
+	defer close(release)
+	ask("GET", "/", nil)
+	stalled, _ := io.Pipe()
+	for path, want := range map[string]int{"/upload": http.StatusRequestTimeout, "/hangs": http.StatusGatewayTimeout} {
+		var body io.Reader
+		if path == "/upload" {
+			body = stalled
+		}
+		if answer, _ := ask("POST", path, body); answer.StatusCode != want {
+			t.Errorf("%s: %v", path, answer.Status)
+		}
+		if answer, reused := ask("GET", "/", nil); answer.StatusCode != 200 || !reused {
+			t.Errorf("behind %s: %v, reused %v", path, answer.Status, reused)
+		}
+	}
+	if text := g.journal.metrics("level", 0); !strings.Contains(text, `apf_gateway_requests_total{code="408"} 1`) {
+		t.Error(text)
+	}
+}

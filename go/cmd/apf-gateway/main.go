@@ -1,0 +1,202 @@
+// Apf-gateway is a reverse proxy with a priority level in front of one backend. Each request asks the level for its seats
+// and waits for its turn, so that one noisy client can't starve the others. The program apf decides, as a process of the
+// gateway. docs/SERVE.md says what each option does.
+package main
+
+import (
+	"context"
+	"crypto/tls"
+	"errors"
+	"flag"
+	"fmt"
+	"io"
+	"log"
+	"net"
+	"net/http"
+	"net/url"
+	"os"
+	"os/signal"
+	"runtime/debug"
+	"strconv"
+	"strings"
+	"syscall"
+	"time"
+
+	"burtxeltz/apf"
+	"burtxeltz/internal/flow"
+)
+
+// options are the words of the command line.
+type options struct {
+	level                                                    apf.Options
+	listen, admin, backend, header, schema, trust, cert, key string
+	patience, runLimit, drain                                time.Duration
+	bodyBuffer                                               int64
+	quiet                                                    bool
+}
+
+// say writes one line to standard error.
+func say(format string, words ...any) {
+	text := strings.TrimPrefix(fmt.Sprintf(format, words...), "apf: ")
+	fmt.Fprintln(os.Stderr, "apf-gateway: "+strings.ReplaceAll(text, "\n", " "))
+}
+
+func main() {
+	// what is in use is little, so collecting it seldom costs little memory
+	debug.SetGCPercent(400)
+	o := &options{bodyBuffer: 1 << 20}
+	flags := flag.NewFlagSet("apf-gateway", flag.ContinueOnError)
+	flags.StringVar(&o.level.Config, "config", "", "the level's config `file`")
+	flags.StringVar(&o.level.Program, "apf", "apf", "the `program` apf")
+	flags.IntVar(&o.level.Slots, "slots", 10000, "how many requests may be there at once, waiting and running")
+	flags.StringVar(&o.listen, "listen", "127.0.0.1:8080", "the `address` for clients")
+	flags.StringVar(&o.backend, "backend", "", "the `URL` of the backend, such as http://127.0.0.1:9000")
+	flags.StringVar(&o.admin, "admin", "", "a second `address`, with /metrics, /debug/queues, /healthz, /readyz and /limit")
+	flags.StringVar(&o.header, "flow-header", "X-Remote-User", "the `header` that names a request's flow")
+	flags.StringVar(&o.schema, "schema", "users", "the schema of all flows, and the level's `name` in its metrics")
+	flags.StringVar(&o.trust, "trust", "127.0.0.1", "the `addresses` whose flow header and X-Seats are believed")
+	flags.DurationVar(&o.patience, "patience", 15*time.Second, "how long a request may wait for its seats")
+	flags.DurationVar(&o.runLimit, "run-limit", time.Minute, "how long a request may run, and how long its body may take to come")
+	flags.Func("body-buffer", "so many `bytes` of a body are read before its request asks for seats (default 1MiB)", o.setBodyBuffer)
+	flags.DurationVar(&o.drain, "drain", 30*time.Second, "how long what runs may take to end once the gateway is stopped")
+	flags.StringVar(&o.cert, "cert", "", "the `file` of the certificate, for HTTPS and HTTP/2")
+	flags.StringVar(&o.key, "key", "", "the `file` of the certificate's key")
+	flags.BoolVar(&o.quiet, "quiet", false, "no line for each request on standard output")
+	flags.SetOutput(io.Discard)
+	err := flags.Parse(os.Args[1:])
+	if err == nil && flags.NArg() > 0 {
+		err = fmt.Errorf("the word %q is no option", flags.Arg(0))
+	}
+	switch {
+	case errors.Is(err, flag.ErrHelp):
+		fmt.Println("usage: apf-gateway --config level.json --listen 127.0.0.1:8080 --backend http://127.0.0.1:9000 [OPTIONS]")
+		flags.SetOutput(os.Stdout)
+		flags.PrintDefaults()
+	case err != nil:
+		say("%v", err)
+		os.Exit(2)
+	default:
+		if err := o.serve(); err != nil {
+			say("%v", err)
+			os.Exit(1)
+		}
+	}
+}
+
+func (o *options) setBodyBuffer(text string) (err error) {
+	digits := strings.TrimRight(text, "KMiB")
+	unit, ok := map[string]int64{"": 1, "B": 1, "KiB": 1 << 10, "MiB": 1 << 20}[text[len(digits):]]
+	o.bodyBuffer, err = strconv.ParseInt(digits, 10, 32)
+	if o.bodyBuffer *= unit; err != nil || !ok || o.bodyBuffer < 0 {
+		return errors.New("bytes are such as 65536, 64KiB or 1MiB")
+	}
+	return nil
+}
+
+// serve opens the level, then listens, and serves until a signal ends it.
+func (o *options) serve() error {
+	backend, err := url.Parse(o.backend)
+	if err != nil || (backend.Scheme != "http" && backend.Scheme != "https") || backend.Host == "" {
+		return fmt.Errorf("--backend %q is no URL such as http://127.0.0.1:9000", o.backend)
+	}
+	trust, err := flow.ParseTrust(o.trust)
+	if err != nil {
+		return fmt.Errorf("--trust: %v", err)
+	}
+	if o.patience <= 0 || o.runLimit <= 0 || o.drain < 0 || o.header == "" {
+		return errors.New("--patience and --run-limit are more than 0, --drain is not less, and --flow-header is a name")
+	}
+	var secured *tls.Config
+	if o.cert != "" || o.key != "" {
+		certificate, err := tls.LoadX509KeyPair(o.cert, o.key)
+		if err != nil {
+			return err
+		}
+		secured = &tls.Config{Certificates: []tls.Certificate{certificate}, MinVersion: tls.VersionTLS12}
+	}
+	o.level.Name = o.schema
+	o.level.Log = func(line string) { say("%s", line) }
+	level, err := apf.Start(context.Background(), o.level)
+	if err != nil {
+		return err
+	}
+	var admin net.Listener
+	listener, err := net.Listen("tcp", o.listen)
+	if err == nil && o.admin != "" {
+		admin, err = net.Listen("tcp", o.admin)
+	}
+	if err != nil {
+		// the level hears the end of its input
+		return err
+	}
+	return newGateway(level, backend, trust, o).live(listener, admin, secured)
+}
+
+// live serves on the two addresses, and obeys the signals.
+func (g *gateway) live(listener, admin net.Listener, secured *tls.Config) error {
+	signals := make(chan os.Signal, 8)
+	signal.Notify(signals, syscall.SIGTERM, syscall.SIGINT, syscall.SIGHUP)
+	// a reader of the output that goes away does not end the gateway
+	signal.Notify(make(chan os.Signal, 1), syscall.SIGPIPE)
+	errors := log.New(os.Stderr, "apf-gateway: ", 0)
+	server := &http.Server{
+		Handler: g, ConnContext: withClient, TLSConfig: secured, ErrorLog: errors, MaxHeaderBytes: 64 << 10,
+		ReadHeaderTimeout: 10 * time.Second, IdleTimeout: 2 * time.Minute,
+		// the body, the wait and the run each have their own limits; this is for what is left of an answer then
+		WriteTimeout: 2*g.runLimit + g.patience + 10*time.Second,
+	}
+	pages := &http.Server{Handler: g.pages(), ReadTimeout: 10 * time.Second, WriteTimeout: 30 * time.Second, ErrorLog: errors}
+	failed := make(chan error, 2)
+	go func() {
+		if secured != nil {
+			failed <- server.ServeTLS(listener, "", "")
+		} else {
+			failed <- server.Serve(listener)
+		}
+	}()
+	where := ""
+	if admin != nil {
+		where = fmt.Sprintf(", admin on %v", admin.Addr())
+		go func() { failed <- pages.Serve(admin) }()
+	}
+	say("listening on %v, backend %v%s", listener.Addr(), g.backend, where)
+	for {
+		select {
+		case err := <-failed:
+			g.stop(server, pages)
+			return err
+		case s := <-signals:
+			if s != syscall.SIGHUP {
+				g.stop(server, pages)
+				return nil
+			}
+			ctx, cancel := context.WithTimeout(context.Background(), 5*time.Second)
+			if was, is, err := g.level.Reload(ctx); err != nil {
+				say("the config was read again and is refused: %v", err)
+			} else {
+				say("the config was read again: limit %d was %d", is, was)
+			}
+			cancel()
+		}
+	}
+}
+
+// stop takes no new connection, lets what is there end, and then ends the level.
+func (g *gateway) stop(server, pages *http.Server) {
+	g.stopping.Store(true)
+	say("stopping: what is there has %v to end", g.drain)
+	ctx, cancel := context.WithTimeout(context.Background(), g.drain)
+	defer cancel()
+	if server.Shutdown(ctx) != nil {
+		say("what did not end in time is cut off")
+		server.Close()
+	}
+	book, err := g.level.Shutdown(ctx)
+	pages.Close()
+	g.journal.close()
+	if err != nil {
+		say("stopped: %v", err)
+	} else {
+		say("stopped: seats %d waiting %d executed %d rejected %d cancelled %d", book.Seats, book.Waiting, book.Executed, book.Rejected, book.Cancelled)
+	}
+}

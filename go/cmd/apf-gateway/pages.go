@@ -1,0 +1,197 @@
+package main
+
+import (
+	"bufio"
+	"context"
+	"encoding/json"
+	"errors"
+	"fmt"
+	"net/http"
+	"os"
+	"sort"
+	"strconv"
+	"strings"
+	"sync"
+	"time"
+
+	"burtxeltz/apf"
+)
+
+// entry is the line of one request on standard output. Wait and run are in seconds.
+type entry struct {
+	Time     time.Time `json:"time"`
+	Flow     string    `json:"flow"`
+	Decision string    `json:"decision"`
+	Wait     float64   `json:"wait"`
+	Run      float64   `json:"run"`
+	Status   int       `json:"status"`
+	Bytes    int64     `json:"bytes"`
+}
+
+// bounds are the upper bounds of the histogram's buckets in seconds, as kube-apiserver has them.
+var bounds = [...]float64{0, 0.005, 0.02, 0.05, 0.1, 0.2, 0.5, 1, 2, 5, 10, 15, 30}
+
+// histogram counts waits.
+type histogram struct {
+	buckets [len(bounds) + 1]int64
+	sum     float64
+}
+
+// journal writes the lines, and counts for the metrics. Nobody waits for a reader of the output: where it is far behind,
+// lines are left out.
+type journal struct {
+	lines chan *entry
+	done  chan struct{}
+
+	mu      sync.Mutex
+	codes   map[int]int64
+	waits   map[bool]*histogram
+	dropped int64
+	closed  bool
+}
+
+func newJournal(quiet bool) *journal {
+	j := &journal{codes: map[int]int64{}, waits: map[bool]*histogram{false: {}, true: {}}, lines: make(chan *entry, 10000), done: make(chan struct{})}
+	// nothing is written where no line is asked for
+	if j.closed = quiet; quiet {
+		close(j.lines)
+	}
+	go j.write()
+	return j
+}
+
+// write writes what came, all that is there at once.
+func (j *journal) write() {
+	defer close(j.done)
+	out := bufio.NewWriterSize(os.Stdout, 64<<10)
+	for it := range j.lines {
+		json.NewEncoder(out).Encode(it)
+		if len(j.lines) == 0 {
+			out.Flush()
+		}
+	}
+	out.Flush()
+}
+
+// note counts a request that is over, and hands its line on.
+func (j *journal) note(it *entry) {
+	j.mu.Lock()
+	defer j.mu.Unlock()
+	if j.codes[it.Status]++; j.closed {
+		return
+	}
+	select {
+	case j.lines <- it:
+	default:
+		j.dropped++
+	}
+}
+
+// waited counts the wait of a request that asked for its seats.
+func (j *journal) waited(execute bool, seconds float64) {
+	j.mu.Lock()
+	defer j.mu.Unlock()
+	j.waits[execute].buckets[sort.SearchFloat64s(bounds[:], seconds)]++
+	j.waits[execute].sum += seconds
+}
+
+// close writes what is left, for a second at most.
+func (j *journal) close() {
+	j.mu.Lock()
+	if !j.closed {
+		close(j.lines)
+	}
+	j.closed = true
+	j.mu.Unlock()
+	select {
+	case <-j.done:
+	case <-time.After(time.Second):
+	}
+}
+
+// metrics are the gateway's own, in the text format of Prometheus.
+func (j *journal) metrics(level string, restarts int) string {
+	j.mu.Lock()
+	defer j.mu.Unlock()
+	var text strings.Builder
+	head := func(name, kind, help string) {
+		fmt.Fprintf(&text, "# HELP %s %s\n# TYPE %s %s\n", name, help, name, kind)
+	}
+	name := "apiserver_flowcontrol_request_wait_duration_seconds"
+	head(name, "histogram", "How long requests waited for their seats.")
+	for _, execute := range []bool{false, true} {
+		labels, sum := fmt.Sprintf(`priority_level=%q,flow_schema=%q,execute="%t"`, level, level, execute), int64(0)
+		for i, count := range j.waits[execute].buckets {
+			bound := "+Inf"
+			if sum += count; i < len(bounds) {
+				bound = fmt.Sprint(bounds[i])
+			}
+			fmt.Fprintf(&text, "%s_bucket{%s,le=%q} %d\n", name, labels, bound, sum)
+		}
+		fmt.Fprintf(&text, "%s_sum{%s} %g\n%s_count{%s} %d\n", name, labels, j.waits[execute].sum, name, labels, sum)
+	}
+	head("apf_gateway_requests_total", "counter", "Requests by the status of their answer.")
+	for code, count := range j.codes {
+		fmt.Fprintf(&text, "apf_gateway_requests_total{code=\"%d\"} %d\n", code, count)
+	}
+	head("apf_gateway_level_restarts_total", "counter", "How often the level was started again.")
+	fmt.Fprintf(&text, "apf_gateway_level_restarts_total %d\n", restarts)
+	head("apf_gateway_lines_dropped_total", "counter", "Lines that were left out as the reader of the output was behind.")
+	fmt.Fprintf(&text, "apf_gateway_lines_dropped_total %d\n", j.dropped)
+	return text.String()
+}
+
+// pages are those of the admin address. The level has a second to answer.
+func (g *gateway) pages() http.Handler {
+	pages := http.NewServeMux()
+	page := func(path string, ask func(context.Context, *http.Request) (string, error)) {
+		pages.HandleFunc(path, func(w http.ResponseWriter, r *http.Request) {
+			ctx, cancel := context.WithTimeout(r.Context(), time.Second)
+			defer cancel()
+			w.Header().Set("Content-Type", "text/plain; version=0.0.4")
+			text, err := ask(ctx, r)
+			var fault *apf.Fault
+			switch {
+			case errors.As(err, &fault):
+				http.Error(w, fault.Text, http.StatusBadRequest)
+			case err != nil:
+				http.Error(w, err.Error(), http.StatusServiceUnavailable)
+			default:
+				fmt.Fprint(w, text)
+			}
+		})
+	}
+	page("/healthz", func(context.Context, *http.Request) (string, error) { return "ok\n", nil })
+	page("/readyz", func(ctx context.Context, r *http.Request) (string, error) {
+		if g.stopping.Load() {
+			return "", errors.New("stopping")
+		}
+		_, err := g.level.Book(ctx)
+		return "ok\n", err
+	})
+	page("/metrics", func(ctx context.Context, r *http.Request) (string, error) {
+		// while the level is away its metrics are left out
+		text, _ := g.level.Metrics(ctx)
+		return strings.TrimSuffix(text, "# EOF\n") + g.journal.metrics(g.schema, g.level.Restarts()) + "# EOF\n", nil
+	})
+	page("/debug/queues", func(ctx context.Context, r *http.Request) (text string, err error) {
+		queues, err := g.level.Queues(ctx)
+		for _, q := range queues {
+			text += fmt.Sprintf("queue %d waiting %d entered %d service %d\n", q.Number, q.Waiting, q.Entered, q.Service)
+		}
+		return text, err
+	})
+	page("/limit", func(ctx context.Context, r *http.Request) (string, error) {
+		// a page in a browser of this machine is not an operator
+		if r.Method != http.MethodPost || r.Header.Get("Origin") != "" {
+			return "", &apf.Fault{Text: "the limit is set by POST /limit?seats=N, and not from a browser"}
+		}
+		seats, err := strconv.Atoi(r.URL.Query().Get("seats"))
+		if err != nil {
+			return "", &apf.Fault{Text: "bad limit"}
+		}
+		was, err := g.level.SetLimit(ctx, seats)
+		return fmt.Sprintf("limit %d was %d\n", seats, was), err
+	})
+	return pages
+}

@@ -1,0 +1,3 @@
+module burtxeltz
+
+go 1.19

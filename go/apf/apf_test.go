@@ -661,11 +661,11 @@ func TestByHeader(t *testing.T) {
 
 func TestTheEndOfARequest(t *testing.T) {
 	line := string(finish([]byte("finish 7"), 1500*time.Nanosecond))
-	if want := map[bool]string{false: "finish 7", true: "finish 7 1"}[tellsTime]; line != want {
+	if want := "finish 7 1"; line != want {
 		t.Fatal(line)
 	}
 	line = string(finish([]byte("finish 7"), 1<<62))
-	if want := map[bool]string{false: "finish 7", true: "finish 7 1000000000000"}[tellsTime]; line != want {
+	if want := "finish 7 1000000000000"; line != want {
 		t.Fatal(line)
 	}
 }

@@ -10,12 +10,8 @@ import (
 	"time"
 )
 
-const (
-	// maxLine is the longest line that the level reads, without its end, and maxLimit the largest limit that it may have.
-	maxLine, maxLimit = 65536, 10000
-	// tellsTime says whether the end of a request is sent with how long it ran.
-	tellsTime = true
-)
+// maxLine is the longest line that the level reads, without its end, and maxLimit the largest limit that it may have.
+const maxLine, maxLimit = 65536, 10000
 
 // stage says how far a request is: its line has no answer yet, it waits in a queue, it has its seats, or it ended.
 type stage int
@@ -148,9 +144,6 @@ func (l *Level) release(r *request) {
 
 // finish is the end of the line that says that a request is over: how long it ran, in whole microseconds, at most 10^12.
 func finish(line []byte, ran time.Duration) []byte {
-	if !tellsTime {
-		return line
-	}
 	microseconds := ran.Microseconds()
 	if most := int64(1_000_000_000_000); microseconds > most {
 		microseconds = most

@@ -1,5 +1,6 @@
 """Who is turned away, where requests are charged by time and where by seats: quiet flows of short requests beside five flows that ask for twice the
-level, with an `apf serve` in the middle. The client keeps the clock, and everything else is the program's.
+level, with an `apf serve` in the middle. The client keeps the clock, and everything else is the program's. Who comes in the first third is not
+counted: nothing is known of any flow then.
 
 APF_SEED draws other arrivals, and APF_SECONDS says how long they come.
 """
@@ -18,7 +19,7 @@ tally = Tally()
 files = Files()
 program = build()
 seed = int(os.environ.get("APF_SEED", "1040"))
-SECONDS = int(os.environ.get("APF_SECONDS", "40"))
+SECONDS = int(os.environ.get("APF_SECONDS", "90"))
 print(f"seed {seed}")
 LEVEL = files("level.json", json.dumps({"limit": 49, "queues": 128, "handSize": 6, "queueLengthLimit": 50}))
 SECOND = 1_000_000
@@ -29,13 +30,13 @@ FINISH, GIVE_UP, ARRIVE = range(3)
 
 
 def arrivals_of(flows, name, runs_for, seats, draw):
-    """The arrivals of flows that ask for this many seats together, at times that know nothing of one another."""
+    """The arrivals of flows that ask for this many seats together, at times that know nothing of one another. Each runs up to a quarter longer or shorter."""
     each = runs_for * len(flows) / seats
     arrivals = []
     for flow in flows:
         at = draw.expovariate(1 / each)
         while at < SECONDS * SECOND:
-            arrivals.append((int(at), ARRIVE, f"{name}-{flow}", runs_for))
+            arrivals.append((int(at), ARRIVE, f"{name}-{flow}", int(runs_for * draw.uniform(0.75, 1.25))))
             at += draw.expovariate(1 / each)
     return arrivals
 
@@ -47,6 +48,7 @@ class Client:
         self.process = subprocess.Popen([program, "serve", LEVEL, "--charge", charge], stdin=subprocess.PIPE, stdout=subprocess.PIPE)
         self.process.stdout.readline()
         self.free, self.flow, self.runs_for = [*range(9_999, -1, -1)], {}, {}
+        self.is_counted = {}
         # who waits, each with how manieth of all that waited it is: its number may be another request's later
         self.waits, self.waited = {}, 0
         self.came, self.turned_away = {}, {}
@@ -65,7 +67,8 @@ class Client:
         flow = self.flow.pop(number)
         self.waits.pop(number, None)
         self.free.append(number)
-        self.turned_away[flow] = self.turned_away.get(flow, 0) + is_away
+        if self.is_counted[number]:
+            self.turned_away[flow] = self.turned_away.get(flow, 0) + is_away
 
     def run(self, arrivals):
         """Carries out what is due, to the end: of each flow, how many came and how many were turned away."""
@@ -77,7 +80,8 @@ class Client:
                 flow, runs_for = what
                 number = self.free.pop()
                 self.flow[number], self.runs_for[number] = flow, runs_for
-                self.came[flow] = self.came.get(flow, 0) + 1
+                self.is_counted[number] = at >= SECONDS * SECOND // 3
+                self.came[flow] = self.came.get(flow, 0) + self.is_counted[number]
                 answer, starts = self.ask(f'arrive {number} {{"schema":"duel","distinguisher":"{flow}"}}')
                 if answer[2] == b"execute":
                     starts = [number]
@@ -115,7 +119,7 @@ def turned_away(runs_for, charge):
     book, status = client.run(quiet + loud)
     came = sum(count for flow, count in client.came.items() if flow.startswith("quiet"))
     away = sum(count for flow, count in client.turned_away.items() if flow.startswith("quiet"))
-    tally.check(f"{runs_for} us by {charge}: nothing is left", (status, book.split("\n")[0], came), (0, "level open seats 0 waiting 0", len(quiet)))
+    tally.check(f"{runs_for} us by {charge}: nothing is left", (status, book.split("\n")[0], came), (0, "level open seats 0 waiting 0", sum(at >= SECONDS * SECOND // 3 for at, *_ in quiet)))
     print(f"loud requests of {runs_for // 1000} ms, charged by {charge}: {away} of {came} quiet requests turned away, {100 * away / came:.2f} %")
     return away / came
 

@@ -1,4 +1,4 @@
-"""The script `test`, its two tiers, with a stand-in for the toolchain's `rt` and for the scripts that it runs."""
+"""The script `test`, its two tiers, with a stand-in for the toolchain's `rt`, for `./plant` and for the scripts that it runs."""
 
 import os
 import re
@@ -34,6 +34,14 @@ esac
 """
 
 
+# what `./plant` does there: it notes the call where its words are those of a landing, and says what it is told to
+PLANT_OF_TEST = r"""#!/usr/bin/env bash
+[ "$*" = "--must-fail --after-ci --lanes $(nproc)" ] && echo plant >>"$NOTES"
+echo "${PLANTED:-0 passed, 0 failed}"
+[[ ${PLANTED:-0 failed} == *"0 failed" ]]
+"""
+
+
 def is_running(process):
     """Whether the process of this number runs: one that ended may still be listed until its parent asks for it."""
     try:
@@ -46,6 +54,7 @@ def test_of(name, *scripts, processors=2):
     """A copy of `test` and the launcher, with a stand-in for rt and scripts, each a text, a status, and lines that it runs first."""
     top = os.path.join(room.name, "test-" + name.replace(" ", "-"))
     write(os.path.join(top, "bin", "rt"), RT_OF_TEST, 0o755)
+    write(os.path.join(top, "plant"), PLANT_OF_TEST, 0o755)
     write(os.path.join(top, "bin", "nproc"), f"#!/bin/sh\necho {processors}\n", 0o755)
     write(os.path.join(top, "crates.txt"), "apf:\n")
     write(os.path.join(top, "crates", "apf", "src", "main.rt"), "first")
@@ -92,18 +101,26 @@ for name, parts, want in [
     ("the last count", [WELL, ("9 passed, 9 failed\n1 passed, 0 failed", 0)], (0, "4 passed, 0 failed")),
 ]:
     status, lines, calls = tested(name, *parts)
-    tally.check(f"test: {name}", (status, lines[-1], calls), (*want, ["ci"]))
+    is_proved = parts[0] == WELL
+    tally.check(f"test: {name}", (status, lines[-1], calls), (*want, ["ci", "plant"] if is_proved else ["ci"]))
     tally.check(f"test: {name}: says how long it takes", "minutes" in lines[0], True)
 
 # the program is built once: by rt ci, or by the launcher where that made none or where a source has changed since
 for name, does, want in [
-    ("built by rt ci", "builds", (0, "6 passed, 0 failed", ["ci"])),
-    ("not built by rt ci", "", (0, "6 passed, 0 failed", ["ci", "run"])),
-    ("a source that is edited meanwhile", "builds and changes", (0, "6 passed, 0 failed", ["ci", "run"])),
-    ("a program that can't be built", "refuses", (1, "3 passed, 1 failed", ["ci", "run"])),
+    ("built by rt ci", "builds", (0, "6 passed, 0 failed", ["ci", "plant"])),
+    ("not built by rt ci", "", (0, "6 passed, 0 failed", ["ci", "plant", "run"])),
+    ("a source that is edited meanwhile", "builds and changes", (0, "6 passed, 0 failed", ["ci", "plant", "run"])),
+    ("a program that can't be built", "refuses", (1, "3 passed, 1 failed", ["ci", "plant", "run"])),
 ]:
     status, lines, calls = tested(name, WELL, WELL, does=does)
     tally.check(f"test: {name}", (status, lines[-1], calls), want)
+
+# the planted bugs count
+for planted, want in [("5 passed, 0 failed", (0, "11 passed, 0 failed")), ("4 passed, 1 failed", (1, "10 passed, 1 failed")), ("it is not proved", (1, "6 passed, 1 failed"))]:
+    os.environ["PLANTED"] = planted
+    status, lines, calls = tested(f"planted bugs {planted}", WELL, WELL)
+    tally.check(f"test: planted bugs: {planted}", (status, lines[-1], calls), (*want, ["ci", "plant"]))
+del os.environ["PLANTED"]
 
 # a stored program of these sources does not stand for the one that is built, and that there is none is said before anything takes long
 top = test_of("a stored program", WELL)
@@ -112,7 +129,7 @@ of = subprocess.run(["bash", "-c", '. "$1"; made_of', "", os.path.join(top, "apf
 write(os.path.join(top, "program", "x86_64-linux", "made-of"), of)
 running = begun(top, WELL, does="")
 lines = running.communicate(timeout=60)[0].split("\n")[:-1]
-tally.check("test: a stored program is not taken", open(os.path.join(top, "notes")).read().split(), ["ci", "run"])
+tally.check("test: a stored program is not taken", open(os.path.join(top, "notes")).read().split(), ["ci", "plant", "run"])
 tally.check("test: and its hash is that of the sources", [it for it in lines if "program/store" in it], [])
 status, lines, calls = tested("no stored program", WELL, WELL)
 tally.check("test: says how to store it", [it for it in lines[:3] if "program/store stores it anew" in it], lines[1:2])
@@ -125,7 +142,7 @@ tally.check("test: another logic", (lines[-1], os.path.exists(os.path.join(top, 
 top = test_of("another release", WELL)
 lines = begun(top, WELL, kit=KIT.replace(KIT.split()[0], "rattle-kit-0")).communicate(timeout=60)[0].split("\n")[:-1]
 told = [it for it in lines if "another release" in it]
-tally.check("test: another release of the same logic", (lines[-1], len(told), open(os.path.join(top, "notes")).read().split()), ("6 passed, 0 failed", 1, ["ci"]))
+tally.check("test: another release of the same logic", (lines[-1], len(told), open(os.path.join(top, "notes")).read().split()), ("6 passed, 0 failed", 1, ["ci", "plant"]))
 
 # the scripts of the folder `kit` run in the whole test alone
 top = test_of("scripts that need the kit", WELL)

@@ -339,7 +339,7 @@ FAULTY_ENDS = [
     (FLOWLESS % b',"hash":0,"width":1.5', BAD_WIDTH, 1),
     (FLOWLESS % b',"hash":0,"width":null', BAD_WIDTH, 1),
     (FLOWLESS % b',"hash":0,"cost":0', BAD_COST, 1),
-    (FLOWLESS % b',"hash":0,"cost":20001', BAD_COST, 1),
+    (FLOWLESS % b',"hash":0,"cost":4294967296', BAD_COST, 1),
     (FLOWLESS % b',"hash":0,"cost":true', BAD_COST, 1),
     ((FLOWLESS % b',"hash":0,"cost":0')[:-1], BAD_COST, 1),
     (PLAIN + FLOWLESS % b',"hash":0,"cost":0' + b"{}\n" + PLAIN[:-1], BAD_COST, 2),

@@ -172,7 +172,7 @@ fn with_level<'a>(alloc: Global, command: Command<'a>) -> Result<Command<'a>, Al
             alloc,
             "charge",
             "BY",
-            "What a request is charged: time (the default), its seats times what its flow took so far, or seats",
+            "What a request is charged: time on its seats (time, the default), or seats",
         ))
 }
 

@@ -17,8 +17,6 @@ import (
 	"strconv"
 	"strings"
 	"time"
-
-	"burtxeltz/internal/flow"
 )
 
 // Options says which level Start opens.
@@ -73,16 +71,6 @@ var (
 	ErrDown = errors.New("apf: the level is not there")
 )
 
-// object is the request as a line has it. A text that is no UTF-8 has U+FFFD where it is broken.
-func (r Request) object(schema string) ([]byte, error) {
-	r.Schema = or(r.Schema, schema)
-	object, err := json.Marshal(r)
-	if err == nil && len("arrive 10000 ")+len(object) > maxLine {
-		err = &Fault{"line too long"}
-	}
-	return object, err
-}
-
 // Seat is held by a request that runs.
 type Seat struct {
 	level   *Level
@@ -94,24 +82,30 @@ type Seat struct {
 // context ends too late for that, the request has its seats, and Acquire returns the Seat. Where all numbers are in use
 // it waits for one first, within the context.
 func (l *Level) Acquire(ctx context.Context, ask Request) (*Seat, error) {
-	object, err := ask.object(l.options.Name)
-	if err == nil {
-		err = ctx.Err()
+	ask.Schema = or(ask.Schema, l.options.Name)
+	// a text that is no UTF-8 has U+FFFD where it is broken
+	object, _ := json.Marshal(ask)
+	if len("arrive 10000 ")+len(object) > maxLine {
+		return nil, &Fault{"line too long"}
 	}
-	if err != nil {
-		return nil, err
-	}
-	number, err := l.number(ctx)
-	if err != nil {
-		return nil, err
-	}
-	r := &request{number: number, object: object, width: ask.Width, told: make(chan error, 1)}
+	r := &request{object: object, width: ask.Width, told: make(chan error, 1)}
 	if r.width < 1 {
 		r.width = 1
+	}
+	if ctx.Err() != nil {
+		return nil, ctx.Err()
+	}
+	select {
+	case r.number = <-l.free:
+	case <-ctx.Done():
+		return nil, ctx.Err()
+	case <-l.ending.Done():
+		return nil, ErrShutdown
 	}
 	l.mu.Lock()
 	l.enter(r)
 	l.mu.Unlock()
+	var err error
 	select {
 	case err = <-r.told:
 	case <-ctx.Done():
@@ -194,26 +188,20 @@ func (l *Level) SetLimit(ctx context.Context, seats int) (was int, err error) {
 	if seats < 1 || seats > maxLimit {
 		return 0, &Fault{"bad limit"}
 	}
-	text, err := l.ask(ctx, fmt.Sprintf("limit %d", seats), "limit ", func() string {
-		was := l.limit
-		l.limit = seats
-		return strconv.Itoa(was)
-	})
+	var had int
+	_, err = l.ask(ctx, fmt.Sprintf("limit %d", seats), "limit ", func() { had, l.limit = l.limit, seats })
 	if err != nil {
 		return 0, err
 	}
-	return strconv.Atoi(text)
+	return had, nil
 }
 
 // CloseLevel closes the level: no request takes seats or enters a queue any more, and those that wait are still served. It
 // answers whether this is the first time. A level that is started again is closed again.
 func (l *Level) CloseLevel(ctx context.Context) (first bool, err error) {
-	text, err := l.ask(ctx, "close", "close ", func() string {
-		was := l.closed
-		l.closed = true
-		return strconv.FormatBool(!was)
-	})
-	return text == "true", err
+	var had bool
+	_, err = l.ask(ctx, "close", "close ", func() { had, l.closed = l.closed, true })
+	return err == nil && !had, err
 }
 
 // Restarts is how often the level was started again.
@@ -239,15 +227,45 @@ func Handler(level *Level, next http.Handler, asks func(*http.Request) Request) 
 }
 
 // ByHeader takes the flow of a request from the header of this name, and its width from X-Seats, where the request comes
-// from one of these addresses, or from 127.0.0.1 where none is given. The flow of any other request is its client's
-// address, and the two headers are taken out of it.
+// from one of these addresses, or from 127.0.0.1 where none is given. Else, and where it has no such header, its flow is its
+// client's address and its width is 1. What is not trusted is taken out of its headers, and so is what some servers read as
+// the same names. No header Connection can say that the two are not to be passed on.
 func ByHeader(name string, trusted ...netip.Prefix) func(*http.Request) Request {
 	if len(trusted) == 0 {
-		trusted = flow.Local
+		trusted = []netip.Prefix{netip.MustParsePrefix("127.0.0.1/32")}
 	}
+	isOne := func(word string) bool { return strings.EqualFold(word, name) || strings.EqualFold(word, "X-Seats") }
 	return func(r *http.Request) Request {
-		distinguisher, seats := flow.Of(r, name, trusted)
-		return Request{Distinguisher: distinguisher, Width: seats}
+		ask, isTrusted := Request{Distinguisher: r.RemoteAddr, Width: 1}, false
+		if peer, err := netip.ParseAddrPort(r.RemoteAddr); err == nil {
+			address := peer.Addr().Unmap().WithZone("")
+			ask.Distinguisher = address.String()
+			for _, those := range trusted {
+				isTrusted = isTrusted || those.Contains(address)
+			}
+		}
+		for field := range r.Header {
+			// a server behind may read X_Seats as X-Seats
+			if like := strings.ReplaceAll(field, "_", "-"); isOne(like) && (!isTrusted || like != field) {
+				delete(r.Header, field)
+			}
+		}
+		for i, value := range r.Header["Connection"] {
+			words := strings.Split(value, ",")
+			for at, word := range words {
+				if isOne(strings.TrimSpace(word)) {
+					words[at] = ""
+				}
+			}
+			r.Header["Connection"][i] = strings.Join(words, ",")
+		}
+		if values := r.Header.Values(name); len(values) > 0 {
+			ask.Distinguisher = or(values[len(values)-1], ask.Distinguisher)
+		}
+		if n, err := strconv.ParseUint(r.Header.Get("X-Seats"), 10, 32); err == nil && n >= 1 && n <= maxWidth {
+			ask.Width = int(n)
+		}
+		return ask
 	}
 }
 

@@ -11,6 +11,7 @@ import (
 	"os/exec"
 	"strconv"
 	"strings"
+	"sync"
 	"syscall"
 	"time"
 )
@@ -23,10 +24,10 @@ type question struct {
 	word    string
 	request *request
 	told    chan answer
-	// last is how the last line of the answer begins, and note is called before it is told.
-	last  string
-	note  func() string
-	lines []string
+	// last is how the last line of the answer begins, note is called before it is told, and text has what came of it.
+	last string
+	note func()
+	text []byte
 }
 
 type answer struct {
@@ -36,101 +37,95 @@ type answer struct {
 
 // pipe is one process of the level, with what it was asked. The level's lock guards what is not of the reader alone.
 type pipe struct {
-	command *exec.Cmd
-	in      io.WriteCloser
-	out     io.ReadCloser
-	reader  *bufio.Reader
-	// limit and shape are what its first line says: its limit, and all behind it.
+	command  *exec.Cmd
+	in       io.WriteCloser
+	out      *os.File
+	reader   *bufio.Reader
+	patience time.Duration
+	// limit is what its first line says, and shape that line without it.
 	limit int
 	shape string
-	// asked has the open questions, the oldest one first.
-	asked []question
-	// answered says that it ever answered, and silent for how many ticks it has left its questions open.
+	// asked has the open questions, the oldest one first, and answered says that it ever answered one.
+	asked    []question
 	answered bool
-	silent   int
-	// pending is what the writer sends next. wake tells it so, and closing that nothing follows.
+	// pending is what the writer sends next, and closing says that nothing follows. wake tells it so.
 	pending []byte
-	wake    chan struct{}
 	closing bool
+	wake    *sync.Cond
 }
 
 // ask sends a line of a request.
 func (p *pipe) ask(word string, r *request) {
-	p.asked = append(p.asked, question{word: word, request: r})
-	line := strconv.AppendInt(append(append(p.pending, word...), ' '), int64(r.number), 10)
+	line := word + " " + strconv.Itoa(r.number)
 	switch word {
 	case "arrive", "try":
-		line, r.known = append(append(line, ' '), r.object...), true
+		line, r.known = line+" "+string(r.object), true
 	case "finish":
-		line = finish(line, time.Since(r.since))
+		line += " " + ran(time.Since(r.since))
 	}
-	p.pending = append(line, '\n')
-	p.nudge()
+	p.send(line+"\n", question{word: word, request: r})
 }
 
-// askText sends a line that is of no request.
-func (p *pipe) askText(line, last string, note func() string) chan answer {
-	told := make(chan answer, 1)
-	p.asked = append(p.asked, question{told: told, last: last, note: note})
-	p.pending = append(append(p.pending, line...), '\n')
-	p.nudge()
-	return told
+// ran is how the level is told that a request ran so long: in whole microseconds, at most 10^12.
+func ran(long time.Duration) string {
+	if most := 1_000_000 * time.Second; long > most {
+		long = most
+	}
+	return strconv.FormatInt(long.Microseconds(), 10)
 }
 
-// nudge wakes the writer.
-func (p *pipe) nudge() {
-	select {
-	case p.wake <- struct{}{}:
-	default:
+// send sends a line that asks this.
+func (p *pipe) send(line string, q question) {
+	p.asked = append(p.asked, q)
+	p.pending = append(p.pending, line...)
+	p.wake.Signal()
+	if len(p.asked) == 1 {
+		p.wait()
 	}
 }
 
-// next takes the oldest question off.
-func (p *pipe) next() {
-	p.answered = true
-	p.asked[0] = question{}
-	p.asked = p.asked[1:]
+// wait gives the level its patience for the next line, where it owes one or its end.
+func (p *pipe) wait() {
+	var end time.Time
+	if len(p.asked) > 0 || p.closing {
+		end = time.Now().Add(p.patience)
+	}
+	p.out.SetReadDeadline(end)
 }
 
 // write sends what is pending, all that was asked meanwhile at once, until the pipe is closed or breaks.
 func (l *Level) write(p *pipe) {
-	var spare []byte
-	for range p.wake {
-		for {
-			l.mu.Lock()
-			line, closing := p.pending, p.closing
-			p.pending, spare = spare[:0], line
-			l.mu.Unlock()
-			if len(line) == 0 {
-				if closing {
-					p.in.Close()
-				}
-				break
-			}
-			if _, err := p.in.Write(line); err != nil {
-				// the reader sees that the level has ended
+	defer p.in.Close()
+	l.mu.Lock()
+	defer l.mu.Unlock()
+	for spare, err := []byte{}, error(nil); err == nil; {
+		for len(p.pending) == 0 {
+			if p.closing {
 				return
 			}
+			p.wake.Wait()
 		}
+		lines := p.pending
+		p.pending = spare[:0]
+		l.mu.Unlock()
+		// where it breaks, the reader sees that the level has ended
+		_, err = p.in.Write(lines)
+		l.mu.Lock()
+		spare = lines
 	}
 }
 
-// read hears what the level says until its output ends. What its lines say together is noted under one lock.
+// read hears what the level says until its output ends, or its patience.
 func (l *Level) read(p *pipe) error {
 	for {
+		// a line without its end says nothing
 		line, err := p.reader.ReadSlice('\n')
 		if err != nil {
-			// a line without its end says nothing
 			return err
 		}
 		l.mu.Lock()
-		for err == nil && line != nil {
-			err = l.hear(p, string(line[:len(line)-1]))
-			// what is there already needs no call of the system
-			if there, _ := p.reader.Peek(p.reader.Buffered()); bytes.IndexByte(there, '\n') < 0 {
-				break
-			}
-			line, _ = p.reader.ReadSlice('\n')
+		if err = l.hear(p, string(line[:len(line)-1])); p.reader.Buffered() == 0 {
+			p.wait()
 		}
 		l.mu.Unlock()
 		if err != nil {
@@ -153,7 +148,9 @@ func Start(ctx context.Context, options Options) (*Level, error) {
 	if err != nil {
 		return nil, err
 	}
-	l := &Level{options: options, config: config, ending: make(chan struct{}), stop: make(chan struct{}), done: make(chan struct{})}
+	l := &Level{options: options, config: config, done: make(chan struct{})}
+	l.ending, l.end = context.WithCancel(context.Background())
+	l.stopped, l.stop = context.WithCancel(context.Background())
 	p, err := l.open(ctx, config)
 	if err != nil {
 		return nil, err
@@ -164,7 +161,6 @@ func Start(ctx context.Context, options Options) (*Level, error) {
 		l.free <- number
 	}
 	go l.keep(p)
-	go l.watch()
 	return l, nil
 }
 
@@ -181,14 +177,12 @@ func or[T comparable](value, other T) T {
 // and answers its last book. Who still waits then has ErrShutdown.
 func (l *Level) Shutdown(ctx context.Context) (Book, error) {
 	l.mu.Lock()
-	select {
-	case <-l.ending:
-		l.mu.Unlock()
-		return Book{}, ErrShutdown
-	default:
-	}
-	close(l.ending)
+	again := l.ending.Err() != nil
+	l.end()
 	l.mu.Unlock()
+	if again {
+		return Book{}, ErrShutdown
+	}
 	// all are over once their numbers are free
 	var late error
 	for range l.there {
@@ -198,23 +192,19 @@ func (l *Level) Shutdown(ctx context.Context) (Book, error) {
 			late = ctx.Err()
 		}
 	}
-	last := answer{err: ErrDown}
+	told := make(chan answer, 1)
 	l.mu.Lock()
-	l.shut = true
-	close(l.stop)
-	if p := l.pipe; p != nil {
+	if l.stop(); l.pipe != nil {
 		// the book comes at the end of its input
-		told := make(chan answer, 1)
-		p.asked = append(p.asked, question{told: told, last: "entered "})
-		p.closing = true
-		p.nudge()
-		l.mu.Unlock()
-		last = <-told
+		l.pipe.closing = true
+		l.pipe.send("", question{last: "entered ", told: told})
 	} else {
-		l.dismiss()
-		l.mu.Unlock()
+		l.await()
+		told <- answer{err: ErrDown}
 	}
+	l.mu.Unlock()
 	<-l.done
+	last := <-told
 	if last.err != nil {
 		return Book{}, last.err
 	}
@@ -237,8 +227,7 @@ func (l *Level) Reload(ctx context.Context) (was, is int, err error) {
 	if err != nil {
 		return 0, 0, err
 	}
-	p.end()
-	if p.shape != l.shape {
+	if p.end(); p.shape != l.shape {
 		return 0, 0, errors.New("more than the limit changed in the config, which needs a new start")
 	}
 	was, err = l.SetLimit(ctx, p.limit)
@@ -253,58 +242,54 @@ func (l *Level) open(ctx context.Context, config []byte) (*pipe, error) {
 		return nil, err
 	}
 	defer from.Close()
-	said := &bytes.Buffer{}
-	p := &pipe{wake: make(chan struct{}, 1)}
-	p.command = exec.Command(l.options.Program, "serve", "/dev/fd/3", "--slots", strconv.Itoa(l.options.Slots), "--name", l.options.Name)
-	p.command.ExtraFiles, p.command.Stderr = []*os.File{from}, said
-	p.command.SysProcAttr = &syscall.SysProcAttr{Setpgid: true}
-	if p.in, err = p.command.StdinPipe(); err == nil {
-		if p.out, err = p.command.StdoutPipe(); err == nil {
-			err = p.command.Start()
-		}
-	}
-	if err != nil {
-		to.Close()
-		return nil, err
-	}
 	go func() {
 		to.Write(config)
 		to.Close()
 	}()
-	p.reader = bufio.NewReaderSize(p.out, maxLine)
-	read, watched := make(chan struct{}), make(chan struct{})
-	go func() {
-		defer close(watched)
-		select {
-		case <-ctx.Done():
-			p.out.Close()
-		case <-read:
+	program, slots, said := l.options.Program, l.options.Slots, &bytes.Buffer{}
+	p := &pipe{patience: l.options.Patience, wake: sync.NewCond(&l.mu)}
+	p.command = exec.Command(program, "serve", "/dev/fd/3", "--slots", strconv.Itoa(slots), "--name", l.options.Name)
+	p.command.ExtraFiles, p.command.Stderr = []*os.File{from}, said
+	p.command.SysProcAttr = &syscall.SysProcAttr{Setpgid: true}
+	out, err := p.command.StdoutPipe()
+	if err == nil {
+		if p.in, err = p.command.StdinPipe(); err == nil {
+			err = p.command.Start()
 		}
+	}
+	if err != nil {
+		return nil, err
+	}
+	p.out = out.(*os.File)
+	p.reader = bufio.NewReaderSize(p.out, maxLine)
+	first, line := make(chan string, 1), ""
+	go func() {
+		text, _ := p.reader.ReadString('\n')
+		first <- text
 	}()
-	line, _ := p.reader.ReadString('\n')
-	close(read)
-	<-watched
+	select {
+	case line = <-first:
+	case <-ctx.Done():
+	}
 	var version, there int
-	if _, err := fmt.Sscanf(line, "serve %d slots %d limit %d ", &version, &there, &p.limit); err == nil && version == 1 && there == l.options.Slots {
-		words := strings.SplitN(line, " ", 7)
-		p.shape = words[len(words)-1]
+	_, err = fmt.Sscanf(line, "serve %d slots %d limit %d ", &version, &there, &p.limit)
+	if err == nil && version == 1 && there == slots {
+		p.shape = strings.Replace(line, fmt.Sprintf(" limit %d ", p.limit), " ", 1)
 		return p, nil
 	}
 	p.end()
 	lines := strings.Split(strings.TrimSpace(said.String()), "\n")
 	switch {
 	case ctx.Err() != nil:
-		return nil, fmt.Errorf("%s serve said no first line: %w", l.options.Program, ctx.Err())
+		return nil, fmt.Errorf("%s serve said no first line: %w", program, ctx.Err())
 	case version > 1:
 		return nil, fmt.Errorf("the level's protocol has version %d, and version 1 is known here", version)
-	case line != "":
-		return nil, fmt.Errorf("this is no first line of a level: %.100q", line)
 	case strings.HasPrefix(lines[0], "error: "):
 		return nil, errors.New(lines[0])
-	case lines[0] != "":
+	case line == "" && lines[0] != "":
 		return nil, errors.New(lines[len(lines)-1])
 	}
-	return nil, fmt.Errorf("%s serve ended without a first line: %v", l.options.Program, p.command.ProcessState)
+	return nil, fmt.Errorf("%s serve began with no first line of a level: %.100q, %v", program, line, p.command.ProcessState)
 }
 
 // end kills what is left of the process, and of all that it started, and waits for it.
@@ -313,92 +298,39 @@ func (p *pipe) end() {
 	p.command.Wait()
 }
 
-// keep reads what the level says for ever, and starts it again where it dies.
+// keep reads what the level says for ever, and starts it again where it dies, with longer and longer pauses.
 func (l *Level) keep(p *pipe) {
-	pause := leastPause
-	for p != nil {
+	defer close(l.done)
+	for pause := leastPause; ; {
 		go l.write(p)
 		why := l.read(p)
 		l.mu.Lock()
-		l.lose(p)
-		answered, shut := p.answered, l.shut
-		l.mu.Unlock()
-		if shut {
-			// it ends by itself
-			late := time.AfterFunc(l.options.Patience, func() { syscall.Kill(-p.command.Process.Pid, syscall.SIGKILL) })
-			p.command.Wait()
-			late.Stop()
-			break
-		}
-		p.end()
-		if why != errBroken {
-			why = errors.New(p.command.ProcessState.String())
-		}
-		l.options.Log(fmt.Sprintf("the level ended and is started again: %v", why))
-		if answered {
+		if l.lose(p); p.answered {
 			pause = leastPause
 		}
-		p = l.again(&pause)
-	}
-	close(l.done)
-}
-
-// again starts the level until it is there, with longer and longer pauses. It answers nil once the level is shut down.
-func (l *Level) again(pause *time.Duration) *pipe {
-	for {
-		select {
-		case <-time.After(*pause):
-		case <-l.stop:
-			return nil
-		}
-		if *pause *= 2; *pause > mostPause {
-			*pause = mostPause
-		}
-		ctx, cancel := context.WithTimeout(context.Background(), l.options.Patience)
-		p, err := l.open(ctx, l.config)
-		cancel()
-		if err != nil {
-			l.options.Log(fmt.Sprintf("the level does not start: %v", err))
-			continue
-		}
-		l.mu.Lock()
-		shut := l.shut
-		if !shut {
-			l.restarts++
-			l.adopt(p)
-		}
 		l.mu.Unlock()
-		if shut {
-			p.end()
-			return nil
+		if p.end(); why == io.EOF {
+			why = errors.New(p.command.ProcessState.String())
 		}
-		return p
-	}
-}
-
-// watch takes a level for dead that leaves questions open and says nothing for as long as the patience is.
-func (l *Level) watch() {
-	const parts = 4
-	tick := time.NewTicker(l.options.Patience / parts)
-	defer tick.Stop()
-	for {
-		select {
-		case <-tick.C:
-		case <-l.done:
-			return
-		}
-		l.mu.Lock()
-		p := l.pipe
-		if p != nil {
-			if p.silent++; len(p.asked) == 0 {
-				p.silent = 0
+		for p = nil; p == nil; {
+			if l.stopped.Err() != nil {
+				return
 			}
+			l.options.Log(fmt.Sprintf("the level is not there, and is started again: %v", why))
+			select {
+			case <-time.After(pause):
+			case <-l.stopped.Done():
+				return
+			}
+			if pause *= 2; pause > mostPause {
+				pause = mostPause
+			}
+			ctx, cancel := context.WithTimeout(l.stopped, l.options.Patience)
+			p, why = l.open(ctx, l.config)
+			cancel()
 		}
-		dead := p != nil && p.silent > parts
+		l.mu.Lock()
+		l.adopt(p)
 		l.mu.Unlock()
-		if dead {
-			// the reader then starts it again
-			p.out.Close()
-		}
 	}
 }

@@ -13,6 +13,7 @@ import (
 	"log"
 	"net"
 	"net/http"
+	"net/netip"
 	"net/url"
 	"os"
 	"os/signal"
@@ -23,7 +24,6 @@ import (
 	"time"
 
 	"burtxeltz/apf"
-	"burtxeltz/internal/flow"
 )
 
 // options are the words of the command line.
@@ -35,13 +35,9 @@ type options struct {
 	quiet                                                    bool
 }
 
-// say writes one line to standard error.
-func say(format string, words ...any) {
-	text := strings.TrimPrefix(fmt.Sprintf(format, words...), "apf: ")
-	fmt.Fprintln(os.Stderr, "apf-gateway: "+strings.ReplaceAll(text, "\n", " "))
-}
-
 func main() {
+	log.SetFlags(0)
+	log.SetPrefix("apf-gateway: ")
 	// what is in use is little, so collecting it seldom costs little memory
 	debug.SetGCPercent(400)
 	o := &options{bodyBuffer: 1 << 20}
@@ -73,12 +69,11 @@ func main() {
 		flags.SetOutput(os.Stdout)
 		flags.PrintDefaults()
 	case err != nil:
-		say("%v", err)
+		log.Print(err)
 		os.Exit(2)
 	default:
 		if err := o.serve(); err != nil {
-			say("%v", err)
-			os.Exit(1)
+			log.Fatal(strings.TrimPrefix(err.Error(), "apf: "))
 		}
 	}
 }
@@ -93,15 +88,33 @@ func (o *options) setBodyBuffer(text string) (err error) {
 	return nil
 }
 
+// addresses reads addresses and ranges of them, with commas between, such as 10.0.0.0/8,127.0.0.1.
+func addresses(text string) (those []netip.Prefix, err error) {
+	for _, word := range strings.Split(text, ",") {
+		word = strings.TrimSpace(word)
+		address, err := netip.ParseAddr(word)
+		prefix := netip.PrefixFrom(address, address.BitLen())
+		if err != nil {
+			prefix, err = netip.ParsePrefix(word)
+		}
+		// where no word is, it is a range that has no address
+		if err != nil && word != "" {
+			return nil, fmt.Errorf("--trust: %q is no address and no range of addresses", word)
+		}
+		those = append(those, prefix)
+	}
+	return those, nil
+}
+
 // serve opens the level, then listens, and serves until a signal ends it.
 func (o *options) serve() error {
 	backend, err := url.Parse(o.backend)
 	if err != nil || (backend.Scheme != "http" && backend.Scheme != "https") || backend.Host == "" {
 		return fmt.Errorf("--backend %q is no URL such as http://127.0.0.1:9000", o.backend)
 	}
-	trust, err := flow.ParseTrust(o.trust)
+	trusted, err := addresses(o.trust)
 	if err != nil {
-		return fmt.Errorf("--trust: %v", err)
+		return err
 	}
 	if o.patience <= 0 || o.runLimit <= 0 || o.drain < 0 || o.header == "" {
 		return errors.New("--patience and --run-limit are more than 0, --drain is not less, and --flow-header is a name")
@@ -115,7 +128,7 @@ func (o *options) serve() error {
 		secured = &tls.Config{Certificates: []tls.Certificate{certificate}, MinVersion: tls.VersionTLS12}
 	}
 	o.level.Name = o.schema
-	o.level.Log = func(line string) { say("%s", line) }
+	o.level.Log = func(line string) { log.Print(line) }
 	level, err := apf.Start(context.Background(), o.level)
 	if err != nil {
 		return err
@@ -129,7 +142,7 @@ func (o *options) serve() error {
 		// the level hears the end of its input
 		return err
 	}
-	return newGateway(level, backend, trust, o).live(listener, admin, secured)
+	return newGateway(level, backend, trusted, o).live(listener, admin, secured)
 }
 
 // live serves on the two addresses, and obeys the signals.
@@ -138,28 +151,25 @@ func (g *gateway) live(listener, admin net.Listener, secured *tls.Config) error 
 	signal.Notify(signals, syscall.SIGTERM, syscall.SIGINT, syscall.SIGHUP)
 	// a reader of the output that goes away does not end the gateway
 	signal.Notify(make(chan os.Signal, 1), syscall.SIGPIPE)
-	errors := log.New(os.Stderr, "apf-gateway: ", 0)
 	server := &http.Server{
-		Handler: g, ConnContext: withClient, TLSConfig: secured, ErrorLog: errors, MaxHeaderBytes: 64 << 10,
+		Handler: g, ConnContext: withConnection, TLSConfig: secured, MaxHeaderBytes: 64 << 10,
 		ReadHeaderTimeout: 10 * time.Second, IdleTimeout: 2 * time.Minute,
 		// the body, the wait and the run each have their own limits; this is for what is left of an answer then
 		WriteTimeout: 2*g.runLimit + g.patience + 10*time.Second,
 	}
-	pages := &http.Server{Handler: g.pages(), ReadTimeout: 10 * time.Second, WriteTimeout: 30 * time.Second, ErrorLog: errors}
+	pages := &http.Server{Handler: g.pages(), ReadTimeout: 10 * time.Second, WriteTimeout: 30 * time.Second}
 	failed := make(chan error, 2)
-	go func() {
-		if secured != nil {
-			failed <- server.ServeTLS(listener, "", "")
-		} else {
-			failed <- server.Serve(listener)
-		}
-	}()
+	serve := server.Serve
+	if secured != nil {
+		serve = func(it net.Listener) error { return server.ServeTLS(it, "", "") }
+	}
+	go func() { failed <- serve(listener) }()
 	where := ""
 	if admin != nil {
 		where = fmt.Sprintf(", admin on %v", admin.Addr())
 		go func() { failed <- pages.Serve(admin) }()
 	}
-	say("listening on %v, backend %v%s", listener.Addr(), g.backend, where)
+	log.Printf("listening on %v, backend %v%s", listener.Addr(), g.backend, where)
 	for {
 		select {
 		case err := <-failed:
@@ -172,9 +182,9 @@ func (g *gateway) live(listener, admin net.Listener, secured *tls.Config) error 
 			}
 			ctx, cancel := context.WithTimeout(context.Background(), 5*time.Second)
 			if was, is, err := g.level.Reload(ctx); err != nil {
-				say("the config was read again and is refused: %v", err)
+				log.Printf("the config was read again and is refused: %v", err)
 			} else {
-				say("the config was read again: limit %d was %d", is, was)
+				log.Printf("the config was read again: limit %d was %d", is, was)
 			}
 			cancel()
 		}
@@ -184,19 +194,20 @@ func (g *gateway) live(listener, admin net.Listener, secured *tls.Config) error 
 // stop takes no new connection, lets what is there end, and then ends the level.
 func (g *gateway) stop(server, pages *http.Server) {
 	g.stopping.Store(true)
-	say("stopping: what is there has %v to end", g.drain)
+	log.Printf("stopping: what is there has %v to end", g.drain)
 	ctx, cancel := context.WithTimeout(context.Background(), g.drain)
 	defer cancel()
 	if server.Shutdown(ctx) != nil {
-		say("what did not end in time is cut off")
+		log.Printf("what did not end in time is cut off")
 		server.Close()
 	}
 	book, err := g.level.Shutdown(ctx)
 	pages.Close()
 	g.journal.close()
 	if err != nil {
-		say("stopped: %v", err)
-	} else {
-		say("stopped: seats %d waiting %d executed %d rejected %d cancelled %d", book.Seats, book.Waiting, book.Executed, book.Rejected, book.Cancelled)
+		log.Printf("stopped: %v", err)
+		return
 	}
+	log.Printf("stopped: seats %d waiting %d executed %d rejected %d cancelled %d",
+		book.Seats, book.Waiting, book.Executed, book.Rejected, book.Cancelled)
 }

@@ -1,10 +1,8 @@
 // Package apf is a priority level in front of a server: it decides which request executes next, so that one noisy client
-// can't starve the others.
-//
-// The decisions are not made here. The program apf makes them, as a process behind two pipes (its command serve). This
-// package starts that process, sends it a line for each request that comes and one for each that ends, and starts it
-// again where it dies. Start opens a level, Acquire waits for the seats of a request, and Release gives them back.
-// Handler does both around an http.Handler.
+// can't starve the others. The decisions are not made here. The program apf makes them, as a process behind two pipes (its
+// command serve). This package starts that process, sends it a line for each request that comes and one for each that ends,
+// and starts it again where it dies. Start opens a level, Acquire waits for the seats of a request, and Release gives them
+// back. Handler does both around an http.Handler.
 package apf
 
 import (
@@ -46,20 +44,14 @@ type Request struct {
 	Cost int `json:"cost,omitempty"`
 }
 
-// Rejected is the error of a request that the level rejects.
-type Rejected struct {
-	// Reason is queue-full, concurrency-limit or closed.
-	Reason string
-}
+// Rejected is the error of a request that the level rejects. Its reason is queue-full, concurrency-limit or closed.
+type Rejected struct{ Reason string }
 
 // Error says that the request was rejected, and why.
 func (r *Rejected) Error() string { return "apf: rejected: " + r.Reason }
 
-// Fault is the error of a line that the level could not carry out, such as one with too long a name.
-type Fault struct {
-	// Text is what the level says of the line.
-	Text string
-}
+// Fault is the error of a line that the level could not carry out, such as one with too long a name. Its text is the level's.
+type Fault struct{ Text string }
 
 // Error says what was wrong with the line.
 func (f *Fault) Error() string { return "apf: fault: " + f.Text }
@@ -88,10 +80,7 @@ func (l *Level) Acquire(ctx context.Context, ask Request) (*Seat, error) {
 	if len("arrive 10000 ")+len(object) > maxLine {
 		return nil, &Fault{"line too long"}
 	}
-	r := &request{object: object, width: ask.Width, told: make(chan error, 1)}
-	if r.width < 1 {
-		r.width = 1
-	}
+	r := &request{object: object, width: or(ask.Width, 1), told: make(chan error, 1)}
 	if ctx.Err() != nil {
 		return nil, ctx.Err()
 	}
@@ -109,8 +98,13 @@ func (l *Level) Acquire(ctx context.Context, ask Request) (*Seat, error) {
 	select {
 	case err = <-r.told:
 	case <-ctx.Done():
+		// the level's answer decides whether this came in time
 		l.mu.Lock()
-		l.leave(r, ctx.Err())
+		if r.leaves = ctx.Err(); r.stage < runs && l.pipe != nil {
+			l.pipe.ask("cancel", r)
+		} else if r.stage < runs {
+			l.refuse(r, r.leaves)
+		}
 		l.mu.Unlock()
 		err = <-r.told
 	}
@@ -122,9 +116,20 @@ func (l *Level) Acquire(ctx context.Context, ask Request) (*Seat, error) {
 
 // Release gives the seats back, and tells the level how long the request ran. Only the first call does something.
 func (s *Seat) Release() {
-	s.level.mu.Lock()
-	defer s.level.mu.Unlock()
-	s.level.release(s.request)
+	l, r := s.level, s.request
+	l.mu.Lock()
+	defer l.mu.Unlock()
+	if r.stage != runs {
+		return
+	}
+	r.stage = over
+	l.seats -= r.width
+	if l.pipe != nil && r.known {
+		// its number is free once the level has said so
+		l.pipe.ask("finish", r)
+	} else {
+		l.drop(r)
+	}
 }
 
 // Book is what the level counted since it was opened, or since it was started again after it died: whether it lets
@@ -165,10 +170,9 @@ func (l *Level) Book(ctx context.Context) (Book, error) {
 }
 
 // Queues asks the level for each queue that a request ever entered.
-func (l *Level) Queues(ctx context.Context) ([]Queue, error) {
+func (l *Level) Queues(ctx context.Context) (queues []Queue, err error) {
 	text, err := l.ask(ctx, "queues", "end", nil)
-	queues := []Queue{}
-	for err == nil && len(text) > 0 && text != "end\n" {
+	for err == nil && text != "end\n" {
 		var q Queue
 		_, err = fmt.Sscanf(text, "queue %d waiting %d entered %d service %d\n", &q.Number, &q.Waiting, &q.Entered, &q.Service)
 		queues = append(queues, q)
@@ -205,11 +209,7 @@ func (l *Level) CloseLevel(ctx context.Context) (first bool, err error) {
 }
 
 // Restarts is how often the level was started again.
-func (l *Level) Restarts() int {
-	l.mu.Lock()
-	defer l.mu.Unlock()
-	return l.restarts
-}
+func (l *Level) Restarts() int { return int(l.restarts.Load()) }
 
 // Handler calls next for a request once it has its seats, and gives them back when next has returned. The function says
 // what a request asks, as ByHeader does. A request that has no seats is answered by Refuse. A request whose client goes

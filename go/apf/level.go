@@ -8,11 +8,11 @@ import (
 	"strconv"
 	"strings"
 	"sync"
+	"sync/atomic"
 	"time"
 )
 
-// maxLine is the longest line that the level reads, without its end, maxLimit the largest limit that it may have, and
-// maxWidth that of a request.
+// These are a level's longest line, without its end, its largest limit, and its widest request.
 const maxLine, maxLimit, maxWidth = 65536, 10000, 20000
 
 // stage says how far a request is: its line has no answer yet, it waits in a queue, it has its seats, or it ended.
@@ -30,11 +30,10 @@ type request struct {
 	number, width int
 	object        []byte
 	stage         stage
-	// came is its place in the order in which requests came, and since is when it got its seats.
+	// came is its place in the order in which requests came, and 0 once it runs; since is when it got its seats.
 	came  uint64
 	since time.Time
-	// known says that the level behind the pipe may have it among those that run, so that a finish is owed, and late that it
-	// came when the level was closed already.
+	// known says that the level may have it among those that run, and is owed a finish, and late that it was closed before.
 	known, late bool
 	// leaves is why its cancel was sent, and told hears once that it runs (nil), or why it does not.
 	leaves error
@@ -62,8 +61,9 @@ type Level struct {
 	there []*request
 	came  uint64
 	// seats is how many seats the running requests have together.
-	seats, limit, restarts int
-	closed                 bool
+	seats, limit int
+	closed       bool
+	restarts     atomic.Int64
 }
 
 // enter asks the level for the seats of a request. While no level is there, a plain limit of as many seats decides.
@@ -87,7 +87,7 @@ func (l *Level) enter(r *request) {
 
 // run lets a request run.
 func (l *Level) run(r *request) {
-	r.stage, r.since = runs, time.Now()
+	r.stage, r.came, r.since = runs, 0, time.Now()
 	l.seats += r.width
 	r.told <- nil
 }
@@ -105,40 +105,15 @@ func (l *Level) drop(r *request) {
 	l.free <- r.number
 }
 
-// leave cancels a request that waits. The level's answer decides whether that came in time.
-func (l *Level) leave(r *request, why error) {
-	switch r.leaves = why; {
-	case r.stage >= runs:
-	case l.pipe == nil:
-		l.refuse(r, why)
-	default:
-		l.pipe.ask("cancel", r)
-	}
-}
-
-// release ends a request that runs. Its number is free once the level has said so.
-func (l *Level) release(r *request) {
-	if r.stage != runs {
-		return
-	}
-	r.stage = over
-	l.seats -= r.width
-	if l.pipe == nil || !r.known {
-		l.drop(r)
-		return
-	}
-	l.pipe.ask("finish", r)
-}
-
 // adopt makes this pipe the level's. The limit is restored, those that run are tried in, those that wait arrive in the
 // order in which they came, and the level is closed again.
 func (l *Level) adopt(p *pipe) {
 	l.pipe = p
-	l.restarts++
+	l.restarts.Add(1)
 	// it ends at once where Shutdown has gone on meanwhile
 	p.closing = l.stopped.Err() != nil
 	if l.limit != p.limit {
-		p.send(fmt.Sprintf("limit %d\n", l.limit), question{last: "limit ", told: make(chan answer, 1)})
+		p.send(fmt.Sprintf("limit %d\n", l.limit), &question{last: "limit ", told: make(chan error, 1)})
 	}
 	var there []*request
 	for _, r := range l.there {
@@ -146,17 +121,12 @@ func (l *Level) adopt(p *pipe) {
 			there = append(there, r)
 		}
 	}
-	sort.Slice(there, func(i, j int) bool {
-		if there[i].stage != there[j].stage {
-			return there[i].stage == runs
-		}
-		return there[i].came < there[j].came
-	})
+	sort.SliceStable(there, func(i, j int) bool { return there[i].came < there[j].came })
 	for _, r := range there {
 		p.ask(map[stage]string{runs: "try", asked: "arrive"}[r.stage], r)
 	}
 	if l.closed {
-		p.send("close\n", question{last: "close ", told: make(chan answer, 1)})
+		p.send("close\n", &question{last: "close ", told: make(chan error, 1)})
 	}
 }
 
@@ -171,14 +141,10 @@ func (l *Level) lose(p *pipe) {
 		case q.word == "cancel" && q.request.stage <= waits:
 			l.refuse(q.request, q.request.leaves)
 		case q.told != nil:
-			q.told <- answer{err: ErrDown}
+			q.told <- ErrDown
 		}
 	}
-	l.await()
-}
-
-// await has those that wait ask the next level, and ends them where none comes, or where it is closed to them.
-func (l *Level) await() {
+	// those that wait ask the next level, and end where none comes, or where it is closed to them
 	for _, r := range l.there {
 		switch {
 		case r == nil || r.stage >= runs:
@@ -195,21 +161,21 @@ func (l *Level) await() {
 // ask sends a question that is of no request, and waits for its answer, whose last line begins so. A question that changes
 // the level is noted once it is answered; while no level is there it is noted at once, and the next level is given it.
 func (l *Level) ask(ctx context.Context, line, last string, note func()) (string, error) {
-	q := question{last: last, note: note, told: make(chan answer, 1)}
+	q := &question{last: last, note: note, told: make(chan error, 1)}
 	l.mu.Lock()
 	switch {
 	case l.pipe != nil:
 		l.pipe.send(line+"\n", q)
 	case note != nil:
 		note()
-		q.told <- answer{}
+		q.told <- nil
 	default:
-		q.told <- answer{err: ErrDown}
+		q.told <- ErrDown
 	}
 	l.mu.Unlock()
 	select {
-	case a := <-q.told:
-		return a.text, a.err
+	case err := <-q.told:
+		return string(q.text), err
 	case <-ctx.Done():
 		return "", ctx.Err()
 	}
@@ -236,22 +202,20 @@ func (l *Level) hear(p *pipe, line string) error {
 		return errBroken
 	}
 	// a question that has no whole answer yet stays open
-	q := &p.asked[0]
-	if q.told == nil {
+	q := p.asked[0]
+	if q.request != nil {
 		if err := l.settle(q, word, number, said); err != nil {
 			return err
 		}
+	} else if q.text = append(append(q.text, line...), '\n'); word == "fault" {
+		return errBroken
+	} else if !strings.HasPrefix(line, q.last) {
+		return nil
 	} else {
-		if q.text = append(append(q.text, line...), '\n'); word == "fault" {
-			return errBroken
-		}
-		if !strings.HasPrefix(line, q.last) {
-			return nil
-		}
 		if q.note != nil {
 			q.note()
 		}
-		q.told <- answer{text: string(q.text)}
+		q.told <- nil
 	}
 	p.answered = true
 	p.asked = p.asked[1:]

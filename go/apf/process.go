@@ -19,20 +19,15 @@ import (
 // A level that died is started again after 10 ms, and after twice as long each time, until it answers something.
 const leastPause, mostPause = 10 * time.Millisecond, 5 * time.Second
 
-// question is a line that the level has not answered yet: one of a request, or one whose answer is told.
+// question is a line that the level has not answered yet: one of a request, or one whose answer is a text.
 type question struct {
 	word    string
 	request *request
-	told    chan answer
-	// last is how the last line of the answer begins, note is called before it is told, and text has what came of it.
+	// last is how the last line of the text begins, note is called once that is there, and told hears so.
 	last string
-	note func()
 	text []byte
-}
-
-type answer struct {
-	text string
-	err  error
+	note func()
+	told chan error
 }
 
 // pipe is one process of the level, with what it was asked. The level's lock guards what is not of the reader alone.
@@ -46,7 +41,7 @@ type pipe struct {
 	limit int
 	shape string
 	// asked has the open questions, the oldest one first, and answered says that it ever answered one.
-	asked    []question
+	asked    []*question
 	answered bool
 	// pending is what the writer sends next, and closing says that nothing follows. wake tells it so.
 	pending []byte
@@ -63,7 +58,7 @@ func (p *pipe) ask(word string, r *request) {
 	case "finish":
 		line += " " + ran(time.Since(r.since))
 	}
-	p.send(line+"\n", question{word: word, request: r})
+	p.send(line+"\n", &question{word: word, request: r})
 }
 
 // ran is how the level is told that a request ran so long: in whole microseconds, at most 10^12.
@@ -75,7 +70,7 @@ func ran(long time.Duration) string {
 }
 
 // send sends a line that asks this.
-func (p *pipe) send(line string, q question) {
+func (p *pipe) send(line string, q *question) {
 	p.asked = append(p.asked, q)
 	p.pending = append(p.pending, line...)
 	p.wake.Signal()
@@ -98,40 +93,33 @@ func (l *Level) write(p *pipe) {
 	defer p.in.Close()
 	l.mu.Lock()
 	defer l.mu.Unlock()
-	for spare, err := []byte{}, error(nil); err == nil; {
-		for len(p.pending) == 0 {
-			if p.closing {
-				return
-			}
+	// where it breaks, the reader sees that the level has ended
+	for err := error(nil); err == nil && !(p.closing && len(p.pending) == 0); {
+		if len(p.pending) == 0 {
 			p.wake.Wait()
+			continue
 		}
 		lines := p.pending
-		p.pending = spare[:0]
+		p.pending = nil
 		l.mu.Unlock()
-		// where it breaks, the reader sees that the level has ended
 		_, err = p.in.Write(lines)
 		l.mu.Lock()
-		spare = lines
 	}
 }
 
 // read hears what the level says until its output ends, or its patience.
-func (l *Level) read(p *pipe) error {
-	for {
+func (l *Level) read(p *pipe) (err error) {
+	for err == nil {
+		var line []byte
 		// a line without its end says nothing
-		line, err := p.reader.ReadSlice('\n')
-		if err != nil {
-			return err
-		}
-		l.mu.Lock()
-		if err = l.hear(p, string(line[:len(line)-1])); p.reader.Buffered() == 0 {
+		if line, err = p.reader.ReadSlice('\n'); err == nil {
+			l.mu.Lock()
+			err = l.hear(p, string(line[:len(line)-1]))
 			p.wait()
-		}
-		l.mu.Unlock()
-		if err != nil {
-			return err
+			l.mu.Unlock()
 		}
 	}
+	return err
 }
 
 // Start opens a level, and waits until its process says that it is open. The context bounds that wait alone: Shutdown ends
@@ -192,23 +180,22 @@ func (l *Level) Shutdown(ctx context.Context) (Book, error) {
 			late = ctx.Err()
 		}
 	}
-	told := make(chan answer, 1)
+	last := &question{last: "entered ", told: make(chan error, 1)}
 	l.mu.Lock()
 	if l.stop(); l.pipe != nil {
 		// the book comes at the end of its input
 		l.pipe.closing = true
-		l.pipe.send("", question{last: "entered ", told: told})
+		l.pipe.send("", last)
 	} else {
-		l.await()
-		told <- answer{err: ErrDown}
+		// as if another one had died
+		l.lose(&pipe{wake: sync.NewCond(&l.mu), asked: []*question{last}})
 	}
 	l.mu.Unlock()
 	<-l.done
-	last := <-told
-	if last.err != nil {
-		return Book{}, last.err
+	if err := <-last.told; err != nil {
+		return Book{}, err
 	}
-	book, err := bookOf(last.text)
+	book, err := bookOf(string(last.text))
 	if err == nil {
 		err = late
 	}
@@ -271,9 +258,8 @@ func (l *Level) open(ctx context.Context, config []byte) (*pipe, error) {
 	case line = <-first:
 	case <-ctx.Done():
 	}
-	var version, there int
-	_, err = fmt.Sscanf(line, "serve %d slots %d limit %d ", &version, &there, &p.limit)
-	if err == nil && version == 1 && there == slots {
+	begins := fmt.Sprintf("serve 1 slots %d limit ", slots)
+	if _, err = fmt.Sscanf(line, begins+"%d ", &p.limit); err == nil {
 		p.shape = strings.Replace(line, fmt.Sprintf(" limit %d ", p.limit), " ", 1)
 		return p, nil
 	}
@@ -282,14 +268,12 @@ func (l *Level) open(ctx context.Context, config []byte) (*pipe, error) {
 	switch {
 	case ctx.Err() != nil:
 		return nil, fmt.Errorf("%s serve said no first line: %w", program, ctx.Err())
-	case version > 1:
-		return nil, fmt.Errorf("the level's protocol has version %d, and version 1 is known here", version)
 	case strings.HasPrefix(lines[0], "error: "):
 		return nil, errors.New(lines[0])
 	case line == "" && lines[0] != "":
 		return nil, errors.New(lines[len(lines)-1])
 	}
-	return nil, fmt.Errorf("%s serve began with no first line of a level: %.100q, %v", program, line, p.command.ProcessState)
+	return nil, fmt.Errorf("%s serve said no first line of a level of version 1: %.100q", program, line)
 }
 
 // end kills what is left of the process, and of all that it started, and waits for it.

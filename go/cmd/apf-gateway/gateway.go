@@ -17,12 +17,8 @@ import (
 	"burtxeltz/apf"
 )
 
-const (
-	// smallAnswer is how long an answer may be that is read whole before it is passed on.
-	smallAnswer = 64 << 10
-	// partSize is how much of an answer is read at once.
-	partSize = 32 << 10
-)
+// An answer of up to smallAnswer is read whole before it is passed on, and partSize of a longer one at once.
+const smallAnswer, partSize = 64 << 10, 32 << 10
 
 // gateway passes on what the level lets run.
 type gateway struct {
@@ -39,7 +35,6 @@ func newGateway(level *apf.Level, backend *url.URL, trusted []netip.Prefix, o *o
 	proxy := httputil.NewSingleHostReverseProxy(backend)
 	// what a proxy says of each client that leaves is of no use
 	proxy.ErrorLog = log.New(io.Discard, "", 0)
-	proxy.BufferPool = &pool{sync.Pool{New: func() any { return make([]byte, partSize) }}}
 	return &gateway{
 		options: o, level: level, asks: apf.ByHeader(o.header, trusted...), proxy: *proxy, journal: newJournal(o.quiet),
 		transport: &http.Transport{
@@ -123,15 +118,12 @@ type run struct {
 	request *http.Request
 	ctx     context.Context
 	cancel  context.CancelFunc
-	// began says when it had its seats, and ended is closed once when they came back.
-	began time.Time
-	once  sync.Once
-	ended chan struct{}
-	// limit is the run limit's timer, and expired is closed when that has ended the request.
-	limit   *time.Timer
-	expired chan struct{}
-	// upgraded is the connection of a backend that switched protocols, and refused says that the client has an answer of the
-	// gateway's own.
+	began   time.Time
+	once    sync.Once
+	// ended is closed when its seats came back, and expired when limit, the run limit's timer, has ended it.
+	ended, expired chan struct{}
+	limit          *time.Timer
+	// upgraded is a backend that switched protocols, and refused says that the client has an answer of the gateway's own.
 	upgraded io.Closer
 	refused  bool
 }
@@ -237,13 +229,6 @@ func (it *run) end() {
 		}
 	}
 }
-
-// pool keeps the buffers that answers pass through.
-type pool struct{ sync.Pool }
-
-// Get takes a buffer, and Put gives it back.
-func (p *pool) Get() []byte     { return p.Pool.Get().([]byte) }
-func (p *pool) Put(part []byte) { p.Pool.Put(part) }
 
 // connection is the key of a client's connection in the contexts of its requests.
 type connection struct{}

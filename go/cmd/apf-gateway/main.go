@@ -119,13 +119,11 @@ func (o *options) serve() error {
 	if o.patience <= 0 || o.runLimit <= 0 || o.drain < 0 || o.header == "" {
 		return errors.New("--patience and --run-limit are more than 0, --drain is not less, and --flow-header is a name")
 	}
-	var secured *tls.Config
-	if o.cert != "" || o.key != "" {
-		certificate, err := tls.LoadX509KeyPair(o.cert, o.key)
-		if err != nil {
+	secured := o.cert != "" || o.key != ""
+	if secured {
+		if _, err := tls.LoadX509KeyPair(o.cert, o.key); err != nil {
 			return err
 		}
-		secured = &tls.Config{Certificates: []tls.Certificate{certificate}, MinVersion: tls.VersionTLS12}
 	}
 	o.level.Name = o.schema
 	o.level.Log = func(line string) { log.Print(line) }
@@ -142,52 +140,54 @@ func (o *options) serve() error {
 		// the level hears the end of its input
 		return err
 	}
-	return newGateway(level, backend, trusted, o).live(listener, admin, secured)
-}
-
-// live serves on the two addresses, and obeys the signals.
-func (g *gateway) live(listener, admin net.Listener, secured *tls.Config) error {
-	signals := make(chan os.Signal, 8)
-	signal.Notify(signals, syscall.SIGTERM, syscall.SIGINT, syscall.SIGHUP)
-	// a reader of the output that goes away does not end the gateway
-	signal.Notify(make(chan os.Signal, 1), syscall.SIGPIPE)
+	g := newGateway(level, backend, trusted, o)
 	server := &http.Server{
-		Handler: g, ConnContext: withConnection, TLSConfig: secured, MaxHeaderBytes: 64 << 10,
-		ReadHeaderTimeout: 10 * time.Second, IdleTimeout: 2 * time.Minute,
+		Handler: g, ConnContext: withConnection, TLSConfig: &tls.Config{MinVersion: tls.VersionTLS12},
+		MaxHeaderBytes: 64 << 10, ReadHeaderTimeout: 10 * time.Second, IdleTimeout: 2 * time.Minute,
 		// the body, the wait and the run each have their own limits; this is for what is left of an answer then
-		WriteTimeout: 2*g.runLimit + g.patience + 10*time.Second,
+		WriteTimeout: 2*o.runLimit + o.patience + 10*time.Second,
 	}
 	pages := &http.Server{Handler: g.pages(), ReadTimeout: 10 * time.Second, WriteTimeout: 30 * time.Second}
 	failed := make(chan error, 2)
-	serve := server.Serve
-	if secured != nil {
-		serve = func(it net.Listener) error { return server.ServeTLS(it, "", "") }
-	}
-	go func() { failed <- serve(listener) }()
+	go func() {
+		if secured {
+			failed <- server.ServeTLS(listener, o.cert, o.key)
+		} else {
+			failed <- server.Serve(listener)
+		}
+	}()
 	where := ""
 	if admin != nil {
 		where = fmt.Sprintf(", admin on %v", admin.Addr())
 		go func() { failed <- pages.Serve(admin) }()
 	}
-	log.Printf("listening on %v, backend %v%s", listener.Addr(), g.backend, where)
+	signals := make(chan os.Signal, 8)
+	signal.Notify(signals, syscall.SIGTERM, syscall.SIGINT, syscall.SIGHUP)
+	// a reader of the output that goes away does not end the gateway
+	signal.Notify(make(chan os.Signal, 1), syscall.SIGPIPE)
+	log.Printf("listening on %v, backend %v%s", listener.Addr(), o.backend, where)
 	for {
 		select {
-		case err := <-failed:
-			g.stop(server, pages)
-			return err
+		case err = <-failed:
 		case s := <-signals:
-			if s != syscall.SIGHUP {
-				g.stop(server, pages)
-				return nil
+			if s == syscall.SIGHUP {
+				g.reload()
+				continue
 			}
-			ctx, cancel := context.WithTimeout(context.Background(), 5*time.Second)
-			if was, is, err := g.level.Reload(ctx); err != nil {
-				log.Printf("the config was read again and is refused: %v", err)
-			} else {
-				log.Printf("the config was read again: limit %d was %d", is, was)
-			}
-			cancel()
 		}
+		g.stop(server, pages)
+		return err
+	}
+}
+
+// reload reads the config again.
+func (g *gateway) reload() {
+	ctx, cancel := context.WithTimeout(context.Background(), 5*time.Second)
+	defer cancel()
+	if was, is, err := g.level.Reload(ctx); err != nil {
+		log.Printf("the config was read again and is refused: %v", err)
+	} else {
+		log.Printf("the config was read again: limit %d was %d", is, was)
 	}
 }
 

@@ -51,11 +51,9 @@ type journal struct {
 }
 
 func newJournal(quiet bool) *journal {
-	j := &journal{codes: map[int]int64{}, waits: map[bool]*histogram{false: {}, true: {}}, done: make(chan struct{})}
-	if quiet {
-		close(j.done)
-	} else {
-		j.lines = make(chan *entry, 10000)
+	j := &journal{codes: map[int]int64{}, waits: map[bool]*histogram{false: {}, true: {}}}
+	if !quiet {
+		j.lines, j.done = make(chan *entry, 10000), make(chan struct{})
 		go j.write(j.lines)
 	}
 	return j
@@ -96,14 +94,15 @@ func (j *journal) waited(execute bool, seconds float64) {
 // close writes what is left, for a second at most.
 func (j *journal) close() {
 	j.mu.Lock()
-	if j.lines != nil {
-		close(j.lines)
-		j.lines = nil
-	}
+	lines := j.lines
+	j.lines = nil
 	j.mu.Unlock()
-	select {
-	case <-j.done:
-	case <-time.After(time.Second):
+	if lines != nil {
+		close(lines)
+		select {
+		case <-j.done:
+		case <-time.After(time.Second):
+		}
 	}
 }
 

@@ -56,12 +56,11 @@ type Fault struct{ Text string }
 // Error says what was wrong with the line.
 func (f *Fault) Error() string { return "apf: fault: " + f.Text }
 
-var (
-	// ErrShutdown is the error of a request that comes, or still waits, when the level is shut down.
-	ErrShutdown = errors.New("apf: the level is shut down")
-	// ErrDown is the error of a question that was open when the level died, or that comes while it is away.
-	ErrDown = errors.New("apf: the level is not there")
-)
+// ErrShutdown is the error of a request that comes, or still waits, when the level is shut down.
+var ErrShutdown = errors.New("apf: the level is shut down")
+
+// ErrDown is the error of a question that was open when the level died, or that comes while it is away.
+var ErrDown = errors.New("apf: the level is not there")
 
 // Seat is held by a request that runs.
 type Seat struct {

@@ -15,7 +15,7 @@ import (
 // These are a level's longest line, without its end, its largest limit, and its widest request.
 const maxLine, maxLimit, maxWidth = 65536, 10000, 20000
 
-// stage says how far a request is: its line has no answer yet, it waits in a queue, it has its seats, or it ended.
+// stage says how far a request is: it asks first, waits in a queue or for another level, has its seats, or has ended.
 type stage int
 
 const (
@@ -30,47 +30,39 @@ type request struct {
 	number, width int
 	object        []byte
 	stage         stage
-	// came is its place in the order in which requests came, and 0 once it runs; since is when it got its seats.
-	came  uint64
-	since time.Time
-	// known says that the level may have it among those that run, and is owed a finish, and late that it was closed before.
-	known, late bool
-	// leaves is why its cancel was sent, and told hears once that it runs (nil), or why it does not.
-	leaves error
-	told   chan error
+	came          uint64     // its place in the order in which requests came, and 0 once it runs
+	since         time.Time  // when it got its seats
+	known         bool       // the level may have it among those that run, and is owed a finish
+	leaves        error      // why its cancel was sent
+	told          chan error // hears once that it runs (nil), or why it does not
 }
 
 // Level is a level that stays open for a server's whole life. Its methods may be called by many goroutines at once.
 type Level struct {
 	options Options
-	// config is what the config file had, and shape what the level's first line said of it beside the limit.
-	config []byte
-	shape  string
-	// free has the numbers of no request. Who waits for one is served in order.
-	free chan int
+	config  []byte   // what the config file had
+	shape   string   // what the level's first line said of it beside the limit
+	free    chan int // the numbers of no request; who waits for one is served in order
 	// Shutdown ends ending, and stopped once it waits for nobody any more. done is closed when the level has ended.
 	ending, stopped context.Context
 	end, stop       context.CancelFunc
 	done            chan struct{}
+	ended           atomic.Bool // Shutdown was called
+	restarts        atomic.Int64
 
-	// mu guards all below, each request and each pipe's questions. It is never held over a system call.
-	mu sync.Mutex
-	// pipe leads to the level's process. It is nil while there is none.
-	pipe *pipe
-	// there has the requests by their numbers.
-	there []*request
-	came  uint64
-	// seats is how many seats the running requests have together.
-	seats, limit int
-	closed       bool
-	restarts     atomic.Int64
+	mu     sync.Mutex // guards all below, each request and each pipe's questions; it is never held over a system call
+	pipe   *pipe      // leads to the level's process, and is nil while there is none
+	there  []*request // the requests by their numbers
+	came   uint64
+	limit  int
+	seats  int // how many the running requests have together
+	closed bool
 }
 
 // enter asks the level for the seats of a request. While no level is there, a plain limit of as many seats decides.
 func (l *Level) enter(r *request) {
 	l.came++
-	r.came, r.late = l.came, l.closed
-	l.there[r.number] = r
+	r.came, l.there[r.number] = l.came, r
 	switch {
 	case l.ending.Err() != nil:
 		l.refuse(r, ErrShutdown)
@@ -123,7 +115,7 @@ func (l *Level) adopt(p *pipe) {
 	}
 	sort.SliceStable(there, func(i, j int) bool { return there[i].came < there[j].came })
 	for _, r := range there {
-		p.ask(map[stage]string{runs: "try", asked: "arrive"}[r.stage], r)
+		p.ask(map[stage]string{runs: "try", waits: "arrive"}[r.stage], r)
 	}
 	if l.closed {
 		p.send("close\n", &question{last: "close ", told: make(chan error, 1)})
@@ -150,10 +142,11 @@ func (l *Level) lose(p *pipe) {
 		case r == nil || r.stage >= runs:
 		case l.stopped.Err() != nil:
 			l.refuse(r, ErrShutdown)
-		case r.stage == asked && r.late:
+		case r.stage == asked && l.closed:
+			// its line stood behind the one that closed the level
 			l.refuse(r, &Rejected{"closed"})
 		default:
-			r.stage = asked
+			r.stage = waits
 		}
 	}
 }
@@ -239,7 +232,7 @@ func (l *Level) settle(q *question, word, number, said string) error {
 		l.refuse(r, r.leaves)
 	case q.word == "cancel" && (isFault || said == "execute" && r.stage >= runs):
 		// it came too late
-	case q.word != "arrive" || r.stage != asked:
+	case q.word != "arrive" || r.stage >= runs:
 		return errBroken
 	case isFault:
 		l.refuse(r, &Fault{said})

@@ -37,16 +37,13 @@ type pipe struct {
 	out      *os.File
 	reader   *bufio.Reader
 	patience time.Duration
-	// limit is what its first line says, and shape that line without it.
-	limit int
-	shape string
-	// asked has the open questions, the oldest one first, and answered says that it ever answered one.
-	asked    []*question
-	answered bool
-	// pending is what the writer sends next, and closing says that nothing follows. wake tells it so.
-	pending []byte
-	closing bool
-	wake    *sync.Cond
+	limit    int         // what its first line says
+	shape    string      // that line without its limit
+	asked    []*question // the open questions, the oldest one first
+	answered bool        // it ever answered one
+	pending  []byte      // what the writer sends next
+	closing  bool        // nothing follows
+	wake     *sync.Cond  // tells the writer so
 }
 
 // ask sends a line of a request.
@@ -125,10 +122,8 @@ func (l *Level) read(p *pipe) (err error) {
 // Start opens a level, and waits until its process says that it is open. The context bounds that wait alone: Shutdown ends
 // the level.
 func Start(ctx context.Context, options Options) (*Level, error) {
-	options.Program = or(options.Program, "apf")
-	options.Slots = or(options.Slots, 10000)
-	options.Name = or(options.Name, "level")
-	options.Patience = or(options.Patience, 5*time.Second)
+	options.Program, options.Name = or(options.Program, "apf"), or(options.Name, "level")
+	options.Slots, options.Patience = or(options.Slots, 10000), or(options.Patience, 5*time.Second)
 	if options.Log == nil {
 		options.Log = func(string) {}
 	}
@@ -164,13 +159,10 @@ func or[T comparable](value, other T) T {
 // Shutdown lets no request in any more, and waits for those that are there until the context ends. Then it ends the level,
 // and answers its last book. Who still waits then has ErrShutdown.
 func (l *Level) Shutdown(ctx context.Context) (Book, error) {
-	l.mu.Lock()
-	again := l.ending.Err() != nil
-	l.end()
-	l.mu.Unlock()
-	if again {
+	if l.ended.Swap(true) {
 		return Book{}, ErrShutdown
 	}
+	l.end()
 	// all are over once their numbers are free
 	var late error
 	for range l.there {

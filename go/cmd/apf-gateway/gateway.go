@@ -23,26 +23,24 @@ const smallAnswer, partSize = 64 << 10, 32 << 10
 // gateway passes on what the level lets run.
 type gateway struct {
 	*options
-	level     *apf.Level
-	asks      func(*http.Request) apf.Request
-	proxy     httputil.ReverseProxy
-	transport *http.Transport
-	journal   *journal
-	stopping  atomic.Bool
+	level    *apf.Level
+	asks     func(*http.Request) apf.Request
+	proxy    httputil.ReverseProxy
+	journal  *journal
+	stopping atomic.Bool
 }
 
 func newGateway(level *apf.Level, backend *url.URL, trusted []netip.Prefix, o *options) *gateway {
 	proxy := httputil.NewSingleHostReverseProxy(backend)
 	// what a proxy says of each client that leaves is of no use
 	proxy.ErrorLog = log.New(io.Discard, "", 0)
-	return &gateway{
-		options: o, level: level, asks: apf.ByHeader(o.header, trusted...), proxy: *proxy, journal: newJournal(o.quiet),
-		transport: &http.Transport{
-			// with a dialer of its own it speaks HTTP/1.1: a connection has one request at a time, and is closed with it
-			DialContext:         (&net.Dialer{Timeout: 10 * time.Second}).DialContext,
-			TLSHandshakeTimeout: 10 * time.Second, MaxIdleConnsPerHost: 1000, IdleConnTimeout: time.Minute, DisableCompression: true,
-		},
+	proxy.Transport = &http.Transport{
+		// with a dialer of its own it speaks HTTP/1.1: a connection has one request at a time, and is closed with it
+		DialContext:         (&net.Dialer{Timeout: 10 * time.Second}).DialContext,
+		TLSHandshakeTimeout: 10 * time.Second, MaxIdleConnsPerHost: 1000, IdleConnTimeout: time.Minute, DisableCompression: true,
 	}
+	asks := apf.ByHeader(o.header, trusted...)
+	return &gateway{options: o, level: level, asks: asks, proxy: *proxy, journal: newJournal(o.quiet)}
 }
 
 // ServeHTTP serves one request: its body is read, it waits for its seats, and it is passed on.
@@ -50,8 +48,7 @@ func (g *gateway) ServeHTTP(writer http.ResponseWriter, r *http.Request) {
 	ask := g.asks(r)
 	said := &entry{Time: time.Now(), Flow: ask.Distinguisher, Decision: "none"}
 	defer g.journal.note(said)
-	w := &counted{ResponseWriter: writer, said: said}
-	w.Flusher, _ = writer.(http.Flusher)
+	w := &counted{ResponseWriter: writer, Flusher: writer.(http.Flusher), said: said}
 	w.Hijacker, _ = writer.(http.Hijacker)
 	if status := g.readBody(r); status != 0 {
 		refuse(w, r, "the body did not come", status)
@@ -147,7 +144,7 @@ func (it *run) expire() {
 
 // RoundTrip passes the request on. The backend's answer is read to its end, and then the seats come back.
 func (it *run) RoundTrip(r *http.Request) (*http.Response, error) {
-	response, err := it.gateway.transport.RoundTrip(r)
+	response, err := it.gateway.proxy.Transport.RoundTrip(r)
 	switch {
 	case err != nil:
 		return nil, err

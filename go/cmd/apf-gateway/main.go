@@ -171,23 +171,19 @@ func (o *options) serve() error {
 		case err = <-failed:
 		case s := <-signals:
 			if s == syscall.SIGHUP {
-				g.reload()
+				ctx, cancel := context.WithTimeout(context.Background(), 5*time.Second)
+				was, is, err := level.Reload(ctx)
+				cancel()
+				if err != nil {
+					log.Printf("the config was read again and is refused: %v", err)
+				} else {
+					log.Printf("the config was read again: limit %d was %d", is, was)
+				}
 				continue
 			}
 		}
 		g.stop(server, pages)
 		return err
-	}
-}
-
-// reload reads the config again.
-func (g *gateway) reload() {
-	ctx, cancel := context.WithTimeout(context.Background(), 5*time.Second)
-	defer cancel()
-	if was, is, err := g.level.Reload(ctx); err != nil {
-		log.Printf("the config was read again and is refused: %v", err)
-	} else {
-		log.Printf("the config was read again: limit %d was %d", is, was)
 	}
 }
 

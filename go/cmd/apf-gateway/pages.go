@@ -41,10 +41,8 @@ type histogram struct {
 // journal writes the lines, and counts for the metrics. Nobody waits for a reader of the output: where it is far behind,
 // lines are left out.
 type journal struct {
-	// lines is nil where no line is asked for, or none any more, and done is closed when all are written.
-	lines chan *entry
-	done  chan struct{}
-
+	lines chan *entry   // nil where no line is asked for, or none any more
+	done  chan struct{} // closed when all are written
 	mu    sync.Mutex
 	codes map[int]int64
 	waits map[bool]*histogram

@@ -1,8 +1,8 @@
-// Package apf is a priority level in front of a server: it decides which request executes next, so that one noisy client
-// can't starve the others. The decisions are not made here. The program apf makes them, as a process behind two pipes (its
-// command serve). This package starts that process, sends it a line for each request that comes and one for each that ends,
-// and starts it again where it dies. Start opens a level, Acquire waits for the seats of a request, and Release gives them
-// back. Handler does both around an http.Handler.
+// Package apf is a priority level in front of a server: it decides which request executes next, so that one noisy
+// client can't starve the others. The decisions are not made here. The program apf makes them, as a process behind two
+// pipes (its command serve). This package starts that process, sends it a line for each request that comes and one for
+// each that ends, and starts it again where it dies. Start opens a level, Acquire waits for the seats of a request, and
+// Release gives them back. Handler does both around an http.Handler.
 package apf
 
 import (
@@ -21,13 +21,13 @@ import (
 type Options struct {
 	// Program is the program apf, as a path or a name on the search path. It is "apf" where it is empty.
 	Program string
-	// Config is the path of the level's config file. Start and Reload read it; a level that died gets the same bytes again.
+	// Config is the path of the level's config file. Start and Reload read it, and a level that died has the same again.
 	Config string
 	// Slots is how many requests may be there at once, waiting and running: 1 to 10,000. It is 10,000 where it is 0.
 	Slots int
 	// Name is the level's name in its metrics. It is "level" where it is empty.
 	Name string
-	// Patience is how long the level may leave questions without any answer. Then it counts as dead. It is 5 s where it is 0.
+	// Patience is how long the level may leave questions without answer before it counts as dead: 5 s where it is 0.
 	Patience time.Duration
 	// Log, where it is not nil, is told in one line that the level died, or why it does not start again.
 	Log func(line string)
@@ -50,7 +50,8 @@ type Rejected struct{ Reason string }
 // Error says that the request was rejected, and why.
 func (r *Rejected) Error() string { return "apf: rejected: " + r.Reason }
 
-// Fault is the error of a line that the level could not carry out, such as one with too long a name. Its text is the level's.
+// Fault is the error of a line that the level could not carry out, such as one with too long a name. Text is the
+// level's.
 type Fault struct{ Text string }
 
 // Error says what was wrong with the line.
@@ -69,9 +70,9 @@ type Seat struct {
 }
 
 // Acquire waits until the request has its seats. Who has the Seat runs, and must call Release. Else the error is a
-// *Rejected, a *Fault, ErrShutdown, or the context's error once the level has said that the request was cancelled. If the
-// context ends too late for that, the request has its seats, and Acquire returns the Seat. Where all numbers are in use
-// it waits for one first, within the context.
+// *Rejected, a *Fault, ErrShutdown, or the context's error once the level has said that the request was cancelled. If
+// the context ends too late for that, the request has its seats, and Acquire returns the Seat. Where all numbers are in
+// use it waits for one first, within the context.
 func (l *Level) Acquire(ctx context.Context, ask Request) (*Seat, error) {
 	ask.Schema = or(ask.Schema, l.options.Name)
 	// a text that is no UTF-8 has U+FFFD where it is broken
@@ -132,8 +133,8 @@ func (s *Seat) Release() {
 }
 
 // Book is what the level counted since it was opened, or since it was started again after it died: whether it lets
-// requests in, the seats in use, the requests that wait, those decided and undecided, the rejected by their reasons, and
-// those that entered a queue and left it by their turn or a cancel.
+// requests in, the seats in use, the requests that wait, those decided and undecided, the rejected by their reasons,
+// and those that entered a queue and left it by their turn or a cancel.
 type Book struct {
 	Open                                     bool
 	Seats, Waiting                           int64
@@ -152,8 +153,8 @@ func bookOf(text string) (b Book, err error) {
 	return b, err
 }
 
-// Queue is one queue of the level: its number from 0, how many requests wait in it and entered it, and what was dispatched
-// from it, as the level charges it.
+// Queue is one queue of the level: its number from 0, how many requests wait in it and entered it, and what was
+// dispatched from it, as the level charges it.
 type Queue struct {
 	Number                    int
 	Waiting, Entered, Service int64
@@ -173,7 +174,8 @@ func (l *Level) Queues(ctx context.Context) (queues []Queue, err error) {
 	text, err := l.ask(ctx, "queues", "end", nil)
 	for err == nil && text != "end\n" {
 		var q Queue
-		_, err = fmt.Sscanf(text, "queue %d waiting %d entered %d service %d\n", &q.Number, &q.Waiting, &q.Entered, &q.Service)
+		form := "queue %d waiting %d entered %d service %d\n"
+		_, err = fmt.Sscanf(text, form, &q.Number, &q.Waiting, &q.Entered, &q.Service)
 		queues = append(queues, q)
 		_, text, _ = strings.Cut(text, "\n")
 	}
@@ -185,8 +187,8 @@ func (l *Level) Metrics(ctx context.Context) (string, error) {
 	return l.ask(ctx, "metrics", "# EOF", nil)
 }
 
-// SetLimit gives the level so many seats, 1 to 10,000, and answers how many it had. No seats are taken back. A level that
-// is started again has the limit that was set last.
+// SetLimit gives the level so many seats, 1 to 10,000, and answers how many it had. No seats are taken back. A level
+// that is started again has the limit that was set last.
 func (l *Level) SetLimit(ctx context.Context, seats int) (was int, err error) {
 	if seats < 1 || seats > maxLimit {
 		return 0, &Fault{"bad limit"}
@@ -199,8 +201,8 @@ func (l *Level) SetLimit(ctx context.Context, seats int) (was int, err error) {
 	return had, nil
 }
 
-// CloseLevel closes the level: no request takes seats or enters a queue any more, and those that wait are still served. It
-// answers whether this is the first time. A level that is started again is closed again.
+// CloseLevel closes the level: no request takes seats or enters a queue any more, and those that wait are still served.
+// It answers whether this is the first time. A level that is started again is closed again.
 func (l *Level) CloseLevel(ctx context.Context) (first bool, err error) {
 	var had bool
 	_, err = l.ask(ctx, "close", "close ", func() { had, l.closed = l.closed, true })
@@ -225,10 +227,10 @@ func Handler(level *Level, next http.Handler, asks func(*http.Request) Request) 
 	})
 }
 
-// ByHeader takes the flow of a request from the header of this name, and its width from X-Seats, where the request comes
-// from one of these addresses, or from 127.0.0.1 where none is given. Else, and where it has no such header, its flow is its
-// client's address and its width is 1. What is not trusted is taken out of its headers, and so is what some servers read as
-// the same names. No header Connection can say that the two are not to be passed on.
+// ByHeader takes the flow of a request from the header of this name, and its width from X-Seats, where the request
+// comes from one of these addresses, or from 127.0.0.1 where none is given. Else, and where it has no such header, its
+// flow is its client's address and its width is 1. What is not trusted is taken out of its headers, and so is what some
+// servers read as the same names. No header Connection can say that the two are not to be passed on.
 func ByHeader(name string, trusted ...netip.Prefix) func(*http.Request) Request {
 	if len(trusted) == 0 {
 		trusted = []netip.Prefix{netip.MustParsePrefix("127.0.0.1/32")}
@@ -268,8 +270,9 @@ func ByHeader(name string, trusted ...netip.Prefix) func(*http.Request) Request 
 	}
 }
 
-// Refuse answers a request for which Acquire had this error: 429 with Retry-After and the reason where the level rejects
-// it, 431 where the level can't read what it asks, and 503 where it waited in vain. It answers the decision in a word.
+// Refuse answers a request for which Acquire had this error: 429 with Retry-After and the reason where the level
+// rejects it, 431 where the level can't read what it asks, and 503 where it waited in vain. It answers the decision in
+// a word.
 func Refuse(w http.ResponseWriter, err error) string {
 	var rejected *Rejected
 	var fault *Fault

@@ -18,12 +18,7 @@ const maxLine, maxLimit, maxWidth = 65536, 10000, 20000
 // stage says how far a request is: it asks first, waits in a queue or for another level, has its seats, or has ended.
 type stage int
 
-const (
-	asked stage = iota
-	waits
-	runs
-	over
-)
+const asked, waits, runs, over stage = 0, 1, 2, 3
 
 // request is one request from its number to its end. The level's lock guards it.
 type request struct {
@@ -47,7 +42,8 @@ type Level struct {
 	ending, stopped context.Context
 	end, stop       context.CancelFunc
 	done            chan struct{}
-	ended           atomic.Bool // Shutdown was called
+	ended           atomic.Bool   // Shutdown was called
+	pause           time.Duration // how long the next level is waited for
 	restarts        atomic.Int64
 
 	mu     sync.Mutex // guards all below, each request and each pipe's questions; it is never held over a system call
@@ -151,8 +147,9 @@ func (l *Level) lose(p *pipe) {
 	}
 }
 
-// ask sends a question that is of no request, and waits for its answer, whose last line begins so. A question that changes
-// the level is noted once it is answered; while no level is there it is noted at once, and the next level is given it.
+// ask sends a question that is of no request, and waits for its answer, whose last line begins so. A question that
+// changes the level is noted once it is answered; while no level is there it is noted at once, and the next level is
+// given it.
 func (l *Level) ask(ctx context.Context, line, last string, note func()) (string, error) {
 	q := &question{last: last, note: note, told: make(chan error, 1)}
 	l.mu.Lock()
@@ -177,7 +174,7 @@ func (l *Level) ask(ctx context.Context, line, last string, note func()) (string
 // errBroken is the error of a level that says what no level says.
 var errBroken = errors.New("it does not keep to the protocol")
 
-// hear notes one line of the level: what happened to a request that waited, or a line of the answer to the oldest question.
+// hear notes one line of the level: what happened to one that waited, or a line of the answer to the oldest question.
 func (l *Level) hear(p *pipe, line string) error {
 	word, rest, _ := strings.Cut(line, " ")
 	number, said, _ := strings.Cut(rest, " ")
@@ -210,8 +207,7 @@ func (l *Level) hear(p *pipe, line string) error {
 		}
 		q.told <- nil
 	}
-	p.answered = true
-	p.asked = p.asked[1:]
+	l.pause, p.asked = leastPause, p.asked[1:]
 	return nil
 }
 

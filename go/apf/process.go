@@ -40,7 +40,6 @@ type pipe struct {
 	limit    int         // what its first line says
 	shape    string      // that line without its limit
 	asked    []*question // the open questions, the oldest one first
-	answered bool        // it ever answered one
 	pending  []byte      // what the writer sends next
 	closing  bool        // nothing follows
 	wake     *sync.Cond  // tells the writer so
@@ -119,8 +118,8 @@ func (l *Level) read(p *pipe) (err error) {
 	return err
 }
 
-// Start opens a level, and waits until its process says that it is open. The context bounds that wait alone: Shutdown ends
-// the level.
+// Start opens a level, and waits until its process says that it is open. The context bounds that wait alone: Shutdown
+// ends the level.
 func Start(ctx context.Context, options Options) (*Level, error) {
 	options.Program, options.Name = or(options.Program, "apf"), or(options.Name, "level")
 	options.Slots, options.Patience = or(options.Slots, 10000), or(options.Patience, 5*time.Second)
@@ -131,7 +130,7 @@ func Start(ctx context.Context, options Options) (*Level, error) {
 	if err != nil {
 		return nil, err
 	}
-	l := &Level{options: options, config: config, done: make(chan struct{})}
+	l := &Level{options: options, config: config, done: make(chan struct{}), pause: leastPause}
 	l.ending, l.end = context.WithCancel(context.Background())
 	l.stopped, l.stop = context.WithCancel(context.Background())
 	p, err := l.open(ctx, config)
@@ -156,8 +155,8 @@ func or[T comparable](value, other T) T {
 	return value
 }
 
-// Shutdown lets no request in any more, and waits for those that are there until the context ends. Then it ends the level,
-// and answers its last book. Who still waits then has ErrShutdown.
+// Shutdown lets no request in any more, and waits for those that are there until the context ends. Then it ends the
+// level, and answers its last book. Who still waits then has ErrShutdown.
 func (l *Level) Shutdown(ctx context.Context) (Book, error) {
 	if l.ended.Swap(true) {
 		return Book{}, ErrShutdown
@@ -213,8 +212,8 @@ func (l *Level) Reload(ctx context.Context) (was, is int, err error) {
 	return was, p.limit, err
 }
 
-// open starts the program, and reads its first line. The process is of a group of its own, so an interrupt of a terminal
-// does not reach it. It reads the config from a pipe, so what the file has later does not count.
+// open starts the program, and reads its first line. The process is of a group of its own, so an interrupt of a
+// terminal does not reach it. It reads the config from a pipe, so what the file has later does not count.
 func (l *Level) open(ctx context.Context, config []byte) (*pipe, error) {
 	from, to, err := os.Pipe()
 	if err != nil {
@@ -277,13 +276,11 @@ func (p *pipe) end() {
 // keep reads what the level says for ever, and starts it again where it dies, with longer and longer pauses.
 func (l *Level) keep(p *pipe) {
 	defer close(l.done)
-	for pause := leastPause; ; {
+	for {
 		go l.write(p)
 		why := l.read(p)
 		l.mu.Lock()
-		if l.lose(p); p.answered {
-			pause = leastPause
-		}
+		l.lose(p)
 		l.mu.Unlock()
 		if p.end(); why == io.EOF {
 			why = errors.New(p.command.ProcessState.String())
@@ -294,12 +291,12 @@ func (l *Level) keep(p *pipe) {
 			}
 			l.options.Log(fmt.Sprintf("the level is not there, and is started again: %v", why))
 			select {
-			case <-time.After(pause):
+			case <-time.After(l.pause):
 			case <-l.stopped.Done():
 				return
 			}
-			if pause *= 2; pause > mostPause {
-				pause = mostPause
+			if l.pause *= 2; l.pause > mostPause {
+				l.pause = mostPause
 			}
 			ctx, cancel := context.WithTimeout(l.stopped, l.options.Patience)
 			p, why = l.open(ctx, l.config)

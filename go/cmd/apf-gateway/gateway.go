@@ -36,8 +36,8 @@ func newGateway(level *apf.Level, backend *url.URL, trusted []netip.Prefix, o *o
 	proxy.ErrorLog = log.New(io.Discard, "", 0)
 	proxy.Transport = &http.Transport{
 		// with a dialer of its own it speaks HTTP/1.1: a connection has one request at a time, and is closed with it
-		DialContext:         (&net.Dialer{Timeout: 10 * time.Second}).DialContext,
-		TLSHandshakeTimeout: 10 * time.Second, MaxIdleConnsPerHost: 1000, IdleConnTimeout: time.Minute, DisableCompression: true,
+		DialContext: (&net.Dialer{Timeout: 10 * time.Second}).DialContext, TLSHandshakeTimeout: 10 * time.Second,
+		MaxIdleConnsPerHost: 1000, IdleConnTimeout: time.Minute, DisableCompression: true,
 	}
 	asks := apf.ByHeader(o.header, trusted...)
 	return &gateway{options: o, level: level, asks: asks, proxy: *proxy, journal: newJournal(o.quiet)}
@@ -69,7 +69,8 @@ func (g *gateway) ServeHTTP(writer http.ResponseWriter, r *http.Request) {
 		return
 	}
 	said.Decision = "execute"
-	it := &run{gateway: g, seat: seat, said: said, request: r, began: time.Now(), ended: make(chan struct{}), expired: make(chan struct{})}
+	it := &run{gateway: g, seat: seat, said: said, request: r, began: time.Now()}
+	it.ended, it.expired = make(chan struct{}), make(chan struct{})
 	// not the client's context; by the key the proxy knows that it may panic to cut an answer off
 	it.ctx, it.cancel = context.WithCancel(context.WithValue(context.Background(), http.ServerContextKey, g))
 	it.limit = time.AfterFunc(g.runLimit, it.expire)
@@ -134,8 +135,7 @@ func (it *run) over() {
 	})
 }
 
-// expire ends a request whose run limit has passed: the backend's connection is closed, and whoever waits for its answer
-// hears so and gives the seats back. A client that sends or reads nothing is ended too.
+// expire ends a request at the run limit: its connection to the backend is closed, and so is a client that stalls.
 func (it *run) expire() {
 	it.cancel()
 	stop(it.request)
@@ -170,8 +170,7 @@ func (it *run) RoundTrip(r *http.Request) (*http.Response, error) {
 	return response, nil
 }
 
-// passOn is an answer that is read to its end, whether the client reads it or not: some parts of it are kept for a slow
-// client, and once the client is gone the rest is dropped.
+// passOn reads an answer to its end, and keeps some parts for a slow client. Once the client is gone it drops the rest.
 func (it *run) passOn(from *http.Response) *http.Response {
 	// a copy: at the end of its body the first one gets the trailers
 	to, parts := *from, make(chan []byte, it.gateway.bodyBuffer/partSize)
@@ -206,12 +205,11 @@ func (it *run) passOn(from *http.Response) *http.Response {
 // failed answers a request that the backend did not answer.
 func (it *run) failed(w http.ResponseWriter, _ *http.Request, _ error) {
 	it.over()
-	it.refused = true
-	if it.ctx.Err() != nil {
+	if it.refused = true; it.ctx.Err() != nil {
 		refuse(w, it.request, "the backend did not answer in time", http.StatusGatewayTimeout)
-		return
+	} else {
+		http.Error(w, "the backend can't be reached, or broke off", http.StatusBadGateway)
 	}
-	http.Error(w, "the backend can't be reached, or broke off", http.StatusBadGateway)
 }
 
 // end is called when the answer is passed on, or the client has left. The backend is read to its end, whoever left.
@@ -234,8 +232,8 @@ func withConnection(ctx context.Context, it net.Conn) context.Context {
 	return context.WithValue(ctx, connection{}, it)
 }
 
-// stop ends the reading of a request, and leaves a second to write what is there. A connection of HTTP/2 has other requests
-// too, so it is never ended for one of them: its stream is ended later by the server's own limit.
+// stop ends the reading of a request, and leaves a second to write what is there. A connection of HTTP/2 has other
+// requests too, so it is never ended for one of them: its stream is ended later by the server's own limit.
 func stop(r *http.Request) {
 	if r.ProtoMajor >= 2 {
 		r.Body.Close()

@@ -1,6 +1,6 @@
-// Apf-gateway is a reverse proxy with a priority level in front of one backend. Each request asks the level for its seats
-// and waits for its turn, so that one noisy client can't starve the others. The program apf decides, as a process of the
-// gateway. docs/SERVE.md says what each option does.
+// Apf-gateway is a reverse proxy with a priority level in front of one backend. Each request asks the level for its
+// seats and waits for its turn, so that one noisy client can't starve the others. The program apf decides, as a process
+// of the gateway. docs/SERVE.md says what each option does.
 package main
 
 import (
@@ -47,13 +47,13 @@ func main() {
 	flags.IntVar(&o.level.Slots, "slots", 10000, "how many requests may be there at once, waiting and running")
 	flags.StringVar(&o.listen, "listen", "127.0.0.1:8080", "the `address` for clients")
 	flags.StringVar(&o.backend, "backend", "", "the `URL` of the backend, such as http://127.0.0.1:9000")
-	flags.StringVar(&o.admin, "admin", "", "a second `address`, with /metrics, /debug/queues, /healthz, /readyz and /limit")
+	flags.StringVar(&o.admin, "admin", "", "a second `address`: /metrics, /debug/queues, /healthz, /readyz and /limit")
 	flags.StringVar(&o.header, "flow-header", "X-Remote-User", "the `header` that names a request's flow")
 	flags.StringVar(&o.schema, "schema", "users", "the schema of all flows, and the level's `name` in its metrics")
 	flags.StringVar(&o.trust, "trust", "127.0.0.1", "the `addresses` whose flow header and X-Seats are believed")
 	flags.DurationVar(&o.patience, "patience", 15*time.Second, "how long a request may wait for its seats")
-	flags.DurationVar(&o.runLimit, "run-limit", time.Minute, "how long a request may run, and how long its body may take to come")
-	flags.Func("body-buffer", "so many `bytes` of a body are read before its request asks for seats (default 1MiB)", o.setBodyBuffer)
+	flags.DurationVar(&o.runLimit, "run-limit", time.Minute, "how long a request may run, and its body may take to come")
+	flags.Func("body-buffer", "so many `bytes` of a body are read before it asks for seats (1MiB)", o.setBodyBuffer)
 	flags.DurationVar(&o.drain, "drain", 30*time.Second, "how long what runs may take to end once the gateway is stopped")
 	flags.StringVar(&o.cert, "cert", "", "the `file` of the certificate, for HTTPS and HTTP/2")
 	flags.StringVar(&o.key, "key", "", "the `file` of the certificate's key")
@@ -65,7 +65,7 @@ func main() {
 	}
 	switch {
 	case errors.Is(err, flag.ErrHelp):
-		fmt.Println("usage: apf-gateway --config level.json --listen 127.0.0.1:8080 --backend http://127.0.0.1:9000 [OPTIONS]")
+		fmt.Println("usage: apf-gateway --config level.json --listen 127.0.0.1:8080 --backend http://127.0.0.1:9000 [..]")
 		flags.SetOutput(os.Stdout)
 		flags.PrintDefaults()
 	case err != nil:
@@ -120,10 +120,8 @@ func (o *options) serve() error {
 		return errors.New("--patience and --run-limit are more than 0, --drain is not less, and --flow-header is a name")
 	}
 	secured := o.cert != "" || o.key != ""
-	if secured {
-		if _, err := tls.LoadX509KeyPair(o.cert, o.key); err != nil {
-			return err
-		}
+	if _, err := tls.LoadX509KeyPair(o.cert, o.key); err != nil && secured {
+		return err
 	}
 	o.level.Name = o.schema
 	o.level.Log = func(line string) { log.Print(line) }
@@ -149,13 +147,11 @@ func (o *options) serve() error {
 	}
 	pages := &http.Server{Handler: g.pages(), ReadTimeout: 10 * time.Second, WriteTimeout: 30 * time.Second}
 	failed := make(chan error, 2)
-	go func() {
-		if secured {
-			failed <- server.ServeTLS(listener, o.cert, o.key)
-		} else {
-			failed <- server.Serve(listener)
-		}
-	}()
+	serve := server.Serve
+	if secured {
+		serve = func(it net.Listener) error { return server.ServeTLS(it, o.cert, o.key) }
+	}
+	go func() { failed <- serve(listener) }()
 	where := ""
 	if admin != nil {
 		where = fmt.Sprintf(", admin on %v", admin.Addr())

@@ -38,8 +38,7 @@ type histogram struct {
 	sum    float64
 }
 
-// journal writes the lines, and counts for the metrics. Nobody waits for a reader of the output: where it is far behind,
-// lines are left out.
+// journal writes the lines, and counts for the metrics. Where the output's reader is far behind, lines are left out.
 type journal struct {
 	lines chan *entry   // nil where no line is asked for, or none any more
 	done  chan struct{} // closed when all are written
@@ -109,11 +108,9 @@ func (j *journal) metrics(level string, restarts int) string {
 	j.mu.Lock()
 	defer j.mu.Unlock()
 	var text strings.Builder
-	head := func(name, kind, help string) {
-		fmt.Fprintf(&text, "# HELP %s %s\n# TYPE %s %s\n", name, help, name, kind)
-	}
+	head := "# HELP %[1]s %[3]s\n# TYPE %[1]s %[2]s\n"
 	name := "apiserver_flowcontrol_request_wait_duration_seconds"
-	head(name, "histogram", "How long requests waited for their seats.")
+	fmt.Fprintf(&text, head, name, "histogram", "How long requests waited for their seats.")
 	for execute, it := range j.waits {
 		labels := fmt.Sprintf(`priority_level=%q,flow_schema=%q,execute="%t"`, level, level, execute)
 		for i, bound := range bounds {
@@ -121,11 +118,11 @@ func (j *journal) metrics(level string, restarts int) string {
 		}
 		fmt.Fprintf(&text, "%s_sum{%s} %g\n%s_count{%s} %d\n", name, labels, it.sum, name, labels, it.counts[len(bounds)-1])
 	}
-	head("apf_gateway_requests_total", "counter", "Requests by the status of their answer.")
+	fmt.Fprintf(&text, head, "apf_gateway_requests_total", "counter", "Requests by the status of their answer.")
 	for code, count := range j.codes {
 		fmt.Fprintf(&text, "apf_gateway_requests_total{code=\"%d\"} %d\n", code, count)
 	}
-	head("apf_gateway_level_restarts_total", "counter", "How often the level was started again.")
+	fmt.Fprintf(&text, head, "apf_gateway_level_restarts_total", "counter", "How often the level was started again.")
 	fmt.Fprintf(&text, "apf_gateway_level_restarts_total %d\n", restarts)
 	return text.String()
 }
@@ -175,10 +172,8 @@ func (g *gateway) pages() http.Handler {
 		if r.Method != http.MethodPost || r.Header.Get("Origin") != "" {
 			return "", &apf.Fault{Text: "the limit is set by POST /limit?seats=N, and not from a browser"}
 		}
-		seats, err := strconv.Atoi(r.URL.Query().Get("seats"))
-		if err != nil {
-			return "", &apf.Fault{Text: "bad limit"}
-		}
+		// what is no number is 0, which is no limit
+		seats, _ := strconv.Atoi(r.URL.Query().Get("seats"))
 		was, err := g.level.SetLimit(ctx, seats)
 		return fmt.Sprintf("limit %d was %d\n", seats, was), err
 	})

@@ -148,8 +148,7 @@ func Start(ctx context.Context, options Options) (*Level, error) {
 
 // or is the first value, or the other one where that is none.
 func or[T comparable](value, other T) T {
-	var none T
-	if value == none {
+	if value == *new(T) {
 		return other
 	}
 	return value
@@ -174,12 +173,10 @@ func (l *Level) Shutdown(ctx context.Context) (Book, error) {
 	last := &question{last: "entered ", told: make(chan error, 1)}
 	l.mu.Lock()
 	if l.stop(); l.pipe != nil {
-		// the book comes at the end of its input
-		l.pipe.closing = true
+		l.pipe.closing = true // the book comes at the end of its input
 		l.pipe.send("", last)
 	} else {
-		// as if another one had died
-		l.lose(&pipe{wake: sync.NewCond(&l.mu), asked: []*question{last}})
+		l.lose(&pipe{wake: sync.NewCond(&l.mu), asked: []*question{last}}) // as if another one had died
 	}
 	l.mu.Unlock()
 	<-l.done
@@ -200,8 +197,7 @@ func (l *Level) Reload(ctx context.Context) (was, is int, err error) {
 	if err != nil {
 		return 0, 0, err
 	}
-	// a second process says what the file means
-	p, err := l.open(ctx, config)
+	p, err := l.open(ctx, config) // a second process says what the file means
 	if err != nil {
 		return 0, 0, err
 	}

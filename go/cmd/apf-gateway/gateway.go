@@ -32,8 +32,8 @@ type gateway struct {
 
 func newGateway(level *apf.Level, backend *url.URL, trusted []netip.Prefix, o *options) *gateway {
 	proxy := httputil.NewSingleHostReverseProxy(backend)
-	// what a proxy says of each client that leaves is of no use
-	proxy.ErrorLog = log.New(io.Discard, "", 0)
+	proxy.ErrorLog = log.New(io.Discard, "", 0) // else it has a line for each client that leaves
+	proxy.BufferPool = &pool{sync.Pool{New: func() any { return make([]byte, partSize) }}}
 	proxy.Transport = &http.Transport{
 		// with a dialer of its own it speaks HTTP/1.1: a connection has one request at a time, and is closed with it
 		DialContext: (&net.Dialer{Timeout: 10 * time.Second}).DialContext, TLSHandshakeTimeout: 10 * time.Second,
@@ -59,8 +59,7 @@ func (g *gateway) ServeHTTP(writer http.ResponseWriter, r *http.Request) {
 	seat, err := g.level.Acquire(ctx, ask)
 	cancel()
 	if said.Wait = time.Since(asked).Seconds(); err == nil && r.Context().Err() != nil {
-		// its client is gone, and the backend knows nothing of it
-		seat.Release()
+		seat.Release() // its client is gone, and the backend knows nothing of it
 		err = r.Context().Err()
 	}
 	g.journal.waited(err == nil, said.Wait)
@@ -82,8 +81,7 @@ func (g *gateway) ServeHTTP(writer http.ResponseWriter, r *http.Request) {
 
 // readBody reads so much of a body as the buffer takes. It answers a status where it does not come.
 func (g *gateway) readBody(r *http.Request) int {
-	// what comes behind a body is not passed on
-	defer func() { r.Trailer = nil }()
+	defer func() { r.Trailer = nil }() // what comes behind a body is not passed on
 	r.Header.Del("Expect")
 	if r.ContentLength == 0 {
 		return 0
@@ -98,8 +96,7 @@ func (g *gateway) readBody(r *http.Request) int {
 		r.Body, r.ContentLength, r.TransferEncoding = io.NopCloser(kept), int64(kept.Len()), nil
 	case err != nil:
 		return http.StatusBadRequest
-	default:
-		// the rest of it comes while the request runs
+	default: // the rest of it comes while the request runs
 		r.Body = struct {
 			io.Reader
 			io.Closer
@@ -148,8 +145,7 @@ func (it *run) RoundTrip(r *http.Request) (*http.Response, error) {
 	switch {
 	case err != nil:
 		return nil, err
-	case response.StatusCode == http.StatusSwitchingProtocols:
-		// from now on it is no request any more
+	case response.StatusCode == http.StatusSwitchingProtocols: // from now on it is no request any more
 		if !it.limit.Stop() {
 			response.Body.Close()
 			return nil, context.DeadlineExceeded
@@ -193,8 +189,7 @@ func (it *run) passOn(from *http.Response) *http.Response {
 	}()
 	go func() {
 		for part := range parts {
-			// this does nothing once the reader is closed
-			writer.Write(part)
+			writer.Write(part) // which does nothing once the reader is closed
 		}
 		to.Trailer = from.Trailer
 		writer.CloseWithError(err)
@@ -219,11 +214,16 @@ func (it *run) end() {
 		it.upgraded.Close()
 	} else if !it.limit.Stop() {
 		if <-it.expired; !it.refused {
-			// the answer is not whole, and the connection is of no use any more
-			panic(http.ErrAbortHandler)
+			panic(http.ErrAbortHandler) // the answer is not whole, and the connection is of no use any more
 		}
 	}
 }
+
+// pool keeps the buffers that answers pass through: Get takes one, and Put gives it back.
+type pool struct{ sync.Pool }
+
+func (p *pool) Get() []byte     { return p.Pool.Get().([]byte) }
+func (p *pool) Put(part []byte) { p.Pool.Put(part) }
 
 // connection is the key of a client's connection in the contexts of its requests.
 type connection struct{}

@@ -723,6 +723,7 @@ def test_pages():
     status, text = gateway.page("/debug/queues")
     waiting = {int(line.split()[1]): int(line.split()[3]) for line in text.split("\n")[:-1]}
     hands = [hand_of(8, 1, hash_of("people", it))[0] for it in ("bob", "carol")] if status == 200 else []
+    backend.wait(lambda came: came)
     came = backend.came[0]
     if came == "/0":
         tally.check("the queues", {queue: count for queue, count in waiting.items() if count}, {queue: hands.count(queue) for queue in set(hands)})

@@ -660,12 +660,9 @@ func TestByHeader(t *testing.T) {
 }
 
 func TestTheEndOfARequest(t *testing.T) {
-	line := string(finish([]byte("finish 7"), 1500*time.Nanosecond))
-	if want := "finish 7 1"; line != want {
-		t.Fatal(line)
-	}
-	line = string(finish([]byte("finish 7"), 1<<62))
-	if want := "finish 7 1000000000000"; line != want {
-		t.Fatal(line)
+	for long, want := range map[time.Duration]string{1500 * time.Nanosecond: "1", 1 << 62: "1000000000000"} {
+		if got := ran(long); got != want {
+			t.Fatal(got)
+		}
 	}
 }

@@ -15,7 +15,6 @@ import (
 	"time"
 
 	"burtxeltz/apf"
-	"burtxeltz/internal/flow"
 )
 
 // over2 is a gateway that speaks HTTP/2, in front of this backend, with a client of one connection.
@@ -33,9 +32,9 @@ func over2(t *testing.T, o *options, backend http.HandlerFunc) (*gateway, func(m
 	behind := httptest.NewServer(backend)
 	to, _ := url.Parse(behind.URL)
 	o.header, o.patience, o.bodyBuffer, o.quiet = "X-Remote-User", time.Minute, 1<<20, true
-	g := newGateway(level, to, flow.Local, o)
+	g := newGateway(level, to, nil, o)
 	server := httptest.NewUnstartedServer(g)
-	server.EnableHTTP2, server.Config.ConnContext = true, withClient
+	server.EnableHTTP2, server.Config.ConnContext = true, withConnection
 	server.StartTLS()
 	t.Cleanup(func() {
 		server.Close()

@@ -6,6 +6,7 @@ import (
 	"encoding/json"
 	"errors"
 	"fmt"
+	"math"
 	"net/http"
 	"os"
 	"sort"
@@ -29,61 +30,51 @@ type entry struct {
 }
 
 // bounds are the upper bounds of the histogram's buckets in seconds, as kube-apiserver has them.
-var bounds = [...]float64{0, 0.005, 0.02, 0.05, 0.1, 0.2, 0.5, 1, 2, 5, 10, 15, 30}
+var bounds = [...]float64{0, 0.005, 0.02, 0.05, 0.1, 0.2, 0.5, 1, 2, 5, 10, 15, 30, math.Inf(1)}
 
-// histogram counts waits.
+// histogram counts the waits up to each bound.
 type histogram struct {
-	buckets [len(bounds) + 1]int64
-	sum     float64
+	counts [len(bounds)]int64
+	sum    float64
 }
 
-// journal writes the lines, and counts for the metrics. Nobody waits for a reader of the output: where it is far behind,
-// lines are left out.
+// journal writes the lines, and counts for the metrics. Where the output's reader is far behind, lines are left out.
 type journal struct {
-	lines chan *entry
-	done  chan struct{}
-
-	mu      sync.Mutex
-	codes   map[int]int64
-	waits   map[bool]*histogram
-	dropped int64
-	closed  bool
+	lines chan *entry   // nil where no line is asked for, or none any more
+	done  chan struct{} // closed when all are written
+	mu    sync.Mutex
+	codes map[int]int64
+	waits map[bool]*histogram
 }
 
 func newJournal(quiet bool) *journal {
-	j := &journal{codes: map[int]int64{}, waits: map[bool]*histogram{false: {}, true: {}}, lines: make(chan *entry, 10000), done: make(chan struct{})}
-	// nothing is written where no line is asked for
-	if j.closed = quiet; quiet {
-		close(j.lines)
+	j := &journal{codes: map[int]int64{}, waits: map[bool]*histogram{false: {}, true: {}}}
+	if !quiet {
+		j.lines, j.done = make(chan *entry, 10000), make(chan struct{})
+		go j.write(j.lines)
 	}
-	go j.write()
 	return j
 }
 
 // write writes what came, all that is there at once.
-func (j *journal) write() {
+func (j *journal) write(lines <-chan *entry) {
 	defer close(j.done)
 	out := bufio.NewWriterSize(os.Stdout, 64<<10)
-	for it := range j.lines {
-		json.NewEncoder(out).Encode(it)
-		if len(j.lines) == 0 {
+	for it := range lines {
+		if json.NewEncoder(out).Encode(it); len(lines) == 0 {
 			out.Flush()
 		}
 	}
-	out.Flush()
 }
 
 // note counts a request that is over, and hands its line on.
 func (j *journal) note(it *entry) {
 	j.mu.Lock()
 	defer j.mu.Unlock()
-	if j.codes[it.Status]++; j.closed {
-		return
-	}
+	j.codes[it.Status]++
 	select {
 	case j.lines <- it:
 	default:
-		j.dropped++
 	}
 }
 
@@ -91,21 +82,24 @@ func (j *journal) note(it *entry) {
 func (j *journal) waited(execute bool, seconds float64) {
 	j.mu.Lock()
 	defer j.mu.Unlock()
-	j.waits[execute].buckets[sort.SearchFloat64s(bounds[:], seconds)]++
 	j.waits[execute].sum += seconds
+	for i := sort.SearchFloat64s(bounds[:], seconds); i < len(bounds); i++ {
+		j.waits[execute].counts[i]++
+	}
 }
 
 // close writes what is left, for a second at most.
 func (j *journal) close() {
 	j.mu.Lock()
-	if !j.closed {
-		close(j.lines)
-	}
-	j.closed = true
+	lines := j.lines
+	j.lines = nil
 	j.mu.Unlock()
-	select {
-	case <-j.done:
-	case <-time.After(time.Second):
+	if lines != nil {
+		close(lines)
+		select {
+		case <-j.done:
+		case <-time.After(time.Second):
+		}
 	}
 }
 
@@ -114,30 +108,22 @@ func (j *journal) metrics(level string, restarts int) string {
 	j.mu.Lock()
 	defer j.mu.Unlock()
 	var text strings.Builder
-	head := func(name, kind, help string) {
-		fmt.Fprintf(&text, "# HELP %s %s\n# TYPE %s %s\n", name, help, name, kind)
-	}
+	head := "# HELP %[1]s %[3]s\n# TYPE %[1]s %[2]s\n"
 	name := "apiserver_flowcontrol_request_wait_duration_seconds"
-	head(name, "histogram", "How long requests waited for their seats.")
-	for _, execute := range []bool{false, true} {
-		labels, sum := fmt.Sprintf(`priority_level=%q,flow_schema=%q,execute="%t"`, level, level, execute), int64(0)
-		for i, count := range j.waits[execute].buckets {
-			bound := "+Inf"
-			if sum += count; i < len(bounds) {
-				bound = fmt.Sprint(bounds[i])
-			}
-			fmt.Fprintf(&text, "%s_bucket{%s,le=%q} %d\n", name, labels, bound, sum)
+	fmt.Fprintf(&text, head, name, "histogram", "How long requests waited for their seats.")
+	for execute, it := range j.waits {
+		labels := fmt.Sprintf(`priority_level=%q,flow_schema=%q,execute="%t"`, level, level, execute)
+		for i, bound := range bounds {
+			fmt.Fprintf(&text, "%s_bucket{%s,le=\"%v\"} %d\n", name, labels, bound, it.counts[i])
 		}
-		fmt.Fprintf(&text, "%s_sum{%s} %g\n%s_count{%s} %d\n", name, labels, j.waits[execute].sum, name, labels, sum)
+		fmt.Fprintf(&text, "%s_sum{%s} %g\n%s_count{%s} %d\n", name, labels, it.sum, name, labels, it.counts[len(bounds)-1])
 	}
-	head("apf_gateway_requests_total", "counter", "Requests by the status of their answer.")
+	fmt.Fprintf(&text, head, "apf_gateway_requests_total", "counter", "Requests by the status of their answer.")
 	for code, count := range j.codes {
 		fmt.Fprintf(&text, "apf_gateway_requests_total{code=\"%d\"} %d\n", code, count)
 	}
-	head("apf_gateway_level_restarts_total", "counter", "How often the level was started again.")
+	fmt.Fprintf(&text, head, "apf_gateway_level_restarts_total", "counter", "How often the level was started again.")
 	fmt.Fprintf(&text, "apf_gateway_level_restarts_total %d\n", restarts)
-	head("apf_gateway_lines_dropped_total", "counter", "Lines that were left out as the reader of the output was behind.")
-	fmt.Fprintf(&text, "apf_gateway_lines_dropped_total %d\n", j.dropped)
 	return text.String()
 }
 
@@ -182,14 +168,12 @@ func (g *gateway) pages() http.Handler {
 		return text, err
 	})
 	page("/limit", func(ctx context.Context, r *http.Request) (string, error) {
-		// a page in a browser of this machine is not an operator
+		// a page in a browser of this machine is no operator
 		if r.Method != http.MethodPost || r.Header.Get("Origin") != "" {
 			return "", &apf.Fault{Text: "the limit is set by POST /limit?seats=N, and not from a browser"}
 		}
-		seats, err := strconv.Atoi(r.URL.Query().Get("seats"))
-		if err != nil {
-			return "", &apf.Fault{Text: "bad limit"}
-		}
+		// what is no number is 0, which is no limit
+		seats, _ := strconv.Atoi(r.URL.Query().Get("seats"))
 		was, err := g.level.SetLimit(ctx, seats)
 		return fmt.Sprintf("limit %d was %d\n", seats, was), err
 	})

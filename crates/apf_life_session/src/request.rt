@@ -257,11 +257,7 @@ impl<K: Naming> Request<K> {
         ensures own { pass_gate result ≡ K.level.gate }
         ensures number { result.pass.number ≡ number_in self }
     {
-        let Request {
-            pass,
-            place,
-            of: _,
-        } = self;
+        let Request { pass, place, of: _ } = self;
         match place {
             Place::Free => Done::of(pass),
             Place::Waits => wait(rt, level, Waiting::of(pass)),

@@ -8,7 +8,7 @@ use Rattle.apf_picture.specs.declared.row.Row.{Row}
 use Rattle.apf_picture.specs.Scales.{scaled_of}
 use Rattle.apf_picture.specs.Rows.{lives_in}
 use Rattle.apf_picture.specs.Labels.{called}
-use Rattle.apf_picture.specs.Names.{label_text}
+use Rattle.apf_picture.specs.Names.{label_text, whole_label}
 use Rattle.apf_picture.specs.Words.{joined, row_numbers_text}
 
 -- a bar of a request: from its arrival until its wait was over, one column at least
@@ -88,9 +88,17 @@ ticks_text lives y end = ticks_head y ++ rejected_text lives end ++ codes "\"/>\
 unfoldable pub triangles_text : List Life → (end : ℕ) → List ℕ
 triangles_text lives end = given_up_text lives end ++ codes "\"/>\n</g>\n"
 
+-- where a row begins, and its title, which is its whole name
+unfoldable pub row_place : (y : ℕ) → List ℕ
+row_place y = joined (codes "<g transform=\"translate(48 " ∷ decimal y ∷ codes ")\">\n<title>" ∷ [])
+
+-- the end of the title, what covers the lines of the axis, and the colour of the row
+unfoldable pub colour_text : (number : ℕ) → List ℕ
+colour_text number =
+    joined (codes "</title>\n<rect class=\"page\" width=\"880\" height=\"20\"/>\n<rect class=\"f" ∷ decimal number ∷ codes "\" y=\"5\" width=\"10\" height=\"10\" rx=\"2\"/>\n<text x=\"16\" y=\"14\">" ∷ [])
+
 unfoldable pub row_head : Row → (y : ℕ) → List ℕ
-row_head row y =
-    joined (codes "<g transform=\"translate(48 " ∷ decimal y ∷ codes ")\">\n<rect class=\"f" ∷ decimal row.number ∷ codes "\" y=\"5\" width=\"10\" height=\"10\" rx=\"2\"/>\n<text x=\"16\" y=\"14\">" ∷ [])
+row_head row y = row_place y ++ whole_label (called row.label) ++ colour_text row.number
 
 -- what a row is called, and its numbers
 unfoldable pub row_words : Row → List ℕ
@@ -115,7 +123,7 @@ heading_place y = joined (codes "<g transform=\"translate(48 " ∷ decimal y ∷
 -- what stands above the rows, with the key to the ticks
 unfoldable pub rows_heading : List ℕ
 rows_heading =
-    codes "<text class=\"part\">Requests by flow <tspan class=\"note\">a bar is a wait, from arrival to seats</tspan></text>\n<path class=\"rejected\" d=\"M744 -9v10\"/>\n<text class=\"note\" x=\"752\">rejected</text>\n<path class=\"gave-up\" d=\"M822 -8l3 7h-6z\"/>\n<text class=\"note\" x=\"832\">gave up</text>\n</g>\n"
+    codes "<rect class=\"page\" y=\"-16\" width=\"880\" height=\"28\"/>\n<text class=\"part\">Requests by flow <tspan class=\"note\">a bar is one request's wait, until it has its seats or gives up; a higher row has more requests</tspan></text>\n<path class=\"rejected\" d=\"M744 -9v10\"/>\n<text class=\"note\" x=\"752\">rejected</text>\n<path class=\"gave-up\" d=\"M822 -8l3 7h-6z\"/>\n<text class=\"note\" x=\"832\">gave up</text>\n</g>\n"
 
 -- the rows and their heading, from a height on
 unfoldable pub rows_text : List Row → (y end : ℕ) → List ℕ

@@ -31,9 +31,12 @@ unfoldable pub queue_settings : Config → List ℕ
 queue_settings config =
     joined (codes "limit " ∷ decimal config.limit ∷ codes ", queues " ∷ decimal config.queues ∷ codes ", hand size " ∷ decimal config.hand_size ∷ codes ", queue length limit " ∷ decimal config.queue_length_limit ∷ codes ", " ∷ [])
 
+unfoldable pub reject_settings : (limit : ℕ) → List ℕ
+reject_settings limit = joined (codes "limit " ∷ decimal limit ∷ codes ", no queues: what does not fit is rejected, " ∷ [])
+
 abbrev pub settings_by : Response → Config → (patience : ℕ) → List ℕ
 settings_by Queue config patience = queue_settings config ++ patience_text patience
-settings_by Reject config patience = joined (codes "limit " ∷ decimal config.limit ∷ codes ", no queues: what does not fit is rejected" ∷ [])
+settings_by Reject config patience = reject_settings config.limit ++ patience_text patience
 
 abbrev pub settings_text : Config → (patience : ℕ) → List ℕ
 settings_text config patience = settings_by config.limit_response config patience

@@ -44,9 +44,9 @@ pub record IsXmlText (text : List ℕ) : Type 0 where
   pub each : All IsPiece pieces
   pub is : joined pieces ≡ text
 
--- the wide characters: six letters, and all beyond ASCII
+-- the wide characters: six letters, the control characters, and all beyond ASCII
 abbrev pub is_wide : ℕ → Bool
-is_wide c = c == 37 || c == 64 || c == 77 || c == 87 || c == 109 || c == 119 || nat_le 128 c
+is_wide c = c == 37 || c == 64 || c == 77 || c == 87 || c == 109 || c == 119 || nat_lt c 32 || nat_le 127 c
 
 -- how many columns a character takes, and a name
 abbrev pub columns_of : ℕ → ℕ

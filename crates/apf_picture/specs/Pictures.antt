@@ -4,6 +4,9 @@ use Rattle.std.specs.List.{range_with_len}
 use Rattle.apf_picture.specs.declared.scene.Scene.{Scene}
 use Rattle.apf_picture.specs.declared.life.Life.{Life}
 use Rattle.apf_picture.specs.declared.picture.Picture.{Picture}
+use Rattle.apf_model.specs.declared.response.Response.{Response}
+use Rattle.apf_model.specs.declared.response.Response.TheVariants.{Queue, Reject}
+use Rattle.apf_picture.specs.declared.columns.Strip.{Strip}
 use Rattle.apf_picture.specs.Scales.{IsStep, unit_of, unit_length}
 use Rattle.apf_picture.specs.Ranks.{own_rows, AreOwnFlows, rows_of}
 use Rattle.apf_picture.specs.Lives.{lives_by}
@@ -85,15 +88,27 @@ unfoldable pub head_text : Picture → (height : ℕ) → List ℕ
 head_text picture height =
     size_text height ++ title_element picture ++ description_text picture ++ style_text ++ page_text height ++ above_text picture
 
+-- the part of the queues, if the level has queues
+abbrev pub queue_part_by : Response → List Strip → List ℕ
+queue_part_by Queue strips = queues_text strips (most_waiting strips)
+queue_part_by Reject strips = []
+
+abbrev pub queue_part : Picture → List ℕ
+queue_part picture = queue_part_by picture.config.limit_response picture.strips.items
+
 -- the parts, of which that of the requests begins at a height, and the axis so long
 unfoldable pub parts_text : Picture → (below depth : ℕ) → List ℕ
 parts_text picture below depth =
     axis_text picture.end picture.step depth ++ seats_text picture.areas.items picture.used picture.config.limit
-    ++ queues_text picture.strips.items (most_waiting picture.strips.items) ++ rows_text picture.rows.items below picture.end
+    ++ queue_part picture ++ rows_text picture.rows.items below picture.end
 
 -- where the part of the requests begins, and where the last row ends
+abbrev pub below_by : Response → (strips : ℕ) → ℕ
+below_by Queue strips = 310 + high_of strips
+below_by Reject strips = 264
+
 abbrev pub below_of : Picture → ℕ
-below_of picture = 310 + high_of (length picture.strips.items)
+below_of picture = below_by picture.config.limit_response (length picture.strips.items)
 
 abbrev pub bottom_of : Picture → ℕ
 bottom_of picture = below_of picture + 44 + sum_by height_of picture.rows.items

@@ -42,11 +42,15 @@ patience_text patience =
 -- how many requests ended how
 unfoldable pub endings_text : Numbers → List ℕ
 endings_text n =
-    joined (decimal n.executed ∷ codes " executed, " ∷ decimal n.rejected ∷ codes " rejected, " ∷ decimal n.gave_up ∷ codes " gave up, longest wait " ∷ [])
+    joined (decimal n.executed ∷ codes " executed, " ∷ decimal n.rejected ∷ codes " rejected, " ∷ decimal n.gave_up ∷ codes " gave up" ∷ [])
 
--- the same, and the longest wait
-abbrev pub numbers_text : Numbers → List ℕ
-numbers_text n = endings_text n ++ time_text n.longest
+-- how long those waited at most that gave up, if somebody did
+abbrev pub after_text : Numbers → List ℕ
+after_text n = if n.gave_up == 0 then [] else codes " after at most " ++ time_text n.longest_given_up
+
+-- the same, and the longest wait of who executed
+unfoldable pub numbers_text : Numbers → List ℕ
+numbers_text n = endings_text n ++ after_text n ++ codes ", longest wait " ++ time_text n.longest
 
 -- the number of requests, and how they ended
 abbrev pub row_numbers_text : Numbers → List ℕ

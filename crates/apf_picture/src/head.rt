@@ -2,7 +2,7 @@
 
 ghost use Rattle.std.specs.Prelude.{◌≡◌, ◌<◌, ◌≤◌, ◌+◌, ◌*◌, ◌^◌, length, OnOk};
 ghost use Rattle.std.specs.Io.KnownBytes.{Appends};
-ghost use Rattle.apf_picture.specs.Heads.{size_text, page_text, counts_text, schema_text, settings_text, queue_settings, whole_text, facts_text, shared_sentence, schema_sentence, subject, sentence, sentences};
+ghost use Rattle.apf_picture.specs.Heads.{size_text, page_text, counts_text, schema_text, settings_text, queue_settings, reject_settings, whole_text, facts_text, shared_sentence, schema_sentence, subject, sentence, sentences};
 ghost use Rattle.apf_picture.specs.Labels.{shown_schema};
 
 use crate::names::{write_name, write_whole_label, write_whole_name};
@@ -53,6 +53,17 @@ fn write_queue_settings<W: Write>(out: &mut W, config: &Config) -> io::Result<()
     )
 }
 
+// Writes the settings of a level that rejects, up to the patience.
+#[tactic(auto, unfolding(crate::specs::Heads::reject_settings))]
+fn write_reject_settings<W: Write>(out: &mut W, limit: u32) -> io::Result<()>
+    ensures { OnOk result (Appends (W.contents out.old) (W.contents out.new) (reject_settings limit)) }
+{
+    write!(
+        out,
+        "limit {limit}, no queues: what does not fit is rejected, "
+    )
+}
+
 /// Writes the settings of the level, and the patience.
 pub(crate) fn write_settings<W: Write>(
     out: &mut W,
@@ -67,11 +78,8 @@ pub(crate) fn write_settings<W: Write>(
             write_patience(out, patience)
         }
         Response::Reject => {
-            let limit = config.limit;
-            write!(
-                out,
-                "limit {limit}, no queues: what does not fit is rejected"
-            )
+            write_reject_settings(out, config.limit)?;
+            write_patience(out, patience)
         }
     }
 }

@@ -43,12 +43,12 @@ fn write_text<W: Write>(out: &mut W, text: &[char]) -> io::Result<()>
     Ok(())
 }
 
-// How many columns a character takes: the wide ones two.
+// How many columns a character takes: the wide ones two, and control characters, too.
 fn columns(character: char) -> usize
     ensures { result ≡ columns_of character }
 {
     match character {
-        '%' | '@' | 'M' | 'W' | 'm' | 'w' | '\u{80}'.. => 2,
+        '%' | '@' | 'M' | 'W' | 'm' | 'w' | '\0'..='\u{1f}' | '\u{7f}'.. => 2,
         _ => 1,
     }
 }

@@ -20,7 +20,7 @@ use crate::scene::Scene;
 use crate::seats::write_seats;
 use crate::style::write_style;
 use crate::words::write_counted;
-use apf_model::Config;
+use apf_model::{Config, Response};
 use std::alloc::{AllocError, Global};
 use std::io;
 use std::io::Write;
@@ -53,9 +53,12 @@ const SEATS: u64 = 124;
 
 const QUEUES: u64 = 310;
 
+// Where the part of the requests begins if there is no part of queues.
+const NO_QUEUES: u64 = 264;
+
 impl Picture {
     ghost use Rattle.std.specs.Prelude.{All, IfOk};
-    ghost use Rattle.apf_picture.specs.Pictures.{IsPictureOf, title_text, level_text, description_text, title_element, notes_text, above_text, head_text, parts_text, picture_text};
+    ghost use Rattle.apf_picture.specs.Pictures.{IsPictureOf, title_text, level_text, description_text, title_element, notes_text, above_text, head_text, below_of, queue_part, parts_text, picture_text};
 
     /// The picture of a run.
     ///
@@ -181,6 +184,30 @@ impl Picture {
         self.write_above(out)
     }
 
+    // Where the part of the requests begins. A level that rejects has no part of queues.
+    fn below(&self) -> u64
+        ensures below { result ≡ below_of self.now }
+        ensures within { result ≤ 550 }
+    {
+        match self.config.limit_response {
+            Response::Queue => QUEUES + high(self.strips.as_slice()),
+            Response::Reject => NO_QUEUES,
+        }
+    }
+
+    // Writes the part of the queues, if the level has queues.
+    fn write_queue_part<W: Write>(&self, out: &mut W) -> io::Result<()>
+        ensures { OnOk result (Appends (W.contents out.old) (W.contents out.new) (queue_part self.now)) }
+    {
+        match self.config.limit_response {
+            Response::Queue => {
+                let longest = most_waiting(self.strips.as_slice());
+                write_queues(out, self.strips.as_slice(), longest)
+            }
+            Response::Reject => Ok(()),
+        }
+    }
+
     // Writes the parts, of which that of the requests begins at this height, and the axis so many pixels long.
     #[tactic(auto, unfolding(crate::specs::Pictures::parts_text))]
     fn write_parts<W: Write>(&self, out: &mut W, below: u64, depth: u64) -> io::Result<()>
@@ -195,8 +222,7 @@ impl Picture {
             self.used,
             u64::from(self.config.limit),
         )?;
-        let longest = most_waiting(self.strips.as_slice());
-        write_queues(out, self.strips.as_slice(), longest)?;
+        self.write_queue_part(out)?;
         write_rows(out, self.rows.as_slice(), below, self.end)
     }
 
@@ -209,7 +235,7 @@ impl Picture {
     pub fn write<W: Write>(&self, out: &mut W) -> io::Result<()>
         ensures { OnOk result (Appends (W.contents out.old) (W.contents out.new) (picture_text self.now)) }
     {
-        let below = QUEUES + high(self.strips.as_slice());
+        let below = self.below();
         let bottom = below + 44 + height(self.rows.as_slice());
         self.write_head(out, bottom + 28)?;
         self.write_parts(out, below, bottom - SEATS)?;

@@ -2,11 +2,11 @@
 
 ghost use Rattle.std.specs.Prelude.{◌≡◌, ◌<◌, ◌≤◌, ◌+◌, ◌*◌, ◌^◌, length, sum_by, slice_get, Some, OnOk};
 ghost use Rattle.std.specs.Io.KnownBytes.{Appends};
-ghost use Rattle.apf_picture.specs.Bars.{bar_text, bar_by, bars_text, rejected_tick, rejected_text, given_up_tick, given_up_text, back_text, stroke_text, plot_head, plot_text, ticks_head, ticks_text, triangles_text, row_head, height_of, row_words, row_drawing, row_text, all_rows, heading_place, rows_heading, rows_text};
+ghost use Rattle.apf_picture.specs.Bars.{bar_text, bar_by, bars_text, rejected_tick, rejected_text, given_up_tick, given_up_text, back_text, stroke_text, plot_head, plot_text, ticks_head, ticks_text, triangles_text, row_place, colour_text, row_head, height_of, row_words, row_drawing, row_text, all_rows, heading_place, rows_heading, rows_text};
 ghost use Rattle.apf_picture.specs.Rows.{lives_in};
 
 use crate::life::{Fate, Life};
-use crate::names::write_label;
+use crate::names::{write_label, write_whole_label};
 use crate::row::Row;
 use crate::scale::{COLUMNS, scaled};
 use crate::words::write_row_numbers;
@@ -14,7 +14,7 @@ use std::io;
 use std::io::Write;
 
 const HEADING: &[u8] =
-    b"<text class=\"part\">Requests by flow <tspan class=\"note\">a bar is a wait, from arrival to seats</tspan></text>\n\
+    b"<rect class=\"page\" y=\"-16\" width=\"880\" height=\"28\"/>\n<text class=\"part\">Requests by flow <tspan class=\"note\">a bar is one request's wait, until it has its seats or gives up; a higher row has more requests</tspan></text>\n\
 <path class=\"rejected\" d=\"M744 -9v10\"/>\n<text class=\"note\" x=\"752\">rejected</text>\n\
 <path class=\"gave-up\" d=\"M822 -8l3 7h-6z\"/>\n<text class=\"note\" x=\"832\">gave up</text>\n</g>\n";
 
@@ -177,16 +177,33 @@ fn write_triangles<W: Write>(out: &mut W, lives: &[Life], end: u64) -> io::Resul
     out.write_all(b"\"/>\n</g>\n")
 }
 
-// Writes what stands before the label of a row.
+// Writes where a row begins.
+#[tactic(auto, unfolding(crate::specs::Bars::row_place))]
+fn write_row_place<W: Write>(out: &mut W, y: u64) -> io::Result<()>
+    ensures { OnOk result (Appends (W.contents out.old) (W.contents out.new) (row_place y)) }
+{
+    write!(out, "<g transform=\"translate(48 {y})\">\n<title>")
+}
+
+// Writes what stands between the whole names of a row and its label: what covers the lines of the axis, and the colour of the row.
+#[tactic(auto, unfolding(crate::specs::Bars::colour_text))]
+fn write_colour<W: Write>(out: &mut W, number: u32) -> io::Result<()>
+    ensures { OnOk result (Appends (W.contents out.old) (W.contents out.new) (colour_text number)) }
+{
+    write!(
+        out,
+        "</title>\n<rect class=\"page\" width=\"880\" height=\"20\"/>\n<rect class=\"f{number}\" y=\"5\" width=\"10\" height=\"10\" rx=\"2\"/>\n<text x=\"16\" y=\"14\">"
+    )
+}
+
+// Writes what stands before the label of a row, with its whole names as its title.
 #[tactic(auto, unfolding(crate::specs::Bars::row_head))]
 fn write_row_head<W: Write>(out: &mut W, row: &Row, y: u64) -> io::Result<()>
     ensures { OnOk result (Appends (W.contents out.old) (W.contents out.new) (row_head row.now y)) }
 {
-    let number = row.number;
-    write!(
-        out,
-        "<g transform=\"translate(48 {y})\">\n<rect class=\"f{number}\" y=\"5\" width=\"10\" height=\"10\" rx=\"2\"/>\n<text x=\"16\" y=\"14\">"
-    )
+    write_row_place(out, y)?;
+    write_whole_label(out, &row.label)?;
+    write_colour(out, row.number)
 }
 
 // Writes what a row is called, and its numbers.

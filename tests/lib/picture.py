@@ -16,7 +16,7 @@ SEATS, QUEUES, HIGH, FULL = 124, 310, 140, 130
 # this many columns of letters are shown of a name: of one alone, of a schema and of a distinguisher beside it, of a schema in the
 # title, and of what all names begin with
 ALONE, SCHEMA, DISTINGUISHER, TITLE, BEGINNING = 36, 14, 20, 28, 96
-LIGHT = "#b1551e #421871 #05a1b4 #91186c #fd8975 #6448a6 #8579de #6c2100 #a6a22f #096d8c #baabfc #8b072e #7b7b7b".split()
+LIGHT = "#b55821 #461c75 #0ca3b6 #951d70 #420936 #456539 #00128f #3267b2 #791909 #ab69ee #623d45 #171c08 #7d7d7d".split()
 DARK = "#fd8867 #7c4dab #e3ce5d #0492a9 #d6e9fd #a07fe4 #f7a3ff #b0541d #8df097 #b89a2c #fdf2e4 #d14c54 #b5b5b5".split()
 STYLE = [
     'text{font:12px system-ui,-apple-system,"Segoe UI",sans-serif;fill:#1f2328}',

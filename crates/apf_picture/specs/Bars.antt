@@ -4,6 +4,7 @@ use Rattle.std.specs.List.{flat_map, range_with_len}
 use Rattle.apf_picture.specs.declared.life.Fate.{Fate}
 use Rattle.apf_picture.specs.declared.life.Fate.TheVariants.{Executed, Rejected, GaveUp}
 use Rattle.apf_picture.specs.declared.life.Life.{Life}
+use Rattle.apf_picture.specs.declared.cutting.Cutting.{Cutting}
 use Rattle.apf_picture.specs.declared.row.Row.{Row}
 use Rattle.apf_picture.specs.Scales.{scaled_of}
 use Rattle.apf_picture.specs.Rows.{lives_in}
@@ -101,21 +102,21 @@ unfoldable pub row_head : Row → (y : ℕ) → List ℕ
 row_head row y = row_place y ++ whole_label (called row.label) ++ colour_text row.number
 
 -- what a row is called, and its numbers
-unfoldable pub row_words : Row → List ℕ
-row_words row = label_text (called row.label) ++ codes " <tspan class=\"note\">" ++ row_numbers_text row.numbers ++ codes "</tspan></text>\n"
+unfoldable pub row_words : Row → Cutting → List ℕ
+row_words row cutting = label_text cutting row.number (called row.label) ++ codes " <tspan class=\"note\">" ++ row_numbers_text row.numbers ++ codes "</tspan></text>\n"
 
 -- its bars and its ticks
 unfoldable pub row_drawing : Row → (end : ℕ) → List ℕ
 row_drawing row end = plot_text row end ++ ticks_text (lives_in row) (row.tall + 22) end ++ triangles_text (lives_in row) end
 
 -- a row that begins at a height
-unfoldable pub row_text : Row → (y end : ℕ) → List ℕ
-row_text row y end = row_head row y ++ row_words row ++ row_drawing row end ++ codes "</g>\n"
+unfoldable pub row_text : Row → Cutting → (y end : ℕ) → List ℕ
+row_text row cutting y end = row_head row y ++ row_words row cutting ++ row_drawing row end ++ codes "</g>\n"
 
 -- the rows, one below another
-abbrev pub all_rows : List Row → (y end : ℕ) → List ℕ
-all_rows [] y end = []
-all_rows (row ∷ rows) y end = row_text row y end ++ all_rows rows (y + height_of row) end
+abbrev pub all_rows : List Row → Cutting → (y end : ℕ) → List ℕ
+all_rows [] cutting y end = []
+all_rows (row ∷ rows) cutting y end = row_text row cutting y end ++ all_rows rows cutting (y + height_of row) end
 
 unfoldable pub heading_place : (y : ℕ) → List ℕ
 heading_place y = joined (codes "<g transform=\"translate(48 " ∷ decimal y ∷ codes ")\">\n" ∷ [])
@@ -126,5 +127,5 @@ rows_heading =
     codes "<rect class=\"page\" y=\"-16\" width=\"880\" height=\"28\"/>\n<text class=\"part\">Requests by flow <tspan class=\"note\">a bar is one request's wait, until it has its seats or gives up; a higher row has more requests</tspan></text>\n<path class=\"rejected\" d=\"M744 -9v10\"/>\n<text class=\"note\" x=\"752\">rejected</text>\n<path class=\"gave-up\" d=\"M822 -8l3 7h-6z\"/>\n<text class=\"note\" x=\"832\">gave up</text>\n</g>\n"
 
 -- the rows and their heading, from a height on
-unfoldable pub rows_text : List Row → (y end : ℕ) → List ℕ
-rows_text rows y end = heading_place (y + 34) ++ rows_heading ++ all_rows rows (y + 44) end
+unfoldable pub rows_text : List Row → Cutting → (y end : ℕ) → List ℕ
+rows_text rows cutting y end = heading_place (y + 34) ++ rows_heading ++ all_rows rows cutting (y + 44) end

@@ -60,6 +60,21 @@ sentence row = subject row ++ row_numbers_text row.numbers ++ codes "."
 abbrev pub sentences : List Row → List ℕ
 sentences rows = flat_map sentence rows
 
+-- what all names begin with, if it is left out of them: behind the title, and as a line of its own
+unfoldable pub beginning_words : List ℕ → List ℕ
+beginning_words beginning = codes "names begin with " ++ name_text 96 beginning
+
+abbrev pub beginning_text : List ℕ → List ℕ
+beginning_text [] = []
+beginning_text (c ∷ cs) = codes ", " ++ beginning_words (c ∷ cs)
+
+unfoldable pub own_line : List ℕ → List ℕ
+own_line beginning = codes "<text class=\"note\" x=\"48\" y=\"79\">" ++ beginning_words beginning ++ codes "</text>\n"
+
+abbrev pub beginning_line : List ℕ → List ℕ
+beginning_line [] = []
+beginning_line (c ∷ cs) = own_line (c ∷ cs)
+
 -- the size of the picture, and what is behind all parts
 unfoldable pub size_text : (height : ℕ) → List ℕ
 size_text height =

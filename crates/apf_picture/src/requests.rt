@@ -5,6 +5,7 @@ ghost use Rattle.std.specs.Io.KnownBytes.{Appends};
 ghost use Rattle.apf_picture.specs.Bars.{bar_text, bar_by, bars_text, rejected_tick, rejected_text, given_up_tick, given_up_text, back_text, stroke_text, plot_head, plot_text, ticks_head, ticks_text, triangles_text, row_place, colour_text, row_head, height_of, row_words, row_drawing, row_text, all_rows, heading_place, rows_heading, rows_text};
 ghost use Rattle.apf_picture.specs.Rows.{lives_in};
 
+use crate::cutting::Cutting;
 use crate::life::{Fate, Life};
 use crate::names::{write_label, write_whole_label};
 use crate::row::Row;
@@ -208,10 +209,10 @@ fn write_row_head<W: Write>(out: &mut W, row: &Row, y: u64) -> io::Result<()>
 
 // Writes what a row is called, and its numbers.
 #[tactic(auto, unfolding(crate::specs::Bars::row_words))]
-fn write_row_words<W: Write>(out: &mut W, row: &Row) -> io::Result<()>
-    ensures { OnOk result (Appends (W.contents out.old) (W.contents out.new) (row_words row.now)) }
+fn write_row_words<W: Write>(out: &mut W, row: &Row, cutting: Cutting) -> io::Result<()>
+    ensures { OnOk result (Appends (W.contents out.old) (W.contents out.new) (row_words row.now cutting)) }
 {
-    write_label(out, &row.label)?;
+    write_label(out, &row.label, row.number, cutting)?;
     out.write_all(b" <tspan class=\"note\">")?;
     write_row_numbers(out, &row.numbers)?;
     out.write_all(b"</tspan></text>\n")
@@ -229,11 +230,17 @@ fn write_row_drawing<W: Write>(out: &mut W, row: &Row, end: u64) -> io::Result<(
 
 // Writes a row that begins at this height.
 #[tactic(auto, unfolding(crate::specs::Bars::row_text))]
-fn write_row<W: Write>(out: &mut W, row: &Row, y: u64, end: u64) -> io::Result<()>
-    ensures { OnOk result (Appends (W.contents out.old) (W.contents out.new) (row_text row.now y end)) }
+fn write_row<W: Write>(
+    out: &mut W,
+    row: &Row,
+    cutting: Cutting,
+    y: u64,
+    end: u64,
+) -> io::Result<()>
+    ensures { OnOk result (Appends (W.contents out.old) (W.contents out.new) (row_text row.now cutting y end)) }
 {
     write_row_head(out, row, y)?;
-    write_row_words(out, row)?;
+    write_row_words(out, row, cutting)?;
     write_row_drawing(out, row, end)?;
     out.write_all(b"</g>\n")
 }
@@ -253,14 +260,20 @@ pub(crate) fn height(rows: &[Row]) -> u64
 
 // Writes the rows, one below another, from this height on.
 #[tactic(auto, using(crate::proofs::Ranges::rows_text_more))]
-fn write_all_rows<W: Write>(out: &mut W, rows: &[Row], y: u64, end: u64) -> io::Result<()>
+fn write_all_rows<W: Write>(
+    out: &mut W,
+    rows: &[Row],
+    cutting: Cutting,
+    y: u64,
+    end: u64,
+) -> io::Result<()>
     requires few { length rows.now ≤ 13 }
     requires y { y < 2 ^ 41 }
-    ensures { OnOk result (Appends (W.contents out.old) (W.contents out.new) (all_rows rows.now y end)) }
+    ensures { OnOk result (Appends (W.contents out.old) (W.contents out.new) (all_rows rows.now cutting y end)) }
 {
     let mut top = y;
     for row in rows {
-        write_row(out, row, top, end)?;
+        write_row(out, row, cutting, top, end)?;
         top += row.height();
     }
     Ok(())
@@ -283,12 +296,18 @@ fn write_heading<W: Write>(out: &mut W) -> io::Result<()>
 
 /// Writes the rows and their heading, from this height on.
 #[tactic(auto, unfolding(crate::specs::Bars::rows_text))]
-pub(crate) fn write_rows<W: Write>(out: &mut W, rows: &[Row], y: u64, end: u64) -> io::Result<()>
+pub(crate) fn write_rows<W: Write>(
+    out: &mut W,
+    rows: &[Row],
+    cutting: Cutting,
+    y: u64,
+    end: u64,
+) -> io::Result<()>
     requires few { length rows.now ≤ 13 }
     requires y { y < 2 ^ 40 }
-    ensures { OnOk result (Appends (W.contents out.old) (W.contents out.new) (rows_text rows.now y end)) }
+    ensures { OnOk result (Appends (W.contents out.old) (W.contents out.new) (rows_text rows.now cutting y end)) }
 {
     write_heading_place(out, y + 34)?;
     write_heading(out)?;
-    write_all_rows(out, rows, y + 44, end)
+    write_all_rows(out, rows, cutting, y + 44, end)
 }

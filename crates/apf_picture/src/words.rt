@@ -2,7 +2,7 @@
 
 ghost use Rattle.std.specs.Prelude.{◌≡◌, ◌<◌, ◌≤◌, ◌+◌, ◌*◌, ◌^◌, length, OnOk};
 ghost use Rattle.std.specs.Io.KnownBytes.{Appends};
-ghost use Rattle.apf_picture.specs.Words.{counted_text, tenths_text, two_text, time_text, patience_text, endings_text, after_text, numbers_text, row_numbers_text};
+ghost use Rattle.apf_picture.specs.Words.{counted_text, tenths_text, two_text, time_text, patience_text, endings_text, at_most_text, longest_text, after_text, numbers_text, row_numbers_text};
 
 use crate::row::Numbers;
 use std::io;
@@ -85,8 +85,7 @@ pub(crate) fn write_numbers<W: Write>(out: &mut W, numbers: &Numbers) -> io::Res
 {
     write_endings(out, numbers)?;
     write_after(out, numbers)?;
-    out.write_all(b", longest wait ")?;
-    write_time(out, numbers.longest)
+    write_longest(out, numbers.longest)
 }
 
 // Writes how many requests ended how.
@@ -103,15 +102,33 @@ fn write_endings<W: Write>(out: &mut W, numbers: &Numbers) -> io::Result<()>
     )
 }
 
+// Writes the longest wait of who gave up.
+#[tactic(auto, unfolding(crate::specs::Words::at_most_text))]
+fn write_at_most<W: Write>(out: &mut W, longest: u64) -> io::Result<()>
+    ensures { OnOk result (Appends (W.contents out.old) (W.contents out.new) (at_most_text longest)) }
+{
+    out.write_all(b" after at most ")?;
+    write_time(out, longest)
+}
+
+// Writes the longest wait of who executed.
+#[tactic(auto, unfolding(crate::specs::Words::longest_text))]
+fn write_longest<W: Write>(out: &mut W, longest: u64) -> io::Result<()>
+    ensures { OnOk result (Appends (W.contents out.old) (W.contents out.new) (longest_text longest)) }
+{
+    out.write_all(b", longest wait ")?;
+    write_time(out, longest)
+}
+
 // Writes how long those waited at most that gave up, if somebody did.
+#[tactic(auto, unfolding(crate::specs::Words::after_text))]
 fn write_after<W: Write>(out: &mut W, numbers: &Numbers) -> io::Result<()>
     ensures { OnOk result (Appends (W.contents out.old) (W.contents out.new) (after_text numbers.now)) }
 {
     if numbers.gave_up == 0 {
         return Ok(());
     }
-    out.write_all(b" after at most ")?;
-    write_time(out, numbers.longest_given_up)
+    write_at_most(out, numbers.longest_given_up)
 }
 
 /// Writes the number of requests, and how they ended.

@@ -1,5 +1,5 @@
 -- How the names of a picture are cut, so that its rows are told apart.
-use Rattle.std.specs.Prelude.{◌≡◌, ℕ, ◌+◌, ◌-◌, ◌*◌, ◌/◌, ◌%◌, ◌<◌, ◌≤◌, min, List, [], ◌∷◌, ◌++◌, length, take, drop, map, count_by, Bool, true, false, not, ◌&&◌, ◌||◌, ◌==◌, nat_le, nat_lt, if◌then◌else◌, codes, bytes_eq}
+use Rattle.std.specs.Prelude.{◌≡◌, ℕ, ◌+◌, ◌-◌, ◌/◌, ◌%◌, ◌<◌, ◌≤◌, min, List, [], ◌∷◌, ◌++◌, length, take, drop, map, count_by, Bool, true, false, ◌||◌, ◌==◌, nat_le, nat_lt, if◌then◌else◌, bytes_eq}
 use Rattle.std.specs.List.{list_all}
 use Rattle.apf_picture.specs.declared.cutting.Cutting.{Cutting}
 use Rattle.apf_picture.specs.Labels.{Called, By_name, By_names, By_hash, By_number}
@@ -43,19 +43,22 @@ fits (By_names schema distinguisher) = nat_le (width_of distinguisher) 20
 fits (By_hash hash) = true
 fits (By_number flows) = true
 
--- what all names have at their beginning, of which this is the first: up to a separator, and nothing if there is room for each or only one
+-- a text up to its last separator
 abbrev pub up_to_separator : List ℕ → List ℕ
 up_to_separator text = take (behind_separator text) text
 
+-- what all names have at their beginning, of which this is the first: up to a separator, and nothing if there is room for each or only one
 abbrev pub beginning_by : (first : List ℕ) → List Called → List ℕ
 beginning_by first labels = if nat_lt (length labels) 2 || list_all fits labels then [] else up_to_separator (take (common_to_all first labels) first)
 
+-- the same of the names of the first row, and of those of all rows
 abbrev pub beginning_of : Called → List Called → List ℕ
 beginning_of (By_name name) labels = beginning_by name labels
 beginning_of (By_names schema distinguisher) labels = beginning_by distinguisher labels
 beginning_of (By_hash hash) labels = []
 beginning_of (By_number flows) labels = []
 
+-- what is left out of the names of all rows: their beginning up to a separator, if all have it and one of them has no room
 abbrev pub shared_beginning : List Called → List ℕ
 shared_beginning [] = []
 shared_beginning (label ∷ labels) = beginning_of label (label ∷ labels)

@@ -1,5 +1,5 @@
 -- What a picture shows of a run, and its text.
-use Rattle.std.specs.Prelude.{◌≡◌, ℕ, ◌+◌, ◌-◌, min, List, [], ◌∷◌, ◌++◌, length, map, reverse, sum_by, All, is_some, codes, decimal}
+use Rattle.std.specs.Prelude.{◌≡◌, ℕ, ◌+◌, ◌-◌, min, List, [], ◌++◌, length, map, reverse, sum_by, All, is_some, codes}
 use Rattle.std.specs.List.{range_with_len}
 use Rattle.apf_picture.specs.declared.scene.Scene.{Scene}
 use Rattle.apf_picture.specs.declared.life.Life.{Life}

@@ -1,5 +1,5 @@
 -- The text of the queues.
-use Rattle.std.specs.Prelude.{ℕ, ◌+◌, ◌-◌, ◌*◌, ◌/◌, ◌%◌, List, [], ◌∷◌, ◌++◌, Bool, true, false, not, ◌&&◌, ◌||◌, ◌==◌, nat_lt, if◌then◌else◌, min, max, length, map, take, drop, take_while, sum_by, slice_index, slice_get, Option, Some, None, codes, decimal}
+use Rattle.std.specs.Prelude.{ℕ, ◌+◌, ◌-◌, ◌*◌, ◌/◌, ◌%◌, List, [], ◌∷◌, ◌++◌, Bool, not, ◌&&◌, ◌||◌, ◌==◌, if◌then◌else◌, min, max, length, map, drop, slice_index, codes, decimal}
 use Rattle.std.specs.List.{flat_map, range_with_len}
 use Rattle.apf_picture.specs.declared.columns.Strip.{Strip}
 use Rattle.apf_picture.specs.Scales.{scaled_of}

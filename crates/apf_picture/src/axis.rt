@@ -66,12 +66,30 @@ fn write_part<W: Write>(out: &mut W, unit: Unit, time: u64) -> io::Result<()>
         Unit::Microseconds => write_value(out, time, "&#181;s"),
         Unit::Milliseconds => write_tenths(out, time, 1_000, "ms"),
         Unit::Seconds => write_tenths(out, time, 1_000_000, "s"),
-        Unit::Minutes => write_two(out, time / 60_000_000, "min", time % 60_000_000 / 1_000_000, "s"),
+        Unit::Minutes => write_two(
+            out,
+            time / 60_000_000,
+            "min",
+            time % 60_000_000 / 1_000_000,
+            "s",
+        ),
         Unit::Hours => {
-            write_two(out, time / 3_600_000_000, "h", time % 3_600_000_000 / 60_000_000, "min")
+            write_two(
+                out,
+                time / 3_600_000_000,
+                "h",
+                time % 3_600_000_000 / 60_000_000,
+                "min",
+            )
         }
         Unit::Days => {
-            write_two(out, time / 86_400_000_000, "d", time % 86_400_000_000 / 3_600_000_000, "h")
+            write_two(
+                out,
+                time / 86_400_000_000,
+                "d",
+                time % 86_400_000_000 / 3_600_000_000,
+                "h",
+            )
         }
     }
 }

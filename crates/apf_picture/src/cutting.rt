@@ -162,7 +162,12 @@ fn push_text(out: &mut Vec<char>, text: &[char]) -> Result<(), AllocError>
 }
 
 // Adds a name as it is drawn, cut at this place in this many columns.
-fn push_name(out: &mut Vec<char>, name: &[char], place: usize, most: usize) -> Result<(), AllocError>
+fn push_name(
+    out: &mut Vec<char>,
+    name: &[char],
+    place: usize,
+    most: usize,
+) -> Result<(), AllocError>
     requires { 2 ≤ most }
     ensures { OnOk result (out.new.items ≡ out.old.items ++ seen_name place most name.now) }
 {
@@ -180,7 +185,12 @@ fn push_name(out: &mut Vec<char>, name: &[char], place: usize, most: usize) -> R
 }
 
 // Adds the names of a row as they are drawn.
-fn push_label(out: &mut Vec<char>, label: &Label, left_out: usize, place: usize) -> Result<(), AllocError>
+fn push_label(
+    out: &mut Vec<char>,
+    label: &Label,
+    left_out: usize,
+    place: usize,
+) -> Result<(), AllocError>
     ensures { OnOk result (out.new.items ≡ out.old.items ++ seen_label left_out place (called label.now)) }
 {
     match label {
@@ -193,14 +203,25 @@ fn push_label(out: &mut Vec<char>, label: &Label, left_out: usize, place: usize)
             out.push(' ')?;
             out.push('/')?;
             out.push(' ')?;
-            push_name(out, rest(distinguisher.as_slice(), left_out), place, DISTINGUISHER)
+            push_name(
+                out,
+                rest(distinguisher.as_slice(), left_out),
+                place,
+                DISTINGUISHER,
+            )
         }
         Label::Hash(_) | Label::Others(_) => Ok(()),
     }
 }
 
 // Whether the names of two rows look the same.
-fn are_alike(alloc: Global, one: &Label, other: &Label, left_out: usize, place: usize) -> Result<bool, AllocError>
+fn are_alike(
+    alloc: Global,
+    one: &Label,
+    other: &Label,
+    left_out: usize,
+    place: usize,
+) -> Result<bool, AllocError>
     ensures { IfOk result (λ alike. alike ≡ the_are_alike left_out place (called one.now) (called other.now)) }
 {
     let mut seen = Vec::new(alloc);
@@ -211,7 +232,13 @@ fn are_alike(alloc: Global, one: &Label, other: &Label, left_out: usize, place: 
 }
 
 // How many rows have names that look like those of the label.
-fn count_alike(alloc: Global, rows: &[Row], label: &Label, left_out: usize, place: usize) -> Result<usize, AllocError>
+fn count_alike(
+    alloc: Global,
+    rows: &[Row],
+    label: &Label,
+    left_out: usize,
+    place: usize,
+) -> Result<usize, AllocError>
     ensures count { IfOk result (λ count. count ≡ count_by (the_are_alike left_out place (called label.now)) (map label_in rows.now)) }
     ensures within { IfOk result (λ count. count ≤ length rows.now) }
 {

@@ -7,8 +7,8 @@ use crate::axis::write_axis;
 use crate::columns::{Area, Strip, areas, most_seats, most_waiting, strips};
 use crate::cutting::{Cutting, shared_beginning};
 use crate::head::{
-    write_beginning, write_beginning_line, write_counts, write_facts, write_page, write_schema, write_schema_sentence, write_sentences,
-    write_settings, write_size, write_whole,
+    write_beginning, write_beginning_line, write_counts, write_facts, write_page, write_schema,
+    write_schema_sentence, write_sentences, write_settings, write_size, write_whole,
 };
 use crate::label::shared_schema;
 use crate::life::lives;

@@ -230,13 +230,7 @@ fn write_row_drawing<W: Write>(out: &mut W, row: &Row, end: u64) -> io::Result<(
 
 // Writes a row that begins at this height.
 #[tactic(auto, unfolding(crate::specs::Bars::row_text))]
-fn write_row<W: Write>(
-    out: &mut W,
-    row: &Row,
-    cutting: Cutting,
-    y: u64,
-    end: u64,
-) -> io::Result<()>
+fn write_row<W: Write>(out: &mut W, row: &Row, cutting: Cutting, y: u64, end: u64) -> io::Result<()>
     ensures { OnOk result (Appends (W.contents out.old) (W.contents out.new) (row_text row.now cutting y end)) }
 {
     write_row_head(out, row, y)?;

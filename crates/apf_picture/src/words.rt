@@ -20,7 +20,12 @@ pub(crate) fn write_counted<W: Write>(out: &mut W, number: u64, noun: &str) -> i
 
 /// Writes a number of a unit that has this many microseconds, with one digit after the point.
 #[tactic(auto, unfolding(crate::specs::Words::tenths_text))]
-pub(crate) fn write_tenths<W: Write>(out: &mut W, time: u64, unit: u64, name: &str) -> io::Result<()>
+pub(crate) fn write_tenths<W: Write>(
+    out: &mut W,
+    time: u64,
+    unit: u64,
+    name: &str,
+) -> io::Result<()>
     requires { 10 ≤ unit }
     ensures { OnOk result (Appends (W.contents out.old) (W.contents out.new) (tenths_text time unit name.now)) }
 {

@@ -14,11 +14,11 @@ loop-place-preserved c =
     let place = c.loop-place.place in
     let character = c.index-text-place.result in
     elim c.if-is_separator.branch [
-      then-is_separator w ↦ record {
+      | then-is_separator w ↦ record {
         behind = separator_at text place character c.loop-place.behind c.if-is_separator.behind (the_behind_separator text) c.loop-place-test.true c.index-text-place.is (sym c.is_separator.ensures ∙ w.if-is_separator.true) w.behind-is c.loop-place.invariant.behind;
         within = omega (arith, w.behind-is, c.loop-place-test.true);
       }
-    | else-is_separator w ↦ record {
+      | else-is_separator w ↦ record {
         behind = other_at text place character c.loop-place.behind c.if-is_separator.behind (the_behind_separator text) c.loop-place-test.true c.index-text-place.is (sym c.is_separator.ensures ∙ w.if-is_separator.false) w.behind-is c.loop-place.invariant.behind;
         within = omega (arith, w.behind-is, c.loop-place.invariant.within);
       }

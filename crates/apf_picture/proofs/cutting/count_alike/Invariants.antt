@@ -1,5 +1,5 @@
 -- Those of the rows so far.
-use Rattle.std.proofs.Common.{◌≡◌, ◌≤◌, map, take, length}
+use Rattle.std.proofs.Common.{◌≡◌, ◌≤◌, map, take}
 use Rattle.std.specs.Prelude.{count_by}
 use Rattle.apf_picture.specs.Labels.{called}
 use Rattle.apf_picture.specs.Rows.{label_in}

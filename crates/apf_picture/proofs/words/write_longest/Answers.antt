@@ -1,5 +1,5 @@
 -- Two texts, one after another.
-use Rattle.std.proofs.Common.{codes, ◌++◌}
+use Rattle.std.proofs.Common.{codes}
 use Rattle.std.proofs.lemmas.Result.{on_ok_weaker}
 use Rattle.apf_picture.specs.Words.{time_text, longest_text}
 use Rattle.apf_picture.proofs.Ranges.{appends_more}

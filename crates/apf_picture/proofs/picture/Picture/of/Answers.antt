@@ -1,5 +1,5 @@
 -- What each part of the picture shows.
-use Rattle.std.proofs.Common.{◌≡◌, ℕ, List, refl, rules, ◌∙◌, ap, subst, length, arith}
+use Rattle.std.proofs.Common.{◌≡◌, ℕ, List, refl, rules, ◌∙◌, ap, subst}
 use Rattle.std.specs.Prelude.{All}
 use Rattle.apf_picture.specs.declared.life.Life.{Life}
 use Rattle.apf_picture.specs.Columns.{IsArea, IsStrip}

@@ -13,7 +13,7 @@ import xml.etree.ElementTree as ElementTree
 sys.path.insert(0, os.path.join(os.path.dirname(os.path.abspath(__file__)), "lib"))
 from harness import TOP, Files, Tally, build, run
 from judge import Refused, config_of
-from colours import EYES, least_beside, least_distance, least_lightness
+from colours import EYES, contrast, least_beside, least_distance, least_lightness
 from picture import COLUMNS, Picture, width
 from simulation import Run, answer, flows_of
 from trace import trace_of
@@ -101,19 +101,25 @@ def judged(name, text, made):
     tally.check(f"{name}: a title and a description", [root.find(f"{SVG}{it}").get("id") for it in ("title", "desc")], ["title", "desc"])
     title, words = (root.find(f"{SVG}{it}").text for it in ("title", "desc"))
     flows = flows_of(made.trace)
-    found = re.fullmatch(r"(\d+) requests? of (\d+) flows?( of .*)? on (\d+) seats?", title, re.DOTALL)
+    found = re.fullmatch(r"(\d+) requests? of (\d+) flows?( of .*)? on (\d+) seats?(?:, names begin with .*)?", title, re.DOTALL)
     tally.check(f"{name}: the title's numbers", [int(it) for it in found.group(1, 2, 4)], [len(made.trace), len(flows), made.config["limit"]])
     schemas = {(made.trace[members[0]]["names"] or [None])[0] for members in flows.values()}
     tally.check(f"{name}: the schema stands in the title if all flows share it", found[3] is not None, len(schemas) == 1 and None not in schemas)
     settings = [it.text for it in root.iter(f"{SVG}text") if it.get("class") == "note"][1]
-    tally.check(f"{name}: the settings", [int(it) for it in re.findall(r"\d+", settings)][:4], settings_of(made))
+    tally.check(f"{name}: the settings", [int(it) for it in re.findall(r"\d+", settings.split(", patience ")[0])], settings_of(made))
+    tally.check(f"{name}: the patience", patience_in(settings), made.patience)
     tally.check(f"{name}: the settings in the description", f"The level: {settings}. " in words, True)
     tally.check(f"{name}: the description's numbers", [int(it) for it in re.findall(r"(\d+) (?:executed|rejected|gave up)", words)][:3], counts)
+    tally.check(f"{name}: who gave up has a number", " gave up after at most " in words.split(". ")[0], counts[2] > 0)
     others = [it for it in root.iter() if it.tag.split("}")[1] in ("script", "image", "use", "a", "foreignObject")]
     tally.check(f"{name}: nothing but its own", (others, re.findall(r"href|url\(|@import|https?://(?!www\.w3\.org/2000/svg\")", text)), ([], []))
     # the rows, those first that waited longest
     labels = [it for it in root.iter(f"{SVG}text") if it.get("x") == "16"]
-    tally.check(f"{name}: no label is too wide", [it.text for it in labels if width(it.text) > 38], [])
+    tally.check(f"{name}: no label is too wide", [it.text for it in labels if width(it.text) > 42], [])
+    titles = [it.find(f"{SVG}title") for it in root.iter(f"{SVG}g") if it.find(f"{SVG}text[@x='16']") is not None]
+    tally.check(f"{name}: each row has a title, and the description all of them", [it.text for it in titles if f" {it.text}, " not in words], [])
+    called = [(it.text, label.text) for it, label in zip(titles, labels)]
+    tally.check(f"{name}: rows of two names are called by two", [1 for one, two in itertools.combinations(called, 2) if one[0] != two[0] and one[1] == two[1]], [])
     waited = sorted((sum(map(made.wait, members)) for members in flows.values()), reverse=True)
     rows = {re.sub(r"[^0-9a-f]", "", it.text): it for it in labels}
     own = [sum(map(made.wait, flows[int(it, 16)])) for it in rows if len(it) == 16 and int(it, 16) in flows]
@@ -141,19 +147,37 @@ def judged(name, text, made):
     tally.check(f"{name}: the numbers beside the seats", sorted(it for _, it in beside), sorted([0, limit] + [most] * (most > limit)))
     tally.check(f"{name}: a peak has a tick", len(of_class(group, "peak")), int(most > limit))
     tally.check(f"{name}: numbers have room", [1 for (one, _), (other, _) in itertools.combinations(beside, 2) if abs(one - other) < 11], [])
-    # the queues
-    queues = {queue for kind, _, queue in made.level.log if kind == "enter"}
-    found = re.search(r"Queues used: (\d+), at most (\d+) waiting in one\.", words)
-    tally.check(f"{name}: the queues, and the most over time", [int(it) for it in found.groups()], [len(queues), most_waiting(made)])
-    beside = numbers_beside(part(root, "Queues"))
-    numbers = [it for _, it in beside]
-    tally.check(f"{name}: numbers of queues", (set(numbers) <= queues, numbers), (True, sorted(numbers)))
-    tally.check(f"{name}: no more numbers than have room", [1 for (one, _), (other, _) in zip(beside, beside[1:]) if other - one < 11], [])
     # the axis, above and below
     marks = len(re.findall("M", of_class(root, "line")[0].get("d")))
     times = [[(it.get("x"), it.text) for it in group] for group in root.iter(f"{SVG}g") if group.get("text-anchor") == "middle"]
     tally.check(f"{name}: marks of the axis", (2 <= marks <= 11 or made.end() == 0, len(times), times[0] == times[1], len(times[0])), (True, 2, True, marks))
     tally.check(f"{name}: no colour of eight digits", re.findall(r"#[0-9a-f]{8}", text), [])
+    # the queues
+    queues = {queue for kind, _, queue in made.level.log if kind == "enter"}
+    found = re.search(r"Queues used: (\d+), at most (\d+) waiting in one\.", words)
+    tally.check(f"{name}: the queues, and the most over time", [int(it) for it in found.groups()], [len(queues), most_waiting(made)])
+    shown = [it for it in root.iter(f"{SVG}text") if it.get("class") == "part" and it.text.startswith("Queues")]
+    tally.check(f"{name}: a level that rejects has no part of queues", len(shown), int(made.config["limitResponse"] != "Reject"))
+    if not shown:
+        return
+    tally.check(f"{name}: the scale of shades", scale_of(root), [0.12 * shade for shade in range(1, 9)])
+    beside = numbers_beside(part(root, "Queues"))
+    numbers = [it for _, it in beside]
+    tally.check(f"{name}: numbers of queues", (set(numbers) <= queues, numbers), (True, sorted(numbers)))
+    tally.check(f"{name}: no more numbers than have room", [1 for (one, _), (other, _) in zip(beside, beside[1:]) if other - one < 11], [])
+
+
+def patience_in(settings):
+    """The patience of the settings, in microseconds."""
+    number, unit = re.fullmatch(r".*, patience (\d+)(?: (s|ms|\xb5s)|: nobody gives up)", settings).groups()
+    return int(number) * {"s": 1_000_000, "ms": 1000}.get(unit, 1)
+
+
+def scale_of(root):
+    """The shades of the scale, from left to right."""
+    shades = [it for it in part(root, "Queues").findall(f"{SVG}path") if it.get("class") == "shade"]
+    tally.check("a shade of the scale begins where the one before ends", [int(re.match(r"M(\d+) ", it.get("d"))[1]) for it in shades], [763 + 11 * it for it in range(8)])
+    return [float(it.get("stroke-opacity")) for it in shades]
 
 
 def settings_of(made):
@@ -169,6 +193,8 @@ def check_colours():
     for page, text in zip(("light", "dark"), style.split("@media(prefers-color-scheme:dark)")):
         colours = re.findall(r"\.f\d+\{fill:(#[0-9a-f]{6})\}", text)
         tally.check(f"the colours of a {page} page", len(colours), 13)
+        if page == "light":
+            tally.check("each colour has a contrast of 3 to a white page", [it for it in colours if contrast(it, "#ffffff") < 3], [])
         least = least_lightness(colours), least_beside(colours), least_lightness(colours[:4])
         tally.check(f"the lightness on a {page} page: {least}", [it >= bound for it, bound in zip(least, (4, 17, 13))], [True] * 3)
         for eye in EYES:
@@ -237,7 +263,8 @@ BY_HAND = [
         90,
         {
             '<title id="title">9 requests of 2 flows on 2 seats</title>': 1,
-            ">5 executed, 2 rejected, 2 gave up, longest wait 90 &#181;s, 420 &#181;s in all": 2,
+            ">5 executed, 2 rejected, 2 gave up after at most 90 &#181;s, longest wait 60 &#181;s, 420 &#181;s in all": 2,
+            ">6 requests: 2 executed, 2 rejected, 2 gave up after at most 90 &#181;s, longest wait 0 &#181;s<": 1,
             "limit 2, queues 2, hand size 1, queue length limit 2, patience 90 &#181;s": 2,
             "s. Seats in use by flow: at most 2. Queues used: 2, at most 2 waiting in one. 0000000000000009, ": 1,
             "0000000000000004, 3 requests: 3 executed, 0 rejected, 0 gave up, longest wait 60 &#181;s.</desc>": 1,
@@ -293,6 +320,69 @@ BY_HAND = [
             'y="14">&quot;&quot; <tspan': 1,
         },
     ),
+    # what all names share is left out up to its last separator: it stands in the title, and in a line of its own
+    (
+        "names that begin alike",
+        ROOM,
+        named(("s", LONG), ("s", "system:serviceaccount:kube-system:default"), ("s", "system:serviceaccount:kube-node-lease:default")),
+        0,
+        {
+            " on 100 seats, names begin with system:serviceaccount:kube-</title>": 1,
+            ' y="79">names begin with system:serviceaccount:kube-</text>': 1,
+            'y="14">system:generic-garbage-collector <tspan': 1,
+            'y="14">system:default <tspan': 1,
+            'y="14">node-lease:default <tspan': 1,
+            f"<title>{LONG}</title>": 1,
+        },
+    ),
+    # nothing is left out if there is room for each name, or if one name shares nothing
+    (
+        "names that begin alike and are short",
+        ROOM,
+        named(("s", "system:node:a"), ("s", "system:node:b")),
+        0,
+        {'y="14">system:node:a <tspan': 1, "names begin": 0},
+    ),
+    # names are cut where they differ
+    (
+        "names that differ in their middle",
+        ROOM,
+        named(("s", 20 * "a" + "1" + 20 * "b"), ("s", 20 * "a" + "2" + 20 * "b")),
+        0,
+        {f'y="14">{20 * "a"}1&#8230;{13 * "b"} <tspan': 1, f'y="14">{20 * "a"}2&#8230;{13 * "b"} <tspan': 1, "names begin": 0},
+    ),
+    # if no place shows where two names differ, the rows have numbers
+    (
+        "names that look alike",
+        ROOM,
+        named(("s", 50 * "a" + "1" + 50 * "b"), ("s", 50 * "a" + "2" + 50 * "b"), ("s", "c")),
+        0,
+        {f'y="14">1: {17 * "a"}&#8230;{17 * "b"} <tspan': 1, f'y="14">2: {17 * "a"}&#8230;{17 * "b"} <tspan': 1, 'y="14">3: c <tspan': 1},
+    ),
+    # two control characters are drawn with one mark
+    (
+        "names of control characters",
+        ROOM,
+        named(("s", 18 * "\1"), ("s", 18 * "\2"), ("s", 19 * "\x7f")),
+        0,
+        {f'y="14">1: {18 * "&#65533;"} <tspan': 1, f'y="14">2: {18 * "&#65533;"} <tspan': 1, f'y="14">3: {8 * chr(127)}&#8230;{8 * chr(127)} <tspan': 1},
+    ),
+    # a level without queues has no part of them
+    (
+        "a level that rejects",
+        b'{"limit":1,"limitResponse":"Reject"}',
+        hashed(*[(9, 0, 100, 1)] * 2),
+        90,
+        {
+            "limit 1, no queues: what does not fit is rejected, patience 90 &#181;s<": 1,
+            "limit 1, no queues: what does not fit is rejected, patience 90 &#181;s. Seats": 1,
+            ">Queues <tspan": 0,
+            '<g transform="translate(48 298)">': 1,
+        },
+    ),
+    # the times of the axis have the units of the length of the run
+    ("an axis in tenths", ROOM, hashed((1, 0, 1_500_000, 1)), 0, {", 1.5 s in all<": 1, ">0.0 s<": 2, ">0.2 s<": 2, ">1.4 s<": 2}),
+    ("an axis in minutes and seconds", ROOM, hashed((1, 0, 90_000_000, 1)), 0, {", 1 min 30 s in all<": 1, ">0 min 0 s<": 2, ">1 min 10 s<": 2}),
     # wide letters take two columns
     (
         "names of wide letters",

@@ -31,6 +31,12 @@ def lightness(colour):
     return lab(*linear(colour))[0]
 
 
+def contrast(one, other):
+    """How many times as bright the one is as the other, as readers of pages count it: from 1 to 21."""
+    bright, dark = sorted((sum(a * b for a, b in zip((0.2126, 0.7152, 0.0722), linear(it))) + 0.05 for it in (one, other)), reverse=True)
+    return bright / dark
+
+
 def seen(colour, eye):
     light = linear(colour)
     return lab(*(sum(a * b for a, b in zip(row, light)) for row in EYES[eye]))

@@ -1,5 +1,9 @@
 """What `picture` prints: an independent computation of the whole SVG, slow on purpose."""
 
+import html
+import itertools
+import os
+
 from simulation import flows_of
 
 # the width of the plots: this many columns, of one pixel each
@@ -9,9 +13,10 @@ OWN_ROWS = 12
 SHADES = 8
 # the parts begin at these heights, and the seats' part is so high, of which the limit or the most seats take so much
 SEATS, QUEUES, HIGH, FULL = 124, 310, 140, 130
-# this many columns of letters are shown of a name: of one alone, of a schema and of a distinguisher beside it, of a schema in the title
-ALONE, SCHEMA, DISTINGUISHER, TITLE = 36, 14, 20, 28
-LIGHT = "#b1551e #421871 #05a1b4 #91186c #fd8975 #6448a6 #8579de #6c2100 #a6a22f #096d8c #baabfc #8b072e #7b7b7b".split()
+# this many columns of letters are shown of a name: of one alone, of a schema and of a distinguisher beside it, of a schema in the
+# title, and of what all names begin with
+ALONE, SCHEMA, DISTINGUISHER, TITLE, BEGINNING = 36, 14, 20, 28, 96
+LIGHT = "#b55821 #461c75 #0ca3b6 #951d70 #420936 #456539 #00128f #3267b2 #791909 #ab69ee #623d45 #171c08 #7d7d7d".split()
 DARK = "#fd8867 #7c4dab #e3ce5d #0492a9 #d6e9fd #a07fe4 #f7a3ff #b0541d #8df097 #b89a2c #fdf2e4 #d14c54 #b5b5b5".split()
 STYLE = [
     'text{font:12px system-ui,-apple-system,"Segoe UI",sans-serif;fill:#1f2328}',
@@ -64,6 +69,19 @@ def time_words(time):
     return f"{time // 100 / 10:.1f} ms" if time >= 1000 else f"{time} &#181;s"
 
 
+def mark_words(end, step, time):
+    """A mark of an axis whose marks are a step apart, in the units of the time of the end: with a second one, or a digit after the point, if the step
+    is no whole number of the first."""
+    at = next((at for at, (_, length) in enumerate(UNITS) if length <= end), len(UNITS) - 1)
+    unit, length = UNITS[at]
+    if step % length == 0:
+        return f"{time // length} {unit}"
+    if length < 60_000_000:
+        return f"{time // length}.{time % length * 10 // length} {unit}"
+    smaller, part = UNITS[at + 1]
+    return f"{time // length} {unit} {time % length // part} {smaller}"
+
+
 def escaped(text):
     """As XML has it, with a mark where XML does not allow a character."""
     marks = {"&": "&amp;", "<": "&lt;", ">": "&gt;", '"': "&quot;", "\ufffe": "&#65533;", "\uffff": "&#65533;"}
@@ -71,8 +89,8 @@ def escaped(text):
 
 
 def columns(letter):
-    """How many columns a letter takes: the wide ones two."""
-    return 2 if letter in "%@MWmw" or letter >= "\x80" else 1
+    """How many columns a letter takes: the wide ones two, and control characters, too."""
+    return 2 if letter in "%@MWmw" or not " " <= letter <= "~" else 1
 
 
 def width(name):
@@ -88,12 +106,13 @@ def whole_name(name):
     return escaped(name) if name else "&quot;&quot;"
 
 
-def name_words(name, most):
-    """A name, of a long one its beginning and its end."""
+def name_words(name, most, place=None):
+    """A name, of a long one its beginning and its end: this many columns of the one, half of them if no number is given, and as many of the other as
+    are left beside an ellipsis."""
     if width(name) <= most:
         return whole_name(name)
-    room = most // 2 - 1
-    return f"{escaped(front(name, room))}&#8230;{escaped(front(name[::-1], room)[::-1])}"
+    place = most // 2 - 1 if place is None else place
+    return f"{escaped(front(name, place))}&#8230;{escaped(front(name[::-1], most - 2 - place)[::-1])}"
 
 
 def scaled(value, whole, size):
@@ -101,19 +120,47 @@ def scaled(value, whole, size):
 
 
 class Row:
-    """The requests of one row, its label, and the whole of its names."""
+    """The requests of one row, the names of its flow if they are known, and what the row is called: in full, and in the picture."""
 
-    def __init__(self, label, whole, members):
-        self.label, self.whole, self.members = label, whole, members
+    def __init__(self, members, whole, names=None):
+        self.members, self.whole, self.names, self.label = members, whole, names, whole
 
 
-def labels_of(flow, names, shared):
-    """What a flow's row is called, and the whole of it. The schema that all flows share is left out."""
+def whole_label(flow, names, shared):
+    """What a flow is called. The schema that all flows share is left out."""
     if not names:
-        return (f"{flow:016x}",) * 2
-    if shared is not None:
-        return name_words(names[1], ALONE), whole_name(names[1])
-    return f"{name_words(names[0], SCHEMA)} / {name_words(names[1], DISTINGUISHER)}", " / ".join(map(whole_name, names))
+        return f"{flow:016x}"
+    return whole_name(names[1]) if shared is not None else " / ".join(map(whole_name, names))
+
+
+def shared_beginning(rows, most):
+    """What all names have at their beginning: up to a separator, and nothing if there is room for each, if there is one row, or if one has no name."""
+    names = [row.names and row.names[1] for row in rows[:OWN_ROWS]]
+    if len(names) < 2 or None in names or all(width(name) <= most for name in names):
+        return ""
+    common = os.path.commonprefix(names)
+    return common[: max((at + 1 for at, letter in enumerate(common) if letter in ":/.-_"), default=0)]
+
+
+def label_rows(rows, shared):
+    """Cuts the names of the rows where the fewest pairs of rows look the same: in the middle, or else at the next place behind it, or else at the
+    first place. If two still look the same, the number of its row stands before each name. What all names begin with is left out, and returned."""
+    most = DISTINGUISHER if shared is None else ALONE
+    beginning = shared_beginning(rows, most)
+    named = {number: row for number, row in enumerate(rows) if row.names}
+
+    def labels(place):
+        own = {it: name_words(row.names[1][len(beginning) :], most, place) for it, row in named.items()}
+        return own if shared is not None else {it: f"{name_words(named[it].names[0], SCHEMA)} / {label}" for it, label in own.items()}
+
+    def alike(place):
+        return sum(one == other for one, other in itertools.combinations(map(html.unescape, labels(place).values()), 2))
+
+    middle = most // 2 - 1
+    place = min([*range(middle, most - 1), *range(middle)], key=alike)
+    for number, label in labels(place).items():
+        rows[number].label = f"{number + 1}: {label}" if alike(place) else label
+    return beginning
 
 
 def shared_schema(trace):
@@ -124,16 +171,16 @@ def shared_schema(trace):
 
 def rows_of(run):
     """Those flows that waited longest in sum, of those with equal sums the ones with most requests, and of these the earlier one first; and one row of
-    the others."""
+    the others. And what all names begin with, if that is left out of each."""
     trace, flows = run.trace, flows_of(run.trace)
     shared = shared_schema(trace)
     ranked = sorted(flows, key=lambda it: (-sum(map(run.wait, flows[it])), -len(flows[it])))
-    rows = [Row(*labels_of(flow, trace[flows[flow][0]]["names"], shared), flows[flow]) for flow in ranked[:OWN_ROWS]]
+    names = {flow: trace[flows[flow][0]]["names"] for flow in ranked}
+    rows = [Row(flows[flow], whole_label(flow, names[flow], shared), names[flow]) for flow in ranked[:OWN_ROWS]]
     others = ranked[OWN_ROWS:]
     if others:
-        label = counted(len(others), "other flow")
-        rows.append(Row(label, label, sorted(it for flow in others for it in flows[flow])))
-    return rows
+        rows.append(Row(sorted(it for flow in others for it in flows[flow]), counted(len(others), "other flow")))
+    return rows, label_rows(rows, shared)
 
 
 def patience_words(patience):
@@ -150,7 +197,7 @@ class Picture:
     def __init__(self, run):
         self.run, self.end, self.config, self.patience, self.trace = run, run.end(), run.config, run.patience, run.trace
         self.limit = run.config["limit"]
-        self.rows = rows_of(run)
+        self.rows, self.beginning = rows_of(run)
         self.shared = shared_schema(run.trace)
         self.flows = len(flows_of(run.trace))
         self.entered = {request: queue for kind, request, queue in run.level.log if kind == "enter"}
@@ -191,8 +238,11 @@ class Picture:
     # in words
 
     def numbers(self, members):
-        each = [f"{sum(self.ending(it) == ending for it in members)} {ending}" for ending in ("executed", "rejected", "gave up")]
-        return f"{', '.join(each)}, longest wait {time_words(max(map(self.run.wait, members), default=0))}"
+        """How many ended how; the longest wait of who gave up, if somebody did, and of who executed."""
+        ended = {ending: [it for it in members if self.ending(it) == ending] for ending in ("executed", "rejected", "gave up")}
+        longest = {ending: time_words(max(map(self.run.wait, those), default=0)) for ending, those in ended.items()}
+        after = f" after at most {longest['gave up']}" if ended["gave up"] else ""
+        return f"{', '.join(f'{len(those)} {ending}' for ending, those in ended.items())}{after}, longest wait {longest['executed']}"
 
     def row_numbers(self, row):
         return f"{counted(len(row.members), 'request')}: {self.numbers(row.members)}"
@@ -206,7 +256,7 @@ class Picture:
 
     def settings(self):
         if self.config["limitResponse"] == "Reject":
-            return f"limit {self.limit}, no queues: what does not fit is rejected"
+            return f"limit {self.limit}, no queues: what does not fit is rejected, {patience_words(self.patience)}"
         sizes = self.config["queues"], self.config["handSize"], self.config["queueLengthLimit"]
         return "limit {}, queues {}, hand size {}, queue length limit {}, {}".format(self.limit, *sizes, patience_words(self.patience))
 
@@ -220,16 +270,16 @@ class Picture:
     # the parts
 
     def axis(self, depth):
-        unit, length = next((it for it in UNITS if it[1] * 4 <= self.end), UNITS[-1])
+        length = next((it for _, it in UNITS if it * 4 <= self.end), 1)
         step = next(it * length for it in (part * 10**power for power in range(20) for part in (1, 2, 5)) if it * length * 10 >= self.end)
-        marks = [(scaled(time, self.end, COLUMNS), time // length) for time in range(0, self.end + 1, step)]
+        marks = [(scaled(time, self.end, COLUMNS), mark_words(self.end, step, time)) for time in range(0, self.end + 1, step)]
         yield f'<g transform="translate(48 {SEATS})">'
         yield f'<path class="line" d="{"".join(f"M{x} 0v{depth}" for x, _ in marks)}"/>'
         yield "</g>"
         for y in (SEATS - 6, SEATS + depth + 14):
             yield f'<g transform="translate(48 {y})" text-anchor="middle">'
-            for x, value in marks:
-                yield f'<text class="small" x="{x}">{value} {unit}</text>'
+            for x, words in marks:
+                yield f'<text class="small" x="{x}">{words}</text>'
             yield "</g>"
 
     def seats_part(self):
@@ -272,10 +322,16 @@ class Picture:
     def queues_part(self):
         count = len(self.queues)
         yield f'<g transform="translate(48 {QUEUES})">'
+        yield '<rect class="page" y="-28" width="880" height="28"/>'
         yield (
             f'<text class="part" y="-12">Queues <tspan class="note">{counted(count, "queue")} used, a stronger shade is a longer queue,'
             f" at most {self.longest} waiting in one</tspan></text>"
         )
+        yield '<text class="small" x="748" y="-13" text-anchor="end">0</text>'
+        yield '<rect class="plot" x="752" y="-22" width="99" height="10"/>'
+        for shade in range(1, SHADES + 1):
+            yield f'<path class="shade" stroke-opacity=".{12 * shade}" d="M{752 + 11 * shade} -17h11"/>'
+        yield f'<text class="small" x="855" y="-13">{self.longest}</text>'
         yield f'<svg width="880" height="{self.high()}" viewBox="0 0 880 {10 * count}" preserveAspectRatio="none">'
         yield f'<rect class="plot" width="880" height="{10 * count}"/>'
         for shade in range(1, SHADES + 1):
@@ -303,6 +359,8 @@ class Picture:
         rejected = [f"M{self.x(self.begins(it))} 0v8" for it in row.members if self.ending(it) == "rejected"]
         given_up = [f"M{self.x(self.until(it))} 0l3 7h-6z" for it in row.members if self.ending(it) == "gave up"]
         yield f'<g transform="translate(48 {y})">'
+        yield f"<title>{row.whole}</title>"
+        yield '<rect class="page" width="880" height="20"/>'
         yield f'<rect class="f{number}" y="5" width="10" height="10" rx="2"/>'
         yield f'<text x="16" y="14">{row.label} <tspan class="note">{self.row_numbers(row)}</tspan></text>'
         yield f'<rect class="plot" y="20" width="880" height="{tall + 12}"/>'
@@ -315,11 +373,17 @@ class Picture:
         yield "</g>"
         yield "</g>"
 
+    def below(self):
+        """Where the part of the requests begins. A level that rejects has no part of queues."""
+        return SEATS + HIGH if self.config["limitResponse"] == "Reject" else QUEUES + self.high()
+
     def requests_part(self):
-        y = QUEUES + self.high() + 34
+        y = self.below() + 34
         yield f'<g transform="translate(48 {y})">'
+        yield '<rect class="page" y="-16" width="880" height="28"/>'
         yield (
-            '<text class="part">Requests by flow <tspan class="note">a bar is a wait, from arrival to seats</tspan></text>'
+            '<text class="part">Requests by flow <tspan class="note">a bar is one request\'s wait, until it has its seats or gives up;'
+            " a higher row has more requests</tspan></text>"
         )
         yield '<path class="rejected" d="M744 -9v10"/>'
         yield '<text class="note" x="752">rejected</text>'
@@ -332,22 +396,26 @@ class Picture:
             y += self.tall(row) + 42
 
     def lines(self):
-        bottom = QUEUES + self.high() + 44 + sum(self.tall(row) + 42 for row in self.rows)
+        bottom = self.below() + 44 + sum(self.tall(row) + 42 for row in self.rows)
         height = bottom + 28
         yield (
             f'<svg xmlns="http://www.w3.org/2000/svg" width="960" height="{height}" viewBox="0 0 960 {height}"'
             ' role="img" aria-labelledby="title desc">'
         )
-        yield f'<title id="title">{self.title()}</title>'
+        begin = f"names begin with {name_words(self.beginning, BEGINNING)}" if self.beginning else ""
+        yield f'<title id="title">{self.title()}{begin and ", "}{begin}</title>'
         yield f'<desc id="desc">{self.description()}</desc>'
         yield from ["<style>", *STYLE, "</style>"]
         yield f'<rect class="page" width="960" height="{height}"/>'
-        yield f'<text class="head" x="48" y="32">{self.title()}</text>'
-        yield f'<text class="note" x="48" y="54">{self.whole()}</text>'
-        yield f'<text class="note" x="48" y="72">{self.settings()}</text>'
+        yield f'<text class="head" x="48" y="28">{self.title()}</text>'
+        yield f'<text class="note" x="48" y="47">{self.whole()}</text>'
+        yield f'<text class="note" x="48" y="63">{self.settings()}</text>'
+        if begin:
+            yield f'<text class="note" x="48" y="79">{begin}</text>'
         yield from self.axis(bottom - SEATS)
         yield from self.seats_part()
-        yield from self.queues_part()
+        if self.config["limitResponse"] != "Reject":
+            yield from self.queues_part()
         yield from self.requests_part()
         yield "</svg>"
 

@@ -1,6 +1,6 @@
 -- The most of spans is that at the beginning of one of them.
 use Rattle.std.proofs.Common.{◌≡◌, ℕ, suc, ◌+◌, ◌<◌, ◌≤◌, max, List, [], ◌∷◌, length, get_or, drop, drop-cons, Bool, true, false, cond, ◌⊎◌, inl, inr, refl, sym, ◌∙◌, ap, subst, arith, le_refl, le_of_eq}
-use Rattle.std.specs.Prelude.{map, ◌&&◌, nat_le, nat_lt, sum_by}
+use Rattle.std.specs.Prelude.{map, ◌&&◌, nat_le, nat_lt}
 use Rattle.std.proofs.lemmas.Bool.{cases_lt, and_parts, and_from, leb-true, ltb-true, le-leb, lt-ltb, cond-true}
 use Rattle.std.proofs.lemmas.List.Sums.{sum_by-cons}
 use Rattle.apf_picture.specs.declared.life.Life.{Life}

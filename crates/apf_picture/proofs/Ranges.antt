@@ -8,6 +8,7 @@ use Rattle.std.proofs.lemmas.List.FromFn.{length-range_with_len, length-map-rang
 use Rattle.std.specs.Prelude.{sum_by}
 use Rattle.apf_picture.specs.Ranks.{place_of, rows_of}
 use Rattle.apf_picture.specs.declared.life.Life.{Life}
+use Rattle.apf_picture.specs.declared.cutting.Cutting.{Cutting}
 use Rattle.apf_picture.specs.declared.row.Row.{Row}
 use Rattle.apf_picture.specs.Labels.{Called}
 use Rattle.apf_picture.specs.Rows.{AreRows, IsOneMore, IsRow, number_in, label_in}
@@ -65,19 +66,19 @@ rows_more lives label n m called rows new e k h more =
     }))
 
 -- the texts of rows, and that of one row more
-pub rows_text_more : (rows : List Row) (row : Row) (y end : ℕ) → all_rows (rows ++ row ∷ []) y end ≡ all_rows rows y end ++ row_text row (y + sum_by height_of rows) end
-rows_text_more [] row y end =
+pub rows_text_more : (rows : List Row) (row : Row) (cutting : Cutting) (y end : ℕ) → all_rows (rows ++ row ∷ []) cutting y end ≡ all_rows rows cutting y end ++ row_text row cutting (y + sum_by height_of rows) end
+rows_text_more [] row cutting y end =
     let here : y ≡ y + 0 = omega arith in
-    append-nil (row_text row y end) ∙ ap (λ (at : ℕ). row_text row at end) here
-rows_text_more (first ∷ rows) row y end =
+    append-nil (row_text row cutting y end) ∙ ap (λ (at : ℕ). row_text row cutting at end) here
+rows_text_more (first ∷ rows) row cutting y end =
     let high : y + height_of first + sum_by height_of rows ≡ y + sum_by height_of (first ∷ rows) = omega (arith, sum_by-cons height_of first rows) in
-    ap (λ (t : List ℕ). row_text first y end ++ t) (rows_text_more rows row (y + height_of first) end ∙ ap (λ (at : ℕ). all_rows rows (y + height_of first) end ++ row_text row at end) high)
-    ∙ sym (append_assoc (row_text first y end) (all_rows rows (y + height_of first) end) (row_text row (y + sum_by height_of (first ∷ rows)) end))
+    ap (λ (t : List ℕ). row_text first cutting y end ++ t) (rows_text_more rows row cutting (y + height_of first) end ∙ ap (λ (at : ℕ). all_rows rows cutting (y + height_of first) end ++ row_text row cutting at end) high)
+    ∙ sym (append_assoc (row_text first cutting y end) (all_rows rows cutting (y + height_of first) end) (row_text row cutting (y + sum_by height_of (first ∷ rows)) end))
 
-pub rows_taken : (rows : List Row) (i : ℕ) (row : Row) (y end : ℕ) → i < length rows → row ≡ get_or rows i row
-    → all_rows (take (i + 1) rows) y end ≡ all_rows (take i rows) y end ++ row_text row (y + sum_by height_of (take i rows)) end
-rows_taken rows i row y end within is =
-    ap (λ (rs : List Row). all_rows rs y end) (take_more rows i row within ∙ ap (λ (r : Row). take i rows ++ r ∷ []) (sym is)) ∙ rows_text_more (take i rows) row y end
+pub rows_taken : (rows : List Row) (i : ℕ) (row : Row) (cutting : Cutting) (y end : ℕ) → i < length rows → row ≡ get_or rows i row
+    → all_rows (take (i + 1) rows) cutting y end ≡ all_rows (take i rows) cutting y end ++ row_text row cutting (y + sum_by height_of (take i rows)) end
+rows_taken rows i row cutting y end within is =
+    ap (λ (rs : List Row). all_rows rs cutting y end) (take_more rows i row within ∙ ap (λ (r : Row). take i rows ++ r ∷ []) (sym is)) ∙ rows_text_more (take i rows) row cutting y end
 
 -- the numbers from the last one down, and one number less
 pub down_more : (ns ms : List ℕ) (left m : ℕ) → left ≡ m + 1 → ns ++ reverse (range_with_len 0 left) ≡ ms → (ns ++ m ∷ []) ++ reverse (range_with_len 0 m) ≡ ms

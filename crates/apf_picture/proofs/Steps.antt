@@ -1,5 +1,5 @@
 -- Round numbers, and which of them are enough.
-use Rattle.std.proofs.Common.{◌≡◌, ℕ, zero, suc, ◌+◌, ◌*◌, ◌<◌, ◌≤◌, ◌^◌, ◌⊎◌, inl, inr, refl, sym, ◌∙◌, ap, subst, arith, mul_assoc, mul_comm, pow-suc, one-mul, not-suc-le-zero}
+use Rattle.std.proofs.Common.{◌≡◌, ℕ, zero, suc, ◌*◌, ◌<◌, ◌≤◌, ◌^◌, ◌⊎◌, inl, inr, sym, ◌∙◌, ap, subst, arith, mul_assoc, mul_comm, pow-suc, one-mul, not-suc-le-zero}
 use Rattle.std.proofs.lemmas.Bool.{cases_order, cases_lt, cases_eq}
 use Rattle.apf_picture.specs.Scales.{IsRound, IsStep}
 

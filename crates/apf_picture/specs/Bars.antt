@@ -1,14 +1,15 @@
 -- The texts of the rows.
-use Rattle.std.specs.Prelude.{ℕ, ◌+◌, ◌-◌, ◌*◌, ◌/◌, ◌%◌, List, [], ◌∷◌, ◌++◌, Bool, true, false, not, ◌&&◌, ◌||◌, ◌==◌, nat_lt, if◌then◌else◌, min, max, length, map, take, drop, take_while, sum_by, slice_index, slice_get, Option, Some, None, codes, decimal}
+use Rattle.std.specs.Prelude.{ℕ, ◌+◌, ◌-◌, ◌*◌, ◌/◌, List, [], ◌∷◌, ◌++◌, max, length, slice_get, Option, Some, None, codes, decimal}
 use Rattle.std.specs.List.{flat_map, range_with_len}
 use Rattle.apf_picture.specs.declared.life.Fate.{Fate}
 use Rattle.apf_picture.specs.declared.life.Fate.TheVariants.{Executed, Rejected, GaveUp}
 use Rattle.apf_picture.specs.declared.life.Life.{Life}
+use Rattle.apf_picture.specs.declared.cutting.Cutting.{Cutting}
 use Rattle.apf_picture.specs.declared.row.Row.{Row}
 use Rattle.apf_picture.specs.Scales.{scaled_of}
 use Rattle.apf_picture.specs.Rows.{lives_in}
 use Rattle.apf_picture.specs.Labels.{called}
-use Rattle.apf_picture.specs.Names.{label_text}
+use Rattle.apf_picture.specs.Names.{label_text, whole_label}
 use Rattle.apf_picture.specs.Words.{joined, row_numbers_text}
 
 -- a bar of a request: from its arrival until its wait was over, one column at least
@@ -88,26 +89,34 @@ ticks_text lives y end = ticks_head y ++ rejected_text lives end ++ codes "\"/>\
 unfoldable pub triangles_text : List Life → (end : ℕ) → List ℕ
 triangles_text lives end = given_up_text lives end ++ codes "\"/>\n</g>\n"
 
+-- where a row begins, and its title, which is its whole name
+unfoldable pub row_place : (y : ℕ) → List ℕ
+row_place y = joined (codes "<g transform=\"translate(48 " ∷ decimal y ∷ codes ")\">\n<title>" ∷ [])
+
+-- the end of the title, what covers the lines of the axis, and the colour of the row
+unfoldable pub colour_text : (number : ℕ) → List ℕ
+colour_text number =
+    joined (codes "</title>\n<rect class=\"page\" width=\"880\" height=\"20\"/>\n<rect class=\"f" ∷ decimal number ∷ codes "\" y=\"5\" width=\"10\" height=\"10\" rx=\"2\"/>\n<text x=\"16\" y=\"14\">" ∷ [])
+
 unfoldable pub row_head : Row → (y : ℕ) → List ℕ
-row_head row y =
-    joined (codes "<g transform=\"translate(48 " ∷ decimal y ∷ codes ")\">\n<rect class=\"f" ∷ decimal row.number ∷ codes "\" y=\"5\" width=\"10\" height=\"10\" rx=\"2\"/>\n<text x=\"16\" y=\"14\">" ∷ [])
+row_head row y = row_place y ++ whole_label (called row.label) ++ colour_text row.number
 
 -- what a row is called, and its numbers
-unfoldable pub row_words : Row → List ℕ
-row_words row = label_text (called row.label) ++ codes " <tspan class=\"note\">" ++ row_numbers_text row.numbers ++ codes "</tspan></text>\n"
+unfoldable pub row_words : Row → Cutting → List ℕ
+row_words row cutting = label_text cutting row.number (called row.label) ++ codes " <tspan class=\"note\">" ++ row_numbers_text row.numbers ++ codes "</tspan></text>\n"
 
 -- its bars and its ticks
 unfoldable pub row_drawing : Row → (end : ℕ) → List ℕ
 row_drawing row end = plot_text row end ++ ticks_text (lives_in row) (row.tall + 22) end ++ triangles_text (lives_in row) end
 
 -- a row that begins at a height
-unfoldable pub row_text : Row → (y end : ℕ) → List ℕ
-row_text row y end = row_head row y ++ row_words row ++ row_drawing row end ++ codes "</g>\n"
+unfoldable pub row_text : Row → Cutting → (y end : ℕ) → List ℕ
+row_text row cutting y end = row_head row y ++ row_words row cutting ++ row_drawing row end ++ codes "</g>\n"
 
 -- the rows, one below another
-abbrev pub all_rows : List Row → (y end : ℕ) → List ℕ
-all_rows [] y end = []
-all_rows (row ∷ rows) y end = row_text row y end ++ all_rows rows (y + height_of row) end
+abbrev pub all_rows : List Row → Cutting → (y end : ℕ) → List ℕ
+all_rows [] cutting y end = []
+all_rows (row ∷ rows) cutting y end = row_text row cutting y end ++ all_rows rows cutting (y + height_of row) end
 
 unfoldable pub heading_place : (y : ℕ) → List ℕ
 heading_place y = joined (codes "<g transform=\"translate(48 " ∷ decimal y ∷ codes ")\">\n" ∷ [])
@@ -115,8 +124,8 @@ heading_place y = joined (codes "<g transform=\"translate(48 " ∷ decimal y ∷
 -- what stands above the rows, with the key to the ticks
 unfoldable pub rows_heading : List ℕ
 rows_heading =
-    codes "<text class=\"part\">Requests by flow <tspan class=\"note\">a bar is a wait, from arrival to seats</tspan></text>\n<path class=\"rejected\" d=\"M744 -9v10\"/>\n<text class=\"note\" x=\"752\">rejected</text>\n<path class=\"gave-up\" d=\"M822 -8l3 7h-6z\"/>\n<text class=\"note\" x=\"832\">gave up</text>\n</g>\n"
+    codes "<rect class=\"page\" y=\"-16\" width=\"880\" height=\"28\"/>\n<text class=\"part\">Requests by flow <tspan class=\"note\">a bar is one request's wait, until it has its seats or gives up; a higher row has more requests</tspan></text>\n<path class=\"rejected\" d=\"M744 -9v10\"/>\n<text class=\"note\" x=\"752\">rejected</text>\n<path class=\"gave-up\" d=\"M822 -8l3 7h-6z\"/>\n<text class=\"note\" x=\"832\">gave up</text>\n</g>\n"
 
 -- the rows and their heading, from a height on
-unfoldable pub rows_text : List Row → (y end : ℕ) → List ℕ
-rows_text rows y end = heading_place (y + 34) ++ rows_heading ++ all_rows rows (y + 44) end
+unfoldable pub rows_text : List Row → Cutting → (y end : ℕ) → List ℕ
+rows_text rows cutting y end = heading_place (y + 34) ++ rows_heading ++ all_rows rows cutting (y + 44) end

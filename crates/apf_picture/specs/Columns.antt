@@ -1,5 +1,5 @@
 -- The seats in use and the lengths of the queues, at the time of each column.
-use Rattle.std.specs.Prelude.{◌≡◌, ℕ, ◌≤◌, ◌+◌, max, List, [], ◌∷◌, Bool, false, ◌&&◌, nat_le, nat_lt, nat_eq, ◌==◌, if◌then◌else◌, map, sum_by, count_by, Option, Some, None, IsPermutation, IsSorted}
+use Rattle.std.specs.Prelude.{◌≡◌, ℕ, ◌≤◌, max, List, [], ◌∷◌, Bool, false, ◌&&◌, nat_le, nat_lt, nat_eq, ◌==◌, if◌then◌else◌, map, sum_by, count_by, Option, Some, None, IsPermutation, IsSorted}
 use Rattle.std.specs.List.{range_with_len, dedup}
 use Rattle.std.specs.Ordering.{nat_cmp}
 use Rattle.apf_picture.specs.declared.life.Life.{Life}

@@ -31,9 +31,12 @@ unfoldable pub queue_settings : Config → List ℕ
 queue_settings config =
     joined (codes "limit " ∷ decimal config.limit ∷ codes ", queues " ∷ decimal config.queues ∷ codes ", hand size " ∷ decimal config.hand_size ∷ codes ", queue length limit " ∷ decimal config.queue_length_limit ∷ codes ", " ∷ [])
 
+unfoldable pub reject_settings : (limit : ℕ) → List ℕ
+reject_settings limit = joined (codes "limit " ∷ decimal limit ∷ codes ", no queues: what does not fit is rejected, " ∷ [])
+
 abbrev pub settings_by : Response → Config → (patience : ℕ) → List ℕ
 settings_by Queue config patience = queue_settings config ++ patience_text patience
-settings_by Reject config patience = joined (codes "limit " ∷ decimal config.limit ∷ codes ", no queues: what does not fit is rejected" ∷ [])
+settings_by Reject config patience = reject_settings config.limit ++ patience_text patience
 
 abbrev pub settings_text : Config → (patience : ℕ) → List ℕ
 settings_text config patience = settings_by config.limit_response config patience
@@ -56,6 +59,21 @@ sentence row = subject row ++ row_numbers_text row.numbers ++ codes "."
 
 abbrev pub sentences : List Row → List ℕ
 sentences rows = flat_map sentence rows
+
+-- what all names begin with, if it is left out of them: behind the title, and as a line of its own
+unfoldable pub beginning_words : List ℕ → List ℕ
+beginning_words beginning = codes "names begin with " ++ name_text 96 beginning
+
+abbrev pub beginning_text : List ℕ → List ℕ
+beginning_text [] = []
+beginning_text (c ∷ cs) = codes ", " ++ beginning_words (c ∷ cs)
+
+unfoldable pub own_line : List ℕ → List ℕ
+own_line beginning = codes "<text class=\"note\" x=\"48\" y=\"79\">" ++ beginning_words beginning ++ codes "</text>\n"
+
+abbrev pub beginning_line : List ℕ → List ℕ
+beginning_line [] = []
+beginning_line (c ∷ cs) = own_line (c ∷ cs)
 
 -- the size of the picture, and what is behind all parts
 unfoldable pub size_text : (height : ℕ) → List ℕ

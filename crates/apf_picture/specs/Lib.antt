@@ -7,6 +7,7 @@ pub mod Labels
 pub mod Rows
 pub mod Words
 pub mod Names
+pub mod Cuttings
 pub mod Styles
 pub mod Heads
 pub mod Parts

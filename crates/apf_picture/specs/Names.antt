@@ -1,7 +1,8 @@
 -- Names, as XML has them. A long one is cut in its middle.
-use Rattle.std.specs.Prelude.{◌≡◌, ◌≢◌, ℕ, ◌-◌, ◌/◌, ◌⊎◌, List, [], ◌∷◌, ◌++◌, All, Bool, ◌||◌, ◌==◌, nat_le, nat_lt, if◌then◌else◌, sum_by, codes, encode_utf8}
+use Rattle.std.specs.Prelude.{◌≡◌, ◌≢◌, ℕ, ◌+◌, ◌-◌, ◌/◌, ◌⊎◌, List, [], ◌∷◌, ◌++◌, All, Bool, true, false, ◌||◌, ◌==◌, nat_le, nat_lt, if◌then◌else◌, sum_by, drop, codes, decimal, encode_utf8}
 use Rattle.std.specs.List.{flat_map}
 use Rattle.apf_flows.specs.Names.{hash_text}
+use Rattle.apf_picture.specs.declared.cutting.Cutting.{Cutting}
 use Rattle.apf_picture.specs.Labels.{Called, By_name, By_names, By_hash, By_number}
 use Rattle.apf_picture.specs.Words.{joined, counted_text}
 
@@ -18,6 +19,10 @@ character_text c =
     else (if c == 34 then codes "&quot;"
     else (if is_marked c then codes "&#65533;"
     else encode_utf8 c))))
+
+-- a character as it is drawn
+abbrev pub visible_of : ℕ → ℕ
+visible_of c = if is_marked c then 65533 else c
 
 -- a text
 abbrev pub escaped : List ℕ → List ℕ
@@ -44,9 +49,9 @@ pub record IsXmlText (text : List ℕ) : Type 0 where
   pub each : All IsPiece pieces
   pub is : joined pieces ≡ text
 
--- the wide characters: six letters, and all beyond ASCII
+-- the wide characters: six letters, the control characters, and all beyond ASCII
 abbrev pub is_wide : ℕ → Bool
-is_wide c = c == 37 || c == 64 || c == 77 || c == 87 || c == 109 || c == 119 || nat_le 128 c
+is_wide c = c == 37 || c == 64 || c == 77 || c == 87 || c == 109 || c == 119 || nat_lt c 32 || nat_le 127 c
 
 -- how many columns a character takes, and a name
 abbrev pub columns_of : ℕ → ℕ
@@ -69,20 +74,36 @@ abbrev pub whole_name : List ℕ → List ℕ
 whole_name [] = codes "&quot;&quot;"
 whole_name (c ∷ cs) = escaped (c ∷ cs)
 
--- its beginning and its end, each in so many columns, and an ellipsis between them
-unfoldable pub cut_name : (room : ℕ) → List ℕ → List ℕ
-cut_name room name = escaped (front_of room name) ++ codes "&#8230;" ++ escaped (back_of room name)
+-- its beginning and its end, each in as many columns as are given, and an ellipsis between them
+unfoldable pub cut_name : (place rest : ℕ) → List ℕ → List ℕ
+cut_name place rest name = escaped (front_of place name) ++ codes "&#8230;" ++ escaped (back_of rest name)
 
--- a name in so many columns, of which an ellipsis takes two
+-- a name in a number of columns, of which an ellipsis takes two, and stands at the place
+abbrev pub name_cut_at : (place most : ℕ) → List ℕ → List ℕ
+name_cut_at place most name = if nat_le (width_of name) most then whole_name name else cut_name place (most - 2 - place) name
+
+-- the same, cut in its middle
 abbrev pub name_text : (most : ℕ) → List ℕ → List ℕ
-name_text most name = if nat_le (width_of name) most then whole_name name else cut_name (most / 2 - 1) name
+name_text most name = name_cut_at (most / 2 - 1) most name
 
--- what a row is called, in 36 columns or 37
-abbrev pub label_text : Called → List ℕ
-label_text (By_name distinguisher) = name_text 36 distinguisher
-label_text (By_names schema distinguisher) = name_text 14 schema ++ codes " / " ++ name_text 20 distinguisher
-label_text (By_hash hash) = hash_text hash
-label_text (By_number flows) = counted_text flows (codes "other flow")
+-- the number of a row, if the rows need one
+abbrev pub number_text : Bool → (number : ℕ) → List ℕ
+number_text false number = []
+number_text true number = joined (decimal (number + 1) ∷ codes ": " ∷ [])
+
+-- a distinguisher without what is left out, and both names
+unfoldable pub distinguisher_text : Cutting → (most : ℕ) → List ℕ → List ℕ
+distinguisher_text cutting most name = name_cut_at cutting.place most (drop cutting.left_out name)
+
+unfoldable pub both_text : Cutting → List ℕ → List ℕ → List ℕ
+both_text cutting schema distinguisher = name_text 14 schema ++ codes " / " ++ distinguisher_text cutting 20 distinguisher
+
+-- what the row of this number is called
+abbrev pub label_text : Cutting → (number : ℕ) → Called → List ℕ
+label_text cutting number (By_name distinguisher) = number_text cutting.has_numbers number ++ distinguisher_text cutting 36 distinguisher
+label_text cutting number (By_names schema distinguisher) = number_text cutting.has_numbers number ++ both_text cutting schema distinguisher
+label_text cutting number (By_hash hash) = hash_text hash
+label_text cutting number (By_number flows) = counted_text flows (codes "other flow")
 
 -- the same with whole names
 abbrev pub whole_label : Called → List ℕ

@@ -1,11 +1,12 @@
 -- The texts of the axis and of the seats.
-use Rattle.std.specs.Prelude.{ℕ, ◌+◌, ◌-◌, ◌*◌, ◌/◌, ◌%◌, List, [], ◌∷◌, ◌++◌, Bool, true, false, not, ◌&&◌, ◌||◌, ◌==◌, nat_lt, if◌then◌else◌, min, max, length, map, take, drop, take_while, sum_by, slice_index, slice_get, Option, Some, None, codes, decimal}
+use Rattle.std.specs.Prelude.{ℕ, ◌+◌, ◌-◌, ◌*◌, ◌/◌, ◌%◌, List, [], ◌∷◌, ◌++◌, Bool, true, false, not, ◌||◌, ◌==◌, nat_lt, if◌then◌else◌, min, max, length, slice_index, codes, decimal}
 use Rattle.std.specs.List.{flat_map, range_with_len}
 use Rattle.apf_picture.specs.declared.scale.Unit.{Unit}
+use Rattle.apf_picture.specs.declared.scale.Unit.TheVariants.{Microseconds, Milliseconds, Seconds, Minutes, Hours, Days}
 use Rattle.apf_picture.specs.declared.columns.Area.{Area}
-use Rattle.apf_picture.specs.Scales.{scaled_of, unit_of, unit_length, unit_name}
+use Rattle.apf_picture.specs.Scales.{scaled_of, unit_by, unit_length, unit_name}
 use Rattle.apf_picture.specs.Columns.{tops_in}
-use Rattle.apf_picture.specs.Words.{joined}
+use Rattle.apf_picture.specs.Words.{joined, tenths_text, two_text}
 
 -- the axis: where a mark stands that is so many steps from the beginning
 abbrev pub mark_place : (end step mark : ℕ) → ℕ
@@ -23,19 +24,34 @@ unfoldable pub lines_text : (end step depth : ℕ) → List ℕ
 lines_text end step depth =
     codes "<g transform=\"translate(48 124)\">\n<path class=\"line\" d=\"" ++ all_lines end step depth ++ codes "\"/>\n</g>\n"
 
--- the time of a mark in units
+-- what stands before the time of a mark
 unfoldable pub mark_head : (x : ℕ) → List ℕ
 mark_head x = joined (codes "<text class=\"small\" x=\"" ∷ decimal x ∷ codes "\">" ∷ [])
 
+-- a number of units
 unfoldable pub value_text : ℕ → List ℕ → List ℕ
-value_text value name = joined (decimal value ∷ codes " " ∷ name ∷ codes "</text>\n" ∷ [])
+value_text value name = joined (decimal value ∷ codes " " ∷ name ∷ [])
+
+-- a time that is no whole number of the unit: with one digit after the point, or in two units
+abbrev pub part_text : Unit → (time : ℕ) → List ℕ
+part_text Microseconds time = value_text time (codes "&#181;s")
+part_text Milliseconds time = tenths_text time 1000 (codes "ms")
+part_text Seconds time = tenths_text time 1000000 (codes "s")
+part_text Minutes time = two_text (time / 60000000) (codes "min") (time % 60000000 / 1000000) (codes "s")
+part_text Hours time = two_text (time / 3600000000) (codes "h") (time % 3600000000 / 60000000) (codes "min")
+part_text Days time = two_text (time / 86400000000) (codes "d") (time % 86400000000 / 3600000000) (codes "h")
+
+-- a time of an axis whose marks are a step apart
+abbrev pub mark_words : Unit → (step time : ℕ) → List ℕ
+mark_words unit step time =
+    if step % unit_length unit == 0 then value_text (time / unit_length unit) (unit_name unit) else part_text unit time
 
 unfoldable pub mark_label : Unit → (end step mark : ℕ) → List ℕ
-mark_label unit end step mark = mark_head (mark_place end step mark) ++ value_text (mark * step / unit_length unit) (unit_name unit)
+mark_label unit end step mark = mark_head (mark_place end step mark) ++ mark_words unit step (mark * step) ++ codes "</text>\n"
 
--- the time of each mark
+-- the time of each mark, in the units of the text of the end
 abbrev pub all_labels : (end step : ℕ) → List ℕ
-all_labels end step = flat_map (mark_label (unit_of end) end step) (range_with_len 0 (end / step + 1))
+all_labels end step = flat_map (mark_label (unit_by end) end step) (range_with_len 0 (end / step + 1))
 
 unfoldable pub labels_head : (y : ℕ) → List ℕ
 labels_head y = joined (codes "<g transform=\"translate(48 " ∷ decimal y ∷ codes ")\" text-anchor=\"middle\">\n" ∷ [])

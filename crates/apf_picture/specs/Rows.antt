@@ -1,5 +1,5 @@
 -- The requests of one row, and their numbers.
-use Rattle.std.specs.Prelude.{◌≡◌, ℕ, ◌+◌, ◌*◌, min, List, [], ◌∷◌, ◌++◌, length, map, All, filter, count_by, ◌==◌, Bool, true, false}
+use Rattle.std.specs.Prelude.{◌≡◌, ℕ, ◌+◌, ◌*◌, min, List, [], ◌∷◌, ◌++◌, length, map, All, filter, count_by, ◌==◌, if◌then◌else◌, Bool, true, false}
 use Rattle.apf_picture.specs.declared.life.Fate.{Fate}
 use Rattle.apf_picture.specs.declared.life.Fate.TheVariants.{Executed, Rejected, GaveUp}
 use Rattle.apf_picture.specs.declared.life.Life.{Life}
@@ -25,9 +25,13 @@ is_fate GaveUp GaveUp = true
 abbrev pub count_of : Fate → List Life → ℕ
 count_of fate lives = count_by (λ life. is_fate fate life.fate) lives
 
--- the longest wait of the requests
-abbrev pub longest_of : List Life → ℕ
-longest_of lives = greatest_of (map (λ life. life.wait) lives)
+-- how long a request waited, if it ended so
+abbrev pub wait_of : Fate → Life → ℕ
+wait_of fate life = if is_fate fate life.fate then life.wait else 0
+
+-- the longest wait of the requests that ended so
+abbrev pub longest_of : Fate → List Life → ℕ
+longest_of fate lives = greatest_of (map (wait_of fate) lives)
 
 -- the numbers of these requests
 abbrev pub numbers_of : List Life → Numbers
@@ -36,7 +40,8 @@ numbers_of lives = record {
   executed = count_of Executed lives;
   rejected = count_of Rejected lives;
   gave_up = count_of GaveUp lives;
-  longest = longest_of lives;
+  longest = longest_of Executed lives;
+  longest_given_up = longest_of GaveUp lives;
 }
 
 -- the requests of a row

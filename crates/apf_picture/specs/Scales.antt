@@ -7,16 +7,17 @@ use Rattle.apf_picture.specs.declared.scale.Unit.TheVariants.{Microseconds, Mill
 abbrev pub scaled_of : (value whole size : ℕ) → ℕ
 scaled_of value whole size = if whole == 0 then 0 else min value whole * size / whole
 
--- the longest unit of which the time has four at least, by a quarter of the time
+-- the longest unit of which the time has one at least
 abbrev pub unit_by : ℕ → Unit
-unit_by quarter =
-    if nat_le 86400000000 quarter then Days
-    else (if nat_le 3600000000 quarter then Hours
-    else (if nat_le 60000000 quarter then Minutes
-    else (if nat_le 1000000 quarter then Seconds
-    else (if nat_le 1000 quarter then Milliseconds
+unit_by time =
+    if nat_le 86400000000 time then Days
+    else (if nat_le 3600000000 time then Hours
+    else (if nat_le 60000000 time then Minutes
+    else (if nat_le 1000000 time then Seconds
+    else (if nat_le 1000 time then Milliseconds
     else Microseconds))))
 
+-- the longest unit of which it has four at least
 abbrev pub unit_of : ℕ → Unit
 unit_of time = unit_by (time / 4)
 

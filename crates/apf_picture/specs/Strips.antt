@@ -1,5 +1,5 @@
 -- The text of the queues.
-use Rattle.std.specs.Prelude.{ℕ, ◌+◌, ◌-◌, ◌*◌, ◌/◌, ◌%◌, List, [], ◌∷◌, ◌++◌, Bool, true, false, not, ◌&&◌, ◌||◌, ◌==◌, nat_lt, if◌then◌else◌, min, max, length, map, take, drop, take_while, sum_by, slice_index, slice_get, Option, Some, None, codes, decimal}
+use Rattle.std.specs.Prelude.{ℕ, ◌+◌, ◌-◌, ◌*◌, ◌/◌, ◌%◌, List, [], ◌∷◌, ◌++◌, Bool, not, ◌&&◌, ◌||◌, ◌==◌, if◌then◌else◌, min, max, length, map, drop, slice_index, codes, decimal}
 use Rattle.std.specs.List.{flat_map, range_with_len}
 use Rattle.apf_picture.specs.declared.columns.Strip.{Strip}
 use Rattle.apf_picture.specs.Scales.{scaled_of}
@@ -74,7 +74,29 @@ longest_text longest = joined (codes " used, a stronger shade is a longer queue,
 
 unfoldable pub queues_heading : (queues longest : ℕ) → List ℕ
 queues_heading queues longest =
-    codes "<g transform=\"translate(48 310)\">\n<text class=\"part\" y=\"-12\">Queues <tspan class=\"note\">" ++ counted_text queues (codes "queue") ++ longest_text longest
+    codes "<g transform=\"translate(48 310)\">\n<rect class=\"page\" y=\"-28\" width=\"880\" height=\"28\"/>\n<text class=\"part\" y=\"-12\">Queues <tspan class=\"note\">" ++ counted_text queues (codes "queue") ++ longest_text longest
+
+-- the scale of the shades: its beginning, a shade, the first of them, and its end
+unfoldable pub scale_head : List ℕ
+scale_head =
+    codes "<text class=\"small\" x=\"748\" y=\"-13\" text-anchor=\"end\">0</text>\n<rect class=\"plot\" x=\"752\" y=\"-22\" width=\"99\" height=\"10\"/>\n"
+
+unfoldable pub scale_shade : (shade : ℕ) → List ℕ
+scale_shade shade =
+    joined (codes "<path class=\"shade\" stroke-opacity=\"." ∷ decimal (12 * shade) ∷ codes "\" d=\"M" ∷ decimal (752 + 11 * shade) ∷ codes " -17h11\"/>\n" ∷ [])
+
+abbrev pub scale_shades : (shades : ℕ) → List ℕ
+scale_shades shades = flat_map (λ place. scale_shade (place + 1)) (range_with_len 0 shades)
+
+unfoldable pub scale_end : (longest : ℕ) → List ℕ
+scale_end longest = joined (codes "<text class=\"small\" x=\"855\" y=\"-13\">" ∷ decimal longest ∷ codes "</text>\n" ∷ [])
+
+unfoldable pub scale_text : (longest : ℕ) → List ℕ
+scale_text longest = scale_head ++ scale_shades 8 ++ scale_end longest
+
+-- the heading and the scale
+unfoldable pub queues_above : (queues longest : ℕ) → List ℕ
+queues_above queues longest = queues_heading queues longest ++ scale_text longest
 
 unfoldable pub shades_head : (high inside : ℕ) → List ℕ
 shades_head high inside =
@@ -88,4 +110,4 @@ strips_text strips longest =
 -- the part of the queues, of which the longest had so many requests at most
 unfoldable pub queues_text : List Strip → (longest : ℕ) → List ℕ
 queues_text strips longest =
-    queues_heading (length strips) longest ++ strips_text strips longest ++ queue_labels (map queue_in strips) (each_of (length strips)) ++ codes "</g>\n"
+    queues_above (length strips) longest ++ strips_text strips longest ++ queue_labels (map queue_in strips) (each_of (length strips)) ++ codes "</g>\n"

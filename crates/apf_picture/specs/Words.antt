@@ -42,11 +42,21 @@ patience_text patience =
 -- how many requests ended how
 unfoldable pub endings_text : Numbers → List ℕ
 endings_text n =
-    joined (decimal n.executed ∷ codes " executed, " ∷ decimal n.rejected ∷ codes " rejected, " ∷ decimal n.gave_up ∷ codes " gave up, longest wait " ∷ [])
+    joined (decimal n.executed ∷ codes " executed, " ∷ decimal n.rejected ∷ codes " rejected, " ∷ decimal n.gave_up ∷ codes " gave up" ∷ [])
 
--- the same, and the longest wait
-abbrev pub numbers_text : Numbers → List ℕ
-numbers_text n = endings_text n ++ time_text n.longest
+-- how long those waited at most that gave up, if somebody did
+unfoldable pub at_most_text : (longest : ℕ) → List ℕ
+at_most_text longest = codes " after at most " ++ time_text longest
+
+unfoldable pub after_text : Numbers → List ℕ
+after_text n = if n.gave_up == 0 then [] else at_most_text n.longest_given_up
+
+unfoldable pub longest_text : (longest : ℕ) → List ℕ
+longest_text longest = codes ", longest wait " ++ time_text longest
+
+-- the same, and the longest wait of who executed
+unfoldable pub numbers_text : Numbers → List ℕ
+numbers_text n = endings_text n ++ after_text n ++ longest_text n.longest
 
 -- the number of requests, and how they ended
 abbrev pub row_numbers_text : Numbers → List ℕ

@@ -2,9 +2,10 @@
 
 ghost use Rattle.std.specs.Prelude.{◌≡◌, ◌<◌, ◌≤◌, ◌+◌, ◌*◌, ◌^◌, length, OnOk};
 ghost use Rattle.std.specs.Io.KnownBytes.{Appends};
-ghost use Rattle.apf_picture.specs.Parts.{all_lines, lines_text, all_labels, labels_text, axis_text, mark_line, mark_head, value_text, mark_label, labels_head};
+ghost use Rattle.apf_picture.specs.Parts.{all_lines, lines_text, all_labels, labels_text, axis_text, mark_line, mark_head, value_text, part_text, mark_words, mark_label, labels_head};
 
 use crate::scale::{COLUMNS, Unit, scaled};
+use crate::words::{write_tenths, write_two};
 use std::io;
 use std::io::Write;
 
@@ -54,7 +55,54 @@ fn write_mark<W: Write>(out: &mut W, x: u64) -> io::Result<()>
 fn write_value<W: Write>(out: &mut W, value: u64, name: &str) -> io::Result<()>
     ensures { OnOk result (Appends (W.contents out.old) (W.contents out.new) (value_text value name.now)) }
 {
-    writeln!(out, "{value} {name}</text>")
+    write!(out, "{value} {name}")
+}
+
+// Writes a time that is no whole number of the unit: with one digit after the point, or in two units.
+fn write_part<W: Write>(out: &mut W, unit: Unit, time: u64) -> io::Result<()>
+    ensures { OnOk result (Appends (W.contents out.old) (W.contents out.new) (part_text unit time)) }
+{
+    match unit {
+        Unit::Microseconds => write_value(out, time, "&#181;s"),
+        Unit::Milliseconds => write_tenths(out, time, 1_000, "ms"),
+        Unit::Seconds => write_tenths(out, time, 1_000_000, "s"),
+        Unit::Minutes => write_two(
+            out,
+            time / 60_000_000,
+            "min",
+            time % 60_000_000 / 1_000_000,
+            "s",
+        ),
+        Unit::Hours => {
+            write_two(
+                out,
+                time / 3_600_000_000,
+                "h",
+                time % 3_600_000_000 / 60_000_000,
+                "min",
+            )
+        }
+        Unit::Days => {
+            write_two(
+                out,
+                time / 86_400_000_000,
+                "d",
+                time % 86_400_000_000 / 3_600_000_000,
+                "h",
+            )
+        }
+    }
+}
+
+// Writes a time of an axis whose marks are a step apart.
+fn write_words<W: Write>(out: &mut W, unit: Unit, step: u64, time: u64) -> io::Result<()>
+    ensures { OnOk result (Appends (W.contents out.old) (W.contents out.new) (mark_words unit step time)) }
+{
+    let length = unit.length();
+    if step % length == 0 {
+        return write_value(out, time / length, unit.name());
+    }
+    write_part(out, unit, time)
 }
 
 // Writes the time of a mark.
@@ -64,7 +112,8 @@ fn write_label<W: Write>(out: &mut W, unit: Unit, end: u64, step: u64, mark: u64
     ensures { OnOk result (Appends (W.contents out.old) (W.contents out.new) (mark_label unit end step mark)) }
 {
     write_mark(out, scaled(mark * step, end, COLUMNS))?;
-    write_value(out, mark * step / unit.length(), unit.name())
+    write_words(out, unit, step, mark * step)?;
+    out.write_all(b"</text>\n")
 }
 
 // Writes the time of each mark.
@@ -73,7 +122,7 @@ fn write_all_labels<W: Write>(out: &mut W, end: u64, step: u64) -> io::Result<()
     requires few { end ≤ step * 10 }
     ensures { OnOk result (Appends (W.contents out.old) (W.contents out.new) (all_labels end step)) }
 {
-    let unit = Unit::of(end);
+    let unit = Unit::longest(end);
     for mark in 0..end / step + 1 {
         write_label(out, unit, end, step, mark)?;
     }

@@ -2,7 +2,7 @@
 
 ghost use Rattle.std.specs.Prelude.{◌≡◌, ◌<◌, ◌≤◌, ◌+◌, ◌*◌, ◌^◌, length, OnOk};
 ghost use Rattle.std.specs.Io.KnownBytes.{Appends};
-ghost use Rattle.apf_picture.specs.Heads.{size_text, page_text, counts_text, schema_text, settings_text, queue_settings, whole_text, facts_text, shared_sentence, schema_sentence, subject, sentence, sentences};
+ghost use Rattle.apf_picture.specs.Heads.{size_text, page_text, counts_text, schema_text, settings_text, queue_settings, reject_settings, whole_text, facts_text, shared_sentence, schema_sentence, subject, sentence, sentences, beginning_words, beginning_text, own_line, beginning_line};
 ghost use Rattle.apf_picture.specs.Labels.{shown_schema};
 
 use crate::names::{write_name, write_whole_label, write_whole_name};
@@ -14,6 +14,9 @@ use std::io::Write;
 
 /// So many columns of a schema are shown in the title.
 const TITLE: usize = 28;
+
+/// This many of what all names begin with.
+const BEGINNING: usize = 96;
 
 /// Writes how many requests there are, and of how many flows.
 #[tactic(auto, unfolding(crate::specs::Heads::counts_text))]
@@ -53,6 +56,17 @@ fn write_queue_settings<W: Write>(out: &mut W, config: &Config) -> io::Result<()
     )
 }
 
+// Writes the settings of a level that rejects, up to the patience.
+#[tactic(auto, unfolding(crate::specs::Heads::reject_settings))]
+fn write_reject_settings<W: Write>(out: &mut W, limit: u32) -> io::Result<()>
+    ensures { OnOk result (Appends (W.contents out.old) (W.contents out.new) (reject_settings limit)) }
+{
+    write!(
+        out,
+        "limit {limit}, no queues: what does not fit is rejected, "
+    )
+}
+
 /// Writes the settings of the level, and the patience.
 pub(crate) fn write_settings<W: Write>(
     out: &mut W,
@@ -67,11 +81,8 @@ pub(crate) fn write_settings<W: Write>(
             write_patience(out, patience)
         }
         Response::Reject => {
-            let limit = config.limit;
-            write!(
-                out,
-                "limit {limit}, no queues: what does not fit is rejected"
-            )
+            write_reject_settings(out, config.limit)?;
+            write_patience(out, patience)
         }
     }
 }
@@ -154,6 +165,50 @@ pub(crate) fn write_sentences<W: Write>(out: &mut W, rows: &[Row]) -> io::Result
         write_sentence(out, row)?;
     }
     Ok(())
+}
+
+// Writes what all names begin with.
+#[tactic(auto, unfolding(crate::specs::Heads::beginning_words))]
+fn write_beginning_words<W: Write>(out: &mut W, beginning: &[char]) -> io::Result<()>
+    requires { length beginning.now < 2 ^ 62 }
+    ensures { OnOk result (Appends (W.contents out.old) (W.contents out.new) (beginning_words beginning.now)) }
+{
+    out.write_all(b"names begin with ")?;
+    write_name(out, beginning, BEGINNING)
+}
+
+/// Writes what all names begin with behind the title, if it is left out of them.
+pub(crate) fn write_beginning<W: Write>(out: &mut W, beginning: &[char]) -> io::Result<()>
+    requires { length beginning.now < 2 ^ 62 }
+    ensures { OnOk result (Appends (W.contents out.old) (W.contents out.new) (beginning_text beginning.now)) }
+{
+    if beginning.is_empty() {
+        return Ok(());
+    }
+    out.write_all(b", ")?;
+    write_beginning_words(out, beginning)
+}
+
+// Writes a line of its own of what all names begin with.
+#[tactic(auto, unfolding(crate::specs::Heads::own_line))]
+fn write_own_line<W: Write>(out: &mut W, beginning: &[char]) -> io::Result<()>
+    requires { length beginning.now < 2 ^ 62 }
+    ensures { OnOk result (Appends (W.contents out.old) (W.contents out.new) (own_line beginning.now)) }
+{
+    out.write_all(b"<text class=\"note\" x=\"48\" y=\"79\">")?;
+    write_beginning_words(out, beginning)?;
+    out.write_all(b"</text>\n")
+}
+
+/// Writes a line of what all names begin with, if it is left out of them.
+pub(crate) fn write_beginning_line<W: Write>(out: &mut W, beginning: &[char]) -> io::Result<()>
+    requires { length beginning.now < 2 ^ 62 }
+    ensures { OnOk result (Appends (W.contents out.old) (W.contents out.new) (beginning_line beginning.now)) }
+{
+    if beginning.is_empty() {
+        return Ok(());
+    }
+    write_own_line(out, beginning)
 }
 
 /// Writes the size of the picture.

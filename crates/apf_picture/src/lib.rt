@@ -7,6 +7,7 @@
 //! - `span`: how much there is at a time, and the most that there ever is.
 //! - `columns`: the seats in use and the lengths of the queues, at the time of each column and at most.
 //! - `label`: what a row is called, and the schema that all flows share.
+//! - `cutting`: how the names are cut, so that the rows are told apart.
 //! - `row`: the requests of one row, and their numbers.
 //! - `words`: numbers and times in words.
 //! - `names`: names, of long ones the beginning and the end.
@@ -19,6 +20,7 @@
 
 mod axis;
 mod columns;
+mod cutting;
 mod head;
 mod label;
 mod laws;

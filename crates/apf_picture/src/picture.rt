@@ -5,9 +5,10 @@ ghost use Rattle.std.specs.Io.KnownBytes.{Appends};
 
 use crate::axis::write_axis;
 use crate::columns::{Area, Strip, areas, most_seats, most_waiting, strips};
+use crate::cutting::{Cutting, shared_beginning};
 use crate::head::{
-    write_counts, write_facts, write_page, write_schema, write_schema_sentence, write_sentences,
-    write_settings, write_size, write_whole,
+    write_beginning, write_beginning_line, write_counts, write_facts, write_page, write_schema,
+    write_schema_sentence, write_sentences, write_settings, write_size, write_whole,
 };
 use crate::label::shared_schema;
 use crate::life::lives;
@@ -20,7 +21,7 @@ use crate::scene::Scene;
 use crate::seats::write_seats;
 use crate::style::write_style;
 use crate::words::write_counted;
-use apf_model::Config;
+use apf_model::{Config, Response};
 use std::alloc::{AllocError, Global};
 use std::io;
 use std::io::Write;
@@ -38,6 +39,9 @@ pub struct Picture {
     schema: Option<Vec<char>>,
     numbers: Numbers,
     rows: Vec<Row>,
+    // What is left out of the names of all rows, at their beginning.
+    beginning: Vec<char>,
+    cutting: Cutting,
     areas: Vec<Area>,
     strips: Vec<Strip>,
     // The most seats in use.
@@ -53,9 +57,12 @@ const SEATS: u64 = 124;
 
 const QUEUES: u64 = 310;
 
+// Where the part of the requests begins if there is no part of queues.
+const NO_QUEUES: u64 = 264;
+
 impl Picture {
     ghost use Rattle.std.specs.Prelude.{All, IfOk};
-    ghost use Rattle.apf_picture.specs.Pictures.{IsPictureOf, title_text, level_text, description_text, title_element, notes_text, above_text, head_text, parts_text, picture_text};
+    ghost use Rattle.apf_picture.specs.Pictures.{IsPictureOf, title_text, level_text, description_text, whole_title, title_element, notes_text, below_title, above_text, head_text, below_of, queue_part, parts_text, picture_text};
 
     /// The picture of a run.
     ///
@@ -86,6 +93,8 @@ impl Picture {
             schema.is_some(),
             lives.as_slice(),
         )?;
+        let beginning = shared_beginning(alloc, rows.as_slice())?;
+        let cutting = Cutting::of(alloc, rows.as_slice(), beginning.len())?;
         Ok(Picture {
             config: scene.config,
             patience: scene.patience,
@@ -95,6 +104,8 @@ impl Picture {
             schema,
             numbers: Numbers::of(lives.as_slice()),
             rows,
+            beginning,
+            cutting,
             areas: areas(alloc, lives.as_slice(), flows.min(OWN_ROWS + 1), scene.end)?,
             strips: strips(alloc, lives.as_slice(), scene.end)?,
             used: most_seats(alloc, lives.as_slice())?,
@@ -136,13 +147,22 @@ impl Picture {
         out.write_all(b"</desc>\n")
     }
 
+    // Writes the title, and what is left out of the names.
+    #[tactic(auto, unfolding(crate::specs::Pictures::whole_title))]
+    fn write_whole_title<W: Write>(&self, out: &mut W) -> io::Result<()>
+        ensures { OnOk result (Appends (W.contents out.old) (W.contents out.new) (whole_title self.now)) }
+    {
+        self.write_title(out)?;
+        write_beginning(out, self.beginning.as_slice())
+    }
+
     // Writes the title for who does not see the picture.
     #[tactic(auto, unfolding(crate::specs::Pictures::title_element))]
     fn write_title_element<W: Write>(&self, out: &mut W) -> io::Result<()>
         ensures { OnOk result (Appends (W.contents out.old) (W.contents out.new) (title_element self.now)) }
     {
         out.write_all(b"<title id=\"title\">")?;
-        self.write_title(out)?;
+        self.write_whole_title(out)?;
         out.write_all(b"</title>\n")
     }
 
@@ -151,11 +171,20 @@ impl Picture {
     fn write_notes<W: Write>(&self, out: &mut W) -> io::Result<()>
         ensures { OnOk result (Appends (W.contents out.old) (W.contents out.new) (notes_text self.now)) }
     {
-        out.write_all(b"</text>\n<text class=\"note\" x=\"48\" y=\"54\">")?;
+        out.write_all(b"</text>\n<text class=\"note\" x=\"48\" y=\"47\">")?;
         write_whole(out, &self.numbers, self.end)?;
-        out.write_all(b"</text>\n<text class=\"note\" x=\"48\" y=\"72\">")?;
+        out.write_all(b"</text>\n<text class=\"note\" x=\"48\" y=\"63\">")?;
         write_settings(out, &self.config, self.patience)?;
         out.write_all(b"</text>\n")
+    }
+
+    // Writes what stands below the title.
+    #[tactic(auto, unfolding(crate::specs::Pictures::below_title))]
+    fn write_below_title<W: Write>(&self, out: &mut W) -> io::Result<()>
+        ensures { OnOk result (Appends (W.contents out.old) (W.contents out.new) (below_title self.now)) }
+    {
+        self.write_notes(out)?;
+        write_beginning_line(out, self.beginning.as_slice())
     }
 
     // Writes what stands above the parts.
@@ -163,9 +192,9 @@ impl Picture {
     fn write_above<W: Write>(&self, out: &mut W) -> io::Result<()>
         ensures { OnOk result (Appends (W.contents out.old) (W.contents out.new) (above_text self.now)) }
     {
-        out.write_all(b"<text class=\"head\" x=\"48\" y=\"32\">")?;
+        out.write_all(b"<text class=\"head\" x=\"48\" y=\"28\">")?;
         self.write_title(out)?;
-        self.write_notes(out)
+        self.write_below_title(out)
     }
 
     // Writes the title, the description, the colours and what stands above the parts.
@@ -179,6 +208,30 @@ impl Picture {
         write_style(out)?;
         write_page(out, height)?;
         self.write_above(out)
+    }
+
+    // Where the part of the requests begins. A level that rejects has no part of queues.
+    fn below(&self) -> u64
+        ensures below { result ≡ below_of self.now }
+        ensures within { result ≤ 550 }
+    {
+        match self.config.limit_response {
+            Response::Queue => QUEUES + high(self.strips.as_slice()),
+            Response::Reject => NO_QUEUES,
+        }
+    }
+
+    // Writes the part of the queues, if the level has queues.
+    fn write_queue_part<W: Write>(&self, out: &mut W) -> io::Result<()>
+        ensures { OnOk result (Appends (W.contents out.old) (W.contents out.new) (queue_part self.now)) }
+    {
+        match self.config.limit_response {
+            Response::Queue => {
+                let longest = most_waiting(self.strips.as_slice());
+                write_queues(out, self.strips.as_slice(), longest)
+            }
+            Response::Reject => Ok(()),
+        }
     }
 
     // Writes the parts, of which that of the requests begins at this height, and the axis so many pixels long.
@@ -195,9 +248,8 @@ impl Picture {
             self.used,
             u64::from(self.config.limit),
         )?;
-        let longest = most_waiting(self.strips.as_slice());
-        write_queues(out, self.strips.as_slice(), longest)?;
-        write_rows(out, self.rows.as_slice(), below, self.end)
+        self.write_queue_part(out)?;
+        write_rows(out, self.rows.as_slice(), self.cutting, below, self.end)
     }
 
     /// Writes the picture as an SVG.
@@ -209,7 +261,7 @@ impl Picture {
     pub fn write<W: Write>(&self, out: &mut W) -> io::Result<()>
         ensures { OnOk result (Appends (W.contents out.old) (W.contents out.new) (picture_text self.now)) }
     {
-        let below = QUEUES + high(self.strips.as_slice());
+        let below = self.below();
         let bottom = below + 44 + height(self.rows.as_slice());
         self.write_head(out, bottom + 28)?;
         self.write_parts(out, below, bottom - SEATS)?;

@@ -2,7 +2,7 @@
 
 ghost use Rattle.std.specs.Prelude.{◌≡◌, ◌<◌, ◌≤◌, ◌*◌, ◌^◌, length, map, slice_index, OnOk};
 ghost use Rattle.std.specs.Io.KnownBytes.{Appends};
-ghost use Rattle.apf_picture.specs.Strips.{high_of, shade_of, run_of, begins, run_text, run_at, runs_text, all_runs, shade_text, shades_text, queue_number, queue_label, queue_labels, longest_text, queues_heading, shades_head, strips_text, each_of, queues_text};
+ghost use Rattle.apf_picture.specs.Strips.{high_of, shade_of, run_of, begins, run_text, run_at, runs_text, all_runs, shade_text, shades_text, queue_number, queue_label, queue_labels, longest_text, queues_heading, scale_shade, scale_shades, scale_end, scale_head, scale_text, queues_above, shades_head, strips_text, each_of, queues_text};
 ghost use Rattle.apf_picture.specs.Columns.{queue_in};
 
 use crate::columns::Strip;
@@ -13,6 +13,10 @@ use std::io::Write;
 
 /// So many strengths of shade.
 const SHADES: u64 = 8;
+
+// The beginning of the scale, and what is behind its shades.
+const SCALE: &[u8] = b"<text class=\"small\" x=\"748\" y=\"-13\" text-anchor=\"end\">0</text>\n\
+<rect class=\"plot\" x=\"752\" y=\"-22\" width=\"99\" height=\"10\"/>\n";
 
 /// How high the part is, in pixels.
 pub(crate) fn high(strips: &[Strip]) -> u64
@@ -206,10 +210,63 @@ fn write_heading<W: Write>(out: &mut W, queues: u64, longest: u64) -> io::Result
     ensures { OnOk result (Appends (W.contents out.old) (W.contents out.new) (queues_heading queues longest)) }
 {
     out.write_all(
-        b"<g transform=\"translate(48 310)\">\n<text class=\"part\" y=\"-12\">Queues <tspan class=\"note\">",
+        b"<g transform=\"translate(48 310)\">\n<rect class=\"page\" y=\"-28\" width=\"880\" height=\"28\"/>\n<text class=\"part\" y=\"-12\">Queues <tspan class=\"note\">",
     )?;
     write_counted(out, queues, "queue")?;
     write_longest(out, longest)
+}
+
+// Writes one shade of the scale.
+#[tactic(auto, unfolding(crate::specs::Strips::scale_shade))]
+fn write_scale_shade<W: Write>(out: &mut W, shade: u64) -> io::Result<()>
+    requires { shade ≤ 8 }
+    ensures { OnOk result (Appends (W.contents out.old) (W.contents out.new) (scale_shade shade)) }
+{
+    let percent = 12 * shade;
+    let x = 752 + 11 * shade;
+    writeln!(
+        out,
+        "<path class=\"shade\" stroke-opacity=\".{percent}\" d=\"M{x} -17h11\"/>"
+    )
+}
+
+// Writes the shades of the scale, from the weakest on.
+fn write_scale_shades<W: Write>(out: &mut W, shades: u64) -> io::Result<()>
+    requires { shades ≤ 8 }
+    ensures { OnOk result (Appends (W.contents out.old) (W.contents out.new) (scale_shades shades)) }
+{
+    for place in 0..shades {
+        write_scale_shade(out, place + 1)?;
+    }
+    Ok(())
+}
+
+// Writes what stands at the end of the scale: the length of the longest queue.
+#[tactic(auto, unfolding(crate::specs::Strips::scale_end))]
+fn write_scale_end<W: Write>(out: &mut W, longest: u64) -> io::Result<()>
+    ensures { OnOk result (Appends (W.contents out.old) (W.contents out.new) (scale_end longest)) }
+{
+    writeln!(
+        out,
+        "<text class=\"small\" x=\"855\" y=\"-13\">{longest}</text>"
+    )
+}
+
+#[tactic(auto, unfolding(crate::specs::Strips::scale_head))]
+fn write_scale_head<W: Write>(out: &mut W) -> io::Result<()>
+    ensures { OnOk result (Appends (W.contents out.old) (W.contents out.new) scale_head) }
+{
+    out.write_all(SCALE)
+}
+
+// Writes the scale of the shades: that of no request, and the eight others.
+#[tactic(auto, unfolding(crate::specs::Strips::scale_text))]
+fn write_scale<W: Write>(out: &mut W, longest: u64) -> io::Result<()>
+    ensures { OnOk result (Appends (W.contents out.old) (W.contents out.new) (scale_text longest)) }
+{
+    write_scale_head(out)?;
+    write_scale_shades(out, SHADES)?;
+    write_scale_end(out, longest)
 }
 
 // Writes what stands before the shades.
@@ -242,13 +299,22 @@ fn each(strips: &[Strip]) -> usize
     strips.len().div_ceil(20).max(1)
 }
 
+// Writes the heading and the scale.
+#[tactic(auto, unfolding(crate::specs::Strips::queues_above))]
+fn write_above<W: Write>(out: &mut W, queues: u64, longest: u64) -> io::Result<()>
+    ensures { OnOk result (Appends (W.contents out.old) (W.contents out.new) (queues_above queues longest)) }
+{
+    write_heading(out, queues, longest)?;
+    write_scale(out, longest)
+}
+
 /// Writes the part of the queues, of which the longest had so many requests at most.
 #[tactic(auto, unfolding(crate::specs::Strips::queues_text))]
 pub(crate) fn write_queues<W: Write>(out: &mut W, strips: &[Strip], longest: u64) -> io::Result<()>
     requires { length strips.now < 2 ^ 31 }
     ensures { OnOk result (Appends (W.contents out.old) (W.contents out.new) (queues_text strips.now longest)) }
 {
-    write_heading(out, strips.len() as u64, longest)?;
+    write_above(out, strips.len() as u64, longest)?;
     write_strips(out, strips, longest)?;
     write_labels(out, strips, each(strips))?;
     out.write_all(b"</g>\n")

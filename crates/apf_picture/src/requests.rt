@@ -2,11 +2,12 @@
 
 ghost use Rattle.std.specs.Prelude.{◌≡◌, ◌<◌, ◌≤◌, ◌+◌, ◌*◌, ◌^◌, length, sum_by, slice_get, Some, OnOk};
 ghost use Rattle.std.specs.Io.KnownBytes.{Appends};
-ghost use Rattle.apf_picture.specs.Bars.{bar_text, bar_by, bars_text, rejected_tick, rejected_text, given_up_tick, given_up_text, back_text, stroke_text, plot_head, plot_text, ticks_head, ticks_text, triangles_text, row_head, height_of, row_words, row_drawing, row_text, all_rows, heading_place, rows_heading, rows_text};
+ghost use Rattle.apf_picture.specs.Bars.{bar_text, bar_by, bars_text, rejected_tick, rejected_text, given_up_tick, given_up_text, back_text, stroke_text, plot_head, plot_text, ticks_head, ticks_text, triangles_text, row_place, colour_text, row_head, height_of, row_words, row_drawing, row_text, all_rows, heading_place, rows_heading, rows_text};
 ghost use Rattle.apf_picture.specs.Rows.{lives_in};
 
+use crate::cutting::Cutting;
 use crate::life::{Fate, Life};
-use crate::names::write_label;
+use crate::names::{write_label, write_whole_label};
 use crate::row::Row;
 use crate::scale::{COLUMNS, scaled};
 use crate::words::write_row_numbers;
@@ -14,7 +15,7 @@ use std::io;
 use std::io::Write;
 
 const HEADING: &[u8] =
-    b"<text class=\"part\">Requests by flow <tspan class=\"note\">a bar is a wait, from arrival to seats</tspan></text>\n\
+    b"<rect class=\"page\" y=\"-16\" width=\"880\" height=\"28\"/>\n<text class=\"part\">Requests by flow <tspan class=\"note\">a bar is one request's wait, until it has its seats or gives up; a higher row has more requests</tspan></text>\n\
 <path class=\"rejected\" d=\"M744 -9v10\"/>\n<text class=\"note\" x=\"752\">rejected</text>\n\
 <path class=\"gave-up\" d=\"M822 -8l3 7h-6z\"/>\n<text class=\"note\" x=\"832\">gave up</text>\n</g>\n";
 
@@ -177,24 +178,41 @@ fn write_triangles<W: Write>(out: &mut W, lives: &[Life], end: u64) -> io::Resul
     out.write_all(b"\"/>\n</g>\n")
 }
 
-// Writes what stands before the label of a row.
+// Writes where a row begins.
+#[tactic(auto, unfolding(crate::specs::Bars::row_place))]
+fn write_row_place<W: Write>(out: &mut W, y: u64) -> io::Result<()>
+    ensures { OnOk result (Appends (W.contents out.old) (W.contents out.new) (row_place y)) }
+{
+    write!(out, "<g transform=\"translate(48 {y})\">\n<title>")
+}
+
+// Writes what stands between the whole names of a row and its label: what covers the lines of the axis, and the colour of the row.
+#[tactic(auto, unfolding(crate::specs::Bars::colour_text))]
+fn write_colour<W: Write>(out: &mut W, number: u32) -> io::Result<()>
+    ensures { OnOk result (Appends (W.contents out.old) (W.contents out.new) (colour_text number)) }
+{
+    write!(
+        out,
+        "</title>\n<rect class=\"page\" width=\"880\" height=\"20\"/>\n<rect class=\"f{number}\" y=\"5\" width=\"10\" height=\"10\" rx=\"2\"/>\n<text x=\"16\" y=\"14\">"
+    )
+}
+
+// Writes what stands before the label of a row, with its whole names as its title.
 #[tactic(auto, unfolding(crate::specs::Bars::row_head))]
 fn write_row_head<W: Write>(out: &mut W, row: &Row, y: u64) -> io::Result<()>
     ensures { OnOk result (Appends (W.contents out.old) (W.contents out.new) (row_head row.now y)) }
 {
-    let number = row.number;
-    write!(
-        out,
-        "<g transform=\"translate(48 {y})\">\n<rect class=\"f{number}\" y=\"5\" width=\"10\" height=\"10\" rx=\"2\"/>\n<text x=\"16\" y=\"14\">"
-    )
+    write_row_place(out, y)?;
+    write_whole_label(out, &row.label)?;
+    write_colour(out, row.number)
 }
 
 // Writes what a row is called, and its numbers.
 #[tactic(auto, unfolding(crate::specs::Bars::row_words))]
-fn write_row_words<W: Write>(out: &mut W, row: &Row) -> io::Result<()>
-    ensures { OnOk result (Appends (W.contents out.old) (W.contents out.new) (row_words row.now)) }
+fn write_row_words<W: Write>(out: &mut W, row: &Row, cutting: Cutting) -> io::Result<()>
+    ensures { OnOk result (Appends (W.contents out.old) (W.contents out.new) (row_words row.now cutting)) }
 {
-    write_label(out, &row.label)?;
+    write_label(out, &row.label, row.number, cutting)?;
     out.write_all(b" <tspan class=\"note\">")?;
     write_row_numbers(out, &row.numbers)?;
     out.write_all(b"</tspan></text>\n")
@@ -212,11 +230,11 @@ fn write_row_drawing<W: Write>(out: &mut W, row: &Row, end: u64) -> io::Result<(
 
 // Writes a row that begins at this height.
 #[tactic(auto, unfolding(crate::specs::Bars::row_text))]
-fn write_row<W: Write>(out: &mut W, row: &Row, y: u64, end: u64) -> io::Result<()>
-    ensures { OnOk result (Appends (W.contents out.old) (W.contents out.new) (row_text row.now y end)) }
+fn write_row<W: Write>(out: &mut W, row: &Row, cutting: Cutting, y: u64, end: u64) -> io::Result<()>
+    ensures { OnOk result (Appends (W.contents out.old) (W.contents out.new) (row_text row.now cutting y end)) }
 {
     write_row_head(out, row, y)?;
-    write_row_words(out, row)?;
+    write_row_words(out, row, cutting)?;
     write_row_drawing(out, row, end)?;
     out.write_all(b"</g>\n")
 }
@@ -236,14 +254,20 @@ pub(crate) fn height(rows: &[Row]) -> u64
 
 // Writes the rows, one below another, from this height on.
 #[tactic(auto, using(crate::proofs::Ranges::rows_text_more))]
-fn write_all_rows<W: Write>(out: &mut W, rows: &[Row], y: u64, end: u64) -> io::Result<()>
+fn write_all_rows<W: Write>(
+    out: &mut W,
+    rows: &[Row],
+    cutting: Cutting,
+    y: u64,
+    end: u64,
+) -> io::Result<()>
     requires few { length rows.now ≤ 13 }
     requires y { y < 2 ^ 41 }
-    ensures { OnOk result (Appends (W.contents out.old) (W.contents out.new) (all_rows rows.now y end)) }
+    ensures { OnOk result (Appends (W.contents out.old) (W.contents out.new) (all_rows rows.now cutting y end)) }
 {
     let mut top = y;
     for row in rows {
-        write_row(out, row, top, end)?;
+        write_row(out, row, cutting, top, end)?;
         top += row.height();
     }
     Ok(())
@@ -266,12 +290,18 @@ fn write_heading<W: Write>(out: &mut W) -> io::Result<()>
 
 /// Writes the rows and their heading, from this height on.
 #[tactic(auto, unfolding(crate::specs::Bars::rows_text))]
-pub(crate) fn write_rows<W: Write>(out: &mut W, rows: &[Row], y: u64, end: u64) -> io::Result<()>
+pub(crate) fn write_rows<W: Write>(
+    out: &mut W,
+    rows: &[Row],
+    cutting: Cutting,
+    y: u64,
+    end: u64,
+) -> io::Result<()>
     requires few { length rows.now ≤ 13 }
     requires y { y < 2 ^ 40 }
-    ensures { OnOk result (Appends (W.contents out.old) (W.contents out.new) (rows_text rows.now y end)) }
+    ensures { OnOk result (Appends (W.contents out.old) (W.contents out.new) (rows_text rows.now cutting y end)) }
 {
     write_heading_place(out, y + 34)?;
     write_heading(out)?;
-    write_all_rows(out, rows, y + 44, end)
+    write_all_rows(out, rows, cutting, y + 44, end)
 }

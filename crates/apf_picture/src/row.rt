@@ -3,7 +3,7 @@
 ghost use Rattle.std.specs.Prelude.{◌≡◌, ◌<◌, ◌≤◌, ◌+◌, ◌*◌, ◌^◌, length, vec_len, min, slice_get, slice_index, All, IfOk, OnOk};
 ghost use Rattle.apf_picture.specs.Labels.{called, called_first, label_at};
 ghost use Rattle.apf_picture.specs.Ranks.{own_rows};
-ghost use Rattle.apf_picture.specs.Rows.{AreRows, IsOneMore, count_of, longest_of, members_of, tall_of};
+ghost use Rattle.apf_picture.specs.Rows.{AreRows, IsOneMore, count_of, wait_of, longest_of, members_of, tall_of};
 
 use crate::label::{Label, flow_label};
 use crate::life::{Fate, Life};
@@ -19,8 +19,10 @@ pub(crate) struct Numbers {
     pub(crate) executed: u32,
     pub(crate) rejected: u32,
     pub(crate) gave_up: u32,
-    /// The longest wait.
+    /// The longest wait of those that executed, in microseconds.
     pub(crate) longest: u64,
+    /// The longest wait of those that gave up.
+    pub(crate) longest_given_up: u64,
 }
 
 /// A row of the picture.
@@ -43,13 +45,20 @@ fn count(lives: &[Life], fate: Fate) -> u32
     lives.iter().filter(|life| life.fate == fate).count() as u32
 }
 
-// The longest wait of the requests, or 0 of none.
-fn longest(lives: &[Life]) -> u64
-    ensures { result ≡ longest_of lives.now }
+// How long a request waited, if it ended so.
+fn wait(life: &Life, fate: Fate) -> u64
+    ensures { result ≡ wait_of fate life.now }
+{
+    if life.fate == fate { life.wait } else { 0 }
+}
+
+// The longest wait of the requests that ended so, or 0 of none.
+fn longest(lives: &[Life], fate: Fate) -> u64
+    ensures { result ≡ longest_of fate lives.now }
 {
     let mut longest = 0;
     for life in lives {
-        longest = life.wait.max(longest);
+        longest = wait(life, fate).max(longest);
     }
     longest
 }
@@ -67,7 +76,8 @@ impl Numbers {
             executed: count(lives, Fate::Executed),
             rejected: count(lives, Fate::Rejected),
             gave_up: count(lives, Fate::GaveUp),
-            longest: longest(lives),
+            longest: longest(lives, Fate::Executed),
+            longest_given_up: longest(lives, Fate::GaveUp),
         }
     }
 }

@@ -29,13 +29,20 @@ pub(crate) enum Unit {
 }
 
 impl Unit {
-    ghost use Rattle.apf_picture.specs.Scales.{unit_of, unit_length, unit_name};
+    ghost use Rattle.apf_picture.specs.Scales.{unit_of, unit_by, unit_length, unit_name};
 
     /// The longest unit of which the time has four at least. Microseconds, if it has four of none.
     pub(crate) fn of(time: u64) -> Unit
         ensures { result ≡ unit_of time }
     {
-        match time / 4 {
+        Unit::longest(time / 4)
+    }
+
+    /// The longest unit of which the time has one at least: the first one of its text.
+    pub(crate) fn longest(time: u64) -> Unit
+        ensures { result ≡ unit_by time }
+    {
+        match time {
             86_400_000_000.. => Unit::Days,
             3_600_000_000.. => Unit::Hours,
             60_000_000.. => Unit::Minutes,

@@ -27,19 +27,19 @@ const MARKS: &[u8] = b".page{fill:#fff}\n\
 .line,.limit,.peak,.shade,.bars,.rejected{fill:none}\n";
 
 // The colours of the rows, each of another lightness.
-const ROWS: &[u8] = b".f0{fill:#b1551e}.b0{stroke:#b1551e}\n\
-.f1{fill:#421871}.b1{stroke:#421871}\n\
-.f2{fill:#05a1b4}.b2{stroke:#05a1b4}\n\
-.f3{fill:#91186c}.b3{stroke:#91186c}\n\
-.f4{fill:#fd8975}.b4{stroke:#fd8975}\n\
-.f5{fill:#6448a6}.b5{stroke:#6448a6}\n\
-.f6{fill:#8579de}.b6{stroke:#8579de}\n\
-.f7{fill:#6c2100}.b7{stroke:#6c2100}\n\
-.f8{fill:#a6a22f}.b8{stroke:#a6a22f}\n\
-.f9{fill:#096d8c}.b9{stroke:#096d8c}\n\
-.f10{fill:#baabfc}.b10{stroke:#baabfc}\n\
-.f11{fill:#8b072e}.b11{stroke:#8b072e}\n\
-.f12{fill:#7b7b7b}.b12{stroke:#7b7b7b}\n";
+const ROWS: &[u8] = b".f0{fill:#b55821}.b0{stroke:#b55821}\n\
+.f1{fill:#461c75}.b1{stroke:#461c75}\n\
+.f2{fill:#0ca3b6}.b2{stroke:#0ca3b6}\n\
+.f3{fill:#951d70}.b3{stroke:#951d70}\n\
+.f4{fill:#420936}.b4{stroke:#420936}\n\
+.f5{fill:#456539}.b5{stroke:#456539}\n\
+.f6{fill:#00128f}.b6{stroke:#00128f}\n\
+.f7{fill:#3267b2}.b7{stroke:#3267b2}\n\
+.f8{fill:#791909}.b8{stroke:#791909}\n\
+.f9{fill:#ab69ee}.b9{stroke:#ab69ee}\n\
+.f10{fill:#623d45}.b10{stroke:#623d45}\n\
+.f11{fill:#171c08}.b11{stroke:#171c08}\n\
+.f12{fill:#7d7d7d}.b12{stroke:#7d7d7d}\n";
 
 // The same on a dark page.
 const DARK_MARKS: &[u8] = b"@media(prefers-color-scheme:dark){\n\

@@ -2,7 +2,7 @@
 
 ghost use Rattle.std.specs.Prelude.{◌≡◌, ◌<◌, ◌≤◌, ◌+◌, ◌*◌, ◌^◌, length, OnOk};
 ghost use Rattle.std.specs.Io.KnownBytes.{Appends};
-ghost use Rattle.apf_picture.specs.Words.{counted_text, tenths_text, two_text, time_text, patience_text, endings_text, numbers_text, row_numbers_text};
+ghost use Rattle.apf_picture.specs.Words.{counted_text, tenths_text, two_text, time_text, patience_text, endings_text, at_most_text, longest_text, after_text, numbers_text, row_numbers_text};
 
 use crate::row::Numbers;
 use std::io;
@@ -18,9 +18,14 @@ pub(crate) fn write_counted<W: Write>(out: &mut W, number: u64, noun: &str) -> i
     write!(out, "{number} {noun}s")
 }
 
-// Writes a number of two units, of which the second has so many in one of the first.
+/// Writes a number of a unit that has this many microseconds, with one digit after the point.
 #[tactic(auto, unfolding(crate::specs::Words::tenths_text))]
-fn write_tenths<W: Write>(out: &mut W, time: u64, unit: u64, name: &str) -> io::Result<()>
+pub(crate) fn write_tenths<W: Write>(
+    out: &mut W,
+    time: u64,
+    unit: u64,
+    name: &str,
+) -> io::Result<()>
     requires { 10 ≤ unit }
     ensures { OnOk result (Appends (W.contents out.old) (W.contents out.new) (tenths_text time unit name.now)) }
 {
@@ -29,8 +34,9 @@ fn write_tenths<W: Write>(out: &mut W, time: u64, unit: u64, name: &str) -> io::
     write!(out, "{whole}.{tenth} {name}")
 }
 
+/// Writes a number of one unit and a number of a smaller one.
 #[tactic(auto, unfolding(crate::specs::Words::two_text))]
-fn write_two<W: Write>(
+pub(crate) fn write_two<W: Write>(
     out: &mut W,
     whole: u64,
     name: &str,
@@ -77,12 +83,14 @@ pub(crate) fn write_patience<W: Write>(out: &mut W, patience: u64) -> io::Result
     write!(out, "patience {patience} &#181;s")
 }
 
-/// Writes how many requests ended how, and the longest wait.
+/// Writes how many requests ended how, the longest wait of who gave up, and that of who executed.
+#[tactic(auto, unfolding(crate::specs::Words::numbers_text))]
 pub(crate) fn write_numbers<W: Write>(out: &mut W, numbers: &Numbers) -> io::Result<()>
     ensures { OnOk result (Appends (W.contents out.old) (W.contents out.new) (numbers_text numbers.now)) }
 {
     write_endings(out, numbers)?;
-    write_time(out, numbers.longest)
+    write_after(out, numbers)?;
+    write_longest(out, numbers.longest)
 }
 
 // Writes how many requests ended how.
@@ -95,8 +103,37 @@ fn write_endings<W: Write>(out: &mut W, numbers: &Numbers) -> io::Result<()>
     let gave_up = numbers.gave_up;
     write!(
         out,
-        "{executed} executed, {rejected} rejected, {gave_up} gave up, longest wait "
+        "{executed} executed, {rejected} rejected, {gave_up} gave up"
     )
+}
+
+// Writes the longest wait of who gave up.
+#[tactic(auto, unfolding(crate::specs::Words::at_most_text))]
+fn write_at_most<W: Write>(out: &mut W, longest: u64) -> io::Result<()>
+    ensures { OnOk result (Appends (W.contents out.old) (W.contents out.new) (at_most_text longest)) }
+{
+    out.write_all(b" after at most ")?;
+    write_time(out, longest)
+}
+
+// Writes the longest wait of who executed.
+#[tactic(auto, unfolding(crate::specs::Words::longest_text))]
+fn write_longest<W: Write>(out: &mut W, longest: u64) -> io::Result<()>
+    ensures { OnOk result (Appends (W.contents out.old) (W.contents out.new) (longest_text longest)) }
+{
+    out.write_all(b", longest wait ")?;
+    write_time(out, longest)
+}
+
+// Writes how long those waited at most that gave up, if somebody did.
+#[tactic(auto, unfolding(crate::specs::Words::after_text))]
+fn write_after<W: Write>(out: &mut W, numbers: &Numbers) -> io::Result<()>
+    ensures { OnOk result (Appends (W.contents out.old) (W.contents out.new) (after_text numbers.now)) }
+{
+    if numbers.gave_up == 0 {
+        return Ok(());
+    }
+    write_at_most(out, numbers.longest_given_up)
 }
 
 /// Writes the number of requests, and how they ended.

@@ -7,4 +7,4 @@ use Rattle.apf_picture.proofs.axis.write_all_labels.Goals as goal
 pub loop-mark-preserved : goal.loop-mark-preserved
 loop-mark-preserved g c =
     let told = g.W.Write.contents in
-    appends_range (told c.args.out.now) (told c.loop-mark.out) (told c.write_label.new.out) (mark_label c.of-unit.result c.args.end c.args.step) 0 (c.loop-mark.mark) c.loop-mark.mark (omega arith) c.loop-mark.invariant c.in_ok-write_label.ensures
+    appends_range (told c.args.out.now) (told c.loop-mark.out) (told c.write_label.new.out) (mark_label c.longest-unit.result c.args.end c.args.step) 0 (c.loop-mark.mark) c.loop-mark.mark (omega arith) c.loop-mark.invariant c.in_ok-write_label.ensures

@@ -5,7 +5,7 @@ use Rattle.std.specs.List.{range_with_len}
 use Rattle.std.proofs.lemmas.List.{map_push}
 use Rattle.std.proofs.lemmas.List.Elements.{All-push}
 use Rattle.apf_picture.specs.declared.columns.Area.{Area}
-use Rattle.apf_picture.specs.Columns.{IsArea, row_in, tops_in, tops_of}
+use Rattle.apf_picture.specs.Columns.{IsArea, row_in, tops_of}
 use Rattle.apf_picture.proofs.Ranges.{down_more}
 use Rattle.apf_picture.proofs.columns.areas.Goals as goal
 

@@ -1,5 +1,5 @@
 -- The spans have the waits of the queue.
-use Rattle.std.proofs.Common.{List, ℕ, ◌≡◌, ◌∙◌, ap, subst}
+use Rattle.std.proofs.Common.{List, ◌∙◌, ap, subst}
 use Rattle.apf_picture.specs.declared.span.Span.{Span}
 use Rattle.apf_picture.specs.Columns.{IsMost}
 use Rattle.apf_picture.specs.Spans.{held, columns_of}

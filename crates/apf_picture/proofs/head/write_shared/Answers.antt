@@ -1,5 +1,5 @@
 -- Three texts, one after another.
-use Rattle.std.proofs.Common.{codes, ◌++◌}
+use Rattle.std.proofs.Common.{codes}
 use Rattle.std.proofs.lemmas.Result.{on_ok_weaker}
 use Rattle.apf_picture.specs.Heads.{shared_sentence}
 use Rattle.apf_picture.specs.Names.{whole_name}

@@ -1,5 +1,5 @@
 -- One number more, and all of them.
-use Rattle.std.proofs.Common.{◌≡◌, ℕ, length, map, sym, ◌∙◌, subst, arith}
+use Rattle.std.proofs.Common.{◌≡◌, ℕ, length, map, subst, arith}
 use Rattle.std.specs.List.{flat_map, range_with_len}
 use Rattle.std.specs.Io.KnownBytes.{Appends}
 use Rattle.std.proofs.lemmas.List.{length-map}

@@ -1,5 +1,5 @@
 -- The flows of the first standings are some of all.
-use Rattle.std.proofs.Common.{◌≡◌, ℕ, ◌<◌, List, take, map, subst, sym, ◌∙◌, ap, arith}
+use Rattle.std.proofs.Common.{ℕ, ◌<◌, List, take, subst, sym}
 use Rattle.std.specs.Prelude.{All}
 use Rattle.std.proofs.lemmas.List.Elements.{All-map, All-take}
 use Rattle.std.proofs.lemmas.List.Sorted.{All-permutation}

@@ -1,5 +1,5 @@
 -- What the sort by the three numbers gives.
-use Rattle.std.proofs.Common.{ℕ, ◌+◌, ◌∙◌, sym, rules}
+use Rattle.std.proofs.Common.{◌+◌, ◌∙◌, sym, rules}
 use Rattle.std.specs.Prelude.{slice_index_or}
 use Rattle.std.proofs.lemmas.List.Sorted.{answers_always}
 use Rattle.apf_picture.specs.declared.rank.Standing.{Standing}

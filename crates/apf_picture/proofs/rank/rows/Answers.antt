@@ -1,5 +1,5 @@
 -- One flow more.
-use Rattle.std.proofs.Common.{◌≡◌, ℕ, ◌+◌, ◌++◌, ◌∷◌, [], arith}
+use Rattle.std.proofs.Common.{ℕ, arith}
 use Rattle.std.proofs.lemmas.List.FromFn.{map-range_with_len_more}
 use Rattle.apf_picture.specs.Ranks.{place_of}
 use Rattle.apf_picture.proofs.rank.rows.Goals as goal

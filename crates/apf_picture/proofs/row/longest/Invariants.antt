@@ -4,4 +4,4 @@ use Rattle.apf_picture.specs.Rows.{longest_of}
 use Rattle.apf_picture.proofs.row.longest.Given as goal
 
 abbrev pub invariant-loop-life : goal.invariant-loop-life
-invariant-loop-life l = max l.longest (longest_of (drop l.life-index l.lives)) ≡ longest_of l.lives
+invariant-loop-life l = max l.longest (longest_of l.fate (drop l.life-index l.lives)) ≡ longest_of l.fate l.lives

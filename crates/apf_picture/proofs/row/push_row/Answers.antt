@@ -1,6 +1,5 @@
 -- The row that was added.
 use Rattle.std.proofs.Common.{ap}
-use Rattle.apf_picture.specs.declared.label.Label.{Label}
 use Rattle.apf_picture.specs.Labels.{called}
 use Rattle.apf_picture.proofs.row.push_row.Goals as goal
 

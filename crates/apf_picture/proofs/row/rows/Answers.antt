@@ -1,5 +1,5 @@
 -- The rows of the flows that have one of their own, and the row of the others.
-use Rattle.std.proofs.Common.{◌≡◌, ◌≤◌, ℕ, ◌+◌, min, refl, subst, length, arith}
+use Rattle.std.proofs.Common.{◌≡◌, ℕ, min, refl, subst, length, arith}
 use Rattle.apf_picture.specs.Labels.{label_at}
 use Rattle.apf_picture.specs.Rows.{AreRows}
 use Rattle.apf_picture.proofs.Ranges.{rows_more, rows_counted}

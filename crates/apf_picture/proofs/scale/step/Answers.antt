@@ -1,5 +1,5 @@
 -- The steps are powers of ten, and the answer is the least round number that is enough.
-use Rattle.std.proofs.Common.{◌+◌, ◌*◌, ◌<◌, ◌≤◌, arith}
+use Rattle.std.proofs.Common.{arith}
 use Rattle.apf_picture.proofs.Steps.{power_first, power_more, few_first, few_more, step_one, step_two, step_five}
 use Rattle.apf_picture.proofs.scale.step.Goals as goal
 

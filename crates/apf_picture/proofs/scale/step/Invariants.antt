@@ -1,5 +1,5 @@
 -- The step is a power of ten of units, five times of it fit a number, and no smaller round number is enough.
-use Rattle.std.proofs.Common.{◌+◌, ◌-◌, ◌*◌, ◌<◌, ◌≤◌, ◌^◌}
+use Rattle.std.proofs.Common.{◌-◌, ◌*◌, ◌<◌, ◌^◌}
 use Rattle.apf_picture.proofs.Steps.{IsPower, IsTooFew}
 use Rattle.apf_picture.proofs.scale.step.Given as goal
 

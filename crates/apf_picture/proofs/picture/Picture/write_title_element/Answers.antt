@@ -1,7 +1,7 @@
 -- Three texts, one after another.
-use Rattle.std.proofs.Common.{codes, ◌++◌}
+use Rattle.std.proofs.Common.{codes}
 use Rattle.std.proofs.lemmas.Result.{on_ok_weaker}
-use Rattle.apf_picture.specs.Pictures.{title_text, title_element}
+use Rattle.apf_picture.specs.Pictures.{whole_title, title_element}
 use Rattle.apf_picture.proofs.Ranges.{appends_three}
 use Rattle.apf_picture.proofs.picture.Picture.write_title_element.Goals as goal
 
@@ -9,4 +9,4 @@ pub returns : goal.returns
 unfolding title_element
 returns g c =
     let told = g.W.Write.contents in
-    on_ok_weaker c.write_all-2.result (λ last. appends_three (told c.args.out.now) (told c.write_all.new.self) (told c.write_title.new.out) (told c.write_all-2.new.self) (codes "<title id=\"title\">") (title_text c.args.self.now) (codes "</title>\n") c.in_ok-write_all.ensures.bytes c.in_ok-write_title.ensures last) c.write_all-2.ensures.bytes
+    on_ok_weaker c.write_all-2.result (λ last. appends_three (told c.args.out.now) (told c.write_all.new.self) (told c.write_whole_title.new.out) (told c.write_all-2.new.self) (codes "<title id=\"title\">") (whole_title c.args.self.now) (codes "</title>\n") c.in_ok-write_all.ensures.bytes c.in_ok-write_whole_title.ensures last) c.write_all-2.ensures.bytes

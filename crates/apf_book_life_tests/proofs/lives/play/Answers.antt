@@ -26,7 +26,7 @@ begins shape queues limit is = record {
   nothing = refl;
   queues_are = refl;
   limit_is = refl;
-  low = low shape.widths is.widths;
+  low = λ r. (let l = low shape.widths is.widths r in omega arith);
   few = let k = is.few_numbers in omega arith;
 }
 

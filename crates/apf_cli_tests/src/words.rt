@@ -289,6 +289,7 @@ fn reads_numbers_of_options(rt: HostRuntime) -> Result<(), Fail> {
                 config: "c",
                 slots,
                 name: "level",
+                charge: None,
             },
         };
         assert_eq!(rt; read_words(alloc, &words)?, serve);
@@ -299,6 +300,7 @@ fn reads_numbers_of_options(rt: HostRuntime) -> Result<(), Fail> {
             config: "c",
             slots: 10_000,
             name: "level",
+            charge: None,
         },
     };
     assert_eq!(rt; read_words(alloc, &["apf", "serve", "c"])?, serve);
@@ -413,16 +415,17 @@ fn refuses_words(rt: HostRuntime) {
     }
 }
 
-// The name of a level.
+// The name of a level, and what it charges.
 #[test]
-fn reads_the_name_of_a_level(rt: HostRuntime) -> Result<(), Fail> {
-    let words = ["apf", "serve", "--name", "a.b-9", "--slots=3", "c"];
+fn reads_the_name_and_the_charge_of_a_level(rt: HostRuntime) -> Result<(), Fail> {
+    let words = ["apf", "serve", "--name", "a.b-9", "--slots=3", "--charge=seats", "c"];
     let serve = Action {
         command: "serve",
         arguments: Arguments::Level {
             config: "c",
             slots: 3,
             name: "a.b-9",
+            charge: Some("seats"),
         },
     };
     assert_eq!(rt; read_words(rt.alloc(), &words)?, serve);

@@ -17,7 +17,7 @@ fn memory_is_given_or_refused(rt: HostRuntime) -> Result<(), Fail> {
     match judged(rt.alloc(), line.as_bytes()) {
         Ok(command) => {
             assert!(rt;
-                matches!(command, Command::Arrive(0, arrival) if arrival.ask.width == 2 && arrival.cost == 2)
+                matches!(command, Command::Arrive(0, arrival) if arrival.ask.width == 2 && arrival.cost.is_none())
             );
         }
         Err(fault) => assert_eq!(rt; fault.kind, FaultKind::NoMemory),

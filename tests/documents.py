@@ -246,7 +246,7 @@ def count(*path):
 
 
 page = open(os.path.join(TOP, "docs", "proof", "PROOFS.md"), encoding="utf-8").read()
-counts = [(f"`{it}`", count("planted", it), count("crates", it, "must-fail")) for it in sorted(os.listdir(os.path.join(TOP, "planted")))]
+counts = [(f"`{it}`", count("planted", it), count("crates", it, "must-fail")) for it in sorted(os.listdir(os.path.join(TOP, "planted"))) if it != "must-fail.txt"]
 counts.append(("all", *(sum(it[at] for it in counts) for at in (1, 2))))
 rows = [(name, int(planted), int(kept)) for name, planted, kept in re.findall(r"^\| (`apf\w*`|all) \| (\d+) \| (\d+) \|$", page, re.M)]
 tally.check("docs/proof/PROOFS.md: the planted bugs of each crate", rows, counts)

@@ -139,7 +139,7 @@ class Told:
         root = ElementTree.fromstring("\n".join(self.said("picture", **level)[0]))
         rows = {}
         for group in root.iter(f"{SVG}g"):
-            mark = group.find(f"{SVG}rect")
-            if mark is not None and re.fullmatch(r"f\d+", mark.get("class")):
-                rows[group.find(f"{SVG}text").text.strip()] = int(mark.get("class")[1:])
+            for mark in group.findall(f"{SVG}rect"):
+                if re.fullmatch(r"f\d+", mark.get("class")):
+                    rows[group.findtext(f"{SVG}title")] = int(mark.get("class")[1:])
         return root, f"{root[0].text}. {root[1].text}", rows

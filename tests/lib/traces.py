@@ -53,7 +53,7 @@ class Traces:
         flows = [self.flow() for _ in range(self.draw.choice([1, 2, 3, 12, 40]))]
         runs = self.draw.choice([[0], [0, 10], [10, 20, 30], [0, 1, 2, 5, 10, 100], [0, 50, 300], [100, 1000, 10_000_000_000]])
         widths = self.draw.choice([[1], [1, 1, 1, 2, 3], [1, 1, 2, 7, 30], [1, 1, 1, 2, 5], [20_000, 1]])
-        costs = self.draw.choice([[], [1, 2, 3], [1, 100, 20_000]]) if has_costs else []
+        costs = self.draw.choice([[], [1, 2, 3], [1, 100, 4_294_967_295]]) if has_costs else []
         objects = []
         for time in self.times(count):
             each = {**self.draw.choice(flows), "arrivesAt": time, "runsFor": self.draw.choice(runs)}
@@ -80,7 +80,7 @@ class Traces:
     def small(self):
         """The object of one line that is good."""
         more = {"width": self.draw.choice([1, 2, 20_000])} if self.draw.random() < 0.3 else {}
-        more.update({"cost": self.draw.choice([1, 20_000])} if self.draw.random() < 0.3 else {})
+        more.update({"cost": self.draw.choice([1, 20_000, 4_294_967_295])} if self.draw.random() < 0.3 else {})
         return {**self.flow(), "arrivesAt": self.draw.choice([0, 1, 10**12]), "runsFor": self.draw.choice([0, 1, 10**10]), **more}
 
     # what is not
@@ -165,7 +165,7 @@ BEYOND = {
     "arrivesAt": [ABSENT, ABSENT, 10**12 + 1, (1 << 64) - 1],
     "runsFor": [ABSENT, ABSENT, 10**10 + 1, 10**12],
     "width": [0, 20_001, 65_537, (1 << 32) + 1],
-    "cost": [0, 20_001, 65_537, (1 << 32) + 1],
+    "cost": [0, 1 << 32, (1 << 32) + 1, 1 << 64],
 }
 NAMES = {"schema": "a", "distinguisher": "b"}
 FLOWS = [
@@ -247,8 +247,8 @@ def good_ends():
     yield "no line", b"", []
     yield "zeros and ones", b'{"hash":0,"arrivesAt":0,"runsFor":0,"width":1,"cost":1}\n', [{**zero, "width": 1, "cost": 1}]
     yield "the greatest numbers", (
-        b'{"hash":18446744073709551615,"arrivesAt":1000000000000,"runsFor":10000000000,"width":20000,"cost":20000}\n'
-    ), [{"hash": (1 << 64) - 1, "arrivesAt": 10**12, "runsFor": 10**10, "width": 20_000, "cost": 20_000}]
+        b'{"hash":18446744073709551615,"arrivesAt":1000000000000,"runsFor":10000000000,"width":20000,"cost":4294967295}\n'
+    ), [{"hash": (1 << 64) - 1, "arrivesAt": 10**12, "runsFor": 10**10, "width": 20_000, "cost": 4_294_967_295}]
     yield "a cost that is the width", plain[:-1] + b',"width":7}\n', [{**zero, "width": 7, "cost": 7}]
     yield "a cost beside no width", plain[:-1] + b',"cost":7}\n', [{**zero, "width": 1, "cost": 7}]
     yield "one flow by its names", b'{"schema":"batch","distinguisher":"crawler","arrivesAt":0,"runsFor":100}\n', [

@@ -139,6 +139,6 @@ module _ (laws : Laws) (v : LedgerView) (s : QueuesView) (marks : List Bool) (ca
         next = λ q. (let b = t.next q in let l = few_times (count_by is_dispatch v.history) 10000 (omega arith) in omega arith);
         virtual_time = (let b = t.virtual_time in let l = few_times (count_by is_dispatch v.history) 10000 (omega arith) in omega arith);
         finish = λ q some. (let b = t.next q in let one = some_waits q some in let cost = cost_within v.costs (slice_index (waiting v.history q) 0) in
-          let l = few_times (suc (count_by is_dispatch v.history)) 10000 (omega arith) in
-          let more : suc (count_by is_dispatch v.history) * widest v.costs ≡ count_by is_dispatch v.history * widest v.costs + widest v.costs = omega arith in omega arith);
+            let l = few_times (suc (count_by is_dispatch v.history)) 10000 (omega arith) in
+            let more : suc (count_by is_dispatch v.history) * widest v.costs ≡ count_by is_dispatch v.history * widest v.costs + widest v.costs = omega arith in omega arith);
       }

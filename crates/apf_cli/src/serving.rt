@@ -89,5 +89,14 @@ pub(crate) fn print_served<F: Files, O: Write, R: Wait>(
     let by = charged_by(level.charge)?;
     let config = config_of(alloc, files, level.config)?;
     let mut commands = Commands { files };
-    Ok(serve(rt, alloc, &config, level.slots, level.name, by, &mut commands, out)?)
+    Ok(serve(
+        rt,
+        alloc,
+        &config,
+        level.slots,
+        level.name,
+        by,
+        &mut commands,
+        out,
+    )?)
 }

@@ -418,7 +418,15 @@ fn refuses_words(rt: HostRuntime) {
 // The name of a level, and what it charges.
 #[test]
 fn reads_the_name_and_the_charge_of_a_level(rt: HostRuntime) -> Result<(), Fail> {
-    let words = ["apf", "serve", "--name", "a.b-9", "--slots=3", "--charge=seats", "c"];
+    let words = [
+        "apf",
+        "serve",
+        "--name",
+        "a.b-9",
+        "--slots=3",
+        "--charge=seats",
+        "c",
+    ];
     let serve = Action {
         command: "serve",
         arguments: Arguments::Level {

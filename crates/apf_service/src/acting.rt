@@ -56,9 +56,7 @@ fn asked_by(notes: &Notes, arrival: Arrival) -> Asked
     ensures some { 1 ≤ result.cost }
 {
     let flow = arrival.ask.hash;
-    let cost = notes
-        .charges
-        .cost_of(flow, arrival.ask.width, arrival.cost);
+    let cost = notes.charges.cost_of(flow, arrival.ask.width, arrival.cost);
     Asked { flow, cost }
 }
 

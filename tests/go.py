@@ -66,7 +66,7 @@ class Backend:
         # those beside so many wait in the order in which they came
         self.workers = concurrent.futures.ThreadPoolExecutor(workers) if workers else None
         # what came, by path and in order, with the fields and bodies, and how many were in work at once at most
-        self.came, self.fields, self.bodies, self.raw, self.open, self.ended, self.answered, self.broken = [], {}, {}, {}, {}, [], [], []
+        self.came, self.fields, self.bodies, self.raw, self.open, self.ended, self.answered, self.broken, self.kept = [], {}, {}, {}, {}, [], [], [], []
         self.inside = self.highest = 0
         self.lock = threading.Condition()
         threading.Thread(target=self.accept, daemon=True).start()
@@ -91,19 +91,19 @@ class Backend:
                 self.came.append(path)
                 self.open[path], self.fields[path] = connection, fields
                 self.lock.notify_all()
-            body, names = b"", dict(fields)
+            body, names, line = b"", dict(fields), b""
             if names.get("transfer-encoding") == "chunked":
-                while size := int(reader.readline().split(b";")[0], 16):
+                while (line := reader.readline()) and (size := int(line.split(b";")[0], 16)):
                     body += reader.read(size)
                     reader.readline()
-                while reader.readline() not in (b"\r\n", b""):
-                    pass
+                is_whole = line and reader.readline() == b"\r\n"
             else:
                 body = reader.read(int(names.get("content-length", 0)))
-            if len(body) < int(names.get("content-length", 0)):
+                is_whole = len(body) == int(names.get("content-length", 0))
+            if not is_whole:
+                # it works on what it got, until the test ends that
                 with self.lock:
                     self.broken.append(path)
-                    self.inside -= 1
                     self.lock.notify_all()
                 return
             self.bodies[path] = body
@@ -121,7 +121,7 @@ class Backend:
                 self.ended.append(path)
                 self.lock.notify_all()
 
-    def answer(self, path):
+    def answer(self, path, closes=True):
         with self.lock:
             connection = self.open.pop(path, None)
             if connection is None:
@@ -132,12 +132,15 @@ class Backend:
         text = path.encode() + self.bodies.get(path, b"")
         with contextlib.suppress(OSError):
             connection.sendall(self.raw.get(path, b"HTTP/1.1 200 OK\r\nConnection: close\r\nContent-Length: %d\r\n\r\n%s" % (len(text), text)))
-            connection.shutdown(socket.SHUT_WR)
+            if closes:
+                connection.shutdown(socket.SHUT_WR)
+            else:
+                self.kept.append(connection)
 
-    def wait(self, holds):
-        """Waits until this holds of the paths that came."""
+    def wait(self, holds, most=MOST):
+        """Waits until this holds of the paths that came, this many seconds at most, and answers whether it does."""
         with self.lock:
-            return self.lock.wait_for(lambda: holds(self.came), MOST)
+            return self.lock.wait_for(lambda: holds(self.came), most)
 
 
 gateways, counter = [], itertools.count()
@@ -181,9 +184,9 @@ class Gateway:
             json.dump({"limit": 2, "queues": 8, "handSize": 1, "queueLengthLimit": 300, **config}, file)
 
     @staticmethod
-    def until(holds):
-        """Waits for what holds soon, and answers what it says then."""
-        for _ in range(MOST * 50):
+    def until(holds, most=MOST):
+        """Waits for what holds soon, this many seconds at most, and answers what it says then."""
+        for _ in range(most * 50):
             if found := holds():
                 return found
             time.sleep(0.02)
@@ -218,8 +221,8 @@ class Gateway:
         lines = [it for it in self.page("/metrics")[1].split("\n") if it and not it.startswith("#")]
         return {re.sub(r'apiserver_flowcontrol_|priority_level="[^"]*",?|[{}"]|reason=', "", line.rsplit(" ", 1)[0]): float(line.rsplit(" ", 1)[1]) for line in lines}
 
-    def holds(self, **wanted):
-        """Waits until the metrics have these numbers, and answers what they have."""
+    def holds(self, most=MOST, **wanted):
+        """Waits until the metrics have these numbers, this many seconds at most, and answers what they have."""
         got = {}
 
         def holds():
@@ -228,12 +231,12 @@ class Gateway:
             got = {name: numbers.get(name) for name in wanted}
             return got == wanted
 
-        self.until(holds)
+        self.until(holds, most)
         return got
 
-    def is_idle(self):
+    def is_idle(self, most=MOST):
         idle = {"current_executing_seats": 0, "current_inqueue_requests": 0}
-        return self.holds(**idle) == idle
+        return self.holds(most, **idle) == idle
 
     def level(self):
         """The process of the level behind the gateway."""
@@ -368,6 +371,7 @@ def test_decisions():
     tally.check("patience ends", [answer_of(it)[::2] for it in waiting], [(503, "1")] * 2)
     tally.check("they were cancelled", gateway.holds(rejected_requests_totalcancelled=2, current_executing_seats=1), {"rejected_requests_totalcancelled": 2, "current_executing_seats": 1})
     left = gateway.ask("/left")
+    gateway.holds(current_inqueue_requests=1)
     left.close()
     tally.check("a client that leaves while it waits", gateway.holds(rejected_requests_totalcancelled=3), {"rejected_requests_totalcancelled": 3})
     backend.answer("/first")
@@ -404,7 +408,8 @@ def test_trust():
     gateway.get("/trusted", **{"X-Seats": "2", "X_Remote_User": "mallory", "Connection": "close, X-Remote-User, X-Seats"})
     fields = dict(backend.fields["/trusted"])
     tally.check("the flow header of a trusted address", (fields.get("x-remote-user"), fields.get("x-seats"), fields.get("x_remote_user")), ("alice", "2", None))
-    gateway.get("/anybody", user="admin", address="127.0.0.2", **{"X-Seats": "2", "x-REMOTE_user": "admin"})
+    gateway.get("/anybody", user="admin", address="127.0.0.2", **{"X-Seats": "2", "x-REMOTE_user": "admin", "X-Forwarded-For": "10.9.8.7"})
+    tally.check("the address of a client stands last in X-Forwarded-For", [dict(backend.fields[it]).get("x-forwarded-for") for it in ("/trusted", "/anybody")], ["127.0.0.1", "10.9.8.7, 127.0.0.2"])
     names = [name for name, _ in backend.fields["/anybody"]]
     tally.check("the flow header of anybody is removed", [it for it in names if "remote" in it or "seats" in it], [])
     tally.check("the flows", [it["flow"] for it in gateway.until(lambda: len(gateway.entries()) == 2 and gateway.entries())], ["alice", "127.0.0.2"])
@@ -445,7 +450,7 @@ def test_stalled_clients():
     backend = Backend()
     big = 600_000
     backend.raw = {f"/unread/{number}": b"HTTP/1.1 200 OK\r\nConnection: close\r\nContent-Length: %d\r\n\r\n" % big + b"x" * big for number in range(10)}
-    gateway = Gateway(backend, "--run-limit", "60s", limit=2)
+    gateway = Gateway(backend, "--run-limit", "600s", limit=2)
     stalled = [gateway.ask(f"/upload/{number}", user="slow", method="POST", **{"Content-Length": "100000"}) for number in range(10)]
     for it in stalled:
         it.sendall(b"a part")
@@ -456,11 +461,12 @@ def test_stalled_clients():
         it.connect(("127.0.0.1", gateway.port))
         it.sendall(f"GET /unread/{number} HTTP/1.1\r\nHost: there\r\nX-Remote-User: slow\r\n\r\n".encode())
         unread.append(it)
-    backend.wait(lambda came: len(came) == 10)
-    began = time.monotonic()
-    status = gateway.get("/quiet", user="quiet")[0]
-    tally.check("a quiet user is served within a second", (status, time.monotonic() - began < 1), (200, True))
-    tally.check("a stalled upload has no seat, nor who does not read", (gateway.is_idle(), [it for it in backend.came if "upload" in it]), (True, []))
+    # the run limit is far away, so a seat that one of them holds does not come back while this is judged
+    tally.check("ten stalled uploads keep nobody from the backend for ten seconds", backend.wait(lambda came: len(came) == 10, 10), True)
+    quiet = gateway.ask("/quiet", user="quiet")
+    quiet.settimeout(1)
+    tally.check("a quiet user is served within a second", answer_of(quiet)[0], 200)
+    tally.check("a stalled upload has no seat, nor who does not read", (gateway.is_idle(10), [it for it in backend.came if "upload" in it]), (True, []))
     for it in (*stalled, *unread):
         it.close()
     gateway.end()
@@ -490,6 +496,7 @@ def test_stalled_clients():
     tally.check("a long body that stalls ends at the run limit", (answer_of(stalled)[0], gateway.is_idle()), (504, True))
     with backend.lock:
         tally.check("and the backend has the end of it", backend.lock.wait_for(lambda: backend.broken == ["/upload"], MOST), True)
+    gateway.end()
 
 
 def test_half_sent_heads():
@@ -540,6 +547,67 @@ def test_clients_that_hang_up_while_the_backend_works():
     tally.check("one that stays is served", gateway.get("/stays")[0], 200)
     tally.check("all seats came back", gateway.is_idle(), True)
     tally.check("the backend never has more than the limit", (backend.highest <= 3, backend.highest), (True, 3))
+
+
+def test_clients_that_leave_in_the_middle_of_a_body():
+    """The backend works on what it got of a body that is longer than the buffer. Others wait until it ends that, or the run limit does."""
+    backend = Backend(at_once=False)
+    gateway = Gateway(backend, "--run-limit", "600s", "--body-buffer", "64KiB", "--patience", "600s", limit=3)
+    part = b"x" * 100_000
+    chunk = b"%x\r\n%s\r\n" % (len(part), part)
+
+    def send(gateway, path, body=part, **fields):
+        it = gateway.ask(path, method="POST", **(fields or {"Content-Length": "300000"}))
+        it.sendall(body)
+        return it
+
+    leave = [send(gateway, "/length"), send(gateway, "/chunks", chunk, **{"Transfer-Encoding": "chunked"})]
+    stays = send(gateway, "/stays", chunk, **{"Transfer-Encoding": "chunked"})
+    tally.check("long bodies come to the backend while they are sent", backend.wait(lambda came: len(came) == 3, 10), True)
+    others = [gateway.ask(f"/other/{number}", user="quiet") for number in range(5)]
+    want = {"current_executing_seats": 3, "current_inqueue_requests": 5}
+    tally.check("and their requests have their seats", gateway.holds(10, **want), want)
+    for it in leave:
+        it.close()
+    stays.sendall(b"this is no chunk\r\n")
+    with backend.lock:
+        tally.check("their rest can't come: the backend sees the end of each", backend.lock.wait_for(lambda: len(backend.broken) == 3, 10), True)
+    tally.check("while it works, nobody else comes to it for two seconds", backend.wait(lambda came: len(came) > 3, 2), False)
+    tally.check("and they keep their seats", gateway.holds(10, **want), want)
+    backend.answer("/length", closes=False)
+    tally.check("an answer gives the seat back, before its connection ends", backend.wait(lambda came: len(came) == 4, 10), True)
+    backend.raw["/chunks"] = b""
+    backend.answer("/chunks")
+    tally.check("and so does the end of a connection without an answer", backend.wait(lambda came: len(came) == 5, 10), True)
+    backend.answer("/stays")
+    tally.check("a client that stays has the backend's answer", answer_of(stays)[:2], (200, "/stays"))
+    backend.at_once = True
+    for path in list(backend.open):
+        backend.answer(path)
+    tally.check("the others are served", [answer_of(it)[0] for it in others], [200] * 5)
+    tally.check("the backend never has more than the limit", backend.highest, 3)
+    tally.check("all seats came back", gateway.is_idle(), True)
+    gateway.end()
+    # a backend that never ends has the seat until the run limit
+    backend = Backend(at_once=False)
+    gateway = Gateway(backend, "--run-limit", "3s", "--body-buffer", "64KiB", limit=1)
+    began = time.monotonic()
+    leaves = send(gateway, "/leaves")
+    tally.check("a long body comes to the backend while it is sent", backend.wait(lambda came: came == ["/leaves"], 10), True)
+    leaves.close()
+    other = gateway.ask("/other")
+    tally.check("another one comes", backend.wait(lambda came: came == ["/leaves", "/other"]), True)
+    tally.check("but not before the run limit", time.monotonic() - began >= 3, True)
+
+    def is_closed():
+        with contextlib.suppress(OSError):
+            backend.open["/leaves"].sendall(b"x")
+            return False
+        return True
+
+    tally.check("which closed the connection", gateway.until(is_closed), True)
+    backend.answer("/other")
+    tally.check("it is served, and all seats came back", (answer_of(other)[0], gateway.is_idle()), (200, True))
 
 
 def test_trailers_without_end():

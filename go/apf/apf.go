@@ -50,8 +50,7 @@ type Rejected struct{ Reason string }
 // Error says that the request was rejected, and why.
 func (r *Rejected) Error() string { return "apf: rejected: " + r.Reason }
 
-// Fault is the error of a line that the level could not carry out, such as one with too long a name. Text is the
-// level's.
+// Fault is the error of a line that the level could not carry out, as one with a name too long. Text is the level's.
 type Fault struct{ Text string }
 
 // Error says what was wrong with the line.
@@ -271,8 +270,7 @@ func ByHeader(name string, trusted ...netip.Prefix) func(*http.Request) Request 
 }
 
 // Refuse answers a request for which Acquire had this error: 429 with Retry-After and the reason where the level
-// rejects it, 431 where the level can't read what it asks, and 503 where it waited in vain. It answers the decision in
-// a word.
+// rejects it, 431 where the level can't read it, and 503 where it waited in vain. It answers the decision in a word.
 func Refuse(w http.ResponseWriter, err error) string {
 	var rejected *Rejected
 	var fault *Fault

@@ -63,7 +63,7 @@ func fake() {
 	var config struct{ Limit int }
 	text, err := os.ReadFile(os.Args[2])
 	if err != nil || json.Unmarshal(text, &config) != nil || config.Limit < 1 {
-		fmt.Fprintln(os.Stderr, "apf: config fault 5: bad value of limit")
+		fmt.Fprintln(os.Stderr, "apf: config fault 5: bad value of limit\n/dev/fd/3: limit is 0: it must be a whole number from 1 to 10000")
 		os.Exit(1)
 	}
 	slots, _ := strconv.Atoi(os.Args[4])

@@ -148,8 +148,7 @@ func (l *Level) lose(p *pipe) {
 }
 
 // ask sends a question that is of no request, and waits for its answer, whose last line begins so. A question that
-// changes the level is noted once it is answered; while no level is there it is noted at once, and the next level is
-// given it.
+// changes the level is noted once it is answered. While no level is there it is noted at once, for the next level.
 func (l *Level) ask(ctx context.Context, line, last string, note func()) (string, error) {
 	q := &question{last: last, note: note, told: make(chan error, 1)}
 	l.mu.Lock()

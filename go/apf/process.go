@@ -7,8 +7,10 @@ import (
 	"errors"
 	"fmt"
 	"io"
+	"math"
 	"os"
 	"os/exec"
+	"regexp"
 	"strconv"
 	"strings"
 	"sync"
@@ -59,10 +61,7 @@ func (p *pipe) ask(word string, r *request) {
 
 // ran is how the level is told that a request ran so long: in whole microseconds, at most 10^12.
 func ran(long time.Duration) string {
-	if most := 1_000_000 * time.Second; long > most {
-		long = most
-	}
-	return strconv.FormatInt(long.Microseconds(), 10)
+	return strconv.FormatInt(int64(math.Min(float64(long.Microseconds()), 1e12)), 10)
 }
 
 // send sends a line that asks this.
@@ -118,14 +117,10 @@ func (l *Level) read(p *pipe) (err error) {
 	return err
 }
 
-// Start opens a level, and waits until its process says that it is open. The context bounds that wait alone: Shutdown
-// ends the level.
+// Start opens a level, and waits until its process says so. The context bounds that wait alone: Shutdown ends the level.
 func Start(ctx context.Context, options Options) (*Level, error) {
 	options.Program, options.Name = or(options.Program, "apf"), or(options.Name, "level")
 	options.Slots, options.Patience = or(options.Slots, 10000), or(options.Patience, 5*time.Second)
-	if options.Log == nil {
-		options.Log = func(string) {}
-	}
 	config, err := os.ReadFile(options.Config)
 	if err != nil {
 		return nil, err
@@ -234,8 +229,7 @@ func (l *Level) open(ctx context.Context, config []byte) (*pipe, error) {
 	if err != nil {
 		return nil, err
 	}
-	p.out = out.(*os.File)
-	p.reader = bufio.NewReaderSize(p.out, maxLine)
+	p.out, p.reader = out.(*os.File), bufio.NewReaderSize(out, maxLine)
 	first, line := make(chan string, 1), ""
 	go func() {
 		text, _ := p.reader.ReadString('\n')
@@ -251,14 +245,14 @@ func (l *Level) open(ctx context.Context, config []byte) (*pipe, error) {
 		return p, nil
 	}
 	p.end()
-	lines := strings.Split(strings.TrimSpace(said.String()), "\n")
+	text := strings.TrimSpace(said.String())
+	// the line of the fault, and not what explains it behind; else the last one
+	why := or(regexp.MustCompile("(?m)^(apf|error): .*").FindString(text), text[strings.LastIndex("\n"+text, "\n"):])
 	switch {
 	case ctx.Err() != nil:
 		return nil, fmt.Errorf("%s serve said no first line: %w", program, ctx.Err())
-	case strings.HasPrefix(lines[0], "error: "):
-		return nil, errors.New(lines[0])
-	case line == "" && lines[0] != "":
-		return nil, errors.New(lines[len(lines)-1])
+	case line == "" && why != "":
+		return nil, errors.New(why)
 	}
 	return nil, fmt.Errorf("%s serve said no first line of a level of version 1: %.100q", program, line)
 }
@@ -282,18 +276,15 @@ func (l *Level) keep(p *pipe) {
 			why = errors.New(p.command.ProcessState.String())
 		}
 		for p = nil; p == nil; {
-			if l.stopped.Err() != nil {
-				return
-			}
-			l.options.Log(fmt.Sprintf("the level is not there, and is started again: %v", why))
 			select {
 			case <-time.After(l.pause):
 			case <-l.stopped.Done():
 				return
 			}
-			if l.pause *= 2; l.pause > mostPause {
-				l.pause = mostPause
+			if l.options.Log != nil {
+				l.options.Log(fmt.Sprintf("the level is not there, and is started again: %v", why))
 			}
+			l.pause = time.Duration(math.Min(float64(2*l.pause), float64(mostPause)))
 			ctx, cancel := context.WithTimeout(l.stopped, l.options.Patience)
 			p, why = l.open(ctx, l.config)
 			cancel()

@@ -7,6 +7,7 @@ import (
 	"log"
 	"net"
 	"net/http"
+	"net/http/httptrace"
 	"net/http/httputil"
 	"net/netip"
 	"net/url"
@@ -97,12 +98,29 @@ func (g *gateway) readBody(r *http.Request) int {
 	case err != nil:
 		return http.StatusBadRequest
 	default: // the rest of it comes while the request runs
-		r.Body = struct {
-			io.Reader
-			io.Closer
-		}{io.MultiReader(kept, r.Body), r.Body}
+		r.Body = &longBody{io.MultiReader(kept, r.Body), r.Body, nil}
 	}
 	return 0
+}
+
+// longBody is a body that is longer than the buffer, and goes to the backend while it comes.
+type longBody struct {
+	io.Reader
+	io.Closer
+	backend net.Conn // the connection that it goes to
+}
+
+// Read reads it. Where its rest can't come, the backend sees the end of what is sent to it. It may still work, so its
+// connection stays until it has answered or has closed it, or until the run limit.
+func (b *longBody) Read(part []byte) (int, error) {
+	n, err := b.Reader.Read(part)
+	if err != nil && err != io.EOF {
+		b.backend.(interface{ CloseWrite() error }).CloseWrite()
+		// the transport closes it then, and what is closed takes no deadline
+		for ; b.backend.SetWriteDeadline(time.Time{}) == nil; time.Sleep(20 * time.Millisecond) {
+		}
+	}
+	return n, err
 }
 
 // run is one request that has its seats. Its context ends by the run limit, and not with the client.
@@ -141,10 +159,13 @@ func (it *run) expire() {
 
 // RoundTrip passes the request on. The backend's answer is read to its end, and then the seats come back.
 func (it *run) RoundTrip(r *http.Request) (*http.Response, error) {
+	if body, isLong := r.Body.(*longBody); isLong {
+		trace := &httptrace.ClientTrace{GotConn: func(info httptrace.GotConnInfo) { body.backend = info.Conn }}
+		r = r.WithContext(httptrace.WithClientTrace(r.Context(), trace))
+	}
 	response, err := it.gateway.proxy.Transport.RoundTrip(r)
 	switch {
-	case err != nil:
-		return nil, err
+	case err != nil: // failed gives the seats back
 	case response.StatusCode == http.StatusSwitchingProtocols: // from now on it is no request any more
 		if !it.limit.Stop() {
 			response.Body.Close()
@@ -153,17 +174,15 @@ func (it *run) RoundTrip(r *http.Request) (*http.Response, error) {
 		it.upgraded, it.said.Status = response.Body, response.StatusCode
 		it.over()
 	case response.ContentLength >= 0 && response.ContentLength <= smallAnswer || response.Body == http.NoBody:
-		text, err := io.ReadAll(response.Body)
+		var text []byte
+		text, err = io.ReadAll(response.Body)
 		response.Body.Close()
-		if err != nil {
-			return nil, err
-		}
 		it.over()
 		response.Body = io.NopCloser(bytes.NewReader(text))
 	default:
-		return it.passOn(response), nil
+		response = it.passOn(response)
 	}
-	return response, nil
+	return response, err
 }
 
 // passOn reads an answer to its end, and keeps some parts for a slow client. Once the client is gone it drops the rest.

@@ -2,6 +2,7 @@ package main
 
 import (
 	"context"
+	"fmt"
 	"io"
 	"net/http"
 	"net/http/httptest"
@@ -17,8 +18,12 @@ import (
 	"burtxeltz/apf"
 )
 
-// over2 is a gateway that speaks HTTP/2, in front of this backend, with a client of one connection.
-func over2(t *testing.T, o *options, backend http.HandlerFunc) (*gateway, func(method, path string, body io.Reader) (*http.Response, bool)) {
+// starts starts a backend, with HTTPS or without.
+type starts func(http.Handler) *httptest.Server
+
+// over2 is a gateway that speaks HTTP/2, in front of this backend, with a client of one connection. Who asks for a path of
+// /leaves has no answer.
+func over2(t *testing.T, o *options, start starts, backend http.HandlerFunc) (*gateway, func(method, path string, body io.Reader) (*http.Response, bool)) {
 	t.Helper()
 	if os.Getenv("APF_PROGRAM") == "" {
 		t.Skip("APF_PROGRAM names no program")
@@ -29,10 +34,11 @@ func over2(t *testing.T, o *options, backend http.HandlerFunc) (*gateway, func(m
 	if err != nil {
 		t.Fatal(err)
 	}
-	behind := httptest.NewServer(backend)
+	behind := start(backend)
 	to, _ := url.Parse(behind.URL)
 	o.header, o.patience, o.bodyBuffer, o.quiet = "X-Remote-User", time.Minute, 1<<20, true
 	g := newGateway(level, to, nil, o)
+	g.proxy.Transport.(*http.Transport).TLSClientConfig = behind.Client().Transport.(*http.Transport).TLSClientConfig
 	server := httptest.NewUnstartedServer(g)
 	server.EnableHTTP2, server.Config.ConnContext = true, withConnection
 	server.StartTLS()
@@ -49,8 +55,10 @@ func over2(t *testing.T, o *options, backend http.HandlerFunc) (*gateway, func(m
 		ctx := httptrace.WithClientTrace(context.Background(), &httptrace.ClientTrace{GotConn: func(info httptrace.GotConnInfo) { reused = info.Reused }})
 		r, _ := http.NewRequestWithContext(ctx, method, server.URL+path, body)
 		answer, err := server.Client().Do(r)
-		if err != nil {
+		if leaves := strings.HasPrefix(path, "/leaves"); (err != nil) != leaves {
 			t.Errorf("%s: %v", path, err)
+		}
+		if err != nil {
 			return &http.Response{}, reused
 		}
 		defer answer.Body.Close()
@@ -60,7 +68,7 @@ func over2(t *testing.T, o *options, backend http.HandlerFunc) (*gateway, func(m
 }
 
 func TestRequestsOfOneConnection(t *testing.T) {
-	_, ask := over2(t, &options{runLimit: time.Minute}, func(w http.ResponseWriter, r *http.Request) {
+	_, ask := over2(t, &options{runLimit: time.Minute}, httptest.NewServer, func(w http.ResponseWriter, r *http.Request) {
 		body, _ := io.ReadAll(r.Body)
 		w.Write(body)
 	})
@@ -77,9 +85,60 @@ func TestRequestsOfOneConnection(t *testing.T) {
 	all.Wait()
 }
 
+func TestClientsThatLeaveInTheMiddleOfABody(t *testing.T) {
+	begun, came, release := make(chan struct{}, 3), make(chan string, 3), make(chan struct{})
+	g, ask := over2(t, &options{runLimit: time.Minute}, httptest.NewTLSServer, func(w http.ResponseWriter, r *http.Request) {
+		begun <- struct{}{}
+		_, err := io.Copy(io.Discard, r.Body)
+		came <- fmt.Sprint(r.URL.Path, " ", err)
+		<-release
+	})
+	// two have all seats, and the backend works on what it got
+	for _, path := range []string{"/leaves/0", "/leaves/1"} {
+		body, client := io.Pipe()
+		go func() {
+			io.WriteString(client, strings.Repeat("x", 2<<20))
+			<-begun
+			client.CloseWithError(io.ErrClosedPipe)
+		}()
+		ask("POST", path, body)
+		if got, want := <-came, path+" unexpected EOF"; got != want {
+			t.Errorf("%s, and not %s", got, want)
+		}
+	}
+	served := make(chan int, 1)
+	go func() {
+		answer, _ := ask("GET", "/waits", nil)
+		served <- answer.StatusCode
+	}()
+	select {
+	case got := <-came:
+		close(release)
+		t.Fatal("a third one comes to the backend: ", got)
+	case <-time.After(500 * time.Millisecond):
+	}
+	release <- struct{}{}
+	if got, want := <-came, "/waits <nil>"; got != want {
+		t.Errorf("%s, and not %s", got, want)
+	}
+	close(release)
+	if status := <-served; status != 200 {
+		t.Error(status)
+	}
+	// the backend's answers are read, though nobody waits for two of them
+	for end := time.Now().Add(10 * time.Second); ; time.Sleep(10 * time.Millisecond) {
+		text := g.journal.metrics("level", 0)
+		if strings.Contains(text, `apf_gateway_requests_total{code="200"} 3`) {
+			break
+		} else if time.Now().After(end) {
+			t.Fatal(text)
+		}
+	}
+}
+
 func TestOneRequestThatStallsEndsNoOther(t *testing.T) {
 	release := make(chan struct{})
-	g, ask := over2(t, &options{runLimit: 300 * time.Millisecond}, func(w http.ResponseWriter, r *http.Request) {
+	g, ask := over2(t, &options{runLimit: 300 * time.Millisecond}, httptest.NewServer, func(w http.ResponseWriter, r *http.Request) {
 		if r.URL.Path == "/hangs" {
 			select {
 			case <-release:

@@ -92,10 +92,9 @@ func (o *options) setBodyBuffer(text string) (err error) {
 func addresses(text string) (those []netip.Prefix, err error) {
 	for _, word := range strings.Split(text, ",") {
 		word = strings.TrimSpace(word)
-		address, err := netip.ParseAddr(word)
-		prefix := netip.PrefixFrom(address, address.BitLen())
-		if err != nil {
-			prefix, err = netip.ParsePrefix(word)
+		prefix, err := netip.ParsePrefix(word)
+		if address, none := netip.ParseAddr(word); none == nil {
+			prefix, err = address.Prefix(address.BitLen())
 		}
 		// where no word is, it is a range that has no address
 		if err != nil && word != "" {
@@ -123,8 +122,7 @@ func (o *options) serve() error {
 	if _, err := tls.LoadX509KeyPair(o.cert, o.key); err != nil && secured {
 		return err
 	}
-	o.level.Name = o.schema
-	o.level.Log = func(line string) { log.Print(line) }
+	o.level.Name, o.level.Log = o.schema, func(line string) { log.Print(line) }
 	level, err := apf.Start(context.Background(), o.level)
 	if err != nil {
 		return err
@@ -146,8 +144,7 @@ func (o *options) serve() error {
 		WriteTimeout: 2*o.runLimit + o.patience + 10*time.Second,
 	}
 	pages := &http.Server{Handler: g.pages(), ReadTimeout: 10 * time.Second, WriteTimeout: 30 * time.Second}
-	failed := make(chan error, 2)
-	serve := server.Serve
+	failed, serve := make(chan error, 2), server.Serve
 	if secured {
 		serve = func(it net.Listener) error { return server.ServeTLS(it, o.cert, o.key) }
 	}

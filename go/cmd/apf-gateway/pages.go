@@ -32,23 +32,19 @@ type entry struct {
 // bounds are the upper bounds of the histogram's buckets in seconds, as kube-apiserver has them.
 var bounds = [...]float64{0, 0.005, 0.02, 0.05, 0.1, 0.2, 0.5, 1, 2, 5, 10, 15, 30, math.Inf(1)}
 
-// histogram counts the waits up to each bound.
-type histogram struct {
-	counts [len(bounds)]int64
-	sum    float64
-}
-
 // journal writes the lines, and counts for the metrics. Where the output's reader is far behind, lines are left out.
 type journal struct {
 	lines chan *entry   // nil where no line is asked for, or none any more
 	done  chan struct{} // closed when all are written
 	mu    sync.Mutex
 	codes map[int]int64
-	waits map[bool]*histogram
+	waits map[bool]*[len(bounds)]int64 // by whether they ended with seats: how many were up to each bound
+	sums  map[bool]float64
 }
 
 func newJournal(quiet bool) *journal {
-	j := &journal{codes: map[int]int64{}, waits: map[bool]*histogram{false: {}, true: {}}}
+	j := &journal{codes: map[int]int64{}, sums: map[bool]float64{}}
+	j.waits = map[bool]*[len(bounds)]int64{false: {}, true: {}}
 	if !quiet {
 		j.lines, j.done = make(chan *entry, 10000), make(chan struct{})
 		go j.write(j.lines)
@@ -82,20 +78,19 @@ func (j *journal) note(it *entry) {
 func (j *journal) waited(execute bool, seconds float64) {
 	j.mu.Lock()
 	defer j.mu.Unlock()
-	j.waits[execute].sum += seconds
+	j.sums[execute] += seconds
 	for i := sort.SearchFloat64s(bounds[:], seconds); i < len(bounds); i++ {
-		j.waits[execute].counts[i]++
+		j.waits[execute][i]++
 	}
 }
 
 // close writes what is left, for a second at most.
 func (j *journal) close() {
 	j.mu.Lock()
-	lines := j.lines
-	j.lines = nil
-	j.mu.Unlock()
-	if lines != nil {
-		close(lines)
+	defer j.mu.Unlock()
+	if j.lines != nil {
+		close(j.lines)
+		j.lines = nil
 		select {
 		case <-j.done:
 		case <-time.After(time.Second):
@@ -111,12 +106,13 @@ func (j *journal) metrics(level string, restarts int) string {
 	head := "# HELP %[1]s %[3]s\n# TYPE %[1]s %[2]s\n"
 	name := "apiserver_flowcontrol_request_wait_duration_seconds"
 	fmt.Fprintf(&text, head, name, "histogram", "How long requests waited for their seats.")
-	for execute, it := range j.waits {
+	for execute, counts := range j.waits {
 		labels := fmt.Sprintf(`priority_level=%q,flow_schema=%q,execute="%t"`, level, level, execute)
 		for i, bound := range bounds {
-			fmt.Fprintf(&text, "%s_bucket{%s,le=\"%v\"} %d\n", name, labels, bound, it.counts[i])
+			fmt.Fprintf(&text, "%s_bucket{%s,le=\"%v\"} %d\n", name, labels, bound, counts[i])
 		}
-		fmt.Fprintf(&text, "%s_sum{%s} %g\n%s_count{%s} %d\n", name, labels, it.sum, name, labels, it.counts[len(bounds)-1])
+		count := counts[len(bounds)-1]
+		fmt.Fprintf(&text, "%s_sum{%s} %g\n%s_count{%s} %d\n", name, labels, j.sums[execute], name, labels, count)
 	}
 	fmt.Fprintf(&text, head, "apf_gateway_requests_total", "counter", "Requests by the status of their answer.")
 	for code, count := range j.codes {

@@ -2,11 +2,13 @@
 
 import os
 import re
+import shutil
 import subprocess
 import sys
+import tempfile
 
 sys.path.insert(0, os.path.join(os.path.dirname(os.path.abspath(__file__)), "lib"))
-from harness import Files, Tally, build, run
+from harness import TOP, Files, Tally, build, run
 
 tally = Tally()
 program = build()
@@ -40,7 +42,7 @@ for words, line in [
     tally.check(" ".join(words), run(program, words), (2, b"", line))
 
 # help that is asked for goes to standard output, and has a line for each command, argument and file
-COMMANDS = ["  hash ", "  deal ", "  replay ", "  run ", "  services ", "  waits ", "  explain ", "  serve ", "  simulate ", "  timeline ", "  compare ", "  fates ", "  requests ", "  picture ", "  hands ", "  trace "]
+COMMANDS = ["  hash ", "  deal ", "  replay ", "  run ", "  services ", "  waits ", "  explain ", "  serve ", "  simulate ", "  timeline ", "  compare ", "  fates ", "  requests ", "  picture ", "  hands ", "  trace ", "  objects ", "  match "]
 COMMANDS += ["apf hash workload-low alice", "  2 "]
 DEAL = ["<DECK>", "<HAND>", "<HASH>", "printf %u 0x", "not positive", "hand too large", "deck too large", "too much entropy"]
 SCRIPT = ["<CONFIG>", "<REQUESTS>", "<SCRIPT>"]
@@ -67,7 +69,7 @@ for words, says in [
     (["help", "run"], ["<WORKERS>"]),
     (["help", "requests"], TIMES),
     (["help", "hands"], LEVEL + ["covered by"]),
-    (["services", "--help"], SCRIPT + CONFIG + REQUESTS + LINES),
+    (["services", "--help"], SCRIPT + ["queue Q entered N service S", "apf replay --help"]),
     (["simulate", "--help"], PATIENCE + TRACE + FLOW),
     (["timeline", "--help"], PATIENCE + ["apf replay", "script"]),
     (["compare", "--help"], PATIENCE + ["<OTHER>", "median", "p99", "longest", "rejected", "cancelled", "whole", "column -t"]),
@@ -75,8 +77,10 @@ for words, says in [
     (["fates", "--help"], PATIENCE + ["arrival", "queue", "start", "end", "decision", "concurrency-limit", "column -t"]),
     (["help", "fates"], PATIENCE),
     (["requests", "--help"], TIMES + ["apf replay", "width"]),
-    (["picture", "--help"], PATIENCE + ["SVG", "apf simulate --help"]),
+    (["picture", "--help"], PATIENCE + ["SVG", "apf simulate --help", "those whose requests waited longest in sum, of flows with equal sums", "The others share the last row"]),
     (["trace", "--help"], ["<AUDITLOG>", "<SCHEMA>", "user.username", "requestReceivedTimestamp", "microseconds", "4096 bytes"]),
+    (["objects", "--help"], ["<OBJECTS>", "--seats <N>", "1000000", "600", "kubectl", "v1beta2", "dangling"]),
+    (["match", "--help"], ["<OBJECTS>", "--user <NAME>", "--groups <NAMES>", "--path <PATH>", "--log <LOG>", "system:authenticated", "impersonatedUser"]),
     (["hands", "--help"], LEVEL + ["flow H hand Q1 Q2 .. of SCHEMA DISTINGUISHER", "shares Q with N flows", "covered by H", "covered by N more"]),
     (["explain", "--help"], SCRIPT + ["prints one line", "prints nothing", "apf: config fault 5: bad value of limit"]),
     (["waits", "--help"], SCRIPT + ["request R queue Q ahead A most M all T", "twice the widest"]),
@@ -87,24 +91,26 @@ for words, says in [
     wide = [line for line in out.decode().split("\n") if len(line) > 100 and not line.startswith("  flow 0")]
     tally.check(" ".join(words) + " is narrow", wide, [])
 
-# the examples that help shows print what it says
-for words, least in ((["hash", "--help"], 1), (["deal", "--help"], 2)):
-    help_text = run(program, words)[1].decode()
-    shown = re.findall(r"^  \$ (apf .*)\n((?:  [^$].*\n)*)", help_text, re.M)
-    tally.check(f"examples of {words[0]}", len(shown), least)
-    for command, printed in shown:
-        command = command.replace("apf ", '"$0" ')
-        wanted = "".join(line[2:] + "\n" for line in printed.split("\n")[:-1])
-        tally.check(f"example of {words[0]}: {command}", run("bash", ["-c", command, program]), (0, wanted.encode(), b""))
-
-# the example of simulate, with the files that it shows
-help_text = run(program, ["simulate", "--help"])[1].decode()
-found = re.search(r"^  \$ cat config.json trace.jsonl\n  (.*)\n((?:  \{.*\n)+)  \$ apf (simulate) config.json trace.jsonl (\w+)\n((?:  .*\n)+)", help_text, re.M)
-tally.check("simulate has an example", found is not None, True)
-if found:
-    config, trace, command, patience, printed = (re.sub("^  ", "", it, flags=re.M) for it in found.groups())
-    got = run(program, [command, files("config.json", config), files("trace.jsonl", trace), patience])
-    tally.check("example of simulate", got, (0, printed.encode(), b""))
+# each command's help has an example, which runs on the repository's files and prints what it says, and the exit statuses
+for command in [it.strip() for it in COMMANDS if it.startswith("  ") and it.strip() != "2"]:
+    help_text = run(program, [command, "--help"])[1].decode()
+    tally.check(f"help of {command} has the statuses", re.findall(r"^Status: 0 (?:done|no fault), 1 .*2 a command line's fault.*3(?: |\n)no memory", help_text, re.M | re.S) != [], True)
+    shown = re.findall(r"^  \$ ((?:.*\\\n +)*.*\n(?:  >.*\n)*)((?:  [^$].*\n)*)", help_text, re.M)
+    tally.check(f"help of {command} has an example of it", any(re.search(rf"\bapf {command}\b", it) for it, _ in shown), True)
+    tally.check(f"help of {command} has no example that is not run", re.findall(r"^  apf .*$", help_text, re.M), [])
+    script = "".join(re.sub("^  > ", "", it, flags=re.M) + "printf '\\0'\n" for it, _ in shown)
+    with tempfile.TemporaryDirectory() as folder:
+        shutil.copytree(os.path.join(TOP, "examples"), os.path.join(folder, "examples"))
+        shutil.copy(os.path.join(TOP, "examples", "audit", "audit.log"), os.path.join(folder, "audit.jsonl"))
+        script = 'program=$1\napf() { "$program" "$@" 2>&1; }\n' + script
+        got = subprocess.run(["bash", "-c", script, "", program], cwd=folder, stdin=subprocess.DEVNULL, stdout=subprocess.PIPE, stderr=subprocess.STDOUT, timeout=120).stdout
+    for (example, printed), said in zip(shown, got.decode().split("\0")):
+        # the output of these is left out: tests/objects.py has it
+        if command not in ("objects", "match"):
+            tally.check(f"example of {command}: {example}", said, re.sub("^  ", "", printed, flags=re.M))
+        else:
+            tally.check(f"example of {command} prints something: {example}", said != "", True)
+            tally.check(f"example of {command} has no fault: {example}", re.findall("^(?:apf|error): .*$", said, re.M), [])
 
 # the version, which is the crate's own
 for words in (["--version"], ["-V"]):

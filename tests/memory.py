@@ -1,5 +1,6 @@
-"""Each allocation of a command refused in turn: the answer is the one with ample memory, or out of memory, and no other. A live level ends without memory
-only before its first line; behind that, a line whose object finds none is a fault."""
+"""Each allocation of a command refused in turn: the answer is the one with ample memory, or out of memory, and no other. What `match --log` printed of a log's
+first lines stands where memory ends later. A live level ends without memory only before its first line; behind that, a line whose object finds none is a
+fault."""
 
 import json
 import os
@@ -47,14 +48,20 @@ log = files(
     '"stageTimestamp":"2026-11-25T12:00:00.000009Z"}\n'
     '{"stage":"RequestReceived","verb":"get"}\n',
 )
+# objects with rules of each kind, and with a fault
+cluster = os.path.join(HERE, "..", "examples", "cluster", "objects.json")
+spoilt = files("spoilt", '{"kind":"FlowSchema","apiVersion":"flowcontrol.apiserver.k8s.io/v1","metadata":{"name":"a"},"spec":5}')
+who = ["--user", "alice", "--groups", "system:authenticated,dev", "--verb", "list"]
 cut = files("cut", '{"hash":0,"arrivesAt":0,"runsFor":0}\n{"hash":0')
 roomy = files("roomy", '{"limit":3,"queues":1,"handSize":1,"queueLengthLimit":10}')
 
 
-def refusals(words):
-    """What a run may answer that is refused memory: a worker needs some to start."""
+def refusals(words, ample):
+    """What a run may answer that is refused memory: a worker needs some to start, and the first lines of a log may have been answered."""
     workers = int(words[3]) if words[0] == "run" else 0
-    return [WANT] + [(3, b"", b"apf: worker %d could not start\n" % number) for number in range(workers)]
+    lines = ample[1].splitlines(keepends=True) if "--log" in words else []
+    before = [(WANT[0], b"".join(lines[:number]), WANT[2]) for number in range(1, len(lines) + 1)]
+    return [WANT] + before + [(3, b"", b"apf: worker %d could not start\n" % number) for number in range(workers)]
 
 
 for words, status in (
@@ -75,6 +82,10 @@ for words, status in (
     (["hands", tight, trace], 0),
     (["picture", tight, trace, "3"], 0),
     (["trace", log, "a"], 0),
+    (["objects", cluster], 0),
+    (["objects", spoilt], 1),
+    (["match", cluster, *who, "--resource", "pods"], 0),
+    (["match", cluster, "--log", log], 0),
     (["run", roomy, fit, "3"], 0),
     (["run", roomy, fit, "3", "--rounds", "3"], 0),
     *([(["serve", tight], 0), (["serve", tight, "--slots", "0"], 2), (["serve", uneven], 1), (["serve", "missing"], 1)] if is_built else []),
@@ -109,8 +120,8 @@ for words, status in (
         with_shim = dict(os.environ, LD_PRELOAD=shim, APF_REFUSE=str(number), APF_REFUSED=marker)
         got = run(program, words, env=with_shim)
         ends = not os.path.exists(marker)
-        refused += [got] if got in refusals(words) else []
-        tally.check(f"{name} without allocation {number}", got, got if got == ample or got in refusals(words) else WANT)
+        refused += [got] if got in refusals(words, ample) else []
+        tally.check(f"{name} without allocation {number}", got, got if got == ample or got in refusals(words, ample) else WANT)
     tally.check(f"{name} was refused memory, and ends with a run that meets no refusal", (WANT in refused, ends, got), (True, True, ample))
     if words[0] == "run":
         tally.check(f"{name} had a worker that could not start", any(it != WANT for it in refused), True)

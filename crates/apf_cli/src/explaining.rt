@@ -31,6 +31,7 @@ fn at_most(input: Input) -> &'static str {
         Input::Script => "a script has at most so many",
         Input::Trace => "a trace has at most so many",
         Input::AuditLog => "an audit log has at most so many",
+        Input::Objects => "objects have at most so many",
     }
 }
 

@@ -55,6 +55,10 @@ pub enum Fault {
     BadCharge,
     /// The bound of the choice is no instant from 1970 on.
     BadInstant(Bound),
+    /// The options say no request: a user and a verb are missing, or there is not one of a resource and a path.
+    NoRequest,
+    /// A request and an audit log are both named.
+    RequestAndLog,
     /// The level was not opened, for another cause than the dealer's. What the readers accept has none.
     Level(ReplayFault),
     CannotRead(Input, Cause),
@@ -85,6 +89,8 @@ impl Fault {
             | Fault::BadPatience
             | Fault::BadBy
             | Fault::BadCharge
+            | Fault::NoRequest
+            | Fault::RequestAndLog
             | Fault::BadInstant(_) => 2,
             Fault::Worker(_) | Fault::NoMemory => 3,
             Fault::Dealer(_, Sizes::OfConfig)
@@ -241,6 +247,10 @@ impl fmt::Display for Fault {
                 f,
                 "apf: {bound} must be an instant from 1970 on, as 2026-01-31T12:00:00Z"
             ),
+            Fault::NoRequest => f.write_str(
+                "apf: a request needs --user, --verb and one of --resource and --path, and --api-group and --namespace go with --resource",
+            ),
+            Fault::RequestAndLog => f.write_str("apf: --log goes with no other option"),
             Fault::Level(fault) => write!(f, "apf: the level can't be opened: {fault}"),
             Fault::CannotRead(input, _) => write!(f, "apf: cannot read {input}"),
             Fault::TooLarge(input) => {

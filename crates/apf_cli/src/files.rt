@@ -21,10 +21,11 @@ pub enum Input {
     Script,
     Trace,
     AuditLog,
+    Objects,
 }
 
 impl Input {
-    /// The most bytes that the file may have: 64 KiB, 16 MiB, 2 MiB, 64 MiB and 64 MiB.
+    /// The most bytes that the file may have: 64 KiB, 16 MiB, 2 MiB, 64 MiB, 64 MiB and 8 MiB.
     pub fn most(self) -> u32
         ensures { result ≡ most_bytes self }
     {
@@ -34,6 +35,7 @@ impl Input {
             Input::Script => 2_097_152,
             Input::Trace => 67_108_864,
             Input::AuditLog => 67_108_864,
+            Input::Objects => 8_388_608,
         }
     }
 }
@@ -46,6 +48,7 @@ impl fmt::Display for Input {
             Input::Script => "script",
             Input::Trace => "trace",
             Input::AuditLog => "audit log",
+            Input::Objects => "objects",
         })
     }
 }

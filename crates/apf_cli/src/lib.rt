@@ -12,6 +12,7 @@
 #![tactic(auto)]
 
 mod audits;
+mod clusters;
 mod comparing;
 mod explaining;
 mod faults;

@@ -8,6 +8,7 @@ ghost use Rattle.apf_commands.specs.Commands.{is_script_command, is_simulation_c
 ghost use Rattle.apf_commands.specs.Meaning.{IsInRange, words_fault};
 
 use crate::audits::print_trace;
+use crate::clusters::{print_cluster, print_matches};
 use crate::comparing::{print_comparison, print_fates};
 use crate::explaining::print_explanation;
 use crate::faults::{Fault, Sizes};
@@ -178,6 +179,8 @@ fn print_action<F: Files, O: Write, E: Write, R: Wait + Threads + Sync>(
             schema,
             chosen,
         } => print_trace(alloc, files, (log, schema), &chosen, out, err),
+        Arguments::Objects { objects, seats } => print_cluster(alloc, files, objects, seats, out),
+        Arguments::Match { objects, asked } => print_matches(alloc, files, objects, &asked, out),
     }
 }
 

@@ -10,7 +10,7 @@ use Rattle.clap.specs.Faults.{entered_fault, fault_of, is_simple_and_free, level
 use Rattle.clap.proofs.OnLiterals.{clap_on_literals}
 use Rattle.apf_commands.specs.Commands.{Named, apf_app, command_shape, commands, kind_named, rules_of, shape_for}
 use Rattle.apf_commands.specs.declared.entries.Kind.{Kind}
-use Rattle.apf_commands.specs.declared.entries.Kind.TheVariants.{Flow, Deck, Script, Workers, Level, Simulation, Comparison, Trace, Flows, AuditLog}
+use Rattle.apf_commands.specs.declared.entries.Kind.TheVariants.{Flow, Deck, Script, Workers, Level, Simulation, Comparison, Trace, Flows, AuditLog, Objects, Match}
 use Rattle.apf_commands.specs.Arguments.{HasArguments, IsCommand}
 use Rattle.apf_commands.proofs.Taken.{Each, MayStop, OwnIds, found, is_plain_rule, walk_holds}
 use Rattle.apf_commands.proofs.Named.{each_own}
@@ -151,6 +151,30 @@ audit_log_given name words e =
     let schema = given.1.0 refl refl in
     record { log = (log.text, log.first); schema = (schema.text, schema.first) }
 
+objects_given : (name : Text) (words : List Text) → IsFaultFree (of_kind name Objects) words → HasArguments Objects (rows_after (of_kind name Objects).rules [] words)
+unfolding apf_app
+objects_given name words e =
+    let plain : IsPlainShape (of_kind name Objects) = record { rules = refl; own_ids = (refl, (refl, (refl, tt))); defaults = refl; negates = refl } in
+    let given = all_given (of_kind name Objects) plain words e in
+    let met = all_met (of_kind name Objects) plain words e in
+    let objects = given.0 refl refl in
+    record {
+      objects = (objects.text, objects.first);
+      seats = elim met.1.0 [
+        | inl none ↦ (600, (inr (none, refl), omega arith, omega arith))
+        | inr seats ↦
+            let counts = signed_reads 32 1 1000000 seats.text (lit< tt) seats.accepted in
+            (counts.0, (inl (_, seats.one, counts.1), counts.2, counts.3))
+      ];
+    }
+
+match_given : (name : Text) (words : List Text) → IsFaultFree (of_kind name Match) words → HasArguments Match (rows_after (of_kind name Match).rules [] words)
+unfolding apf_app
+match_given name words e =
+    let given = all_given (of_kind name Match) (record { rules = refl; own_ids = (refl, (refl, (refl, (refl, (refl, (refl, (refl, (refl, (refl, (refl, tt)))))))))); defaults = refl; negates = refl }) words e in
+    let objects = given.0 refl refl in
+    record { objects = (objects.text, objects.first) }
+
 -- a command whose words have no fault has its arguments
 arguments_given : (kind : Kind) (name : Text) (words : List Text) → IsFaultFree (of_kind name kind) words → HasArguments kind (rows_after (of_kind name kind).rules [] words)
 arguments_given Flow name words e = flow_given name words e
@@ -163,6 +187,8 @@ arguments_given Comparison name words e = comparison_given name words e
 arguments_given Trace name words e = trace_given name words e
 arguments_given Flows name words e = flows_given name words e
 arguments_given AuditLog name words e = audit_log_given name words e
+arguments_given Objects name words e = objects_given name words e
+arguments_given Match name words e = match_given name words e
 
 -- a walk that stops at a name of this command leaves it words with no fault only where they are those of one of these
 abbrev IsEntered : Shape → Type 0

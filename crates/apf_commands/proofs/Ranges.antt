@@ -13,7 +13,7 @@ use Rattle.apf_commands.specs.declared.entries.Kind.{Kind}
 use Rattle.apf_commands.specs.declared.entries.Kind.TheVariants as of_kind
 use Rattle.apf_commands.specs.declared.words.Action.{Action}
 use Rattle.apf_commands.specs.declared.words.Arguments.{Arguments}
-use Rattle.apf_commands.specs.declared.words.Arguments.TheVariants.{Flow, Deck, Script, Workers, Level, Simulation, Comparison, Trace, Flows, AuditLog}
+use Rattle.apf_commands.specs.declared.words.Arguments.TheVariants.{Flow, Deck, Script, Workers, Level, Simulation, Comparison, Trace, Flows, AuditLog, Objects, Match}
 use Rattle.apf_commands.proofs.Named.{kind_had}
 
 -- an action that words ask for is in its ranges, once its level's name is
@@ -26,16 +26,18 @@ in_range name rows action is named = go action.arguments known is.arguments name
 
     go : (arguments : Arguments) → has_kind (kind_of arguments) action.command.now ≡ true → AreArguments rows arguments → HasLevelName arguments
         → IsInRange (record { command = action.command; arguments = arguments })
-    go (Workers config requests workers rounds) known read named = record { command = known; workers = (let some = read.2.1 in omega arith); rounds = (read.3.1, read.3.2); slots = tt; name = tt }
-    go (Level config slots level charge) known read named = record { command = known; workers = tt; rounds = tt; slots = (read.1.1, read.1.2); name = named }
-    go (Flow schema distinguisher) known read named = record { command = known; workers = tt; rounds = tt; slots = tt; name = tt }
-    go (Deck deck hand hash) known read named = record { command = known; workers = tt; rounds = tt; slots = tt; name = tt }
-    go (Script config requests script) known read named = record { command = known; workers = tt; rounds = tt; slots = tt; name = tt }
-    go (Simulation config trace patience) known read named = record { command = known; workers = tt; rounds = tt; slots = tt; name = tt }
-    go (Comparison config other trace patience) known read named = record { command = known; workers = tt; rounds = tt; slots = tt; name = tt }
-    go (Trace trace) known read named = record { command = known; workers = tt; rounds = tt; slots = tt; name = tt }
-    go (Flows config trace flow) known read named = record { command = known; workers = tt; rounds = tt; slots = tt; name = tt }
-    go (AuditLog log schema chosen) known read named = record { command = known; workers = tt; rounds = tt; slots = tt; name = tt }
+    go (Workers config requests workers rounds) known read named = record { command = known; workers = (let some = read.2.1 in omega arith); rounds = (read.3.1, read.3.2); slots = tt; seats = tt; name = tt }
+    go (Level config slots level charge) known read named = record { command = known; workers = tt; rounds = tt; slots = (read.1.1, read.1.2); seats = tt; name = named }
+    go (Flow schema distinguisher) known read named = record { command = known; workers = tt; rounds = tt; slots = tt; seats = tt; name = tt }
+    go (Deck deck hand hash) known read named = record { command = known; workers = tt; rounds = tt; slots = tt; seats = tt; name = tt }
+    go (Script config requests script) known read named = record { command = known; workers = tt; rounds = tt; slots = tt; seats = tt; name = tt }
+    go (Simulation config trace patience) known read named = record { command = known; workers = tt; rounds = tt; slots = tt; seats = tt; name = tt }
+    go (Comparison config other trace patience) known read named = record { command = known; workers = tt; rounds = tt; slots = tt; seats = tt; name = tt }
+    go (Trace trace) known read named = record { command = known; workers = tt; rounds = tt; slots = tt; seats = tt; name = tt }
+    go (Flows config trace flow) known read named = record { command = known; workers = tt; rounds = tt; slots = tt; seats = tt; name = tt }
+    go (AuditLog log schema chosen) known read named = record { command = known; workers = tt; rounds = tt; slots = tt; seats = tt; name = tt }
+    go (Objects objects seats) known read named = record { command = known; workers = tt; rounds = tt; slots = tt; seats = (read.1.1, read.1.2); name = tt }
+    go (Match objects asked) known read named = record { command = known; workers = tt; rounds = tt; slots = tt; seats = tt; name = tt }
 
 -- the arguments of another command have no fault of a level's name
 other_kind : (name : Text) (rows : List Row) (kind : Kind) → kind_named name ≡ Some kind → is_open_level (Some kind) ≡ false → name_fault (Some (name, rows)) ≡ []
@@ -62,6 +64,8 @@ no_name_fault name rows action is named = go action.arguments is.kind is.argumen
     go (Trace trace) kind read named = other_kind name rows _ kind refl
     go (Flows config trace flow) kind read named = other_kind name rows _ kind refl
     go (AuditLog log schema chosen) kind read named = other_kind name rows _ kind refl
+    go (Objects objects seats) kind read named = other_kind name rows _ kind refl
+    go (Match objects asked) kind read named = other_kind name rows _ kind refl
 
 -- words whose action has another have it
 pub has_name_fault : (name : Text) (rows : List Row) (action : Action) → AsksFor name rows action → HasBadName action.arguments
@@ -80,6 +84,8 @@ has_name_fault name rows action is named = go action.arguments is.kind is.argume
     go (Trace trace) kind read named = absurd named
     go (Flows config trace flow) kind read named = absurd named
     go (AuditLog log schema chosen) kind read named = absurd named
+    go (Objects objects seats) kind read named = absurd named
+    go (Match objects asked) kind read named = absurd named
 
 -- an action that is judged is answered where nothing is wrong with its name, and fails by the fault of that
 pub judged_fails : (kinds : Kinds) (action : Action) (r : Result Action Error) → (HasLevelName action.arguments → kinds ≡ []) → (HasBadName action.arguments → kinds ≡ ValueValidation ∷ [])

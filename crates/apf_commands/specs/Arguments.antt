@@ -1,10 +1,10 @@
 -- The arguments that a command has once `clap` has accepted its words, which the readers require.
 use Rattle.std.specs.Prelude.{◌≡◌, ℕ, List, Some, codes}
 use Rattle.clap.specs.Words.{Row, Text}
-use Rattle.apf_commands.specs.Meaning.{IsNumber, IsRoundCount, IsSlotCount, IsText, IsWorkerCount}
+use Rattle.apf_commands.specs.Meaning.{IsNumber, IsRoundCount, IsSeatCount, IsSlotCount, IsText, IsWorkerCount}
 use Rattle.apf_commands.specs.Commands.{kind_named}
 use Rattle.apf_commands.specs.declared.entries.Kind.{Kind}
-use Rattle.apf_commands.specs.declared.entries.Kind.TheVariants.{Flow, Deck, Script, Workers, Level, Simulation, Comparison, Trace, Flows, AuditLog}
+use Rattle.apf_commands.specs.declared.entries.Kind.TheVariants.{Flow, Deck, Script, Workers, Level, Simulation, Comparison, Trace, Flows, AuditLog, Objects, Match}
 
 -- the argument has a text
 abbrev pub HasText : List Row → Text → Type 0
@@ -70,6 +70,15 @@ pub record HasAuditLog (rows : List Row) : Type 0 where
   pub log : HasText rows (codes "AUDITLOG")
   pub schema : HasText rows (codes "SCHEMA")
 
+-- the arguments of a cluster's objects
+pub record HasObjects (rows : List Row) : Type 0 where
+  pub objects : HasText rows (codes "OBJECTS")
+  pub seats : (n : ℕ) × IsSeatCount rows n
+
+-- the arguments of a request that is matched
+pub record HasMatch (rows : List Row) : Type 0 where
+  pub objects : HasText rows (codes "OBJECTS")
+
 -- the arguments of a kind
 abbrev pub HasArguments : Kind → List Row → Type 0
 HasArguments Flow rows = HasFlow rows
@@ -82,6 +91,8 @@ HasArguments Comparison rows = HasComparison rows
 HasArguments Trace rows = HasTrace rows
 HasArguments Flows rows = HasFlows rows
 HasArguments AuditLog rows = HasAuditLog rows
+HasArguments Objects rows = HasObjects rows
+HasArguments Match rows = HasMatch rows
 
 -- the command is one of the program's, with its arguments
 pub record IsCommand (name : Text) (rows : List Row) : Type 0 where

@@ -8,7 +8,7 @@ use Rattle.clap.specs.declared.builder.value_parser.ValueParser.{ValueParser}
 use Rattle.clap.specs.declared.builder.value_parser.ValueParser.TheVariants.{Signed, Unsigned}
 use Rattle.apf_commands.specs.declared.entries.Entry.{Entry}
 use Rattle.apf_commands.specs.declared.entries.Kind.{Kind}
-use Rattle.apf_commands.specs.declared.entries.Kind.TheVariants.{Flow, Deck, Script, Workers, Level, Simulation, Comparison, Trace, Flows, AuditLog}
+use Rattle.apf_commands.specs.declared.entries.Kind.TheVariants.{Flow, Deck, Script, Workers, Level, Simulation, Comparison, Trace, Flows, AuditLog, Objects, Match}
 
 -- a command: its name, and the kind of its arguments
 abbrev pub Named : Type 0
@@ -20,11 +20,12 @@ level_commands =
     (codes "hash", Flow) ∷ (codes "deal", Deck) ∷ (codes "replay", Script) ∷ (codes "run", Workers) ∷ (codes "services", Script)
     ∷ (codes "waits", Script) ∷ (codes "explain", Script) ∷ (codes "serve", Level) ∷ []
 
--- the commands on traces and on audit logs
+-- the commands on traces, on audit logs and on a cluster's objects
 abbrev pub trace_commands : List Named
 trace_commands =
     (codes "simulate", Simulation) ∷ (codes "timeline", Simulation) ∷ (codes "compare", Comparison) ∷ (codes "fates", Simulation)
-    ∷ (codes "requests", Trace) ∷ (codes "picture", Simulation) ∷ (codes "hands", Flows) ∷ (codes "trace", AuditLog) ∷ []
+    ∷ (codes "requests", Trace) ∷ (codes "picture", Simulation) ∷ (codes "hands", Flows) ∷ (codes "trace", AuditLog)
+    ∷ (codes "objects", Objects) ∷ (codes "match", Match) ∷ []
 
 -- the program's commands
 unfoldable pub commands : List Named
@@ -55,6 +56,8 @@ is_same Comparison Comparison = true
 is_same Trace Trace = true
 is_same Flows Flows = true
 is_same AuditLog AuditLog = true
+is_same Objects Objects = true
+is_same Match Match = true
 is_same _ _ = false
 
 -- one of these commands of this name has this kind
@@ -115,6 +118,10 @@ round_count = Signed (pos 1) (pos 1000000)
 abbrev pub slot_count : ValueParser
 slot_count = Signed (pos 1) (pos 10000)
 
+-- how many seats a server may have
+abbrev pub seat_count : ValueParser
+seat_count = Signed (pos 1) (pos 1000000)
+
 -- the arguments of a kind, in their order
 abbrev pub rules_of : Kind → List Rule
 rules_of Flow = text_rule (codes "SCHEMA") ∷ text_rule (codes "DISTINGUISHER") ∷ []
@@ -133,6 +140,11 @@ rules_of Flows = text_rule (codes "CONFIG") ∷ text_rule (codes "TRACE") ∷ op
 rules_of AuditLog =
     text_rule (codes "AUDITLOG") ∷ text_rule (codes "SCHEMA") ∷ option_rule (codes "by") ∷ option_rule (codes "user")
     ∷ option_rule (codes "since") ∷ option_rule (codes "until") ∷ []
+rules_of Objects = text_rule (codes "OBJECTS") ∷ number_option_rule (codes "seats") seat_count ∷ []
+rules_of Match =
+    text_rule (codes "OBJECTS") ∷ option_rule (codes "user") ∷ option_rule (codes "groups") ∷ option_rule (codes "verb")
+    ∷ option_rule (codes "resource") ∷ option_rule (codes "api-group") ∷ option_rule (codes "namespace") ∷ option_rule (codes "path")
+    ∷ option_rule (codes "log") ∷ []
 
 -- a command that takes these arguments
 abbrev pub command_shape : Text → List Rule → Shape

@@ -11,8 +11,9 @@ use Rattle.apf_commands.specs.declared.entries.Kind.{Kind}
 use Rattle.apf_commands.specs.declared.entries.Kind.TheVariants as of_kind
 use Rattle.apf_commands.specs.declared.words.Action.{Action}
 use Rattle.apf_commands.specs.declared.words.Arguments.{Arguments}
+use Rattle.apf_commands.specs.declared.words.Asked.{Asked}
 use Rattle.apf_commands.specs.declared.words.Chosen.{Chosen}
-use Rattle.apf_commands.specs.declared.words.Arguments.TheVariants.{Flow, Deck, Script, Workers, Level, Simulation, Comparison, Trace, Flows, AuditLog}
+use Rattle.apf_commands.specs.declared.words.Arguments.TheVariants.{Flow, Deck, Script, Workers, Level, Simulation, Comparison, Trace, Flows, AuditLog, Objects, Match}
 
 -- the argument's text
 abbrev pub IsText : List Row → Text → Text → Type 0
@@ -54,6 +55,21 @@ IsRoundCount rows n = IsNumberOr 32 1 rows (codes "rounds") n × (1 ≤ n) × (n
 abbrev pub IsSlotCount : List Row → ℕ → Type 0
 IsSlotCount rows n = IsNumberOr 32 10000 rows (codes "slots") n × (1 ≤ n) × (n ≤ 10000)
 
+-- the number of a server's seats is in its range, and 600 where none is given
+abbrev pub IsSeatCount : List Row → ℕ → Type 0
+IsSeatCount rows n = IsNumberOr 32 600 rows (codes "seats") n × (1 ≤ n) × (n ≤ 1000000)
+
+-- the texts of the options that say a request
+pub record AreAsked (rows : List Row) (asked : Asked) : Type 0 where
+  pub user : IsOption rows (codes "user") asked.user
+  pub groups : IsOption rows (codes "groups") asked.groups
+  pub verb : IsOption rows (codes "verb") asked.verb
+  pub resource : IsOption rows (codes "resource") asked.resource
+  pub api_group : IsOption rows (codes "api-group") asked.api_group
+  pub namespace : IsOption rows (codes "namespace") asked.namespace
+  pub path : IsOption rows (codes "path") asked.path
+  pub log : IsOption rows (codes "log") asked.log
+
 -- the rows of a command are read as these arguments
 abbrev pub AreArguments : List Row → Arguments → Type 0
 AreArguments rows (Flow schema distinguisher) = IsText rows (codes "SCHEMA") schema.now
@@ -86,6 +102,10 @@ AreArguments rows (Flows config trace flow) = IsText rows (codes "CONFIG") confi
 AreArguments rows (AuditLog log schema chosen) = IsText rows (codes "AUDITLOG") log.now
     × IsText rows (codes "SCHEMA") schema.now
     × AreChosen rows chosen
+AreArguments rows (Objects objects seats) = IsText rows (codes "OBJECTS") objects.now
+    × IsSeatCount rows seats
+AreArguments rows (Match objects asked) = IsText rows (codes "OBJECTS") objects.now
+    × AreAsked rows asked
 
 -- the kind of arguments
 abbrev pub kind_of : Arguments → Kind
@@ -99,6 +119,8 @@ kind_of (Comparison a b c d) = of_kind.Comparison
 kind_of (Trace a) = of_kind.Trace
 kind_of (Flows a b c) = of_kind.Flows
 kind_of (AuditLog a b c) = of_kind.AuditLog
+kind_of (Objects a b) = of_kind.Objects
+kind_of (Match a b) = of_kind.Match
 
 -- a command of this name with these rows asks for the action: it is named so, and its arguments are of the kind that the command has
 pub record AsksFor (name : Text) (rows : List Row) (action : Action) : Type 0 where
@@ -121,6 +143,11 @@ abbrev pub HasSlots : Arguments → Type 0
 HasSlots (Level config slots name charge) = (1 ≤ slots) × (slots ≤ 10000)
 HasSlots _ = Unit {0}
 
+-- a server whose limits are told has 1 to 1,000,000 seats
+abbrev pub HasSeats : Arguments → Type 0
+HasSeats (Objects objects seats) = (1 ≤ seats) × (seats ≤ 1000000)
+HasSeats _ = Unit {0}
+
 -- a level that stays open has a name that a level may have
 abbrev pub HasLevelName : Arguments → Type 0
 HasLevelName (Level config slots name charge) = is_level_name name.now ≡ true
@@ -137,6 +164,7 @@ pub record IsInRange (action : Action) : Type 0 where
   pub workers : HasWorkers action.arguments
   pub rounds : HasRounds action.arguments
   pub slots : HasSlots action.arguments
+  pub seats : HasSeats action.arguments
   pub name : HasLevelName action.arguments
 
 -- the words name a command that asks for the action

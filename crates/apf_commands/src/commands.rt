@@ -20,6 +20,9 @@ const CONFIG: &str = "Configuration file of the priority level";
 /// What help says of a trace.
 const TRACE: &str = "Trace file of requests with their times";
 
+/// What help says of a cluster's objects.
+const OBJECTS: &str = "FlowSchemas and PriorityLevelConfigurations, as kubectl get -o json prints";
+
 /// What help says of the patience.
 const PATIENCE: &str =
     "Time until a request gives up: 15s, 500ms, or 0 to 1000000000 microseconds; 0: never";
@@ -252,6 +255,63 @@ fn with_audit_log<'a>(alloc: Global, command: Command<'a>) -> Result<Command<'a>
         ))
 }
 
+// A cluster's objects, and the seats of its server.
+fn with_objects<'a>(alloc: Global, command: Command<'a>) -> Result<Command<'a>, AllocError>
+    ensures { IfOk result (AddsRules (rules_of of_kind.Objects) command.entry) }
+{
+    let seats = value_parser!(u32).range(1..=1_000_000);
+    command
+        .arg(text(alloc, "OBJECTS", OBJECTS))?
+        .arg(number_option(
+            alloc,
+            "seats",
+            seats,
+            "N",
+            "Seats of the server, 1 to 1000000; 600 if left out",
+        ))
+}
+
+// A cluster's objects, and a request or an audit log of requests.
+fn with_match<'a>(alloc: Global, command: Command<'a>) -> Result<Command<'a>, AllocError>
+    ensures { IfOk result (AddsRules (rules_of of_kind.Match) command.entry) }
+{
+    command
+        .arg(text(alloc, "OBJECTS", OBJECTS))?
+        .arg(option(alloc, "user", "NAME", "Name of the user"))?
+        .arg(option(
+            alloc,
+            "groups",
+            "NAMES",
+            "Groups of the user, with a comma between two; none if left out",
+        ))?
+        .arg(option(alloc, "verb", "VERB", "Verb, as list or get"))?
+        .arg(option(alloc, "resource", "NAME", "Resource, as pods or pods/log"))?
+        .arg(option(
+            alloc,
+            "api-group",
+            "NAME",
+            "API group of the resource; the core's if left out",
+        ))?
+        .arg(option(
+            alloc,
+            "namespace",
+            "NAME",
+            "Namespace of the resource; none if left out",
+        ))?
+        .arg(option(
+            alloc,
+            "path",
+            "PATH",
+            "Path of a request that names no resource, as /healthz",
+        ))?
+        .arg(option(
+            alloc,
+            "log",
+            "LOG",
+            "Audit log whose requests are matched, in place of the other options",
+        ))
+}
+
 // A command with the arguments of this kind behind its own.
 fn with_arguments<'a>(
     alloc: Global,
@@ -271,6 +331,8 @@ fn with_arguments<'a>(
         Kind::Trace => with_trace(alloc, command),
         Kind::Flows => with_flows(alloc, command),
         Kind::AuditLog => with_audit_log(alloc, command),
+        Kind::Objects => with_objects(alloc, command),
+        Kind::Match => with_match(alloc, command),
     }
 }
 

@@ -27,6 +27,10 @@ pub(crate) enum Kind {
     Flows,
     /// `AUDITLOG SCHEMA [--by WHO] [--user NAME] [--since INSTANT] [--until INSTANT]`
     AuditLog,
+    /// `OBJECTS [--seats N]`
+    Objects,
+    /// `OBJECTS [--user U] [--groups G,..] [--verb V] [--resource R] [--api-group A] [--namespace N] [--path P] [--log LOG]`
+    Match,
 }
 
 /// A command of the program.

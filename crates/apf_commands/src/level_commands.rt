@@ -5,8 +5,8 @@ ghost use Rattle.apf_commands.specs.Commands.{level_commands, listed};
 
 use crate::entries::{Entry, Kind};
 
-// Of the commands that run a script.
-const SCRIPT: &str = "\
+// Of the command that runs a script.
+const REPLAY: &str = "\
 CONFIG is one JSON object:
   limit             seats of the level, 1 to 10000; must be there
   queues            number of queues, 1 to 1024; 64 if absent
@@ -37,15 +37,22 @@ apf replay prints what became of each line, and then four lines, the book:
   executed ..     requests by decision; the executed include those that still run
   queue-full ..   the rejected by reason
   entered ..      requests that entered a queue, were dispatched, and were struck
-apf services prints for each queue how many entered it, and the seats that they were given.
 apf explain says what is wrong with the files where one has a fault.
 
 Example:
+  $ cd examples/first
   $ cat config.json requests.json script.txt
   {\"limit\":1}
   [{\"hash\":0}]
   arrive 0
   finish 0
+  $ apf replay config.json requests.json script.txt
+  arrive 0 execute
+  finish 0
+  level open seats 0 waiting 0
+  executed 1 rejected 0 cancelled 0 undecided 0
+  queue-full 0 closed 0 concurrency-limit 0
+  entered 0 dispatched 0 struck 0
 
 Status: 0 done, 1 a file's fault or output that can't be written, 2 a command line's fault,
 3 no memory.";
@@ -90,7 +97,7 @@ Status: 0 done, 1 output that can't be written, 2 a command line's fault or a de
     Entry {
         name: "replay",
         about: "Run a script of requests and print each decision",
-        help: SCRIPT,
+        help: REPLAY,
         kind: Kind::Script,
     },
     Entry {
@@ -122,8 +129,13 @@ book is that of all of them.
 Where a file has a fault, apf explain says what is wrong, with any script, as /dev/null.
 
 Examples:
-  apf run config.json requests.json 8
-  apf run config.json requests.json 8 --rounds 1000
+  $ apf run examples/noisy-client/config.json examples/noisy-client/requests.json 8 | sed -n 1p
+  level open seats 0 waiting 0
+  $ cd examples/first && apf run config.json requests.json 8 --rounds 1000
+  level open seats 0 waiting 0
+  executed 1000 rejected 0 cancelled 0 undecided 0
+  queue-full 0 closed 0 concurrency-limit 0
+  entered 0 dispatched 0 struck 0
 
 Status: 0 done, 1 a file's fault or output that can't be written, 2 a command line's fault,
 3 no memory or a worker that could not start.",
@@ -132,7 +144,23 @@ Status: 0 done, 1 a file's fault or output that can't be written, 2 a command li
     Entry {
         name: "services",
         about: "Run a script of requests and print each queue's service",
-        help: SCRIPT,
+        help: "\
+Runs the script as apf replay does. Prints a line for each queue that a request entered, in
+ascending order:
+  queue Q entered N service S
+  N  requests that entered queue Q
+  S  seats of those that were dispatched from it, together
+
+The files are those of apf replay; apf replay --help says what they hold. apf explain says what is
+wrong with them where one has a fault.
+
+Example:
+  $ cd examples/noisy-client && apf services config.json requests.json script.txt | sed -n 1,2p
+  queue 1 entered 50 service 9
+  queue 2 entered 2 service 2
+
+Status: 0 done, 1 a file's fault or output that can't be written, 2 a command line's fault,
+3 no memory.",
         kind: Kind::Script,
     },
     Entry {
@@ -151,6 +179,11 @@ M is at most A and twice the widest request of the level.
 The files are those of apf replay; apf replay --help says what they hold. apf explain says what is
 wrong with them where one has a fault.
 
+Example:
+  $ cd examples/noisy-client && apf waits config.json requests.json script.txt | sed -n 1,2p
+  request 10 queue 36 ahead 0 most 1 all 15 dispatched
+  request 11 queue 57 ahead 0 most 1 all 24 dispatched
+
 Status: 0 done, 1 a file's fault or output that can't be written, 2 a command line's fault,
 3 no memory.",
         kind: Kind::Script,
@@ -165,10 +198,8 @@ where there is no fault. The fault as apf replay has it is on standard error. ap
 says what the files hold. - is standard input for one of them.
 
 Example:
-  $ cat config.json
-  {\"limit\":0}
-  $ apf explain config.json requests.json script.txt
-  config.json: limit is 0: it must be a whole number from 1 to 10000
+  $ echo '{\"limit\":0}' | apf explain - examples/first/requests.json examples/first/script.txt
+  standard input: limit is 0: it must be a whole number from 1 to 10000
   apf: config fault 5: bad value of limit
 
 Status: 0 no fault, 1 a file's fault or output that can't be written, 2 a command line's fault,
@@ -189,7 +220,14 @@ A request is charged its seats times the mean time of its flow's requests so far
 finish N T tell it. With --charge seats it is charged its seats.
 
 Example:
-  apf serve config.json --slots 500 --name workload-low
+  $ printf 'arrive 0 {\"hash\":7}\\nfinish 0 1200\\n' | apf serve examples/first/config.json --slots 500
+  serve 1 slots 500 limit 1 queues 64 hand 8 length 50 queue
+  arrive 0 execute
+  finish 0
+  level open seats 0 waiting 0
+  executed 1 rejected 0 cancelled 0 undecided 0
+  queue-full 0 closed 0 concurrency-limit 0
+  entered 0 dispatched 0 struck 0
 
 Status: 0 done, 1 a file's fault or output that can't be written, 2 a command line's fault,
 3 no memory.",

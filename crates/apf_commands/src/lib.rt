@@ -20,4 +20,4 @@ mod trace_commands;
 mod words;
 
 pub use patience::read_patience;
-pub use words::{Action, Arguments, Chosen, read_words};
+pub use words::{Action, Arguments, Asked, Chosen, read_words};

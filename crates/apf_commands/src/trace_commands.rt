@@ -1,11 +1,11 @@
-//! The commands on traces and on audit logs: their names, what they do, and what `--help` says below their arguments.
+//! The commands on traces, on audit logs and on a cluster's objects: their names, what they do, and what `--help` says below their arguments.
 
 ghost use Rattle.std.specs.Prelude.{◌≡◌, map};
 ghost use Rattle.apf_commands.specs.Commands.{trace_commands, listed};
 
 use crate::entries::{Entry, Kind};
 
-static ENTRIES: [Entry; 8] = [
+static ENTRIES: [Entry; 10] = [
     Entry {
         name: "simulate",
         about: "Simulate requests with times and print each flow's waits and the book",
@@ -43,17 +43,17 @@ book of apf replay:
   patience P   PATIENCE in microseconds
 
 Example:
-  $ cat config.json trace.jsonl
-  {\"limit\":1}
-  {\"hash\":0,\"arrivesAt\":0,\"runsFor\":100}
-  {\"hash\":0,\"arrivesAt\":40,\"runsFor\":100}
-  $ apf simulate config.json trace.jsonl 15s
-  flow 0000000000000000 requests 2 executed 2 rejected 0 cancelled 0 seat-time 200 wait median 0 p99 60 longest 60
-  end 200 seat-time 200 of 200 waited 60 patience 15000000
+  $ cd examples/noisy-client
+  $ cat config.json
+  {\"limit\": 10, \"queues\": 64, \"handSize\": 8, \"queueLengthLimit\": 50, \"limitResponse\": \"Queue\"}
+  $ sed -n 1p trace.jsonl
+  {\"schema\": \"global-default\", \"distinguisher\": \"alice\", \"arrivesAt\": 168371, \"runsFor\": 84650}
+  $ apf simulate config.json trace.jsonl 8s | tail -n 5
+  end 14043696 seat-time 123914843 of 140436960 waited 3222622817 patience 8000000
   level open seats 0 waiting 0
-  executed 2 rejected 0 cancelled 0 undecided 0
-  queue-full 0 closed 0 concurrency-limit 0
-  entered 1 dispatched 1 struck 0
+  executed 402 rejected 76 cancelled 225 undecided 0
+  queue-full 76 closed 0 concurrency-limit 0
+  entered 601 dispatched 376 struck 225
 
 Status: 0 done, 1 a file's fault or output that can't be written, 2 a command line's fault,
 3 no memory.",
@@ -71,9 +71,13 @@ It simulates this level by this project's rules, and not kube-apiserver. TRACE i
 PATIENCE is as 15s or in microseconds; apf simulate --help says what they and CONFIG hold.
 
 Example, and the same run by apf replay:
-  apf timeline config.json trace.jsonl 15s >script.txt
-  apf requests trace.jsonl >requests.json
-  apf replay config.json requests.json script.txt
+  $ apf timeline examples/noisy-client/config.json examples/noisy-client/trace.jsonl 8s >script.txt
+  $ apf requests examples/noisy-client/trace.jsonl >requests.json
+  $ apf replay examples/noisy-client/config.json requests.json script.txt | tail -n 4
+  level open seats 0 waiting 0
+  executed 402 rejected 76 cancelled 225 undecided 0
+  queue-full 76 closed 0 concurrency-limit 0
+  entered 601 dispatched 376 struck 225
 
 Status: 0 done, 1 a file's fault or output that can't be written, 2 a command line's fault,
 3 no memory.",
@@ -97,9 +101,15 @@ number but the first stands twice: on the one level, and on the other.
 It simulates these levels by this project's rules, and not kube-apiserver. TRACE is JSON Lines, and
 PATIENCE is as 15s or in microseconds; apf simulate --help says what they and CONFIG hold.
 
-Example, and what happens to the longest waits:
-  apf compare config.json other.json trace.jsonl 15s | column -t
-  apf compare config.json other.json trace.jsonl 15s | awk '{ print $7, $8, $NF }'
+Example, what happens to the longest waits; column -t lays out all columns:
+  $ cd examples/noisy-client
+  $ apf compare config.json ../global-default/config.json trace.jsonl 8s | awk '{ print $7, $8 }'
+  longest longest-2
+  7997722 2216336
+  470123 68820
+  409763 76130
+  349244 54565
+  7997722 2216336
 
 Status: 0 done, 1 a file's fault or output that can't be written, 2 a command line's fault,
 3 no memory.",
@@ -123,9 +133,14 @@ for each request, in the order of their arrivals. Times are microseconds.
 It simulates this level by this project's rules, and not kube-apiserver. TRACE is JSON Lines, and
 PATIENCE is as 15s or in microseconds; apf simulate --help says what they and CONFIG hold.
 
-Example, and who waited for more than a second:
-  apf fates config.json trace.jsonl 15s | column -t
-  apf fates config.json trace.jsonl 15s | awk '$5 - $3 > 1000000'
+Example, who of the others than the crawler waited for more than 400 ms; column -t lays out all
+columns:
+  $ cd examples/noisy-client
+  $ apf fates config.json trace.jsonl 8s | awk '$5 - $3 > 400000' | grep -v crawler
+  40 6cc15f39b7bdc3b9 1094431 63 1495253 1611464 execute \"global-default\" \"bob\"
+  639 f4de3bd42ccdf6b7 6689254 55 7159377 7238745 execute \"global-default\" \"alice\"
+  644 6cc15f39b7bdc3b9 7241345 63 7651108 7758584 execute \"global-default\" \"bob\"
+  667 f4de3bd42ccdf6b7 9699892 55 10118633 10206862 execute \"global-default\" \"alice\"
 
 Status: 0 done, 1 a file's fault or output that can't be written, 2 a command line's fault,
 3 no memory.",
@@ -139,9 +154,13 @@ Prints the requests file of a trace, for apf replay: its flows and widths, one r
 order of their numbers. The times, which a trace has in microseconds, are left out, and so are the
 costs. TRACE is JSON Lines; apf simulate --help says what it holds.
 
-Example: with the script of apf timeline, apf replay makes the run that apf simulate makes. Both
-simulate this level by this project's rules, and not kube-apiserver.
-  apf requests trace.jsonl >requests.json
+With the script of apf timeline, apf replay makes the run that apf simulate makes. Both simulate
+this level by this project's rules, and not kube-apiserver.
+
+Example:
+  $ apf requests examples/noisy-client/trace.jsonl | sed -n 1,2p
+  [
+  {\"schema\":\"global-default\",\"distinguisher\":\"alice\"},
 
 Status: 0 done, 1 a file's fault or output that can't be written, 2 a command line's fault,
 3 no memory.",
@@ -154,13 +173,17 @@ Status: 0 done, 1 a file's fault or output that can't be written, 2 a command li
 Draws the run that apf simulate makes, as one SVG with no script and no other file: the seats in use
 by flow against the limit, the queues that were used by their length, each request's wait as a bar
 in the row of its flow, and marks where a request was rejected or gave up. At most twelve flows have
-a row of their own, those with most requests. Times are microseconds in the files.
+a row of their own: those whose requests waited longest in sum, of flows with equal sums those with
+most requests, and of these the earlier ones. The others share the last row. Times are microseconds
+in the files.
 
 It simulates this level by this project's rules, and not kube-apiserver. TRACE is JSON Lines, and
 PATIENCE is as 15s or in microseconds; apf simulate --help says what they and CONFIG hold.
 
-Example:
-  apf picture config.json trace.jsonl 15s >picture.svg
+Example, and that it is the picture of this repository:
+  $ cd examples/noisy-client
+  $ apf picture config.json trace.jsonl 8s >drawn.svg
+  $ cmp drawn.svg picture.svg
 
 Status: 0 done, 1 a file's fault or output that can't be written, 2 a command line's fault,
 3 no memory.",
@@ -191,8 +214,14 @@ the trace, in microseconds, change nothing. A level that rejects deals no queues
 TRACE is JSON Lines; apf simulate --help says what it and CONFIG hold.
 
 Examples:
-  apf hands config.json trace.jsonl
-  apf hands config.json trace.jsonl --flow alice
+  $ cd examples/noisy-client
+  $ apf hands config.json trace.jsonl --flow bob
+  flow 6cc15f39b7bdc3b9 hand 57 63 20 32 19 41 31 56 of \"global-default\" \"bob\"
+    shares 56 with f4de3bd42ccdf6b7 \"global-default\" \"alice\"
+    shares 57 with 0f9520c855d9a224 \"global-default\" \"crawler\"
+  $ apf hands config.json trace.jsonl | sed -n 1,2p
+  flow f4de3bd42ccdf6b7 hand 55 56 51 36 11 5 38 52 of \"global-default\" \"alice\"
+    shares 56 with 1 flows
 
 Status: 0 done, 1 a file's fault or output that can't be written, 2 a command line's fault,
 3 no memory.",
@@ -215,15 +244,79 @@ portforward, proxy and log. At most 10000 events are taken: --user, --since and 
                  turned away with status 429 the median of those of its flow that ran, or of all
 --since INSTANT takes those received at INSTANT or later, --until INSTANT those received before it.
 
-Examples, from a log to a picture, and one hour of what the service accounts asked for:
-  apf trace audit.log users >trace.jsonl
-  apf picture config.json trace.jsonl 15s >picture.svg
-  apf trace audit.log users --user 'system:serviceaccount:*' \\
-    --since 2026-07-01T10:00:00Z --until 2026-07-01T11:00:00Z
+Examples, from a log to a picture, and how much the system's own users asked for in an hour:
+  $ apf trace examples/audit/audit.log users >trace.jsonl
+  $ apf picture examples/noisy-client/config.json trace.jsonl 15s >picture.svg
+  $ cd examples/audit
+  $ apf trace audit.log users --user 'system:*' --since 2026-11-25T12:00:00Z \\
+  >   --until 2026-11-25T13:00:00Z | wc -l
+  5
 
 Status: 0 done, 1 a file's fault or output that can't be written, 2 a command line's fault or a
 SCHEMA that is too long, 3 no memory.",
         kind: Kind::AuditLog,
+    },
+    Entry {
+        name: "objects",
+        about: "Print the levels and schemas of a cluster's objects",
+        help: "\
+OBJECTS is what kubectl get flowschemas,prioritylevelconfigurations -o json prints: one JSON text,
+a list of at most 1000 objects, 64 of them levels, or one object. Their apiVersion is
+flowcontrol.apiserver.k8s.io/v1, v1beta3 or v1beta2. The server's own objects exempt and catch-all
+are added where they lack.
+
+Prints a line for each level, in the order of the objects:
+  level NAME nominal N limits MIN..MAX queues Q hand H length L
+  nominal N    N is the level's part of the seats by its shares, rounded up
+  MIN..MAX     N less what it lends at most, and N with what it borrows at most
+  queues ..    its queues, those of a flow's hand, and the requests that may wait in one; or
+               rejects, where requests do not wait, or exempt, where they are never held back
+Then a line for each schema, in the order in which they are tried:
+  schema NAME precedence P level LEVEL by WHO
+  by WHO       what makes a flow: user, namespace, or nothing
+  dangling     stands at the end of a schema whose level is not there: it is never tried
+
+Example:
+  $ apf objects examples/cluster/objects.json --seats 600
+
+Status: 0 done, 1 a file's fault or output that can't be written, 2 a command line's fault,
+3 no memory.",
+        kind: Kind::Objects,
+    },
+    Entry {
+        name: "match",
+        about: "Print which schema a request is of, and why no earlier one",
+        help: "\
+OBJECTS is that of apf objects; apf objects --help says what it holds. The request is said by
+--user and --verb, with --resource or --path. Its groups are those of --groups alone, and no other:
+the server gives system:authenticated to each user who is known, system:unauthenticated to
+system:anonymous, and system:serviceaccounts with system:serviceaccounts:NAMESPACE to service
+accounts. --api-group and --namespace go with --resource.
+
+Prints a line for each schema that is tried before, and the first thing of it that did not match,
+and then a line of the request's schema:
+  not NAME: THING
+  schema NAME level LEVEL hash H of DISTINGUISHER hand Q Q ..
+  THING        subject, rules, verb, API group, resource, namespace or path; of several rules that
+               of the one that matches furthest; rules, where there is none for such a request
+  hash H       the hash of the flow, in hexadecimal digits
+  of ..        the user, the namespace or the empty text, as a JSON text
+  hand ..      the queues of the flow; nothing on a level without queues
+
+With --log LOG each request of an audit log is matched, and a line is printed for each event whose
+stage is ResponseComplete, with the number of its line:
+  LINE SCHEMA LEVEL DISTINGUISHER
+Its user and groups are those of impersonatedUser where it stands. It is a request for a resource
+exactly if objectRef is there; else its path is requestURI before ?.
+
+Examples:
+  $ apf match examples/cluster/objects.json --user alice --groups system:authenticated \\
+      --verb list --resource pods --namespace shop
+  $ apf match examples/cluster/objects.json --log audit.jsonl
+
+Status: 0 done, 1 a file's fault or output that can't be written, 2 a command line's fault,
+3 no memory.",
+        kind: Kind::Match,
     },
 ];
 

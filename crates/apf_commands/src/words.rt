@@ -3,7 +3,7 @@ ghost use Rattle.std.specs.Prelude.{◌≡◌, ◌⊎◌, ℕ, IfErr, IfNone, If
 ghost use Rattle.clap.specs.Words.{FailsBy, found_of, kind_of, rows_of};
 ghost use Rattle.clap.specs.declared.error.kind.ErrorKind.TheVariants.{OutOfMemory, ValueValidation};
 ghost use Rattle.clap.specs.Walk.{texts};
-ghost use Rattle.apf_commands.specs.Meaning.{kind_of as kind_of_arguments, AreArguments, AreChosen, HasBadName, HasLevelName, IsActionOf, IsInRange, IsNumber, IsNumberOr, IsOption, IsText, IsTextOr, words_fault};
+ghost use Rattle.apf_commands.specs.Meaning.{kind_of as kind_of_arguments, AreArguments, AreAsked, AreChosen, HasBadName, HasLevelName, IsActionOf, IsInRange, IsNumber, IsNumberOr, IsOption, IsText, IsTextOr, words_fault};
 ghost use Rattle.apf_commands.specs.Arguments.{HasArguments, HasText, HasNumber};
 ghost use Rattle.apf_commands.specs.declared.entries.Kind.TheVariants as of_kind;
 
@@ -86,6 +86,31 @@ pub enum Arguments<'a> {
         schema: &'a str,
         chosen: Chosen<'a>,
     },
+    /// The name of a file of objects, and how many seats the server has, 1 to 1,000,000.
+    Objects {
+        objects: &'a str,
+        seats: u32,
+    },
+    /// The name of a file of objects, and a request or the name of an audit log.
+    Match {
+        objects: &'a str,
+        asked: Asked<'a>,
+    },
+}
+
+/// A request, in the words of a command line, or an audit log of requests.
+#[derive(Clone, Copy, Debug, PartialEq, Eq)]
+pub struct Asked<'a> {
+    pub user: Option<&'a str>,
+    /// The names of groups, with a comma between two.
+    pub groups: Option<&'a str>,
+    pub verb: Option<&'a str>,
+    pub resource: Option<&'a str>,
+    pub api_group: Option<&'a str>,
+    pub namespace: Option<&'a str>,
+    pub path: Option<&'a str>,
+    /// The name of an audit log.
+    pub log: Option<&'a str>,
 }
 
 /// Which requests of an audit log are chosen, in the words of a command line.
@@ -293,6 +318,44 @@ fn audit_log_of<'a>(matches: &ArgMatches<'a>) -> Arguments<'a>
     }
 }
 
+fn objects_of<'a>(matches: &ArgMatches<'a>) -> Arguments<'a>
+    requires { HasArguments of_kind.Objects (rows_of (found_of matches.now)) }
+    ensures kind { kind_of_arguments result ≡ of_kind.Objects }
+    ensures read { AreArguments (rows_of (found_of matches.now)) result }
+{
+    Arguments::Objects {
+        objects: text_of(matches, "OBJECTS"),
+        seats: u32_or(matches, "seats", 600),
+    }
+}
+
+// The texts of the options that say a request.
+fn asked_of<'a>(matches: &ArgMatches<'a>) -> Asked<'a>
+    ensures { AreAsked (rows_of (found_of matches.now)) result }
+{
+    Asked {
+        user: option_of(matches, "user"),
+        groups: option_of(matches, "groups"),
+        verb: option_of(matches, "verb"),
+        resource: option_of(matches, "resource"),
+        api_group: option_of(matches, "api-group"),
+        namespace: option_of(matches, "namespace"),
+        path: option_of(matches, "path"),
+        log: option_of(matches, "log"),
+    }
+}
+
+fn match_of<'a>(matches: &ArgMatches<'a>) -> Arguments<'a>
+    requires { HasArguments of_kind.Match (rows_of (found_of matches.now)) }
+    ensures kind { kind_of_arguments result ≡ of_kind.Match }
+    ensures read { AreArguments (rows_of (found_of matches.now)) result }
+{
+    Arguments::Match {
+        objects: text_of(matches, "OBJECTS"),
+        asked: asked_of(matches),
+    }
+}
+
 // The arguments of this kind.
 fn arguments_of<'a>(kind: Kind, matches: &ArgMatches<'a>) -> Arguments<'a>
     requires { HasArguments kind (rows_of (found_of matches.now)) }
@@ -310,6 +373,8 @@ fn arguments_of<'a>(kind: Kind, matches: &ArgMatches<'a>) -> Arguments<'a>
         Kind::Trace => trace_of(matches),
         Kind::Flows => flows_of(matches),
         Kind::AuditLog => audit_log_of(matches),
+        Kind::Objects => objects_of(matches),
+        Kind::Match => match_of(matches),
     }
 }
 

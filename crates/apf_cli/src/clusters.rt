@@ -1,0 +1,172 @@
+//! The commands on the objects of a cluster.
+
+ghost use Rattle.std.specs.Prelude.{◌≤◌, IfOk, vec_len};
+ghost use Rattle.apf_matching.specs.Limits.{max_seats};
+ghost use Rattle.apf_objects.specs.Cluster.{HasCatchAll, most_levels};
+
+use crate::faults::Fault;
+use crate::files::{Files, Input, judge_names, read_input};
+use crate::telling::{audit_fault, named};
+use apf_audit::AuditFault;
+use apf_cluster_text::{
+    LogFault, WriteFault, write_cluster, write_log, write_match, write_object_fault,
+};
+use apf_commands::Asked;
+use apf_matching::{Request, Target};
+use apf_objects::{Cluster, ObjectFault, read_objects};
+use std::alloc::Global;
+use std::io::Write;
+
+// The fault of objects, with the line that says it.
+fn objects_fault(alloc: Global, bytes: &[u8], fault: &ObjectFault) -> Fault {
+    if *fault == ObjectFault::NoMemory {
+        return Fault::NoMemory;
+    }
+    let mut line = Vec::new(alloc);
+    match write_object_fault(alloc, bytes, fault, &mut line) {
+        Ok(()) => Fault::Told(line),
+        Err(WriteFault::NoMemory | WriteFault::CannotWrite) => Fault::NoMemory,
+    }
+}
+
+// Reads the objects.
+fn read_cluster<F: Files>(alloc: Global, files: &mut F, name: &str) -> Result<Cluster, Fault>
+    ensures catch_all { IfOk result HasCatchAll }
+    ensures few { IfOk result (λ cluster. vec_len cluster.levels ≤ most_levels) }
+{
+    let bytes = match read_input(files, Input::Objects, name) {
+        Ok(bytes) => bytes,
+        Err(fault) => return Err(named(alloc, name, fault)),
+    };
+    match read_objects(alloc, bytes.as_slice()) {
+        Ok(cluster) => Ok(cluster),
+        Err(fault) => Err(objects_fault(alloc, bytes.as_slice(), &fault)),
+    }
+}
+
+/// Prints the levels and schemas of the objects of this name, where the server has so many seats.
+pub(crate) fn print_cluster<F: Files, O: Write>(
+    alloc: Global,
+    files: &mut F,
+    name: &str,
+    seats: u32,
+    out: &mut O,
+) -> Result<(), Fault>
+    requires { seats ≤ max_seats }
+{
+    let cluster = read_cluster(alloc, files, name)?;
+    write_cluster(out, &cluster, seats).map_err(|_| Fault::CannotWrite)
+}
+
+// The groups that a text names, with a comma between two.
+fn groups_of<'a>(alloc: Global, names: Option<&'a str>) -> Result<Vec<&'a str>, Fault> {
+    let mut groups = Vec::new(alloc);
+    let Some(names) = names else {
+        return Ok(groups);
+    };
+    for name in names.split(",") {
+        if groups.push(name).is_err() {
+            return Err(Fault::NoMemory);
+        }
+    }
+    Ok(groups)
+}
+
+// What the request of a command line asks for.
+fn target_of<'a>(asked: &Asked<'a>) -> Result<Target<'a>, Fault> {
+    match (asked.resource, asked.path) {
+        (Some(resource), None) => Ok(Target::Resource {
+            api_group: asked.api_group.unwrap_or(""),
+            resource,
+            namespace: asked.namespace.unwrap_or(""),
+        }),
+        (None, Some(path)) if asked.api_group.is_none() && asked.namespace.is_none() => {
+            Ok(Target::Path(path))
+        }
+        _ => Err(Fault::NoRequest),
+    }
+}
+
+// Whether an option says something of a request.
+fn says_request(asked: &Asked<'_>) -> bool {
+    asked.user.is_some()
+        || asked.groups.is_some()
+        || asked.verb.is_some()
+        || asked.resource.is_some()
+        || asked.api_group.is_some()
+        || asked.namespace.is_some()
+        || asked.path.is_some()
+}
+
+// Prints the schema of the one request that is asked for.
+fn print_match<F: Files, O: Write>(
+    alloc: Global,
+    files: &mut F,
+    objects: &str,
+    asked: &Asked<'_>,
+    out: &mut O,
+) -> Result<(), Fault> {
+    let (Some(user), Some(verb)) = (asked.user, asked.verb) else {
+        return Err(Fault::NoRequest);
+    };
+    let target = target_of(asked)?;
+    let groups = groups_of(alloc, asked.groups)?;
+    let cluster = read_cluster(alloc, files, objects)?;
+    let request = Request {
+        user,
+        groups: groups.as_slice(),
+        verb,
+        target,
+    };
+    write_match(out, &cluster, &request).map_err(|_| Fault::CannotWrite)
+}
+
+// The fault of an audit log, with its line.
+fn log_fault(alloc: Global, bytes: &[u8], fault: LogFault) -> Fault {
+    match fault {
+        LogFault::TooLong(line) => audit_fault(alloc, bytes, AuditFault::TooLong(line)),
+        LogFault::NotJson(line) => audit_fault(alloc, bytes, AuditFault::NotUtf8Json(line)),
+        LogFault::NotEvent(line) => audit_fault(alloc, bytes, AuditFault::NotEvent(line)),
+        LogFault::BadUser(line) => audit_fault(alloc, bytes, AuditFault::BadUser(line)),
+        LogFault::NoMemory => Fault::NoMemory,
+        LogFault::CannotWrite => Fault::CannotWrite,
+    }
+}
+
+// Prints the schema of each request of an audit log.
+fn print_log<F: Files, O: Write>(
+    alloc: Global,
+    files: &mut F,
+    names: (&str, &str),
+    out: &mut O,
+) -> Result<(), Fault> {
+    judge_names(&[names.0, names.1])?;
+    let cluster = read_cluster(alloc, files, names.0)?;
+    let bytes = match read_input(files, Input::AuditLog, names.1) {
+        Ok(bytes) => bytes,
+        Err(fault) => return Err(named(alloc, names.1, fault)),
+    };
+    match write_log(alloc, out, &cluster, bytes.as_slice()) {
+        Ok(()) => Ok(()),
+        Err(fault) => Err(log_fault(alloc, bytes.as_slice(), fault)),
+    }
+}
+
+/// Prints the schema of the request that is asked for, or of each request of an audit log.
+///
+/// # Errors
+///
+/// `NoRequest` and `RequestAndLog` if the options don't go together; then the faults of the objects, and of the log.
+pub(crate) fn print_matches<F: Files, O: Write>(
+    alloc: Global,
+    files: &mut F,
+    objects: &str,
+    asked: &Asked<'_>,
+    out: &mut O,
+) -> Result<(), Fault> {
+    match asked.log {
+        None => print_match(alloc, files, objects, asked, out),
+        Some(_) if says_request(asked) => Err(Fault::RequestAndLog),
+        Some(log) => print_log(alloc, files, (objects, log), out),
+    }
+}

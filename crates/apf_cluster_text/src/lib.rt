@@ -1,0 +1,21 @@
+//! What the program prints of a cluster: its levels and schemas, which schema a request is of, and the faults of objects.
+//!
+//! - `path`: the path of a key, and what may stand there.
+//! - `found`: what stands at a place of a text of objects.
+//! - `faults`: the line of a fault.
+//! - `listing`: the levels and schemas.
+//! - `matching`: the schema of a request.
+//! - `events`: the requests of an audit log.
+#![tactic(auto)]
+
+mod events;
+mod faults;
+mod found;
+mod listing;
+mod matching;
+mod path;
+
+pub use events::{LogFault, write_log};
+pub use faults::{WriteFault, write_object_fault};
+pub use listing::write_cluster;
+pub use matching::write_match;

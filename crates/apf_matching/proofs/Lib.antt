@@ -1,0 +1,3 @@
+pub mod Agree
+pub mod Places
+pub mod Shares

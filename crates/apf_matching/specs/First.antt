@@ -1,0 +1,42 @@
+-- The first schema that a request matches.
+use Rattle.std.specs.Prelude.{◌≡◌, ℕ, suc, List, [], ◌∷◌, Bool, Option, Some, None, option_map, if◌then◌else◌, codes, bytes_eq}
+use Rattle.apf_objects.specs.Rules.{Text}
+use Rattle.apf_objects.specs.Schemas.{SchemaSaid}
+use Rattle.apf_objects.specs.declared.schema.Distinguisher.{Distinguisher}
+use Rattle.apf_objects.specs.declared.schema.Distinguisher.TheVariants.{Nothing, User, Namespace}
+use Rattle.apf_matching.specs.Matches.{schema_matches}
+use Rattle.apf_matching.specs.declared.request.Request.{Request}
+use Rattle.apf_matching.specs.declared.request.Target.{Target}
+use Rattle.apf_matching.specs.declared.request.Target.TheVariants.{Resource, Path}
+
+-- the place of the first that passes the test, counted from this number
+abbrev pub place_from : {A : Type 0} → (A → Bool) → ℕ → List A → Option ℕ
+place_from test i [] = None
+place_from test i (x ∷ xs) = if test x then Some i else place_from test (suc i) xs
+
+-- the place of the first schema that matches
+abbrev pub first_match : Request → List SchemaSaid → Option ℕ
+first_match request schemas = place_from (schema_matches request) 0 schemas
+
+-- the place of the schema of this name
+abbrev pub place_named : Text → List SchemaSaid → Option ℕ
+place_named name schemas = place_from (λ schema. bytes_eq schema.name name) 0 schemas
+
+abbrev pub or_named : Text → List SchemaSaid → Option ℕ → Option ℕ
+or_named name schemas (Some place) = Some place
+or_named name schemas None = place_named name schemas
+
+-- the request is of the schema at this place: the first that matches, and `catch-all` where none does
+abbrev pub IsSchemaFor : Request → List SchemaSaid → ℕ → Type 0
+IsSchemaFor request schemas place = or_named (codes "catch-all") schemas (first_match request schemas) ≡ Some place
+
+-- the namespace of a request, the empty text where it has none
+abbrev pub namespace_of : Target → Text
+namespace_of (Resource api_group resource namespace) = namespace.now
+namespace_of (Path path) = []
+
+-- what tells the flow of a request from others of its schema
+abbrev pub distinguisher_of : Request → Distinguisher → Text
+distinguisher_of request Nothing = []
+distinguisher_of request User = request.user.now
+distinguisher_of request Namespace = namespace_of request.target

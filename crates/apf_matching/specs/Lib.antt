@@ -1,0 +1,4 @@
+pub mod Matches
+pub mod Misses
+pub mod First
+pub mod Limits

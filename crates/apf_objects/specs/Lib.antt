@@ -1,0 +1,10 @@
+pub mod Keys
+pub mod Faults
+pub mod Values
+pub mod Rules
+pub mod Levels
+pub mod Schemas
+pub mod Own
+pub mod Order
+pub mod Objects
+pub mod Cluster

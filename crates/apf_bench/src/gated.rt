@@ -38,7 +38,7 @@ fn serve(course: &Course, gate: &Gate<Global>, pass: &mut Pass, beside: Beside)
                 gate.decide(pass, Decision::Execute);
                 gate.release(pass);
                 if beside == Beside::Renewal {
-                    gate.renew(pass, 1);
+                    gate.renew(pass, 1, 0, 1);
                 }
                 return;
             }

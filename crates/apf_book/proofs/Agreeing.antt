@@ -5,11 +5,11 @@ use Rattle.std.proofs.lemmas.Bool.{cases_eq}
 use Rattle.apf_words.specs.declared.decision.Decision.{Decision}
 use Rattle.apf_words.specs.declared.decision.Decision.TheVariants.{Cancelled}
 use Rattle.apf_history.specs.declared.events.Event.{Event}
-use Rattle.apf_history.specs.declared.events.Event.TheVariants.{Enter, Full, Strike}
+use Rattle.apf_history.specs.declared.events.Event.TheVariants.{Enter, Strike}
 use Rattle.apf_history.specs.declared.events.Status.{Status}
 use Rattle.apf_history.specs.declared.events.Status.TheVariants as status_is
 use Rattle.apf_model.specs.World.{put}
-use Rattle.apf_model.specs.History.{request_of, has_arrived, waiting, IsLegal}
+use Rattle.apf_model.specs.History.{request_of, has_arrived, waiting}
 use Rattle.apf_model.specs.Order.{status, makes, has_entered, changed, AreStatuses, Follows}
 use Rattle.apf_gate.specs.declared.record.Service.{Service}
 use Rattle.apf_gate.specs.declared.record.Service.TheVariants.{NotHanded, Handed, RefusedFull, RefusedClosed, Waiting, Held, Settled, Left}
@@ -148,9 +148,13 @@ module _ (h : List Event) (statuses : AreStatuses h) (desk heard : DeskRecord) (
       (subst (λ (i : ℕ). Moves heard i (Some (makes e)) desk') (is ∙ sym of) moves)
       (subst (λ (i : ℕ). Says ((i, makes e) ∷ []) heard.knows desk'.knows) (is ∙ sym of) says) (held ∙ (same.1 ∙ kept.holds_none)) (λ struck. absurd (other struck))
 
--- a request whose Pass was never handed over never arrived
+-- a request of which the log says nothing never arrived
+pub agreed_away_new : (h : List Event) (statuses : AreStatuses h) (desk : DeskRecord) (kept : IsDeskOf h desk) (r : ℕ) → logged (service desk r) ≡ Some status_is.Away → has_arrived h r ≡ false
+agreed_away_new h statuses desk kept r is = (statuses.away r).0 (ap said_of_status (sym (sym is ∙ kept.did r)))
+
+-- nor did one whose Pass was never handed over
 pub agreed_new : (h : List Event) (statuses : AreStatuses h) (desk : DeskRecord) (kept : IsDeskOf h desk) (r : ℕ) → service desk r ≡ NotHanded → has_arrived h r ≡ false
-agreed_new h statuses desk kept r is = (statuses.away r).0 (ap said_of_status (sym (sym (ap logged is) ∙ kept.did r)))
+agreed_new h statuses desk kept r is = agreed_away_new h statuses desk kept r (ap logged is)
 
 -- a head that waits still
 pub agreed_head : (h : List Event) (statuses : AreStatuses h) (desk desk' : DeskRecord) (q r : ℕ) → IsDeskOf h desk → Contains (waiting h q) r → Moves desk r (Some status_is.Waits) desk' → Says [] desk.knows desk'.knows → desk'.held ≡ None → IsDeskOf h desk'

@@ -13,3 +13,4 @@ refused_then handed.Entered pass' a b c more told = told
 refused_then handed.Full pass' a b c more told = (told_then a b c pass'.number QueueFull more told.0, told.1)
 refused_then handed.Closed pass' a b c more told = (told_then a b c pass'.number Closed more told.0, told.1)
 refused_then handed.Cancelled pass' a b c more told = (told_then a b c pass'.number Cancelled more told.0, told.1)
+refused_then handed.Raced pass' a b c more told = told

@@ -106,7 +106,7 @@ module _ (laws : Laws) (stands : Stands) (v : LifeView) (s : LifeState) (is : Is
         ∙ known.charged p slot (stood p slot ne c) ∙ sym (ap (width (set v.costs r cost)) (holder_else slot ne))
   ]
 
-  pub life_enters : IsLifeOf (then_came (asked v r hand cost) (Enter r q)) (record { queues = t; holders = set s.holders (slot_of r) r })
+  pub life_enters : IsLifeOf (then_came (asked v r hand cost) (Enter r q)) (record { queues = t; holders = set s.holders (slot_of r) r; hand = s.hand })
   life_enters = record {
     queue_is = queues_after;
     in_slots = in_slots_after;

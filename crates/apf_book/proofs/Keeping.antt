@@ -22,7 +22,7 @@ use Rattle.apf_book.specs.Moves.{Moves}
 use Rattle.apf_book.specs.Said.{saying, Says}
 use Rattle.apf_book.proofs.Puts.{put_here}
 use Rattle.apf_book.proofs.Moving.{moves_same}
-use Rattle.apf_book.proofs.Agreeing.{agreed_moves, agreed_after, agreed_quiet, agreed_away, agreed_away_heard, agreed_waits, agreed_cancelled, agreed_entered, agreed_not_entered, agreed_new, agreed_head, agreed_refused, agreed_arrived, said_of_status, struck_waits_not, strike_adds_none}
+use Rattle.apf_book.proofs.Agreeing.{agreed_moves, agreed_after, agreed_away, agreed_away_heard, agreed_waits, agreed_cancelled, agreed_entered, agreed_not_entered, agreed_new, agreed_head, agreed_refused, agreed_arrived, said_of_status, struck_waits_not, strike_adds_none}
 
 -- the Desk of a book is in agreement with its log
 pub desk_of_log : (desk : DeskRecord) (v : LedgerView) → IsKept desk v → IsDeskOf v.history desk

@@ -21,9 +21,12 @@ pub mod Entering
 pub mod LifeNexts
 pub mod LifeOpening
 pub mod LifeStrikes
+pub mod Fewer
+pub mod LifeAsks
 pub mod LifeKeeping
 pub mod LifeTurning
 pub mod LifeArriving
+pub mod Trying
 pub mod LifeBeginning
 pub mod Stretches
 pub mod Widths

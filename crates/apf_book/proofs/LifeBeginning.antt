@@ -1,24 +1,22 @@
 -- How a book for life begins.
-use Rattle.std.proofs.Common.{◌≡◌, ℕ, ◌≤◌, inl, inr, List, [], length, map, Some, None, refl, sym, ap, ◌∙◌, subst, arith}
+use Rattle.std.proofs.Common.{◌≡◌, ℕ, ◌≤◌, inl, inr, List, [], length, refl, sym, ap, subst, arith}
 use Rattle.std.proofs.lemmas.Bool.{cases_lt}
 use Rattle.std.proofs.lemmas.List.{get_or_past}
 use Rattle.apf_history.specs.declared.events.Event.{Event}
-use Rattle.apf_history.specs.declared.events.Status.TheVariants as status_is
 use Rattle.apf_model.specs.declared.response.Response.TheVariants.{Queue}
 use Rattle.apf_model.specs.World.{width}
 use Rattle.apf_model.specs.Schedule.{AreWidths}
-use Rattle.apf_model.specs.Order.{status}
 use Rattle.apf_gate.specs.declared.record.DeskRecord.{DeskRecord}
 use Rattle.apf_gate.specs.declared.record.Shape.{Shape}
 use Rattle.apf_gate.specs.Gauges.{IsShape}
 use Rattle.apf_gate.specs.Records.{new_desk, service}
 use Rattle.apf_gate.specs.Tokens.{DeskToken}
 use Rattle.apf_book.specs.BookView.{logged}
-use Rattle.apf_book.specs.Said.{saying, sayings}
+use Rattle.apf_book.specs.Said.{sayings}
 use Rattle.apf_book.specs.Agreeing.{IsDeskOf}
-use Rattle.apf_book.specs.Life.{LifeView, LifeState, IsLifeOf, IsOpening}
+use Rattle.apf_book.specs.Life.{LifeView, LifeState, IsLifeOf, AreAsked, sizes_in, IsOpening}
 use Rattle.apf_book.specs.Notes.{NotesView, AreNotesOf}
-use Rattle.apf_book.specs.LifeBook.{LifeBookView, IsLifeKept}
+use Rattle.apf_book.specs.LifeBook.{IsLifeKept}
 
 -- a Desk that made no step is in agreement with an empty history
 agreed_new_desk : (desk : DeskRecord) → desk ≡ new_desk desk.knows.shape → IsDeskOf [] desk
@@ -38,6 +36,7 @@ life_begins v desk queues notes many limit fresh has_queues slots o costs of not
   one_cost_each = costs;
   one_holder_each = slots;
   has_queues = has_queues;
+  asks = subst (λ (h : List Event). AreAsked (sizes_in v queues) desk.desk.knows.trace v.costs v.hands h) (sym o.nothing) tt;
 }
 
 -- a history in which nothing happened yet, of a gate of this shape

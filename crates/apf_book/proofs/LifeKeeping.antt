@@ -1,30 +1,31 @@
 -- What keeps the Desk, the queues of slots and the notes in agreement with one history.
-use Rattle.std.proofs.Common.{◌≡◌, ◌≢◌, ◌↔◌, ℕ, ◌<◌, ◌≤◌, Bool, true, false, List, [], ◌∷◌, length, Option, Some, None, refl, sym, ap, ◌∙◌, subst, arith}
+use Rattle.std.proofs.Common.{◌≡◌, ℕ, ◌<◌, false, List, [], ◌∷◌, length, Some, None, refl, sym, ap, ◌∙◌, subst, arith}
 use Rattle.std.specs.Prelude.{Contains, slice_index}
 use Rattle.apf_words.specs.declared.decision.Decision.TheVariants.{Cancelled}
 use Rattle.apf_history.specs.declared.events.Event.{Event}
-use Rattle.apf_history.specs.declared.events.Event.TheVariants.{Enter, Full, Dispatch, Strike}
 use Rattle.apf_history.specs.declared.events.Status.TheVariants as status_is
 use Rattle.apf_model.specs.History.{request_of, has_arrived, waiting}
 use Rattle.apf_model.specs.Order.{makes, AreStatuses}
 use Rattle.apf_gate.specs.declared.record.Shape.{Shape}
-use Rattle.apf_gate.specs.declared.record.Service.TheVariants.{NotHanded, Waiting}
+use Rattle.apf_gate.specs.declared.record.Service.TheVariants.{Waiting}
 use Rattle.apf_gate.specs.declared.record.DeskRecord.{DeskRecord}
 use Rattle.apf_gate.specs.Slots.{slot_of, IsTicket}
 use Rattle.apf_gate.specs.Gauges.{IsShape}
 use Rattle.apf_gate.specs.Records.{told_of, service, KnowsMore}
 use Rattle.apf_gate.specs.Requests.{WaitsAlone}
 use Rattle.apf_gate.specs.Tokens.{DeskToken}
-use Rattle.apf_queue.specs.View.{queue_in, queue_count, StandsNowhere}
+use Rattle.apf_queue.specs.View.{queue_in, StandsNowhere}
 use Rattle.apf_book.specs.Histories.{Laws}
-use Rattle.apf_book.specs.Life.{LifeView, LifeState, IsLifeOf, then_came}
-use Rattle.apf_book.specs.Notes.{NotesView, AreNotesOf}
+use Rattle.apf_book.specs.Life.{LifeView, IsLifeOf, SameSlots, AreAsked, sizes_in}
+use Rattle.apf_book.specs.Notes.{AreNotesOf}
+use Rattle.apf_book.specs.BookView.{logged}
 use Rattle.apf_book.specs.Agreeing.{IsDeskOf}
 use Rattle.apf_book.specs.Moves.{Moves}
 use Rattle.apf_book.specs.Said.{saying, Says}
 use Rattle.apf_book.specs.LifeBook.{LifeBookView, IsLifeKept}
-use Rattle.apf_book.proofs.Agreeing.{agreed_quiet, agreed_after, agreed_waits, agreed_new, agreed_head}
+use Rattle.apf_book.proofs.Agreeing.{agreed_quiet, agreed_after, agreed_waits, agreed_away_new, agreed_head}
 use Rattle.apf_book.proofs.Asking.{Contains-holding}
+use Rattle.apf_book.proofs.LifeAsks.{asks_then}
 
 -- who waits alone, opened
 pub alone_opened : (shape : Shape) (desk : DeskRecord) (r : ℕ) → WaitsAlone shape desk r → (other : ℕ) → other < length shape.widths → slot_of other ≡ slot_of r → service desk other ≡ Waiting → other ≡ r
@@ -33,30 +34,31 @@ alone_opened shape desk r alone = alone
 
 module _ (v v' : LifeView) (b b' : LifeBookView) (kept : IsLifeKept v b) (more : KnowsMore b.desk.desk.knows b'.desk.desk.knows) where
   -- what a book keeps beside its history
-  pub life_rekept : length v'.costs ≡ length v.costs → length b'.queues.holders ≡ length b.queues.holders → IsLifeOf v' b'.queues → IsDeskOf v'.history b'.desk.desk → AreNotesOf v'.history b'.notes → IsLifeKept v' b'
-  life_rekept costs holders of agrees notes = record {
+  pub life_rekept : length v'.costs ≡ length v.costs → SameSlots b.queues b'.queues → IsLifeOf v' b'.queues → IsDeskOf v'.history b'.desk.desk → AreNotesOf v'.history b'.notes → AreAsked (sizes_in v' b'.queues) b'.desk.desk.knows.trace v'.costs v'.hands v'.history → IsLifeKept v' b'
+  life_rekept costs holders of agrees notes asks = record {
     of_life = of;
     agrees = agrees;
     notes = notes;
     one_cost_each = costs ∙ (kept.one_cost_each ∙ ap (λ (s : Shape). length s.widths) (sym more.shape));
-    one_holder_each = holders ∙ (kept.one_holder_each ∙ ap (λ (s : Shape). s.slots) (sym more.shape));
+    one_holder_each = holders.0 ∙ (kept.one_holder_each ∙ ap (λ (s : Shape). s.slots) (sym more.shape));
     has_queues = ap (λ (s : Shape). s.response) more.shape ∙ kept.has_queues;
+    asks = asks;
   }
 
 -- steps that did nothing and said nothing
 pub life_quiet : (v : LifeView) (b : LifeBookView) (desk' : DeskToken) → IsLifeKept v b → (desk'.desk.services ≡ b.desk.desk.services) × (desk'.desk.held ≡ b.desk.desk.held) → KnowsMore b.desk.desk.knows desk'.desk.knows → Says [] b.desk.desk.knows desk'.desk.knows
     → IsLifeKept v (record b { desk = desk' })
 life_quiet v b desk' kept same more says =
-    life_rekept v v b (record b { desk = desk' }) kept more refl refl kept.of_life (agreed_quiet b.desk.desk desk'.desk v.history kept.agrees same more says) kept.notes
+    life_rekept v v b (record b { desk = desk' }) kept more refl (refl, refl) kept.of_life (agreed_quiet b.desk.desk desk'.desk v.history kept.agrees same more says) kept.notes (asks_then v b.queues b.queues b.desk.desk.knows desk'.desk.knows refl more kept.asks)
 
 -- the history has an event more, which the Desk's steps made
-pub life_came : (v v' : LifeView) (b b' : LifeBookView) (e : Event) → IsLifeKept v b → v'.history ≡ e ∷ v.history → length v'.costs ≡ length v.costs → length b'.queues.holders ≡ length b.queues.holders → IsLifeOf v' b'.queues → AreNotesOf (e ∷ v.history) b'.notes
+pub life_came : (v v' : LifeView) (b b' : LifeBookView) (e : Event) → IsLifeKept v b → v'.history ≡ e ∷ v.history → length v'.costs ≡ length v.costs → SameSlots b.queues b'.queues → IsLifeOf v' b'.queues → AreNotesOf (e ∷ v.history) b'.notes
     → Moves b.desk.desk (request_of e) (Some (makes e)) b'.desk.desk → Says (saying e ∷ []) b.desk.desk.knows b'.desk.desk.knows → b'.desk.desk.held ≡ None
-    → (makes e ≡ status_is.Struck → told_of b'.desk.desk.knows.told (request_of e) ≡ Some Cancelled) → IsLifeKept v' b'
-life_came v v' b b' e kept history costs holders of notes moves says held told =
+    → (makes e ≡ status_is.Struck → told_of b'.desk.desk.knows.told (request_of e) ≡ Some Cancelled) → AreAsked (sizes_in v' b'.queues) b'.desk.desk.knows.trace v'.costs v'.hands v'.history → IsLifeKept v' b'
+life_came v v' b b' e kept history costs holders of notes moves says held told asks =
     life_rekept v v' b b' kept moves.more costs holders of
     (subst (λ (h : List Event). IsDeskOf h b'.desk.desk) (sym history) (agreed_after b.desk.desk b'.desk.desk v.history e kept.agrees moves says held told))
-    (subst (λ (h : List Event). AreNotesOf h b'.notes) (sym history) notes)
+    (subst (λ (h : List Event). AreNotesOf h b'.notes) (sym history) notes) asks
 
 module _ (laws : Laws) (v : LifeView) (b : LifeBookView) (kept : IsLifeKept v b) where
   pub life_statuses : AreStatuses v.history
@@ -73,8 +75,8 @@ module _ (laws : Laws) (v : LifeView) (b : LifeBookView) (kept : IsLifeKept v b)
       let same = kept.one_cost_each in omega arith
 
   -- a request whose Pass was never handed over is new to the history
-  pub life_new : (r : ℕ) → service b.desk.desk r ≡ NotHanded → has_arrived v.history r ≡ false
-  life_new r is = agreed_new v.history life_statuses b.desk.desk kept.agrees r is
+  pub life_new : (r : ℕ) → logged (service b.desk.desk r) ≡ Some status_is.Away → has_arrived v.history r ≡ false
+  life_new r is = agreed_away_new v.history life_statuses b.desk.desk kept.agrees r is
 
   -- a slot that stands in a queue: the request that holds it waits there, and is a ticket of the gate
   module _ (q slot : ℕ) (stands : Contains (queue_in b.queues.queues q) slot) where
@@ -103,4 +105,4 @@ module _ (laws : Laws) (v : LifeView) (b : LifeBookView) (kept : IsLifeKept v b)
   -- a head that waits still
   pub life_head : (desk' : DeskToken) (q r : ℕ) → Contains (waiting v.history q) r → Moves b.desk.desk r (Some status_is.Waits) desk'.desk → Says [] b.desk.desk.knows desk'.desk.knows → desk'.desk.held ≡ None → IsLifeKept v (record b { desk = desk' })
   life_head desk' q r member moves says held =
-      life_rekept v v b (record b { desk = desk' }) kept moves.more refl refl kept.of_life (agreed_head v.history life_statuses b.desk.desk desk'.desk q r kept.agrees member moves says held) kept.notes
+      life_rekept v v b (record b { desk = desk' }) kept moves.more refl (refl, refl) kept.of_life (agreed_head v.history life_statuses b.desk.desk desk'.desk q r kept.agrees member moves says held) kept.notes (asks_then v b.queues b.queues b.desk.desk.knows desk'.desk.knows refl moves.more kept.asks)

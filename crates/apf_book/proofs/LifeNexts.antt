@@ -122,7 +122,7 @@ module _ (v : LifeView) (s : LifeState) (is : IsLifeOf v s) where
     ]
 
     -- the request that holds the chosen slot is dispatched
-    pub life_dispatches : IsLifeOf (then_came v (Dispatch (slice_index s.holders c.request) c.queue)) (record { queues = t; holders = s.holders })
+    pub life_dispatches : IsLifeOf (then_came v (Dispatch (slice_index s.holders c.request) c.queue)) (record { queues = t; holders = s.holders; hand = s.hand })
     life_dispatches = record {
       queue_is = queues_after;
       in_slots = λ p slot k. is.in_slots p slot (stood p slot k);

@@ -9,9 +9,9 @@ use Rattle.apf_queue.specs.View.{QueuesView, opening_view, queue_count, queue_in
 use Rattle.apf_book.specs.Life.{LifeView, IsLifeOf, holding, IsOpening}
 use Rattle.apf_book.proofs.Lists.{Contains-none, no_queue}
 
-pub life_opens : (v : LifeView) (s : QueuesView) (holders : List ℕ) (queues limit slots : ℕ) → s ≡ opening_view queues limit slots → numbers_in s ≡ opening_numbers queues → length holders ≡ slots
-    → IsOpening v queues limit → IsLifeOf v (record { queues = s; holders = holders })
-life_opens v s holders queues limit slots opening start count o =
+pub life_opens : (v : LifeView) (s : QueuesView) (holders : List ℕ) (queues limit slots hand : ℕ) → s ≡ opening_view queues limit slots → numbers_in s ≡ opening_numbers queues → length holders ≡ slots
+    → IsOpening v queues limit → IsLifeOf v (record { queues = s; holders = holders; hand = hand })
+life_opens v s holders queues limit slots hand opening start count o =
     let empty : (q : ℕ) → queue_in s q ≡ [] = λ (q : ℕ). ap (λ (x : QueuesView). queue_in x q) opening ∙ no_queue queues q in
     let same : opening_numbers queues ≡ numbers v.queues v.costs v.history = ap opening_numbers (sym o.queues_are) ∙ sym (ap (numbers v.queues v.costs) o.nothing) in
     record {

@@ -1,8 +1,8 @@
 -- One turn of a book for life: what is dispatched next, and what became of it.
-use Rattle.std.proofs.Common.{◌≡◌, ◌≢◌, Bool, false, ℕ, ◌+◌, ◌%◌, ◌<◌, ◌++◌, cond, true, List, [], ◌∷◌, length, Option, Some, None, refl, sym, ap, ◌∙◌, subst, arith}
-use Rattle.std.specs.Prelude.{Contains, count_by, slice_get, slice_index}
-use Rattle.std.proofs.lemmas.List.{length-append}
-use Rattle.std.proofs.lemmas.List.Sums.{sum_by-cons}
+use Rattle.std.proofs.Common.{◌≡◌, ◌≢◌, Bool, false, ℕ, ◌+◌, ◌%◌, ◌^◌, ◌<◌, ◌++◌, inl, inr, cond, true, List, [], ◌∷◌, length, Option, Some, None, refl, sym, ap, ◌∙◌, subst, arith}
+use Rattle.std.specs.Prelude.{Contains, count_by, slice_index}
+use Rattle.std.proofs.lemmas.List.{length-append, append_assoc}
+use Rattle.std.proofs.lemmas.List.Sums.{sum_by-cons, sum_by-append}
 use Rattle.apf_words.specs.Level.{Level}
 use Rattle.apf_words.specs.declared.decision.Decision.{Decision}
 use Rattle.apf_words.specs.declared.decision.Decision.TheVariants.{Execute, Cancelled}
@@ -11,7 +11,7 @@ use Rattle.apf_gate.specs.declared.record.Service.TheVariants.{NotHanded, Handed
 use Rattle.apf_gate.specs.Requests.{has_entered}
 use Rattle.apf_gate.specs.DeskSteps.{DeskMayFind, DeskLoadsDecision, DeskSubtractsWaiter}
 use Rattle.apf_history.specs.declared.events.Event.{Event}
-use Rattle.apf_history.specs.declared.events.Event.TheVariants.{Dispatch, Strike}
+use Rattle.apf_history.specs.declared.events.Event.TheVariants.{Enter, Full, Dispatch, Strike}
 use Rattle.apf_history.specs.declared.events.Status.TheVariants as status_is
 use Rattle.apf_model.specs.History.{waiting}
 use Rattle.apf_model.specs.Outcome.{is_dispatch}
@@ -23,12 +23,13 @@ use Rattle.apf_book.specs.Histories.{Laws}
 use Rattle.apf_gate.specs.Tokens.{DeskToken}
 use Rattle.apf_queue.specs.View.{queue_in, IsChosen}
 use Rattle.apf_queue.specs.declared.choice.Chosen.{Chosen}
-use Rattle.apf_book.specs.Life.{LifeView, LifeState, IsLifeOf, then_came, IsNextIn}
+use Rattle.apf_book.specs.Life.{LifeView, LifeState, IsLifeOf, SameSlots, then_came, IsNextIn}
 use Rattle.apf_book.specs.Notes.{NotesView, AreNotesOf}
 use Rattle.apf_book.specs.Moves.{Moves, LastFound}
 use Rattle.apf_book.specs.Servings.{AreServings}
-use Rattle.apf_book.specs.Said.{saying, Says}
-use Rattle.apf_book.specs.LifeBook.{LifeBookView, IsLifeKept, IsFirst, NextMisses, StrikesLife, then_came_all}
+use Rattle.apf_book.specs.Tries.{ServesSome, LosesGrant}
+use Rattle.apf_book.specs.Said.{Says}
+use Rattle.apf_book.specs.LifeBook.{LifeBookView, IsLifeKept, IsFirst, NextMisses, StopsAt, ServesLife, StrikesLife, then_came_all}
 use Rattle.apf_book.specs.LifeCalls.{SameLifeBook}
 use Rattle.apf_book.proofs.Lists.{first_contains}
 use Rattle.apf_book.proofs.Knowing.{more_then, found_then, told_still}
@@ -36,6 +37,7 @@ use Rattle.apf_book.proofs.Moving.{moves_to}
 use Rattle.apf_book.proofs.Saying.{loads_decision, leaves}
 use Rattle.apf_book.proofs.Running.{count_within}
 use Rattle.apf_book.proofs.Agreeing.{said_of_status, struck_waits_not}
+use Rattle.apf_book.proofs.LifeAsks.{asks_then}
 use Rattle.apf_book.proofs.LifeKeeping.{life_came, life_quiet, life_statuses}
 
 -- the slot that was chosen stands in its queue
@@ -47,26 +49,20 @@ pub next_is_first : (v : LifeView) (s : LifeState) (c : Chosen) (r : ℕ) → r 
 next_is_first v s c r is next = record { is_choice = next.is_choice; is_first = next.is_first ∙ ap (λ (i : ℕ). Some i) (sym is) }
 
 -- it was dispatched
-pub life_dispatched : (v : LifeView) (b b' : LifeBookView) (r q : ℕ) → IsLifeKept v b → length b'.queues.holders ≡ length b.queues.holders → IsLifeOf (then_came v (Dispatch r q)) b'.queues → AreNotesOf (Dispatch r q ∷ v.history) b'.notes
+pub life_dispatched : (v : LifeView) (b b' : LifeBookView) (r q : ℕ) → IsLifeKept v b → SameSlots b.queues b'.queues → IsLifeOf (then_came v (Dispatch r q)) b'.queues → AreNotesOf (Dispatch r q ∷ v.history) b'.notes
     → Moves b.desk.desk r (Some status_is.Dispatched) b'.desk.desk → Says ((r, status_is.Dispatched) ∷ []) b.desk.desk.knows b'.desk.desk.knows → b'.desk.desk.held ≡ None → IsLifeKept (then_came v (Dispatch r q)) b'
-life_dispatched v b b' r q kept holders of notes moves says held = life_came v (then_came v (Dispatch r q)) b b' (Dispatch r q) kept refl refl holders of notes moves says held (λ e. absurd (cc))
+life_dispatched v b b' r q kept holders of notes moves says held = life_came v (then_came v (Dispatch r q)) b b' (Dispatch r q) kept refl refl holders of notes moves says held (λ e. absurd (cc)) (asks_then v b.queues b'.queues b.desk.desk.knows b'.desk.desk.knows holders.1 moves.more kept.asks)
 
 -- it was struck
-pub life_struck : (v : LifeView) (b b' : LifeBookView) (r q : ℕ) → IsLifeKept v b → length b'.queues.holders ≡ length b.queues.holders → IsLifeOf (then_came v (Strike r q)) b'.queues → AreNotesOf (Strike r q ∷ v.history) b'.notes
+pub life_struck : (v : LifeView) (b b' : LifeBookView) (r q : ℕ) → IsLifeKept v b → SameSlots b.queues b'.queues → IsLifeOf (then_came v (Strike r q)) b'.queues → AreNotesOf (Strike r q ∷ v.history) b'.notes
     → Moves b.desk.desk r (Some status_is.Struck) b'.desk.desk → Says ((r, status_is.Struck) ∷ []) b.desk.desk.knows b'.desk.desk.knows → b'.desk.desk.held ≡ None → told_of b'.desk.desk.knows.told r ≡ Some Cancelled → IsLifeKept (then_came v (Strike r q)) b'
-life_struck v b b' r q kept holders of notes moves says held told = life_came v (then_came v (Strike r q)) b b' (Strike r q) kept refl refl holders of notes moves says held (λ e. told)
+life_struck v b b' r q kept holders of notes moves says held told = life_came v (then_came v (Strike r q)) b b' (Strike r q) kept refl refl holders of notes moves says held (λ e. told) (asks_then v b.queues b'.queues b.desk.desk.knows b'.desk.desk.knows holders.1 moves.more kept.asks)
 
 -- what the turns so far appended to a history that the book was of
-pub record ServedSoFar (v : LifeView) (count : ℕ) (b' : LifeBookView) : Type 0 where
-  pub events : List Event
-  pub kept : IsLifeKept (then_came_all events v) b'
-  pub servings : AreServings events
-  pub dispatches : length (events ++ v.history) < 18446744073709551616 → count_by is_dispatch events ≡ count
-
-pub served_none : (v : LifeView) (b : LifeBookView) → IsLifeKept v b → ServedSoFar v 0 b
+pub served_none : (v : LifeView) (b : LifeBookView) → IsLifeKept v b → ServesSome v 0 b
 served_none v b kept = record { events = []; kept = kept; servings = tt; dispatches = λ few. refl }
 
-pub served_dispatch : (v : LifeView) (b b' : LifeBookView) (count r q : ℕ) (far : ServedSoFar v count b) → IsLifeKept (then_came (then_came_all far.events v) (Dispatch r q)) b' → ServedSoFar v ((count + 1) % 18446744073709551616) b'
+pub served_dispatch : (v : LifeView) (b b' : LifeBookView) (count r q : ℕ) (far : ServesSome v count b) → IsLifeKept (then_came (then_came_all far.events v) (Dispatch r q)) b' → ServesSome v ((count + 1) % 18446744073709551616) b'
 served_dispatch v b b' count r q far kept = record {
   events = Dispatch r q ∷ far.events;
   kept = kept;
@@ -79,7 +75,7 @@ served_dispatch v b b' count r q far kept = record {
       omega (arith, few);
 }
 
-pub served_strike : (v : LifeView) (b b' : LifeBookView) (count r q : ℕ) (far : ServedSoFar v count b) → IsLifeKept (then_came (then_came_all far.events v) (Strike r q)) b' → ServedSoFar v count b'
+pub served_strike : (v : LifeView) (b b' : LifeBookView) (count r q : ℕ) (far : ServesSome v count b) → IsLifeKept (then_came (then_came_all far.events v) (Strike r q)) b' → ServesSome v count b'
 served_strike v b b' count r q far kept = record {
   events = Strike r q ∷ far.events;
   kept = kept;
@@ -89,7 +85,7 @@ served_strike v b b' count r q far kept = record {
       let was = far.dispatches (omega (arith, few)) in omega arith;
 }
 
-pub served_same : (v : LifeView) (b b' : LifeBookView) (count : ℕ) (far : ServedSoFar v count b) → IsLifeKept (then_came_all far.events v) b' → ServedSoFar v count b'
+pub served_same : (v : LifeView) (b b' : LifeBookView) (count : ℕ) (far : ServesSome v count b) → IsLifeKept (then_came_all far.events v) b' → ServesSome v count b'
 served_same v b b' count far kept = record { events = far.events; kept = kept; servings = far.servings; dispatches = far.dispatches }
 
 -- who is dispatched next misses after earlier turns
@@ -101,6 +97,10 @@ next_misses_then v a b c more misses = record {
   misses = subst (λ (s : Shape). LastFound a s.widths misses.request c) more.shape (found_then a b c b.shape.widths misses.request more misses.misses);
 }
 
+pub stops_then : (v : LifeView) (a b c : Knowledge) → KnowsMore a b → StopsAt v b c → StopsAt v a c
+stops_then v a b c more (inl nobody) = inl nobody
+stops_then v a b c more (inr misses) = inr (next_misses_then v a b c more misses)
+
 -- the book of both calls is the same one
 pub same_book_then : (a b c : LifeBookView) → SameLifeBook a b → SameLifeBook b c → SameLifeBook a c
 same_book_then a b c first then = record {
@@ -108,13 +108,14 @@ same_book_then a b c first then = record {
   more = more_then a.desk.desk.knows b.desk.desk.knows c.desk.desk.knows first.more then.more;
   queues = then.queues ∙ first.queues;
   room = then.room ∙ first.room;
+  hand = then.hand ∙ first.hand;
 }
 
 -- a request that waits is struck: the Desk read its word, and it left
 pub life_left : (v : LifeView) (b : LifeBookView) (read left : DeskToken) (queues : LifeState) (notes : NotesView) (r q : ℕ) (found : Option Decision) (level : Level) → IsLifeKept v b
     → (read.desk.services ≡ b.desk.desk.services) × (read.desk.held ≡ b.desk.desk.held) → KnowsMore b.desk.desk.knows read.desk.knows → DeskLoadsDecision r b.desk.desk found read.desk
     → left.desk.services ≡ (r, Left) ∷ read.desk.services → left.desk.held ≡ read.desk.held → KnowsMore read.desk.knows left.desk.knows → DeskSubtractsWaiter r read.desk level left.desk
-    → told_of read.desk.knows.told r ≡ Some Cancelled → length queues.holders ≡ length b.queues.holders → IsLifeOf (then_came v (Strike r q)) queues → AreNotesOf (Strike r q ∷ v.history) notes
+    → told_of read.desk.knows.told r ≡ Some Cancelled → SameSlots b.queues queues → IsLifeOf (then_came v (Strike r q)) queues → AreNotesOf (Strike r q ∷ v.history) notes
     → IsLifeKept (then_came v (Strike r q)) (record { desk = left; queues = queues; notes = notes })
 life_left v b read left queues notes r q found level kept served more loads services held more' leaving told holders of noted =
     life_struck v (record b { desk = read }) (record { desk = left; queues = queues; notes = notes }) r q
@@ -157,3 +158,45 @@ out_by_then laws v b c r true strikes told = record {
   out = struck_waits_not v.history r strikes.0 (life_statuses laws (then_came v (Strike r strikes.0)) c strikes.2);
 }
 out_by_then laws v b c r false strikes told = record { view = v; kept = strikes.0; out = strikes.1 told }
+
+servings_append : (a b : List Event) → AreServings a → AreServings b → AreServings (a ++ b)
+servings_append [] b are more = more
+servings_append (Enter r q ∷ a) b are more = absurd are
+servings_append (Full r q ∷ a) b are more = absurd are
+servings_append (Dispatch r q ∷ a) b are more = servings_append a b are more
+servings_append (Strike r q ∷ a) b are more = servings_append a b are more
+
+-- more turns after those so far
+module _ (v : LifeView) (b b' : LifeBookView) (count more : ℕ) (far : ServesSome v count b) where
+  appended : (events : List Event) → AreServings events → (length (events ++ (far.events ++ v.history)) < 2 ^ 64 → count_by is_dispatch events ≡ more) → (length ((events ++ far.events) ++ v.history) < 2 ^ 64) → count_by is_dispatch (events ++ far.events) ≡ (count + more) % 2 ^ 64
+  appended events servings then few =
+      let assoc = append_assoc events far.events v.history in
+      let long = subst (λ (h : List Event). length h < 2 ^ 64) assoc few in
+      let whole = length-append events (far.events ++ v.history) in
+      let rest = length-append far.events v.history in
+      let mine = length-append events far.events in
+      let was = far.dispatches (omega (arith, long)) in
+      let now = then long in
+      let sum = sum_by-append (λ (e : Event). cond (is_dispatch e) 1 0) events far.events in
+      let all = count_within is_dispatch (events ++ far.events) in
+      omega (arith, few)
+
+  pub served_then : (last : ServesSome (then_came_all far.events v) more b') → ServesSome v ((count + more) % 2 ^ 64) b'
+  served_then last = record {
+    events = last.events ++ far.events;
+    kept = subst (λ (h : List Event). IsLifeKept (record v { history = h }) b') (sym (append_assoc last.events far.events v.history)) last.kept;
+    servings = servings_append last.events far.events last.servings far.servings;
+    dispatches = appended last.events last.servings last.dispatches;
+  }
+
+  pub serves_then : (last : ServesLife (then_came_all far.events v) b more b') (a : LifeBookView) → KnowsMore a.desk.desk.knows b.desk.desk.knows → ServesLife v a ((count + more) % 2 ^ 64) b'
+  serves_then last a knows = record {
+    events = last.events ++ far.events;
+    kept = subst (λ (h : List Event). IsLifeKept (record v { history = h }) b') (sym (append_assoc last.events far.events v.history)) last.kept;
+    servings = servings_append last.events far.events last.servings far.servings;
+    dispatches = appended last.events last.servings last.dispatches;
+    stops = subst (λ (h : List Event). StopsAt (record v { history = h }) a.desk.desk.knows b'.desk.desk.knows) (sym (append_assoc last.events far.events v.history)) (stops_then (then_came_all last.events (then_came_all far.events v)) a.desk.desk.knows b.desk.desk.knows b'.desk.desk.knows knows last.stops);
+  }
+
+pub loses_then : (a b c : LifeBookView) → KnowsMore a.desk.desk.knows b.desk.desk.knows → LosesGrant b c → LosesGrant a c
+loses_then a b c more lost = record { request = lost.request; before = lost.before; more = more_then a.desk.desk.knows b.desk.desk.knows lost.before.knows more lost.more; raced = lost.raced }

@@ -21,7 +21,7 @@ pub Contains-filter : (p : ℕ → Bool) (xs : List ℕ) (y : ℕ) → Contains 
 Contains-filter p xs y c = All-contains (Contains xs) (filter p xs) y (All-filter p (Contains xs) xs (All-contains_itself xs)) c
 
 -- the first of a list
-first_none : {r : ℕ} → ◌≡◌ {A = Option ℕ} None (Some r) → ⊥
+pub first_none : {r : ℕ} → ◌≡◌ {A = Option ℕ} None (Some r) → ⊥
 first_none e = cc
 
 pub first_contains : (xs : List ℕ) (r : ℕ) → slice_get xs 0 ≡ Some r → Contains xs r

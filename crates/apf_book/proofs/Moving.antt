@@ -131,9 +131,3 @@ refuse_spares both both' decision may (inr missed) away =
 -- a request of which the log knows nothing was not refused as full
 pub away_not_full : (x : Service) → logged x ≡ Some status_is.Away → x ≢ RefusedFull
 away_not_full x away is = let bad : ◌≡◌ {A = Option Status} (Some status_is.Away) (Some status_is.Full) = sym away ∙ ap logged is in cc
-
--- one more try to enter a request that is still new
-pub tries_then : (start : DeskRecord) (r : ℕ) (both both' : Both) (answer : TryEnter) → Moves start r (Some status_is.Away) both.desk → both.pass.number ≡ r → TriesToEnter both answer both' → Moves start r (after_try answer) both'.desk
-tries_then start r both both' answer moves same tries =
-    moves_then start both.desk both'.desk r (Some status_is.Away) (after_try answer) moves
-    (subst (λ (i : ℕ). Moves both.desk i (after_try answer) both'.desk) same (moves_to_enter both both' answer tries (ap (λ (i : ℕ). logged (service both.desk i)) same ∙ moves.here)))

@@ -1,5 +1,5 @@
 -- What one event more leaves of the notes, and what is copied of them.
-use Rattle.std.proofs.Common.{◌≡◌, ℕ, ◌+◌, ◌-◌, ◌%◌, ◌<◌, ◌≤◌, cond, List, [], ◌∷◌, ◌++◌, length, map, take, drop, reverse, max, min, inl, inr, refl, sym, ap, ◌∙◌, subst, arith}
+use Rattle.std.proofs.Common.{◌≡◌, ℕ, ◌+◌, ◌-◌, ◌%◌, ◌<◌, ◌≤◌, List, [], ◌∷◌, ◌++◌, length, map, take, drop, reverse, max, min, inl, inr, refl, sym, ap, ◌∙◌, subst, arith}
 use Rattle.std.proofs.lemmas.Bool.{cases_lt}
 use Rattle.std.proofs.lemmas.List.{reverse-append, length-reverse, length-map, length-drop, length-take, length-append, length_push, map_push, take-map, take_at, drop_at, drop-map, drop-drop, drop-append-le}
 use Rattle.circular_buffer.specs.Buffer.{Buffer, buffer, keep_last}

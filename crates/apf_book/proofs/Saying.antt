@@ -21,6 +21,7 @@ use Rattle.apf_gate.specs.declared.answers.TryGrant.TheVariants as granted
 use Rattle.apf_gate.specs.Traces.{NoneOf}
 use Rattle.apf_gate.specs.Steps.{Both, SawLevel, SawDecision}
 use Rattle.apf_gate.specs.DeskSteps.{DeskMayFind, DeskLoadsLevel, DeskLoadsDecision, DeskSubtractsWaiter, DeskSubtractsSeats}
+use Rattle.apf_gate.specs.StationJoined.{StationAndDesk, StationAndDeskLoadLevel}
 use Rattle.apf_gate.specs.JoinedSteps.{joined_service, handed_over, JoinedLoadsLevel, JoinedExchangesLevel, JoinedLoadsDecision}
 use Rattle.apf_gate.specs.DeskCalls.{MayRefuse, TriesToEnter, TriesToGrant, SettlesTo, RefusesTo}
 use Rattle.apf_book.specs.BookView.{logged}
@@ -120,10 +121,9 @@ tries_say both both' entered.Entered tries =
 tries_say both both' entered.Closed tries = joined_loads both both' tries.0 tries.1
 tries_say both both' entered.Raced tries = quiet_then [] both.desk.knows tries.4.0.desk.knows both'.desk.knows (joined_loads both tries.4.0 tries.0 tries.4.1) (joined_loads tries.4.0 both' tries.1 tries.4.2)
 
--- one more try of a request that is still new
-pub tries_say_then : (start : DeskRecord) (r : ℕ) (both both' : Both) (answer : TryEnter) → Says [] start.knows both.desk.knows → both.pass.number ≡ r → TriesToEnter both answer both' → Says (said_trying answer r) start.knows both'.desk.knows
-tries_say_then start r both both' answer quiet same tries =
-    quiet_then (said_trying answer r) start.knows both.desk.knows both'.desk.knows quiet (subst (λ (i : ℕ). Says (said_trying answer i) both.desk.knows both'.desk.knows) same (tries_say both both' answer tries))
+-- the Desk heard a Station
+pub station_quiet : (both both' : StationAndDesk) (level : Level) → StationAndDeskLoadLevel both level both' → Says [] both.desk.knows both'.desk.knows
+station_quiet both both' level loads = subst (λ (b : StationAndDesk). Says [] both.desk.knows b.desk.knows) (sym loads.4) (level_says both.desk.knows loads.0 level None loads.1)
 
 -- a refusal: what was answered
 abbrev pub said_refusing : Decision → ℕ → List (ℕ × Status)

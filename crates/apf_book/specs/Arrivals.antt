@@ -21,6 +21,7 @@ after_handing handed.Entered = Some status_is.Waits
 after_handing handed.Full = Some status_is.Full
 after_handing handed.Closed = Some status_is.Away
 after_handing handed.Cancelled = Some status_is.Away
+after_handing handed.Raced = Some status_is.Away
 
 -- the request entered
 abbrev pub is_in : Handed → Bool
@@ -28,6 +29,7 @@ is_in handed.Entered = true
 is_in handed.Full = false
 is_in handed.Closed = false
 is_in handed.Cancelled = false
+is_in handed.Raced = false
 
 -- the Desk's last step, in this call, was told this decision of the request, and so was its Pass
 abbrev pub BothTold : Decision → PassRecord → Knowledge → Knowledge → Type 0
@@ -39,6 +41,7 @@ IsRefused handed.Entered pass' known known' = Unit {0}
 IsRefused handed.Full pass' known known' = BothTold QueueFull pass' known known'
 IsRefused handed.Closed pass' known known' = BothTold Closed pass' known known'
 IsRefused handed.Cancelled pass' known known' = BothTold Cancelled pass' known known'
+IsRefused handed.Raced pass' known known' = Unit {0}
 
 -- the event that an answer names
 abbrev pub arrival : Arrived → ℕ → List Event

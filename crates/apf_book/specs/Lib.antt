@@ -21,3 +21,4 @@ pub mod Laws
 pub mod Histories
 pub mod Stopped
 pub mod Dispatched
+pub mod Tries

@@ -1,7 +1,13 @@
 -- The queues of a level whose slots are used again, and the history that they are of. A request's hand and its cost come with its arrival.
-use Rattle.std.specs.Prelude.{◌≡◌, ℕ, ◌^◌, ◌<◌, ◌≤◌, false, List, [], ◌∷◌, length, map, slice_get, slice_index, slice_set, Contains, Some}
+use Rattle.std.specs.Prelude.{◌≡◌, ℕ, ◌^◌, ◌<◌, ◌≤◌, false, List, [], ◌∷◌, length, sum_by, map, slice_get, slice_index, slice_set, Contains, Some}
 use Rattle.apf_words.specs.Limits.{max_cost}
+use Rattle.apf_flow.specs.Sizes.{Sizes}
+use Rattle.apf_flow.specs.Deal.{hand_of}
 use Rattle.apf_gate.specs.Slots.{slot_of}
+use Rattle.apf_gate.specs.declared.record.Asked.{Asked}
+use Rattle.apf_gate.specs.declared.record.Entry.{Entry}
+use Rattle.apf_gate.specs.Traces.{asked_in}
+use Rattle.apf_history.specs.declared.events.Event.TheVariants.{Enter, Full, Dispatch, Strike}
 use Rattle.apf_history.specs.declared.events.Event.{Event}
 use Rattle.apf_model.specs.World.{put, width}
 use Rattle.apf_model.specs.History.{NamesRequests, NamesQueues, has_arrived, waiting, IsShortest}
@@ -24,6 +30,12 @@ pub record LifeView : Type 0 where
 pub record LifeState : Type 0 where
   pub queues : QueuesView
   pub holders : List ℕ
+  -- how many queues a hand has
+  pub hand : ℕ
+
+-- how many requests wait in all queues
+abbrev pub how_many : QueuesView → ℕ
+how_many s = sum_by (λ (rs : List ℕ). length rs) s.queues
 
 -- the requests that hold these slots
 abbrev pub holding : List ℕ → List ℕ → List ℕ
@@ -50,6 +62,32 @@ pub record IsLifeOf (v : LifeView) (s : LifeState) : Type 0 where
 -- the request r asks for this: its hand is dealt, and its dispatch is charged this cost
 abbrev pub asked : LifeView → ℕ → List ℕ → ℕ → LifeView
 asked v r hand cost = record v { costs = slice_set v.costs r cost; hands = put v.hands r hand }
+
+-- the request r asks for this hand and this cost, by the steps of a trace
+pub record IsAskedBy (sizes : Sizes) (trace : List Entry) (hand : List ℕ) (cost r : ℕ) : Type 0 where
+  pub ask : Asked
+  pub said : asked_in trace r ≡ Some ask
+  pub hand_is : hand ≡ hand_of sizes ask.hash
+  pub cost_is : cost ≡ ask.cost
+
+-- each request that arrived asked for its hand and its cost, by the steps of a trace
+abbrev pub AreAsked : Sizes → List Entry → List ℕ → (ℕ → List ℕ) → List Event → Type 0
+AreAsked sizes trace costs hands [] = Unit {0}
+AreAsked sizes trace costs hands (Enter r q ∷ h) = IsAskedBy sizes trace (hands r) (width costs r) r × AreAsked sizes trace costs hands h
+AreAsked sizes trace costs hands (Full r q ∷ h) = IsAskedBy sizes trace (hands r) (width costs r) r × AreAsked sizes trace costs hands h
+AreAsked sizes trace costs hands (Dispatch r q ∷ h) = AreAsked sizes trace costs hands h
+AreAsked sizes trace costs hands (Strike r q ∷ h) = AreAsked sizes trace costs hands h
+
+-- the sizes of the dealer
+abbrev pub sizes_in : LifeView → LifeState → Sizes
+sizes_in v s = record { deck = v.queues; hand = s.hand }
+
+abbrev pub sizes_of : LifeState → Sizes
+sizes_of s = record { deck = queue_count s.queues; hand = s.hand }
+
+-- the holders of slots are as many, and the hands as large
+abbrev pub SameSlots : LifeState → LifeState → Type 0
+SameSlots s s' = (length s'.holders ≡ length s.holders) × (s'.hand ≡ s.hand)
 
 -- with one event more
 abbrev pub then_came : LifeView → Event → LifeView

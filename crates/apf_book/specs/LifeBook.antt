@@ -1,5 +1,5 @@
 -- The book of a level whose slots are used again, as contracts see it.
-use Rattle.std.specs.Prelude.{◌≡◌, ◌≢◌, ◌⊎◌, ◌↔◌, ℕ, ◌^◌, ◌<◌, ◌++◌, Bool, MatchBool, true, false, List, [], ◌∷◌, length, slice_get, slice_index, count_by, Contains, Option, Some, None}
+use Rattle.std.specs.Prelude.{◌≡◌, ◌≢◌, ◌⊎◌, ℕ, ◌^◌, ◌<◌, ◌++◌, Bool, true, false, List, [], length, slice_get, count_by, Contains, Option, Some, None}
 use Rattle.apf_history.specs.declared.events.Event.{Event}
 use Rattle.apf_history.specs.declared.events.Event.TheVariants.{Enter, Full, Dispatch, Strike}
 use Rattle.apf_model.specs.History.{waiting}
@@ -13,7 +13,7 @@ use Rattle.apf_book.specs.declared.arrived.Arrived.{Arrived}
 use Rattle.apf_book.specs.declared.arrived.Arrived.TheVariants as arrived
 use Rattle.apf_book.specs.declared.serving.Served.{Served}
 use Rattle.apf_book.specs.declared.serving.Served.TheVariants as served
-use Rattle.apf_book.specs.Life.{LifeView, LifeState, IsLifeOf, asked, then_came}
+use Rattle.apf_book.specs.Life.{LifeView, LifeState, IsLifeOf, AreAsked, sizes_in, asked, then_came}
 use Rattle.apf_book.specs.Notes.{NotesView, AreNotesOf}
 use Rattle.apf_book.specs.Agreeing.{IsDeskOf}
 use Rattle.apf_book.specs.Moves.{LastFound}
@@ -34,6 +34,8 @@ pub record IsLifeKept (v : LifeView) (b : LifeBookView) : Type 0 where
   pub one_cost_each : length v.costs ≡ length b.desk.desk.knows.shape.widths
   pub one_holder_each : length b.queues.holders ≡ b.desk.desk.knows.shape.slots
   pub has_queues : b.desk.desk.knows.shape.response ≡ Queue
+  -- each request that arrived has the hand and the cost that it asked for, by what the Desk's steps found
+  pub asks : AreAsked (sizes_in v b.queues) b.desk.desk.knows.trace v.costs v.hands v.history
 
 -- there is a history that the book is of
 pub record IsLived (b : LifeBookView) : Type 0 where

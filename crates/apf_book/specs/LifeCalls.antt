@@ -1,13 +1,14 @@
 -- What the calls of a book for life ask and answer, and what a caller may rely on after them.
-use Rattle.std.specs.Prelude.{◌≡◌, ◌≢◌, ◌↔◌, ◌*◌, ◌≤◌, ◌<◌, ℕ, Bool, true, false, List, length, All, Contains, Option, Result, Some, None, IfOk, IfErr, OnOk}
+use Rattle.std.specs.Prelude.{◌++◌, ◌≡◌, ◌≢◌, ◌↔◌, ◌*◌, ◌≤◌, ◌<◌, ℕ, true, false, List, length, All, Option, Result, Some, None, IfOk, IfErr, OnOk}
 use Rattle.apf_words.specs.Limits.{max_cost}
 use Rattle.apf_words.specs.declared.decision.Decision.{Decision}
 use Rattle.apf_words.specs.declared.decision.Decision.TheVariants.{Cancelled}
 use Rattle.apf_model.specs.declared.config.Config.{Config}
 use Rattle.apf_model.specs.declared.response.Response.TheVariants.{Queue}
-use Rattle.apf_model.specs.History.{has_arrived, waiting}
+use Rattle.apf_model.specs.History.{has_arrived}
 use Rattle.apf_queue.specs.View.{IsQueueShape, queue_count}
 use Rattle.apf_queue.specs.declared.fault.QueueFault.TheVariants as queue
+use Rattle.apf_gate.specs.declared.record.Entry.{Entry}
 use Rattle.apf_gate.specs.declared.record.State.TheVariants.{InLine}
 use Rattle.apf_gate.specs.declared.record.Service.TheVariants.{Left}
 use Rattle.apf_gate.specs.Records.{new_desk, told_of, told_own, service, KnowsMore}
@@ -37,6 +38,7 @@ IsLifeFaultOf c slots other = ⊥
 pub record MakesLifeBook (config : Config) (slots : ℕ) (given : DeskToken) (made : Result LifeBookView BookFault) : Type 0 where
   pub desk : IfOk made (λ (b : LifeBookView). b.desk ≡ given)
   pub room : IfOk made (λ (b : LifeBookView). b.notes.capacity ≡ 2 * slots)
+  pub hand : IfOk made (λ (b : LifeBookView). b.queues.hand ≡ config.hand_size)
   pub opens : IfOk made (λ (b : LifeBookView). (v : LifeView) → IsOpening v config.queues config.queue_length_limit → length v.costs ≡ length given.desk.knows.shape.widths → IsLifeKept v b)
   pub settings : OnOk made (IsQueueShape config.queues config.queue_length_limit slots)
   pub fault : IfErr made (IsLifeFaultOf config slots)
@@ -64,6 +66,7 @@ pub record SameLifeBook (book book' : LifeBookView) : Type 0 where
   pub more : KnowsMore book.desk.desk.knows book'.desk.desk.knows
   pub queues : queue_count book'.queues.queues ≡ queue_count book.queues.queues
   pub room : book'.notes.capacity ≡ book.notes.capacity
+  pub hand : book'.queues.hand ≡ book.queues.hand
 
 -- the request entered exactly if the answer says so
 abbrev pub SaysQueued : Arrived → Type 0
@@ -96,3 +99,7 @@ pub record HearsLife (book : LifeBookView) (token : PassToken) (book' : LifeBook
   pub told : told_own token.pass ≢ None → told_of book'.desk.desk.knows.told token.pass.number ≡ told_own token.pass
   pub told_pass : told_own token.pass ≢ None → told_own token'.pass ≡ told_own token.pass
   pub left : service book.desk.desk token.pass.number ≡ Left → token'.pass.left ≡ true
+
+-- what the Pass knew the Desk knows
+abbrev pub HeardAll : PassToken → LifeBookView → Type 0
+HeardAll token book' = (newer : List Entry) × (newer ++ token.pass.knows.trace ≡ book'.desk.desk.knows.trace)

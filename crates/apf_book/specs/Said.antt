@@ -57,6 +57,7 @@ said_handing handed.Entered r = (r, status_is.Waits) ∷ []
 said_handing handed.Full r = (r, status_is.Full) ∷ []
 said_handing handed.Closed r = []
 said_handing handed.Cancelled r = []
+said_handing handed.Raced r = []
 
 abbrev pub said_serving : Served → ℕ → List (ℕ × Status)
 said_serving served.Dispatched r = (r, status_is.Dispatched) ∷ []

@@ -132,6 +132,7 @@ impl<A: Allocator> Book<A> {
             }
             Handed::Closed => Arrived::Closed,
             Handed::Cancelled => Arrived::Cancelled,
+            Handed::Raced => unreachable!(),
         }
     }
 

@@ -14,7 +14,7 @@
 //! - `overtaking`: the wait of a request in a log, and what is granted while it lasts.
 //! - `arrived`: what becomes of an arrival.
 //! - `handing`: an arrival is handed to the Desk.
-//! - `serving`: the Desk serves the head of a queue.
+//! - `serving`: the Desk serves the head of a queue, `dispatching` what a try to serve all that fit came to.
 //! - `book`: the ledger with the Desk.
 //! - `life_book`: queues of slots and notes with the Desk.
 //! - `laws`: what is true of every book.
@@ -22,6 +22,7 @@
 
 mod arrived;
 mod book;
+mod dispatching;
 mod fault;
 mod handing;
 mod histories;
@@ -40,6 +41,7 @@ mod stretch;
 pub use apf_model::{Ask, Config, Response, are_costs};
 pub use arrived::Arrived;
 pub use book::Book;
+pub use dispatching::TryDispatch;
 pub use fault::BookFault;
 pub use laws::{
     every_book_is_kept, every_dispatched_wait_is_bounded, every_ended_book_agrees,

@@ -9,7 +9,7 @@ ghost use Rattle.apf_history.specs.declared.events.Event.TheVariants as events;
 ghost use Rattle.apf_model.specs.World.{width};
 ghost use Rattle.apf_model.specs.History.{waiting, IsShortest};
 ghost use Rattle.apf_queue.specs.View.{queue_count, queue_in, IsQueueShape, StandsNowhere, IsChosen, HasTime};
-ghost use Rattle.apf_book.specs.Life.{LifeView, IsLifeOf, Comes, asked, then_came, IsNextIn, IsOpening};
+ghost use Rattle.apf_book.specs.Life.{how_many, LifeView, IsLifeOf, SameSlots, Comes, asked, then_came, IsNextIn, IsOpening};
 
 use crate::histories::{fair_histories_stand, legal_histories_are_in_order};
 use apf_queue::{Chosen, QueueFault, Queues};
@@ -22,6 +22,7 @@ pub struct LifeLedger<A: Allocator> {
     queues: Queues<A>,
     length_limit: u32,
     holders: Vec<u128, A>,
+    hand: u32,
 }
 
 impl<A: Allocator> Model for LifeLedger<A> {
@@ -30,7 +31,7 @@ impl<A: Allocator> Model for LifeLedger<A> {
 
     ghost Value = { LifeState };
 
-    ghost view = { λ s. record { queues = s.queues; holders = s.holders.items } };
+    ghost view = { λ s. record { queues = s.queues; holders = s.holders.items; hand = s.hand } };
 
     ghost invariant = { λ s. (length s.holders.items ≡ length s.queues.costs) × (s.length_limit ≡ s.queues.length_limit) };
 }
@@ -42,16 +43,19 @@ impl<A: Allocator + Copy> LifeLedger<A> {
         queues: u32,
         length_limit: u32,
         slots: u32,
+        hand: u32,
     ) -> Result<LifeLedger<A>, QueueFault>
         ensures bad_shape { IsErrOf result QueueFault.BadShape ↔ (¬ IsQueueShape queues length_limit slots) }
         ensures shape { OnOk result (IsQueueShape queues length_limit slots) }
         ensures slots { IfOk result (λ l. length l.holders ≡ slots) }
+        ensures hand { IfOk result (λ l. l.hand ≡ hand) }
         ensures opening { IfOk result (λ l. (v : LifeView) → IsOpening v queues length_limit → IsLifeOf v l) }
     {
         Ok(LifeLedger {
             queues: Queues::new(alloc, queues, length_limit, slots)?,
             length_limit,
             holders: vec![in alloc; 0; slots as usize]?,
+            hand,
         })
     }
 }
@@ -67,7 +71,7 @@ impl<A: Allocator> LifeLedger<A> {
         requires low { cost ≤ max_cost }
         ensures enters { (v : LifeView) (hand : List ℕ) → IsLifeOf v self.old → Comes v request hand queue
             → IsLifeOf (then_came (asked v request hand cost) (events.Enter request queue)) self.new }
-        ensures slots { length self.new.holders ≡ length self.old.holders }
+        ensures slots { SameSlots self.old self.new }
     {
         legal_histories_are_in_order();
         fair_histories_stand();
@@ -143,7 +147,8 @@ impl<A: Allocator> LifeLedger<A> {
     pub fn dispatch(&mut self, chosen: Chosen)
         requires chosen { IsChosen self.old.queues chosen }
         requires time { HasTime self.old.queues chosen.queue }
-        ensures slots { length self.new.holders ≡ length self.old.holders }
+        ensures slots { SameSlots self.old self.new }
+        ensures fewer { how_many self.new.queues < how_many self.old.queues }
         ensures dispatches { (v : LifeView) → IsLifeOf v self.old
             → IsLifeOf (then_came v (events.Dispatch (slice_index self.old.holders chosen.request) chosen.queue)) self.new }
     {
@@ -157,7 +162,8 @@ impl<A: Allocator> LifeLedger<A> {
         ensures none { IfNone result (self.new ≡ self.old) }
         ensures nowhere { IfNone result ((v : LifeView) → IsLifeOf v self.old → (q : ℕ) → ¬ Contains (waiting v.history q) request) }
         ensures some { IfSome result (λ q. (v : LifeView) → IsLifeOf v self.old → IsLifeOf (then_came v (events.Strike request q)) self.new) }
-        ensures slots { length self.new.holders ≡ length self.old.holders }
+        ensures fewer { IfSome result (λ q. how_many self.new.queues < how_many self.old.queues) }
+        ensures slots { SameSlots self.old self.new }
     {
         legal_histories_are_in_order();
         let slot = (request % 16_384) as u32;

@@ -1,26 +1,30 @@
 //! The book of a level whose slots are used again: its queues and its notes, with the Desk.
 
-ghost use Rattle.std.specs.Prelude.{◌≡◌, ◌^◌, ◌<◌, length, true, Some};
+ghost use Rattle.std.specs.Prelude.{◌≡◌, ◌⊎◌, ℕ, ◌^◌, ◌<◌, length, true, Some, All, IfSome, IfNone};
 ghost use Rattle.apf_words.specs.declared.decision.Decision.TheVariants.{Cancelled};
 ghost use Rattle.apf_gate.specs.Slots.{IsTicket};
-ghost use Rattle.apf_gate.specs.Records.{told_own};
-ghost use Rattle.apf_gate.specs.Tokens.{desk_gate};
+ghost use Rattle.apf_words.specs.Level.{Level};
+ghost use Rattle.apf_gate.specs.Ends.{IsEnded};
+ghost use Rattle.apf_gate.specs.Records.{told_own, KnowsMore};
+ghost use Rattle.apf_gate.specs.Tokens.{pass_gate, desk_gate, station_gate};
 ghost use Rattle.apf_book.specs.BookResults.{SameRequest};
-ghost use Rattle.apf_book.specs.Life.{LifeView};
+ghost use Rattle.apf_book.specs.Life.{IsAskedBy, sizes_of, how_many, LifeView};
 ghost use Rattle.apf_book.specs.Notes.{AreLifeStats, CopiesLate};
 ghost use Rattle.apf_book.specs.LifeBook.{IsLifeKept, IsLived, TurnsLife, ServesLife, StrikesLife};
-ghost use Rattle.apf_book.specs.LifeCalls.{IsLifeDeskFor, MakesLifeBook, AreOfLife, IsNew, IsAsk, SameLifeBook, AnswersLifeArrival, AfterLifeArrival, HearsLife};
+ghost use Rattle.apf_book.specs.Tries.{IsNewTo, RacesArrival, LosesGrant, ServesUntil};
+ghost use Rattle.apf_book.specs.LifeCalls.{HeardAll, IsLifeDeskFor, MakesLifeBook, AreOfLife, IsAsk, SameLifeBook, AnswersLifeArrival, AfterLifeArrival, HearsLife};
 
 use crate::arrived::Arrived;
+use crate::dispatching::TryDispatch;
 use crate::fault::BookFault;
-use crate::handing::{Handed, hand};
+use crate::handing::{Handed, try_hand};
 use crate::histories::legal_histories_are_in_order;
 use crate::life::LifeLedger;
 use crate::life_event::LifeEvent;
 use crate::life_stats::LifeStats;
 use crate::notes::{Copied, Notes};
 use crate::serving::{Served, serve};
-use apf_gate::{Desk, Gate, Pass, Ticket};
+use apf_gate::{Desk, Gate, Pass, Station, Ticket};
 use apf_model::Config;
 use apf_queue::QueueFault;
 use apf_words::Decision;
@@ -65,7 +69,13 @@ impl<A: Allocator + Copy> LifeBook<A> {
     {
         legal_histories_are_in_order();
         desk.is_of_a_gate();
-        let ledger = match LifeLedger::new(alloc, config.queues, config.queue_length_limit, slots) {
+        let ledger = match LifeLedger::new(
+            alloc,
+            config.queues,
+            config.queue_length_limit,
+            slots,
+            config.hand_size,
+        ) {
             Ok(ledger) => ledger,
             Err(QueueFault::BadShape) => return Err(BookFault::Queues(QueueFault::BadShape)),
             Err(QueueFault::NoMemory) => return Err(BookFault::NoMemory),
@@ -79,9 +89,9 @@ impl<A: Allocator + Copy> LifeBook<A> {
 }
 
 impl<A: Allocator> LifeBook<A> {
-    /// The request arrives, with its hand of queues and what its dispatch is charged, 1 to 20,000. In this order: it
-    /// is cancelled; the shortest queue of its hand is full, and it is rejected; the level is closed, and it is
-    /// rejected; it enters that queue. A lost exchange is tried again.
+    /// The request arrives, with its hand of queues and what its dispatch is charged, 1 to 4,294,967,295. In this
+    /// order: it is cancelled; the shortest queue of its hand is full, and it is rejected; the level is closed, and it
+    /// is rejected; it enters that queue. A lost exchange is tried again.
     ///
     /// A rejection, and that it is cancelled, is what the Desk's last step in this call was told, and its Pass.
     pub fn arrive<R: Wait, G: Allocator>(
@@ -93,37 +103,69 @@ impl<A: Allocator> LifeBook<A> {
         cost: u32,
     ) -> Arrived
         requires own { AreOfLife gate.now self.old pass.old }
-        requires is_new { IsNew pass.old }
+        requires is_new { IsNewTo self.old pass.old }
         requires ask { IsAsk self.old dealt.now cost }
+        requires asked { IsAskedBy (sizes_of self.old.queues) pass.old.pass.knows.trace dealt.now cost pass.old.pass.number }
         ensures same { SameLifeBook self.old self.new }
         ensures same_request { SameRequest pass.old pass.new }
         ensures answer { AnswersLifeArrival self.old pass.old dealt.now cost result self.new pass.new }
         ensures after { AfterLifeArrival self.old pass.old result pass.new }
+        ensures heard { HeardAll pass.old self.new }
+    {
+        for _ in rt.forever() {
+            if let Some(arrived) = self.try_arrive(gate, pass, dealt, cost) {
+                return arrived;
+            }
+        }
+        unreachable!()
+    }
+
+    /// As `arrive`, but it makes one try. `None` where the exchange by which the request would enter found another
+    /// level word than the load before it: then the histories are as they were, and the request is new still.
+    pub fn try_arrive<G: Allocator>(
+        &mut self,
+        gate: &Gate<G>,
+        pass: &mut Pass,
+        dealt: &[u32],
+        cost: u32,
+    ) -> Option<Arrived>
+        requires own { AreOfLife gate.now self.old pass.old }
+        requires is_new { IsNewTo self.old pass.old }
+        requires ask { IsAsk self.old dealt.now cost }
+        requires asked { IsAskedBy (sizes_of self.old.queues) pass.old.pass.knows.trace dealt.now cost pass.old.pass.number }
+        ensures same { SameLifeBook self.old self.new }
+        ensures same_request { SameRequest pass.old pass.new }
+        ensures answer { IfSome result (λ a. AnswersLifeArrival self.old pass.old dealt.now cost a self.new pass.new) }
+        ensures after { IfSome result (λ a. AfterLifeArrival self.old pass.old a pass.new) }
+        ensures heard { HeardAll pass.old self.new }
+        ensures follows { pass.new.pass.knows.trace ≡ self.new.desk.desk.knows.trace }
+        ensures raced { IfNone result (RacesArrival self.old pass.old self.new pass.new) }
     {
         legal_histories_are_in_order();
         self.desk.is_of_a_gate();
         let request = pass.number();
         let found = gate.hear(&mut self.desk, pass);
         if found == Some(Decision::Cancelled) {
-            return Arrived::Cancelled;
+            return Some(Arrived::Cancelled);
         }
         let queue = self.ledger.shortest(dealt);
         let full = self.ledger.is_full(queue);
-        match hand(rt, gate, &mut self.desk, pass, full) {
+        match try_hand(gate, &mut self.desk, pass, full) {
             Handed::Entered => {
                 self.ledger.enter(request, queue, cost);
                 self.notes
                     .note(LifeEvent::Enter(Ticket { number: request }, queue));
-                Arrived::Queued(queue)
+                Some(Arrived::Queued(queue))
             }
             Handed::Full => {
                 self.ledger.refuse(request, queue);
                 self.notes
                     .note(LifeEvent::Full(Ticket { number: request }, queue));
-                Arrived::Full(queue)
+                Some(Arrived::Full(queue))
             }
-            Handed::Closed => Arrived::Closed,
-            Handed::Cancelled => Arrived::Cancelled,
+            Handed::Closed => Some(Arrived::Closed),
+            Handed::Cancelled => Some(Arrived::Cancelled),
+            Handed::Raced => None,
         }
     }
 
@@ -139,15 +181,32 @@ impl<A: Allocator> LifeBook<A> {
     {
         let mut count: u64 = 0;
         for _ in rt.forever() {
-            match self.turn(gate) {
-                None => return count,
-                Some(Served::NoRoom) => return count,
-                Some(Served::Dispatched) => count = count.wrapping_add(1),
-                Some(Served::Struck) => {}
-                Some(Served::Raced) => {}
+            match self.try_dispatch(gate) {
+                TryDispatch::Stopped(more) => return count.wrapping_add(more),
+                TryDispatch::Raced(more) => count = count.wrapping_add(more),
             }
         }
         unreachable!()
+    }
+
+    /// As `dispatch`, but it ends where an exchange is lost, which it answers then: the exchange that would grant the
+    /// chosen head its seats found another level word than the load before it.
+    pub fn try_dispatch<G: Allocator>(&mut self, gate: &Gate<G>) -> TryDispatch
+        requires own { desk_gate self.old.desk ≡ gate.now }
+        ensures same { SameLifeBook self.old self.new }
+        ensures answer { (v : LifeView) → IsLifeKept v self.old → ServesUntil v self.old result self.new }
+        ensures raced { (count : ℕ) → result ≡ TryDispatch.Raced count → LosesGrant self.old self.new }
+    {
+        let mut count: u64 = 0;
+        loop {
+            match self.turn(gate) {
+                None => return TryDispatch::Stopped(count),
+                Some(Served::NoRoom) => return TryDispatch::Stopped(count),
+                Some(Served::Raced) => return TryDispatch::Raced(count),
+                Some(Served::Dispatched) => count = count.wrapping_add(1),
+                Some(Served::Struck) => {}
+            }
+        }
     }
 
     /// Strikes the request out of its queue, where it waits and is seen cancelled. Says whether it did; else nothing
@@ -181,8 +240,41 @@ impl<A: Allocator> LifeBook<A> {
         ensures same { SameLifeBook self.old self.new }
         ensures same_request { SameRequest pass.old pass.new }
         ensures answer { HearsLife self.old pass.old self.new pass.new }
+        ensures follows { pass.new.pass.knows.trace ≡ self.new.desk.desk.knows.trace }
     {
         gate.hear(&mut self.desk, pass);
+    }
+
+    /// The Desk and a Station hear every step of each other. They make one load, with the tokens joined.
+    pub fn hear_station<G: Allocator>(&mut self, gate: &Gate<G>, station: &mut Station)
+        requires own { desk_gate self.old.desk ≡ gate.now }
+        requires own_station { station_gate station.old ≡ gate.now }
+        ensures same { SameLifeBook self.old self.new }
+        ensures same_station { (station_gate station.new ≡ station_gate station.old) × (station.new.station.number ≡ station.old.station.number) × KnowsMore station.old.station.knows station.new.station.knows }
+        ensures history { (v : LifeView) → IsLifeKept v self.old → IsLifeKept v self.new }
+        ensures follows { station.new.station.knows.trace ≡ self.new.desk.desk.knows.trace }
+    {
+        gate.hear_station(&mut self.desk, station);
+    }
+
+    /// One account has the records of the Desk and of all these tokens, which are all that the gate has beside it.
+    ///
+    /// It gives up the Passes and the Stations, and changes nothing of the book.
+    pub fn all_are_here<G: Allocator>(
+        &mut self,
+        gate: &Gate<G>,
+        passes: Vec<Pass, G>,
+        stations: Vec<Station, G>,
+    )
+        requires own { desk_gate self.old.desk ≡ gate.now }
+        requires own_passes { All (λ t. pass_gate t ≡ gate.now) passes.items }
+        requires own_stations { All (λ t. station_gate t ≡ gate.now) stations.items }
+        requires all_passes { length passes.items ≡ gate.now.shape.slots }
+        requires all_stations { length stations.items ≡ gate.now.shape.stations }
+        ensures same { self.new ≡ self.old }
+        ensures here { (level : Level) × IsEnded gate.now self.old.desk.desk passes.items stations.items level }
+    {
+        gate.all_are_here(&mut self.desk, passes, stations);
     }
 
     /// The Pass's request, which entered and was told cancelled, is struck out of its queue if it waits there
@@ -198,6 +290,7 @@ impl<A: Allocator> LifeBook<A> {
         ensures left { pass.new.pass.left ≡ true }
         ensures state { pass.new.pass.state ≡ pass.old.pass.state }
         ensures told { told_own pass.new.pass ≡ Some Cancelled }
+        ensures follows { pass.new.pass.knows.trace ≡ self.new.desk.desk.knows.trace }
     {
         legal_histories_are_in_order();
         self.hear(gate, pass);
@@ -256,6 +349,8 @@ impl<A: Allocator> LifeBook<A> {
         requires own { desk_gate self.old.desk ≡ gate.now }
         ensures same { SameLifeBook self.old self.new }
         ensures turns { (v : LifeView) → IsLifeKept v self.old → TurnsLife result v self.old self.new }
+        ensures fewer { (result ≡ Some Served.Dispatched) ⊎ (result ≡ Some Served.Struck) → how_many self.new.queues.queues < how_many self.old.queues.queues }
+        ensures raced { result ≡ Some Served.Raced → LosesGrant self.old self.new }
     {
         legal_histories_are_in_order();
         self.desk.is_of_a_gate();

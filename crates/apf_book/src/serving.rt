@@ -5,7 +5,10 @@ ghost use Rattle.apf_words.specs.declared.decision.Decision.TheVariants as decis
 ghost use Rattle.apf_model.specs.World.{width};
 ghost use Rattle.apf_gate.specs.declared.record.Service.TheVariants as service_is;
 ghost use Rattle.apf_gate.specs.Slots.{IsTicket};
-ghost use Rattle.apf_gate.specs.Records.{told_of, service};
+ghost use Rattle.apf_gate.specs.declared.answers.TryGrant.TheVariants as granted;
+ghost use Rattle.apf_gate.specs.declared.record.DeskRecord.{DeskRecord};
+ghost use Rattle.apf_gate.specs.DeskCalls.{TriesToGrant};
+ghost use Rattle.apf_gate.specs.Records.{told_of, service, KnowsMore};
 ghost use Rattle.apf_gate.specs.Tokens.{desk_gate};
 ghost use Rattle.apf_book.specs.Moves.{Moves, LastFound};
 ghost use Rattle.apf_book.specs.Servings.{after_serving};
@@ -40,6 +43,7 @@ pub fn serve<A: Allocator>(gate: &Gate<A>, desk: &mut Desk, request: u128) -> Se
     ensures holds_none { desk.new.desk.held ≡ None }
     ensures struck { result ≡ Served.Struck → told_of desk.new.desk.knows.told request ≡ Some decisions.Cancelled }
     ensures no_room { result ≡ Served.NoRoom → LastFound desk.old.desk.knows gate.now.shape.widths request desk.new.desk.knows }
+    ensures raced { result ≡ Served.Raced → ((before : DeskRecord) × KnowsMore desk.old.desk.knows before.knows × TriesToGrant before request granted.Raced desk.new.desk) }
 {
     if let Some(Decision::Cancelled) = gate.seen(desk, request) {
         gate.leave(desk, request);

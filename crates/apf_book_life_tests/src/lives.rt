@@ -5,12 +5,13 @@ ghost use Rattle.std.specs.Prelude.{◌≡◌, ◌<◌, ◌≤◌, length, All};
 ghost use Rattle.apf_model.specs.declared.response.Response.TheVariants.{Queue};
 ghost use Rattle.apf_gate.specs.declared.record.State.TheVariants.{Fresh};
 ghost use Rattle.apf_gate.specs.Tokens.{pass_gate, station_gate, desk_gate};
-ghost use Rattle.apf_queue.specs.View.{queue_count};
+ghost use Rattle.apf_book.specs.Life.{sizes_of};
 ghost use Rattle.apf_book.specs.LifeCalls.{IsLifeDeskFor};
 
 use crate::marks::Mark;
 use crate::tenant::{Stage, Tenant};
 use apf_book::{Config, LifeBook, LifeEvent, Response};
+use apf_flow::Dealer;
 use apf_gate::{Cancel, Gate, Opened, Pass, Station, Ticket};
 use apf_model::Event;
 use apf_plain::{is_fair, names_queues, names_requests, stats_of};
@@ -147,9 +148,10 @@ struct Level<K: Mark> {
     book: LifeBook<Global>,
     tenants: Vec<Tenant<K>>,
     station: Station,
+    dealer: Dealer,
     ghost gate_is: { gate ≡ K.gate },
     ghost desk_is: { desk_gate book.desk ≡ K.gate },
-    ghost queues_are: { queue_count book.queues.queues ≡ 3 },
+    ghost sizes_are: { sizes_of book.queues ≡ dealer },
     ghost station_is: { station_gate station ≡ K.gate },
     ghost some_slots: { length tenants.items ≡ 5 },
 }
@@ -175,10 +177,11 @@ impl<K: Mark> Level<K> {
         book: LifeBook<Global>,
         tenants: Vec<Tenant<K>>,
         station: Station,
+        dealer: Dealer,
     ) -> Level<K>
         requires gate { gate ≡ K.gate }
         requires desk { desk_gate book.desk ≡ K.gate }
-        requires queues { queue_count book.queues.queues ≡ 3 }
+        requires sizes { sizes_of book.queues ≡ dealer }
         requires station { station_gate station ≡ K.gate }
         requires slots { length tenants.items ≡ 5 }
     {
@@ -187,21 +190,38 @@ impl<K: Mark> Level<K> {
             book,
             tenants,
             station,
+            dealer,
         }
+    }
+
+    // The slot goes on to its next request, whose width, flow and cost are drawn.
+    fn renew(&mut self, draw: &mut Draw, slot: usize) -> Option<Decision>
+        requires { slot < 5 }
+    {
+        let width = 1 + draw.below(3);
+        let hash = u64::from(draw.below(1_000_000)).wrapping_mul(0x9E37_79B9_7F4A_7C15);
+        let cost = 1 + draw.below(4);
+        self.tenants[slot].renew(&self.gate, width, hash, cost)
     }
 
     // A request of the slot arrives, if it did not. Its hand has two queues.
     fn arrive<R: Wait + Abort>(&mut self, rt: &R, past: &mut Past, draw: &mut Draw, slot: usize)
         requires { slot < 5 }
     {
+        if self.tenants[slot].stage() == Stage::Free {
+            self.renew(draw, slot);
+        }
         if self.tenants[slot].stage() != Stage::Fresh {
             return;
         }
-        let first = draw.below(QUEUES);
-        let hand = [first, (first + 1 + draw.below(QUEUES - 1)) % QUEUES];
-        let cost = 1 + draw.below(4);
-        past.comes(rt, self.tenants[slot].ticket(), cost, &hand);
-        let arrived = self.tenants[slot].arrive(rt, &self.gate, &mut self.book, &hand, cost);
+        let (hash, cost) = self.tenants[slot].asks();
+        past.comes(
+            rt,
+            self.tenants[slot].ticket(),
+            cost,
+            self.dealer.deal(hash).as_slice(),
+        );
+        let arrived = self.tenants[slot].arrive(rt, &self.gate, &mut self.book, &self.dealer);
         assert!(rt; arrived.is_some());
     }
 
@@ -216,7 +236,7 @@ impl<K: Mark> Level<K> {
         if !self.tenants[slot].is_over() {
             return;
         }
-        match self.tenants[slot].renew(&self.gate, 1 + draw.below(3)) {
+        match self.renew(draw, slot) {
             Some(Decision::Execute) => past.executed = past.executed.wrapping_add(1),
             Some(Decision::Cancelled) => past.cancelled = past.cancelled.wrapping_add(1),
             Some(Decision::QueueFull) => past.full = past.full.wrapping_add(1),
@@ -324,7 +344,6 @@ fn play<K: Mark, R: Wait + Abort>(
     requires passes { All (λ t. (pass_gate t ≡ opened.0) × (t.pass.state ≡ Fresh)) opened.2.items }
     requires stations { All (λ t. station_gate t ≡ opened.0) opened.3.items }
     requires counts { (length opened.2.items ≡ 5) × (length opened.3.items ≡ 1) }
-    requires config { config.now.queues ≡ 3 }
 {
     let (gate, desk, passes, mut stations) = opened;
     let Some(station) = stations.pop() else {
@@ -334,7 +353,10 @@ fn play<K: Mark, R: Wait + Abort>(
     let Ok(book) = LifeBook::new(alloc, config, SLOTS, desk) else {
         panic!(rt; "no book")
     };
-    let mut level = Level::<K>::of(gate, book, tenants_of(rt, alloc, passes), station);
+    let Ok(dealer) = Dealer::new(config.queues, config.hand_size) else {
+        panic!(rt; "no dealer")
+    };
+    let mut level = Level::<K>::of(gate, book, tenants_of(rt, alloc, passes), station, dealer);
     let mut past = Past::new(alloc);
     let mut draw = Draw {
         state: u64::from(seed),
@@ -348,9 +370,7 @@ fn play<K: Mark, R: Wait + Abort>(
 }
 
 // A level whose numbers are drawn from this seed.
-fn run<R: Wait + Abort>(rt: &R, alloc: Global, config: &Config, seed: u32) -> Past
-    requires { config.now.queues ≡ 3 }
-{
+fn run<R: Wait + Abort>(rt: &R, alloc: Global, config: &Config, seed: u32) -> Past {
     let Ok(opened) = Gate::open_for_life(alloc, 3, &[1, 1, 2, 1, 3], 1, Response::Queue) else {
         panic!(rt; "no gate")
     };

@@ -1,18 +1,19 @@
 //! A slot's Pass, with how far its request is.
 
 ghost use Rattle.std.specs.Prelude.{◌≡◌, ◌≢◌, ◌≤◌, true, false, Some, None};
-ghost use Rattle.apf_words.specs.Limits.{max_width};
+ghost use Rattle.apf_words.specs.Limits.{max_width, max_cost};
 ghost use Rattle.apf_gate.specs.declared.record.State.TheVariants as states;
 ghost use Rattle.apf_words.specs.declared.decision.Decision.TheVariants.{Execute};
 ghost use Rattle.apf_gate.specs.Records.{told_own};
 ghost use Rattle.apf_gate.specs.Slots.{IsTicket};
+ghost use Rattle.apf_gate.specs.Traces.{asked_in};
 ghost use Rattle.apf_gate.specs.Tokens.{pass_gate, desk_gate};
-ghost use Rattle.apf_queue.specs.View.{queue_count};
-ghost use Rattle.apf_book.specs.LifeCalls.{IsAsk};
+ghost use Rattle.apf_book.specs.Life.{sizes_of};
 ghost use Rattle.apf_book_life_tests.specs.declared.tenant.Stage.TheVariants as stages;
 
 use crate::marks::Mark;
 use apf_book::{Arrived, LifeBook};
+use apf_flow::Dealer;
 use apf_gate::{Gate, Pass, Renew, Ticket};
 use apf_words::Decision;
 use std::alloc::Global;
@@ -22,6 +23,8 @@ use std::sync::Wait;
 /// How far a request is.
 #[derive(Clone, Copy, Debug, PartialEq, Eq)]
 pub enum Stage {
+    /// Nobody held the slot yet.
+    Free,
     /// It did not arrive.
     Fresh,
     /// It entered a queue, and was not seen decided.
@@ -41,9 +44,14 @@ pub enum Stage {
 pub struct Tenant<K: Mark> {
     pass: Pass,
     stage: Stage,
+    hash: u64,
+    cost: u32,
     of: PhantomData<K>,
     ghost own: { pass_gate pass ≡ K.gate },
+    ghost free: { stage ≡ stages.Free → pass.pass.state ≡ states.Fresh },
     ghost fresh: { stage ≡ stages.Fresh → pass.pass.state ≡ states.Fresh },
+    ghost asked: { stage ≡ stages.Fresh → asked_in pass.pass.knows.trace pass.pass.number ≡ Some (record { hash = hash; cost = cost }) },
+    ghost some_cost: { (1 ≤ cost) × (cost ≤ max_cost) },
     ghost waits: { stage ≡ stages.Waits → (pass.pass.state ≡ states.InLine) × (pass.pass.entered ≡ true) },
     ghost runs: { stage ≡ stages.Runs → (pass.pass.state ≡ states.InLine) × (told_own pass.pass ≡ Some Execute) },
     ghost ended: { stage ≡ stages.Ended → (pass.pass.state ≡ states.Over) × (told_own pass.pass ≢ None) },
@@ -52,14 +60,16 @@ pub struct Tenant<K: Mark> {
 }
 
 impl<K: Mark> Tenant<K> {
-    /// The first request of a slot.
+    /// A slot that nobody held yet.
     pub fn new(pass: Pass) -> Tenant<K>
         requires own { pass_gate pass ≡ K.gate }
         requires fresh { pass.pass.state ≡ states.Fresh }
     {
         Tenant {
             pass,
-            stage: Stage::Fresh,
+            stage: Stage::Free,
+            hash: 0,
+            cost: 1,
             of: PhantomData,
         }
     }
@@ -73,7 +83,7 @@ impl<K: Mark> Tenant<K> {
     pub fn is_over(&self) -> bool {
         match self.stage {
             Stage::Ended | Stage::Refused | Stage::Withdrawn => true,
-            Stage::Fresh | Stage::Waits | Stage::Runs => false,
+            Stage::Free | Stage::Fresh | Stage::Waits | Stage::Runs => false,
         }
     }
 
@@ -84,26 +94,31 @@ impl<K: Mark> Tenant<K> {
         self.pass.ticket()
     }
 
-    /// Gets in line, and comes to the book, if it did not arrive.
+    /// The hash of its request's flow, and what its dispatch is charged.
+    pub fn asks(&self) -> (u64, u32) {
+        (self.hash, self.cost)
+    }
+
+    /// Gets in line, and comes to the book with the hand of its flow, if it did not arrive.
     pub fn arrive<R: Wait>(
         &mut self,
         rt: &R,
         gate: &Gate<Global>,
         book: &mut LifeBook<Global>,
-        dealt: &[u32],
-        cost: u32,
+        dealer: &Dealer,
     ) -> Option<Arrived>
         requires gate { gate.now ≡ K.gate }
         requires book { desk_gate book.old.desk ≡ K.gate }
-        requires ask { IsAsk book.old dealt.now cost }
+        requires sizes { sizes_of book.old.queues ≡ dealer.now }
         ensures book { desk_gate book.new.desk ≡ K.gate }
-        ensures queues { queue_count book.new.queues.queues ≡ queue_count book.old.queues.queues }
+        ensures sizes { sizes_of book.new.queues ≡ dealer.now }
     {
         if self.stage != Stage::Fresh {
             return None;
         }
         gate.ask(&mut self.pass);
-        let arrived = book.arrive(rt, gate, &mut self.pass, dealt, cost);
+        let hand = dealer.deal(self.hash);
+        let arrived = book.arrive(rt, gate, &mut self.pass, hand.as_slice(), self.cost);
         self.stage = match arrived {
             Arrived::Queued(_) => Stage::Waits,
             Arrived::Full(_) | Arrived::Closed | Arrived::Cancelled => Stage::Refused,
@@ -117,7 +132,7 @@ impl<K: Mark> Tenant<K> {
         requires gate { gate.now ≡ K.gate }
         requires book { desk_gate book.old.desk ≡ K.gate }
         ensures book { desk_gate book.new.desk ≡ K.gate }
-        ensures queues { queue_count book.new.queues.queues ≡ queue_count book.old.queues.queues }
+        ensures sizes { sizes_of book.new.queues ≡ sizes_of book.old.queues }
     {
         if self.stage != Stage::Waits {
             return None;
@@ -146,20 +161,31 @@ impl<K: Mark> Tenant<K> {
         true
     }
 
-    /// Leaves the request, if it is over, for the next one of the slot, of this width. Tells how it was decided.
-    pub fn renew(&mut self, gate: &Gate<Global>, width: u32) -> Option<Decision>
+    /// Leaves the request, if it is over or nobody held the slot yet, for the next one of the slot, which asks for this.
+    /// Tells how the one before was decided.
+    pub fn renew(
+        &mut self,
+        gate: &Gate<Global>,
+        width: u32,
+        hash: u64,
+        cost: u32,
+    ) -> Option<Decision>
         requires gate { gate.now ≡ K.gate }
         requires some { 1 ≤ width }
         requires narrow { width ≤ max_width }
+        requires some_cost { 1 ≤ cost }
+        requires low_cost { cost ≤ max_cost }
     {
         match self.stage {
-            Stage::Ended | Stage::Refused | Stage::Withdrawn => {}
+            Stage::Free | Stage::Ended | Stage::Refused | Stage::Withdrawn => {}
             Stage::Fresh | Stage::Waits | Stage::Runs => return None,
         }
-        let Renew::Began(decision) = gate.renew(&mut self.pass, width) else {
+        let Renew::Began(decision) = gate.renew(&mut self.pass, width, hash, cost) else {
             return None;
         };
         self.stage = Stage::Fresh;
+        self.hash = hash;
+        self.cost = cost;
         decision
     }
 }

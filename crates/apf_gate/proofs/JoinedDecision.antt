@@ -89,7 +89,7 @@ module _ (s : Shape) where
             (subst (λ b. IsRequest s r q b w) (sym (put_here (service_of d.services) r (handed_over a))) mine)
             (decision_known s (OfPass r) OfDesk p.knows h.account.trace None k.known next r x (λ _. refl))
             (decision_known s OfDesk OfDesk d.knows h.account.trace None k.desk.known next r x (λ _. refl))
-            holds.held_is holds.is_held refl,
+            holds.held_is holds.is_held refl refl,
         (u, decision_told s OfDesk d.knows h.account.trace None k.desk.known next r x x refl (λ _. refl), desk_may_find s r q (handed_over a) w mine, agree s t h p d k None u next refl, refl),
       )
 
@@ -181,7 +181,7 @@ module _ (s : Shape) where
           (subst (λ b. IsRequest s r q b w') (sym (put_here (service_of d.services) r (refusing x))) (y.request (along_told p (Some x) u)))
           (decision_known s (OfPass r) OfDesk p.knows h.account.trace m k.known next r (Some x) (λ _. here))
           (decision_known s OfDesk OfDesk d.knows h.account.trace m k.desk.known next r (Some x) (λ _. here))
-          holds.held_is holds.is_held refl in
+          holds.held_is holds.is_held refl refl in
           let says : JoinedExchangesDecision x (record { pass = p; desk = d }) (record { pass = q; desk = d' }) = (u, decision_told s OfDesk d.knows h.account.trace m k.desk.known next r None (Some x) none (λ _. here), agree s t h p d k m u next refl, refl) in
           (Pass q ∷ Desk d' ∷ [], keeps, tt, ruled, (refl, (record { pass = q; desk = d' }, refl, λ c same. (None, e, subst (λ c. JoinedExchangesDecision c (record { pass = p; desk = d }) (record { pass = q; desk = d' })) (some_same x c (decision_same (mark_of r) (Some x) (Some c) same)) says))))
 
@@ -220,6 +220,6 @@ module _ (s : Shape) where
             })
             (decision_known s (OfPass r) OfDesk p.knows h.account.trace None k.known next r x (λ _. refl))
             (decision_known s OfDesk OfDesk d.knows h.account.trace None k.desk.known next r x (λ _. refl))
-            k.desk.holds.held_is k.desk.holds.is_held refl,
+            k.desk.holds.held_is k.desk.holds.is_held refl refl,
         (refl, (record { pass = q; desk = d' }, refl, (x, k.word, (u, decision_told s OfDesk d.knows h.account.trace None k.desk.known next r x x refl (λ _. refl), desk_may_find s r p a w k.request, agree s t h p d k None u next refl, k.known.told r, refl)))),
       )

@@ -67,7 +67,7 @@ module _ (s : Shape) (shape : IsShape s) (laws : AreLaws s) where
             (subst (λ b. IsRequest s r q b w) (sym (put_here (service_of d.services) r (handed_over a))) (request_handed s p a w (along p u) k.request i))
             (follows s (OfPass r) OfDesk p.knows h.account.trace None k.known next)
             (level_known s OfDesk OfDesk d.knows h.account.trace None k.desk.known next l refl)
-            holds.held_is holds.is_held refl,
+            holds.held_is holds.is_held refl refl,
         (refl, (record { pass = q; desk = d' }, refl, (l, h.packs.level, (u, tells t h p d k None l refl next, agree s t h p d k None u next refl, refl)))),
       )
 
@@ -137,6 +137,6 @@ module _ (s : Shape) (shape : IsShape s) (laws : AreLaws s) where
                 (subst (λ b. IsRequest s r q b w') (sym (put_here (service_of d.services) r Waiting)) mine)
                 (follows s (OfPass r) OfDesk p.knows h.account.trace m k.known next)
                 (level_known s OfDesk OfDesk d.knows h.account.trace m k.desk.known next l now)
-                holds.held_is holds.is_held refl,
+                holds.held_is holds.is_held refl refl,
             (refl, (record { pass = q; desk = d' }, refl, (l, e ∙ said, (u, tells t h p d k m l now next, agree s t h p d k m u next refl, refl)))),
           )

@@ -1,5 +1,6 @@
 -- One more step of a trace, and what stays as the trace goes on.
-use Rattle.std.proofs.Common.{◌≡◌, ◌≢◌, ℕ, false, List, [], ◌∷◌, Option, Some, None, refl, sym, ap, ◌∙◌}
+use Rattle.std.proofs.Common.{◌≡◌, ◌≢◌, ℕ, false, List, [], ◌∷◌, ◌++◌, ◌≤◌, length, Option, Some, None, refl, sym, ap, ◌∙◌, arith}
+use Rattle.std.proofs.lemmas.List.{length-append}
 use Rattle.apf_model.specs.declared.moves.Move.{Move}
 use Rattle.apf_model.specs.declared.moves.Move.TheVariants.{Take, Enter, Grant, Leave, Decide, Release, Close, SetLimit, See}
 use Rattle.apf_model.specs.World.{Allowed}
@@ -9,7 +10,7 @@ use Rattle.apf_gate.specs.declared.record.Actor.{Actor}
 use Rattle.apf_gate.specs.declared.record.Actor.TheVariants.{OfPass, OfDesk, OfStation}
 use Rattle.apf_gate.specs.declared.record.Entry.{Entry}
 use Rattle.apf_gate.specs.declared.record.Knowledge.{Knowledge}
-use Rattle.apf_gate.specs.Traces.{opening_of, entry, moves, world_of, MayMake}
+use Rattle.apf_gate.specs.Traces.{opening_of, entry, moves, world_of, MayMake, NoneOf, GoesOn}
 use Rattle.apf_gate.specs.Account.{IsKnown}
 use Rattle.apf_gate.proofs.Puts.{put_else}
 
@@ -91,3 +92,16 @@ module _ (s : Shape) where
 
   pub same_response : (es : List Entry) → (world_of s es).response ≡ s.response
   same_response es = same_moves (moves es)
+
+  -- whose own step is the newest saw the whole trace
+  pub own_newest : (who : Actor) (later saw : List Entry) (m : Option Move) (es : List Entry) → later ++ saw ≡ entry who m ∷ es → NoneOf who later → saw ≡ entry who m ∷ es
+  own_newest who [] saw m es is none = is
+  own_newest who (x ∷ later) saw m es is none = absurd (none.0 (ap by_first is))
+    where
+      by_first : List Entry → Actor
+      by_first [] = who
+      by_first (y ∷ ys) = y.by
+
+  -- what a token saw is no longer than the trace
+  pub not_longer : (who : Actor) (es saw : List Entry) → GoesOn es who saw → length saw ≤ length es
+  not_longer who es saw k = let e = ap (λ (l : List Entry). length l) k.1 in let f = length-append k.0 saw in omega arith

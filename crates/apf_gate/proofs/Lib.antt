@@ -18,6 +18,7 @@ pub mod PassLevel
 pub mod PassRelease
 pub mod PassDecision
 pub mod Renewing
+pub mod Asks
 pub mod Counting
 pub mod StationSteps
 pub mod DeskLines
@@ -25,10 +26,12 @@ pub mod DeskSteps
 pub mod JoinedLines
 pub mod JoinedLevel
 pub mod JoinedDecision
+pub mod StationJoined
+pub mod Gathering
 pub mod Seats
 pub mod Told
+pub mod Whole
 pub mod Opening
-pub mod Gathering
 pub mod NewTokens
 pub mod Numbers
 pub mod HandedIn
@@ -36,5 +39,7 @@ pub mod Ended
 pub mod Ending
 pub mod LifeEnding
 pub mod Determined
+pub mod Between
+pub mod Losing
 pub mod Owing
 pub mod Same

@@ -36,7 +36,7 @@ same_desk_then a b c m n = record { gate = n.gate ∙ m.gate; more = more_then a
 
 -- the same Station
 pub same_station_then : (a b c : StationToken) → SameStation a b → SameStation b c → SameStation a c
-same_station_then a b c m n = record { gate = n.gate ∙ m.gate; more = more_then a.station.knows b.station.knows c.station.knows m.more n.more }
+same_station_then a b c m n = record { gate = n.gate ∙ m.gate; number = n.number ∙ m.number; more = more_then a.station.knows b.station.knows c.station.knows m.more n.more }
 
 -- a Station that sets the bit of a closed level knows more, by what that step tells
 pub closing_more : (me me' : Me (Unit {0}) (List Record)) (n : ℕ) → ByStation (OnLevel StationClosesLevel) me n me' → KnowsMore (station_of me.0).knows (station_of me'.0).knows

@@ -50,6 +50,9 @@ module _ (s : Shape) where
     noted = λ i l. let b = shape.few_slots in record { in_order = tt; says = λ r inside e before. let c = first_here i l in absurd (omega arith) };
     nobody = λ r l e. refl;
     newest = λ r e. absurd e;
+    older = λ r l small not. omega arith;
+    order = tt;
+    absent = λ r l beyond. refl;
   }
 
   first_known : (who : Actor) → IsKnown s who (new_knowledge s) []

@@ -12,6 +12,7 @@ use Rattle.apf_model.specs.Schedule.{IsSchedule}
 use Rattle.apf_gate.specs.declared.record.Shape.{Shape}
 use Rattle.apf_gate.specs.declared.record.Actor.{Actor}
 use Rattle.apf_gate.specs.declared.record.Actor.TheVariants.{OfPass, OfDesk, OfStation}
+use Rattle.apf_gate.specs.declared.record.Asked.{Asked}
 use Rattle.apf_gate.specs.declared.record.Entry.{Entry}
 use Rattle.apf_gate.specs.declared.record.Knowledge.{Knowledge}
 use Rattle.apf_gate.specs.declared.record.State.TheVariants.{Fresh, InLine, Over}
@@ -21,16 +22,16 @@ use Rattle.apf_gate.specs.declared.record.PassRecord.{PassRecord}
 use Rattle.apf_gate.specs.declared.record.Record.TheVariants.{Pass}
 use Rattle.apf_gate.specs.Slots.{slot_of, mark_of}
 use Rattle.apf_gate.specs.Records.{told_of, told_own, told_more, service, saw_decision, new_pass}
-use Rattle.apf_gate.specs.Traces.{opening_of, entry, moves, world_of, NoneOf, GoesOn}
+use Rattle.apf_gate.specs.Traces.{opening_of, renewal, moves, world_of, NoneOf, GoesOn}
 use Rattle.apf_words.specs.declared.decision.Decision.{Decision}
 use Rattle.apf_words.specs.declared.decision.Decision.TheVariants.{Execute, Cancelled}
 use Rattle.apf_gate.specs.Requests.{IsRequest, MayHold, written, stage_of, stage_of_pass, stage_of_settled, was_handed, has_entered}
-use Rattle.apf_gate.specs.Account.{Account, HoldsSlot, IsIdle, HeldBefore, IsNoted, AreSlots, IsKnown}
+use Rattle.apf_gate.specs.Account.{Account, HoldsSlot, IsIdle, HeldBefore, IsNoted, AreInOrder, AreSlots, IsKnown}
 use Rattle.apf_gate.specs.Rule.{IsRuled}
 use Rattle.apf_gate.specs.Steps.{ByPass, OnDecision}
 use Rattle.apf_gate.specs.PassSteps.{own_mark, IsNextRequest, IsOutOfLine, MayRenew, PassRenews}
 use Rattle.apf_gate.proofs.Puts.{put_here, put_else}
-use Rattle.apf_gate.proofs.Later.{next_load, known_later, other_pass}
+use Rattle.apf_gate.proofs.Later.{next_load, other_pass, not_longer}
 use Rattle.apf_gate.proofs.Requests.{is_fresh, is_handed}
 use Rattle.apf_gate.proofs.Views.{kept}
 use Rattle.apf_gate.proofs.Sound.{put_each}
@@ -131,14 +132,16 @@ module _ (s : Shape) where
       line Left is e n = absurd (let z = sym (ap has_entered is) ∙ n in cc)
 
   -- the account after the step: the old record stays as it is, and the new one is kept at the same seat
-  abbrev renewed : Account → ℕ → PassRecord → Account
-  renewed g next q = record g { trace = entry (OfPass next) None ∷ g.trace; pass = put g.pass next q; current = put g.current (slot_of next) next }
+  abbrev renewed : Account → ℕ → Asked → PassRecord → Account
+  renewed g next ask q = record g { trace = renewal next ask ∷ g.trace; pass = put g.pass next q; current = put g.current (slot_of next) next }
 
   -- the lines on slots as one is handed on
-  slots_renewed : (g : Account) (r next : ℕ) (q : PassRecord) → AreSlots s g → HoldsSlot g r → slot_of next ≡ slot_of r → r < next → next < length s.widths → slot_of r < s.slots
+  slots_renewed : (g : Account) (r next : ℕ) (ask : Asked) (q : PassRecord) → AreSlots s g → HoldsSlot g r → slot_of next ≡ slot_of r → r < next → next < length s.widths → slot_of r < s.slots
       → IsIdle (world_of s g.trace) r → ((world_of s g.trace).decision r ≢ None) ⊎ ((g.pass r).state ≡ Fresh)
-      → q.past ≡ told_more (g.pass r).past r ((world_of s g.trace).decision r) → AreSlots s (renewed g next q)
-  slots_renewed g r next q k holds same below inside in_slot idle over past = record {
+      → q.past ≡ told_more (g.pass r).past r ((world_of s g.trace).decision r)
+      → ((j : ℕ) → j < length s.widths → length (g.pass j).knows.trace ≤ length g.trace) → q.knows.trace ≡ renewal next ask ∷ g.trace
+      → AreInOrder s (renewal next ask ∷ g.trace) → AreSlots s (renewed g next ask q)
+  slots_renewed g r next ask q k holds same below inside in_slot idle over past all saw order = record {
     current = λ i l. dite (ℕ_discrete i (slot_of next))
         (λ e. subst (λ j. (put g.current (slot_of next) next j < length s.widths) × (slot_of (put g.current (slot_of next) next j) ≡ j)) (sym e)
         (subst (λ c. (c < length s.widths) × (slot_of c ≡ slot_of next)) (sym (put_here g.current (slot_of next) next)) (inside, refl)))
@@ -178,7 +181,22 @@ module _ (s : Shape) where
         (λ ne. subst (λ c. IsNoted (length s.widths) (world_of s g.trace) i c (put g.pass next q c).past) (sym (put_else g.current (slot_of next) next i ne))
         (subst (λ xs. IsNoted (length s.widths) (world_of s g.trace) i (g.current i) xs) (sym (ap (λ (o : PassRecord). o.past) (put_else g.pass next q (g.current i) (λ e. ne (sym (k.current i l).1 ∙ ap slot_of e))))) (k.noted i l)));
     nobody = λ j l beyond. k.nobody j l beyond;
-    newest = λ j e. subst (HoldsSlot (renewed g next q)) (same_pass next j e) (put_here g.current (slot_of next) next);
+    newest = λ j e. subst (HoldsSlot (renewed g next ask q)) (same_pass next j e) (put_here g.current (slot_of next) next);
+    older = λ j l small not. dite (ℕ_discrete (slot_of j) (slot_of next))
+        (λ y. let at : put g.current (slot_of next) next (slot_of j) ≡ next = here j y in
+        let mine = ap (λ (o : PassRecord). length o.knows.trace) (put_else g.pass next q j (λ e. not (at ∙ sym e))) in
+        let own = ap (λ c. length (put g.pass next q c).knows.trace) at in
+        let now = ap (λ (o : PassRecord). length o.knows.trace) (put_here g.pass next q) in
+        let whole = ap (λ (x : List Entry). length x) saw in
+        let z = all j l in omega arith)
+        (λ ne. let at = elsewhere j ne in
+        let mine = ap (λ (o : PassRecord). length o.knows.trace) (put_else g.pass next q j (λ e. ne (ap slot_of e))) in
+        let own = ap (λ c. length (put g.pass next q c).knows.trace) at in
+        let apart : g.current (slot_of j) ≢ next = (λ e. ne (sym (k.current (slot_of j) small).1 ∙ ap slot_of e)) in
+        let now = ap (λ (o : PassRecord). length o.knows.trace) (put_else g.pass next q (g.current (slot_of j)) apart) in
+        let z = k.older j l small (λ e. not (at ∙ e)) in omega arith);
+    order = order;
+    absent = λ j l beyond. ap (λ (o : PassRecord). o.knows.trace) (put_else g.pass next q j (λ e. let z = ap slot_of e in omega arith)) ∙ k.absent j l beyond;
   }
     where
       -- what the Pass noted, with its request before
@@ -215,22 +233,31 @@ module _ (s : Shape) where
         closed = λ e. absurd (let z = sym (ap (written q) f.free) ∙ e in cc);
       }
 
+  -- another token knows what it knew
+  known_renewed : (u : Knowledge) (other : Actor) (next : ℕ) (ask : Asked) (old : List Entry) → OfPass next ≢ other → IsKnown s other u old → IsKnown s other u (renewal next ask ∷ old)
+  known_renewed u other next ask old apart k = record {
+    shape_is = k.shape_is;
+    closed = k.closed;
+    told = k.told;
+    newer = (renewal next ask ∷ k.newer.0, ap (λ es. renewal next ask ∷ es) k.newer.1, (apart, k.newer.2));
+  }
+
   -- a swap of the slot's word
-  pub pass_renews : (id slots : ℕ) (p : PassRecord) (next : ℕ) → MayRenew p → IsNextRequest p next → next < length s.widths
-      → Allows (IsRuled s) slots id (Pass p ∷ [], []) (slot_of next + 1) (λ _. marked (mark_of next) None) (ByPass (OnDecision own_mark (PassRenews next)) (Pass p ∷ [], []))
-  pass_renews id slots p next may is_next inside t h deep at small =
+  pub pass_renews : (id slots : ℕ) (p : PassRecord) (next : ℕ) (ask : Asked) → MayRenew p → IsNextRequest p next → next < length s.widths
+      → Allows (IsRuled s) slots id (Pass p ∷ [], []) (slot_of next + 1) (λ _. marked (mark_of next) None) (ByPass (OnDecision own_mark (PassRenews next ask)) (Pass p ∷ [], []))
+  pass_renews id slots p next ask may is_next inside t h deep at small =
       let g = h.account in
       let r = p.number in
       let w = world_of s g.trace in
       let k = is_at s t h id p at in
-      let es : List Entry = entry (OfPass next) None ∷ g.trace in
+      let es : List Entry = renewal next ask ∷ g.trace in
       let found = w.decision r in
       let u : Knowledge = saw_decision p.knows r found es in
       let past = told_more p.past r found in
       let q : PassRecord = record (new_pass s next) { past = past; knows = u } in
       let q' : PassRecord = record (new_pass p.knows.shape next) { past = past; knows = u } in
       let same_q : q ≡ q' = ap (λ x. record (new_pass x next) { past = past; knows = u }) (sym k.known.shape_is) in
-      let g' = renewed g next q in
+      let g' = renewed g next ask q in
       let was = (h.views id (Pass p ∷ []) at).0.0 in
       let idle = may_leave p (service g.desk r) w k.request (λ some. k.known.told r some) may in
       let below : g.current (slot_of next) < next = (let e = ap g.current is_next.same_slot ∙ k.holds in let l = is_next.later in omega arith) in
@@ -242,7 +269,8 @@ module _ (s : Shape) where
       (λ (e : p.state ≡ Fresh). inr (ap (λ (o : PassRecord). o.state) was.1.1 ∙ e))
       (λ (m : (told_own p ≢ None) × ((p.state ≡ Over) ⊎ IsOutOfLine p)). inl (λ none. m.0 (sym (k.known.told r m.0) ∙ none)))
       may in
-      let slots_now = slots_renewed g r next q h.slots k.holds is_next.same_slot is_next.later inside k.in_slot idle over (ap (λ (o : PassRecord). told_more o.past r found) (sym was.1.1)) in
+      let slots_now = slots_renewed g r next ask q h.slots k.holds is_next.same_slot is_next.later inside k.in_slot idle over (ap (λ (o : PassRecord). told_more o.past r found) (sym was.1.1)) (λ j l. not_longer s (OfPass j) g.trace (g.pass j).knows.trace (h.sound.pass_knows j l).newer) refl
+      ((λ j c e same_slot l in_range. no_later j c (same_pass next j e) same_slot l in_range), h.slots.order) in
       let learnt = decision_known s (OfPass r) (OfPass next) p.knows g.trace None k.known next_is r found (λ _. refl) in
       let known_now : IsKnown s (OfPass next) u es = record { shape_is = learnt.shape_is; closed = learnt.closed; told = learnt.told; newer = ([], refl, tt) } in
       let saw = decision_told s (OfPass r) p.knows g.trace None k.known (next_load s (OfPass r) g.trace h.sound.schedule) r found found refl (λ _. refl) in
@@ -261,9 +289,9 @@ module _ (s : Shape) where
         request = λ j l. put_each s (λ i o. IsRequest s i o (service g.desk i) w) g.pass next q
             (request_new next (service g.desk next) w past u (subst (λ (o : PassRecord). IsRequest s next o (service g.desk next) w) fresh.0 (h.sound.request next inside))) j
             (λ ne. h.sound.request j l);
-        pass_knows = λ j l. put_each s (λ i o. IsKnown s (OfPass i) o.knows es) g.pass next q known_now j (λ ne. known_later s (g.pass j).knows (OfPass j) (OfPass next) None g.trace (other_pass j next ne) next_is.later (h.sound.pass_knows j l));
-        desk_knows = known_later s g.desk.knows OfDesk (OfPass next) None g.trace (λ x. cc) next_is.later h.sound.desk_knows;
-        station_knows = λ i. known_later s (g.station i).knows (OfStation i) (OfPass next) None g.trace (λ x. cc) next_is.later (h.sound.station_knows i);
+        pass_knows = λ j l. put_each s (λ i o. IsKnown s (OfPass i) o.knows es) g.pass next q known_now j (λ ne. known_renewed (g.pass j).knows (OfPass j) next ask g.trace (other_pass j next ne) (h.sound.pass_knows j l));
+        desk_knows = known_renewed g.desk.knows OfDesk next ask g.trace (λ x. cc) h.sound.desk_knows;
+        station_knows = λ i. known_renewed (g.station i).knows (OfStation i) next ask g.trace (λ x. cc) (h.sound.station_knows i);
         held = h.sound.held;
         is_held = h.sound.is_held;
       })
@@ -289,10 +317,10 @@ module _ (s : Shape) where
                   found_is = (λ i. (world_of (k.known.shape_is i) (k.known.newer.1 i)).decision r);
                   is_new = subst (NoneOf (OfPass next)) (sym k.known.newer.1) none_own;
                   is_undecided = (λ i. (world_of (k.known.shape_is i) (k.known.newer.1 i)).decision next) ∙ fresh.1;
-                  is_after = ap (λ x. saw_decision p.knows r found (entry (OfPass next) None ∷ x)) (sym k.known.newer.1);
+                  is_after = ap (λ x. saw_decision p.knows r found (renewal next ask ∷ x)) (sym k.known.newer.1);
                   is_schedule = subst (λ x. IsSchedule (opening_of x) (moves es)) (sym k.known.shape_is) next_is.schedule;
                   stays = λ some. k.known.told r some;
-                  more = record { shape = refl; closed = λ e. e; told = saw.more.told; trace = (entry (OfPass next) None ∷ k.known.newer.0, ap (λ l. entry (OfPass next) None ∷ l) (sym k.known.newer.1)) };
+                  more = record { shape = refl; closed = λ e. e; told = saw.more.told; trace = (renewal next ask ∷ k.known.newer.0, ap (λ l. renewal next ask ∷ l) (sym k.known.newer.1)) };
                 },
                 same_q,
               ),
@@ -301,5 +329,14 @@ module _ (s : Shape) where
         ),
       )
     where
+      no_later : (j c : ℕ) → next ≡ j → slot_of c ≡ slot_of j → j < c → c < length s.widths → NoneOf (OfPass c) h.account.trace
+      no_later j c is same l in_range =
+          let own = is_at s t h id p at in
+          let here : h.account.current (slot_of c) ≡ p.number = ap h.account.current (same ∙ (ap slot_of (sym is) ∙ is_next.same_slot)) ∙ own.holds in
+          let after = is_next.later in
+          let fresh = (h.slots.later c in_range (omega arith)).0 in
+          let n = subst (λ (o : PassRecord). GoesOn h.account.trace (OfPass c) o.knows.trace) fresh (h.sound.pass_knows c in_range).newer in
+          subst (NoneOf (OfPass c)) (sym (append-nil n.0) ∙ n.1) n.2
+
       all_others : GoesOn h.account.trace (OfPass next) [] → NoneOf (OfPass next) h.account.trace
       all_others n = subst (NoneOf (OfPass next)) (sym (append-nil n.0) ∙ n.1) n.2

@@ -9,7 +9,8 @@ use Rattle.apf_gate.specs.declared.record.Shape.{Shape}
 use Rattle.apf_gate.specs.declared.record.Record.{Record}
 use Rattle.apf_gate.specs.declared.record.Record.TheVariants.{Pass, Desk, Station}
 use Rattle.apf_gate.specs.Account.{Account, IsSound, AreSlots}
-use Rattle.apf_gate.specs.Rule.{token_of, IsRecord, IsKeptAt, IsView, IsRuled, without_first, first_alone}
+use Rattle.apf_gate.specs.Rule.{Every, AreApart, token_of, IsRecord, IsKeptAt, IsView, IsRuled, without_first, first_alone, without_last, last_alone}
+use Rattle.apf_gate.proofs.Gathering.{every_front, every_last}
 use Rattle.apf_gate.proofs.Puts.{put_here, put_else}
 use Rattle.apf_gate.proofs.Lists.{every_map, every_both}
 
@@ -18,6 +19,20 @@ at_end [] a b zero e = inr (refl, some-injective a b e)
 at_end [] a b (suc j) e = absurd (some-ne-none b (sym e))
 at_end (x ∷ xs) a b zero e = inl e
 at_end (x ∷ xs) a b (suc j) e = ⊎_elim (λ t. inl t) (λ t. inr (ap suc t.0, t.1)) (at_end xs a b j e)
+
+pub front_of : (xs : List Record) (x : Record) → without_last (xs ++ x ∷ []) ≡ xs
+front_of [] x = refl
+front_of (y ∷ []) x = refl
+front_of (y ∷ z ∷ zs) x = ap (λ l. y ∷ l) (front_of (z ∷ zs) x)
+
+pub last_of : (xs : List Record) (x : Record) → last_alone (xs ++ x ∷ []) ≡ x ∷ []
+last_of [] x = refl
+last_of (y ∷ []) x = refl
+last_of (y ∷ z ∷ zs) x = last_of (z ∷ zs) x
+
+apart_front : (xs : List Record) (x : Record) → AreApart (xs ++ x ∷ []) → AreApart xs × Every (λ o. token_of o ≢ token_of x) xs
+apart_front [] x k = (tt, tt)
+apart_front (y ∷ ys) x k = let h = apart_front ys x k.1 in ((every_front (λ z. token_of z ≢ token_of y) ys x k.0, h.0), ((λ e. every_last (λ z. token_of z ≢ token_of y) ys x k.0 (sym e)), h.1))
 
 module _ (s : Shape) where
   -- the account with one token's record kept at another seat
@@ -42,7 +57,7 @@ module _ (s : Shape) where
   }
 
   same_slots : (g : Account) (x i : ℕ) → AreSlots s g → AreSlots s (moved g x i)
-  same_slots g x i k = record { current = k.current; inside = k.inside; idle = k.idle; later = k.later; past = k.past; noted = k.noted; nobody = k.nobody; newest = k.newest }
+  same_slots g x i k = record { current = k.current; inside = k.inside; idle = k.idle; later = k.later; past = k.past; noted = k.noted; nobody = k.nobody; newest = k.newest; older = k.older; order = k.order; absent = k.absent }
 
   -- a record that another token has stays where it was
   stays : (g : Account) (x i j : ℕ) (y : Record) → token_of y ≢ x → IsKeptAt s g j y → IsKeptAt s (moved g x i) j y
@@ -77,6 +92,31 @@ module _ (s : Shape) where
             (λ (y : (j ≡ new) × (first_alone v ≡ u)). subst (λ (o : ℕ × List Record). IsView s g' o.0 o.1) (λ i. (sym y.0 i, (ap first_alone (sym is) ∙ y.1) i))
             ((goes g new id x f.0.0, tt), (tt, tt)))
             (at_end (set t.views id (without_first v)) (first_alone v) u j e);
+      }
+
+  -- the last token's part goes to a seat of its own
+  pub cuts_last : (id : ℕ) (v : List Record) (xs : List Record) (x : Record) → v ≡ xs ++ x ∷ [] → Splits (IsRuled s) id v (without_last v) (last_alone v)
+  cuts_last id v xs x is t h at =
+      let g = h.account in
+      let new : ℕ = length (set t.views id (without_last v)) in
+      let f = subst (IsView s g id) is (h.views id v at) in
+      let mine = every_last (IsKeptAt s g id) xs x f.0 in
+      let front = every_front (IsKeptAt s g id) xs x f.0 in
+      let far = apart_front xs x f.1 in
+      let g' = moved g (token_of x) new in record {
+        account = g';
+        sound = still_sound g (token_of x) new h.sound;
+        slots = same_slots g (token_of x) new h.slots;
+        packs = h.packs;
+        views = λ j u e. ⊎_elim
+            (λ (y : get_elem? (set t.views id (without_last v)) j ≡ some u). ⊎_elim
+            (λ (z : (j ≡ id) × (without_last v ≡ u)). subst (λ (o : ℕ × List Record). IsView s g' o.0 o.1) (λ i. (sym z.0 i, (sym (front_of xs x) ∙ (ap without_last (sym is) ∙ z.1)) i))
+            (every_both (IsKeptAt s g id) (λ o. token_of o ≢ token_of x) (IsKeptAt s g' id) xs (λ o a b. stays g (token_of x) new id o b a) front far.1, far.0))
+            (λ (z : (j ≢ id) × (get_elem? t.views j ≡ some u)). view_stays g (token_of x) new id j u mine.0 z.0 (h.views j u z.1))
+            (at_set t.views id j (without_last v) u y))
+            (λ (y : (j ≡ new) × (last_alone v ≡ u)). subst (λ (o : ℕ × List Record). IsView s g' o.0 o.1) (λ i. (sym y.0 i, (sym (last_of xs x) ∙ (ap last_alone (sym is) ∙ y.1)) i))
+            ((goes g new id x mine, tt), (tt, tt)))
+            (at_end (set t.views id (without_last v)) (last_alone v) u j e);
       }
 
   -- one token's part is joined in front of another seat's

@@ -16,7 +16,7 @@ use Rattle.apf_gate.specs.declared.record.PassRecord.{PassRecord}
 use Rattle.apf_gate.specs.Slots.{slot_of, mark_of}
 use Rattle.apf_gate.specs.Traces.{world_of}
 use Rattle.apf_gate.specs.Records.{told_of}
-use Rattle.apf_gate.specs.Account.{Account, HoldsSlot, IsIdle, HeldBefore, IsNewestBy, AreSlots}
+use Rattle.apf_gate.specs.Account.{Account, HoldsSlot, IsIdle, HeldBefore, IsNewestBy, AreInOrder, AreSlots}
 use Rattle.apf_gate.proofs.WordNumbers.{code_same}
 use Rattle.apf_gate.proofs.Requests.{IsSame}
 
@@ -57,8 +57,9 @@ module _ (s : Shape) where
   -- the lines on slots, where nothing changes of those who hold none
   pub slots_after : (g g' : Account) → AreSlots s g → ((i : ℕ) → g'.current i ≡ g.current i)
       → ((r : ℕ) → r < length s.widths → ¬ HoldsSlot g r → IsSame (world_of s g.trace) (world_of s g'.trace) r × (g'.pass r ≡ g.pass r))
-      → ((r : ℕ) → (g'.pass r).past ≡ (g.pass r).past) → ((r : ℕ) → IsNewestBy (OfPass r) g'.trace → HoldsSlot g r) → AreSlots s g'
-  slots_after g g' k same else noted newest = record {
+      → ((r : ℕ) → (g'.pass r).past ≡ (g.pass r).past) → ((r : ℕ) → IsNewestBy (OfPass r) g'.trace → HoldsSlot g r)
+      → ((r : ℕ) → length (g.pass r).knows.trace ≤ length (g'.pass r).knows.trace) → AreInOrder s g'.trace → AreSlots s g'
+  slots_after g g' k same else noted newest longer order = record {
     current = λ i l. subst (λ c. (c < length s.widths) × (slot_of c ≡ i)) (sym (same i)) (k.current i l);
     inside = λ r l e. k.inside r l (sym (same (slot_of r)) ∙ e);
     idle = λ r l not.
@@ -87,6 +88,14 @@ module _ (s : Shape) where
         };
     nobody = λ r l beyond. let x = (else r l (λ holds. let y = k.inside r l holds in omega arith)).0 in x.decision ∙ k.nobody r l beyond;
     newest = λ r e. same (slot_of r) ∙ newest r e;
+    older = λ r l small not.
+        let was = λ (e : HoldsSlot g r). not (same (slot_of r) ∙ e) in
+        let kept = ap (λ (p : PassRecord). length p.knows.trace) (else r l was).1 in
+        let y = k.older r l small was in
+        let now = ap (λ c. length (g'.pass c).knows.trace) (same (slot_of r)) in
+        let z = longer (g.current (slot_of r)) in omega arith;
+    order = order;
+    absent = λ r l beyond. ap (λ (p : PassRecord). p.knows.trace) (else r l (λ holds. let y = k.inside r l holds in omega arith)).1 ∙ k.absent r l beyond;
   }
 
   -- who holds no slot is decided, or its Pass is fresh

@@ -1,5 +1,5 @@
 -- The rule after one step of a token, from what the step touches.
-use Rattle.std.proofs.Common.{◌≡◌, ◌≢◌, ℕ, ◌+◌, ◌*◌, ◌<◌, Bool, true, false, List, [], ◌∷◌, length, set, Option, Some, sym, refl, ap, ◌∙◌, subst, arith, eq-eqb, ne_eqb}
+use Rattle.std.proofs.Common.{◌≡◌, ◌≢◌, ℕ, ◌+◌, ◌*◌, ◌<◌, ◌≤◌, Bool, true, false, List, [], ◌∷◌, length, set, Option, Some, sym, refl, ap, ◌∙◌, subst, arith, eq-eqb, ne_eqb}
 use Rattle.std.specs.Prelude.{slice_index, ◌==◌}
 use mathlib.Core.Logic.{dite}
 use mathlib.Core.Option.{some}
@@ -20,14 +20,15 @@ use Rattle.apf_gate.specs.declared.record.Actor.{Actor}
 use Rattle.apf_gate.specs.declared.record.Actor.TheVariants.{OfPass, OfDesk, OfStation}
 use Rattle.apf_gate.specs.declared.record.Entry.{Entry}
 use Rattle.apf_gate.specs.Records.{service}
-use Rattle.apf_gate.specs.Traces.{entry, world_of}
+use Rattle.apf_gate.specs.Traces.{entry, world_of, NoneOf, GoesOn}
+use Rattle.std.proofs.lemmas.List.{append-nil}
 use Rattle.apf_gate.specs.Requests.{IsRequest}
 use Rattle.apf_gate.specs.Slots.{slot_of}
 use Rattle.apf_gate.specs.Account.{Account, HoldsSlot, IsKnown}
 use Rattle.apf_gate.proofs.Slots.{apart_from, slots_after}
 use Rattle.apf_gate.specs.Rule.{Packs, IsRuled}
 use Rattle.apf_gate.proofs.Puts.{put_here, put_else}
-use Rattle.apf_gate.proofs.Later.{IsNext, known_later, other_pass, other_station}
+use Rattle.apf_gate.proofs.Later.{IsNext, known_later, other_pass, other_station, own_newest, not_longer}
 use Rattle.apf_gate.proofs.Requests.{IsSame, request_elsewhere}
 use Rattle.apf_gate.proofs.Views.{Table, kept}
 
@@ -63,6 +64,12 @@ module _ (s : Shape) where
         (λ e. subst (λ y. (put h.account.pass r q y).past ≡ (h.account.pass y).past) (sym e) (ap (λ (o : PassRecord). o.past) (put_here h.account.pass r q) ∙ (past ∙ ap (λ (o : PassRecord). o.past) (sym was))))
         (λ ne. ap (λ (o : PassRecord). o.past) (put_else h.account.pass r q j ne))
 
+    -- the record of one Pass changes, to one that saw no less
+    grows : (p q : PassRecord) (r : ℕ) → h.account.pass r ≡ p → length p.knows.trace ≤ length q.knows.trace → (j : ℕ) → length (h.account.pass j).knows.trace ≤ length (put h.account.pass r q j).knows.trace
+    grows p q r was more j = dite (ℕ_discrete j r)
+        (λ e. let a = ap (λ y. length (h.account.pass y).knows.trace) e in let b = ap (λ (o : PassRecord). length o.knows.trace) was in let c = ap (λ y. length (put h.account.pass r q y).knows.trace) e in let d = ap (λ (o : PassRecord). length o.knows.trace) (put_here h.account.pass r q) in omega arith)
+        (λ ne. let a = ap (λ (o : PassRecord). length o.knows.trace) (put_else h.account.pass r q j ne) in omega arith)
+
     -- no two Passes have one name
     same_pass : (r j : ℕ) → OfPass r ≡ OfPass j → r ≡ j
     same_pass r j e = ap number_of e
@@ -71,6 +78,14 @@ module _ (s : Shape) where
         number_of (OfPass n) = n
         number_of OfDesk = 0
         number_of (OfStation k) = 0
+
+    -- of who did not hold the slot yet there is no step
+    no_later : (r c j : ℕ) → r ≡ j → HoldsSlot h.account r → slot_of c ≡ slot_of j → j < c → c < length s.widths → NoneOf (OfPass c) h.account.trace
+    no_later r c j is holds same l inside =
+        let at : h.account.current (slot_of c) ≡ r = ap h.account.current (same ∙ ap slot_of (sym is)) ∙ holds in
+        let fresh = (h.slots.later c inside (omega arith)).0 in
+        let n = subst (λ (o : PassRecord). GoesOn h.account.trace (OfPass c) o.knows.trace) fresh (h.sound.pass_knows c inside).newer in
+        subst (NoneOf (OfPass c)) (sym (append-nil n.0) ∙ n.1) n.2
 
     -- a step of a Pass, after which its record is q
     pub pass_step : (p q : PassRecord) → get_elem? t.views id ≡ some (Pass p ∷ []) → IsNext s (OfPass p.number) m h.account.trace
@@ -108,7 +123,9 @@ module _ (s : Shape) where
           is_held = h.sound.is_held;
         })
         (slots_after s g g' h.slots (λ _. refl) (λ j l no. let ne = apart_from g r j was.1.2 no in (elsewhere j ne, put_else g.pass r q j ne))
-        (noted_as p q r past was.1.1) (λ j e. subst (HoldsSlot g) (same_pass r j e) was.1.2))
+        (noted_as p q r past was.1.1) (λ j e. subst (HoldsSlot g) (same_pass r j e) was.1.2)
+        (grows p q r was.1.1 (let a = not_longer s (OfPass r) g.trace (g.pass r).knows.trace (h.sound.pass_knows r was.1.0).newer in let b = ap (λ (l : List Entry). length l) (own_newest s (OfPass r) known.newer.0 q.knows.trace m g.trace known.newer.1 known.newer.2) in let c = ap (λ (o : PassRecord). length o.knows.trace) was.1.1 in omega arith))
+        ((λ j c e same l inside. no_later r c j (same_pass r j e) was.1.2 same l inside), h.slots.order))
         packs
 
     -- a step of a Station, after which its record is c'
@@ -143,7 +160,7 @@ module _ (s : Shape) where
           held = h.sound.held;
           is_held = h.sound.is_held;
         })
-        (slots_after s g g' h.slots (λ _. refl) (λ j l no. (elsewhere j l no, refl)) (λ _. refl) (λ j e. absurd (cc)))
+        (slots_after s g g' h.slots (λ _. refl) (λ j l no. (elsewhere j l no, refl)) (λ _. refl) (λ j e. absurd (cc)) (λ j. omega arith) ((λ q c e. absurd (cc)), h.slots.order))
         packs
 
     -- a step of the Desk, after which its record is d'
@@ -171,7 +188,7 @@ module _ (s : Shape) where
           held = held;
           is_held = is_held;
         })
-        (slots_after s g g' h.slots (λ _. refl) (λ j l no. (elsewhere j l no, refl)) (λ _. refl) (λ j e. absurd (cc)))
+        (slots_after s g g' h.slots (λ _. refl) (λ j l no. (elsewhere j l no, refl)) (λ _. refl) (λ j e. absurd (cc)) (λ j. omega arith) ((λ q c e. absurd (cc)), h.slots.order))
         packs
 
     -- a step of the Desk that a Pass is joined to, after which their records are q and d'
@@ -182,8 +199,9 @@ module _ (s : Shape) where
         → IsKnown s (OfPass p.number) q.knows (entry OfDesk m ∷ h.account.trace) → IsKnown s OfDesk d'.knows (entry OfDesk m ∷ h.account.trace)
         → ((r : ℕ) → d'.held ≡ Some r → service d' r ≡ Held) → ((r : ℕ) → service d' r ≡ Held → d'.held ≡ Some r)
         → q.past ≡ p.past
+        → q.knows.trace ≡ entry OfDesk m ∷ h.account.trace
         → IsRuled s (left t i n id (Pass q ∷ Desk d' ∷ []))
-    both_step p q d d' at next elsewhere packs mine known known_desk held is_held past =
+    both_step p q d d' at next elsewhere packs mine known known_desk held is_held past saw =
         let r = p.number in
         let es : List Entry = entry OfDesk m ∷ g.trace in
         let v = h.views id (Pass p ∷ Desk d ∷ []) at in
@@ -211,5 +229,7 @@ module _ (s : Shape) where
           held = held;
           is_held = is_held;
         })
-        (slots_after s g g' h.slots (λ _. refl) (λ j l no. let ne = apart_from g r j was.1.2 no in ((elsewhere j ne).0, put_else g.pass r q j ne)) (noted_as p q r past was.1.1) (λ j e. absurd (cc)))
+        (slots_after s g g' h.slots (λ _. refl) (λ j l no. let ne = apart_from g r j was.1.2 no in ((elsewhere j ne).0, put_else g.pass r q j ne)) (noted_as p q r past was.1.1) (λ j e. absurd (cc))
+        (grows p q r was.1.1 (let a = not_longer s (OfPass r) g.trace (g.pass r).knows.trace (h.sound.pass_knows r was.1.0).newer in let b = ap (λ (l : List Entry). length l) saw in let c = ap (λ (o : PassRecord). length o.knows.trace) was.1.1 in omega arith))
+        ((λ j c e. absurd (cc)), h.slots.order))
         packs

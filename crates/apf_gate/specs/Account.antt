@@ -16,7 +16,7 @@ use Rattle.apf_gate.specs.declared.record.DeskRecord.{DeskRecord}
 use Rattle.apf_gate.specs.declared.record.StationRecord.{StationRecord}
 use Rattle.apf_gate.specs.Slots.{slot_of}
 use Rattle.apf_gate.specs.Records.{told_of, service, new_pass}
-use Rattle.apf_gate.specs.Traces.{opening_of, moves, world_of, AreMade, GoesOn}
+use Rattle.apf_gate.specs.Traces.{opening_of, moves, world_of, AreMade, NoneOf, GoesOn}
 use Rattle.apf_gate.specs.Requests.{IsRequest}
 
 pub record Account : Type 0 where
@@ -73,6 +73,11 @@ pub record IsNoted (numbers : ℕ) (w : World) (i c : ℕ) (past : List (ℕ × 
   pub in_order : HeldBefore i c past
   pub says : (r : ℕ) → r < numbers → slot_of r ≡ i → r < c → told_of past r ≡ w.decision r
 
+-- once a request of a slot made a step, none that held the slot before makes one
+abbrev pub AreInOrder : Shape → List Entry → Type 0
+AreInOrder shape [] = Unit {0}
+AreInOrder shape (newest ∷ trace) = ((q c : ℕ) → newest.by ≡ OfPass q → slot_of c ≡ slot_of q → q < c → c < length shape.widths → NoneOf (OfPass c) trace) × AreInOrder shape trace
+
 -- the lines on slots: which requests hold them, held them, and will
 pub record AreSlots (shape : Shape) (account : Account) : Type 0 where
   pub current : (i : ℕ) → i < shape.slots → (account.current i < length shape.widths) × (slot_of (account.current i) ≡ i)
@@ -89,3 +94,9 @@ pub record AreSlots (shape : Shape) (account : Account) : Type 0 where
   pub nobody : (r : ℕ) → r < length shape.widths → shape.slots ≤ slot_of r → (world_of shape account.trace).decision r ≡ None
   -- the newest step, if a Pass made it, is of one that holds its slot
   pub newest : (r : ℕ) → IsNewestBy (OfPass r) account.trace → HoldsSlot account r
+  -- who does not hold it saw no more steps than who does
+  pub older : (r : ℕ) → r < length shape.widths → slot_of r < shape.slots → ¬ HoldsSlot account r → length (account.pass r).knows.trace ≤ length (account.pass (account.current (slot_of r))).knows.trace
+  -- the requests of a slot made their steps one after another
+  pub order : AreInOrder shape account.trace
+  -- who has no slot saw no step
+  pub absent : (r : ℕ) → r < length shape.widths → shape.slots ≤ slot_of r → (account.pass r).knows.trace ≡ []

@@ -41,7 +41,7 @@ stations_before (token ∷ tokens) rest = Station token.station ∷ stations_bef
 abbrev pub handed_in : DeskRecord → List PassToken → List StationToken → List Record
 handed_in desk passes stations = stations_before stations (passes_before passes (Desk desk ∷ []))
 
--- a gate ended so: in a state under the rule, in which each record that was handed in stands, and no two are of one token. The level word said this
+-- a gate ended so, or was so when all its tokens were handed in while it goes on: in a state under the rule, in which each record that was handed in stands, and no two are of one token. The level word said this
 pub record IsEnded (gate : GateId) (desk : DeskRecord) (passes : List PassToken) (stations : List StationToken) (level : Level) : Type 0 where
   pub account : Account
   pub sound : IsSound gate.shape account

@@ -19,9 +19,12 @@ pub mod DeskResults
 pub mod JoinedResults
 pub mod StationCalls
 pub mod StationResults
+pub mod StationJoined
 pub mod Opens
 pub mod Ends
 pub mod LifeEnds
 pub mod Hidden
+pub mod Whole
+pub mod Lost
 pub mod Owing
 pub mod Same

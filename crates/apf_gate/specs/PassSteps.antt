@@ -11,11 +11,12 @@ use Rattle.apf_gate.specs.declared.record.Knowledge.{Knowledge}
 use Rattle.apf_gate.specs.declared.record.State.{State}
 use Rattle.apf_gate.specs.declared.record.State.TheVariants.{Fresh, Took, InLine, Over}
 use Rattle.apf_gate.specs.declared.record.PassRecord.{PassRecord}
+use Rattle.apf_gate.specs.declared.record.Asked.{Asked}
 use Rattle.apf_gate.specs.declared.record.Entry.{Entry}
 use Rattle.apf_gate.specs.Slots.{slot_of, mark_of}
 use Rattle.apf_gate.specs.Records.{told_own, told_of, told_more, own_width, saw_decision, new_pass, KnowsMore}
 use Rattle.apf_model.specs.Schedule.{IsSchedule}
-use Rattle.apf_gate.specs.Traces.{opening_of, entry, moves, NoneOf, world_of}
+use Rattle.apf_gate.specs.Traces.{opening_of, renewal, moves, NoneOf, world_of}
 use Rattle.apf_gate.specs.Requests.{MayHold}
 use Rattle.apf_gate.specs.Steps.{SawLevel, SawDecision}
 
@@ -128,20 +129,20 @@ abbrev pub MayRenew : PassRecord → Type 0
 MayRenew pass = (pass.state ≡ Fresh) ⊎ ((told_own pass ≢ None) × ((pass.state ≡ Over) ⊎ IsOutOfLine pass))
 
 -- what a Pass knows after it left its request, whose word held this, and the first step of the next one, which is this
-pub record SawRenewal (known : Knowledge) (r next : ℕ) (found : Option Decision) (known' : Knowledge) : Type 0 where
+pub record SawRenewal (known : Knowledge) (r next : ℕ) (ask : Asked) (found : Option Decision) (known' : Knowledge) : Type 0 where
   pub between : List Entry
   pub of_others : NoneOf (OfPass r) between
   pub found_is : (world_of known.shape (between ++ known.trace)).decision r ≡ found
   -- the next one is new: it is undecided, and none of all steps is its own
   pub is_new : NoneOf (OfPass next) (between ++ known.trace)
   pub is_undecided : (world_of known.shape (between ++ known.trace)).decision next ≡ None
-  pub is_after : known' ≡ saw_decision known r found (entry (OfPass next) None ∷ (between ++ known.trace))
+  pub is_after : known' ≡ saw_decision known r found (renewal next ask ∷ (between ++ known.trace))
   pub is_schedule : IsSchedule (opening_of known.shape) (moves known'.trace)
   -- what was told of the old one is found again, for the last time
   pub stays : told_of known.told r ≢ None → found ≡ told_of known.told r
   pub more : KnowsMore known known'
 
 -- it leaves its request, notes how that was decided, and begins the next one of its slot
-abbrev pub PassRenews : ℕ → PassRecord → Option Decision → PassRecord → Type 0
-PassRenews next pass found pass' = (known' : Knowledge) × SawRenewal pass.knows pass.number next found known'
+abbrev pub PassRenews : ℕ → Asked → PassRecord → Option Decision → PassRecord → Type 0
+PassRenews next ask pass found pass' = (known' : Knowledge) × SawRenewal pass.knows pass.number next ask found known'
     × (pass' ≡ record (new_pass pass.knows.shape next) { past = told_more pass.past pass.number found; knows = known' })

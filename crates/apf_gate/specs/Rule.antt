@@ -87,6 +87,17 @@ abbrev pub first_alone : List Record → List Record
 first_alone [] = []
 first_alone (x ∷ xs) = x ∷ []
 
+-- or the last one's does
+abbrev pub without_last : List Record → List Record
+without_last [] = []
+without_last (x ∷ []) = []
+without_last (x ∷ y ∷ ys) = x ∷ without_last (y ∷ ys)
+
+abbrev pub last_alone : List Record → List Record
+last_alone [] = []
+last_alone (x ∷ []) = x ∷ []
+last_alone (x ∷ y ∷ ys) = last_alone (y ∷ ys)
+
 -- the records of a seat that has one token's
 abbrev pub no_shape : Shape
 no_shape = record { limit = 0; response = Queue; widths = []; slots = 0; stations = 0 }

@@ -13,9 +13,10 @@ use Rattle.apf_gate.specs.Records.{told_of, KnowsMore}
 use Rattle.apf_gate.specs.Steps.{IsInRange}
 use Rattle.apf_gate.specs.Tokens.{StationToken, station_gate}
 
--- it is still a Station of the same gate, and knows more than it did
+-- it is still the same Station of the same gate, and knows more than it did
 pub record SameStation (token token' : StationToken) : Type 0 where
   pub gate : station_gate token' ≡ station_gate token
+  pub number : token'.station.number ≡ token.station.number
   pub more : KnowsMore token.station.knows token'.station.knows
 
 -- after a look the numbers of the level word are in range. A level that was seen closed is closed

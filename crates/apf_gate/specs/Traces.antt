@@ -4,11 +4,12 @@ use Rattle.apf_words.specs.Limits.{max_limit}
 use Rattle.apf_words.specs.declared.decision.Decision.TheVariants.{Cancelled}
 use Rattle.apf_model.specs.declared.moves.Move.{Move}
 use Rattle.apf_model.specs.declared.moves.Move.TheVariants.{Take, Enter, Grant, Leave, Decide, Release, Close, SetLimit, See}
-use Rattle.apf_model.specs.World.{Opening, World}
+use Rattle.apf_model.specs.World.{Opening, World, put}
 use Rattle.apf_model.specs.Schedule.{world}
 use Rattle.apf_gate.specs.declared.record.Shape.{Shape}
 use Rattle.apf_gate.specs.declared.record.Actor.{Actor}
 use Rattle.apf_gate.specs.declared.record.Actor.TheVariants.{OfPass, OfDesk, OfStation}
+use Rattle.apf_gate.specs.declared.record.Asked.{Asked}
 use Rattle.apf_gate.specs.declared.record.Entry.{Entry}
 
 -- what the model opens a level of this shape with
@@ -17,7 +18,29 @@ opening_of shape = record { limit = shape.limit; response = shape.response; widt
 
 -- one step of a token: a move of the model, or a load, which is none
 abbrev pub entry : Actor → Option Move → Entry
-entry who step = record { by = who; step = step }
+entry who step = record { by = who; step = step; ask = None }
+
+-- a Pass begins the request r, which asks for this
+abbrev pub renewal : ℕ → Asked → Entry
+renewal r ask = record { by = OfPass r; step = None; ask = Some ask }
+
+abbrev pub asks_nothing : ℕ → Option Asked
+asks_nothing r = None
+
+-- what a step says that the request r asks for
+abbrev pub ask_by : Actor → Option Asked → ℕ → Option Asked
+ask_by (OfPass j) ask r = put asks_nothing j ask r
+ask_by OfDesk ask r = None
+ask_by (OfStation k) ask r = None
+
+abbrev pub first_ask : Option Asked → Option Asked → Option Asked
+first_ask None latest = latest
+first_ask (Some ask) latest = Some ask
+
+-- what each request asks for, by the steps of a trace. What was said first stands
+abbrev pub asked_in : List Entry → ℕ → Option Asked
+asked_in [] r = None
+asked_in (newest ∷ trace) r = first_ask (asked_in trace r) (ask_by newest.by newest.ask r)
 
 abbrev pub move_before : Option Move → List Move → List Move
 move_before None moves = moves

@@ -5,7 +5,8 @@ ghost use Rattle.apf_gate.specs.declared.record.DeskRecord.{DeskRecord};
 ghost use Rattle.apf_gate.specs.Tokens.{GateId, PassToken, StationToken};
 ghost use Rattle.apf_gate.specs.Ends.{WordsView, EndsWith, EndAgrees};
 ghost use Rattle.apf_gate.specs.LifeEnds.{LifeView, LifeEndsWith, LifeAgrees};
-ghost use Rattle.apf_gate.specs.Hidden.{NothingIsHidden};
+ghost use Rattle.apf_gate.specs.Hidden.{NothingIsHidden, NobodyCame};
+ghost use Rattle.apf_gate.specs.Lost.{NoneIsLost};
 ghost use Rattle.apf_gate.specs.Owing.{NoDispatchIsLost};
 ghost use Rattle.apf_gate.specs.Same.{AllAreToldTheSame};
 
@@ -59,4 +60,18 @@ pub fn no_dispatch_is_lost()
 /// It runs no code: the contract is the law.
 pub fn all_are_told_the_same()
     ensures { AllAreToldTheSame }
+{}
+
+/// Nobody came between two steps of a token, where no other has seen more than it had after the first one.
+///
+/// It runs no code: the contract is the law.
+pub fn nobody_came_between()
+    ensures { NobodyCame }
+{}
+
+/// No exchange is lost, where one account has the records of all tokens and its token had seen as much as any other.
+///
+/// It runs no code: the contract is the law.
+pub fn no_exchange_is_lost()
+    ensures { NoneIsLost }
 {}

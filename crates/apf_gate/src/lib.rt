@@ -9,10 +9,11 @@
 //! - `gate`: the words, as the calls share them.
 //! - `open`: how a gate begins, `fault` why it may not.
 //! - `ticket`: what names a request for ever, `counts` how many were decided so.
-//! - `pass`, `desk`, `station`: the tokens and their calls, `joined` those of a Pass with the Desk, `answers` what
-//!   they answer.
+//! - `pass`, `desk`, `station`: the tokens and their calls, `joined` those of a Pass with the Desk, `joined_station`
+//!   that of a Station with the Desk, `answers` what they answer.
 //! - `sleep`: sleeping until a request is decided.
 //! - `end`: how a gate ends, and what its words said; `life_end`: how one ends whose slots were used again.
+//! - `here`: what all tokens know together, while the gate goes on.
 //! - `laws`: what follows for the tokens that were handed in, and while requests wait.
 #![tactic(auto)]
 
@@ -22,7 +23,9 @@ mod desk;
 mod end;
 mod fault;
 mod gate;
+mod here;
 mod joined;
+mod joined_station;
 mod laws;
 mod life_end;
 mod open;
@@ -42,7 +45,7 @@ pub use fault::GateFault;
 pub use gate::Gate;
 pub use laws::{
     all_are_told_the_same, every_end_agrees, every_end_for_life_agrees, no_dispatch_is_lost,
-    no_step_is_hidden,
+    no_exchange_is_lost, no_step_is_hidden, nobody_came_between,
 };
 pub use life_end::LifeWords;
 pub use open::Opened;

@@ -1,6 +1,7 @@
 //! The token of a request, and its steps.
 
-ghost use Rattle.std.specs.Prelude.{◌≡◌, ◌≢◌, ◌↔◌, ◌+◌, ◌^◌, ◌<◌, ◌≤◌, ◌==◌, length, not, true, false, MatchBool, Option};
+ghost use Rattle.std.specs.Prelude.{◌≡◌, ◌≢◌, ◌↔◌, ◌+◌, ◌^◌, ◌<◌, ◌≤◌, ◌==◌, length, not, true, false, MatchBool, Option, Some};
+ghost use Rattle.apf_gate.specs.Traces.{asked_in};
 ghost use Rattle.apf_words.specs.Fits.{Fits};
 ghost use Rattle.apf_words.specs.declared.decision.Decision.{Decision};
 ghost use Rattle.apf_words.specs.Level.{Level};
@@ -21,7 +22,7 @@ use crate::answers::{Renew, TryTake};
 use crate::counts::Counts;
 use crate::gate::{Gate, level_in, mark, word_of};
 use crate::plays::{
-    Chosen, PassAskDecision, PassExchangeDecision, PassExchangeLevel, PassLoadDecision,
+    Asking, PassAskDecision, PassExchangeDecision, PassExchangeLevel, PassLoadDecision,
     PassLoadLevel, PassRenew, PassSubtractLevel,
 };
 use crate::rule::Place;
@@ -185,9 +186,12 @@ impl<A: Allocator> Gate<A> {
     /// old one was decided: it is undecided only if it never began. `Spent` exactly if the slot's numbers are used
     /// up: a slot is given 2^46 times, and that of a batch once. Then nothing changes.
     ///
+    /// The step that begins a request says what that asks for: `hash` is that of its flow, and `cost` what its
+    /// dispatch is charged. Nothing of it stands in a word.
+    ///
     /// It makes one swap of the slot's word. The old request never began, or its Pass was told its decision and it
     /// neither waits nor stands: a request that was struck has to be heard first.
-    pub fn renew(&self, pass: &mut Pass, width: u32) -> Renew
+    pub fn renew(&self, pass: &mut Pass, width: u32, hash: u64, cost: u32) -> Renew
         requires own { pass_gate pass.old ≡ self.now }
         requires may { MayRenew pass.old.pass }
         requires some_width { 1 ≤ width }
@@ -195,14 +199,15 @@ impl<A: Allocator> Gate<A> {
         ensures gate { pass_gate pass.new ≡ pass_gate pass.old }
         ensures spent { result ≡ Renew.Spent → pass.new ≡ pass.old }
         ensures spent_only { (result ≡ Renew.Spent) ↔ (length self.now.shape.widths ≤ next_of pass.old.pass.number width) }
-        ensures answer { (found : Option Decision) → result ≡ Renew.Began found → PassRenews (next_of pass.old.pass.number width) pass.old.pass found pass.new.pass }
+        ensures answer { (found : Option Decision) → result ≡ Renew.Began found → PassRenews (next_of pass.old.pass.number width) (record { hash = hash; cost = cost }) pass.old.pass found pass.new.pass }
+        ensures asks { (found : Option Decision) → result ≡ Renew.Began found → asked_in pass.new.pass.knows.trace pass.new.pass.number ≡ Some (record { hash = hash; cost = cost }) }
         ensures wide { (found : Option Decision) → result ≡ Renew.Began found → own_width pass.new.pass ≡ width }
     {
         let next = self.next_number(pass, width);
         if next >= self.numbers() {
             return Renew::Spent;
         }
-        Renew::Began(self.swap_for_next::<Brand>(pass, next, width))
+        Renew::Began(self.swap_for_next::<Brand>(pass, next, width, hash, cost))
     }
 
     // The number of the next request of the slot, of this width.
@@ -222,10 +227,18 @@ impl<A: Allocator> Gate<A> {
     }
 
     // One swap of the slot's word, for that of the next request, undecided. Tells how the old one was decided.
-    fn swap_for_next<J: Chosen>(&self, pass: &mut Pass, next: u128, width: u32) -> Option<Decision>
+    fn swap_for_next<J: Asking>(
+        &self,
+        pass: &mut Pass,
+        next: u128,
+        width: u32,
+        hash: u64,
+        cost: u32,
+    ) -> Option<Decision>
         requires own { pass_gate pass.old ≡ self.now }
         requires may { MayRenew pass.old.pass }
         requires chosen { next ≡ J.request }
+        requires asks { record { hash = hash; cost = cost } ≡ J.ask }
         requires is_next { IsNextRequest pass.old.pass next }
         requires round { round_of next ≡ round_of pass.old.pass.number + 1 }
         requires inside { next < length self.now.shape.widths }
@@ -233,7 +246,8 @@ impl<A: Allocator> Gate<A> {
         requires narrow { width ≤ max_width }
         requires is_wide { width_in self.now.shape.widths next ≡ width }
         ensures gate { pass_gate pass.new ≡ pass_gate pass.old }
-        ensures answer { PassRenews next pass.old.pass result pass.new.pass }
+        ensures answer { PassRenews next J.ask pass.old.pass result pass.new.pass }
+        ensures asks { asked_in pass.new.pass.knows.trace pass.new.pass.number ≡ Some J.ask }
         ensures wide { own_width pass.new.pass ≡ width }
     {
         let word = word_of(next);

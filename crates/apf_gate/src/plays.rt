@@ -77,14 +77,30 @@ impl Chosen for Brand {
     ghost request = { 0 };
 }
 
-/// A Pass leaves its request, and begins the chosen one of its slot.
-pub(crate) struct PassRenew<J: Chosen>(PhantomData<J>);
+/// Names the request that a Pass begins, and what that asks for. A call picks them.
+pub(crate) trait Asking {
+    ghost use Rattle.std.specs.Prelude.{ℕ};
+    ghost use Rattle.apf_gate.specs.declared.record.Asked.{Asked};
 
-impl<J: Chosen> Play<(), LinkedList<Record>> for PassRenew<J> {
+    ghost request: { ℕ };
+
+    ghost ask: { Asked };
+}
+
+impl Asking for Brand {
+    ghost request = { 0 };
+
+    ghost ask = { record { hash = 0; cost = 0 } };
+}
+
+/// A Pass leaves its request, and begins the chosen one of its slot, which asks for this.
+pub(crate) struct PassRenew<J: Asking>(PhantomData<J>);
+
+impl<J: Asking> Play<(), LinkedList<Record>> for PassRenew<J> {
     ghost use Rattle.apf_gate.specs.Steps.{ByPass, OnDecision};
     ghost use Rattle.apf_gate.specs.PassSteps.{own_mark, PassRenews};
 
-    ghost then = { λ _. ByPass (OnDecision own_mark (PassRenews J.request)) };
+    ghost then = { λ _. ByPass (OnDecision own_mark (PassRenews J.request J.ask)) };
 }
 
 /// A Station loads the level word.
@@ -240,6 +256,16 @@ impl Play<(), LinkedList<Record>> for JoinedExchangeDecision {
     ghost then = { λ s. ByBoth (Writing both_mark s.second (λ decision. OnDecisionIf both_mark (JoinedExchangesDecision decision) JoinedMissesDecision)) };
 }
 
+/// The Desk, with a Station joined, loads the level word.
+pub(crate) struct StationJoinedLoadLevel;
+
+impl Play<(), LinkedList<Record>> for StationJoinedLoadLevel {
+    ghost use Rattle.apf_gate.specs.Steps.{OnLevel};
+    ghost use Rattle.apf_gate.specs.StationJoined.{ByStationAndDesk, StationAndDeskLoadLevel};
+
+    ghost then = { λ _. ByStationAndDesk (OnLevel StationAndDeskLoadLevel) };
+}
+
 /// The first token's part of a seat goes to a seat of its own, or is joined in front of another's.
 pub(crate) struct First;
 
@@ -257,4 +283,24 @@ impl Join<LinkedList<Record>> for First {
     ghost both = { λ v w. w ++ v };
 
     ghost spent = { [] };
+}
+
+/// All that the tokens of a seat know together, of whom the Desk is the last: a load that nobody notes.
+pub(crate) struct LoadAll;
+
+impl Play<(), LinkedList<Record>> for LoadAll {
+    ghost use Rattle.apf_gate.specs.Whole.{TellsAll};
+
+    ghost then = { λ _. TellsAll };
+}
+
+/// The last token's part of a seat goes to a seat of its own.
+pub(crate) struct Last;
+
+impl Split<LinkedList<Record>> for Last {
+    ghost use Rattle.apf_gate.specs.Rule.{without_last, last_alone};
+
+    ghost left = { without_last };
+
+    ghost right = { last_alone };
 }

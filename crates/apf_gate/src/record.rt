@@ -30,12 +30,22 @@ pub enum Actor {
     OfStation(u32),
 }
 
+/// What a request asks for, beside its width.
+pub struct Asked {
+    /// The hash of its flow.
+    pub hash: u64,
+    /// What its dispatch is charged.
+    pub cost: u32,
+}
+
 /// One counted step.
 pub struct Entry {
     /// The token that made it.
     pub by: Actor,
     /// The step of the model, if it was one: a load is none.
     pub step: Option<Move>,
+    /// What its request asks for, where this step began it.
+    pub ask: Option<Asked>,
 }
 
 /// What a token learnt by its steps.

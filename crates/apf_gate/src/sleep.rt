@@ -10,9 +10,9 @@ use std::sync::atomic::Ordering;
 
 impl<A: Allocator> Gate<A> {
     /// Sleeps while the request is undecided. It is for a request that waits, or whose seats the Desk holds:
-    /// `settle` and `cancel` alone decide such a one. `cancel` wakes those who sleep once it wrote, and after
-    /// `settle` its caller does so by `wake`. Who is decided by its own Pass or refused is woken by nobody. It
-    /// may also return for no reason, so read the decision again.
+    /// `settle` and a cancel alone decide such a one. `cancel` wakes those who sleep once it wrote, and after
+    /// `settle` and `cancel_without_wake` their caller does so by `wake`. Who is decided by its own Pass or refused
+    /// is woken by nobody. It may also return for no reason, so read the decision again.
     ///
     /// It is no step: the kernel compares the decision word and sleeps in one.
     pub fn park<R: Wait>(&self, rt: &R, request: u128)
@@ -24,8 +24,9 @@ impl<A: Allocator> Gate<A> {
         self.sleepers.fetch_sub(1, Ordering::SeqCst);
     }
 
-    /// Wakes all who sleep until the request is decided: after `settle` wrote it. It is no step. Where anybody
-    /// sleeps, it is a call of the kernel, which whoever knows that nobody sleeps until this request is decided spares.
+    /// Wakes all who sleep until the request is decided: after a `settle` or a `cancel_without_wake` wrote it. It is no
+    /// step. Where anybody sleeps, it is a call of the kernel, which whoever knows that nobody sleeps until this request
+    /// is decided spares.
     pub fn wake(&self, request: u128)
         requires is_request { IsTicket self.now.shape request }
     {

@@ -76,8 +76,25 @@ impl<A: Allocator> Gate<A> {
 
     /// Cancels a request, if it is undecided and holds its slot. Answers its decision, or `Other`: another request
     /// holds the slot, so that this one is over, and nothing was written of anyone. It makes one exchange of the word
-    /// of the request's slot. Where that wrote, it wakes whoever sleeps until the request is decided.
+    /// of the request's slot. Where the request is cancelled then, it wakes whoever sleeps until it is decided.
     pub fn cancel(&self, station: &mut Station, ticket: Ticket) -> Cancel
+        requires own { station_gate station.old ≡ self.now }
+        requires is_request { IsTicket self.now.shape ticket.number }
+        ensures same { SameStation station.old station.new }
+        ensures answer { TriesToCancel station.old.station ticket.number result station.new.station }
+        ensures after { AfterTryCancel station.old.station ticket.number result station.new.station }
+        ensures in_a_batch { length self.now.shape.widths ≡ self.now.shape.slots → result ≢ Cancel.Other }
+    {
+        let answer = self.cancel_without_wake(station, ticket);
+        if answer == Cancel::Is(Decision::Cancelled) {
+            self.wake(ticket.number);
+        }
+        answer
+    }
+
+    /// Cancels a request as `cancel` does, and wakes nobody. It is for a level on which nobody sleeps. Elsewhere its
+    /// caller calls `wake` afterwards, where the request is cancelled.
+    pub fn cancel_without_wake(&self, station: &mut Station, ticket: Ticket) -> Cancel
         requires own { station_gate station.old ≡ self.now }
         requires is_request { IsTicket self.now.shape ticket.number }
         ensures same { SameStation station.old station.new }
@@ -91,10 +108,7 @@ impl<A: Allocator> Gate<A> {
             return Cancel::Other;
         }
         match decision_in(found) {
-            None => {
-                self.wake(request);
-                Cancel::Is(Decision::Cancelled)
-            }
+            None => Cancel::Is(Decision::Cancelled),
             Some(decision) => Cancel::Is(decision),
         }
     }

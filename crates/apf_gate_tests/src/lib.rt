@@ -15,6 +15,7 @@
 //! - `faults`: why a gate is not opened. `sizes`: the smallest gate and the largest.
 //! - `memory`: each allocation refused in turn.
 //! - `parking`: nobody sleeps on a request that is decided.
+//! - `owner`: the calls of one owner of all tokens.
 //!
 //! In threads beside one another, whose steps come in any order. Such a test says which orders it is for,
 //! makes rounds until each of them came, and fails if one never does:
@@ -45,6 +46,8 @@ mod levels;
 mod lives;
 #[cfg(test)]
 mod memory;
+#[cfg(test)]
+mod owner;
 #[cfg(test)]
 mod parking;
 #[cfg(test)]

@@ -216,7 +216,7 @@ fn strike<R: Abort>(
         panic!(rt; "heard")
     };
     assert_eq!(rt;
-        gate.renew(pass, 1),
+        gate.renew(pass, 1, 7, 20),
         Renew::Began(Some(Decision::Cancelled))
     );
     assert_eq!(rt; gate.cancel(station, ticket), Cancel::Other);

@@ -166,7 +166,8 @@ impl Request {
         waiting
     }
 
-    /// Leaves the request for the next one of its slot, of this width.
+    /// Leaves the request for the next one of its slot, of this width. Its flow has the hash 7, and its dispatch is
+    /// charged 20.
     pub fn renew(&mut self, gate: &Gate<Global>, width: u32) -> Option<Renew>
         requires own { pass_gate self.old.pass ≡ gate.now }
         requires some { 1 ≤ width }
@@ -187,7 +188,7 @@ impl Request {
         requires narrow { width ≤ max_width }
         ensures { pass_gate self.new.pass ≡ gate.now }
     {
-        let answer = gate.renew(&mut self.pass, width);
+        let answer = gate.renew(&mut self.pass, width, 7, 20);
         if let Renew::Began(_) = answer {
             self.stage = Stage::Fresh;
         }

@@ -1,33 +1,28 @@
 -- What a history of a level's book is.
-use Rattle.std.proofs.Common.{◌≡◌, ℕ, ◌≤◌, ◌<◌, inl, inr, Bool, true, false, List, [], length, refl, sym, ap, ◌∙◌, subst, arith}
+use Rattle.std.proofs.Common.{◌≡◌, ℕ, ◌≤◌, ◌<◌, inl, inr, Bool, true, false, List, [], ◌++◌, length, refl, sym, ap, ◌∙◌, arith}
 use Rattle.std.proofs.lemmas.Bool.{cases_lt}
-use Rattle.std.proofs.lemmas.List.{get_or_past}
+use Rattle.std.proofs.lemmas.List.{append_assoc, get_or_past}
 use Rattle.apf_history.specs.declared.events.Event.{Event}
 use Rattle.apf_history.specs.declared.events.Event.TheVariants.{Strike}
 use Rattle.apf_model.specs.World.{width}
 use Rattle.apf_model.specs.Schedule.{AreWidths}
-use Rattle.apf_model.specs.History.{NamesRequests, has_arrived}
+use Rattle.apf_model.specs.History.{has_arrived}
+use Rattle.apf_gate.specs.declared.record.Entry.{Entry}
 use Rattle.apf_gate.specs.declared.record.Shape.{Shape}
 use Rattle.apf_gate.specs.Gauges.{IsShape}
 use Rattle.apf_gate.specs.Slots.{IsTicket}
-use Rattle.apf_gate.specs.Tokens.{GateId}
 use Rattle.apf_book.specs.Life.{LifeView, IsOpening, asked, then_came}
 use Rattle.apf_book.specs.LifeBook.{LifeBookView, IsLifeKept, ServesLife, StrikesLife, then_came_all}
 use Rattle.apf_book.specs.LifeCalls.{SameLifeBook}
-use Rattle.apf_life.specs.Levels.{LifeId, IsBookOf, IsHistoryOf}
+use Rattle.apf_line.specs.Laws.{HasHistories, LevelHistories}
+use Rattle.apf_line.specs.Levels.{LifeId, IsBookOf}
 use Rattle.apf_life.specs.Arrivals.{Came}
-use Rattle.apf_life.specs.Stopped.{IsStopped}
-use Rattle.apf_life.proofs.Stopped.{at_rest}
+use Rattle.apf_line.specs.Stopped.{IsStopped}
 
-pub history_of : (k : LifeId) (v : LifeView) (b : LifeBookView) → IsBookOf k b → IsLifeKept v b → IsHistoryOf k v
-history_of k v b own kept = record {
-  fair = kept.of_life.fair;
-  names_requests = subst (λ (n : ℕ). NamesRequests n v.history) (kept.one_cost_each ∙ ap (λ (g : GateId). length g.shape.widths) own.gate) kept.of_life.names_requests;
-  names_queues = kept.of_life.names_queues;
-  low = kept.of_life.low;
-  queues_are = sym kept.of_life.deck ∙ own.queues;
-  limit_is = sym kept.of_life.limit ∙ own.limit;
-}
+-- the laws of a level's books, opened
+pub opened : LevelHistories → HasHistories
+unfolding LevelHistories
+opened laws = laws
 
 -- the book is the level's still, when it is of a history with the same limit of queues
 pub still_own : (k : LifeId) (b b' : LifeBookView) (v v' : LifeView) → IsBookOf k b → SameLifeBook b b' → IsLifeKept v b → IsLifeKept v' b' → v'.limit ≡ v.limit → IsBookOf k b'
@@ -35,27 +30,16 @@ still_own k b b' v v' own same kept kept' limit = record {
   gate = same.gate ∙ own.gate;
   queues = same.queues ∙ own.queues;
   limit = kept'.of_life.limit ∙ (limit ∙ (sym kept.of_life.limit ∙ own.limit));
+  hand = same.hand ∙ own.hand;
 }
 
--- nothing happened yet
-abbrev pub nothing_yet : LifeId → LifeView
-nothing_yet k = record { history = []; costs = []; hands = λ r. []; queues = k.sizes.deck; limit = k.queue_limit }
-
-pub is_nothing_yet : (k : LifeId) → IsHistoryOf k (nothing_yet k)
-is_nothing_yet k = record {
-  fair = (tt, tt);
-  names_requests = tt;
-  names_queues = tt;
-  low = λ r. omega arith;
-  queues_are = refl;
-  limit_is = refl;
-}
-
-pub came : (k : LifeId) (v : LifeView) (b b' : LifeBookView) (r : ℕ) (hand : List ℕ) (cost : ℕ) (e : Event) (count : ℕ) → IsBookOf k b' → has_arrived v.history r ≡ false → ServesLife (then_came (asked v r hand cost) e) b count b' → Came k r hand cost e
-came k v b b' r hand cost e count own new served = record {
+pub came : (laws : HasHistories) (k : LifeId) (known : List Entry) (v : LifeView) (b b' : LifeBookView) (r : ℕ) (hand : List ℕ) (cost : ℕ) (e : Event) (count : ℕ) → IsBookOf k b' → has_arrived v.history r ≡ false → (later : List Entry) × (later ++ known ≡ b.desk.desk.knows.trace) → SameLifeBook b b' → ServesLife (then_came (asked v r hand cost) e) b count b' → Came k known r hand cost e
+came laws k known v b b' r hand cost e count own new heard same served = record {
+  trace = b'.desk.desk.knows.trace;
+  goes_on = (same.more.trace.0 ++ heard.0, append_assoc same.more.trace.0 heard.0 known ∙ (ap (λ (es : List Entry). same.more.trace.0 ++ es) heard.1 ∙ sym same.more.trace.1));
   older = v;
   newer = served.events;
-  of_level = history_of k _ b' own served.kept;
+  of_level = laws.of_level k _ b' own served.kept;
   is_new = new;
   servings = served.servings;
 }
@@ -101,8 +85,8 @@ pub record Rests (k : LifeId) (b' : LifeBookView) : Type 0 where
   pub own : IsBookOf k b'
   pub stopped : IsStopped b'
 
-pub rests : (k : LifeId) (v : LifeView) (b b' : LifeBookView) (count : ℕ) → IsBookOf k b → IsLifeKept v b → SameLifeBook b b' → ServesLife v b count b' → Rests k b'
-rests k v b b' count own kept same served = record {
+pub rests : (laws : HasHistories) (k : LifeId) (v : LifeView) (b b' : LifeBookView) (count : ℕ) → IsBookOf k b → IsLifeKept v b → SameLifeBook b b' → ServesLife v b count b' → Rests k b'
+rests laws k v b b' count own kept same served = record {
   own = still_own k b b' v (then_came_all served.events v) own same kept served.kept refl;
-  stopped = ∣ at_rest v b b' count same served ∣₁;
+  stopped = laws.served v b b' count same served;
 }

@@ -1,7 +1,4 @@
 pub mod Knowing
 pub mod Setting
-pub mod Nobody
-pub mod Ended
-pub mod Stopped
+pub mod Asks
 pub mod Histories
-pub mod Standing

@@ -20,7 +20,7 @@ use Rattle.apf_life.specs.declared.answers.Poll.{Poll}
 use Rattle.apf_life.specs.declared.answers.Poll.TheVariants as polled
 use Rattle.apf_life.specs.declared.answers.Admit.{Admit}
 use Rattle.apf_life.specs.declared.answers.Admit.TheVariants as admitted
-use Rattle.apf_life.specs.Tokens.{Arriving}
+use Rattle.apf_line.specs.Tokens.{Arriving}
 
 -- the Pass that an answer owns
 abbrev pub tried_pass : TryAdmit → PassToken
@@ -46,7 +46,7 @@ admitted_pass (admitted.Over token decision) = token
 abbrev pub Renews : PassToken → ℕ → ℕ → ℕ → Renewed → Type 0
 Renews token width hash cost (renewed.Spent same) = same ≡ token
 Renews token width hash cost (renewed.Fresh a) = (pass_gate a.token ≡ pass_gate token) × (a.hash ≡ hash) × (a.cost ≡ cost) × (own_width a.token.pass ≡ width)
-    × ((found : Option Decision) × PassRenews (next_of token.pass.number width) token.pass found a.token.pass)
+    × ((found : Option Decision) × PassRenews (next_of token.pass.number width) (record { hash = hash; cost = cost }) token.pass found a.token.pass)
 
 -- the answer says that the slot's numbers are used up
 abbrev pub SaysSpent : Renewed → Type 0

@@ -1,9 +1,10 @@
 -- What an arrival is, and what the history got by it.
-use Rattle.std.specs.Prelude.{◌≡◌, ◌≢◌, ◌⊎◌, ℕ, true, false, List, Option, Some, None}
+use Rattle.std.specs.Prelude.{◌≡◌, ◌≢◌, ◌⊎◌, ℕ, true, false, List, ◌++◌, Option, Some, None}
 use Rattle.apf_words.specs.declared.decision.Decision.TheVariants as decisions
 use Rattle.apf_history.specs.declared.events.Event.{Event}
 use Rattle.apf_history.specs.declared.events.Event.TheVariants as events
 use Rattle.apf_model.specs.History.{has_arrived}
+use Rattle.apf_gate.specs.declared.record.Entry.{Entry}
 use Rattle.apf_gate.specs.declared.record.PassRecord.{PassRecord}
 use Rattle.apf_gate.specs.Records.{told_own}
 use Rattle.apf_book.specs.declared.life_event.LifeEvent.{LifeEvent}
@@ -15,22 +16,24 @@ use Rattle.apf_life.specs.declared.answers.Stood.{Stood}
 use Rattle.apf_life.specs.declared.answers.Stood.TheVariants as stood
 use Rattle.apf_life.specs.declared.answers.Begin.{Begin}
 use Rattle.apf_life.specs.declared.answers.Begin.TheVariants as begun
-use Rattle.apf_life.specs.Levels.{LifeId, IsHistoryOf}
+use Rattle.apf_line.specs.Levels.{LifeId, IsHistoryOf}
 use Rattle.apf_life.specs.Admission.{begun_pass}
 
--- the request, new to a history that the level may have had, asked for this hand and this cost; its event came, and then Dispatches and Strikes alone
-pub record Came (k : LifeId) (r : ℕ) (hand : List ℕ) (cost : ℕ) (event : Event) : Type 0 where
+-- by steps that go on from what its Pass knew: the request, new to a history that the level may have had, asked for this hand and this cost; its event came, and then Dispatches and Strikes alone
+pub record Came (k : LifeId) (known : List Entry) (r : ℕ) (hand : List ℕ) (cost : ℕ) (event : Event) : Type 0 where
   pub older : LifeView
   pub newer : List Event
-  pub of_level : IsHistoryOf k (then_came_all newer (then_came (asked older r hand cost) event))
+  pub trace : List Entry
+  pub goes_on : (later : List Entry) × (later ++ known ≡ trace)
+  pub of_level : IsHistoryOf k trace (then_came_all newer (then_came (asked older r hand cost) event))
   pub is_new : has_arrived older.history r ≡ false
   pub servings : AreServings newer
 
 -- what is told of a request that arrived under the lock, with its event: it entered a queue, or found one full; and else it has no event
-abbrev pub StandsAs : LifeId → List ℕ → ℕ → PassRecord → Stood → Type 0
-StandsAs k hand cost pass (stood.Entered q) = (pass.entered ≡ true) × Came k pass.number hand cost (events.Enter pass.number q)
-StandsAs k hand cost pass (stood.Full q) = (told_own pass ≡ Some decisions.QueueFull) × (pass.entered ≡ false) × Came k pass.number hand cost (events.Full pass.number q)
-StandsAs k hand cost pass (stood.Over decision) = (told_own pass ≡ Some decision) × (decision ≢ decisions.Execute) × (decision ≢ decisions.QueueFull) × (pass.entered ≡ false)
+abbrev pub StandsAs : LifeId → List Entry → List ℕ → ℕ → PassRecord → Stood → Type 0
+StandsAs k known hand cost pass (stood.Entered q) = (pass.entered ≡ true) × Came k known pass.number hand cost (events.Enter pass.number q)
+StandsAs k known hand cost pass (stood.Full q) = (told_own pass ≡ Some decisions.QueueFull) × (pass.entered ≡ false) × Came k known pass.number hand cost (events.Full pass.number q)
+StandsAs k known hand cost pass (stood.Over decision) = (told_own pass ≡ Some decision) × (decision ≢ decisions.Execute) × (decision ≢ decisions.QueueFull) × (pass.entered ≡ false)
 
 -- the answer says that a queue was full
 abbrev pub SaysFull : Begin → Type 0
@@ -56,6 +59,6 @@ NeedsNoEvent (begun.Over token decision) = (token.pass.entered ≡ false) × (de
 NeedsNoEvent (begun.Waiting token) = ⊥
 
 -- the event, if there is one, is the request's, and a history that the level may have had got it, with this hand and this cost
-abbrev pub Logs : LifeId → ℕ → List ℕ → ℕ → Begin → Option LifeEvent → Type 0
-Logs k r hand cost answer None = NeedsNoEvent answer
-Logs k r hand cost answer (Some event) = IsEventOf r answer (event_of event) × Came k r hand cost (event_of event)
+abbrev pub Logs : LifeId → List Entry → ℕ → List ℕ → ℕ → Begin → Option LifeEvent → Type 0
+Logs k known r hand cost answer None = NeedsNoEvent answer
+Logs k known r hand cost answer (Some event) = IsEventOf r answer (event_of event) × Came k known r hand cost (event_of event)

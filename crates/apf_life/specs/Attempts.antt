@@ -10,7 +10,7 @@ use Rattle.apf_gate.specs.PassSteps.{PassLoadsDecision}
 use Rattle.apf_level.specs.Admission.{TakesAndRuns, TakesAndLoses, FindsClosed, FindsNoRoom, FindsBusy}
 use Rattle.apf_life.specs.declared.answers.Tried.{Tried}
 use Rattle.apf_life.specs.declared.answers.Tried.TheVariants as tries
-use Rattle.apf_life.specs.Tokens.{IsRunning, IsDone}
+use Rattle.apf_line.specs.Tokens.{IsRunning, IsDone}
 
 -- the Pass that was left is what the answer says: of a request that executes, or that is over
 abbrev pub IsKeptBy : Tried → PassToken → Type 0

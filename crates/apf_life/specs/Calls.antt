@@ -11,12 +11,13 @@ use Rattle.apf_queue.specs.declared.fault.QueueFault.TheVariants as queue
 use Rattle.apf_gate.specs.declared.record.State.TheVariants.{Fresh, InLine}
 use Rattle.apf_gate.specs.Records.{new_desk}
 use Rattle.apf_gate.specs.Tokens.{GateId, PassToken, DeskToken, StationToken, pass_gate, station_gate}
+use Rattle.apf_book.specs.Life.{IsAskedBy}
 use Rattle.apf_book.specs.declared.fault.BookFault.{BookFault}
 use Rattle.apf_book.specs.declared.fault.BookFault.TheVariants.{Dealer, Queues, NoMemory}
 use Rattle.apf_life.specs.declared.answers.Begin.{Begin}
 use Rattle.apf_life.specs.declared.answers.Tried.{Tried}
-use Rattle.apf_life.specs.Levels.{LifeId}
-use Rattle.apf_life.specs.Tokens.{IsOf}
+use Rattle.apf_line.specs.Levels.{LifeId}
+use Rattle.apf_line.specs.Tokens.{IsOf}
 use Rattle.apf_life.specs.Admission.{begun_pass, IsBegunTold, EnteredNow}
 use Rattle.apf_life.specs.Attempts.{IsAttemptedTold, FoundOpen, StaysOut}
 
@@ -64,7 +65,7 @@ pub record IsFreshPass (k : LifeId) (token : PassToken) : Type 0 where
   pub own : pass_gate token ≡ k.gate
   pub fresh : token.pass.state ≡ Fresh
 
--- it stands in line, and was never handed over, with a hand of queues of the level and a cost of 1 to 4,294,967,295
+-- it stands in line, and was never handed over, with a hand of queues of the level and a cost of 1 to 4,294,967,295, for which it asked
 pub record StandsInLine (k : LifeId) (token : PassToken) (hand : List ℕ) (cost : ℕ) : Type 0 where
   pub own : pass_gate token ≡ k.gate
   pub in_line : token.pass.state ≡ InLine
@@ -73,6 +74,7 @@ pub record StandsInLine (k : LifeId) (token : PassToken) (hand : List ℕ) (cost
   pub are_queues : All (λ (q : ℕ). q < k.sizes.deck) hand
   pub some_cost : 1 ≤ cost
   pub low : cost ≤ max_cost
+  pub asked : IsAskedBy k.sizes token.pass.knows.trace hand cost token.pass.number
 
 -- what an attempt answers and leaves, beside its steps: the Pass of the same request, which was told what is answered. One that saw the level closed finds it closed, and nobody enters
 pub record AfterAttempt (token : PassToken) (answer : Tried) (left : PassToken) : Type 0 where

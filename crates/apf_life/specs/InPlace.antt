@@ -9,7 +9,7 @@ use Rattle.apf_life.specs.declared.answers.Begin.{Begin}
 use Rattle.apf_life.specs.declared.answers.Begin.TheVariants as begun
 use Rattle.apf_life.specs.declared.answers.Poll.{Poll}
 use Rattle.apf_life.specs.declared.answers.Poll.TheVariants as polled
-use Rattle.apf_life.specs.Tokens.{IsInLine, IsRunning, IsDone}
+use Rattle.apf_line.specs.Tokens.{IsInLine, IsRunning, IsDone}
 
 -- what an arrival answers, with the Pass that it left in its place
 abbrev pub begin_of : Begun → PassToken → Begin

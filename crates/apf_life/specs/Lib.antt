@@ -1,6 +1,4 @@
-pub mod Levels
 pub mod Nobody
-pub mod Tokens
 pub mod Admission
 pub mod Attempts
 pub mod Arrivals
@@ -8,5 +6,3 @@ pub mod Sections
 pub mod Locked
 pub mod InPlace
 pub mod Calls
-pub mod Reports
-pub mod Stopped

@@ -8,8 +8,8 @@ use Rattle.apf_book.specs.Life.{LifeView}
 use Rattle.apf_book.specs.LifeBook.{LifeBookView, IsLifeKept, ServesLife, StrikesLife}
 use Rattle.apf_book.specs.LifeCalls.{SameLifeBook}
 use Rattle.apf_book.specs.Notes.{AreLifeStats, CopiesLate}
-use Rattle.apf_life.specs.Levels.{LifeId, IsBookOf}
-use Rattle.apf_life.specs.Stopped.{IsStopped}
+use Rattle.apf_line.specs.Levels.{LifeId, IsBookOf}
+use Rattle.apf_line.specs.Stopped.{IsStopped}
 
 -- the level's book, or nothing on a level without queues
 abbrev pub IsUnder : LifeId → Option LifeBookView → Type 0

@@ -3,7 +3,7 @@ use Rattle.std.specs.Prelude.{[]}
 use Rattle.atomic_table.specs.Seated.{TableId}
 use Rattle.apf_model.specs.declared.response.Response.TheVariants.{Queue}
 use Rattle.apf_gate.specs.Gauges.{shape_of}
-use Rattle.apf_life.specs.Levels.{LifeId}
+use Rattle.apf_line.specs.Levels.{LifeId}
 
 abbrev no_table : TableId
 no_table = record { words = 0; slots = 0; views_name = 0; atom = 0; block = 0; offset = 0; slot_names = [] }

@@ -3,10 +3,10 @@
 ghost use Rattle.std.specs.Prelude.{◌≡◌, ◌==◌, not, true, false, Some};
 ghost use Rattle.apf_words.specs.Level.{Level as Word};
 ghost use Rattle.apf_words.specs.declared.decision.Decision.TheVariants.{Execute};
-ghost use Rattle.apf_gate.specs.Records.{told_own};
+ghost use Rattle.apf_gate.specs.Records.{told_own, KnowsMore};
 ghost use Rattle.apf_gate.specs.PassSteps.{PassSubtractsLevel};
 ghost use Rattle.apf_gate.specs.Tokens.{pass_gate};
-ghost use Rattle.apf_life.specs.Tokens.{IsOf, IsRunning, IsDone};
+ghost use Rattle.apf_line.specs.Tokens.{IsOf, IsRunning, IsDone};
 ghost use Rattle.apf_life.specs.Admission.{tried_pass, IsTriedTold, AsksAgain, TriesToAdmit, SaysOpen};
 ghost use Rattle.apf_life.specs.Attempts.{Attempts, TakesOrDecides, IsKeptBy};
 ghost use Rattle.apf_life.specs.Calls.{IsFreshPass, AfterAttempt};
@@ -54,6 +54,7 @@ impl<K: Naming> Level<K> {
         requires fresh { IsFreshPass K.level pass.old }
         ensures kept { IsKeptBy result pass.new }
         ensures after { AfterAttempt pass.old result pass.new }
+        ensures more { KnowsMore pass.old.pass.knows pass.new.pass.knows }
         ensures steps { Attempts pass.old.pass result pass.new }
         ensures never_entered { pass.old.pass.entered ≡ false }
     {
@@ -70,6 +71,7 @@ impl<K: Naming> Level<K> {
         requires fresh { IsFreshPass K.level pass.old }
         ensures kept { IsKeptBy result pass.new }
         ensures after { AfterAttempt pass.old result pass.new }
+        ensures more { KnowsMore pass.old.pass.knows pass.new.pass.knows }
         ensures steps { TakesOrDecides pass.old.pass result pass.new }
     {
         match self.gate.try_take(pass) {

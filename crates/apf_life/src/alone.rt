@@ -2,7 +2,7 @@
 
 ghost use Rattle.std.specs.Prelude.{◌≡◌};
 ghost use Rattle.apf_model.specs.declared.response.Response.TheVariants.{Reject};
-ghost use Rattle.apf_life.specs.Levels.{IsIdleOf};
+ghost use Rattle.apf_line.specs.Levels.{IsIdleOf};
 
 use crate::naming::Naming;
 use apf_gate::Desk;

@@ -1,11 +1,13 @@
 //! The arrival of a request, and its wait.
 
-ghost use Rattle.std.specs.Prelude.{◌≡◌, ◌≤◌};
+ghost use Rattle.std.specs.Prelude.{◌≡◌, ◌≤◌, Option, Some};
+ghost use Rattle.apf_book.specs.declared.life_event.LifeEvent.{LifeEvent};
 ghost use Rattle.apf_words.specs.Limits.{max_cost};
 ghost use Rattle.apf_flow.specs.Deal.{hand_of};
 ghost use Rattle.apf_model.specs.declared.response.Response.TheVariants.{Queue};
+ghost use Rattle.apf_gate.specs.Traces.{asked_in};
 ghost use Rattle.apf_gate.specs.Tokens.{pass_gate};
-ghost use Rattle.apf_life.specs.Tokens.{IsOf, IsInLine};
+ghost use Rattle.apf_line.specs.Tokens.{IsOf, IsInLine};
 ghost use Rattle.apf_life.specs.InPlace.{begin_of, poll_of, IsLeftBy, IsDecided};
 ghost use Rattle.apf_life.specs.Admission.{polled_pass, admitted_pass, IsAdmittedTold, SaysWaiting, Polls};
 ghost use Rattle.apf_life.specs.Arrivals.{Logs};
@@ -35,6 +37,7 @@ impl<K: Naming> Level<K> {
         requires own { pass_gate pass.token ≡ K.level.gate }
         ensures after { AfterBegin pass.token result }
         ensures queues { SaysWaiting result → self.now.shape.response ≡ Queue }
+        ensures logs { (event : Option LifeEvent) × Logs K.level pass.token.pass.knows.trace pass.token.pass.number (hand_of K.level.sizes pass.hash) pass.cost result event }
     {
         let (begun, _event) = self.begin_with_event(rt, pass);
         begun
@@ -46,7 +49,7 @@ impl<K: Naming> Level<K> {
         requires own { pass_gate pass.token ≡ K.level.gate }
         ensures after { AfterBegin pass.token result.0 }
         ensures queues { SaysWaiting result.0 → self.now.shape.response ≡ Queue }
-        ensures logs { Logs K.level pass.token.pass.number (hand_of K.level.sizes pass.hash) pass.cost result.0 result.1 }
+        ensures logs { Logs K.level pass.token.pass.knows.trace pass.token.pass.number (hand_of K.level.sizes pass.hash) pass.cost result.0 result.1 }
     {
         let Pass {
             mut pass,
@@ -109,10 +112,11 @@ impl<K: Naming> Level<K> {
         requires fresh { IsFreshPass K.level pass.old }
         requires some_cost { 1 ≤ cost }
         requires low_cost { cost ≤ max_cost }
+        requires asked { asked_in pass.old.pass.knows.trace pass.old.pass.number ≡ Some (record { hash = hash; cost = cost }) }
         ensures left { IsLeftBy result.0 pass.new }
         ensures after { AfterBegin pass.old (begin_of result.0 pass.new) }
         ensures queues { SaysWaiting (begin_of result.0 pass.new) → self.now.shape.response ≡ Queue }
-        ensures logs { Logs K.level pass.old.pass.number (hand_of K.level.sizes hash) cost (begin_of result.0 pass.new) result.1 }
+        ensures logs { Logs K.level pass.old.pass.knows.trace pass.old.pass.number (hand_of K.level.sizes hash) cost (begin_of result.0 pass.new) result.1 }
     {
         let mut tried = self.attempt(pass);
         for _ in rt.forever() {
@@ -150,9 +154,10 @@ impl<K: Naming> Level<K> {
         requires fresh { IsFreshPass K.level pass.old }
         requires some_cost { 1 ≤ cost }
         requires low_cost { cost ≤ max_cost }
+        requires asked { asked_in pass.old.pass.knows.trace pass.old.pass.number ≡ Some (record { hash = hash; cost = cost }) }
         ensures left { IsLeftBy result.0 pass.new }
         ensures after { AfterBegin pass.old (begin_of result.0 pass.new) }
-        ensures logs { Logs K.level pass.old.pass.number (hand_of K.level.sizes hash) cost (begin_of result.0 pass.new) result.1 }
+        ensures logs { Logs K.level pass.old.pass.knows.trace pass.old.pass.number (hand_of K.level.sizes hash) cost (begin_of result.0 pass.new) result.1 }
         ensures queues { self.now.shape.response ≡ Queue }
     {
         self.gate.ask(pass);
@@ -208,6 +213,7 @@ impl<K: Naming> Level<K> {
         requires fresh { IsFreshPass K.level pass.old }
         requires some_cost { 1 ≤ cost }
         requires low_cost { cost ≤ max_cost }
+        requires asked { asked_in pass.old.pass.knows.trace pass.old.pass.number ≡ Some (record { hash = hash; cost = cost }) }
         ensures left { IsLeftBy result pass.new }
         ensures same { IsOf pass.old pass.new }
         ensures told { IsDecided result pass.new }

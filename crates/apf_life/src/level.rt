@@ -7,7 +7,7 @@ ghost use Rattle.apf_gate.specs.declared.record.State.TheVariants.{Fresh};
 ghost use Rattle.apf_gate.specs.Records.{new_desk};
 ghost use Rattle.apf_gate.specs.Slots.{IsTicket};
 ghost use Rattle.apf_gate.specs.Tokens.{desk_gate};
-ghost use Rattle.apf_life.specs.Levels.{IsBookOf};
+ghost use Rattle.apf_line.specs.Levels.{IsBookOf};
 ghost use Rattle.apf_life.specs.Sections.{AreSleepers};
 ghost use Rattle.apf_life.specs.Calls.{IsGateFor, AreFirst, AreSettings, IsFaultOf, IsJudged};
 
@@ -19,6 +19,7 @@ use crate::tokens::Done;
 use apf_book::{BookFault, LifeBook};
 use apf_flow::Dealer;
 use apf_gate::{Desk, Gate, Pass, Station, Ticket};
+use apf_line::every_level_has_histories;
 use apf_model::{Config, Response};
 use std::alloc::{AllocError, Global};
 use std::marker::{Model, PhantomData};
@@ -36,7 +37,7 @@ pub struct Level<K: Naming> {
 
 impl<K: Naming> Model for Level<K> {
     ghost use Rattle.apf_gate.specs.Tokens.{GateId};
-    ghost use Rattle.apf_life.specs.Levels.{IsLevelOf};
+    ghost use Rattle.apf_line.specs.Levels.{IsLevelOf};
 
     ghost Value = { GateId };
 
@@ -117,6 +118,7 @@ fn queued<K: Naming>(
     ensures settings { OnOk result (AreSettings config.now slots) }
     ensures fault { IfErr result (IsFaultOf config.now slots) }
 {
+    every_level_has_histories();
     desk.is_of_a_gate();
     let dealer = match Dealer::new(config.queues, config.hand_size) {
         Ok(dealer) => dealer,

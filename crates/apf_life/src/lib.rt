@@ -9,8 +9,7 @@
 //! - `renewing`: a slot goes on to its next request.
 //! - `admission`: the steps of a request outside the lock. `arriving`: those that may take it.
 //! - `stations`: the calls of a Station. `locked`: those that take the lock.
-//! - `report`, `end`: how a level ends, and what it tells then.
-//! - `laws`: what is true of every history of a level.
+//! - `end`: how a level ends. What it tells then, and what is true of every history of a level, is `apf_line`'s.
 #![tactic(auto)]
 
 mod admission;
@@ -18,23 +17,21 @@ mod alone;
 mod answers;
 mod arriving;
 mod end;
-mod laws;
 mod level;
 mod locked;
 mod naming;
 mod queued;
 mod renewing;
-mod report;
 mod shared;
 mod stations;
 mod tokens;
 
 pub use answers::{Admit, Begin, Begun, Poll, Renewed, Tried, TryAdmit};
-pub use laws::{
-    every_life_history_isolates, every_life_wait_is_bounded, no_life_request_is_forgotten,
+pub use apf_line::{
+    Newest, Report, every_life_history_isolates, every_life_wait_is_bounded, every_queue_was_dealt,
+    no_life_request_is_forgotten,
 };
 pub use level::{Level, LevelFault, Opened};
 pub use locked::Locked;
 pub use naming::Naming;
-pub use report::{Newest, Report};
 pub use tokens::{Done, Pass, Running, Waiting};

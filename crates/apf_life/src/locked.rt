@@ -14,6 +14,7 @@ use crate::queued::Queued;
 use crate::shared::Shared;
 use apf_book::{Copied, LifeEvent, LifeStats};
 use apf_gate::{Gate, Station, Ticket, TrySetLimit};
+use apf_line::every_level_has_histories;
 use std::alloc::Global;
 use std::marker::Model;
 use std::sync::{MutexGuard, Wait};
@@ -72,6 +73,7 @@ impl<'a, K: Naming> Locked<'a, K> {
         ensures copied { CopiesUnder self.now from into.old result into.new }
         ensures of_level { IsCopied K.level from into.old result into.new }
     {
+        every_level_has_histories();
         match &self.queued {
             Some(queued) => queued.copy_events(from, into),
             None => Copied { from, count: 0 },
@@ -83,6 +85,7 @@ impl<'a, K: Naming> Locked<'a, K> {
         ensures stats { AreStatsUnder self.now result }
         ensures of_level { AreStatsOf K.level result }
     {
+        every_level_has_histories();
         match &self.queued {
             Some(queued) => queued.stats(),
             None => LifeStats {

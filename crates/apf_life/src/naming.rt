@@ -5,7 +5,7 @@ use std::marker::Brand;
 /// Stands for the identity of one level: its gate, and the settings of its queues. Types that name the same one are of
 /// the same level, with no test at run time.
 pub trait Naming: Send + Sync {
-    ghost use Rattle.apf_life.specs.Levels.{LifeId};
+    ghost use Rattle.apf_line.specs.Levels.{LifeId};
 
     ghost level: { LifeId };
 }

@@ -10,20 +10,21 @@ ghost use Rattle.apf_gate.specs.Tokens.{pass_gate, desk_gate};
 ghost use Rattle.apf_book.specs.Life.{LifeView};
 ghost use Rattle.apf_book.specs.LifeBook.{IsLifeKept, ServesLife};
 ghost use Rattle.apf_book.specs.LifeCalls.{SameLifeBook};
-ghost use Rattle.apf_life.specs.Levels.{IsBookOf};
-ghost use Rattle.apf_life.specs.Tokens.{IsOf};
+ghost use Rattle.apf_line.specs.Levels.{IsBookOf};
+ghost use Rattle.apf_line.specs.Tokens.{IsOf};
 ghost use Rattle.apf_life.specs.Arrivals.{StandsAs};
 ghost use Rattle.apf_life.specs.Sections.{IsCopied, AreStatsOf, AreSleepers};
 ghost use Rattle.apf_life.specs.Locked.{StrikesAndServes};
 ghost use Rattle.apf_book.specs.Notes.{AreLifeStats, CopiesLate};
 ghost use Rattle.apf_life.specs.Calls.{StandsInLine};
-ghost use Rattle.apf_life.specs.Stopped.{IsStopped};
+ghost use Rattle.apf_line.specs.Stopped.{IsStopped};
 
 use crate::answers::Stood;
 use crate::naming::Naming;
 use apf_book::{Arrived, Copied, LifeBook, LifeEvent, LifeStats};
 use apf_flow::Dealer;
 use apf_gate::{Gate, Pass, Ticket};
+use apf_line::every_level_has_histories;
 use apf_words::Decision;
 use std::alloc::Global;
 use std::marker::PhantomData;
@@ -114,8 +115,9 @@ impl<K: Naming> Queued<K> {
         requires stands { StandsInLine K.level pass.old dealt.now cost }
         ensures same { IsOf pass.old pass.new }
         ensures in_line { pass.new.pass.state ≡ InLine }
-        ensures stands { StandsAs K.level dealt.now cost pass.new.pass result }
+        ensures stands { StandsAs K.level pass.old.pass.knows.trace dealt.now cost pass.new.pass result }
     {
+        every_level_has_histories();
         self.book.has_a_history();
         let before = self.book.events();
         let arrived = self.book.arrive(rt, gate, pass, dealt, cost);
@@ -135,6 +137,7 @@ impl<K: Naming> Queued<K> {
         ensures same { SameLifeBook self.old.book self.new.book }
         ensures served { (v : LifeView) → IsLifeKept v self.old.book → ServesLife v self.old.book result self.new.book }
     {
+        every_level_has_histories();
         self.book.has_a_history();
         let before = self.book.events();
         serve(rt, gate, &mut self.book, self.sleepers.as_slice(), before)
@@ -147,6 +150,7 @@ impl<K: Naming> Queued<K> {
         requires is_request { IsTicket K.level.gate.shape request.number }
         ensures struck { StrikesAndServes self.old.book request.number result self.new.book }
     {
+        every_level_has_histories();
         self.book.has_a_history();
         let before = self.book.events();
         let struck = self.book.strike(gate, request);
@@ -168,6 +172,7 @@ impl<K: Naming> Queued<K> {
         ensures told { told_own pass.new.pass ≡ told_own pass.old.pass }
         ensures cancelled { told_own pass.new.pass ≡ Some Cancelled }
     {
+        every_level_has_histories();
         self.book.has_a_history();
         let before = self.book.events();
         // the Desk, which let it enter, knows that it is decided by nobody else
@@ -191,6 +196,7 @@ impl<K: Naming> Queued<K> {
         ensures copied { (v : LifeView) → IsLifeKept v self.now.book → length v.history < 2 ^ 64 → CopiesLate self.now.book.notes.capacity v.history from into.old result into.new }
         ensures of_level { IsCopied K.level from into.old result into.new }
     {
+        every_level_has_histories();
         self.book.has_a_history();
         self.book.copy_events(from, into)
     }
@@ -200,6 +206,7 @@ impl<K: Naming> Queued<K> {
         ensures stats { (v : LifeView) → IsLifeKept v self.now.book → length v.history < 2 ^ 64 → AreLifeStats result v.history }
         ensures of_level { AreStatsOf K.level result }
     {
+        every_level_has_histories();
         self.book.has_a_history();
         self.book.stats()
     }

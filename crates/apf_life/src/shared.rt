@@ -5,7 +5,7 @@ ghost use Rattle.apf_words.specs.declared.decision.Decision.TheVariants.{Execute
 ghost use Rattle.apf_gate.specs.Records.{told_own};
 ghost use Rattle.apf_gate.specs.Slots.{IsTicket};
 ghost use Rattle.apf_gate.specs.Tokens.{pass_gate};
-ghost use Rattle.apf_life.specs.Tokens.{IsOf, IsInLine};
+ghost use Rattle.apf_line.specs.Tokens.{IsOf, IsInLine};
 
 use crate::alone::AloneLock;
 use crate::naming::Naming;

@@ -2,7 +2,7 @@
 
 ghost use Rattle.std.specs.Prelude.{◌≡◌};
 ghost use Rattle.apf_gate.specs.Slots.{IsTicket};
-ghost use Rattle.apf_life.specs.Tokens.{IsArriving, IsInLine, IsRunning, IsDone};
+ghost use Rattle.apf_line.specs.Tokens.{IsArriving, IsInLine, IsRunning, IsDone};
 
 use apf_gate::Ticket;
 use std::marker::Model;
@@ -16,7 +16,7 @@ pub struct Pass {
 }
 
 impl Model for Pass {
-    ghost use Rattle.apf_life.specs.Tokens.{Arriving, IsArriving};
+    ghost use Rattle.apf_line.specs.Tokens.{Arriving, IsArriving};
 
     ghost Value = { Arriving };
 
@@ -32,7 +32,7 @@ pub struct Waiting {
 
 impl Model for Waiting {
     ghost use Rattle.apf_gate.specs.Tokens.{PassToken};
-    ghost use Rattle.apf_life.specs.Tokens.{IsInLine};
+    ghost use Rattle.apf_line.specs.Tokens.{IsInLine};
 
     ghost Value = { PassToken };
 
@@ -48,7 +48,7 @@ pub struct Running {
 
 impl Model for Running {
     ghost use Rattle.apf_gate.specs.Tokens.{PassToken};
-    ghost use Rattle.apf_life.specs.Tokens.{IsRunning};
+    ghost use Rattle.apf_line.specs.Tokens.{IsRunning};
 
     ghost Value = { PassToken };
 
@@ -65,7 +65,7 @@ pub struct Done {
 
 impl Model for Done {
     ghost use Rattle.apf_gate.specs.Tokens.{PassToken};
-    ghost use Rattle.apf_life.specs.Tokens.{IsDone};
+    ghost use Rattle.apf_line.specs.Tokens.{IsDone};
 
     ghost Value = { PassToken };
 

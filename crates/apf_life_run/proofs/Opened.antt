@@ -3,7 +3,7 @@ use Rattle.std.proofs.Common.{◌≡◌, ◌∙◌, ℕ, zero, suc, ◌≤◌, r
 use Rattle.std.proofs.lemmas.List.Elements.{All-push}
 use Rattle.apf_model.specs.declared.config.Config.{Config}
 use Rattle.apf_gate.specs.Tokens.{GateId}
-use Rattle.apf_life.specs.Levels.{LifeId}
+use Rattle.apf_line.specs.Levels.{LifeId}
 use Rattle.apf_life_session.specs.Openings.{level_of}
 use Rattle.apf_life_run.specs.Runs.{IsLevelFor}
 use Rattle.apf_gate.specs.Records.{new_pass}

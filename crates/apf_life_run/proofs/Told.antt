@@ -17,9 +17,9 @@ use Rattle.apf_gate.specs.Slots.{slot_of, round_of}
 use Rattle.apf_gate.specs.Traces.{Made, world_of}
 use Rattle.apf_gate.specs.Tokens.{PassToken, StationToken}
 use Rattle.apf_gate.specs.Ends.{WroteCancelled, ClosedFirst}
-use Rattle.apf_life.specs.Levels.{LifeId}
-use Rattle.apf_life.specs.declared.report.Report.{Report}
-use Rattle.apf_life.specs.Reports.{Ended}
+use Rattle.apf_line.specs.Levels.{LifeId}
+use Rattle.apf_line.specs.declared.report.Report.{Report}
+use Rattle.apf_line.specs.Reports.{Ended}
 use Rattle.apf_run.specs.Plans.{SomeCloses, closes_it, closes_at}
 use Rattle.apf_run.proofs.Limits.{limit_stays, made_within}
 use Rattle.apf_life_run.specs.Plans.{number_in, width_it_asks, HasWidth, IsNamedIn, IsFaithful}
@@ -46,11 +46,11 @@ module _ (k : LifeId) (config : Config) (requests : List Request) (rounds : ℕ)
     (ended : Ended k r.dones r.stations report)
     (count : length r.dones ≡ length requests) where
   -- whoever is cancelled, a Station wrote that of which a request says so
-  named : (i : ℕ) → i < length k.gate.shape.widths → (world_of k.gate.shape ended.words_agree.trace).decision i ≡ Some Cancelled → IsNamedIn requests rounds i
-  named i low is = of_one (WroteCancelled i) (IsFaithful k.gate requests rounds) r.stations (λ s wrote faithful. faithful.cancels i wrote) (ended.words_agree.cancelled_by_one i is) finished.faithful
+  named : (i : ℕ) → i < length k.gate.shape.widths → (world_of k.gate.shape ended.ended_as.words_agree.trace).decision i ≡ Some Cancelled → IsNamedIn requests rounds i
+  named i low is = of_one (WroteCancelled i) (IsFaithful k.gate requests rounds) r.stations (λ s wrote faithful. faithful.cancels i wrote) (ended.ended_as.words_agree.cancelled_by_one i is) finished.faithful
 
   said : report.words.level.closed ≡ true → SomeCloses requests
-  said closed = of_one ClosedFirst (IsFaithful k.gate requests rounds) r.stations (λ s first faithful. faithful.closes first) (ended.words_agree.closed_by_one closed) finished.faithful
+  said closed = of_one ClosedFirst (IsFaithful k.gate requests rounds) r.stations (λ s first faithful. faithful.closes first) (ended.ended_as.words_agree.closed_by_one closed) finished.faithful
 
   -- a request that closes came, and its worker's Station saw the level closed
   closes : SomeCloses requests → report.words.level.closed ≡ true
@@ -60,21 +60,21 @@ module _ (k : LifeId) (config : Config) (requests : List Request) (rounds : ℕ)
       let at : closes_at requests j ≡ true = ap closes_it (slice_get-get_or requests j any.1 any.2) ∙ ap (λ (q : Request). q.closes) any.3 ∙ any.4 in
       of_one_of (λ (t : PassToken). slot_of t.pass.number ≡ j) (IsInRound rounds) (IsKnownTo requests r.stations) r.dones
       (λ t here through known. of_one (λ (s : StationToken). s.station.knows.saw_closed ≡ true) (λ (s : StationToken). s.station.knows.saw_closed ≡ true → report.words.level.closed ≡ true) r.stations
-      (λ s saw then. then saw) (known.closed (omega (arith, through, some)) (ap (closes_at requests) here ∙ at)) ended.words_agree.closed_is_seen)
-      (ended.words_agree.each_slot j low) finished.through finished.known
+      (λ s saw then. then saw) (known.closed (omega (arith, through, some)) (ap (closes_at requests) here ∙ at)) ended.ended_as.words_agree.closed_is_seen)
+      (ended.ended_as.words_agree.each_slot j low) finished.through finished.known
 
   -- each Station was handed in, and set no limit
-  sets_none : (j n : ℕ) → j < k.gate.shape.stations → ¬ Made ended.words_agree.trace (OfStation j) (SetLimit n)
+  sets_none : (j n : ℕ) → j < k.gate.shape.stations → ¬ Made ended.ended_as.words_agree.trace (OfStation j) (SetLimit n)
   sets_none j n low made =
-      let any = ended.words_agree.each_station j low in
+      let any = ended.ended_as.words_agree.each_station j low in
       let s : StationToken = slice_index_or r.stations any.0 any.1 in
       let faithful : IsFaithful k.gate requests rounds s = finished.faithful any.0 any.1 any.2 in
-      let on = ended.words_agree.longest.from_stations any.0 any.1 any.2 in
+      let on = ended.ended_as.words_agree.longest.from_stations any.0 any.1 any.2 in
       let number : s.station.number ≡ j = ap (λ (t : StationToken). t.station.number) any.3 ∙ any.4 in
-      faithful.limits n (made_within ended.words_agree.trace s.station.knows.trace (OfStation s.station.number) (SetLimit n) on (subst (λ (i : ℕ). Made ended.words_agree.trace (OfStation i) (SetLimit n)) (sym number) made))
+      faithful.limits n (made_within ended.ended_as.words_agree.trace s.station.knows.trace (OfStation s.station.number) (SetLimit n) on (subst (λ (i : ℕ). Made ended.ended_as.words_agree.trace (OfStation i) (SetLimit n)) (sym number) made))
 
   limit_is : report.words.level.limit ≡ config.limit
-  limit_is = ap (λ (l : Level). l.limit) ended.words_agree.level ∙ (limit_stays k.gate.shape ended.words_agree.trace ended.words_agree.longest.made sets_none ∙ settings.limit)
+  limit_is = ap (λ (l : Level). l.limit) ended.ended_as.words_agree.level ∙ (limit_stays k.gate.shape ended.ended_as.words_agree.trace ended.ended_as.words_agree.longest.made sets_none ∙ settings.limit)
 
   -- a width that is asked for has its bits
   narrow : (slot : ℕ) → slot < length requests → width_it_asks (slice_get requests slot) < 32768
@@ -86,22 +86,22 @@ module _ (k : LifeId) (config : Config) (requests : List Request) (rounds : ℕ)
 
   -- each request of each round was told, and so is decided
   decided : (slot round : ℕ) → slot < length requests → 1 ≤ round → round ≤ rounds
-      → (decision : Decision) × ((world_of k.gate.shape ended.words_agree.trace).decision (number_in requests slot round) ≡ Some decision)
+      → (decision : Decision) × ((world_of k.gate.shape ended.ended_as.words_agree.trace).decision (number_in requests slot round) ≡ Some decision)
   decided slot round low came within =
       of_one_of (λ (t : PassToken). slot_of t.pass.number ≡ slot) (IsInRound rounds) (IsKnownTo requests r.stations) r.dones
       (λ t here through known. was_told (number_in requests slot round)
       (subst (λ (i : ℕ). SomeTold r.stations (number_in requests i round)) here (known.told round came (omega (arith, within, through)))))
-      (ended.words_agree.each_slot slot (omega (arith, low, settings.slots))) finished.through finished.known
+      (ended.ended_as.words_agree.each_slot slot (omega (arith, low, settings.slots))) finished.through finished.known
     where
       by : (i : ℕ) (any : SomeTold r.stations i) (found : Option Decision) → told_of (slice_index_or r.stations any.0 any.1).station.knows.told i ≡ found
-          → (decision : Decision) × ((world_of k.gate.shape ended.words_agree.trace).decision i ≡ Some decision)
+          → (decision : Decision) × ((world_of k.gate.shape ended.ended_as.words_agree.trace).decision i ≡ Some decision)
       by i any None is = absurd (any.4 (ap (λ (s : StationToken). told_of s.station.knows.told i) (sym any.3) ∙ is))
-      by i any (Some decision) is = (decision, ended.words_agree.told i decision (inr (inr (any.0, any.1, any.2, any.3, ap (λ (s : StationToken). told_of s.station.knows.told i) (sym any.3) ∙ is))))
+      by i any (Some decision) is = (decision, ended.ended_as.words_agree.told i decision (inr (inr (any.0, any.1, any.2, any.3, ap (λ (s : StationToken). told_of s.station.knows.told i) (sym any.3) ∙ is))))
 
-      was_told : (i : ℕ) → SomeTold r.stations i → (decision : Decision) × ((world_of k.gate.shape ended.words_agree.trace).decision i ≡ Some decision)
+      was_told : (i : ℕ) → SomeTold r.stations i → (decision : Decision) × ((world_of k.gate.shape ended.ended_as.words_agree.trace).decision i ≡ Some decision)
       was_told i any = by i any (told_of (slice_index_or r.stations any.0 any.1).station.knows.told i) refl
 
-  each_decided : (slot round : ℕ) → slot < length requests → 1 ≤ round → round ≤ rounds → (world_of k.gate.shape ended.words_agree.trace).decision (number_in requests slot round) ≢ None
+  each_decided : (slot round : ℕ) → slot < length requests → 1 ≤ round → round ≤ rounds → (world_of k.gate.shape ended.ended_as.words_agree.trace).decision (number_in requests slot round) ≢ None
   each_decided slot round low came within none = no_decision (decided slot round low came within).0 (sym (decided slot round low came within).1 ∙ none)
     where
       no_decision : (decision : Decision) → Some decision ≡ None → ⊥
@@ -111,7 +111,7 @@ module _ (k : LifeId) (config : Config) (requests : List Request) (rounds : ℕ)
   sums : rounds * length requests ≤ total report.words.counts
   sums =
       let n : ℕ = length requests in
-      let ever = ended.words_agree.ever in
+      let ever = ended.ended_as.words_agree.ever in
       let many : rounds * n ≤ length ever = as_many (λ i. number_in requests (i % n) (i / n + 1)) (rounds * n) ever
       (λ i j low below same.
       let one = bounds i low in
@@ -125,10 +125,10 @@ module _ (k : LifeId) (config : Config) (requests : List Request) (rounds : ℕ)
       (λ i low.
       let one = bounds i low in
       let told = decided (i % n) (i / n + 1) one.0 (omega arith) (omega (arith, one.1)) in
-      contained _ told.0 ever (ended.words_agree.are_all.each _ told.0
+      contained _ told.0 ever (ended.ended_as.words_agree.are_all.each _ told.0
       (let b = is_number (i % n) (i / n + 1) (width_it_asks (slice_get requests (i % n))) (omega (arith, one.0, slots)) (narrow (i % n) one.0) (omega (arith, one.1, few)) in omega (arith, b, numbers))
       told.1)) in
-      omega (arith, many, ended.words_agree.sums.all)
+      omega (arith, many, ended.ended_as.words_agree.sums.all)
     where
       bounds : (i : ℕ) → i < rounds * length requests → (i % length requests < length requests) × (i / length requests < rounds)
       bounds i low =

@@ -1,5 +1,5 @@
 -- What the book of a run in rounds says.
-use Rattle.apf_life.specs.declared.report.Report.{Report}
+use Rattle.apf_line.specs.declared.report.Report.{Report}
 use Rattle.apf_run.specs.declared.totals.Totals.{Totals}
 
 -- by its word, the numbers of the decisions of all requests, of whom nobody is undecided, and the numbers of all events

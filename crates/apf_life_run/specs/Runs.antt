@@ -8,9 +8,9 @@ use Rattle.apf_gate.specs.Records.{told_of}
 use Rattle.apf_gate.specs.Slots.{slot_of, round_of}
 use Rattle.apf_gate.specs.Traces.{world_of}
 use Rattle.apf_gate.specs.Tokens.{GateId, PassToken, StationToken, pass_gate}
-use Rattle.apf_life.specs.Levels.{LifeId}
-use Rattle.apf_life.specs.declared.report.Report.{Report}
-use Rattle.apf_life.specs.Reports.{Ended}
+use Rattle.apf_line.specs.Levels.{LifeId}
+use Rattle.apf_line.specs.declared.report.Report.{Report}
+use Rattle.apf_line.specs.Reports.{Ended}
 use Rattle.apf_run.specs.Plans.{SomeCloses, closes_at}
 use Rattle.apf_run.specs.Runs.{SeenClosed}
 use Rattle.apf_life_run.specs.Plans.{number_in, IsNamedIn, IsFaithful}
@@ -57,12 +57,12 @@ pub record HasRunRounds (config : Config) (requests : List Request) (rounds : �
   pub count : length slots ≡ length requests
   pub through : All (IsInRound rounds) slots
   -- each of them is decided, and the counts are of no fewer: the executed, the rejected and the cancelled sum to rounds times the requests at least
-  pub each_decided : (slot round : ℕ) → slot < length requests → 1 ≤ round → round ≤ rounds → (world_of level.gate.shape ended.words_agree.trace).decision (number_in requests slot round) ≢ None
+  pub each_decided : (slot round : ℕ) → slot < length requests → 1 ≤ round → round ≤ rounds → (world_of level.gate.shape ended.ended_as.words_agree.trace).decision (number_in requests slot round) ≢ None
   pub sums : rounds * length requests ≤ total r.words.counts
   -- the limit is that of the settings
   pub limit : r.words.level.limit ≡ config.limit
   -- each cancelled request came in one of the rounds, and some request names its slot
-  pub cancelled_is_named : (i : ℕ) → i < length level.gate.shape.widths → (world_of level.gate.shape ended.words_agree.trace).decision i ≡ Some Cancelled → IsNamedIn requests rounds i
+  pub cancelled_is_named : (i : ℕ) → i < length level.gate.shape.widths → (world_of level.gate.shape ended.ended_as.words_agree.trace).decision i ≡ Some Cancelled → IsNamedIn requests rounds i
   -- the level is closed exactly if some request closes it
   pub closed_is_said : r.words.level.closed ≡ true → SomeCloses requests
   pub said_is_closed : SomeCloses requests → r.words.level.closed ≡ true

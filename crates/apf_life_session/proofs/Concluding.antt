@@ -5,9 +5,9 @@ use Rattle.std.proofs.lemmas.List.{get_or_default}
 use Rattle.std.specs.Prelude.{Result, Ok, Err, IfOk}
 use Rattle.std.specs.declared.alloc.AllocError.{AllocError}
 use Rattle.apf_gate.specs.Tokens.{PassToken, StationToken}
-use Rattle.apf_life.specs.declared.report.Report.{Report}
-use Rattle.apf_life.specs.Levels.{LifeId}
-use Rattle.apf_life.specs.Reports.{Ended}
+use Rattle.apf_line.specs.declared.report.Report.{Report}
+use Rattle.apf_line.specs.Levels.{LifeId}
+use Rattle.apf_line.specs.Reports.{Ended}
 use Rattle.apf_life_session.specs.Ends.{FirstCancels, KeepsOrder, SessionEnds}
 use Rattle.apf_life_session.specs.declared.token.Token.{Token}
 

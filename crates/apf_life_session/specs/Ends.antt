@@ -4,9 +4,9 @@ use Rattle.apf_gate.specs.declared.record.StationRecord.{StationRecord}
 use Rattle.apf_gate.specs.declared.answers.Cancel.{Cancel}
 use Rattle.apf_gate.specs.StationCalls.{TriesToCancel}
 use Rattle.apf_gate.specs.Tokens.{PassToken, StationToken}
-use Rattle.apf_life.specs.declared.report.Report.{Report}
-use Rattle.apf_life.specs.Levels.{LifeId}
-use Rattle.apf_life.specs.Reports.{Ended}
+use Rattle.apf_line.specs.declared.report.Report.{Report}
+use Rattle.apf_line.specs.Levels.{LifeId}
+use Rattle.apf_line.specs.Reports.{Ended}
 use Rattle.apf_life_session.specs.declared.token.Token.{Token}
 use Rattle.apf_life_session.specs.declared.answer.Place.{Place}
 use Rattle.apf_life_session.specs.declared.answer.Place.TheVariants as places

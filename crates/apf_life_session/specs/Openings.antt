@@ -7,7 +7,7 @@ use Rattle.apf_gate.specs.Tokens.{GateId}
 use Rattle.apf_model.specs.declared.config.Config.{Config}
 use Rattle.apf_book.specs.declared.fault.BookFault.{BookFault}
 use Rattle.apf_book.specs.declared.fault.BookFault.TheVariants as book
-use Rattle.apf_life.specs.Levels.{LifeId}
+use Rattle.apf_line.specs.Levels.{LifeId}
 use Rattle.apf_life.specs.Calls.{FaultBy}
 use Rattle.apf_life_session.specs.declared.fault.OpenFault.{OpenFault}
 use Rattle.apf_life_session.specs.declared.fault.OpenFault.TheVariants as faults

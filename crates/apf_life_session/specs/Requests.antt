@@ -14,8 +14,11 @@ use Rattle.apf_book.specs.Notes.{event_of}
 use Rattle.apf_life.specs.declared.answers.Tried.{Tried}
 use Rattle.apf_life.specs.declared.answers.Tried.TheVariants as tries
 use Rattle.apf_life.specs.Attempts.{Attempts}
-use Rattle.apf_life.specs.Levels.{LifeId}
-use Rattle.apf_life.specs.Tokens.{IsInLine, IsRunning, IsDone}
+use Rattle.apf_line.specs.Levels.{LifeId}
+use Rattle.apf_line.specs.Tokens.{IsInLine, IsRunning, IsDone}
+use Rattle.apf_flow.specs.Deal.{hand_of}
+use Rattle.apf_gate.specs.declared.record.Entry.{Entry}
+use Rattle.apf_gate.specs.Traces.{asked_in}
 use Rattle.apf_life.specs.Arrivals.{Came}
 use Rattle.apf_life_session.specs.declared.token.Token.{Token}
 use Rattle.apf_life_session.specs.declared.token.Token.TheVariants as tokens
@@ -132,27 +135,28 @@ KeepsTried (tries.Over decision waiting) pass answer token = (answer ≡ answers
 KeepsTried tries.Blocked pass answer token = (answer ≡ answers.Busy) × (token ≡ tokens.Free pass)
 KeepsTried tries.Raced pass answer token = (answer ≡ answers.Busy) × (token ≡ tokens.Free pass)
 
--- the slot of this Pass went on to its next request, of this width, and what is answered is what the steps of its attempt found: that requests waited when seats were given back, too
-pub record AttemptsNext (width : ℕ) (pass : PassToken) (answer : Answer) (token' : Token) : Type 0 where
+-- the slot of this Pass went on to its next request, of this width and this hash of its flow, and what is answered is what the steps of its attempt found: that requests waited when seats were given back, too
+pub record AttemptsNext (width hash : ℕ) (pass : PassToken) (answer : Answer) (token' : Token) : Type 0 where
   pub next : PassToken
   pub found : Option Decision
-  pub renews : PassRenews (next_of pass.pass.number width) pass.pass found next.pass
+  pub renews : PassRenews (next_of pass.pass.number width) (record { hash = hash; cost = width }) pass.pass found next.pass
   pub tried : Tried
   pub left : PassToken
   pub steps : Attempts next.pass tried left
   pub keeps : KeepsTried tried left answer token'
 
 -- what an attempt in a free slot answers is what its steps found, unless the slot's numbers are used up
-abbrev pub TriesAs : ℕ → Token → Answer → Token → Type 0
-TriesAs width (tokens.Free pass) answer token' = answer ≢ answers.Spent → AttemptsNext width pass answer token'
-TriesAs width (tokens.Waiting pass) answer token' = Unit {0}
-TriesAs width (tokens.Running pass) answer token' = Unit {0}
-TriesAs width tokens.Gone answer token' = Unit {0}
+abbrev pub TriesAs : ℕ → ℕ → Token → Answer → Token → Type 0
+TriesAs width hash (tokens.Free pass) answer token' = answer ≢ answers.Spent → AttemptsNext width hash pass answer token'
+TriesAs width hash (tokens.Waiting pass) answer token' = Unit {0}
+TriesAs width hash (tokens.Running pass) answer token' = Unit {0}
+TriesAs width hash tokens.Gone answer token' = Unit {0}
 
--- what the history got by the arrival of the request of this number, with this hand and this cost, that is answered so: its Enter, or its Full if a queue was full, of a request that came; and no event only if it does not wait, and no queue was full
-abbrev pub LogsFor : LifeId → ℕ → List ℕ → ℕ → Answer → Option LifeEvent → Type 0
-LogsFor k r hand cost answer None = (answer ≢ answers.Waits) × (answer ≢ answers.Over QueueFull)
-LogsFor k r hand cost answer (Some event) = SaysWhere answer × IsEventOf r answer (event_of event) × Came k r hand cost (event_of event)
+-- what the history got by the arrival of the request of this number, of a flow with this hash and with this cost, that is answered so: its Enter, or its Full if a queue was full, of a request that came with the hand of that flow, by steps that begin it with what it asked for; and no event only if it does not wait, and no queue was full
+abbrev pub LogsFor : LifeId → ℕ → ℕ → ℕ → Answer → Option LifeEvent → Type 0
+LogsFor k r hash cost answer None = (answer ≢ answers.Waits) × (answer ≢ answers.Over QueueFull)
+LogsFor k r hash cost answer (Some event) = SaysWhere answer × IsEventOf r answer (event_of event)
+    × ((known : List Entry) × (asked_in known r ≡ Some (record { hash = hash; cost = cost })) × Came k known r (hand_of k.sizes hash) cost (event_of event))
 
 -- a call of a slot whose request is at this place, and else answers that it is wrong here and changes nothing
 pub record Answers (place : Place) (old : Token) (answer : Answer) (new : Token) : Type 0 where

@@ -3,7 +3,6 @@
 ghost use Rattle.std.specs.Prelude.{◌≡◌, ◌≢◌, ◌≤◌, Some};
 ghost use Rattle.apf_words.specs.Limits.{max_cost, max_width};
 ghost use Rattle.apf_words.specs.declared.decision.Decision.TheVariants.{Execute};
-ghost use Rattle.apf_flow.specs.Deal.{hand_of};
 ghost use Rattle.apf_gate.specs.Records.{told_own};
 ghost use Rattle.apf_gate.specs.Slots.{IsTicket};
 ghost use Rattle.apf_gate.specs.Tokens.{pass_gate};
@@ -108,7 +107,7 @@ impl<K: Naming> Request<K> {
         requires some_width { 1 ≤ ask.width }
         requires narrow { ask.width ≤ max_width }
         ensures arrives { Arrives ask.width self.old result.0 self.new }
-        ensures logs { LogsFor K.level (number_in self.new) (hand_of K.level.sizes ask.hash) ask.width result.0 result.1 }
+        ensures logs { LogsFor K.level (number_in self.new) ask.hash ask.width result.0 result.1 }
     {
         self.arrive_with_cost(rt, level, ask, ask.width)
     }
@@ -126,12 +125,12 @@ impl<K: Naming> Request<K> {
         requires some_cost { 1 ≤ cost }
         requires low_cost { cost ≤ max_cost }
         ensures arrives { Arrives ask.width self.old result.0 self.new }
-        ensures logs { LogsFor K.level (number_in self.new) (hand_of K.level.sizes ask.hash) cost result.0 result.1 }
+        ensures logs { LogsFor K.level (number_in self.new) ask.hash cost result.0 result.1 }
     {
         if self.place != Place::Free {
             return (Answer::Wrong, None);
         }
-        if !level.renew_slot(&mut self.pass, ask.width) {
+        if !level.renew_slot(&mut self.pass, ask, cost) {
             return (Answer::Spent, None);
         }
         let (begun, event) = level.arrive(rt, &mut self.pass, ask.hash, cost);
@@ -162,7 +161,7 @@ impl<K: Naming> Request<K> {
         if self.place != Place::Free {
             return Answer::Wrong;
         }
-        if !level.renew_slot(&mut self.pass, ask.width) {
+        if !level.renew_slot(&mut self.pass, ask, ask.width) {
             return Answer::Spent;
         }
         match level.arrive_and_wait(rt, &mut self.pass, ask.hash, ask.width) {
@@ -184,12 +183,12 @@ impl<K: Naming> Request<K> {
         requires some_width { 1 ≤ ask.width }
         requires narrow { ask.width ≤ max_width }
         ensures tries { Tries ask.width self.old result self.new }
-        ensures steps { TriesAs ask.width self.old result self.new }
+        ensures steps { TriesAs ask.width ask.hash self.old result self.new }
     {
         if self.place != Place::Free {
             return Answer::Wrong;
         }
-        if !level.renew_slot(&mut self.pass, ask.width) {
+        if !level.renew_slot(&mut self.pass, ask, ask.width) {
             return Answer::Spent;
         }
         match level.attempt(&mut self.pass) {

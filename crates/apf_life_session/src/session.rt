@@ -10,7 +10,7 @@ ghost use Rattle.apf_life.specs.Calls.{SettledBy};
 ghost use Rattle.apf_life_session.specs.declared.answer.Place.TheVariants as places;
 ghost use Rattle.apf_life_session.specs.declared.token.Token.{Token};
 ghost use Rattle.apf_life_session.specs.Openings.{level_of, IsOpenFault};
-ghost use Rattle.apf_life_session.specs.Requests.{number_in, Answers, Arrives, Tries, TriesAs, Polls, CallsOne, AreFree};
+ghost use Rattle.apf_life_session.specs.Requests.{number_in, Answers, Arrives, Tries, TriesAs, Polls, LogsFor, CallsOne, AreFree};
 ghost use Rattle.apf_life_session.specs.Ends.{CancelsThese, FirstCancels, StayButFirst, KeepsOrder, SessionEnds, waiting};
 
 use crate::answer::{Answer, Place};
@@ -201,6 +201,7 @@ impl<K: Naming> Session<K> {
         requires narrow { ask.width ≤ max_width }
         ensures calls { CallsOne (Arrives ask.width) slot self.old.slots.items result.0 self.new.slots.items }
         ensures operators { self.new.operators.items ≡ self.old.operators.items }
+        ensures logs { (d : Token) → LogsFor K.level (number_in (slice_index_or self.new.slots.items slot d)) ask.hash ask.width result.0 result.1 }
     {
         self.slots[slot as usize].arrive(rt, &self.level, ask)
     }
@@ -212,7 +213,7 @@ impl<K: Naming> Session<K> {
         requires some_width { 1 ≤ ask.width }
         requires narrow { ask.width ≤ max_width }
         ensures calls { CallsOne (Tries ask.width) slot self.old.slots.items result self.new.slots.items }
-        ensures steps { (d : Token) → TriesAs ask.width (slice_index_or self.old.slots.items slot d) result (slice_index_or self.new.slots.items slot d) }
+        ensures steps { (d : Token) → TriesAs ask.width ask.hash (slice_index_or self.old.slots.items slot d) result (slice_index_or self.new.slots.items slot d) }
         ensures operators { self.new.operators.items ≡ self.old.operators.items }
     {
         self.slots[slot as usize].try_arrive(&self.level, ask)

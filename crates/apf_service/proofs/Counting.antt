@@ -5,7 +5,6 @@ use Rattle.std.specs.Prelude.{◌⊎◌, nat_lt}
 use Rattle.std.proofs.lemmas.Bool.{ltb-true, ltb-false, le-ltb}
 use Rattle.std.proofs.lemmas.List.{get_or_past, set_past}
 use Rattle.apf_words.specs.declared.decision.Decision.{Decision}
-use Rattle.apf_flow.specs.Deal.{hand_of}
 use Rattle.apf_gate.specs.Slots.{slot_of}
 use Rattle.apf_gate.specs.StationCalls.{TriesToCancel, ClosesTo}
 use Rattle.apf_gate.specs.Tokens.{PassToken, StationToken}
@@ -16,7 +15,7 @@ use Rattle.apf_gate.specs.declared.answers.Close.{Close}
 use Rattle.apf_gate.specs.declared.answers.Close.TheVariants as closes
 use Rattle.apf_book.specs.declared.life_event.LifeEvent.{LifeEvent}
 use Rattle.apf_book.specs.declared.life_event.LifeEvent.TheVariants as events
-use Rattle.apf_life.specs.Levels.{LifeId}
+use Rattle.apf_line.specs.Levels.{LifeId}
 use Rattle.apf_life_session.specs.declared.answer.Answer.{Answer}
 use Rattle.apf_life_session.specs.declared.answer.Answer.TheVariants.{Run, Over, Tried, Busy, Waits, Released, Spent, Wrong}
 use Rattle.apf_life_session.specs.declared.answer.Place.TheVariants as places
@@ -80,28 +79,28 @@ busy_adds pass tokens.Gone t says = record { waiting = omega arith; arrived = om
 busy_adds pass (tokens.Free p) t says = record { waiting = omega arith; arrived = omega arith }
 
 -- an arrival that came is told as one
-came_told : (k : LifeId) (r : ℕ) (hand : List ℕ) (cost n : ℕ) (answer : Answer) (event : Option LifeEvent) → SaysWhere answer → LogsFor k r hand cost answer event → came_by (told_of_arrival n answer event) ≡ 1
-came_told k r hand cost n answer (Some (events.Enter t q)) place logs = refl
-came_told k r hand cost n answer (Some (events.Full t q)) place logs = refl
-came_told k r hand cost n answer (Some (events.Dispatch t q)) place logs = absurd logs.1
-came_told k r hand cost n answer (Some (events.Strike t q)) place logs = absurd logs.1
-came_told k r hand cost n Run None place logs = refl
-came_told k r hand cost n (Over decision) None place logs = refl
-came_told k r hand cost n Waits None place logs = absurd (logs.0 refl)
-came_told k r hand cost n (Tried decision waiting) None place logs = absurd place
-came_told k r hand cost n Busy None place logs = absurd place
-came_told k r hand cost n (Released waiting) None place logs = absurd place
-came_told k r hand cost n Spent None place logs = absurd place
-came_told k r hand cost n Wrong None place logs = absurd place
+came_told : (k : LifeId) (r hash cost n : ℕ) (answer : Answer) (event : Option LifeEvent) → SaysWhere answer → LogsFor k r hash cost answer event → came_by (told_of_arrival n answer event) ≡ 1
+came_told k r hash cost n answer (Some (events.Enter t q)) place logs = refl
+came_told k r hash cost n answer (Some (events.Full t q)) place logs = refl
+came_told k r hash cost n answer (Some (events.Dispatch t q)) place logs = absurd logs.1
+came_told k r hash cost n answer (Some (events.Strike t q)) place logs = absurd logs.1
+came_told k r hash cost n Run None place logs = refl
+came_told k r hash cost n (Over decision) None place logs = refl
+came_told k r hash cost n Waits None place logs = absurd (logs.0 refl)
+came_told k r hash cost n (Tried decision waiting) None place logs = absurd place
+came_told k r hash cost n Busy None place logs = absurd place
+came_told k r hash cost n (Released waiting) None place logs = absurd place
+came_told k r hash cost n Spent None place logs = absurd place
+came_told k r hash cost n Wrong None place logs = absurd place
 
 -- one that did not come is told as none
-spent_told : (k : LifeId) (r : ℕ) (hand : List ℕ) (cost n : ℕ) (event : Option LifeEvent) → LogsFor k r hand cost Spent event → came_by (told_of_arrival n Spent event) ≡ 0
-spent_told k r hand cost n None logs = refl
-spent_told k r hand cost n (Some event) logs = absurd logs.0
+spent_told : (k : LifeId) (r hash cost n : ℕ) (event : Option LifeEvent) → LogsFor k r hash cost Spent event → came_by (told_of_arrival n Spent event) ≡ 0
+spent_told k r hash cost n None logs = refl
+spent_told k r hash cost n (Some event) logs = absurd logs.0
 
-wrong_told : (k : LifeId) (r : ℕ) (hand : List ℕ) (cost n : ℕ) (event : Option LifeEvent) → LogsFor k r hand cost Wrong event → came_by (told_of_arrival n Wrong event) ≡ 0
-wrong_told k r hand cost n None logs = refl
-wrong_told k r hand cost n (Some event) logs = absurd logs.0
+wrong_told : (k : LifeId) (r hash cost n : ℕ) (event : Option LifeEvent) → LogsFor k r hash cost Wrong event → came_by (told_of_arrival n Wrong event) ≡ 0
+wrong_told k r hash cost n None logs = refl
+wrong_told k r hash cost n (Some event) logs = absurd logs.0
 
 -- where the next request of a free slot came
 came_adds : (pass : PassToken) (new : Token) (answer : Answer) (t : Tally) (width : ℕ) → SaysWhere answer → Says answer new → Adds (tokens.Free pass) new t (after_arrival width answer t) 1
@@ -130,20 +129,20 @@ none_adds : (old new : Token) (answer answer' : Answer) (t : Tally) (width n : �
 none_adds old new answer answer' t width n none zero is = subst (λ (a : Answer). Adds old new t (after_arrival width a t) n) (sym is.0)
     (subst (λ (t' : Tally). Adds old new t t' n) (sym none) (subst (λ (m : ℕ). Adds old new t t m) (sym zero) (same_adds old new t is.1)))
 
-arrival_adds : (k : LifeId) (r : ℕ) (hand : List ℕ) (cost w n : ℕ) (old new : Token) (answer : Answer) (event : Option LifeEvent) (t : Tally) (width : ℕ)
-    → Arrives w old answer new → LogsFor k r hand cost answer event → Adds old new t (after_arrival width answer t) (came_by (told_of_arrival n answer event))
-arrival_adds k r hand cost w n (tokens.Free pass) new answer event t width (inl spent) logs =
+arrival_adds : (k : LifeId) (r hash cost w n : ℕ) (old new : Token) (answer : Answer) (event : Option LifeEvent) (t : Tally) (width : ℕ)
+    → Arrives w old answer new → LogsFor k r hash cost answer event → Adds old new t (after_arrival width answer t) (came_by (told_of_arrival n answer event))
+arrival_adds k r hash cost w n (tokens.Free pass) new answer event t width (inl spent) logs =
     none_adds (tokens.Free pass) new answer Spent t width (came_by (told_of_arrival n answer event)) refl
-    (ap (λ (a : Answer). came_by (told_of_arrival n a event)) spent.0 ∙ spent_told k r hand cost n event (subst (λ (a : Answer). LogsFor k r hand cost a event) spent.0 logs)) spent
-arrival_adds k r hand cost w n (tokens.Free pass) new answer event t width (inr came) logs =
-    subst (λ (m : ℕ). Adds (tokens.Free pass) new t (after_arrival width answer t) m) (sym (came_told k r hand cost n answer event came.0 logs)) (came_adds pass new answer t width came.0 came.1)
-arrival_adds k r hand cost w n (tokens.Waiting pass) new answer event t width wrong logs =
+    (ap (λ (a : Answer). came_by (told_of_arrival n a event)) spent.0 ∙ spent_told k r hash cost n event (subst (λ (a : Answer). LogsFor k r hash cost a event) spent.0 logs)) spent
+arrival_adds k r hash cost w n (tokens.Free pass) new answer event t width (inr came) logs =
+    subst (λ (m : ℕ). Adds (tokens.Free pass) new t (after_arrival width answer t) m) (sym (came_told k r hash cost n answer event came.0 logs)) (came_adds pass new answer t width came.0 came.1)
+arrival_adds k r hash cost w n (tokens.Waiting pass) new answer event t width wrong logs =
     none_adds (tokens.Waiting pass) new answer Wrong t width (came_by (told_of_arrival n answer event)) refl
-    (ap (λ (a : Answer). came_by (told_of_arrival n a event)) wrong.0 ∙ wrong_told k r hand cost n event (subst (λ (a : Answer). LogsFor k r hand cost a event) wrong.0 logs)) wrong
-arrival_adds k r hand cost w n (tokens.Running pass) new answer event t width wrong logs =
+    (ap (λ (a : Answer). came_by (told_of_arrival n a event)) wrong.0 ∙ wrong_told k r hash cost n event (subst (λ (a : Answer). LogsFor k r hash cost a event) wrong.0 logs)) wrong
+arrival_adds k r hash cost w n (tokens.Running pass) new answer event t width wrong logs =
     none_adds (tokens.Running pass) new answer Wrong t width (came_by (told_of_arrival n answer event)) refl
-    (ap (λ (a : Answer). came_by (told_of_arrival n a event)) wrong.0 ∙ wrong_told k r hand cost n event (subst (λ (a : Answer). LogsFor k r hand cost a event) wrong.0 logs)) wrong
-arrival_adds k r hand cost w n tokens.Gone new answer event t width gone logs = absurd gone
+    (ap (λ (a : Answer). came_by (told_of_arrival n a event)) wrong.0 ∙ wrong_told k r hash cost n event (subst (λ (a : Answer). LogsFor k r hash cost a event) wrong.0 logs)) wrong
+arrival_adds k r hash cost w n tokens.Gone new answer event t width gone logs = absurd gone
 
 attempt_adds : (w n : ℕ) (old new : Token) (answer : Answer) (t : Tally) (width : ℕ) → Tries w old answer new → Adds old new t (after_arrival width answer t) (came_by (told_of_attempt n answer))
 attempt_adds w n (tokens.Free pass) new answer t width (inl spent) =
@@ -254,7 +253,7 @@ arrive_inside k n a old reply new kept at (inl inside) =
     subst (λ (s : State). Grows old s (came_by reply)) (sym at.after)
     (subst (λ (r : Result Told Refusal). Grows old (record old { slots = set old.slots n at.token; tally = after_arrival (width_in at.token) at.answer old.tally; asked = set old.asked n (asks old a) }) (came_by r)) (sym at.told)
     (slot_grows old n at.token (after_arrival (width_in at.token) at.answer old.tally) old.charges (set old.asked n (asks old a)) (came_by (told_of_arrival n at.answer at.event)) kept inside
-    (arrival_adds k (number_in at.token) (hand_of k.sizes a.ask.hash) (asks old a).cost a.ask.width n (slot_in old n) at.token at.answer at.event old.tally (width_in at.token) at.arrives at.logs)))
+    (arrival_adds k (number_in at.token) a.ask.hash (asks old a).cost a.ask.width n (slot_in old n) at.token at.answer at.event old.tally (width_in at.token) at.arrives at.logs)))
 
 try_inside : (n : ℕ) (a : Arrival) (old : State) (reply : Result Told Refusal) (new : State) → old.tally.waiting ≡ sum_by waits_in old.slots → TriesAt n a old reply new
     → (n < length old.slots) ⊎ (length old.slots ≤ n) → Grows old new (came_by reply)

@@ -1,7 +1,7 @@
 -- How many requests ever arrived, from line to line.
 use Rattle.std.specs.Prelude.{◌≡◌, ℕ, ◌+◌, List, Result, Ok}
 use Rattle.apf_book.specs.declared.life_event.LifeEvent.{LifeEvent}
-use Rattle.apf_life.specs.Levels.{LifeId}
+use Rattle.apf_line.specs.Levels.{LifeId}
 use Rattle.apf_protocol.specs.declared.answer.Answer.{Answer as Told}
 use Rattle.apf_protocol.specs.declared.answer.Answer.TheVariants as tell
 use Rattle.apf_protocol.specs.declared.answer.Tried.TheVariants as tried

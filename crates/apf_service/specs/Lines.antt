@@ -7,7 +7,7 @@ use Rattle.apf_gate.specs.StationSteps.{StationLoadsLevel}
 use Rattle.apf_book.specs.declared.life_event.LifeEvent.{LifeEvent}
 use Rattle.apf_book.specs.declared.life_stats.LifeStats.{LifeStats}
 use Rattle.apf_book.specs.declared.notes.Copied.{Copied}
-use Rattle.apf_life.specs.Levels.{LifeId}
+use Rattle.apf_line.specs.Levels.{LifeId}
 use Rattle.apf_life.specs.Sections.{IsCopied, AreStatsOf}
 use Rattle.apf_run.specs.declared.totals.Totals.{Totals}
 use Rattle.apf_run.specs.Texts.{totals_text}

@@ -1,13 +1,12 @@
 -- What each command does to a live level.
 use Rattle.std.specs.Prelude.{◌≡◌, ℕ, List, slice_index_or, slice_set, Option, Some, None, Result, Ok}
-use Rattle.apf_flow.specs.Deal.{hand_of}
 use Rattle.apf_gate.specs.Tokens.{StationToken}
 use Rattle.apf_gate.specs.StationCalls.{TriesToCancel, ClosesTo}
 use Rattle.apf_gate.specs.declared.answers.Cancel.{Cancel}
 use Rattle.apf_gate.specs.declared.answers.Close.{Close}
 use Rattle.apf_level.specs.Limits.{LastSet}
 use Rattle.apf_book.specs.declared.life_event.LifeEvent.{LifeEvent}
-use Rattle.apf_life.specs.Levels.{LifeId}
+use Rattle.apf_line.specs.Levels.{LifeId}
 use Rattle.apf_life_session.specs.declared.answer.Answer.{Answer}
 use Rattle.apf_life_session.specs.declared.answer.Answer.TheVariants as answers
 use Rattle.apf_life_session.specs.declared.answer.Place.TheVariants as places
@@ -37,7 +36,7 @@ pub record ArrivesAt (k : LifeId) (n : ℕ) (a : Arrival) (old : State) (reply :
   pub event : Option LifeEvent
   pub token : Token
   pub arrives : Arrives a.ask.width (slot_in old n) answer token
-  pub logs : LogsFor k (number_in token) (hand_of k.sizes a.ask.hash) (asks old a).cost answer event
+  pub logs : LogsFor k (number_in token) a.ask.hash (asks old a).cost answer event
   pub told : reply ≡ told_of_arrival n answer event
   pub after : new ≡ record old { slots = slice_set old.slots n token; tally = after_arrival (width_in token) answer old.tally; asked = slice_set old.asked n (asks old a) }
 

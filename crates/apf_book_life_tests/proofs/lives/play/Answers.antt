@@ -1,5 +1,5 @@
 -- The book that was opened has the queues of its config.
-use Rattle.std.proofs.Common.{◌≡◌, ℕ, ◌≤◌, inl, inr, List, [], length, Some, refl, ◌∙◌, arith}
+use Rattle.std.proofs.Common.{◌≡◌, ℕ, ◌≤◌, inl, inr, List, [], length, Some, refl, sym, ◌∙◌, arith}
 use Rattle.std.proofs.lemmas.List.Elements.{All-pop}
 use Rattle.std.proofs.lemmas.Bool.{cases_lt}
 use Rattle.std.proofs.lemmas.List.{get_or_past}
@@ -30,10 +30,12 @@ begins shape queues limit is = record {
   few = let k = is.few_numbers in omega arith;
 }
 
-pub of-level-requires-clause-queues : goal.of-level-requires-clause-queues
-of-level-requires-clause-queues g c =
+pub of-level-requires-clause-sizes : goal.of-level-requires-clause-sizes
+of-level-requires-clause-sizes g c =
     let shape = c.args.opened.1.desk.knows.shape in
-    (c.in-Ok.ensures.opens (beginning shape c.args.config.now.queues c.args.config.now.queue_length_limit) (begins shape c.args.config.now.queues c.args.config.now.queue_length_limit c.is_of_a_gate.ensures.shape) refl).of_life.deck ∙ c.requires.config
+    let deck = (c.in-Ok.ensures.opens (beginning shape c.args.config.now.queues c.args.config.now.queue_length_limit) (begins shape c.args.config.now.queues c.args.config.now.queue_length_limit c.is_of_a_gate.ensures.shape) refl).of_life.deck in
+    let dealer = c.in-Ok-new.ensures.sizes in
+    λ i. record { deck = (deck ∙ sym dealer.0) i; hand = (c.in-Ok.ensures.hand ∙ sym dealer.1) i }
 
 pub of-level-requires-clause-station : goal.of-level-requires-clause-station
 of-level-requires-clause-station g c =

@@ -3,7 +3,7 @@ use Rattle.std.specs.Vec.Iter.{into_iter_items}
 use Rattle.std.proofs.lemmas.List.{append_assoc}
 use Rattle.std.proofs.lemmas.List.Elements.{All-push}
 use Rattle.apf_gate.specs.Tokens.{PassToken}
-use Rattle.apf_life.specs.Tokens.{IsDone}
+use Rattle.apf_line.specs.Tokens.{IsDone}
 use Rattle.apf_life.proofs.end.passes_of.Goals as goal
 
 pub loop-slot-preserved : goal.loop-slot-preserved

@@ -1,7 +1,7 @@
 -- Each slot so far gave its Pass, in their order.
 use Rattle.std.proofs.Common.{◌≡◌, ◌++◌, All}
 use Rattle.std.specs.Vec.Iter.{into_iter_items}
-use Rattle.apf_life.specs.Tokens.{IsDone}
+use Rattle.apf_line.specs.Tokens.{IsDone}
 use Rattle.apf_life.proofs.end.passes_of.Given as goal
 
 abbrev pub invariant-loop-slot : goal.invariant-loop-slot

@@ -4,8 +4,7 @@ use Rattle.std.specs.Prelude.{slice_index_or}
 use Rattle.apf_flow.specs.Sizes.{Sizes}
 use Rattle.apf_gate.specs.Gauges.{IsShape}
 use Rattle.apf_gate.specs.Tokens.{GateId, desk_gate}
-use Rattle.apf_life.proofs.Histories.{beginning, is_beginning, first_ticket}
-use Rattle.apf_life.proofs.Stopped.{begins_at_rest}
+use Rattle.apf_life.proofs.Histories.{beginning, is_beginning, first_ticket, opened}
 use Rattle.apf_life.proofs.level.queued.Goals as goal
 
 pub invariant_of-queued : goal.invariant_of-queued
@@ -22,8 +21,9 @@ invariant_of-queued g c =
         gate = ap desk_gate made.desk ∙ given;
         queues = kept.of_life.deck ∙ sym (ap (λ (s : Sizes). s.deck) c.requires.opening.sizes);
         limit = kept.of_life.limit ∙ sym c.requires.opening.queue_limit;
+        hand = made.hand ∙ sym (ap (λ (s : Sizes). s.hand) c.requires.opening.sizes);
       };
-      stopped = ∣ begins_at_rest v c.in_ok-book.book refl kept ∣₁;
+      stopped = (opened c.every_level_has_histories.ensures).begins v c.in_ok-book.book refl kept;
       room = made.room ∙ ap (λ (n : ℕ). 2 * n) c.requires.slots;
       each_slot = record {
         count = c.in_ok-first_tickets.ensures.count ∙ c.requires.slots;

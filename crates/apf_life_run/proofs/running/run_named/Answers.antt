@@ -1,8 +1,8 @@
 use Rattle.std.proofs.Common.{arith, ◌≡◌, ◌≤◌, ℕ, ap, ◌∙◌, subst, List, length}
 use Rattle.apf_files.specs.declared.requests.Request.{Request}
 use Rattle.apf_gate.specs.Tokens.{PassToken, StationToken}
-use Rattle.apf_life.specs.Levels.{LifeId}
-use Rattle.apf_life.specs.Reports.{Ended}
+use Rattle.apf_line.specs.Levels.{LifeId}
+use Rattle.apf_line.specs.Reports.{Ended}
 use Rattle.apf_life_run.specs.Runs.{AreFinished}
 use Rattle.apf_life_run.proofs.Opened.{settings}
 use Rattle.apf_life_run.proofs.Told.{told}

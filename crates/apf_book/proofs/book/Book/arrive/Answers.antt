@@ -1,5 +1,5 @@
 -- What an arrival was told, and whether it entered.
-use Rattle.std.proofs.Common.{rules, ◌≡◌, ◌≢◌, ℕ, Bool, Some, refl, sym, ◌∙◌, subst, false, true}
+use Rattle.std.proofs.Common.{rules, ◌≡◌, ◌≢◌, ℕ, Bool, Some, refl, sym, ◌∙◌, subst, false, true, inl}
 use Rattle.apf_words.specs.declared.decision.Decision.TheVariants.{QueueFull, Closed, Cancelled}
 use Rattle.apf_history.specs.declared.events.Event.TheVariants as events
 use Rattle.apf_model.specs.History.{has_arrived}
@@ -85,7 +85,7 @@ returns-in-Entered-clause-after g c = record {
   cancelled_first = search rules;
   cancelled_seen = λ cancelled _.
       let heard = heard_own (record { pass = c.args.pass.now.pass; desk = c.self.inside.desk.desk }) (record { pass = c.hear-found.new.pass.pass; desk = c.hear-found.new.desk.desk }) c.hear-found.result c.hear-found.ensures.answer in
-      let seen : c.hear-found.result ≡ Some Cancelled = sym heard ∙ (sym (c.in-Entered.ensures.told_entering refl) ∙ cancelled) in
+      let seen : c.hear-found.result ≡ Some Cancelled = sym heard ∙ (sym (c.in-Entered.ensures.told_entering (inl refl)) ∙ cancelled) in
       let other : c.hear-found.result ≢ Some Cancelled = (search rules) in
       absurd (other seen);
 }

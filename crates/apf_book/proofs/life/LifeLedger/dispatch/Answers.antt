@@ -3,6 +3,7 @@ use Rattle.std.proofs.Common.{sym, subst}
 use Rattle.apf_queue.specs.View.{IsChosen, HasTime}
 use Rattle.apf_book.specs.Life.{LifeState, IsLifeOf}
 use Rattle.apf_book.proofs.Opened.{opened}
+use Rattle.apf_book.proofs.Fewer.{fewer_dispatched}
 use Rattle.apf_book.proofs.LifeNexts.{life_dispatches}
 use Rattle.apf_book.proofs.life.LifeLedger.dispatch.Goals as goal
 
@@ -17,3 +18,8 @@ returns-clause-dispatches g c v is =
     let was = subst (λ (x : LifeState). IsLifeOf v x) (sym c.self.view_is) is in
     let chosen = subst (λ (x : LifeState). IsChosen x.queues c.args.chosen) (sym c.self.view_is) c.requires.chosen in
     rw (← c.self.view_is) (life_dispatches v _ was (opened c.legal_histories_are_in_order.ensures) c.args.chosen c.dispatch.new.self chosen c.dispatch.ensures)
+
+pub returns-clause-fewer : goal.returns-clause-fewer
+returns-clause-fewer g c =
+    let chosen = subst (λ (x : LifeState). IsChosen x.queues c.args.chosen) (sym c.self.view_is) c.requires.chosen in
+    rw (← c.self.view_is) (fewer_dispatched c.self.inside.queues c.dispatch.new.self c.args.chosen.queue c.args.chosen.request c.dispatch.ensures.queues chosen.is_head.is_first)

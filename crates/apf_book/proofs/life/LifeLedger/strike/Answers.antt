@@ -4,6 +4,7 @@ use Rattle.std.proofs.lemmas.List.{get_or_read}
 use Rattle.apf_gate.specs.Slots.{slot_of}
 use Rattle.apf_book.specs.Life.{LifeState, IsLifeOf}
 use Rattle.apf_book.proofs.Opened.{opened}
+use Rattle.apf_book.proofs.Fewer.{fewer_struck}
 use Rattle.apf_book.proofs.LifeStrikes.{held_by_other, strike_none, strike_some}
 use Rattle.apf_book.proofs.life.LifeLedger.strike.Goals as goal
 
@@ -24,5 +25,10 @@ returns-clause-some g c =
     let slot = subst (λ (x : LifeState). slot_of c.args.request < length x.holders) (sym c.self.view_is) c.requires.has_slot in
     let read = get_or_read s.holders.items (slot_of c.args.request) c.index.result.now slot c.index.ensures 0 in
     let holds : slice_index s.holders.items (slot_of c.args.request) ≡ c.args.request = omega (arith, c.if-index-request.false) in
-    rw (← c.self.view_is) (strike_some (opened c.legal_histories_are_in_order.ensures) c.remove.result (record { queues = s.queues; holders = s.holders.items }) c.remove.new.self c.args.request
+    rw (← c.self.view_is) (strike_some (opened c.legal_histories_are_in_order.ensures) c.remove.result (record { queues = s.queues; holders = s.holders.items; hand = s.hand }) c.remove.new.self c.args.request
     holds c.remove.ensures.stood c.remove.ensures.some)
+
+pub returns-clause-fewer : goal.returns-clause-fewer
+returns-clause-fewer g c =
+    let s = c.self.inside in
+    rw (← c.self.view_is) (fewer_struck c.remove.result (record { queues = s.queues; holders = s.holders.items; hand = s.hand }) (record { queues = c.remove.new.self; holders = s.holders.items; hand = s.hand }) (slot_of c.args.request) c.remove.ensures.stood c.remove.ensures.some)

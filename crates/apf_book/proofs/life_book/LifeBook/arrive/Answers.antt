@@ -1,155 +1,26 @@
--- What every history has of an arrival.
-use Rattle.std.proofs.Common.{rules, ◌≡◌, ◌≢◌, ◌<◌, ℕ, false, true, length, Some, refl, sym, ap, ◌∙◌, subst}
-use Rattle.apf_words.specs.declared.decision.Decision.TheVariants.{QueueFull, Closed, Cancelled}
-use Rattle.apf_model.specs.History.{has_arrived}
-use Rattle.apf_gate.specs.declared.record.Shape.{Shape}
-use Rattle.apf_gate.specs.Records.{service, KnowsMore}
-use Rattle.apf_gate.specs.Requests.{WaitsAlone}
-use Rattle.apf_gate.specs.Tokens.{GateId}
-use Rattle.apf_queue.specs.View.{queue_count}
-use Rattle.apf_book.specs.declared.arrived.Arrived.TheVariants as arrived
-use Rattle.apf_book.specs.Arrivals.{BothTold}
-use Rattle.apf_book.specs.LifeBook.{LifeBookView, IsLifeKept, arrived_in}
-use Rattle.apf_book.proofs.Opened.{opened}
-use Rattle.apf_book.proofs.Saying.{hears_quiet}
-use Rattle.apf_book.proofs.Knowing.{more_then, told_then, heard_own}
-use Rattle.apf_book.proofs.LifeKeeping.{life_quiet}
-use Rattle.apf_book.proofs.LifeArriving.{is_new, comes, stands_nowhere, life_away, life_refused, life_entered, life_full}
+-- What the tries came to.
+use Rattle.std.proofs.Common.{◌∙◌}
+use Rattle.apf_book.proofs.Trying.{none_yet, raced_then, asked_again, answers_then, after_then, heard_all_then}
+use Rattle.apf_book.proofs.LifeTurning.{same_book_then}
 use Rattle.apf_book.proofs.life_book.LifeBook.arrive.Goals as goal
 
-pub enter-requires-clause-is_nowhere : goal.enter-requires-clause-is_nowhere
-enter-requires-clause-is_nowhere g c =
-    stands_nowhere (opened c.legal_histories_are_in_order.ensures) c.self.invariant.view (record { desk = c.self.inside.desk; queues = c.self.inside.ledger; notes = c.self.inside.notes }) c.self.invariant.kept c.number-request.result (ap (λ (i : ℕ). service c.self.inside.desk.desk i) c.number-request.ensures.number ∙ c.hear-found.ensures.same.not_handed c.requires.is_new.not_handed)
-    (subst (λ (s : Shape). WaitsAlone s c.self.inside.desk.desk c.number-request.result) (sym (ap (λ (b : LifeBookView). b.desk.desk.knows.shape) c.self.view_is ∙ (ap (λ (x : GateId). x.shape) c.requires.own.own ∙ sym (ap (λ (x : GateId). x.shape) c.requires.own.own_pass)))) (subst (λ (i : ℕ). WaitsAlone c.args.pass.now.pass.knows.shape c.self.inside.desk.desk i) (sym c.number-request.ensures.number) c.hear-found.ensures.after.alone))
+pub loop-init : goal.loop-init
+loop-init g c = record { iterator = search; far = none_yet c.args.self.now c.args.pass.now c.requires.is_new }
 
-pub invariant_of-self : goal.invariant_of-self
-invariant_of-self g c = record { view = c.self.invariant.view; kept = life_quiet c.self.invariant.view (record { desk = c.self.inside.desk; queues = c.self.inside.ledger; notes = c.self.inside.notes }) c.hear-found.new.desk c.self.invariant.kept c.hear-found.ensures.after.served c.hear-found.ensures.same.more (hears_quiet c.args.pass.now.pass c.hear-found.new.pass.pass c.self.inside.desk.desk c.hear-found.new.desk.desk c.hear-found.result c.hear-found.ensures.answer) }
+pub loop-preserved : goal.loop-preserved
+loop-preserved g c = record { iterator = search; far = raced_then c.args.self.now c.args.pass.now c.loop.self c.loop.pass c.try_arrive.new.self c.try_arrive.new.pass c.loop.invariant.far c.in_default.ensures.same c.in_default.ensures.same_request c.in_default.ensures.heard c.in_default.ensures.raced }
 
-pub invariant_of-self-in-Entered : goal.invariant_of-self-in-Entered
-invariant_of-self-in-Entered g c = record {
-  view = _;
-  kept = life_entered (opened c.legal_histories_are_in_order.ensures) c.self.invariant.view (record { desk = c.self.inside.desk; queues = c.self.inside.ledger; notes = c.self.inside.notes }) c.self.invariant.kept c.number-request.result (ap (λ (i : ℕ). service c.self.inside.desk.desk i) c.number-request.ensures.number ∙ c.hear-found.ensures.same.not_handed c.requires.is_new.not_handed) c.hear-found.new.desk c.hear-found.ensures.after.served c.hear-found.ensures.same.more (hears_quiet c.args.pass.now.pass c.hear-found.new.pass.pass c.self.inside.desk.desk c.hear-found.new.desk.desk c.hear-found.result c.hear-found.ensures.answer) c.hear-found.new.pass.pass.number (c.hear-found.ensures.same.number ∙ sym c.number-request.ensures.number)
-      (record { desk = c.hand.new.desk; queues = c.enter.new.self; notes = c.note.new.self }) c.args.dealt.now c.shortest-queue.result c.args.cost c.enter.ensures.slots (c.enter.ensures.enters c.self.invariant.view c.args.dealt.now c.self.invariant.kept.of_life (comes (opened c.legal_histories_are_in_order.ensures) c.self.invariant.view (record { desk = c.self.inside.desk; queues = c.self.inside.ledger; notes = c.self.inside.notes }) c.self.invariant.kept c.number-request.result (ap (λ (i : ℕ). service c.self.inside.desk.desk i) c.number-request.ensures.number ∙ c.hear-found.ensures.same.not_handed c.requires.is_new.not_handed) c.args.dealt.now c.shortest-queue.result (subst (λ (s : Shape). c.number-request.result < length s.widths) (sym (ap (λ (b : LifeBookView). b.desk.desk.knows.shape) c.self.view_is ∙ (ap (λ (x : GateId). x.shape) c.requires.own.own ∙ sym (ap (λ (x : GateId). x.shape) c.requires.own.own_pass)))) c.number-request.ensures.inside) c.shortest-queue.ensures.is_queue (c.shortest-queue.ensures.shortest c.self.invariant.view c.self.invariant.kept.of_life)))
-      (c.note.ensures.notes c.self.invariant.view.history c.self.invariant.kept.notes) c.in-Entered.ensures.moves c.in-Entered.ensures.says c.in-Entered.ensures.held;
-}
+pub try_arrive-requires-clause-asked : goal.try_arrive-requires-clause-asked
+try_arrive-requires-clause-asked g c = asked_again c.args.self.now c.args.pass.now c.loop.self c.loop.pass c.args.dealt.now c.args.cost c.loop.invariant.far c.requires.asked
 
-pub invariant_of-self-in-Full : goal.invariant_of-self-in-Full
-invariant_of-self-in-Full g c = record {
-  view = _;
-  kept = life_full (opened c.legal_histories_are_in_order.ensures) c.self.invariant.view (record { desk = c.self.inside.desk; queues = c.self.inside.ledger; notes = c.self.inside.notes }) c.self.invariant.kept c.number-request.result (ap (λ (i : ℕ). service c.self.inside.desk.desk i) c.number-request.ensures.number ∙ c.hear-found.ensures.same.not_handed c.requires.is_new.not_handed) c.hear-found.new.desk c.hear-found.ensures.after.served c.hear-found.ensures.same.more (hears_quiet c.args.pass.now.pass c.hear-found.new.pass.pass c.self.inside.desk.desk c.hear-found.new.desk.desk c.hear-found.result c.hear-found.ensures.answer) c.hear-found.new.pass.pass.number (c.hear-found.ensures.same.number ∙ sym c.number-request.ensures.number)
-      (record { desk = c.hand.new.desk; queues = c.self.inside.ledger; notes = c.note-in-Full.new.self }) c.args.dealt.now c.shortest-queue.result c.args.cost refl (c.refuse.ensures c.self.invariant.view c.args.dealt.now c.args.cost c.self.invariant.kept.of_life (comes (opened c.legal_histories_are_in_order.ensures) c.self.invariant.view (record { desk = c.self.inside.desk; queues = c.self.inside.ledger; notes = c.self.inside.notes }) c.self.invariant.kept c.number-request.result (ap (λ (i : ℕ). service c.self.inside.desk.desk i) c.number-request.ensures.number ∙ c.hear-found.ensures.same.not_handed c.requires.is_new.not_handed) c.args.dealt.now c.shortest-queue.result (subst (λ (s : Shape). c.number-request.result < length s.widths) (sym (ap (λ (b : LifeBookView). b.desk.desk.knows.shape) c.self.view_is ∙ (ap (λ (x : GateId). x.shape) c.requires.own.own ∙ sym (ap (λ (x : GateId). x.shape) c.requires.own.own_pass)))) c.number-request.ensures.inside) c.shortest-queue.ensures.is_queue (c.shortest-queue.ensures.shortest c.self.invariant.view c.self.invariant.kept.of_life)) c.requires.ask.low)
-      (c.note-in-Full.ensures.notes c.self.invariant.view.history c.self.invariant.kept.notes) c.in-Full.ensures.moves c.in-Full.ensures.says c.in-Full.ensures.held;
-}
-
-pub invariant_of-self-in-Closed : goal.invariant_of-self-in-Closed
-invariant_of-self-in-Closed g c = record { view = c.self.invariant.view; kept = life_refused (opened c.legal_histories_are_in_order.ensures) c.self.invariant.view (record { desk = c.self.inside.desk; queues = c.self.inside.ledger; notes = c.self.inside.notes }) c.self.invariant.kept c.number-request.result (ap (λ (i : ℕ). service c.self.inside.desk.desk i) c.number-request.ensures.number ∙ c.hear-found.ensures.same.not_handed c.requires.is_new.not_handed) c.hear-found.new.desk c.hear-found.ensures.after.served c.hear-found.ensures.same.more (hears_quiet c.args.pass.now.pass c.hear-found.new.pass.pass c.self.inside.desk.desk c.hear-found.new.desk.desk c.hear-found.result c.hear-found.ensures.answer) c.hear-found.new.pass.pass.number (c.hear-found.ensures.same.number ∙ sym c.number-request.ensures.number) c.hand.new.desk c.in-Closed.ensures.moves c.in-Closed.ensures.says c.in-Closed.ensures.held }
-
-pub invariant_of-self-in-Cancelled : goal.invariant_of-self-in-Cancelled
-invariant_of-self-in-Cancelled g c = record { view = c.self.invariant.view; kept = life_refused (opened c.legal_histories_are_in_order.ensures) c.self.invariant.view (record { desk = c.self.inside.desk; queues = c.self.inside.ledger; notes = c.self.inside.notes }) c.self.invariant.kept c.number-request.result (ap (λ (i : ℕ). service c.self.inside.desk.desk i) c.number-request.ensures.number ∙ c.hear-found.ensures.same.not_handed c.requires.is_new.not_handed) c.hear-found.new.desk c.hear-found.ensures.after.served c.hear-found.ensures.same.more (hears_quiet c.args.pass.now.pass c.hear-found.new.pass.pass c.self.inside.desk.desk c.hear-found.new.desk.desk c.hear-found.result c.hear-found.ensures.answer) c.hear-found.new.pass.pass.number (c.hear-found.ensures.same.number ∙ sym c.number-request.ensures.number) c.hand.new.desk c.in-Cancelled.ensures.moves c.in-Cancelled.ensures.says c.in-Cancelled.ensures.held }
-
-pub returns-then-eq-clause-answer : goal.returns-then-eq-clause-answer
-returns-then-eq-clause-answer g c = record {
-  history = λ v is. life_quiet v (record { desk = c.self.inside.desk; queues = c.self.inside.ledger; notes = c.self.inside.notes }) c.hear-found.new.desk (subst (λ (b : LifeBookView). IsLifeKept v b) (sym c.self.view_is) is) c.hear-found.ensures.after.served c.hear-found.ensures.same.more (hears_quiet c.args.pass.now.pass c.hear-found.new.pass.pass c.self.inside.desk.desk c.hear-found.new.desk.desk c.hear-found.result c.hear-found.ensures.answer);
-  is_new = λ v is. subst (λ (i : ℕ). has_arrived v.history i ≡ false) c.number-request.ensures.number (is_new (opened c.legal_histories_are_in_order.ensures) v (record { desk = c.self.inside.desk; queues = c.self.inside.ledger; notes = c.self.inside.notes }) (subst (λ (b : LifeBookView). IsLifeKept v b) (sym c.self.view_is) is) c.number-request.result (ap (λ (i : ℕ). service c.self.inside.desk.desk i) c.number-request.ensures.number ∙ c.hear-found.ensures.same.not_handed c.requires.is_new.not_handed));
-  told = search rules;
-  first = λ e. cc;
-}
-
-pub returns-in-Entered-clause-answer : goal.returns-in-Entered-clause-answer
-returns-in-Entered-clause-answer g c = record {
-  history = λ v is. let kept = (subst (λ (b : LifeBookView). IsLifeKept v b) (sym c.self.view_is) is) in
-      subst (λ (i : ℕ). IsLifeKept (arrived_in v i c.args.dealt.now c.args.cost (arrived.Queued c.shortest-queue.result)) (record { desk = c.hand.new.desk; queues = c.enter.new.self; notes = c.note.new.self })) c.number-request.ensures.number (life_entered (opened c.legal_histories_are_in_order.ensures) v (record { desk = c.self.inside.desk; queues = c.self.inside.ledger; notes = c.self.inside.notes }) kept c.number-request.result (ap (λ (i : ℕ). service c.self.inside.desk.desk i) c.number-request.ensures.number ∙ c.hear-found.ensures.same.not_handed c.requires.is_new.not_handed) c.hear-found.new.desk c.hear-found.ensures.after.served c.hear-found.ensures.same.more (hears_quiet c.args.pass.now.pass c.hear-found.new.pass.pass c.self.inside.desk.desk c.hear-found.new.desk.desk c.hear-found.result c.hear-found.ensures.answer) c.hear-found.new.pass.pass.number (c.hear-found.ensures.same.number ∙ sym c.number-request.ensures.number)
-      (record { desk = c.hand.new.desk; queues = c.enter.new.self; notes = c.note.new.self }) c.args.dealt.now c.shortest-queue.result c.args.cost c.enter.ensures.slots (c.enter.ensures.enters v c.args.dealt.now kept.of_life (comes (opened c.legal_histories_are_in_order.ensures) v (record { desk = c.self.inside.desk; queues = c.self.inside.ledger; notes = c.self.inside.notes }) kept c.number-request.result (ap (λ (i : ℕ). service c.self.inside.desk.desk i) c.number-request.ensures.number ∙ c.hear-found.ensures.same.not_handed c.requires.is_new.not_handed) c.args.dealt.now c.shortest-queue.result (subst (λ (s : Shape). c.number-request.result < length s.widths) (sym (ap (λ (b : LifeBookView). b.desk.desk.knows.shape) c.self.view_is ∙ (ap (λ (x : GateId). x.shape) c.requires.own.own ∙ sym (ap (λ (x : GateId). x.shape) c.requires.own.own_pass)))) c.number-request.ensures.inside) c.shortest-queue.ensures.is_queue (c.shortest-queue.ensures.shortest v kept.of_life)))
-      (c.note.ensures.notes v.history kept.notes) c.in-Entered.ensures.moves c.in-Entered.ensures.says c.in-Entered.ensures.held);
-  is_new = λ v is. subst (λ (i : ℕ). has_arrived v.history i ≡ false) c.number-request.ensures.number (is_new (opened c.legal_histories_are_in_order.ensures) v (record { desk = c.self.inside.desk; queues = c.self.inside.ledger; notes = c.self.inside.notes }) (subst (λ (b : LifeBookView). IsLifeKept v b) (sym c.self.view_is) is) c.number-request.result (ap (λ (i : ℕ). service c.self.inside.desk.desk i) c.number-request.ensures.number ∙ c.hear-found.ensures.same.not_handed c.requires.is_new.not_handed));
-  told = search rules;
-  first = λ e. cc;
-}
-
-pub returns-in-Full-clause-answer : goal.returns-in-Full-clause-answer
-returns-in-Full-clause-answer g c = record {
-  history = λ v is. let kept = (subst (λ (b : LifeBookView). IsLifeKept v b) (sym c.self.view_is) is) in
-      subst (λ (i : ℕ). IsLifeKept (arrived_in v i c.args.dealt.now c.args.cost (arrived.Full c.shortest-queue.result)) (record { desk = c.hand.new.desk; queues = c.self.inside.ledger; notes = c.note-in-Full.new.self })) c.number-request.ensures.number (life_full (opened c.legal_histories_are_in_order.ensures) v (record { desk = c.self.inside.desk; queues = c.self.inside.ledger; notes = c.self.inside.notes }) kept c.number-request.result (ap (λ (i : ℕ). service c.self.inside.desk.desk i) c.number-request.ensures.number ∙ c.hear-found.ensures.same.not_handed c.requires.is_new.not_handed) c.hear-found.new.desk c.hear-found.ensures.after.served c.hear-found.ensures.same.more (hears_quiet c.args.pass.now.pass c.hear-found.new.pass.pass c.self.inside.desk.desk c.hear-found.new.desk.desk c.hear-found.result c.hear-found.ensures.answer) c.hear-found.new.pass.pass.number (c.hear-found.ensures.same.number ∙ sym c.number-request.ensures.number)
-      (record { desk = c.hand.new.desk; queues = c.self.inside.ledger; notes = c.note-in-Full.new.self }) c.args.dealt.now c.shortest-queue.result c.args.cost refl (c.refuse.ensures v c.args.dealt.now c.args.cost kept.of_life (comes (opened c.legal_histories_are_in_order.ensures) v (record { desk = c.self.inside.desk; queues = c.self.inside.ledger; notes = c.self.inside.notes }) kept c.number-request.result (ap (λ (i : ℕ). service c.self.inside.desk.desk i) c.number-request.ensures.number ∙ c.hear-found.ensures.same.not_handed c.requires.is_new.not_handed) c.args.dealt.now c.shortest-queue.result (subst (λ (s : Shape). c.number-request.result < length s.widths) (sym (ap (λ (b : LifeBookView). b.desk.desk.knows.shape) c.self.view_is ∙ (ap (λ (x : GateId). x.shape) c.requires.own.own ∙ sym (ap (λ (x : GateId). x.shape) c.requires.own.own_pass)))) c.number-request.ensures.inside) c.shortest-queue.ensures.is_queue (c.shortest-queue.ensures.shortest v kept.of_life)) c.requires.ask.low)
-      (c.note-in-Full.ensures.notes v.history kept.notes) c.in-Full.ensures.moves c.in-Full.ensures.says c.in-Full.ensures.held);
-  is_new = λ v is. subst (λ (i : ℕ). has_arrived v.history i ≡ false) c.number-request.ensures.number (is_new (opened c.legal_histories_are_in_order.ensures) v (record { desk = c.self.inside.desk; queues = c.self.inside.ledger; notes = c.self.inside.notes }) (subst (λ (b : LifeBookView). IsLifeKept v b) (sym c.self.view_is) is) c.number-request.result (ap (λ (i : ℕ). service c.self.inside.desk.desk i) c.number-request.ensures.number ∙ c.hear-found.ensures.same.not_handed c.requires.is_new.not_handed));
-  told = subst (λ (b : LifeBookView). BothTold QueueFull c.hand.new.pass.pass b.desk.desk.knows c.hand.new.desk.desk.knows) c.self.view_is
-      (told_then c.self.inside.desk.desk.knows c.hear-found.new.desk.desk.knows c.hand.new.desk.desk.knows c.hand.new.pass.pass.number QueueFull c.hear-found.ensures.same.more c.in-Full.ensures.told.0, c.in-Full.ensures.told.1);
-  first = λ e. cc;
-}
-
-pub returns-in-Closed-clause-answer : goal.returns-in-Closed-clause-answer
-returns-in-Closed-clause-answer g c = record {
-  history = λ v is. life_refused (opened c.legal_histories_are_in_order.ensures) v (record { desk = c.self.inside.desk; queues = c.self.inside.ledger; notes = c.self.inside.notes }) (subst (λ (b : LifeBookView). IsLifeKept v b) (sym c.self.view_is) is) c.number-request.result (ap (λ (i : ℕ). service c.self.inside.desk.desk i) c.number-request.ensures.number ∙ c.hear-found.ensures.same.not_handed c.requires.is_new.not_handed) c.hear-found.new.desk c.hear-found.ensures.after.served c.hear-found.ensures.same.more (hears_quiet c.args.pass.now.pass c.hear-found.new.pass.pass c.self.inside.desk.desk c.hear-found.new.desk.desk c.hear-found.result c.hear-found.ensures.answer) c.hear-found.new.pass.pass.number (c.hear-found.ensures.same.number ∙ sym c.number-request.ensures.number) c.hand.new.desk c.in-Closed.ensures.moves c.in-Closed.ensures.says c.in-Closed.ensures.held;
-  is_new = λ v is. subst (λ (i : ℕ). has_arrived v.history i ≡ false) c.number-request.ensures.number (is_new (opened c.legal_histories_are_in_order.ensures) v (record { desk = c.self.inside.desk; queues = c.self.inside.ledger; notes = c.self.inside.notes }) (subst (λ (b : LifeBookView). IsLifeKept v b) (sym c.self.view_is) is) c.number-request.result (ap (λ (i : ℕ). service c.self.inside.desk.desk i) c.number-request.ensures.number ∙ c.hear-found.ensures.same.not_handed c.requires.is_new.not_handed));
-  told = subst (λ (b : LifeBookView). BothTold Closed c.hand.new.pass.pass b.desk.desk.knows c.hand.new.desk.desk.knows) c.self.view_is
-      (told_then c.self.inside.desk.desk.knows c.hear-found.new.desk.desk.knows c.hand.new.desk.desk.knows c.hand.new.pass.pass.number Closed c.hear-found.ensures.same.more c.in-Closed.ensures.told.0, c.in-Closed.ensures.told.1);
-  first = λ e. cc;
-}
-
-pub returns-in-Cancelled-clause-answer : goal.returns-in-Cancelled-clause-answer
-returns-in-Cancelled-clause-answer g c = record {
-  history = λ v is. life_refused (opened c.legal_histories_are_in_order.ensures) v (record { desk = c.self.inside.desk; queues = c.self.inside.ledger; notes = c.self.inside.notes }) (subst (λ (b : LifeBookView). IsLifeKept v b) (sym c.self.view_is) is) c.number-request.result (ap (λ (i : ℕ). service c.self.inside.desk.desk i) c.number-request.ensures.number ∙ c.hear-found.ensures.same.not_handed c.requires.is_new.not_handed) c.hear-found.new.desk c.hear-found.ensures.after.served c.hear-found.ensures.same.more (hears_quiet c.args.pass.now.pass c.hear-found.new.pass.pass c.self.inside.desk.desk c.hear-found.new.desk.desk c.hear-found.result c.hear-found.ensures.answer) c.hear-found.new.pass.pass.number (c.hear-found.ensures.same.number ∙ sym c.number-request.ensures.number) c.hand.new.desk c.in-Cancelled.ensures.moves c.in-Cancelled.ensures.says c.in-Cancelled.ensures.held;
-  is_new = λ v is. subst (λ (i : ℕ). has_arrived v.history i ≡ false) c.number-request.ensures.number (is_new (opened c.legal_histories_are_in_order.ensures) v (record { desk = c.self.inside.desk; queues = c.self.inside.ledger; notes = c.self.inside.notes }) (subst (λ (b : LifeBookView). IsLifeKept v b) (sym c.self.view_is) is) c.number-request.result (ap (λ (i : ℕ). service c.self.inside.desk.desk i) c.number-request.ensures.number ∙ c.hear-found.ensures.same.not_handed c.requires.is_new.not_handed));
-  told = subst (λ (b : LifeBookView). BothTold Cancelled c.hand.new.pass.pass b.desk.desk.knows c.hand.new.desk.desk.knows) c.self.view_is
-      (told_then c.self.inside.desk.desk.knows c.hear-found.new.desk.desk.knows c.hand.new.desk.desk.knows c.hand.new.pass.pass.number Cancelled c.hear-found.ensures.same.more c.in-Cancelled.ensures.told.0, c.in-Cancelled.ensures.told.1);
-  first = λ e. cc;
-}
-
-pub returns-in-Entered-clause-same : goal.returns-in-Entered-clause-same
-returns-in-Entered-clause-same g c = record {
-  gate = search rules;
-  more = subst (λ (b : LifeBookView). KnowsMore b.desk.desk.knows c.hand.new.desk.desk.knows) c.self.view_is
-      (more_then c.self.inside.desk.desk.knows c.hear-found.new.desk.desk.knows c.hand.new.desk.desk.knows c.hear-found.ensures.same.more c.in-Entered.ensures.moves.more);
-  queues = (c.enter.ensures.enters c.self.invariant.view c.args.dealt.now c.self.invariant.kept.of_life (comes (opened c.legal_histories_are_in_order.ensures) c.self.invariant.view (record { desk = c.self.inside.desk; queues = c.self.inside.ledger; notes = c.self.inside.notes }) c.self.invariant.kept c.number-request.result (ap (λ (i : ℕ). service c.self.inside.desk.desk i) c.number-request.ensures.number ∙ c.hear-found.ensures.same.not_handed c.requires.is_new.not_handed) c.args.dealt.now c.shortest-queue.result (subst (λ (s : Shape). c.number-request.result < length s.widths) (sym (ap (λ (b : LifeBookView). b.desk.desk.knows.shape) c.self.view_is ∙ (ap (λ (x : GateId). x.shape) c.requires.own.own ∙ sym (ap (λ (x : GateId). x.shape) c.requires.own.own_pass)))) c.number-request.ensures.inside) c.shortest-queue.ensures.is_queue (c.shortest-queue.ensures.shortest c.self.invariant.view c.self.invariant.kept.of_life))).deck ∙ (sym c.self.invariant.kept.of_life.deck ∙ ap (λ (b : LifeBookView). queue_count b.queues.queues) c.self.view_is);
-  room = search rules;
-}
-
-pub returns-in-Full-clause-same : goal.returns-in-Full-clause-same
-returns-in-Full-clause-same g c = record {
-  gate = search rules;
-  more = subst (λ (b : LifeBookView). KnowsMore b.desk.desk.knows c.hand.new.desk.desk.knows) c.self.view_is
-      (more_then c.self.inside.desk.desk.knows c.hear-found.new.desk.desk.knows c.hand.new.desk.desk.knows c.hear-found.ensures.same.more c.in-Full.ensures.moves.more);
-  queues = search rules;
-  room = search rules;
-}
-
-pub returns-in-Closed-clause-same : goal.returns-in-Closed-clause-same
-returns-in-Closed-clause-same g c = record {
-  gate = search rules;
-  more = subst (λ (b : LifeBookView). KnowsMore b.desk.desk.knows c.hand.new.desk.desk.knows) c.self.view_is
-      (more_then c.self.inside.desk.desk.knows c.hear-found.new.desk.desk.knows c.hand.new.desk.desk.knows c.hear-found.ensures.same.more c.in-Closed.ensures.moves.more);
-  queues = search rules;
-  room = search rules;
-}
-
-pub returns-in-Cancelled-clause-same : goal.returns-in-Cancelled-clause-same
-returns-in-Cancelled-clause-same g c = record {
-  gate = search rules;
-  more = subst (λ (b : LifeBookView). KnowsMore b.desk.desk.knows c.hand.new.desk.desk.knows) c.self.view_is
-      (more_then c.self.inside.desk.desk.knows c.hear-found.new.desk.desk.knows c.hand.new.desk.desk.knows c.hear-found.ensures.same.more c.in-Cancelled.ensures.moves.more);
-  queues = search rules;
-  room = search rules;
-}
-
-pub returns-in-Entered-clause-after : goal.returns-in-Entered-clause-after
-returns-in-Entered-clause-after g c = record {
-  in_line = search rules;
-  entered = ((λ _. tt), (λ _. c.in-Entered.ensures.entered));
-  stays_closed = search rules;
-  cancelled_first = search rules;
-  cancelled_seen = λ cancelled _.
-      let heard = heard_own (record { pass = c.args.pass.now.pass; desk = c.self.inside.desk.desk }) (record { pass = c.hear-found.new.pass.pass; desk = c.hear-found.new.desk.desk }) c.hear-found.result c.hear-found.ensures.answer in
-      let seen : c.hear-found.result ≡ Some Cancelled = sym heard ∙ (sym (c.in-Entered.ensures.told_entering refl) ∙ cancelled) in
-      let other : c.hear-found.result ≢ Some Cancelled = (search rules) in
-      absurd (other seen);
-}
-
-pub returns-in-Full-clause-after : goal.returns-in-Full-clause-after
-returns-in-Full-clause-after g c = record {
-  in_line = search rules;
-  entered = ((λ yes. let bad : true ≡ false = sym yes ∙ c.in-Full.ensures.entered in cc), (λ no. absurd no));
-  stays_closed = search rules;
-  cancelled_first = search rules;
-  cancelled_seen = λ cancelled _. absurd (let bad = sym c.in-Full.ensures.told.1 ∙ cancelled in cc);
-}
+pub returns-in-Some-try_arrive : goal.returns-in-Some-try_arrive
+returns-in-Some-try_arrive g c =
+    let far = c.loop.invariant.far in
+    let e = c.in-Some-try_arrive.ensures in
+    record {
+      same = same_book_then c.args.self.now c.loop.self c.try_arrive.new.self far.same e.same;
+      same_request = record { pass = e.same_request.pass ∙ far.request.pass; number = e.same_request.number ∙ far.request.number };
+      answer = answers_then c.args.self.now c.args.pass.now c.loop.self c.loop.pass c.args.dealt.now c.args.cost c.in-Some-try_arrive.arrived c.try_arrive.new.self c.try_arrive.new.pass far e.answer;
+      after = after_then c.args.self.now c.args.pass.now c.loop.self c.loop.pass c.in-Some-try_arrive.arrived c.try_arrive.new.pass far e.after;
+      heard = heard_all_then c.args.self.now c.args.pass.now c.loop.self c.loop.pass c.try_arrive.new.self far e.heard;
+    }

@@ -72,6 +72,7 @@ returns-clause-same g c = record {
       (more_then c.self.inside.desk.desk.knows c.seen.new.desk.desk.knows c.leave.new.desk.desk.knows c.seen.ensures.same.more c.leave.ensures.same.more);
   queues = (c.in-Some.ensures.some c.self.invariant.view c.self.invariant.kept.of_life).deck ∙ (sym c.self.invariant.kept.of_life.deck ∙ ap (λ (b : LifeBookView). queue_count b.queues.queues) c.self.view_is);
   room = search rules;
+  hand = search rules;
 }
 
 pub returns-clause-answer : goal.returns-clause-answer

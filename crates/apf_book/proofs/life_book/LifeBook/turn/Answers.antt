@@ -1,17 +1,15 @@
 -- One turn: the chosen head, what was tried with it, and what every history has of that.
-use Rattle.std.proofs.Common.{rules, ◌≡◌, ℕ, ◌<◌, length, refl, sym, ap, ◌∙◌, subst, arith}
-use Rattle.std.specs.Prelude.{slice_index}
+use Rattle.std.proofs.Common.{ℕ, refl, sym, ap, ◌∙◌, subst, arith}
 use Rattle.apf_gate.specs.declared.record.Shape.{Shape}
-use Rattle.apf_gate.specs.Slots.{slot_of, IsTicket}
+use Rattle.apf_gate.specs.Slots.{IsTicket}
 use Rattle.apf_gate.specs.Tokens.{GateId}
 use Rattle.apf_book.specs.Moves.{LastFound}
-use Rattle.apf_book.specs.Life.{LifeView, IsLifeOf, then_came}
+use Rattle.apf_book.specs.Life.{IsLifeOf, then_came}
 use Rattle.apf_history.specs.declared.events.Event.TheVariants.{Dispatch, Strike}
-use Rattle.apf_gate.specs.Records.{service}
-use Rattle.apf_gate.specs.declared.record.Service.TheVariants.{Waiting}
+use Rattle.apf_gate.specs.Records.{KnowsMore}
 use Rattle.std.specs.Prelude.{Contains}
 use Rattle.apf_model.specs.History.{waiting}
-use Rattle.apf_book.specs.LifeBook.{LifeBookView, IsLifeKept, IsLived, NextMisses}
+use Rattle.apf_book.specs.LifeBook.{LifeBookView, IsLifeKept}
 use Rattle.apf_book.proofs.Opened.{opened}
 use Rattle.apf_book.proofs.LifeKeeping.{life_waits, holder_waits, holder_ticket, life_head}
 use Rattle.apf_book.proofs.LifeTurning.{chosen_stands, next_is_first, life_dispatched, life_struck}
@@ -103,3 +101,13 @@ pub returns-in-Raced-clause-turns : goal.returns-in-Raced-clause-turns
 returns-in-Raced-clause-turns g c v is =
     let kept = (subst (λ (b : LifeBookView). IsLifeKept v b) (sym c.self.view_is) is) in
     life_head (opened c.legal_histories_are_in_order.ensures) v _ kept c.serve.new.desk c.in-Some.chosen.queue c.holder-request.result (subst (λ (i : ℕ). Contains (waiting v.history c.in-Some.chosen.queue) i) (sym c.holder-request.ensures) (holder_waits (opened c.legal_histories_are_in_order.ensures) v _ kept c.in-Some.chosen.queue c.in-Some.chosen.request (chosen_stands c.self.inside.ledger c.in-Some.chosen c.in-Some.ensures.chosen))) c.in-Raced.ensures.moves c.in-Raced.ensures.says c.in-Raced.ensures.holds_none
+
+pub returns-in-Raced-clause-raced : goal.returns-in-Raced-clause-raced
+returns-in-Raced-clause-raced g c _ =
+    let lost = c.in-Raced.ensures.raced refl in
+    record {
+      request = c.holder-request.result;
+      before = lost.0;
+      more = subst (λ (b : LifeBookView). KnowsMore b.desk.desk.knows lost.0.knows) c.self.view_is lost.1;
+      raced = lost.2;
+    }

@@ -1,10 +1,9 @@
 -- Who is withdrawn waits no more, and its Pass heard that it left.
-use Rattle.std.proofs.Common.{rules, ◌≡◌, ◌≢◌, ℕ, Option, Some, None, true, sym, ap, ◌∙◌, subst}
+use Rattle.std.proofs.Common.{◌≡◌, ◌≢◌, ℕ, Option, Some, None, true, sym, ap, ◌∙◌, subst}
 use Rattle.apf_words.specs.declared.decision.Decision.{Decision}
 use Rattle.apf_words.specs.declared.decision.Decision.TheVariants.{Cancelled}
 use Rattle.apf_gate.specs.Records.{told_own, told_of, service}
 use Rattle.apf_gate.specs.Requests.{has_entered}
-use Rattle.apf_gate.specs.DeskSteps.{DeskMayFind}
 use Rattle.apf_gate.specs.Steps.{Both}
 use Rattle.apf_book.specs.LifeBook.{StrikesLife}
 use Rattle.apf_book.proofs.Opened.{opened}

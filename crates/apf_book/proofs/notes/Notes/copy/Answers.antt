@@ -1,8 +1,7 @@
 -- What was copied.
-use Rattle.std.proofs.Common.{◌≡◌, ◌+◌, ◌-◌, ◌%◌, ◌≤◌, ℕ, length, take, drop, min, sym, ap, ◌∙◌, refl, subst, arith}
+use Rattle.std.proofs.Common.{◌≡◌, ◌+◌, ◌-◌, ◌%◌, ℕ, length, take, drop, sym, ap, ◌∙◌, refl, subst, arith}
 use Rattle.std.proofs.lemmas.List.{length-take}
-use Rattle.apf_book.specs.declared.life_event.LifeEvent.{LifeEvent}
-use Rattle.apf_book.specs.Notes.{NotesView, AreNotesOf, CopiesLate}
+use Rattle.apf_book.specs.Notes.{NotesView, AreNotesOf}
 use Rattle.apf_book.proofs.Noting.{kept_count, copies_late}
 use Rattle.apf_book.proofs.notes.Notes.copy.Goals as goal
 

@@ -15,5 +15,6 @@ pub returns-clause-same : goal.returns-clause-same
 returns-clause-same g c =
     let more = closing_more c.station.inside.seat.me c.fetch_or-found.new.seat.me _ c.fetch_or-found.ensures.2 in record {
       gate = search rules;
+      number = search rules;
       more = subst (λ (s : StationToken). KnowsMore s.station.knows (station_of c.fetch_or-found.new.seat.me.0).knows) c.station.view_is more;
     }

@@ -4,6 +4,7 @@ use Rattle.apf_gate.specs.Slots.{slot_of}
 use Rattle.apf_gate.specs.PassSteps.{MayRenew, IsNextRequest}
 use Rattle.apf_gate.specs.Rule.{pass_of}
 use Rattle.apf_gate.specs.Tokens.{GateId, PassToken}
+use Rattle.apf_gate.proofs.Asks.{renewed_asks}
 use Rattle.apf_gate.proofs.Renewing.{pass_renews}
 use Rattle.apf_gate.proofs.gate.Gate.swap_for_next.Goals as goal
 
@@ -16,4 +17,7 @@ swap-requires g c =
     let shape = ap (λ (t : PassToken). t.pass.knows.shape) c.pass.view_is ∙ (ap (λ (x : GateId). x.shape) c.requires.own ∙ sym (ap (λ (x : GateId). x.shape) c.self.view_is)) in
     let in_slot = subst (λ (x : Shape). slot_of (pass_of c.pass.inside.seat.me.0).number < x.slots) shape m.in_slot in
     let inside = subst (λ (x : GateId). c.args.next < length x.shape.widths) (sym c.self.view_is) c.requires.inside in
-    (search rules, omega (arith, i.has_words, in_slot, is_next.same_slot, c.word_of-word.ensures), rw (i.same_key, m.alone, c.word_of-word.ensures, c.undecided-new.ensures, c.mark-own.ensures.value, sym c.requires.chosen) (pass_renews _ _ _ _ c.args.next may is_next inside))
+    (search rules, omega (arith, i.has_words, in_slot, is_next.same_slot, c.word_of-word.ensures), rw (i.same_key, m.alone, c.word_of-word.ensures, c.undecided-new.ensures, c.mark-own.ensures.value, sym c.requires.chosen) (pass_renews _ _ _ _ c.args.next _ may is_next inside))
+
+pub returns-clause-asks : goal.returns-clause-asks
+returns-clause-asks g c = renewed_asks c.args.next g.J.Asking.ask c.args.pass.now.pass c.decision_in-found.result (pass_of c.swap.new.seat.me.0) (search rules)

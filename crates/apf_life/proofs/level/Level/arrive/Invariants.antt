@@ -1,7 +1,8 @@
 -- The request is the same and did not enter. Whoever is not decided is fresh.
 use Rattle.std.proofs.Common.{◌≡◌, false}
+use Rattle.apf_gate.specs.Records.{KnowsMore}
 use Rattle.apf_life.specs.Attempts.{IsKeptBy, IsAttemptedTold, StaysOut}
-use Rattle.apf_life.specs.Tokens.{IsOf}
+use Rattle.apf_line.specs.Tokens.{IsOf}
 use Rattle.apf_life.proofs.level.Level.arrive.Given as goal
 
 abbrev pub invariant-loop : goal.invariant-loop
@@ -11,6 +12,7 @@ invariant-loop g l =
       ends : (goal.iterator-loop g).is_finite l.iterator';
       kept : IsKeptBy l.tried l.pass;
       same : IsOf l.fn.pass l.pass;
+      more : KnowsMore l.fn.pass.pass.knows l.pass.pass.knows;
       told : IsAttemptedTold l.tried l.pass;
       outside : StaysOut l.fn.pass.pass l.tried l.pass;
       never_entered : l.fn.pass.pass.entered ≡ false;

@@ -1,5 +1,5 @@
 use Rattle.std.proofs.Common.{◌≤◌}
-use Rattle.apf_life.specs.Tokens.{IsOf, IsInLine}
+use Rattle.apf_line.specs.Tokens.{IsOf, IsInLine}
 use Rattle.apf_life.proofs.level.Level.arrive_and_wait.Given as goal
 
 abbrev pub invariant-loop : goal.invariant-loop

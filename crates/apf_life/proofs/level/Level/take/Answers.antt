@@ -3,7 +3,8 @@ use Rattle.apf_model.specs.declared.response.Response.{Response}
 use Rattle.apf_model.specs.declared.response.Response.TheVariants.{Queue, Reject}
 use Rattle.apf_gate.specs.declared.record.Shape.{Shape}
 use Rattle.apf_gate.specs.Tokens.{GateId}
-use Rattle.apf_life.specs.Levels.{LifeId}
+use Rattle.apf_line.specs.Levels.{LifeId}
+use Rattle.apf_life.proofs.Knowing.{more_then}
 use Rattle.apf_life.proofs.level.Level.take.Goals as goal
 
 pub returns-else-eq-clause-steps : goal.returns-else-eq-clause-steps
@@ -77,3 +78,15 @@ returns-in-Alone-clause-steps g c = λ pass same reads. inr (inr (inl (
     decides = c.decide-decision-in-Alone.ensures.answer;
   },
 )))
+
+pub returns-then-eq-clause-more : goal.returns-then-eq-clause-more
+returns-then-eq-clause-more g c = more_then c.args.pass.now.pass.knows c.try_take.new.pass.pass.knows c.decide-decision.new.pass.pass.knows c.try_take.ensures.same.more c.decide-decision.ensures.same.more
+
+pub returns-in-Closed-clause-more : goal.returns-in-Closed-clause-more
+returns-in-Closed-clause-more g c = more_then c.args.pass.now.pass.knows c.try_take.new.pass.pass.knows c.decide-decision-in-Closed.new.pass.pass.knows c.try_take.ensures.same.more c.decide-decision-in-Closed.ensures.same.more
+
+pub returns-in-Alone-clause-more : goal.returns-in-Alone-clause-more
+returns-in-Alone-clause-more g c = more_then c.args.pass.now.pass.knows c.try_take.new.pass.pass.knows c.decide-decision-in-Alone.new.pass.pass.knows c.try_take.ensures.same.more c.decide-decision-in-Alone.ensures.same.more
+
+pub returns-else-eq-clause-more : goal.returns-else-eq-clause-more
+returns-else-eq-clause-more g c = more_then c.args.pass.now.pass.knows c.decide-decision.new.pass.pass.knows c.release-waiting.new.pass.pass.knows (more_then c.args.pass.now.pass.knows c.try_take.new.pass.pass.knows c.decide-decision.new.pass.pass.knows c.try_take.ensures.same.more c.decide-decision.ensures.same.more) c.release-waiting.ensures.same.more

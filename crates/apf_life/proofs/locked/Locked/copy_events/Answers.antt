@@ -1,6 +1,7 @@
-use Rattle.std.proofs.Common.{◌≡◌, ℕ, ◌-◌, refl, arith}
+use Rattle.std.proofs.Common.{◌≡◌, ℕ, ◌-◌, [], refl, arith}
 use Rattle.std.specs.Prelude.{max, min}
-use Rattle.apf_life.proofs.Histories.{nothing_yet, is_nothing_yet}
+use Rattle.apf_line.specs.Levels.{nothing_yet}
+use Rattle.apf_life.proofs.Histories.{opened}
 use Rattle.apf_life.proofs.locked.Locked.copy_events.Goals as goal
 
 most : (from less : ℕ) → from ≡ max from (0 - less)
@@ -12,6 +13,7 @@ least from room = omega arith
 pub returns-in-None-clause-of_level : goal.returns-in-None-clause-of_level
 returns-in-None-clause-of_level g c = record {
   view = nothing_yet g.K.Naming.level;
-  of_level = is_nothing_yet g.K.Naming.level;
+  trace = [];
+  of_level = (opened c.every_level_has_histories.ensures).nothing g.K.Naming.level [];
   copies = λ few. record { start = most _ _; count_is = least _ _; copied = refl; rest = refl; room = refl };
 }

@@ -13,7 +13,7 @@ returns-in-Run-clause-steps g c =
     let at : c.self.inside.place ≡ places.Free = search rules in
     let holds : tokens.Free c.self.inside.pass ≡ c.args.self.now = ap (λ (p : Place). token_at p c.self.inside.pass) (sym at) ∙ c.self.view_is in
     let renewed = c.if-not-renew_slot.ensures.renews refl in
-    subst (λ (t : Token). TriesAs c.args.ask.width t answers.Run (tokens.Running c.attempt.new.pass)) holds (λ _. record {
+    subst (λ (t : Token). TriesAs c.args.ask.width c.args.ask.hash t answers.Run (tokens.Running c.attempt.new.pass)) holds (λ _. record {
       next = c.renew_slot.new.pass;
       found = renewed.0;
       renews = renewed.1;

@@ -1,6 +1,6 @@
 -- A level whose slots are free has no numbers.
 use Rattle.std.proofs.Common.{◌≡◌, length, sym, ap, ◌∙◌, subst, rules, arith}
-use Rattle.apf_life.specs.Levels.{LifeId}
+use Rattle.apf_line.specs.Levels.{LifeId}
 use Rattle.apf_life_session.specs.Requests.{AreFree}
 use Rattle.apf_service.specs.declared.tally.Tally.{Tally}
 use Rattle.apf_service.specs.Tallies.{IsTallyOf}

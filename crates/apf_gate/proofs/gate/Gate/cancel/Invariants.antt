@@ -1,4 +1,0 @@
-use Rattle.apf_gate.proofs.gate.Gate.cancel.Given as goal
-
-abbrev pub ghosts-exchange_word : goal.ghosts-exchange_word
-ghosts-exchange_word g a = record { request = a.request }

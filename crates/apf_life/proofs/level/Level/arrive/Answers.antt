@@ -1,0 +1,28 @@
+-- A request that came to the lock asked for what it asked for when it was begun.
+use Rattle.std.proofs.Common.{rules}
+use Rattle.apf_flow.specs.Deal.{hand_of}
+use Rattle.apf_life.specs.InPlace.{begin_of}
+use Rattle.apf_life.proofs.Asks.{asked_more, logs_more}
+use Rattle.apf_life.proofs.Knowing.{more_then}
+use Rattle.apf_life.proofs.level.Level.arrive.Goals as goal
+
+pub enqueue-requires-clause-asked : goal.enqueue-requires-clause-asked
+enqueue-requires-clause-asked g c = λ κs outlive.
+    asked_more c.args.pass.now.pass.knows c.loop.pass.pass.knows c.args.pass.now.pass.number c.loop.pass.pass.number (record { hash = c.args.hash; cost = c.args.cost }) c.loop.invariant.more c.loop.invariant.same.number c.requires.asked
+
+pub returns-in-Queued-clause-logs : goal.returns-in-Queued-clause-logs
+returns-in-Queued-clause-logs g c =
+    let k = g.K.Naming.level in
+    logs_more k c.args.pass.now.pass.knows c.loop.pass.pass.knows c.args.pass.now.pass.number c.loop.pass.pass.number (hand_of k.sizes c.args.hash) c.args.cost (begin_of c.enqueue.result.0 c.enqueue.new.pass) c.enqueue.result.1 c.loop.invariant.more c.loop.invariant.same.number c.enqueue.ensures.logs
+
+pub loop-preserved : goal.loop-preserved
+loop-preserved g c = record {
+  next = search rules;
+  ends = search rules;
+  kept = search rules;
+  same = search rules;
+  more = more_then c.args.pass.now.pass.knows c.loop.pass.pass.knows c.take-tried.new.pass.pass.knows c.loop.invariant.more c.take-tried.ensures.more;
+  told = search rules;
+  outside = search rules;
+  never_entered = search rules;
+}

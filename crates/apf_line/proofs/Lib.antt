@@ -1,0 +1,6 @@
+pub mod Nobody
+pub mod Ended
+pub mod Stopped
+pub mod Histories
+pub mod Standing
+pub mod Lawful

@@ -1,0 +1,5 @@
+pub mod Levels
+pub mod Tokens
+pub mod Reports
+pub mod Stopped
+pub mod Laws

@@ -1,0 +1,96 @@
+//! What is true of every history of a level.
+
+ghost use Rattle.std.specs.Prelude.{◌≡◌, ◌+◌, ◌*◌, ◌<◌, ◌≤◌, ◌++◌, [], ◌∷◌, ℕ, List, length, slice_get, Contains, Some};
+ghost use Rattle.apf_history.specs.declared.events.Event.{Event};
+ghost use Rattle.apf_history.specs.declared.events.Event.TheVariants.{Enter};
+ghost use Rattle.apf_history.specs.Standing.{EachNames};
+ghost use Rattle.apf_history.specs.Waits.{total_width};
+ghost use Rattle.apf_model.specs.World.{width};
+ghost use Rattle.apf_model.specs.History.{waiting};
+ghost use Rattle.apf_model.specs.Fair.{IsNeverEmpty, service, widest};
+ghost use Rattle.apf_book.specs.Life.{LifeView};
+ghost use Rattle.apf_flow.specs.Deal.{hand_of};
+ghost use Rattle.apf_gate.specs.declared.record.Asked.{Asked};
+ghost use Rattle.apf_gate.specs.declared.record.Entry.{Entry};
+ghost use Rattle.apf_gate.specs.Traces.{asked_in};
+ghost use Rattle.apf_line.specs.Levels.{LifeId, IsHistoryOf};
+ghost use Rattle.apf_line.specs.Stopped.{NoRequestIsForgotten};
+ghost use Rattle.apf_line.specs.Laws.{LevelHistories};
+
+use apf_gate::no_dispatch_is_lost;
+use apf_history::{
+    every_fair_history_isolates, every_fair_history_stands, every_legal_history_is_in_order,
+    every_wait_is_bounded,
+};
+
+/// Every history of a level isolates its queues: in every stretch of it in which a queue is never empty, both ends
+/// included, no other queue is charged more than that one and twice the largest cost.
+///
+/// Costs are those of the requests that arrived. What the others would cost is anybody's choice, as of nothing: so the
+/// largest cost is that of those that arrived. It runs no code: the contract is the law.
+pub fn every_life_history_isolates()
+    ensures { (k : LifeId) (trace : List Entry) (v : LifeView) (costs : List ℕ) (later stretch earlier : List Event) (q other : ℕ)
+        → IsHistoryOf k trace v → EachNames (λ r. width costs r ≡ width v.costs r) v.history
+        → v.history ≡ later ++ (stretch ++ earlier) → q < v.queues → other < v.queues
+        → IsNeverEmpty (stretch ++ earlier) (length stretch) q
+        → service costs stretch other ≤ service costs stretch q + 2 * widest costs }
+{
+    every_fair_history_stands();
+    every_fair_history_isolates();
+}
+
+/// Every wait on a level is bounded. Let a request have entered a queue after the earlier events, and wait in it still
+/// after the stretch that followed. In that stretch its own queue was charged at most the costs of those that waited in
+/// it when the request entered. Each other queue was charged at most these and twice the largest cost.
+///
+/// Costs are those of the requests that arrived, as in `every_life_history_isolates`. It runs no code: the contract is
+/// the law.
+pub fn every_life_wait_is_bounded()
+    ensures own { (k : LifeId) (trace : List Entry) (v : LifeView) (costs : List ℕ) (later stretch earlier : List Event) (q r : ℕ)
+        → IsHistoryOf k trace v → EachNames (λ i. width costs i ≡ width v.costs i) v.history
+        → v.history ≡ later ++ (stretch ++ Enter r q ∷ earlier)
+        → Contains (waiting (stretch ++ Enter r q ∷ earlier) q) r
+        → service costs stretch q ≤ total_width costs (waiting earlier q) }
+    ensures others { (k : LifeId) (trace : List Entry) (v : LifeView) (costs : List ℕ) (later stretch earlier : List Event) (q r other : ℕ)
+        → IsHistoryOf k trace v → EachNames (λ i. width costs i ≡ width v.costs i) v.history
+        → v.history ≡ later ++ (stretch ++ Enter r q ∷ earlier)
+        → Contains (waiting (stretch ++ Enter r q ∷ earlier) q) r
+        → q < v.queues → other < v.queues
+        → service costs stretch other ≤ total_width costs (waiting earlier q) + 2 * widest costs }
+{
+    every_fair_history_stands();
+    every_wait_is_bounded();
+}
+
+/// No chosen request is forgotten: of every state of a gate whose Desk's book is at rest, as a level's is whenever its
+/// lock is free.
+///
+/// Nothing waits; or who is dispatched next does not fit the level word; or others gave seats back or set the limit
+/// since the Desk found that it does not fit, and each of them found requests waiting, and so owes a dispatch. It says
+/// nothing of a request behind the chosen one, which may fit and wait.
+///
+/// It runs no code: the contract is the law.
+pub fn no_life_request_is_forgotten()
+    ensures { NoRequestIsForgotten }
+{
+    every_legal_history_is_in_order();
+    no_dispatch_is_lost();
+}
+
+/// By what a trace says that a request asked for, a history in which it entered a queue at last says that the queue is
+/// of the hand of its flow: not any queue is.
+///
+/// It runs no code: the contract is the law.
+pub fn every_queue_was_dealt()
+    ensures { (k : LifeId) (trace : List Entry) (v : LifeView) (r q : ℕ) (older : List Event) (ask : Asked)
+        → asked_in trace r ≡ Some ask → IsHistoryOf k trace (record v { history = Enter r q ∷ older })
+        → (place : ℕ) × (slice_get (hand_of k.sizes ask.hash) place ≡ Some q) }
+{}
+
+/// What a level's book is of is a history of the level. A book in which nothing happened yet is at rest, and so is one
+/// that was served until nothing waited or the chosen head did not fit.
+///
+/// It runs no code: the contract is the law.
+pub fn every_level_has_histories()
+    ensures { LevelHistories }
+{}

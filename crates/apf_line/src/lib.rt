@@ -1,0 +1,18 @@
+//! What every level whose slots are used again has beside its gate: which histories are its own, what its tokens say, where
+//! its book stands while nobody is at it, and how it ends.
+//!
+//! - `report`: what the end of a level tells.
+//! - `ending`: how a level ends, of all its tokens.
+//! - `laws`: what is true of every history of a level.
+#![tactic(auto)]
+
+mod ending;
+mod laws;
+mod report;
+
+pub use ending::{close_book, close_desk, end_level};
+pub use laws::{
+    every_level_has_histories, every_life_history_isolates, every_life_wait_is_bounded,
+    every_queue_was_dealt, no_life_request_is_forgotten,
+};
+pub use report::{Closing, Newest, Report};

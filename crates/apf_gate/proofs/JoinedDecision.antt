@@ -10,6 +10,7 @@ use Rattle.apf_words.specs.declared.decision.Decision.{Decision}
 use Rattle.apf_words.specs.declared.decision.Decision.TheVariants.{Execute, QueueFull, Closed, Cancelled, ConcurrencyLimit}
 use Rattle.apf_model.specs.declared.moves.Move.{Move}
 use Rattle.apf_model.specs.declared.moves.Move.TheVariants.{Decide}
+use Rattle.apf_model.specs.declared.moves.Stage.TheVariants.{Stands}
 use Rattle.apf_model.specs.World.{World, put, MayDecide}
 use Rattle.apf_gate.specs.declared.record.Shape.{Shape}
 use Rattle.apf_gate.specs.declared.record.Actor.TheVariants.{OfPass, OfDesk}
@@ -33,7 +34,7 @@ use Rattle.apf_gate.specs.Slots.{slot_of, mark_of}
 use Rattle.apf_gate.proofs.WordNumbers.{some_same}
 use Rattle.apf_gate.proofs.Slots.{decision_same}
 use Rattle.apf_gate.proofs.Later.{next_load, next_move}
-use Rattle.apf_gate.proofs.Requests.{state_same, desk_may_find}
+use Rattle.apf_gate.proofs.Requests.{state_same, desk_may_find, stands}
 use Rattle.apf_gate.proofs.Views.{Table}
 use Rattle.apf_gate.proofs.Sound.{by_found, Exchanged, left, both_step}
 use Rattle.apf_gate.proofs.Packing.{packs_same, packs_decided}
@@ -221,5 +222,6 @@ module _ (s : Shape) where
             (decision_known s (OfPass r) OfDesk p.knows h.account.trace None k.known next r x (λ _. refl))
             (decision_known s OfDesk OfDesk d.knows h.account.trace None k.desk.known next r x (λ _. refl))
             k.desk.holds.held_is k.desk.holds.is_held refl refl,
-        (refl, (record { pass = q; desk = d' }, refl, (x, k.word, (u, decision_told s OfDesk d.knows h.account.trace None k.desk.known next r x x refl (λ _. refl), desk_may_find s r p a w k.request, agree s t h p d k None u next refl, k.known.told r, refl)))),
+        (refl, (record { pass = q; desk = d' }, refl, (x, k.word, (u, decision_told s OfDesk d.knows h.account.trace None k.desk.known next r x x refl (λ _. refl), desk_may_find s r p a w k.request, agree s t h p d k None u next refl, k.known.told r, refl,
+            λ not_over is. subst (λ z. (world_of z h.account.trace).stage r ≡ Stands) (sym k.known.shape_is) (stands s r p a w k.request not_over is))))),
       )

@@ -13,7 +13,7 @@ use Rattle.apf_gate.specs.Records.{told_own, saw_decision, service}
 use Rattle.apf_gate.specs.Traces.{GoesOn}
 use Rattle.apf_gate.specs.Requests.{AreTied, WaitsAlone}
 use Rattle.apf_gate.specs.Steps.{Both, SawLevel, SawDecision}
-use Rattle.apf_gate.specs.PassSteps.{own_mark}
+use Rattle.apf_gate.specs.PassSteps.{own_mark, GrantStands}
 use Rattle.apf_gate.specs.DeskSteps.{served, DeskMayFind}
 
 -- the mark of the joined Pass's request
@@ -93,7 +93,7 @@ has_left Held = false
 has_left Settled = false
 has_left Left = true
 
--- they load the decision word, which holds what the Pass was told, if it was. Nothing is handed over, and the Pass hears whether its request left
+-- they load the decision word, which holds what the Pass was told, if it was. Nothing is handed over, and the Pass hears whether its request left. Where it holds execute, of a Pass that is not over, its seats stand
 abbrev pub JoinedLoadsDecision : Both → Option Decision → Both → Type 0
 JoinedLoadsDecision both found both' = (known' : Knowledge) × SawDecision OfDesk both.desk.knows both.pass.number found found None known' × DeskMayFind (joined_service both) found × Agree both known' × (told_own both.pass ≢ None → found ≡ told_own both.pass)
-    × (both' ≡ record { pass = record both.pass { no_room = false; left = both.pass.left || has_left (joined_service both); knows = along_told both.pass found known' }; desk = record both.desk { knows = known' } })
+    × (both' ≡ record { pass = record both.pass { no_room = false; left = both.pass.left || has_left (joined_service both); knows = along_told both.pass found known' }; desk = record both.desk { knows = known' } }) × GrantStands both.pass found known'

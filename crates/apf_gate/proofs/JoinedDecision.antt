@@ -222,6 +222,24 @@ module _ (s : Shape) where
             (decision_known s (OfPass r) OfDesk p.knows h.account.trace None k.known next r x (λ _. refl))
             (decision_known s OfDesk OfDesk d.knows h.account.trace None k.desk.known next r x (λ _. refl))
             k.desk.holds.held_is k.desk.holds.is_held refl refl,
-        (refl, (record { pass = q; desk = d' }, refl, (x, k.word, (u, decision_told s OfDesk d.knows h.account.trace None k.desk.known next r x x refl (λ _. refl), desk_may_find s r p a w k.request, agree s t h p d k None u next refl, k.known.told r, refl,
-            λ not_over is. subst (λ z. (world_of z h.account.trace).stage r ≡ Stands) (sym k.known.shape_is) (stands s r p a w k.request not_over is))))),
+        (
+          refl,
+          (
+            record { pass = q; desk = d' },
+            refl,
+            (
+              x,
+              k.word,
+              (
+                u,
+                decision_told s OfDesk d.knows h.account.trace None k.desk.known next r x x refl (λ _. refl),
+                desk_may_find s r p a w k.request,
+                agree s t h p d k None u next refl,
+                k.known.told r,
+                refl,
+                λ not_over is. subst (λ z. (world_of z h.account.trace).stage r ≡ Stands) (sym k.known.shape_is) (stands s r p a w k.request not_over is),
+              ),
+            ),
+          ),
+        ),
       )

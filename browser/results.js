@@ -228,7 +228,7 @@ function drawQueues() {
   const shared = queues.filter(it => counts.get(it) > 1).length
   $('queues-list-hint').textContent = queues.length
     ? `${counted(queues.length, 'queue')} ${queues.length === 1 ? 'is' : 'are'} in the hands of flows, ${grouped(shared)} in more than one hand. Requests waited in the filled ones. Choose one here, or in the picture.`
-    : 'This level has no queues.'
+    : state.hands.length ? 'This level has no queues.' : 'There are no flows, so no queue is in a hand.'
   const buttons = queues.map(it => {
     const name = `Queue ${it}, ${counted(counts.get(it), 'flow')}`
     const count = counts.get(it) > 1 ? [element('small', {}, `\u00d7${counts.get(it)}`)] : []

@@ -429,7 +429,10 @@ def check_sizes():
     page.until("return !document.getElementById('audit').hidden")
     page.click("#audit button")
     rests()
-    tally.check("the table of a cluster's flows is seen whole at 2000", page.run("const it = document.getElementById('flows-scroll'); return [it.scrollWidth <= it.clientWidth, it.querySelectorAll('tbody tr').length]"), [True, 7])
+    tally.check("a cluster's flows", len(shown()), 7)
+    for width in (1400, 1700, 1950, 2000):
+        page.resize(width, 900)
+        tally.check(f"the table and the picture of a cluster's flows are seen whole at {width}", page.run("return ['flows-scroll', 'picture-scroll'].filter(it => document.getElementById(it).scrollWidth > document.getElementById(it).clientWidth)"), [])
     begin(900, 900)
     places = page.run("return ['file-place', 'config'].map(it => document.getElementById(it).closest('.asked > *').getBoundingClientRect()).map(it => [it.left, it.top, it.bottom])")
     tally.check("the config stands below the requests at 900", (places[0][0] == places[1][0], 0 < places[1][1] - places[0][2] < 20), (True, True))

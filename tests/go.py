@@ -196,7 +196,7 @@ def end_all():
 
 def over(name):
     """Ends the gateways of this thread, and looks at what they said."""
-    own = [it for it in gateways if it.thread is threading.current_thread()]
+    own = [it for it in list(gateways) if it.thread is threading.current_thread()]
     if own:
         said = "".join(it.text() for it in own)
         tally.check(f"{name}: no data race, and no panic", re.findall("(?s)(?:DATA RACE|panic).{,4000}", said), [])
@@ -573,7 +573,7 @@ def test_stalled_clients():
     # on a machine where a request takes long by itself, what it took before anybody stalled comes on top
     statuses, median = served("quiet")
     tally.check(f"a quiet user is served within a second: {median:.3f} s, {before:.3f} s before they came", (statuses, median <= before + 1), ([200] * 5, True))
-    tally.check("a stalled upload has no seat, nor who does not read", (gateway.is_idle(20), [it for it in backend.came if "upload" in it]), (True, []))
+    tally.check("a stalled upload has no seat, nor who does not read", (gateway.is_idle(), [it for it in backend.came if "upload" in it]), (True, []))
     tally.check("and all of them stall still", readable(stalled), [])
     for it in (*stalled, *unread):
         it.close()
@@ -884,10 +884,10 @@ def test_upgrade():
     gateway.end()
     # longer than the run limit, both ways
     backend.begins = {"/second"}
-    gateway = Gateway(backend, "--run-limit", "1s", limit=1)
+    gateway = Gateway(backend, "--run-limit", "2s", limit=1)
     second = gateway.ask("/second", Connection="Upgrade", Upgrade="websocket")
     tally.check("another one is switched", read(second, 12), b"HTTP/1.1 101")
-    time.sleep(1.2)
+    time.sleep(2.2)
     backend.kept[-1].sendall(b"to the client")
     found = b""
     while not found.endswith(b"to the client") and (part := second.recv(1000)):
@@ -1022,6 +1022,17 @@ def test_flood():
     tally.check("the quiet user's median is less with the gateway", found["less"], True)
 
 
+def end_session(started):
+    """Ends a process and all that it started, each of which may have a group of its own."""
+    for process in filter(str.isdigit, os.listdir("/proc")):
+        with contextlib.suppress(OSError):
+            with open(f"/proc/{process}/stat") as stat:
+                session = int(stat.read().rpartition(")")[2].split()[3])
+            if session == started.pid:
+                os.kill(int(process), signal.SIGKILL)
+    started.wait()
+
+
 def test_lines_of_the_readme():
     """The README's lines that start the gateway, on other ports. Where the machine is too slow for so many clients, the backend is slower, too."""
     with open(os.path.join(TOP, "README.md"), encoding="utf-8") as page:
@@ -1039,8 +1050,7 @@ def test_lines_of_the_readme():
             except subprocess.TimeoutExpired:
                 status = "they do not end"
             finally:
-                with contextlib.suppress(OSError):
-                    os.killpg(shown.pid, signal.SIGKILL)
+                end_session(shown)
             said.seek(0)
             medians = [float(it) for it in re.findall(r"^quiet user .*?: ([0-9.]+) s$", said.read(), re.M)]
         print(f"the README's lines, status {status}: {medians}")
@@ -1070,14 +1080,14 @@ def passed(name):
         print(f"{time.monotonic() - began:.1f} s {name}")
 
 
-# these do nothing but wait most of their time
-WAIT = ("half_sent_heads", "level_that_is_stopped", "backend_that_never_answers")
-idle = [threading.Thread(target=passed, args=(name,), daemon=True) for name in WAIT if name in chosen]
-for it in idle:
+# the package's own tests, and those that do nothing but wait most of their time, run beside the others
+BESIDE = ("sources", "half_sent_heads", "level_that_is_stopped", "backend_that_never_answers")
+threads = [threading.Thread(target=passed, args=(name,), daemon=True) for name in BESIDE if name in chosen]
+for it in threads:
     it.start()
 for name in chosen:
-    if name not in WAIT:
+    if name not in BESIDE:
         passed(name)
-for it in idle:
+for it in threads:
     it.join()
 tally.end()

@@ -292,6 +292,13 @@ def check_faults():
         tally.check(f"patience {value!r}", (fault("patience"), faults()), (run(program, ["simulate", "--", files("c", json.dumps(LEVEL)), TRACE, value])[2].decode().strip(), ["patience-fault"]))
 
 
+def check_marks(name, table):
+    """What is marked as better or worse is so by the numbers that are shown."""
+    marks = page.run("return [...document.querySelectorAll('#flows tbody tr')].map(row => [...row.cells].slice(3).filter((it, place) => place % 2 === 0).map(it => it.className))")
+    numbers = [[float(it.replace(",", "")) for it in row[2:]] for row in table]
+    tally.check(name, marks, [["worse" if now > kept else "better" if now < kept else "same" for kept, now in zip(row[::2], row[1::2])] for row in numbers])
+
+
 def check_two():
     begin()
     page.click("#keep")
@@ -301,10 +308,11 @@ def check_two():
     want = table_of_two(config=LEVEL, other=other)
     tally.check("two levels", shown(), want)
     tally.check("the worst change comes first", [it[0] for it in shown()][:2], ["crawler", "alice"])
-    marks = page.run("return [...document.querySelectorAll('#flows tbody tr')].map(row => [...row.cells].slice(3).filter((it, place) => place % 2 === 0).map(it => it.className))")
-    numbers = [[float(it.replace(",", "")) for it in row[2:]] for row in want]
-    worse = [["worse" if now > kept else "better" if now < kept else "same" for kept, now in zip(row[::2], row[1::2])] for row in numbers]
-    tally.check("better and worse", marks, worse)
+    check_marks("better and worse", want)
+    write("limit", "14")
+    write("handSize", "8")
+    check_marks("what is written alike is the same", table_of_two(config=LEVEL, other={**LEVEL, "limit": 14}))
+    write("handSize", "2")
     write("limit", "5")
     tally.check("two levels, changed again", shown(), table_of_two(config=LEVEL, other={**other, "limit": 5}))
     page.click("#flows button[data-flow]")

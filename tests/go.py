@@ -1054,10 +1054,11 @@ def test_lines_of_the_readme():
             said.seek(0)
             medians = [float(it) for it in re.findall(r"^quiet user .*?: ([0-9.]+) s$", said.read(), re.M)]
         print(f"the README's lines, status {status}: {medians}")
-        if status != 0 or medians == sorted(medians):
+        is_less = len(medians) == 2 and 2 * medians[0] < medians[1]
+        if status != 0 or is_less:
             break
     tally.check("the README's lines: status", status, 0)
-    tally.check("the README's lines: both medians, and the one with the gateway is less", (len(medians), medians == sorted(medians)), (2, True))
+    tally.check("the README's lines: both medians, and the one with the gateway is less than half of the other", (len(medians), is_less), (2, True))
 
 
 tests = {name[5:]: it for name, it in list(globals().items()) if name.startswith("test_")}

@@ -1,6 +1,6 @@
 // The page: takes a file, and asks the program again at each change of a setting. The newest change wins.
 
-import { ask, coloursOf, Fault, flowsOf, handsOf, pairsOf, pictureOf, requestsOf } from './program.js'
+import { ask, coloursOf, Fault, flowsOf, handsOf, NO_ANSWER, pairsOf, pictureOf, requestsOf } from './program.js'
 import { changesOf, clearFaults, configOf, onChange, put, showFault, values, wordsOf } from './settings.js'
 import { counted, grouped, imageOf, onChoice, showDetails, showFlows, showOld, showPicture, unitOf } from './results.js'
 
@@ -114,8 +114,17 @@ function refuse(why) {
 
 // the file
 
+/** Lets go of the file before, and of what runs for it. What is shown of it is marked as old, and no setting changes it any more. */
+function letGo() {
+  trace = null
+  isWanted = false
+  running?.abort()
+  showOld(true)
+}
+
 async function takeFile(file) {
   const turn = ++turns
+  letGo()
   clearFaults()
   $('audit').hidden = true
   $('file-note').hidden = true
@@ -131,7 +140,6 @@ async function takeFile(file) {
       $('audit').hidden = false
       $('schema').focus()
       $('schema').select()
-      showOld(true)
       tell(`${file.name} is an audit log. Of which flow schema are its requests?`)
     } else takeTrace({ name: file.name, content })
   } catch (why) {
@@ -166,8 +174,10 @@ async function readLog() {
 /** Begins with the noisy client, and with the settings that it has. */
 async function begin() {
   const turn = ++turns
-  const [config, content] = await Promise.all([fetch('noisy-client/config.json').then(it => it.json()), fetch('noisy-client/trace.jsonl').then(it => it.arrayBuffer())])
+  const files = Promise.all([fetch('noisy-client/config.json').then(it => it.json()), fetch('noisy-client/trace.jsonl').then(it => it.arrayBuffer())])
+  const [config, content] = await files.catch(() => [])
   if (turn !== turns) return
+  if (!content) return refuse(new Fault(NO_ANSWER))
   log = null
   $('audit').hidden = true
   $('file-note').hidden = true

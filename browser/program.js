@@ -27,6 +27,8 @@ function placeOf(line) {
   return 'run'
 }
 
+export const NO_ANSWER = 'The page has no answer: is ./page still running?'
+
 /** Runs a command of the program on what a file holds, and answers its output and what it said beside it. */
 export async function ask(command, settings, content, signal) {
   const words = new URLSearchParams(settings)
@@ -36,7 +38,7 @@ export async function ask(command, settings, content, signal) {
     told = await answer.json()
   } catch (why) {
     if (why.name === 'AbortError') throw why
-    throw new Fault('The page has no answer: is ./page still running?')
+    throw new Fault(NO_ANSWER)
   }
   if (told.status !== 0) throw new Fault(told.errors.trim() || `apf ${command} ended with status ${told.status}`)
   return { output: told.output, note: told.errors.trim() }

@@ -102,10 +102,11 @@ function columnsOfOne({ unit, write }) {
 }
 
 function columnsOfTwo({ unit, write }) {
-  const compared = (key, now) => row => (now && row.now[key] !== row.kept[key] ? (row.now[key] > row.kept[key] ? 'worse' : 'better') : now ? 'same' : 'kept')
+  // what is written alike is the same
+  const compared = (key, text) => row => (text(row.now[key]) === text(row.kept[key]) ? 'same' : row.now[key] > row.kept[key] ? 'worse' : 'better')
   const both = (key, group, text, title) => [
-    { group, name: 'kept', text: row => text(row.kept[key]), title: title && (row => title(row.kept[key])), mark: compared(key, false) },
-    { group, name: 'now', text: row => text(row.now[key]), title: title && (row => title(row.now[key])), mark: compared(key, true) },
+    { group, name: 'kept', text: row => text(row.kept[key]), title: title && (row => title(row.kept[key])), mark: () => 'kept' },
+    { group, name: 'now', text: row => text(row.now[key]), title: title && (row => title(row.now[key])), mark: compared(key, text) },
   ]
   const waits = Object.entries(WAITS).flatMap(([key, name]) => both(key, `${name === 'p99' ? name : name[0].toUpperCase() + name.slice(1)} wait, ${unit}`, write, exact))
   return [FLOW, REQUESTS, ...waits, ...Object.entries(COUNTS).flatMap(([key, name]) => both(key, name, grouped))]
@@ -228,7 +229,7 @@ function drawQueues() {
   const shared = queues.filter(it => counts.get(it) > 1).length
   $('queues-list-hint').textContent = queues.length
     ? `${counted(queues.length, 'queue')} ${queues.length === 1 ? 'is' : 'are'} in the hands of flows, ${grouped(shared)} in more than one hand. Requests waited in the filled ones. Choose one here, or in the picture.`
-    : 'This level has no queues.'
+    : state.hands.length ? 'This level has no queues.' : 'There are no flows, so no queue is in a hand.'
   const buttons = queues.map(it => {
     const name = `Queue ${it}, ${counted(counts.get(it), 'flow')}`
     const count = counts.get(it) > 1 ? [element('small', {}, `\u00d7${counts.get(it)}`)] : []

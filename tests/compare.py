@@ -7,12 +7,11 @@ import os
 import random
 import subprocess
 import sys
-import time
 
 sys.path.insert(0, os.path.join(os.path.dirname(os.path.abspath(__file__)), "lib"))
 import simulation
 import worked
-from harness import Files, Tally, build, run
+from harness import Files, Tally, build, processor_seconds, run
 from runs import Fates, comparison
 from simulation import BAD_PATIENCE, Run, flows_of, patience_of
 from trace import trace_of
@@ -282,9 +281,7 @@ def check_largest():
     content = b"".join(lines)
     trace = trace_of(content)
     for command, configs, patience in (("fates", [one], ["2ms"]), ("compare", [one, other], ["2ms"]), ("hands", [one], [])):
-        began = time.monotonic()
-        status, out, err = printed(command, [*configs, content], *patience)
-        took = time.monotonic() - began
+        (status, out, err), took = processor_seconds(lambda: printed(command, [*configs, content], *patience))
         tally.check(f"{command} of 10,000 flows", (status, err), (0, b""))
         tally.check(f"{command} of 10,000 flows in well under ten seconds: {took:.2f} s", took < 10, True)
         if command == "fates":

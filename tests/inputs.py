@@ -82,12 +82,12 @@ for place in range(3):
 # 2,000,000 requests: time and memory of the refusal
 path = files("millions", b"[" + b",".join([b'{"hash":0}'] * 2_000_000) + b"]")
 tally.check("a requests file of 22 MB", os.path.getsize(path), 22_000_001)
-# a small process measures it, since a child's peak counts what its parent had when it was forked
+# a small process measures it, since a child's peak counts what its parent had when it was forked. The time is that of the processor
 MEASURE = """import os, subprocess, sys
 child = subprocess.Popen(sys.argv[2:], stdin=subprocess.DEVNULL)
 _, status, usage = os.wait4(child.pid, 0)
 with open(sys.argv[1], "w") as file:
-    file.write(str(usage.ru_maxrss // 1024))
+    file.write(f"{usage.ru_utime + usage.ru_stime} {usage.ru_maxrss // 1024}")
 sys.exit(os.waitstatus_to_exitcode(status))
 """
 peak = files("peak", b"")
@@ -95,11 +95,10 @@ peak = files("peak", b"")
 
 def measured(words):
     """The answer of a run, how long it took, and the most memory that it had, in MiB."""
-    began = time.monotonic()
     done = subprocess.run([sys.executable, "-c", MEASURE, peak, program, *words], stdin=subprocess.DEVNULL, capture_output=True, timeout=120)
-    took = time.monotonic() - began
     with open(peak, encoding="ascii") as file:
-        return (done.returncode, done.stdout, done.stderr), took, int(file.read())
+        took, mebibytes = file.read().split()
+    return (done.returncode, done.stdout, done.stderr), float(took), int(mebibytes)
 
 
 got, took, mebibytes = measured(["replay", *instead(1, path)])

@@ -8,12 +8,11 @@ import os
 import random
 import subprocess
 import sys
-import time
 
 sys.path.insert(0, os.path.join(os.path.dirname(os.path.abspath(__file__)), "lib"))
 import simulation
 import worked
-from harness import Files, Tally, build, run
+from harness import Files, Tally, build, processor_seconds, run
 from judge import config_of, requests_of
 from level import hash_of
 from runs import Record, sums_broken
@@ -398,9 +397,7 @@ def check_largest(command):
     """The largest number of requests."""
     config, content, made = largest()
     taken = inputs(command, config, content, 2000)
-    began = time.monotonic()
-    got = printed(command, *taken)
-    took = time.monotonic() - began
+    got, took = processor_seconds(lambda: printed(command, *taken))
     of = {"requests": [made.trace], "hands": [made.config, made.trace]}.get(command, [made])
     want = 0, text_of(getattr(simulation, command)(*of)).encode(), b""
     tally.check(f"{command} of 10,000 requests", got, want)

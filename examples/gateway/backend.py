@@ -1,7 +1,8 @@
 #!/usr/bin/env python3
-"""A backend to try the gateway with: ten workers answer each request after a tenth of a second. Who finds all of them at work waits for its turn.
+"""A backend to try the gateway with: ten workers answer each request after a tenth of a second, or after as many seconds as is said. Who finds all of them
+at work waits for its turn.
 
-usage: backend.py [PORT]
+usage: backend.py [PORT [SECONDS]]
 """
 
 import concurrent.futures
@@ -10,13 +11,14 @@ import sys
 import time
 
 WORKERS = 10
+SECONDS = float(sys.argv[2]) if len(sys.argv) > 2 else 0.1
 
 
 class Slow(http.server.BaseHTTPRequestHandler):
     workers = concurrent.futures.ThreadPoolExecutor(WORKERS)
 
     def do_GET(self):
-        self.workers.submit(time.sleep, 0.1).result()
+        self.workers.submit(time.sleep, SECONDS).result()
         self.send_response(200)
         self.send_header("Content-Length", "6")
         self.end_headers()

@@ -436,12 +436,15 @@ func TestKilledUnderLoad(t *testing.T) {
 
 func TestAStoppedLevelCountsAsDead(t *testing.T) {
 	each(t, func(t *testing.T, program string) {
-		l := opened(t, Options{Program: program, Patience: 200 * time.Millisecond})
+		t.Parallel()
+		// a machine that is slow answers within so much
+		const patience = 2 * time.Second
+		l := opened(t, Options{Program: program, Patience: patience})
 		running := acquired(t, l, "a")
 		pid := process(l)
 		syscall.Kill(pid, syscall.SIGSTOP)
 		// nobody asks, so nothing is late
-		time.Sleep(400 * time.Millisecond)
+		time.Sleep(patience + patience/2)
 		if process(l) != pid {
 			t.Fatal("a level that nobody asked counts as dead")
 		}
@@ -506,19 +509,37 @@ func TestShutdownWaitsForThoseThatRun(t *testing.T) {
 		l := opened(t, Options{Program: program})
 		running := acquired(t, l, "a")
 		acquired(t, l, "b")
-		_, failed := asking(t, l, context.Background(), "c")
-		time.AfterFunc(20*time.Millisecond, running.Release)
-		ctx, cancel := context.WithTimeout(context.Background(), 200*time.Millisecond)
+		seat, failed := asking(t, l, context.Background(), "c")
+		ctx, cancel := context.WithCancel(context.Background())
 		defer cancel()
-		book, err := l.Shutdown(ctx)
-		// b never ends, and c got the seat of a
-		if !errors.Is(err, context.DeadlineExceeded) || book.Executed != 3 || book.Seats != 2 {
-			t.Fatalf("%+v %v", book, err)
-		}
+		var book Book
+		var err error
+		ended := make(chan struct{})
+		go func() {
+			book, err = l.Shutdown(ctx)
+			close(ended)
+		}()
+		until(t, "nobody is let in", func() bool { return l.ending.Err() != nil })
+		running.Release()
+		// c gets the seat of a
 		select {
+		case <-seat:
 		case err := <-failed:
 			t.Fatal(err)
-		default:
+		case <-ended:
+			t.Fatal("it does not wait for those that run")
+		case <-time.After(most):
+			t.Fatal("c was lost")
+		}
+		// b and c never end
+		cancel()
+		select {
+		case <-ended:
+		case <-time.After(most):
+			t.Fatal("it does not end")
+		}
+		if !errors.Is(err, context.Canceled) || book.Executed != 3 || book.Seats != 2 {
+			t.Fatalf("%+v %v", book, err)
 		}
 		if _, err := l.Shutdown(ctx); err != ErrShutdown {
 			t.Fatal(err)

@@ -16,7 +16,7 @@ ELEMENT = "element-6066-11e4-a52e-4f735466cecf"
 TAB, ENTER, SPACE, DELETE = "\ue004", "\ue007", "\ue00d", "\ue017"
 UP, DOWN, LEFT, RIGHT, HOME, END = "\ue013", "\ue015", "\ue012", "\ue014", "\ue011", "\ue010"
 # no wait is longer, in seconds
-MOST = 20
+MOST = int(os.environ.get("APF_MOST", "60"))
 
 
 def missing():
@@ -84,7 +84,7 @@ class Browser:
     def ask(self, method, path, body=None):
         """One command of the protocol, and its value."""
         prefix = f"/session/{self.session}" if self.session else ""
-        connection = http.client.HTTPConnection("127.0.0.1", self.port, timeout=60)
+        connection = http.client.HTTPConnection("127.0.0.1", self.port, timeout=3 * MOST)
         connection.request(method, prefix + path, json.dumps(body or {}) if method == "POST" else None, {"Content-Type": "application/json"})
         value = json.loads(connection.getresponse().read())["value"]
         connection.close()

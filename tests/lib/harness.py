@@ -2,6 +2,7 @@
 
 import os
 import re
+import resource
 import subprocess
 import sys
 import tempfile
@@ -73,6 +74,15 @@ def run(program, words, **how):
         [program, *words], stdin=subprocess.DEVNULL, stdout=subprocess.PIPE, stderr=subprocess.PIPE, timeout=120, **how
     )
     return done.returncode, done.stdout, done.stderr
+
+
+def processor_seconds(call):
+    """What a call answers, and how many seconds processors were busy with the programs that it ran. On a quiet machine a program of one thread takes that
+    long, and on a busy one longer."""
+    before = resource.getrusage(resource.RUSAGE_CHILDREN)
+    answer = call()
+    after = resource.getrusage(resource.RUSAGE_CHILDREN)
+    return answer, after.ru_utime - before.ru_utime + after.ru_stime - before.ru_stime
 
 
 def drop_rights(program="/bin/true"):

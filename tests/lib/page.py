@@ -35,7 +35,7 @@ class Served:
     def __exit__(self, *_):
         self.process.terminate()
         try:
-            self.process.wait(20)
+            self.process.wait(60)
         except subprocess.TimeoutExpired:
             self.process.kill()
             self.process.wait()
@@ -46,7 +46,7 @@ class Served:
 
     def ask(self, method, path, body=None, **fields):
         """The status and the text of an answer. The fields are the head's, without what else a client would say."""
-        connection = http.client.HTTPConnection("127.0.0.1", self.port, timeout=10)
+        connection = http.client.HTTPConnection("127.0.0.1", self.port, timeout=60)
         connection.putrequest(method, path, skip_host=True, skip_accept_encoding=True)
         for name, value in fields.items():
             for each in value if isinstance(value, list) else [value]:

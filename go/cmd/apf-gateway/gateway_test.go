@@ -18,6 +18,9 @@ import (
 	"burtxeltz/apf"
 )
 
+// most is longer than anything here takes.
+const most = 20 * time.Second
+
 // starts starts a backend, with HTTPS or without.
 type starts func(http.Handler) *httptest.Server
 
@@ -45,7 +48,9 @@ func over2(t *testing.T, o *options, start starts, backend http.HandlerFunc) (*g
 	t.Cleanup(func() {
 		server.Close()
 		behind.Close()
-		book, err := level.Shutdown(context.Background())
+		ctx, cancel := context.WithTimeout(context.Background(), most)
+		defer cancel()
+		book, err := level.Shutdown(ctx)
 		if err != nil || book.Seats != 0 || book.Waiting != 0 {
 			t.Errorf("%+v %v", book, err)
 		}
@@ -87,12 +92,15 @@ func TestRequestsOfOneConnection(t *testing.T) {
 
 func TestClientsThatLeaveInTheMiddleOfABody(t *testing.T) {
 	begun, came, release := make(chan struct{}, 3), make(chan string, 3), make(chan struct{})
+	var once sync.Once
+	free := func() { once.Do(func() { close(release) }) }
 	g, ask := over2(t, &options{runLimit: time.Minute}, httptest.NewTLSServer, func(w http.ResponseWriter, r *http.Request) {
 		begun <- struct{}{}
 		_, err := io.Copy(io.Discard, r.Body)
 		came <- fmt.Sprint(r.URL.Path, " ", err)
 		<-release
 	})
+	t.Cleanup(free)
 	// two have all seats, and the backend works on what it got
 	for _, path := range []string{"/leaves/0", "/leaves/1"} {
 		body, client := io.Pipe()
@@ -102,7 +110,7 @@ func TestClientsThatLeaveInTheMiddleOfABody(t *testing.T) {
 			client.CloseWithError(io.ErrClosedPipe)
 		}()
 		ask("POST", path, body)
-		if got, want := <-came, path+" unexpected EOF"; got != want {
+		if got, want := soon(t, came), path+" unexpected EOF"; got != want {
 			t.Errorf("%s, and not %s", got, want)
 		}
 	}
@@ -113,23 +121,40 @@ func TestClientsThatLeaveInTheMiddleOfABody(t *testing.T) {
 	}()
 	select {
 	case got := <-came:
-		close(release)
 		t.Fatal("a third one comes to the backend: ", got)
 	case <-time.After(500 * time.Millisecond):
 	}
 	release <- struct{}{}
-	if got, want := <-came, "/waits <nil>"; got != want {
+	if got, want := soon(t, came), "/waits <nil>"; got != want {
 		t.Errorf("%s, and not %s", got, want)
 	}
-	close(release)
-	if status := <-served; status != 200 {
+	free()
+	if status := soon(t, served); status != 200 {
 		t.Error(status)
 	}
 	// the backend's answers are read, though nobody waits for two of them
-	for end := time.Now().Add(10 * time.Second); ; time.Sleep(10 * time.Millisecond) {
+	counts(t, g, "200", 3)
+}
+
+// soon is what comes from a channel.
+func soon[T any](t *testing.T, from <-chan T) (it T) {
+	t.Helper()
+	select {
+	case it = <-from:
+	case <-time.After(most):
+		t.Fatal("nothing came")
+	}
+	return it
+}
+
+// counts waits until the gateway has counted so many requests with this status.
+func counts(t *testing.T, g *gateway, code string, count int) {
+	t.Helper()
+	want := fmt.Sprintf("apf_gateway_requests_total{code=%q} %d\n", code, count)
+	for end := time.Now().Add(most); ; time.Sleep(10 * time.Millisecond) {
 		text := g.journal.metrics("level", 0)
-		if strings.Contains(text, `apf_gateway_requests_total{code="200"} 3`) {
-			break
+		if strings.Contains(text, want) {
+			return
 		} else if time.Now().After(end) {
 			t.Fatal(text)
 		}
@@ -138,7 +163,7 @@ func TestClientsThatLeaveInTheMiddleOfABody(t *testing.T) {
 
 func TestOneRequestThatStallsEndsNoOther(t *testing.T) {
 	release := make(chan struct{})
-	g, ask := over2(t, &options{runLimit: 300 * time.Millisecond}, httptest.NewServer, func(w http.ResponseWriter, r *http.Request) {
+	g, ask := over2(t, &options{runLimit: 2 * time.Second}, httptest.NewServer, func(w http.ResponseWriter, r *http.Request) {
 		if r.URL.Path == "/hangs" {
 			select {
 			case <-release:
@@ -161,7 +186,5 @@ func TestOneRequestThatStallsEndsNoOther(t *testing.T) {
 			t.Errorf("behind %s: %v, reused %v", path, answer.Status, reused)
 		}
 	}
-	if text := g.journal.metrics("level", 0); !strings.Contains(text, `apf_gateway_requests_total{code="408"} 1`) {
-		t.Error(text)
-	}
+	counts(t, g, "408", 1)
 }

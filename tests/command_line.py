@@ -164,7 +164,7 @@ for words in [
     ["timeline", "a", "b", "0", "0"],
     ["timeline", "a", "b", "1000000001"],
     ["timeline", "a", "b", "1.5"],
-    ["timeline", "a", "b", "1.5s"],
+    ["timeline", "a", "b", "1.5h"],
     ["compare"],
     ["compare", "a", "b", "0"],
     ["compare", "a", "b", "c"],

@@ -203,7 +203,7 @@ def check_patience(command, levels):
         status, out, err = run(program, [command, *missing, text])
         tally.check(f"{command} with the patience {text!r}", (status, out, err[:7]), (2, b"", b"error: "))
     with open(os.path.join(files.folder.name, "file 0"), "rb") as full:
-        done = subprocess.run([program, command, "-", *missing[1:], "1.5s"], stdin=full, capture_output=True)
+        done = subprocess.run([program, command, "-", *missing[1:], "15 s"], stdin=full, capture_output=True)
         tally.check(f"{command} with a bad patience reads no byte", (done.returncode, done.stdout, done.stderr, full.tell()), (*fault, 0))
 
 

@@ -4,6 +4,7 @@ A run looks at each step for what is due, and makes the calls of the independent
 """
 
 import re
+from fractions import Fraction
 
 from judge import Refused, config_of, dealer_fault
 from level import Level, hand_of
@@ -14,20 +15,21 @@ from trace import trace_of
 FINISH, CANCEL, ARRIVE = range(3)
 WORDS = ("finish", "cancel", "arrive")
 # the units of a patience, in microseconds, and the longest one
-UNITS = {"": 1, "us": 1, "ms": 1000, "s": 1_000_000}
+UNITS = {"": 1, "us": 1, "ms": 1000, "s": 1_000_000, "m": 60_000_000}
 LONGEST = 1_000_000_000
 BAD_PATIENCE = (
-    "apf: PATIENCE must be a whole number, alone or with us, ms or s behind it, of at most 1000000000 microseconds"
+    "apf: PATIENCE must be a number with m, s, ms or us behind it, as 1.5s, or a whole number of microseconds: at most 1000000000 microseconds"
 )
 
 
 def patience_of(text):
-    """The patience that a command line names, in microseconds, or None. A number may have a plus in front, and zeros."""
-    found = re.fullmatch(r"\+?([0-9]+)([a-z]*)", text)
-    if not found or found[2] not in UNITS:
+    """The patience that a command line names, in microseconds, or None. A number may have a plus in front, and zeros. With a unit it may have a point, and
+    one to six digits behind it."""
+    found = re.fullmatch(r"\+?([0-9]+)(?:\.([0-9]{1,6})(?=[a-z]))?([a-z]*)", text, re.A)
+    if not found or found[3] not in UNITS:
         return None
-    patience = int(found[1]) * UNITS[found[2]]
-    return patience if patience <= LONGEST else None
+    patience = Fraction(f"{found[1]}.{found[2] or 0}") * UNITS[found[3]]
+    return int(patience) if patience <= LONGEST and patience.denominator == 1 else None
 
 
 class Run:

@@ -239,7 +239,7 @@ impl fmt::Display for Fault {
             Fault::Told(_) => Ok(()),
             Fault::LongSchema => f.write_str("apf: SCHEMA is longer than 4096 bytes"),
             Fault::BadPatience => f.write_str(
-                "apf: PATIENCE must be a whole number, alone or with us, ms or s behind it, of at most 1000000000 microseconds",
+                "apf: PATIENCE must be a number with m, s, ms or us behind it, as 1.5s, or a whole number of microseconds: at most 1000000000 microseconds",
             ),
             Fault::BadBy => f.write_str("apf: --by must be user or namespace"),
             Fault::BadCharge => f.write_str("apf: --charge must be time or seats"),

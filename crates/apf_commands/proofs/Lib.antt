@@ -7,3 +7,4 @@ mod Rows
 pub mod Patient
 pub mod Ranges
 pub mod Named
+pub mod Parts

@@ -25,7 +25,7 @@ const OBJECTS: &str = "FlowSchemas and PriorityLevelConfigurations, as kubectl g
 
 /// What help says of the patience.
 const PATIENCE: &str =
-    "Time until a request gives up: 15s, 500ms, or 0 to 1000000000 microseconds; 0: never";
+    "When a request gives up: 15s, 500ms, 1.5m, or 0 to 1000000000 microseconds; 0: never";
 
 /// What help says below the commands: the program's statuses, and how to begin.
 const HELP: &str = "\

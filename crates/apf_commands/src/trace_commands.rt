@@ -24,8 +24,8 @@ from the trace's beginning:
   schema, distinguisher  two texts, of which the hash is made
   width             seats that the request takes, 1 to 20000; 1 if absent
   cost              what a dispatch is charged, 1 to 4294967295; the width if absent
-PATIENCE is a whole number with s, ms or us behind it, or a plain number of microseconds: at most
-1000s. A request that waits so long after its arrival gives up. With 0 nobody gives up. An API
+PATIENCE is a number with m, s, ms or us behind it, as 1.5s, or a whole number of microseconds: at
+most 1000s. A request that waits so long after its arrival gives up. With 0 nobody gives up. An API
 server lets a request wait for a quarter of its time-out, by default 15s.
 
 Prints a line for each flow, in the order of their first requests, a line of the whole, and the

@@ -4,3 +4,6 @@ pub mod Hearing
 pub mod Begun
 pub mod Entering
 pub mod Reading
+pub mod Beginning
+pub mod Slots
+pub mod Logging

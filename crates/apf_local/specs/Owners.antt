@@ -73,17 +73,21 @@ pub record Moves (slot : ℕ) (old new : List PassToken) (Does : PassToken → P
   pub now : new ≡ slice_set old slot after
   pub does : Does before after
 
+-- a request that took no seats was decided so by its own Pass, or cancelled
+abbrev pub IsRefusal : Decision → Type 0
+IsRefusal decision = (decision ≡ Closed) ⊎ (decision ≡ Cancelled)
+
 -- what a Pass that was fresh came to by its own steps
 abbrev pub Takes : PassRecord → Took → PassRecord → Type 0
 Takes pass took.Run pass' = (pass'.state ≡ states.Took) × (told_own pass' ≡ Some Execute)
-Takes pass (took.Over decision) pass' = (pass'.state ≡ states.Over) × (told_own pass' ≡ Some decision) × (decision ≢ Execute)
+Takes pass (took.Over decision) pass' = (pass'.state ≡ states.Over) × (told_own pass' ≡ Some decision) × IsRefusal decision
 Takes pass took.Blocked pass' = pass'.state ≡ states.Fresh
 Takes pass took.Raced pass' = TriesToTake pass tried.Raced pass'
 
 -- where the slot's next request is, by what its try came to
 abbrev pub IsBegun : Ask → Took → PassToken → Type 0
 IsBegun ask took.Run token = IsRunning token
-IsBegun ask (took.Over decision) token = IsDone token × (told_own token.pass ≡ Some decision) × (decision ≢ Execute)
+IsBegun ask (took.Over decision) token = IsDone token × (told_own token.pass ≡ Some decision) × IsRefusal decision
 IsBegun ask took.Blocked token = (token.pass.state ≡ states.Fresh) × (asked_in token.pass.knows.trace token.pass.number ≡ Some (record { hash = ask.hash; cost = ask.cost }))
 IsBegun ask took.Raced token = ⊥
 

@@ -1,6 +1,6 @@
 //! A gate, its book and all of its tokens in one hand.
 
-ghost use Rattle.std.specs.Prelude.{ℕ, ◌≡◌, ◌≢◌, ◌≤◌, ◌<◌, ◌*◌, ◌^◌, length, slice_get, All, IfSome, IfNone};
+ghost use Rattle.std.specs.Prelude.{ℕ, ◌≡◌, ◌↔◌, ◌≢◌, ◌≤◌, ◌<◌, ◌*◌, ◌^◌, length, slice_get, All, IfSome, IfNone, IfOk, IsTrue};
 ghost use Rattle.apf_words.specs.Level.{Level};
 ghost use Rattle.apf_words.specs.Limits.{max_width, max_cost, max_limit};
 ghost use Rattle.apf_words.specs.declared.decision.Decision.TheVariants.{Execute, Cancelled};
@@ -13,16 +13,25 @@ ghost use Rattle.apf_book.specs.Life.{LifeView, IsAskedBy, sizes_of};
 ghost use Rattle.apf_book.specs.LifeBook.{IsLifeKept, IsLived, ServesLife, StrikesLife};
 ghost use Rattle.apf_book.specs.LifeCalls.{IsAsk};
 ghost use Rattle.apf_line.specs.Tokens.{IsDone, IsInLine, IsRunning};
+ghost use Rattle.apf_queue.specs.View.{queue_count};
+ghost use Rattle.apf_book.specs.Notes.{AreLifeStats, CopiesLate};
+ghost use Rattle.apf_line.specs.Levels.{LifeId};
+ghost use Rattle.apf_line.specs.Reports.{EndedAs};
+ghost use Rattle.apf_line.specs.Stopped.{IsStopped};
+ghost use Rattle.apf_local.specs.Openings.{IsNewOwner, HasQueuesOf};
 ghost use Rattle.apf_local.specs.Owners.{SameOwner, Moves, Stay, Begins, IsBlocked, Enters, GivesBack, Reads, IsToldOff, Leaves, StrikesOne, Steps, Sets, IsSlotOf};
 
 use crate::answer::Ask;
+use crate::fault::OpenFault;
 use crate::taking::{Took, take};
-use apf_book::{Arrived, LifeBook, TryDispatch};
+use apf_book::{Arrived, Copied, LifeBook, LifeEvent, LifeStats, TryDispatch};
 use apf_gate::{
     Cancel, Close, Gate, Pass, Renew, Station, Ticket, TrySetLimit, no_exchange_is_lost,
 };
+use apf_line::{Report, close_book, end_level, every_level_has_histories};
+use apf_model::{Config, Response};
 use apf_words::{Decision, LevelWord};
-use std::alloc::Global;
+use std::alloc::{AllocError, Global};
 use std::marker::Model;
 use std::mem;
 
@@ -39,6 +48,7 @@ pub struct Owner {
 
 impl Model for Owner {
     ghost use Rattle.apf_local.specs.Owners.{OwnerView, IsOwner};
+    ghost use Rattle.apf_queue.specs.View.{queue_count};
 
     ghost Value = { OwnerView };
 
@@ -68,6 +78,102 @@ fn gather(
 }
 
 impl Owner {
+    /// A gate with queues, of so many slots and one Station, and a book in which nothing happened yet. All memory is taken
+    /// here.
+    ///
+    /// # Errors
+    ///
+    /// The first of these: the gate's fault, the queues', and `NoMemory` whenever memory was refused.
+    pub fn open(alloc: Global, config: &Config, slots: u32) -> Result<Owner, OpenFault>
+        ensures opened { IfOk result (IsNewOwner config.now slots) }
+        ensures deck { IfOk result (λ o. queue_count o.book.queues.queues ≡ config.now.queues) }
+        ensures hand { IfOk result (λ o. o.book.queues.hand ≡ config.now.hand_size) }
+        ensures stopped { IfOk result (λ o. IsStopped o.book) }
+    {
+        every_level_has_histories();
+        let widths = vec![in alloc; 1; slots as usize]?;
+        let (gate, desk, passes, stations) = Gate::open_for_life(
+            alloc,
+            config.limit,
+            widths.as_slice(),
+            1,
+            Response::Queue,
+        )?;
+        desk.is_of_a_gate();
+        let book = LifeBook::new(alloc, config, slots, desk)?;
+        Ok(Owner {
+            alloc,
+            gate,
+            book,
+            passes,
+            stations,
+        })
+    }
+
+    /// What names the slot's newest request for ever.
+    pub fn ticket(&self, slot: usize) -> Ticket
+        requires { slot < length self.now.passes }
+        ensures { IsSlotOf self.now.passes slot (λ t. result.number ≡ t.pass.number) }
+    {
+        self.passes[slot].ticket()
+    }
+
+    /// How many events there ever were of each kind, of fewer than 2^64.
+    pub fn stats(&self) -> LifeStats
+        ensures { (v : LifeView) → IsLifeKept v self.now.book → length v.history < 2 ^ 64 → AreLifeStats result v.history }
+    {
+        self.book.stats()
+    }
+
+    /// How many events there ever were, of fewer than 2^64.
+    pub fn events(&self) -> u64
+        ensures { (v : LifeView) → IsLifeKept v self.now.book → length v.history < 2 ^ 64 → result ≡ length v.history }
+    {
+        self.book.events()
+    }
+
+    /// Copies events from this place on, of all that there ever were, the oldest first, as many as there is room for.
+    pub fn copy_events(&self, from: u64, into: &mut [LifeEvent]) -> Copied
+        ensures { (v : LifeView) → IsLifeKept v self.now.book → length v.history < 2 ^ 64 → CopiesLate self.now.book.notes.capacity v.history from into.old result into.new }
+    {
+        self.book.copy_events(from, into)
+    }
+
+    /// Whether there may be a request of this ticket.
+    pub fn knows(&self, ticket: Ticket) -> bool
+        ensures { IsTrue result ↔ IsTicket self.now.gate.shape ticket.number }
+    {
+        self.gate.knows(ticket)
+    }
+
+    /// There is a history that the book is of. It makes no step: the contract is the law.
+    pub fn has_a_history(&self)
+        ensures { IsLived self.now.book }
+    {
+        self.book.has_a_history();
+    }
+
+    /// Ends the level, of which no request waits or executes.
+    ///
+    /// # Errors
+    ///
+    /// `AllocError` if memory was refused. Then everything is given up.
+    pub fn end(self, alloc: Global, slots: usize) -> Result<Report, AllocError>
+        requires done { All IsDone self.passes }
+        requires slots { slots ≡ length self.passes }
+        ensures { IfOk result (λ r. (k : LifeId) (v : LifeView) → k.gate ≡ self.gate → HasQueuesOf k self.book → IsLifeKept v self.book → EndedAs k v self.passes self.stations r) }
+    {
+        let Owner {
+            alloc: _,
+            gate,
+            book,
+            passes,
+            stations,
+        } = self;
+        let closing = close_book(alloc, book, slots)?;
+        end_level(alloc, gate, closing, passes, stations)
+    }
+
     /// The slot goes on to its next request, which takes its seats if the level is open, nobody waits and they fit. `None`
     /// if the slot's numbers are used up: then nothing was done.
     pub fn begin(&mut self, slot: usize, ask: Ask) -> Option<Took>

@@ -3,7 +3,7 @@ pub mod Places
 pub mod Hearing
 pub mod Begun
 pub mod Entering
-pub mod Reading
+pub mod Told
 pub mod Beginning
 pub mod Slots
 pub mod Logging

@@ -1,5 +1,5 @@
 -- The slots of a level after a call.
-use Rattle.std.proofs.Common.{◌≡◌, ◌≢◌, ◌<◌, ℕ, zero, suc, List, [], ◌∷◌, length, set, Option, Some, None, refl, sym, ap, ◌∙◌, subst}
+use Rattle.std.proofs.Common.{◌≡◌, ◌≢◌, ◌<◌, ℕ, zero, suc, inl, List, [], ◌∷◌, length, set, Option, Some, None, refl, sym, ap, ◌∙◌, subst}
 use Rattle.std.specs.Prelude.{slice_get}
 use Rattle.std.proofs.lemmas.List.{length-set}
 use Rattle.apf_words.specs.declared.decision.Decision.TheVariants.{Execute}
@@ -9,7 +9,10 @@ use Rattle.apf_local.specs.declared.admitting.Admitted.{Admitted}
 use Rattle.apf_local.specs.declared.admitting.Admitted.TheVariants as admitted
 use Rattle.apf_local.specs.declared.answer.Ask.{Ask}
 use Rattle.apf_local.specs.declared.answer.Place.{Place}
-use Rattle.apf_local.specs.Owners.{OwnerView, SameOwner, Stay, Moves}
+use Rattle.apf_local.specs.declared.taking.Took.{Took}
+use Rattle.apf_local.specs.declared.taking.Took.TheVariants as took
+use Rattle.apf_local.specs.Owners.{OwnerView, SameOwner, Stay, Moves, IsBegun}
+use Rattle.apf_local.specs.Tries.{answer_of_try, place_of_try, Tries, IsTry}
 use Rattle.apf_local.specs.Levels.{LocalView, IsLocal, IsAt, IsAdmitted, place_of, answer_of, SlotMoves, Arrives, IsArrival}
 use Rattle.apf_book.specs.declared.life_event.LifeEvent.{LifeEvent}
 use Rattle.apf_local.proofs.Knowing.{book_then}
@@ -54,6 +57,29 @@ module _ (l : LocalView) (is : IsLocal l) (o1 o2 : OwnerView) (first : SameOwner
     at = λ k p t at_p at_t. at_set l.places l.owner.passes slot place' after is.at new k p t at_p (subst (λ (ts : List PassToken). slice_get ts k ≡ Some t) (stay.passes ∙ now) at_t);
     stopped = stopped;
   }
+
+  -- the same, where no slot changed
+  pub local_stays : o1.passes ≡ l.owner.passes → IsStopped o2.book → IsLocal (record { owner = o2; sizes = l.sizes; places = l.places })
+  local_stays same stopped = record {
+    deck = then.book.queues ∙ (first.book.queues ∙ is.deck);
+    hand = then.book.hand ∙ (first.book.hand ∙ is.hand);
+    operator = subst (λ (n : ℕ). 0 < n) (sym (then.stations ∙ first.stations)) is.operator;
+    count = is.count ∙ sym (then.slots ∙ first.slots);
+    at = λ k p t at_p at_t. is.at k p t at_p (subst (λ (ts : List PassToken). slice_get ts k ≡ Some t) (stay.passes ∙ same) at_t);
+    stopped = stopped;
+  }
+
+pub at_of_try : (ask : Ask) (x : Took) (t : PassToken) → IsBegun ask x t → IsAt (place_of_try x) t
+at_of_try ask took.Run t is = is
+at_of_try ask (took.Over d) t is = is.0
+at_of_try ask took.Blocked t is = record { back = inl is.0; may = inl is.0 }
+at_of_try ask took.Raced t is = absurd is
+
+pub is_try : (slot : ℕ) (ask : Ask) (l l' : LocalView) (x : Took) → SlotMoves slot l l' (Tries ask (answer_of_try x)) → IsTry slot ask l (answer_of_try x) l'
+is_try slot ask l l' took.Run moves = moves
+is_try slot ask l l' (took.Over d) moves = moves
+is_try slot ask l l' took.Blocked moves = moves
+is_try slot ask l l' took.Raced moves = moves
 
 pub at_of : (a : Admitted) (t : PassToken) → IsAdmitted a t → IsAt (place_of a) t
 at_of admitted.Run t is = is

@@ -5,23 +5,29 @@ ghost use Rattle.apf_words.specs.Limits.{max_width, max_cost, max_limit};
 ghost use Rattle.apf_flow.specs.Deal.{hand_of};
 ghost use Rattle.apf_model.specs.declared.response.Response.TheVariants.{Queue};
 ghost use Rattle.apf_gate.specs.Slots.{IsTicket};
+ghost use Rattle.apf_gate.specs.StationCalls.{TriesToCancel, ClosesTo};
+ghost use Rattle.apf_gate.specs.StationSteps.{StationLoadsLevel};
 ghost use Rattle.apf_book.specs.Life.{LifeView};
 ghost use Rattle.apf_book.specs.LifeBook.{IsLifeKept};
 ghost use Rattle.apf_book.specs.Notes.{AreLifeStats, CopiesLate};
 ghost use Rattle.apf_line.specs.Reports.{Ended};
 ghost use Rattle.apf_local.specs.declared.answer.Place.TheVariants as places;
 ghost use Rattle.apf_local.specs.Levels.{id_of, SameLocal, GoesOn, IsArrival, IsFinish};
+ghost use Rattle.apf_local.specs.Owners.{IsSlotOf, Steps, Sets};
+ghost use Rattle.apf_local.specs.Tries.{IsTry, IsReading, SlotsStay};
 ghost use Rattle.apf_local.specs.Openings.{IsOpened};
 
 use crate::admitting::admit;
 use crate::answer::{Answer, Ask, Place};
 use crate::fault::OpenFault;
 use crate::owner::Owner;
+use crate::reading::read_place;
 use apf_book::{BookFault, Copied, LifeEvent, LifeStats};
 use apf_flow::Dealer;
-use apf_gate::Ticket;
+use apf_gate::{Cancel, Close, Ticket};
 use apf_line::{Report, every_level_has_histories};
 use apf_model::Config;
+use apf_words::LevelWord;
 use std::alloc::{AllocError, Global};
 use std::marker::Model;
 
@@ -127,6 +133,121 @@ impl LocalLevel {
         self.places[slot] = Place::Free;
         self.owner.dispatch();
         Answer::Released
+    }
+
+    /// The next request of a free slot takes its seats, if nobody waits and they fit. It never enters a queue. Answers
+    /// `Run`, `Over` or `Busy`, or `Spent`. `Wrong` of a slot that is not free.
+    pub fn try_arrive(&mut self, slot: usize, ask: Ask) -> Answer
+        requires is_slot { slot < length self.old.places }
+        requires some_width { 1 ≤ ask.width }
+        requires narrow { ask.width ≤ max_width }
+        ensures same { SameLocal self.old self.new }
+        ensures tries { IsTry slot ask self.old result self.new }
+        ensures history { (v : LifeView) → IsLifeKept v self.old.owner.book → GoesOn v self.new.owner.book }
+    {
+        every_level_has_histories();
+        self.owner.has_a_history();
+        match self.places[slot] {
+            Place::Free => {}
+            Place::Waits | Place::Runs => return Answer::Wrong,
+        }
+        let Some(took) = self.owner.begin(slot, ask) else {
+            return Answer::Spent;
+        };
+        self.places[slot] = took.place();
+        self.owner.dispatch();
+        took.answer()
+    }
+
+    /// Where the slot's request is. One that waits reads its decision, and one that is cancelled leaves its queue. Then
+    /// requests that wait are dispatched.
+    pub fn place(&mut self, slot: usize) -> Place
+        requires is_slot { slot < length self.old.places }
+        ensures same { SameLocal self.old self.new }
+        ensures reads { IsReading slot self.old result self.new }
+        ensures history { (v : LifeView) → IsLifeKept v self.old.owner.book → GoesOn v self.new.owner.book }
+    {
+        every_level_has_histories();
+        self.owner.has_a_history();
+        match self.places[slot] {
+            Place::Waits => {}
+            Place::Free => return Place::Free,
+            Place::Runs => return Place::Runs,
+        }
+        let place = read_place(&mut self.owner, slot);
+        self.places[slot] = place;
+        self.owner.dispatch();
+        place
+    }
+
+    /// What names the slot's newest request for ever.
+    pub fn ticket(&self, slot: usize) -> Ticket
+        requires { slot < length self.now.owner.passes }
+        ensures { IsSlotOf self.now.owner.passes slot (λ t. result.number ≡ t.pass.number) }
+    {
+        self.owner.ticket(slot)
+    }
+
+    /// Cancels a request, if it is undecided and holds its slot. One that waits is struck out of its queue, and then
+    /// requests that wait are dispatched. Answers its decision, or `Other`: another request holds the slot, so that this
+    /// one is over.
+    pub fn cancel(&mut self, request: Ticket) -> Cancel
+        requires { IsTicket self.old.owner.gate.shape request.number }
+        ensures same { SameLocal self.old self.new }
+        ensures slots { SlotsStay self.old self.new }
+        ensures cancels { Steps self.old.owner.stations self.new.owner.stations (λ station station'. TriesToCancel station request.number result station') }
+        ensures history { (v : LifeView) → IsLifeKept v self.old.owner.book → GoesOn v self.new.owner.book }
+    {
+        every_level_has_histories();
+        self.owner.has_a_history();
+        let answer = self.owner.cancel(request);
+        self.owner.dispatch();
+        answer
+    }
+
+    /// Closes the level: no request enters a queue or takes seats on arrival any more. Says whether this close was the
+    /// first.
+    pub fn close(&mut self) -> Close
+        ensures same { SameLocal self.old self.new }
+        ensures slots { SlotsStay self.old self.new }
+        ensures closes { Steps self.old.owner.stations self.new.owner.stations (λ station station'. ClosesTo station result station') }
+        ensures history { (v : LifeView) → IsLifeKept v self.old.owner.book → GoesOn v self.new.owner.book }
+    {
+        every_level_has_histories();
+        self.owner.has_a_history();
+        let answer = self.owner.close();
+        self.owner.dispatch();
+        answer
+    }
+
+    /// Reads the level word.
+    pub fn look(&mut self) -> LevelWord
+        ensures same { SameLocal self.old self.new }
+        ensures slots { SlotsStay self.old self.new }
+        ensures looks { Steps self.old.owner.stations self.new.owner.stations (λ station station'. StationLoadsLevel station result station') }
+        ensures history { (v : LifeView) → IsLifeKept v self.old.owner.book → GoesOn v self.new.owner.book }
+    {
+        every_level_has_histories();
+        self.owner.has_a_history();
+        let word = self.owner.look();
+        self.owner.dispatch();
+        word
+    }
+
+    /// Sets the limit, 1 to 10,000 seats. Then requests that wait are dispatched. Answers the old limit.
+    pub fn set_limit(&mut self, limit: u32) -> u32
+        requires some_limit { 1 ≤ limit }
+        requires small_limit { limit ≤ max_limit }
+        ensures same { SameLocal self.old self.new }
+        ensures slots { SlotsStay self.old self.new }
+        ensures sets { Steps self.old.owner.stations self.new.owner.stations (Sets limit result) }
+        ensures history { (v : LifeView) → IsLifeKept v self.old.owner.book → GoesOn v self.new.owner.book }
+    {
+        every_level_has_histories();
+        self.owner.has_a_history();
+        let old = self.owner.set_limit(limit);
+        self.owner.dispatch();
+        old
     }
 
     /// How many events there ever were of each kind, of fewer than 2^64.

@@ -3,7 +3,7 @@
 //!
 //! - `level`: the level, by its slots.
 //! - `answer`: what a request asks for, and what the calls of the level answer. `fault`: why it is not opened.
-//! - `admitting`: the arrival of a request. `taking`: what its Pass does of its own between two hearings.
+//! - `admitting`: the arrival of a request. `reading`: what one that waits reads. `taking`: what its Pass does of its own between two hearings.
 //! - `owner`: a gate, its book and all of its tokens in one hand, so that no exchange is ever lost.
 #![tactic(auto)]
 
@@ -12,6 +12,7 @@ mod answer;
 mod fault;
 mod level;
 mod owner;
+mod reading;
 mod taking;
 
 pub use answer::{Answer, Ask, Place};

@@ -5,7 +5,9 @@ ghost use Rattle.apf_gate.specs.declared.record.State.TheVariants.{Fresh};
 ghost use Rattle.apf_gate.specs.Tokens.{pass_gate};
 ghost use Rattle.apf_gate.specs.PassResults.{SamePass};
 ghost use Rattle.apf_local.specs.Owners.{Takes};
+ghost use Rattle.apf_local.specs.Tries.{answer_of_try, place_of_try};
 
+use crate::answer::{Answer, Place};
 use apf_gate::{Gate, Pass, TryTake};
 use apf_words::Decision;
 use std::alloc::Global;
@@ -21,6 +23,30 @@ pub enum Took {
     Blocked,
     /// The exchange found another level word than the load before it.
     Raced,
+}
+
+impl Took {
+    /// What is answered of it.
+    pub fn answer(self) -> Answer
+        ensures { result ≡ answer_of_try self }
+    {
+        match self {
+            Took::Run => Answer::Run,
+            Took::Over(decision) => Answer::Over(decision),
+            Took::Blocked | Took::Raced => Answer::Busy,
+        }
+    }
+
+    /// Where the request is.
+    pub fn place(self) -> Place
+        ensures { result ≡ place_of_try self }
+    {
+        match self {
+            Took::Run => Place::Runs,
+            Took::Over(_decision) => Place::Free,
+            Took::Blocked | Took::Raced => Place::Free,
+        }
+    }
 }
 
 /// Takes the request's seats, if the level is open, nobody waits and they fit, and decides. Seats that were taken while

@@ -7,7 +7,7 @@ use Rattle.apf_book.specs.LifeBook.{LifeBookView}
 use Rattle.apf_book.specs.LifeCalls.{HearsLife}
 use Rattle.apf_local.specs.Owners.{OwnerView, Reads}
 use Rattle.apf_local.proofs.Places.{set_again, was, moved}
-use Rattle.apf_local.proofs.Reading.{read_is}
+use Rattle.apf_local.proofs.Told.{read_is}
 use Rattle.apf_local.proofs.owner.Owner.read.Goals as goal
 
 pub returns-clause-reads : goal.returns-clause-reads

@@ -10,7 +10,7 @@ use Rattle.apf_book.specs.LifeCalls.{HearsLife}
 use Rattle.apf_local.specs.Owners.{OwnerView, Leaves}
 use Rattle.apf_local.proofs.Knowing.{book_then}
 use Rattle.apf_local.proofs.Places.{set_again, was, moved, same_owner}
-use Rattle.apf_local.proofs.Reading.{left_is_done, strikes_one}
+use Rattle.apf_local.proofs.Told.{left_is_done, strikes_one}
 use Rattle.apf_local.proofs.owner.Owner.withdraw.Goals as goal
 
 pub returns-clause-same : goal.returns-clause-same

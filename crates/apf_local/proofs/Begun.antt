@@ -29,5 +29,5 @@ module _ (ask : Ask) (b b' : LifeBookView) (old p p' : PassToken) (same : SameRe
   begun (took.Over d) not takes asked =
       let told = hears_told b b' p p' same hears d takes.1 in
       (over_is_done p' d (hears.state ∙ takes.0) told, told, takes.2)
-  begun took.Blocked not takes asked = (hears.state ∙ takes, asked_then p.pass.knows.trace p'.pass.knows.trace p.pass.number p'.pass.number (record { hash = ask.hash; cost = ask.cost }) (hears_trace b b' p p' same hears) same.number asked)
+  begun took.Blocked not takes asked = (hears.state ∙ takes.0, asked_then p.pass.knows.trace p'.pass.knows.trace p.pass.number p'.pass.number (record { hash = ask.hash; cost = ask.cost }) (hears_trace b b' p p' same hears) same.number asked, record { before = old.pass; after = p.pass; number = same.number; finds = takes.1; goes_on = hears_trace b b' p p' same hears })
   begun took.Raced not takes asked = absurd (not refl)

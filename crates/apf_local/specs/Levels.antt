@@ -25,7 +25,9 @@ use Rattle.apf_local.specs.declared.answer.Place.{Place}
 use Rattle.apf_local.specs.declared.answer.Place.TheVariants as places
 use Rattle.apf_local.specs.declared.admitting.Admitted.{Admitted}
 use Rattle.apf_local.specs.declared.admitting.Admitted.TheVariants as admitted
-use Rattle.apf_local.specs.Owners.{OwnerView, SameOwner, GivesBack}
+use Rattle.apf_local.specs.declared.taking.Took.{Took}
+use Rattle.apf_local.specs.declared.taking.Took.TheVariants as took
+use Rattle.apf_local.specs.Owners.{OwnerView, SameOwner, GivesBack, IsBegun}
 
 pub record LocalView : Type 0 where
   pub owner : OwnerView
@@ -92,10 +94,26 @@ abbrev pub LogsOne : LifeView → ℕ → List ℕ → ℕ → Admitted → Opti
 LogsOne v r hand cost answer None b' = (answer ≢ admitted.Waits) × (answer ≢ admitted.Over QueueFull) × IsLifeKept v b'
 LogsOne v r hand cost answer (Some event) b' = IsEventOf r answer (event_of event) × (has_arrived v.history r ≡ false) × IsLifeKept (then_came (asked v r hand cost) (event_of event)) b'
 
+-- what is answered of a request follows from what its try came to: only one that found no seats stands in line
+abbrev pub Follows : Took → Admitted → Type 0
+Follows took.Run answer = answer ≡ admitted.Run
+Follows (took.Over decision) answer = answer ≡ admitted.Over decision
+Follows took.Blocked answer = Unit {0}
+Follows took.Raced answer = ⊥
+
+-- the request tried to take its seats before it is answered so
+pub record HasTried (ask : Ask) (answer : Admitted) (after : PassToken) : Type 0 where
+  pub took : Took
+  pub then : PassToken
+  pub number : after.pass.number ≡ then.pass.number
+  pub is : IsBegun ask took then
+  pub follows : Follows took answer
+
 -- the slot went on to its next request, which arrived
 pub record Admits (ask : Ask) (hand : List ℕ) (b : LifeBookView) (answer : Admitted) (event : Option LifeEvent) (b' : LifeBookView) (before after : PassToken) : Type 0 where
   pub number : after.pass.number ≡ next_of before.pass.number ask.width
   pub is : IsAdmitted answer after
+  pub tried : HasTried ask answer after
   pub history : (v : LifeView) → IsLifeKept v b → LogsOne v after.pass.number hand ask.cost answer event b'
 
 -- the slot's request arrived in the line
@@ -127,6 +145,7 @@ pub record Arrives (ask : Ask) (hand : List ℕ) (b : LifeBookView) (answer : An
   pub answer_is : answer ≡ answer_of admitted
   pub place_is : place' ≡ place_of admitted
   pub is : IsAdmitted admitted after
+  pub tried : HasTried ask admitted after
   pub history : (v : LifeView) → IsLifeKept v b → LogsIn v after.pass.number hand ask.cost admitted event b'
 
 -- a request that executed gave its seats back by one step, and its slot is free

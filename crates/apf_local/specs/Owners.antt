@@ -77,18 +77,30 @@ pub record Moves (slot : ℕ) (old new : List PassToken) (Does : PassToken → P
 abbrev pub IsRefusal : Decision → Type 0
 IsRefusal decision = (decision ≡ Closed) ⊎ (decision ≡ Cancelled)
 
+-- it loaded the level word, and found that others wait, or that it does not fit
+abbrev pub FindsNoSeats : PassRecord → PassRecord → Type 0
+FindsNoSeats pass pass' = TriesToTake pass tried.Waiters pass' ⊎ TriesToTake pass tried.NoRoom pass'
+
 -- what a Pass that was fresh came to by its own steps
 abbrev pub Takes : PassRecord → Took → PassRecord → Type 0
 Takes pass took.Run pass' = (pass'.state ≡ states.Took) × (told_own pass' ≡ Some Execute)
 Takes pass (took.Over decision) pass' = (pass'.state ≡ states.Over) × (told_own pass' ≡ Some decision) × IsRefusal decision
-Takes pass took.Blocked pass' = pass'.state ≡ states.Fresh
+Takes pass took.Blocked pass' = (pass'.state ≡ states.Fresh) × FindsNoSeats pass pass'
 Takes pass took.Raced pass' = TriesToTake pass tried.Raced pass'
+
+-- the request of this Pass tried to take its seats, and found none
+pub record FoundNoSeats (token : PassToken) : Type 0 where
+  pub before : PassRecord
+  pub after : PassRecord
+  pub number : token.pass.number ≡ after.number
+  pub finds : FindsNoSeats before after
+  pub goes_on : (newer : List Entry) × (newer ++ after.knows.trace ≡ token.pass.knows.trace)
 
 -- where the slot's next request is, by what its try came to
 abbrev pub IsBegun : Ask → Took → PassToken → Type 0
 IsBegun ask took.Run token = IsRunning token
 IsBegun ask (took.Over decision) token = IsDone token × (told_own token.pass ≡ Some decision) × IsRefusal decision
-IsBegun ask took.Blocked token = (token.pass.state ≡ states.Fresh) × (asked_in token.pass.knows.trace token.pass.number ≡ Some (record { hash = ask.hash; cost = ask.cost }))
+IsBegun ask took.Blocked token = (token.pass.state ≡ states.Fresh) × (asked_in token.pass.knows.trace token.pass.number ≡ Some (record { hash = ask.hash; cost = ask.cost })) × FoundNoSeats token
 IsBegun ask took.Raced token = ⊥
 
 -- the slot went on to its next request, of this width

@@ -182,8 +182,9 @@ impl LocalLevel {
 
     /// What names the slot's newest request for ever.
     pub fn ticket(&self, slot: usize) -> Ticket
-        requires { slot < length self.now.owner.passes }
-        ensures { IsSlotOf self.now.owner.passes slot (λ t. result.number ≡ t.pass.number) }
+        requires { slot < length self.now.places }
+        ensures number { IsSlotOf self.now.owner.passes slot (λ t. result.number ≡ t.pass.number) }
+        ensures is_ticket { IsTicket self.now.owner.gate.shape result.number }
     {
         self.owner.ticket(slot)
     }

@@ -113,7 +113,8 @@ impl Owner {
     /// What names the slot's newest request for ever.
     pub fn ticket(&self, slot: usize) -> Ticket
         requires { slot < length self.now.passes }
-        ensures { IsSlotOf self.now.passes slot (λ t. result.number ≡ t.pass.number) }
+        ensures number { IsSlotOf self.now.passes slot (λ t. result.number ≡ t.pass.number) }
+        ensures is_ticket { IsTicket self.now.gate.shape result.number }
     {
         self.passes[slot].ticket()
     }

@@ -70,7 +70,8 @@ pub fn take(gate: &Gate<Global>, pass: &mut Pass) -> Took
             let decision = gate.decide(pass, Decision::Closed);
             Took::Over(decision)
         }
-        TryTake::Waiters | TryTake::NoRoom => Took::Blocked,
+        TryTake::Waiters => Took::Blocked,
+        TryTake::NoRoom => Took::Blocked,
         TryTake::Raced => Took::Raced,
     }
 }

@@ -20,6 +20,22 @@ not_full : (d : Decision) → IsRefusal d → ◌≡◌ (admitted.Over d) (admit
 not_full d (inl closed) is = let z : admitted.Over Closed ≡ admitted.Over QueueFull = subst (λ x. admitted.Over x ≡ admitted.Over QueueFull) closed is in cc
 not_full d (inr cancelled) is = let z : admitted.Over Cancelled ≡ admitted.Over QueueFull = subst (λ x. admitted.Over x ≡ admitted.Over QueueFull) cancelled is in cc
 
+pub returns-in-Run-clause-admits : goal.returns-in-Run-clause-admits
+returns-in-Run-clause-admits c =
+    let moves : Moves c.args.slot c.args.owner.now.passes c.begin.new.self.passes (Begins c.args.ask took.Run) = subst (λ (t : Took). Moves c.args.slot c.args.owner.now.passes c.begin.new.self.passes (Begins c.args.ask t)) c.in-Run.is c.in_ok-begin.ensures.begins in
+    record {
+      before = moves.before;
+      after = moves.after;
+      was = moves.was;
+      now = moves.now;
+      does = record {
+        number = moves.does.number;
+        is = moves.does.is;
+        tried = record { took = took.Run; then = moves.after; number = refl; is = moves.does.is; follows = refl };
+        history = λ v kept. ((λ e. cc), (λ e. cc), c.begin.ensures.history v kept);
+      };
+    }
+
 pub returns-in-Over-clause-admits : goal.returns-in-Over-clause-admits
 returns-in-Over-clause-admits c =
     let d = c.in-Over.decision in
@@ -32,6 +48,7 @@ returns-in-Over-clause-admits c =
       does = record {
         number = moves.does.number;
         is = (moves.does.is.0, moves.does.is.1, not_execute d moves.does.is.2);
+        tried = record { took = took.Over d; then = moves.after; number = refl; is = moves.does.is; follows = refl };
         history = λ v kept. ((λ e. cc), not_full d moves.does.is.2, c.begin.ensures.history v kept);
       };
     }
@@ -54,6 +71,7 @@ returns-in-Blocked-clause-admits c =
       does = record {
         number = stands.does.number ∙ (ap (λ (t : PassToken). t.pass.number) same ∙ moves.does.number);
         is = stands.does.is;
+        tried = record { took = took.Blocked; then = moves.after; number = stands.does.number ∙ ap (λ (t : PassToken). t.pass.number) same; is = moves.does.is; follows = tt };
         history = λ v kept. stands.does.history v (c.begin.ensures.history v kept);
       };
     }

@@ -65,6 +65,7 @@ returns-clause-arrives c =
         answer_is = refl;
         place_is = c.place.ensures;
         is = moves.does.is;
+        tried = moves.does.tried;
         history = λ v kept. logs_in v moves.after.pass.number hand c.args.ask.cost a b1 b2 c.dispatch.result c.dispatch.ensures.served c.in-Some.event (moves.does.history v kept);
       };
     }) in

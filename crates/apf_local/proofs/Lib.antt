@@ -1,0 +1,9 @@
+pub mod Knowing
+pub mod Places
+pub mod Hearing
+pub mod Begun
+pub mod Entering
+pub mod Told
+pub mod Beginning
+pub mod Slots
+pub mod Logging

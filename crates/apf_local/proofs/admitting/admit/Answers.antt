@@ -1,0 +1,77 @@
+-- The slot's next request, over its try and its arrival in the line.
+use Rattle.std.proofs.Common.{rules, ◌≡◌, ◌≢◌, ◌⊎◌, inl, inr, List, set, Some, refl, sym, ap, ◌∙◌, subst}
+use Rattle.std.specs.Prelude.{slice_get}
+use Rattle.apf_words.specs.declared.decision.Decision.{Decision}
+use Rattle.apf_words.specs.declared.decision.Decision.TheVariants.{Execute, QueueFull, Closed, Cancelled}
+use Rattle.apf_gate.specs.Tokens.{PassToken}
+use Rattle.apf_local.specs.declared.admitting.Admitted.TheVariants as admitted
+use Rattle.apf_local.specs.declared.taking.Took.{Took}
+use Rattle.apf_local.specs.declared.taking.Took.TheVariants as took
+use Rattle.apf_local.specs.Owners.{Moves, Begins, IsRefusal}
+use Rattle.apf_local.proofs.Places.{set_again}
+use Rattle.apf_local.proofs.Slots.{owner_then, get_same}
+use Rattle.apf_local.proofs.admitting.admit.Goals as goal
+
+not_execute : (d : Decision) → IsRefusal d → d ≢ Execute
+not_execute d (inl closed) is = let z = sym closed ∙ is in cc
+not_execute d (inr cancelled) is = let z = sym cancelled ∙ is in cc
+
+not_full : (d : Decision) → IsRefusal d → ◌≡◌ (admitted.Over d) (admitted.Over QueueFull) → ⊥
+not_full d (inl closed) is = let z : admitted.Over Closed ≡ admitted.Over QueueFull = subst (λ x. admitted.Over x ≡ admitted.Over QueueFull) closed is in cc
+not_full d (inr cancelled) is = let z : admitted.Over Cancelled ≡ admitted.Over QueueFull = subst (λ x. admitted.Over x ≡ admitted.Over QueueFull) cancelled is in cc
+
+pub returns-in-Run-clause-admits : goal.returns-in-Run-clause-admits
+returns-in-Run-clause-admits c =
+    let moves : Moves c.args.slot c.args.owner.now.passes c.begin.new.self.passes (Begins c.args.ask took.Run) = subst (λ (t : Took). Moves c.args.slot c.args.owner.now.passes c.begin.new.self.passes (Begins c.args.ask t)) c.in-Run.is c.in_ok-begin.ensures.begins in
+    record {
+      before = moves.before;
+      after = moves.after;
+      was = moves.was;
+      now = moves.now;
+      does = record {
+        number = moves.does.number;
+        is = moves.does.is;
+        tried = record { took = took.Run; then = moves.after; number = refl; is = moves.does.is; follows = refl };
+        history = λ v kept. ((λ e. cc), (λ e. cc), c.begin.ensures.history v kept);
+      };
+    }
+
+pub returns-in-Over-clause-admits : goal.returns-in-Over-clause-admits
+returns-in-Over-clause-admits c =
+    let d = c.in-Over.decision in
+    let moves : Moves c.args.slot c.args.owner.now.passes c.begin.new.self.passes (Begins c.args.ask (took.Over d)) = subst (λ (t : Took). Moves c.args.slot c.args.owner.now.passes c.begin.new.self.passes (Begins c.args.ask t)) c.in-Over.is c.in_ok-begin.ensures.begins in
+    record {
+      before = moves.before;
+      after = moves.after;
+      was = moves.was;
+      now = moves.now;
+      does = record {
+        number = moves.does.number;
+        is = (moves.does.is.0, moves.does.is.1, not_execute d moves.does.is.2);
+        tried = record { took = took.Over d; then = moves.after; number = refl; is = moves.does.is; follows = refl };
+        history = λ v kept. ((λ e. cc), not_full d moves.does.is.2, c.begin.ensures.history v kept);
+      };
+    }
+
+pub returns-in-Blocked-clause-same : goal.returns-in-Blocked-clause-same
+returns-in-Blocked-clause-same c = owner_then c.args.owner.now c.begin.new.self c.stand.new.owner c.begin.ensures.same c.stand.ensures.same
+
+pub returns-in-Blocked-clause-admits : goal.returns-in-Blocked-clause-admits
+returns-in-Blocked-clause-admits c =
+    let i = c.args.slot in
+    let ps = c.args.owner.now.passes in
+    let moves : Moves i ps c.begin.new.self.passes (Begins c.args.ask took.Blocked) = subst (λ (t : Took). Moves i ps c.begin.new.self.passes (Begins c.args.ask t)) c.in-Blocked.is c.in_ok-begin.ensures.begins in
+    let stands = c.stand.ensures.stands in
+    let same : stands.before ≡ moves.after = get_same ps i moves.after stands.before (subst (λ (xs : List PassToken). slice_get xs i ≡ Some stands.before) moves.now stands.was) in
+    record {
+      before = moves.before;
+      after = stands.after;
+      was = moves.was;
+      now = stands.now ∙ (ap (λ (xs : List PassToken). set xs i stands.after) moves.now ∙ set_again ps i moves.after stands.after);
+      does = record {
+        number = stands.does.number ∙ (ap (λ (t : PassToken). t.pass.number) same ∙ moves.does.number);
+        is = stands.does.is;
+        tried = record { took = took.Blocked; then = moves.after; number = stands.does.number ∙ ap (λ (t : PassToken). t.pass.number) same; is = moves.does.is; follows = tt };
+        history = λ v kept. stands.does.history v (c.begin.ensures.history v kept);
+      };
+    }

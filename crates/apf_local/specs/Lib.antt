@@ -1,0 +1,4 @@
+pub mod Owners
+pub mod Levels
+pub mod Openings
+pub mod Tries

@@ -1,0 +1,183 @@
+-- A gate, its book and all of its tokens in one hand, and what the calls of their owner answer.
+use Rattle.std.specs.Prelude.{◌≡◌, ◌≢◌, ◌⊎◌, ℕ, ◌*◌, ◌++◌, ◌==◌, not, Bool, true, false, List, length, All, slice_get, slice_set, Option, Some, None}
+use Rattle.apf_words.specs.Level.{Level}
+use Rattle.apf_words.specs.declared.decision.Decision.{Decision}
+use Rattle.apf_words.specs.declared.decision.Decision.TheVariants.{Execute, QueueFull, Closed, Cancelled}
+use Rattle.apf_flow.specs.Sizes.{Sizes}
+use Rattle.apf_model.specs.declared.response.Response.TheVariants.{Queue}
+use Rattle.apf_history.specs.declared.events.Event.TheVariants.{Strike}
+use Rattle.apf_model.specs.History.{has_arrived}
+use Rattle.apf_gate.specs.declared.answers.TryTake.TheVariants as tried
+use Rattle.apf_gate.specs.declared.record.State.TheVariants as states
+use Rattle.apf_gate.specs.declared.record.Entry.{Entry}
+use Rattle.apf_gate.specs.declared.record.PassRecord.{PassRecord}
+use Rattle.apf_gate.specs.Lost.{PassesSawAtMost, StationsSawAtMost}
+use Rattle.apf_gate.specs.PassCalls.{TriesToTake}
+use Rattle.apf_gate.specs.PassSteps.{PassSubtractsLevel}
+use Rattle.apf_gate.specs.Records.{told_own, KnowsMore}
+use Rattle.apf_gate.specs.StationCalls.{TriesToSet}
+use Rattle.apf_gate.specs.declared.answers.TrySetLimit.TheVariants as set
+use Rattle.apf_gate.specs.declared.record.StationRecord.{StationRecord}
+use Rattle.apf_gate.specs.Slots.{next_of}
+use Rattle.apf_gate.specs.Tokens.{GateId, PassToken, StationToken, pass_gate, desk_gate, station_gate}
+use Rattle.apf_gate.specs.Traces.{asked_in}
+use Rattle.apf_book.specs.declared.arrived.Arrived.{Arrived}
+use Rattle.apf_book.specs.declared.arrived.Arrived.TheVariants as arrived
+use Rattle.apf_book.specs.Life.{LifeView, IsAskedBy, then_came}
+use Rattle.apf_book.specs.LifeBook.{LifeBookView, IsLifeKept, arrived_in}
+use Rattle.apf_book.specs.LifeCalls.{SameLifeBook}
+use Rattle.apf_line.specs.Tokens.{IsDone, IsInLine, IsRunning}
+use Rattle.apf_local.specs.declared.answer.Ask.{Ask}
+use Rattle.apf_local.specs.declared.taking.Took.{Took}
+use Rattle.apf_local.specs.declared.taking.Took.TheVariants as took
+
+pub record OwnerView : Type 0 where
+  pub gate : GateId
+  pub book : LifeBookView
+  pub passes : List PassToken
+  pub stations : List StationToken
+
+-- all tokens of the gate are here, and the Desk, which the book has, has seen as much as any other
+pub record IsOwner (o : OwnerView) : Type 0 where
+  pub desk : desk_gate o.book.desk ≡ o.gate
+  pub has_queues : o.gate.shape.response ≡ Queue
+  pub room : o.book.notes.capacity ≡ 2 * o.gate.shape.slots
+  pub passes_own : All (λ (t : PassToken). pass_gate t ≡ o.gate) o.passes
+  pub stations_own : All (λ (t : StationToken). station_gate t ≡ o.gate) o.stations
+  pub all_passes : length o.passes ≡ o.gate.shape.slots
+  pub all_stations : length o.stations ≡ o.gate.shape.stations
+  pub newest : PassesSawAtMost (length o.book.desk.desk.knows.trace) o.passes
+  pub stations_newest : StationsSawAtMost (length o.book.desk.desk.knows.trace) o.stations
+
+-- the same gate with as many slots and Stations, and the same book
+pub record SameOwner (o o' : OwnerView) : Type 0 where
+  pub gate : o'.gate ≡ o.gate
+  pub book : SameLifeBook o.book o'.book
+  pub slots : length o'.passes ≡ length o.passes
+  pub stations : length o'.stations ≡ length o.stations
+
+-- no Pass and no Station made a step
+pub record Stay (o o' : OwnerView) : Type 0 where
+  pub passes : o'.passes ≡ o.passes
+  pub stations : o'.stations ≡ o.stations
+
+-- the Pass of this slot is so
+abbrev pub IsSlotOf : List PassToken → ℕ → (PassToken → Type 0) → Type 0
+IsSlotOf passes slot Is = (t : PassToken) → slice_get passes slot ≡ Some t → Is t
+
+-- the Pass of this slot did so, and the others are as they were
+pub record Moves (slot : ℕ) (old new : List PassToken) (Does : PassToken → PassToken → Type 0) : Type 0 where
+  pub before : PassToken
+  pub after : PassToken
+  pub was : slice_get old slot ≡ Some before
+  pub now : new ≡ slice_set old slot after
+  pub does : Does before after
+
+-- a request that took no seats was decided so by its own Pass, or cancelled
+abbrev pub IsRefusal : Decision → Type 0
+IsRefusal decision = (decision ≡ Closed) ⊎ (decision ≡ Cancelled)
+
+-- it loaded the level word, and found that others wait, or that it does not fit
+abbrev pub FindsNoSeats : PassRecord → PassRecord → Type 0
+FindsNoSeats pass pass' = TriesToTake pass tried.Waiters pass' ⊎ TriesToTake pass tried.NoRoom pass'
+
+-- what a Pass that was fresh came to by its own steps
+abbrev pub Takes : PassRecord → Took → PassRecord → Type 0
+Takes pass took.Run pass' = (pass'.state ≡ states.Took) × (told_own pass' ≡ Some Execute)
+Takes pass (took.Over decision) pass' = (pass'.state ≡ states.Over) × (told_own pass' ≡ Some decision) × IsRefusal decision
+Takes pass took.Blocked pass' = (pass'.state ≡ states.Fresh) × FindsNoSeats pass pass'
+Takes pass took.Raced pass' = TriesToTake pass tried.Raced pass'
+
+-- the request of this Pass tried to take its seats, and found none
+pub record FoundNoSeats (token : PassToken) : Type 0 where
+  pub before : PassRecord
+  pub after : PassRecord
+  pub number : token.pass.number ≡ after.number
+  pub finds : FindsNoSeats before after
+  pub goes_on : (newer : List Entry) × (newer ++ after.knows.trace ≡ token.pass.knows.trace)
+
+-- where the slot's next request is, by what its try came to
+abbrev pub IsBegun : Ask → Took → PassToken → Type 0
+IsBegun ask took.Run token = IsRunning token
+IsBegun ask (took.Over decision) token = IsDone token × (told_own token.pass ≡ Some decision) × IsRefusal decision
+IsBegun ask took.Blocked token = (token.pass.state ≡ states.Fresh) × (asked_in token.pass.knows.trace token.pass.number ≡ Some (record { hash = ask.hash; cost = ask.cost })) × FoundNoSeats token
+IsBegun ask took.Raced token = ⊥
+
+-- the slot went on to its next request, of this width
+pub record Begins (ask : Ask) (took : Took) (before after : PassToken) : Type 0 where
+  pub number : after.pass.number ≡ next_of before.pass.number ask.width
+  pub is : IsBegun ask took after
+
+-- a fresh Pass, whose request asked for this hand and this cost
+pub record IsBlocked (sizes : Sizes) (hand : List ℕ) (cost : ℕ) (token : PassToken) : Type 0 where
+  pub fresh : token.pass.state ≡ states.Fresh
+  pub asked : IsAskedBy sizes token.pass.knows.trace hand cost token.pass.number
+
+-- where a request is that arrived in the line
+abbrev pub IsEntered : Arrived → PassToken → Type 0
+IsEntered (arrived.Queued q) token = IsInLine token
+IsEntered (arrived.Full q) token = IsDone token × (told_own token.pass ≡ Some QueueFull)
+IsEntered arrived.Closed token = IsDone token × (told_own token.pass ≡ Some Closed)
+IsEntered arrived.Cancelled token = IsDone token × (told_own token.pass ≡ Some Cancelled)
+IsEntered arrived.Again token = ⊥
+
+-- each history that the book was of got the event that is answered, of a request that is new to it
+pub record Enters (book : LifeBookView) (hand : List ℕ) (cost : ℕ) (answer : Arrived) (book' : LifeBookView) (before after : PassToken) : Type 0 where
+  pub number : after.pass.number ≡ before.pass.number
+  pub is : IsEntered answer after
+  pub is_new : (v : LifeView) → IsLifeKept v book → has_arrived v.history before.pass.number ≡ false
+  pub history : (v : LifeView) → IsLifeKept v book → IsLifeKept (arrived_in v before.pass.number hand cost answer) book'
+
+-- the seats went back by one step, which found whether requests waited
+pub record GivesBack (waiting : Bool) (before after : PassToken) : Type 0 where
+  pub number : after.pass.number ≡ before.pass.number
+  pub is : IsDone after
+  pub told : told_own after.pass ≡ Some Execute
+  pub level : Level
+  pub between : PassRecord
+  pub gives_back : PassSubtractsLevel before.pass level between
+  pub goes_on : (newer : List Entry) × (newer ++ between.knows.trace ≡ after.pass.knows.trace)
+  pub finds : waiting ≡ not (level.waiters == 0)
+
+-- where a request is that waited and read its decision
+abbrev pub IsRead : Option Decision → PassToken → Type 0
+IsRead None token = IsInLine token
+IsRead (Some Execute) token = IsRunning token
+IsRead (Some decision) token = IsInLine token × (told_own token.pass ≡ Some decision)
+
+pub record Reads (found : Option Decision) (before after : PassToken) : Type 0 where
+  pub number : after.pass.number ≡ before.pass.number
+  pub is : IsRead found after
+
+-- a request that waited was told that it does not execute
+pub record IsToldOff (token : PassToken) : Type 0 where
+  pub in_line : IsInLine token
+  pub is_told : told_own token.pass ≢ None
+  pub not_executed : told_own token.pass ≢ Some Execute
+
+-- it left the line, cancelled
+pub record Leaves (before after : PassToken) : Type 0 where
+  pub number : after.pass.number ≡ before.pass.number
+  pub is : IsDone after
+  pub told : told_own after.pass ≡ Some Cancelled
+
+-- the Strike of this request came to this very history, or nothing did
+abbrev pub StrikesOne : ℕ → LifeView → LifeBookView → Type 0
+StrikesOne r v b' = IsLifeKept v b' ⊎ ((q : ℕ) × IsLifeKept (then_came v (Strike r q)) b')
+
+-- the first Station heard what the others know, made these steps, and told them. The others are as they were
+pub record Steps (old new : List StationToken) (Does : StationRecord → StationRecord → Type 0) : Type 0 where
+  pub before : StationToken
+  pub after : StationToken
+  pub was : slice_get old 0 ≡ Some before
+  pub now : new ≡ slice_set old 0 after
+  pub number : after.station.number ≡ before.station.number
+  pub heard : StationRecord
+  pub did : StationRecord
+  pub more : KnowsMore before.station.knows heard.knows
+  pub does : Does heard did
+  pub told : KnowsMore did.knows after.station.knows
+
+-- the limit was set by one exchange, which answers the old one
+abbrev pub Sets : ℕ → ℕ → StationRecord → StationRecord → Type 0
+Sets limit old station station' = (waiting : Bool) × TriesToSet station limit (set.Set old waiting) station'

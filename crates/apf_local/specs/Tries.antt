@@ -1,0 +1,61 @@
+-- What the other calls of a level answer.
+use Rattle.std.specs.Prelude.{◌≡◌, ◌≢◌, ◌⊎◌, ℕ, slice_get, Some}
+use Rattle.apf_gate.specs.Slots.{next_of}
+use Rattle.apf_gate.specs.Tokens.{PassToken}
+use Rattle.apf_local.specs.declared.answer.Ask.{Ask}
+use Rattle.apf_local.specs.declared.answer.Answer.{Answer}
+use Rattle.apf_local.specs.declared.answer.Answer.TheVariants as answers
+use Rattle.apf_local.specs.declared.answer.Place.{Place}
+use Rattle.apf_local.specs.declared.answer.Place.TheVariants as places
+use Rattle.apf_local.specs.declared.taking.Took.{Took}
+use Rattle.apf_local.specs.declared.taking.Took.TheVariants as took
+use Rattle.apf_local.specs.Owners.{IsBegun}
+use Rattle.apf_local.specs.Levels.{LocalView, SlotMoves, IsAt}
+
+-- a request that did not take its seats, since others wait or it does not fit, is busy
+abbrev pub answer_of_try : Took → Answer
+answer_of_try took.Run = answers.Run
+answer_of_try (took.Over decision) = answers.Over decision
+answer_of_try took.Blocked = answers.Busy
+answer_of_try took.Raced = answers.Busy
+
+abbrev pub place_of_try : Took → Place
+place_of_try took.Run = places.Runs
+place_of_try (took.Over decision) = places.Free
+place_of_try took.Blocked = places.Free
+place_of_try took.Raced = places.Free
+
+-- a free slot went on to its next request, which tried, and is where the answer says. That of a request that is busy is free
+pub record Tries (ask : Ask) (answer : Answer) (place : Place) (before : PassToken) (place' : Place) (after : PassToken) : Type 0 where
+  pub was_free : place ≡ places.Free
+  pub number : after.pass.number ≡ next_of before.pass.number ask.width
+  pub took : Took
+  pub answer_is : answer ≡ answer_of_try took
+  pub place_is : place' ≡ place_of_try took
+  pub is : IsBegun ask took after
+
+-- the next request of the slot tried; or the slot is not free, or its numbers are used up, and nothing was done
+abbrev pub IsTry : ℕ → Ask → LocalView → Answer → LocalView → Type 0
+IsTry slot ask l answers.Wrong l' = (l' ≡ l) × (slice_get l.places slot ≢ Some places.Free)
+IsTry slot ask l answers.Spent l' = l' ≡ l
+IsTry slot ask l answer l' = SlotMoves slot l l' (Tries ask answer)
+
+-- the request is the same, and is where its Pass says
+pub record Places (place' : Place) (before after : PassToken) : Type 0 where
+  pub number : after.pass.number ≡ before.pass.number
+  pub is : IsAt place' after
+
+-- a request that waited read its decision, and is where the answer says
+pub record Waited (answer : Place) (place : Place) (before : PassToken) (place' : Place) (after : PassToken) : Type 0 where
+  pub waited : place ≡ places.Waits
+  pub place_is : place' ≡ answer
+  pub reads : Places answer before after
+
+-- of a slot whose request waits its decision is read; of another one nothing is done
+abbrev pub IsReading : ℕ → LocalView → Place → LocalView → Type 0
+IsReading slot l answer l' = SlotMoves slot l l' (Waited answer) ⊎ ((l' ≡ l) × (slice_get l.places slot ≡ Some answer))
+
+-- no slot changed
+pub record SlotsStay (l l' : LocalView) : Type 0 where
+  pub passes : l'.owner.passes ≡ l.owner.passes
+  pub places : l'.places ≡ l.places

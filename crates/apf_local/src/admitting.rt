@@ -1,0 +1,109 @@
+//! The arrival of a request.
+
+ghost use Rattle.std.specs.Prelude.{◌≡◌, ◌≤◌, ◌<◌, length, IfSome, IfNone};
+ghost use Rattle.apf_words.specs.Limits.{max_width, max_cost};
+ghost use Rattle.apf_flow.specs.Deal.{hand_of};
+ghost use Rattle.apf_book.specs.Life.{sizes_of};
+ghost use Rattle.apf_line.specs.Tokens.{IsDone};
+ghost use Rattle.apf_local.specs.Owners.{SameOwner, Moves, IsSlotOf, IsBegun};
+ghost use Rattle.apf_local.specs.declared.taking.Took.TheVariants as took;
+ghost use Rattle.apf_local.specs.Levels.{Admits, Stands, answer_of, place_of};
+
+use crate::answer::{Answer, Ask, Place};
+use crate::owner::Owner;
+use crate::taking::Took;
+use apf_book::{Arrived, LifeEvent};
+use apf_flow::Dealer;
+use apf_words::Decision;
+
+/// What became of a request that arrived.
+#[derive(Clone, Copy, Debug, PartialEq, Eq)]
+pub enum Admitted {
+    /// It executes.
+    Run,
+    /// It is decided so, and was not executed.
+    Over(Decision),
+    /// It waits.
+    Waits,
+}
+
+impl Admitted {
+    /// What is answered of it.
+    pub fn answer(self) -> Answer
+        ensures { result ≡ answer_of self }
+    {
+        match self {
+            Admitted::Run => Answer::Run,
+            Admitted::Over(decision) => Answer::Over(decision),
+            Admitted::Waits => Answer::Waits,
+        }
+    }
+
+    /// Where it is.
+    pub fn place(self) -> Place
+        ensures { result ≡ place_of self }
+    {
+        match self {
+            Admitted::Run => Place::Runs,
+            Admitted::Over(_decision) => Place::Free,
+            Admitted::Waits => Place::Waits,
+        }
+    }
+}
+
+/// The next request of a free slot arrives: it takes its seats, or enters a queue, or is decided otherwise. Answers also
+/// the event that the history got by it: the request's Enter or Full, which name its queue, or none. `None` if the slot's
+/// numbers are used up: then nothing was done.
+pub fn admit(
+    owner: &mut Owner,
+    dealer: &Dealer,
+    slot: usize,
+    ask: Ask,
+) -> Option<(Admitted, Option<LifeEvent>)>
+    requires is_slot { slot < length owner.old.passes }
+    requires free { IsSlotOf owner.old.passes slot IsDone }
+    requires dealt { dealer.now ≡ sizes_of owner.old.book.queues }
+    requires some_width { 1 ≤ ask.width }
+    requires narrow { ask.width ≤ max_width }
+    requires some_cost { 1 ≤ ask.cost }
+    requires low_cost { ask.cost ≤ max_cost }
+    ensures same { SameOwner owner.old owner.new }
+    ensures spent { IfNone result (owner.new ≡ owner.old) }
+    ensures admits { IfSome result (λ a. Moves slot owner.old.passes owner.new.passes (Admits ask (hand_of dealer.now ask.hash) owner.old.book a.0 a.1 owner.new.book)) }
+{
+    match owner.begin(slot, ask)? {
+        Took::Run => Some((Admitted::Run, None)),
+        Took::Over(decision) => Some((Admitted::Over(decision), None)),
+        Took::Blocked => Some(stand(owner, dealer, slot, ask)),
+        Took::Raced => unreachable!(),
+    }
+}
+
+// The slot's request, which took no seats, arrives in the line.
+fn stand(
+    owner: &mut Owner,
+    dealer: &Dealer,
+    slot: usize,
+    ask: Ask,
+) -> (Admitted, Option<LifeEvent>)
+    requires is_slot { slot < length owner.old.passes }
+    requires begun { IsSlotOf owner.old.passes slot (IsBegun ask took.Blocked) }
+    requires dealt { dealer.now ≡ sizes_of owner.old.book.queues }
+    requires some_cost { 1 ≤ ask.cost }
+    requires low_cost { ask.cost ≤ max_cost }
+    ensures same { SameOwner owner.old owner.new }
+    ensures stands { Moves slot owner.old.passes owner.new.passes (Stands ask (hand_of dealer.now ask.hash) owner.old.book result.0 result.1 owner.new.book) }
+{
+    let hand = dealer.deal(ask.hash);
+    let ticket = owner.ticket(slot);
+    match owner.enter(slot, hand.as_slice(), ask.cost) {
+        Arrived::Queued(queue) => (Admitted::Waits, Some(LifeEvent::Enter(ticket, queue))),
+        Arrived::Full(queue) => (
+            Admitted::Over(Decision::QueueFull),
+            Some(LifeEvent::Full(ticket, queue)),
+        ),
+        Arrived::Closed => (Admitted::Over(Decision::Closed), None),
+        Arrived::Cancelled => (Admitted::Over(Decision::Cancelled), None),
+        Arrived::Again => unreachable!(),
+    }
+}

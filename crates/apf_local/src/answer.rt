@@ -1,0 +1,44 @@
+//! What a request asks for, and what the calls of a level answer.
+
+use apf_words::Decision;
+
+/// What a request asks for.
+#[derive(Clone, Copy, Debug, PartialEq, Eq)]
+pub struct Ask {
+    /// The seats that the request takes while it executes, 1 to 20,000.
+    pub width: u32,
+    /// The hash of the request's flow, which its hand of queues is dealt by: any 64 bits.
+    pub hash: u64,
+    /// What its dispatch is charged, 1 to 4,294,967,295 in a unit of the caller's.
+    pub cost: u32,
+}
+
+/// Where a slot's request is.
+#[derive(Clone, Copy, Debug, PartialEq, Eq)]
+pub enum Place {
+    /// The slot is free: its request is over, or none came yet.
+    Free,
+    /// It waits in a queue.
+    Waits,
+    /// It executes.
+    Runs,
+}
+
+/// What became of a slot's request by a call.
+#[derive(Clone, Copy, Debug, PartialEq, Eq)]
+pub enum Answer {
+    /// It executes.
+    Run,
+    /// It is decided so, and was not executed.
+    Over(Decision),
+    /// It could not be admitted now. It did not arrive, and its slot is free.
+    Busy,
+    /// It waits.
+    Waits,
+    /// It gave its seats back.
+    Released,
+    /// The slot's numbers are used up: a slot is given 2^46 times. Nothing was done.
+    Spent,
+    /// The call is not for a slot whose request is where this one is. Nothing was done.
+    Wrong,
+}

@@ -1,0 +1,50 @@
+//! Why a level is not opened.
+
+ghost use Rattle.std.specs.Prelude.{◌≡◌};
+ghost use Rattle.apf_local.specs.declared.fault.OpenFault.TheVariants.{NoMemory};
+ghost use Rattle.apf_local.specs.Openings.{told_of_gate, told_of_level};
+
+use apf_book::BookFault;
+use apf_gate::GateFault;
+use std::alloc::AllocError;
+
+/// Why a level is not opened.
+#[derive(Clone, Copy, Debug, PartialEq, Eq)]
+pub enum OpenFault {
+    /// The gate is not opened: `BadLimit` or `TooMany`.
+    Gate(GateFault),
+    /// The dealer or the queues are not made.
+    Level(BookFault),
+    /// Memory was refused.
+    NoMemory,
+}
+
+impl From<GateFault> for OpenFault {
+    ghost from_gives = { λ fault told. told ≡ told_of_gate fault };
+
+    fn from(fault: GateFault) -> Self {
+        match fault {
+            GateFault::NoMemory => Self::NoMemory,
+            _ => Self::Gate(fault),
+        }
+    }
+}
+
+impl From<BookFault> for OpenFault {
+    ghost from_gives = { λ fault told. told ≡ told_of_level fault };
+
+    fn from(fault: BookFault) -> Self {
+        match fault {
+            BookFault::NoMemory => Self::NoMemory,
+            _ => Self::Level(fault),
+        }
+    }
+}
+
+impl From<AllocError> for OpenFault {
+    ghost from_gives = { λ _ told. told ≡ NoMemory };
+
+    fn from(_refused: AllocError) -> Self {
+        Self::NoMemory
+    }
+}

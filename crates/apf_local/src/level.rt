@@ -1,0 +1,301 @@
+//! A priority level as one plain value.
+
+ghost use Rattle.std.specs.Prelude.{◌≡◌, ◌≢◌, ◌↔◌, ◌≤◌, ◌<◌, ◌^◌, ℕ, length, slice_get, All, IfOk, IsTrue};
+ghost use Rattle.apf_words.specs.Limits.{max_width, max_cost, max_limit};
+ghost use Rattle.apf_flow.specs.Deal.{hand_of};
+ghost use Rattle.apf_model.specs.declared.response.Response.TheVariants.{Queue};
+ghost use Rattle.apf_gate.specs.Slots.{IsTicket};
+ghost use Rattle.apf_gate.specs.StationCalls.{TriesToCancel, ClosesTo};
+ghost use Rattle.apf_gate.specs.StationSteps.{StationLoadsLevel};
+ghost use Rattle.apf_book.specs.Life.{LifeView};
+ghost use Rattle.apf_book.specs.LifeBook.{IsLifeKept};
+ghost use Rattle.apf_book.specs.Notes.{AreLifeStats, CopiesLate};
+ghost use Rattle.apf_line.specs.Reports.{Ended};
+ghost use Rattle.apf_local.specs.declared.answer.Place.TheVariants as places;
+ghost use Rattle.apf_local.specs.Levels.{id_of, SameLocal, GoesOn, IsArrival, IsFinish};
+ghost use Rattle.apf_local.specs.Owners.{IsSlotOf, Steps, Sets};
+ghost use Rattle.apf_local.specs.Tries.{IsTry, IsReading, SlotsStay};
+ghost use Rattle.apf_local.specs.Openings.{IsOpened};
+
+use crate::admitting::admit;
+use crate::answer::{Answer, Ask, Place};
+use crate::fault::OpenFault;
+use crate::owner::Owner;
+use crate::reading::read_place;
+use apf_book::{BookFault, Copied, LifeEvent, LifeStats};
+use apf_flow::Dealer;
+use apf_gate::{Cancel, Close, Ticket};
+use apf_line::{Report, every_level_has_histories};
+use apf_model::Config;
+use apf_words::LevelWord;
+use std::alloc::{AllocError, Global};
+use std::marker::Model;
+
+/// A priority level with queues, for one thread, with all that belongs to it. A slot is for one request after another.
+///
+/// After each call nobody waits, or who is dispatched next does not fit the level word.
+#[derive(Drop)]
+pub struct LocalLevel {
+    owner: Owner,
+    dealer: Dealer,
+    places: Vec<Place>,
+}
+
+impl Model for LocalLevel {
+    ghost use Rattle.apf_local.specs.Levels.{LocalView, IsLocal};
+
+    ghost Value = { LocalView };
+
+    ghost view = { λ l. record { owner = l.owner; sizes = l.dealer; places = l.places.items } };
+
+    ghost invariant = { λ l. IsLocal (record { owner = l.owner; sizes = l.dealer; places = l.places.items }) };
+}
+
+impl LocalLevel {
+    /// A level of so many slots, at most 10,000, all of them free. All memory is taken here, that of the newest events
+    /// too: two for each slot.
+    ///
+    /// # Errors
+    ///
+    /// The dealer's fault, the gate's, or the queues', the first of these, and `NoMemory` whenever memory was refused.
+    pub fn open(alloc: Global, config: &Config, slots: u32) -> Result<LocalLevel, OpenFault>
+        requires { config.now.limit_response ≡ Queue }
+        ensures { IfOk result (IsOpened config.now slots) }
+    {
+        let dealer = match Dealer::new(config.queues, config.hand_size) {
+            Ok(dealer) => dealer,
+            Err(fault) => return Err(OpenFault::Level(BookFault::Dealer(fault))),
+        };
+        let owner = Owner::open(alloc, config, slots)?;
+        let places = vec![in alloc; Place::Free; slots as usize]?;
+        Ok(LocalLevel {
+            owner,
+            dealer,
+            places,
+        })
+    }
+
+    /// How many slots there are.
+    pub fn slots(&self) -> usize
+        ensures { result ≡ length self.now.places }
+    {
+        self.places.len()
+    }
+
+    /// Whether there may be a request of this ticket: a ticket that came from outside is tested so.
+    pub fn knows(&self, ticket: Ticket) -> bool
+        ensures { IsTrue result ↔ IsTicket self.now.owner.gate.shape ticket.number }
+    {
+        self.owner.knows(ticket)
+    }
+
+    /// The next request of a free slot arrives: it takes its seats, or enters a queue, or is decided otherwise. Answers
+    /// `Run`, `Waits` or `Over`, or `Spent`, and the event that the history got by the arrival: the request's Enter or
+    /// Full, which name its queue, or none. `Wrong` of a slot that is not free.
+    pub fn arrive(&mut self, slot: usize, ask: Ask) -> (Answer, Option<LifeEvent>)
+        requires is_slot { slot < length self.old.places }
+        requires some_width { 1 ≤ ask.width }
+        requires narrow { ask.width ≤ max_width }
+        requires some_cost { 1 ≤ ask.cost }
+        requires low_cost { ask.cost ≤ max_cost }
+        ensures same { SameLocal self.old self.new }
+        ensures arrives { IsArrival slot ask (hand_of self.old.sizes ask.hash) self.old result.0 result.1 self.new }
+    {
+        every_level_has_histories();
+        self.owner.has_a_history();
+        match self.places[slot] {
+            Place::Free => {}
+            Place::Waits | Place::Runs => return (Answer::Wrong, None),
+        }
+        let Some((admitted, event)) = admit(&mut self.owner, &self.dealer, slot, ask) else {
+            return (Answer::Spent, None);
+        };
+        self.places[slot] = admitted.place();
+        self.owner.dispatch();
+        (admitted.answer(), event)
+    }
+
+    /// A request that executes gives its seats back, by one step. Then requests that wait are dispatched. Answers
+    /// `Released`, or `Wrong` of a slot whose request does not execute.
+    pub fn finish(&mut self, slot: usize) -> Answer
+        requires is_slot { slot < length self.old.places }
+        ensures same { SameLocal self.old self.new }
+        ensures finishes { IsFinish slot self.old result self.new }
+        ensures history { (v : LifeView) → IsLifeKept v self.old.owner.book → GoesOn v self.new.owner.book }
+    {
+        every_level_has_histories();
+        self.owner.has_a_history();
+        match self.places[slot] {
+            Place::Runs => {}
+            Place::Free | Place::Waits => return Answer::Wrong,
+        }
+        self.owner.give_back(slot);
+        self.places[slot] = Place::Free;
+        self.owner.dispatch();
+        Answer::Released
+    }
+
+    /// The next request of a free slot takes its seats, if nobody waits and they fit. It never enters a queue. Answers
+    /// `Run`, `Over` or `Busy`, or `Spent`. `Wrong` of a slot that is not free.
+    pub fn try_arrive(&mut self, slot: usize, ask: Ask) -> Answer
+        requires is_slot { slot < length self.old.places }
+        requires some_width { 1 ≤ ask.width }
+        requires narrow { ask.width ≤ max_width }
+        ensures same { SameLocal self.old self.new }
+        ensures tries { IsTry slot ask self.old result self.new }
+        ensures history { (v : LifeView) → IsLifeKept v self.old.owner.book → GoesOn v self.new.owner.book }
+    {
+        every_level_has_histories();
+        self.owner.has_a_history();
+        match self.places[slot] {
+            Place::Free => {}
+            Place::Waits | Place::Runs => return Answer::Wrong,
+        }
+        let Some(took) = self.owner.begin(slot, ask) else {
+            return Answer::Spent;
+        };
+        self.places[slot] = took.place();
+        self.owner.dispatch();
+        took.answer()
+    }
+
+    /// Where the slot's request is. One that waits reads its decision, and one that is cancelled leaves its queue. Then
+    /// requests that wait are dispatched.
+    pub fn place(&mut self, slot: usize) -> Place
+        requires is_slot { slot < length self.old.places }
+        ensures same { SameLocal self.old self.new }
+        ensures reads { IsReading slot self.old result self.new }
+        ensures history { (v : LifeView) → IsLifeKept v self.old.owner.book → GoesOn v self.new.owner.book }
+    {
+        every_level_has_histories();
+        self.owner.has_a_history();
+        match self.places[slot] {
+            Place::Waits => {}
+            Place::Free => return Place::Free,
+            Place::Runs => return Place::Runs,
+        }
+        let place = read_place(&mut self.owner, slot);
+        self.places[slot] = place;
+        self.owner.dispatch();
+        place
+    }
+
+    /// What names the slot's newest request for ever.
+    pub fn ticket(&self, slot: usize) -> Ticket
+        requires { slot < length self.now.places }
+        ensures number { IsSlotOf self.now.owner.passes slot (λ t. result.number ≡ t.pass.number) }
+        ensures is_ticket { IsTicket self.now.owner.gate.shape result.number }
+    {
+        self.owner.ticket(slot)
+    }
+
+    /// Cancels a request, if it is undecided and holds its slot. One that waits is struck out of its queue, and then
+    /// requests that wait are dispatched. Answers its decision, or `Other`: another request holds the slot, so that this
+    /// one is over.
+    pub fn cancel(&mut self, request: Ticket) -> Cancel
+        requires { IsTicket self.old.owner.gate.shape request.number }
+        ensures same { SameLocal self.old self.new }
+        ensures slots { SlotsStay self.old self.new }
+        ensures cancels { Steps self.old.owner.stations self.new.owner.stations (λ station station'. TriesToCancel station request.number result station') }
+        ensures history { (v : LifeView) → IsLifeKept v self.old.owner.book → GoesOn v self.new.owner.book }
+    {
+        every_level_has_histories();
+        self.owner.has_a_history();
+        let answer = self.owner.cancel(request);
+        self.owner.dispatch();
+        answer
+    }
+
+    /// Closes the level: no request enters a queue or takes seats on arrival any more. Says whether this close was the
+    /// first.
+    pub fn close(&mut self) -> Close
+        ensures same { SameLocal self.old self.new }
+        ensures slots { SlotsStay self.old self.new }
+        ensures closes { Steps self.old.owner.stations self.new.owner.stations (λ station station'. ClosesTo station result station') }
+        ensures history { (v : LifeView) → IsLifeKept v self.old.owner.book → GoesOn v self.new.owner.book }
+    {
+        every_level_has_histories();
+        self.owner.has_a_history();
+        let answer = self.owner.close();
+        self.owner.dispatch();
+        answer
+    }
+
+    /// Reads the level word.
+    pub fn look(&mut self) -> LevelWord
+        ensures same { SameLocal self.old self.new }
+        ensures slots { SlotsStay self.old self.new }
+        ensures looks { Steps self.old.owner.stations self.new.owner.stations (λ station station'. StationLoadsLevel station result station') }
+        ensures history { (v : LifeView) → IsLifeKept v self.old.owner.book → GoesOn v self.new.owner.book }
+    {
+        every_level_has_histories();
+        self.owner.has_a_history();
+        let word = self.owner.look();
+        self.owner.dispatch();
+        word
+    }
+
+    /// Sets the limit, 1 to 10,000 seats. Then requests that wait are dispatched. Answers the old limit.
+    pub fn set_limit(&mut self, limit: u32) -> u32
+        requires some_limit { 1 ≤ limit }
+        requires small_limit { limit ≤ max_limit }
+        ensures same { SameLocal self.old self.new }
+        ensures slots { SlotsStay self.old self.new }
+        ensures sets { Steps self.old.owner.stations self.new.owner.stations (Sets limit result) }
+        ensures history { (v : LifeView) → IsLifeKept v self.old.owner.book → GoesOn v self.new.owner.book }
+    {
+        every_level_has_histories();
+        self.owner.has_a_history();
+        let old = self.owner.set_limit(limit);
+        self.owner.dispatch();
+        old
+    }
+
+    /// How many events there ever were of each kind, of fewer than 2^64.
+    pub fn stats(&self) -> LifeStats
+        ensures { (v : LifeView) → IsLifeKept v self.now.owner.book → length v.history < 2 ^ 64 → AreLifeStats result v.history }
+    {
+        self.owner.stats()
+    }
+
+    /// How many events there ever were, of fewer than 2^64.
+    pub fn events(&self) -> u64
+        ensures { (v : LifeView) → IsLifeKept v self.now.owner.book → length v.history < 2 ^ 64 → result ≡ length v.history }
+    {
+        self.owner.events()
+    }
+
+    /// Copies events from this place on, of all that there ever were, the oldest first, as many as there is room for.
+    /// Those that are no longer kept are missed, and it tells from which place on it copied.
+    pub fn copy_events(&self, from: u64, into: &mut [LifeEvent]) -> Copied
+        ensures { (v : LifeView) → IsLifeKept v self.now.owner.book → length v.history < 2 ^ 64 → CopiesLate self.now.owner.book.notes.capacity v.history from into.old result into.new }
+    {
+        self.owner.copy_events(from, into)
+    }
+
+    /// Whether all slots are free, so that the level may end.
+    pub fn is_idle(&self) -> bool
+        ensures { IsTrue result ↔ All (λ p. p ≡ places.Free) self.now.places }
+    {
+        self.places.iter().all(|place| *place == Place::Free)
+    }
+
+    /// Ends a level whose slots are all free, and tells what its words and its history say of all requests that ever
+    /// held a slot.
+    ///
+    /// # Errors
+    ///
+    /// `AllocError` if memory was refused. Then everything is given up.
+    pub fn end(self, alloc: Global) -> Result<Report, AllocError>
+        requires free { All (λ p. p ≡ places.Free) self.places }
+        ensures { IfOk result (Ended (id_of self) self.owner.passes self.owner.stations) }
+    {
+        self.owner.has_a_history();
+        let LocalLevel {
+            owner,
+            dealer: _,
+            places,
+        } = self;
+        owner.end(alloc, places.len())
+    }
+}

@@ -1,0 +1,20 @@
+//! A priority level as one plain value, for one thread: its gate, its queues and all of its tokens. No call waits, and none
+//! takes a lock. Several levels stand in one `Vec`.
+//!
+//! - `level`: the level, by its slots.
+//! - `answer`: what a request asks for, and what the calls of the level answer. `fault`: why it is not opened.
+//! - `admitting`: the arrival of a request. `reading`: what one that waits reads. `taking`: what its Pass does of its own between two hearings.
+//! - `owner`: a gate, its book and all of its tokens in one hand, so that no exchange is ever lost.
+#![tactic(auto)]
+
+mod admitting;
+mod answer;
+mod fault;
+mod level;
+mod owner;
+mod reading;
+mod taking;
+
+pub use answer::{Answer, Ask, Place};
+pub use fault::OpenFault;
+pub use level::LocalLevel;

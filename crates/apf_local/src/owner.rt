@@ -1,0 +1,358 @@
+//! A gate, its book and all of its tokens in one hand.
+
+ghost use Rattle.std.specs.Prelude.{ℕ, ◌≡◌, ◌↔◌, ◌≢◌, ◌≤◌, ◌<◌, ◌*◌, ◌^◌, length, slice_get, All, IfSome, IfNone, IfOk, IsTrue};
+ghost use Rattle.apf_words.specs.Level.{Level};
+ghost use Rattle.apf_words.specs.Limits.{max_width, max_cost, max_limit};
+ghost use Rattle.apf_words.specs.declared.decision.Decision.TheVariants.{Execute, Cancelled};
+ghost use Rattle.apf_gate.specs.Ends.{IsEnded};
+ghost use Rattle.apf_gate.specs.Slots.{IsTicket};
+ghost use Rattle.apf_gate.specs.Tokens.{PassToken, pass_gate, desk_gate, station_gate};
+ghost use Rattle.apf_gate.specs.StationCalls.{TriesToCancel, ClosesTo};
+ghost use Rattle.apf_gate.specs.StationSteps.{StationLoadsLevel};
+ghost use Rattle.apf_book.specs.Life.{LifeView, IsAskedBy, sizes_of};
+ghost use Rattle.apf_book.specs.LifeBook.{IsLifeKept, IsLived, ServesLife, StrikesLife};
+ghost use Rattle.apf_book.specs.LifeCalls.{IsAsk};
+ghost use Rattle.apf_line.specs.Tokens.{IsDone, IsInLine, IsRunning};
+ghost use Rattle.apf_queue.specs.View.{queue_count};
+ghost use Rattle.apf_book.specs.Notes.{AreLifeStats, CopiesLate};
+ghost use Rattle.apf_line.specs.Levels.{LifeId};
+ghost use Rattle.apf_line.specs.Reports.{EndedAs};
+ghost use Rattle.apf_line.specs.Stopped.{IsStopped};
+ghost use Rattle.apf_local.specs.Openings.{IsNewOwner, HasQueuesOf};
+ghost use Rattle.apf_local.specs.Owners.{SameOwner, Moves, Stay, Begins, IsBlocked, Enters, GivesBack, Reads, IsToldOff, Leaves, StrikesOne, Steps, Sets, IsSlotOf};
+
+use crate::answer::Ask;
+use crate::fault::OpenFault;
+use crate::taking::{Took, take};
+use apf_book::{Arrived, Copied, LifeBook, LifeEvent, LifeStats, TryDispatch};
+use apf_gate::{
+    Cancel, Close, Gate, Pass, Renew, Station, Ticket, TrySetLimit, no_exchange_is_lost,
+};
+use apf_line::{Report, close_book, end_level, every_level_has_histories};
+use apf_model::{Config, Response};
+use apf_words::{Decision, LevelWord};
+use std::alloc::{AllocError, Global};
+use std::marker::Model;
+use std::mem;
+
+/// A gate, the book of its queues, and all of its tokens. The Desk, which the book has, has seen as much as any other: it
+/// hears each step of the others. So no exchange is ever lost.
+#[derive(Drop)]
+pub struct Owner {
+    alloc: Global,
+    gate: Gate<Global>,
+    book: LifeBook<Global>,
+    passes: Vec<Pass>,
+    stations: Vec<Station>,
+}
+
+impl Model for Owner {
+    ghost use Rattle.apf_local.specs.Owners.{OwnerView, IsOwner};
+    ghost use Rattle.apf_queue.specs.View.{queue_count};
+
+    ghost Value = { OwnerView };
+
+    ghost view = { λ o. record { gate = o.gate; book = o.book; passes = o.passes.items; stations = o.stations.items } };
+
+    ghost invariant = { λ o. IsOwner (record { gate = o.gate; book = o.book; passes = o.passes.items; stations = o.stations.items }) };
+}
+
+// One account has all of these tokens, which are given up.
+fn gather(
+    alloc: Global,
+    gate: &Gate<Global>,
+    book: &mut LifeBook<Global>,
+    passes: &mut Vec<Pass>,
+    stations: &mut Vec<Station>,
+)
+    requires own_desk { desk_gate book.old.desk ≡ gate.now }
+    requires own_passes { All (λ t. pass_gate t ≡ gate.now) passes.old.items }
+    requires own_stations { All (λ t. station_gate t ≡ gate.now) stations.old.items }
+    requires all_passes { length passes.old.items ≡ gate.now.shape.slots }
+    requires all_stations { length stations.old.items ≡ gate.now.shape.stations }
+    ensures here { (level : Level) × IsEnded gate.now book.old.desk.desk passes.old.items stations.old.items level }
+{
+    let all = mem::replace(passes, Vec::new(alloc));
+    let rest = mem::replace(stations, Vec::new(alloc));
+    book.all_are_here(gate, all, rest);
+}
+
+impl Owner {
+    /// A gate with queues, of so many slots and one Station, and a book in which nothing happened yet. All memory is taken
+    /// here.
+    ///
+    /// # Errors
+    ///
+    /// The first of these: the gate's fault, the queues', and `NoMemory` whenever memory was refused.
+    pub fn open(alloc: Global, config: &Config, slots: u32) -> Result<Owner, OpenFault>
+        ensures opened { IfOk result (IsNewOwner config.now slots) }
+        ensures deck { IfOk result (λ o. queue_count o.book.queues.queues ≡ config.now.queues) }
+        ensures hand { IfOk result (λ o. o.book.queues.hand ≡ config.now.hand_size) }
+        ensures stopped { IfOk result (λ o. IsStopped o.book) }
+    {
+        every_level_has_histories();
+        let widths = vec![in alloc; 1; slots as usize]?;
+        let (gate, desk, passes, stations) = Gate::open_for_life(
+            alloc,
+            config.limit,
+            widths.as_slice(),
+            1,
+            Response::Queue,
+        )?;
+        desk.is_of_a_gate();
+        let book = LifeBook::new(alloc, config, slots, desk)?;
+        Ok(Owner {
+            alloc,
+            gate,
+            book,
+            passes,
+            stations,
+        })
+    }
+
+    /// What names the slot's newest request for ever.
+    pub fn ticket(&self, slot: usize) -> Ticket
+        requires { slot < length self.now.passes }
+        ensures number { IsSlotOf self.now.passes slot (λ t. result.number ≡ t.pass.number) }
+        ensures is_ticket { IsTicket self.now.gate.shape result.number }
+    {
+        self.passes[slot].ticket()
+    }
+
+    /// How many events there ever were of each kind, of fewer than 2^64.
+    pub fn stats(&self) -> LifeStats
+        ensures { (v : LifeView) → IsLifeKept v self.now.book → length v.history < 2 ^ 64 → AreLifeStats result v.history }
+    {
+        self.book.stats()
+    }
+
+    /// How many events there ever were, of fewer than 2^64.
+    pub fn events(&self) -> u64
+        ensures { (v : LifeView) → IsLifeKept v self.now.book → length v.history < 2 ^ 64 → result ≡ length v.history }
+    {
+        self.book.events()
+    }
+
+    /// Copies events from this place on, of all that there ever were, the oldest first, as many as there is room for.
+    pub fn copy_events(&self, from: u64, into: &mut [LifeEvent]) -> Copied
+        ensures { (v : LifeView) → IsLifeKept v self.now.book → length v.history < 2 ^ 64 → CopiesLate self.now.book.notes.capacity v.history from into.old result into.new }
+    {
+        self.book.copy_events(from, into)
+    }
+
+    /// Whether there may be a request of this ticket.
+    pub fn knows(&self, ticket: Ticket) -> bool
+        ensures { IsTrue result ↔ IsTicket self.now.gate.shape ticket.number }
+    {
+        self.gate.knows(ticket)
+    }
+
+    /// There is a history that the book is of. It makes no step: the contract is the law.
+    pub fn has_a_history(&self)
+        ensures { IsLived self.now.book }
+    {
+        self.book.has_a_history();
+    }
+
+    /// Ends the level, of which no request waits or executes.
+    ///
+    /// # Errors
+    ///
+    /// `AllocError` if memory was refused. Then everything is given up.
+    pub fn end(self, alloc: Global, slots: usize) -> Result<Report, AllocError>
+        requires done { All IsDone self.passes }
+        requires slots { slots ≡ length self.passes }
+        ensures { IfOk result (λ r. (k : LifeId) (v : LifeView) → k.gate ≡ self.gate → HasQueuesOf k self.book → IsLifeKept v self.book → EndedAs k v self.passes self.stations r) }
+    {
+        let Owner {
+            alloc: _,
+            gate,
+            book,
+            passes,
+            stations,
+        } = self;
+        let closing = close_book(alloc, book, slots)?;
+        end_level(alloc, gate, closing, passes, stations)
+    }
+
+    /// The slot goes on to its next request, which takes its seats if the level is open, nobody waits and they fit. `None`
+    /// if the slot's numbers are used up: then nothing was done.
+    pub fn begin(&mut self, slot: usize, ask: Ask) -> Option<Took>
+        requires is_slot { slot < length self.old.passes }
+        requires free { IsSlotOf self.old.passes slot IsDone }
+        requires some_width { 1 ≤ ask.width }
+        requires narrow { ask.width ≤ max_width }
+        ensures same { SameOwner self.old self.new }
+        ensures spent { IfNone result (self.new ≡ self.old) }
+        ensures begins { IfSome result (λ took. Moves slot self.old.passes self.new.passes (Begins ask took)) }
+        ensures history { (v : LifeView) → IsLifeKept v self.old.book → IsLifeKept v self.new.book }
+    {
+        match self.gate.renew(&mut self.passes[slot], ask.width, ask.hash, ask.cost) {
+            Renew::Spent => return None,
+            Renew::Began(_decision) => {}
+        }
+        self.book.hear(&self.gate, &mut self.passes[slot]);
+        let took = take(&self.gate, &mut self.passes[slot]);
+        if took == Took::Raced {
+            gather(
+                self.alloc,
+                &self.gate,
+                &mut self.book,
+                &mut self.passes,
+                &mut self.stations,
+            );
+            no_exchange_is_lost();
+            unreachable!();
+        }
+        self.book.hear(&self.gate, &mut self.passes[slot]);
+        Some(took)
+    }
+
+    /// The slot's request, which took no seats, arrives in the line, with its hand of queues and what its dispatch is
+    /// charged.
+    pub fn enter(&mut self, slot: usize, dealt: &[u32], cost: u32) -> Arrived
+        requires is_slot { slot < length self.old.passes }
+        requires blocked { IsSlotOf self.old.passes slot (IsBlocked (sizes_of self.old.book.queues) dealt.now cost) }
+        requires ask { IsAsk self.old.book dealt.now cost }
+        ensures same { SameOwner self.old self.new }
+        ensures enters { Moves slot self.old.passes self.new.passes (Enters self.old.book dealt.now cost result self.new.book) }
+    {
+        self.gate.ask(&mut self.passes[slot]);
+        match self.book.try_arrive(&self.gate, &mut self.passes[slot], dealt, cost) {
+            Some(arrived) => arrived,
+            None => {
+                gather(self.alloc, &self.gate, &mut self.book, &mut self.passes, &mut self.stations);
+                no_exchange_is_lost();
+                unreachable!()
+            }
+        }
+    }
+
+    /// Dispatches the chosen heads of the queues while they fit, and strikes those that are cancelled. Tells how many
+    /// were dispatched.
+    pub fn dispatch(&mut self) -> u64
+        ensures same { SameOwner self.old self.new }
+        ensures stay { Stay self.old self.new }
+        ensures served { (v : LifeView) → IsLifeKept v self.old.book → ServesLife v self.old.book result self.new.book }
+    {
+        match self.book.try_dispatch(&self.gate) {
+            TryDispatch::Stopped(count) => count,
+            TryDispatch::Raced(_count) => {
+                gather(self.alloc, &self.gate, &mut self.book, &mut self.passes, &mut self.stations);
+                no_exchange_is_lost();
+                unreachable!()
+            }
+        }
+    }
+
+    /// The slot's request gives its seats back. Says whether requests waited then.
+    pub fn give_back(&mut self, slot: usize) -> bool
+        requires is_slot { slot < length self.old.passes }
+        requires runs { IsSlotOf self.old.passes slot IsRunning }
+        ensures same { SameOwner self.old self.new }
+        ensures gives { Moves slot self.old.passes self.new.passes (GivesBack result) }
+        ensures history { (v : LifeView) → IsLifeKept v self.old.book → IsLifeKept v self.new.book }
+    {
+        let waiting = self.gate.release(&mut self.passes[slot]);
+        self.book.hear(&self.gate, &mut self.passes[slot]);
+        waiting
+    }
+
+    /// Reads the decision of the slot's request, which waits.
+    pub fn read(&mut self, slot: usize) -> Option<Decision>
+        requires is_slot { slot < length self.old.passes }
+        requires waits { IsSlotOf self.old.passes slot IsInLine }
+        ensures same { SameOwner self.old self.new }
+        ensures reads { Moves slot self.old.passes self.new.passes (Reads result) }
+        ensures history { (v : LifeView) → IsLifeKept v self.old.book → IsLifeKept v self.new.book }
+    {
+        let found = self.gate.told(&mut self.passes[slot]);
+        self.book.hear(&self.gate, &mut self.passes[slot]);
+        found
+    }
+
+    /// The slot's request, which waits and was told that it does not execute, is cancelled. It is struck out of its
+    /// queue, if it waits there still.
+    pub fn withdraw(&mut self, slot: usize)
+        requires is_slot { slot < length self.old.passes }
+        requires told { IsSlotOf self.old.passes slot IsToldOff }
+        ensures same { SameOwner self.old self.new }
+        ensures leaves { Moves slot self.old.passes self.new.passes Leaves }
+        ensures history { (v : LifeView) → IsLifeKept v self.old.book → (r : ℕ) × StrikesOne r v self.new.book }
+    {
+        // the Desk, which let it enter, knows that it is decided by nobody else
+        self.book.hear(&self.gate, &mut self.passes[slot]);
+        self.book.withdraw(&self.gate, &mut self.passes[slot]);
+    }
+
+    /// Cancels a request, if it is undecided and holds its slot, and strikes it out of its queue. Answers its decision,
+    /// or `Other`: another request holds the slot, so that this one is over.
+    pub fn cancel(&mut self, ticket: Ticket) -> Cancel
+        requires is_request { IsTicket self.old.gate.shape ticket.number }
+        requires operator { 0 < length self.old.stations }
+        ensures same { SameOwner self.old self.new }
+        ensures passes { self.new.passes ≡ self.old.passes }
+        ensures cancels { Steps self.old.stations self.new.stations (λ station station'. TriesToCancel station ticket.number result station') }
+        ensures history { (v : LifeView) → IsLifeKept v self.old.book → StrikesOne ticket.number v self.new.book }
+    {
+        self.book.hear_station(&self.gate, &mut self.stations[0]);
+        let answer = self.gate.cancel_without_wake(&mut self.stations[0], ticket);
+        self.book.hear_station(&self.gate, &mut self.stations[0]);
+        if answer == Cancel::Is(Decision::Cancelled) {
+            self.book.strike(&self.gate, ticket);
+        }
+        answer
+    }
+
+    /// Closes the level. Says whether this close was the first.
+    pub fn close(&mut self) -> Close
+        requires operator { 0 < length self.old.stations }
+        ensures same { SameOwner self.old self.new }
+        ensures passes { self.new.passes ≡ self.old.passes }
+        ensures closes { Steps self.old.stations self.new.stations (λ station station'. ClosesTo station result station') }
+        ensures history { (v : LifeView) → IsLifeKept v self.old.book → IsLifeKept v self.new.book }
+    {
+        self.book.hear_station(&self.gate, &mut self.stations[0]);
+        let answer = self.gate.close(&mut self.stations[0]);
+        self.book.hear_station(&self.gate, &mut self.stations[0]);
+        answer
+    }
+
+    /// Reads the level word.
+    pub fn look(&mut self) -> LevelWord
+        requires operator { 0 < length self.old.stations }
+        ensures same { SameOwner self.old self.new }
+        ensures passes { self.new.passes ≡ self.old.passes }
+        ensures looks { Steps self.old.stations self.new.stations (λ station station'. StationLoadsLevel station result station') }
+        ensures history { (v : LifeView) → IsLifeKept v self.old.book → IsLifeKept v self.new.book }
+    {
+        self.book.hear_station(&self.gate, &mut self.stations[0]);
+        let word = self.gate.look(&mut self.stations[0]);
+        self.book.hear_station(&self.gate, &mut self.stations[0]);
+        word
+    }
+
+    /// Sets the limit, in seats. Answers the old one.
+    pub fn set_limit(&mut self, limit: u32) -> u32
+        requires operator { 0 < length self.old.stations }
+        requires some_limit { 1 ≤ limit }
+        requires small_limit { limit ≤ max_limit }
+        ensures same { SameOwner self.old self.new }
+        ensures passes { self.new.passes ≡ self.old.passes }
+        ensures sets { Steps self.old.stations self.new.stations (λ station station'. Sets limit result station station') }
+        ensures history { (v : LifeView) → IsLifeKept v self.old.book → IsLifeKept v self.new.book }
+    {
+        self.book.hear_station(&self.gate, &mut self.stations[0]);
+        match self.gate.try_set_limit(&mut self.stations[0], limit) {
+            TrySetLimit::Set(old, _waiting) => {
+                self.book.hear_station(&self.gate, &mut self.stations[0]);
+                old
+            }
+            TrySetLimit::Raced => {
+                gather(self.alloc, &self.gate, &mut self.book, &mut self.passes, &mut self.stations);
+                no_exchange_is_lost();
+                unreachable!()
+            }
+        }
+    }
+}

@@ -1,0 +1,71 @@
+//! Three levels in one `Vec`, which one thread serves in turn. There is no lock, and nothing waits.
+#![tactic(auto)]
+
+mod script;
+
+use apf_local::{LocalLevel, OpenFault};
+use apf_model::{Config, Response};
+use script::{SCRIPT, take_step};
+use std::alloc::Global;
+use std::process::ExitCode;
+
+// A level of one queue for one request that waits, beside its limit.
+fn open(alloc: Global, limit: u32, slots: u32) -> Result<LocalLevel, OpenFault> {
+    let config = Config {
+        limit,
+        queues: 1,
+        hand_size: 1,
+        queue_length_limit: 1,
+        limit_response: Response::Queue,
+    };
+    LocalLevel::open(alloc, &config, slots)
+}
+
+// Levels of one, two and three seats, of three slots each.
+fn three(alloc: Global) -> Result<Vec<LocalLevel>, OpenFault> {
+    let mut levels = Vec::with_capacity(alloc, 3)?;
+    for limit in 1..4 {
+        let level = open(alloc, limit, 3)?;
+        if levels.push(level).is_err() {
+            return Err(OpenFault::NoMemory);
+        }
+    }
+    Ok(levels)
+}
+
+// What each step was answered, and how each level ended.
+fn run(rt: &HostRuntime) -> Result<(), ExitCode> {
+    let alloc = rt.alloc();
+    let Ok(mut levels) = three(alloc) else {
+        return Err(ExitCode::from(3));
+    };
+    for (number, step) in SCRIPT {
+        let Some(level) = levels.get_mut(number) else {
+            return Err(ExitCode::from(2));
+        };
+        let told = take_step(level, step);
+        if println!(rt; "{number} {told:?}").is_err() {
+            return Err(ExitCode::from(1));
+        }
+    }
+    for level in levels {
+        if !level.is_idle() {
+            return Err(ExitCode::from(2));
+        }
+        let Ok(report) = level.end(alloc) else {
+            return Err(ExitCode::from(3));
+        };
+        let counts = report.words.counts();
+        if println!(rt; "{counts:?}").is_err() {
+            return Err(ExitCode::from(1));
+        }
+    }
+    Ok(())
+}
+
+fn main(rt: HostRuntime) -> ExitCode {
+    match run(&rt) {
+        Ok(()) => ExitCode::SUCCESS,
+        Err(status) => status,
+    }
+}

@@ -3,6 +3,7 @@ pub mod Ranks
 pub mod Lives
 pub mod Columns
 pub mod Spans
+pub mod Changes
 pub mod Labels
 pub mod Rows
 pub mod Words

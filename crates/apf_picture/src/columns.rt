@@ -8,7 +8,8 @@ ghost use Rattle.apf_picture.specs.Ranks.{own_rows};
 
 use crate::life::Life;
 use crate::rank::OWN_ROWS;
-use crate::span::{Span, columns, most};
+use crate::span::Span;
+use crate::timeline::Timeline;
 use std::alloc::{AllocError, Global};
 
 /// The seats in use by a row and those below it, at the time of each column.
@@ -72,7 +73,7 @@ fn row_area(alloc: Global, lives: &[Life], row: u32, end: u64) -> Result<Area, A
     ensures row { IfOk result (λ area. row_in area ≡ row) }
 {
     let spans = seat_spans(alloc, lives, row)?;
-    let tops = columns(alloc, spans.as_slice(), end)?;
+    let tops = Timeline::of(alloc, spans)?.columns(alloc, end)?;
     Ok(Area { row, tops })
 }
 
@@ -90,12 +91,13 @@ fn queue_strip(
     ensures place { IfOk result (λ strip. place_in strip ≡ place) }
 {
     let spans = wait_spans(alloc, lives, queue)?;
-    let lengths = columns(alloc, spans.as_slice(), end)?;
+    let timeline = Timeline::of(alloc, spans)?;
+    let lengths = timeline.columns(alloc, end)?;
     Ok(Strip {
         place,
         queue,
         lengths,
-        most: most(spans.as_slice()),
+        most: timeline.most(),
     })
 }
 
@@ -105,7 +107,7 @@ pub(crate) fn most_seats(alloc: Global, lives: &[Life]) -> Result<u64, AllocErro
     ensures { IfOk result (IsMost (seats_at lives.now own_rows)) }
 {
     let spans = seat_spans(alloc, lives, OWN_ROWS)?;
-    Ok(most(spans.as_slice()))
+    Ok(Timeline::of(alloc, spans)?.most())
 }
 
 /// The areas of so many rows, from the last to the first.

@@ -4,7 +4,9 @@
 //! - `scale`: where a value lies on a scale, and the marks of the axis of time.
 //! - `rank`: which flows have a row of their own.
 //! - `life`: what is drawn of one request.
-//! - `span`: how much there is at a time, and the most that there ever is.
+//! - `span`: what there is from a time until another one.
+//! - `totals`: changes by their times, and how much they are together until a time.
+//! - `timeline`: how much there is of spans at a time, and the most that there ever is.
 //! - `columns`: the seats in use and the lengths of the queues, at the time of each column and at most.
 //! - `label`: what a row is called, and the schema that all flows share.
 //! - `cutting`: how the names are cut, so that the rows are told apart.
@@ -36,6 +38,8 @@ mod scene;
 mod seats;
 mod span;
 mod style;
+mod timeline;
+mod totals;
 mod words;
 
 pub use laws::every_name_is_escaped;

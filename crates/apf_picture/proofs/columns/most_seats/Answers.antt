@@ -8,4 +8,4 @@ use Rattle.apf_picture.proofs.Peaks.{most_of_seats}
 use Rattle.apf_picture.proofs.columns.most_seats.Goals as goal
 
 pub returns : goal.returns
-returns c = most_of_seats c.args.lives.now own_rows c.most.result (subst (λ (spans : List Span). IsMost (held spans) c.most.result) (c.as_slice.ensures.value ∙ c.in_ok-spans.ensures.spans) c.most.ensures)
+returns c = most_of_seats c.args.lives.now own_rows c.most-2.result (subst (λ (spans : List Span). IsMost (held spans) c.most-2.result) (c.in_ok-of.ensures ∙ c.in_ok-spans.ensures.spans) c.most-2.ensures)

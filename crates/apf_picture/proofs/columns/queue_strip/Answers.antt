@@ -7,7 +7,9 @@ use Rattle.apf_picture.proofs.Peaks.{columns_of_waits, most_of_waits}
 use Rattle.apf_picture.proofs.columns.queue_strip.Goals as goal
 
 pub returns-clause-strip : goal.returns-clause-strip
-returns-clause-strip c = record {
-  lengths = c.in_ok-lengths.ensures ∙ ap (λ (spans : List Span). columns_of (held spans) c.args.end) (c.as_slice.ensures.value ∙ c.in_ok-spans.ensures.spans) ∙ columns_of_waits c.args.lives.now c.args.end c.args.queue;
-  most = most_of_waits c.args.lives.now c.args.queue c.most.result (subst (λ (spans : List Span). IsMost (held spans) c.most.result) (c.as_slice-2.ensures.value ∙ c.in_ok-spans.ensures.spans) c.most.ensures);
-}
+returns-clause-strip c =
+    let spans = c.in_ok-timeline.ensures ∙ c.in_ok-spans.ensures.spans in
+    record {
+      lengths = c.in_ok-lengths.ensures ∙ ap (λ (spans : List Span). columns_of (held spans) c.args.end) spans ∙ columns_of_waits c.args.lives.now c.args.end c.args.queue;
+      most = most_of_waits c.args.lives.now c.args.queue c.most.result (subst (λ (spans : List Span). IsMost (held spans) c.most.result) spans c.most.ensures);
+    }

@@ -80,12 +80,7 @@ pub fn admit(
 }
 
 // The slot's request, which took no seats, arrives in the line.
-fn stand(
-    owner: &mut Owner,
-    dealer: &Dealer,
-    slot: usize,
-    ask: Ask,
-) -> (Admitted, Option<LifeEvent>)
+fn stand(owner: &mut Owner, dealer: &Dealer, slot: usize, ask: Ask) -> (Admitted, Option<LifeEvent>)
     requires is_slot { slot < length owner.old.passes }
     requires begun { IsSlotOf owner.old.passes slot (IsBegun ask took.Blocked) }
     requires dealt { dealer.now ≡ sizes_of owner.old.book.queues }

@@ -187,7 +187,10 @@ impl Owner {
         ensures begins { IfSome result (λ took. Moves slot self.old.passes self.new.passes (Begins ask took)) }
         ensures history { (v : LifeView) → IsLifeKept v self.old.book → IsLifeKept v self.new.book }
     {
-        match self.gate.renew(&mut self.passes[slot], ask.width, ask.hash, ask.cost) {
+        match self
+            .gate
+            .renew(&mut self.passes[slot], ask.width, ask.hash, ask.cost)
+        {
             Renew::Spent => return None,
             Renew::Began(_decision) => {}
         }
@@ -218,10 +221,19 @@ impl Owner {
         ensures enters { Moves slot self.old.passes self.new.passes (Enters self.old.book dealt.now cost result self.new.book) }
     {
         self.gate.ask(&mut self.passes[slot]);
-        match self.book.try_arrive(&self.gate, &mut self.passes[slot], dealt, cost) {
+        match self
+            .book
+            .try_arrive(&self.gate, &mut self.passes[slot], dealt, cost)
+        {
             Some(arrived) => arrived,
             None => {
-                gather(self.alloc, &self.gate, &mut self.book, &mut self.passes, &mut self.stations);
+                gather(
+                    self.alloc,
+                    &self.gate,
+                    &mut self.book,
+                    &mut self.passes,
+                    &mut self.stations,
+                );
                 no_exchange_is_lost();
                 unreachable!()
             }
@@ -238,7 +250,13 @@ impl Owner {
         match self.book.try_dispatch(&self.gate) {
             TryDispatch::Stopped(count) => count,
             TryDispatch::Raced(_count) => {
-                gather(self.alloc, &self.gate, &mut self.book, &mut self.passes, &mut self.stations);
+                gather(
+                    self.alloc,
+                    &self.gate,
+                    &mut self.book,
+                    &mut self.passes,
+                    &mut self.stations,
+                );
                 no_exchange_is_lost();
                 unreachable!()
             }
@@ -349,7 +367,13 @@ impl Owner {
                 old
             }
             TrySetLimit::Raced => {
-                gather(self.alloc, &self.gate, &mut self.book, &mut self.passes, &mut self.stations);
+                gather(
+                    self.alloc,
+                    &self.gate,
+                    &mut self.book,
+                    &mut self.passes,
+                    &mut self.stations,
+                );
                 no_exchange_is_lost();
                 unreachable!()
             }

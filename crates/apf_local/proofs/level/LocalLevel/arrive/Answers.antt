@@ -70,4 +70,4 @@ returns-clause-arrives c =
       };
     }) in
     subst (λ (x : LocalView). IsArrival c.args.slot c.args.ask (hand_of x.sizes c.args.ask.hash) x c.answer.result c.in-Some.event l') c.self.view_is
-        (subst (λ (y : Answer). IsArrival c.args.slot c.args.ask hand l y c.in-Some.event l') (sym c.answer.ensures) arrives)
+    (subst (λ (y : Answer). IsArrival c.args.slot c.args.ask hand l y c.in-Some.event l') (sym c.answer.ensures) arrives)

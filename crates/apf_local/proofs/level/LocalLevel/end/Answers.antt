@@ -23,4 +23,4 @@ returns c = of_each _ _ (λ r ends.
     let l : LocalView = record { owner = c.self.inside.owner; sizes = c.self.inside.dealer; places = c.self.inside.places.items } in
     let h = c.has_a_history.ensures in
     subst (λ (x : LocalView). Ended (id_of x) x.owner.passes x.owner.stations r) c.self.view_is
-        (record { view = h.view; ended_as = ends (id_of l) h.view refl (record { queues = c.self.invariant.deck; limit = refl; hand = c.self.invariant.hand }) h.kept })) c.end.result c.end.ensures
+    (record { view = h.view; ended_as = ends (id_of l) h.view refl (record { queues = c.self.invariant.deck; limit = refl; hand = c.self.invariant.hand }) h.kept })) c.end.result c.end.ensures

@@ -31,7 +31,7 @@ pub returns-clause-same : goal.returns-clause-same
 returns-clause-same c =
     let l : LocalView = record { owner = c.self.inside.owner; sizes = c.self.inside.dealer; places = c.self.inside.places.items } in
     subst (λ (x : LocalView). SameLocal x (record { owner = c.dispatch.new.self; sizes = c.self.inside.dealer; places = set c.self.inside.places.items c.args.slot c.place.result })) c.self.view_is
-        (record { owner = owner_then l.owner c.begin.new.self c.dispatch.new.self c.in-Some.ensures.same c.dispatch.ensures.same; sizes = refl })
+    (record { owner = owner_then l.owner c.begin.new.self c.dispatch.new.self c.in-Some.ensures.same c.dispatch.ensures.same; sizes = refl })
 
 pub returns-clause-tries : goal.returns-clause-tries
 returns-clause-tries c =

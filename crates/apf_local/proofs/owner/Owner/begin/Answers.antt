@@ -42,11 +42,11 @@ unreachable-requires c =
     let more = not_less c.self.inside.book.desk.desk.knows b1.desk.desk.knows c.hear.ensures.same.more in
     let ended : IsEnded gate b1.desk.desk (set ps i t1) ts here.0 = subst (λ (xs : List PassToken). IsEnded gate b1.desk.desk xs ts here.0) (set_thrice ps i r0 h1 t1) here.1 in
     c.no_exchange_is_lost.ensures.take gate b1.desk.desk (set ps i t1) ts here.0 h1.pass t1.pass ended
-        (any-set (λ (t : PassToken). t.pass ≡ t1.pass) ps i t1 inside refl)
-        (All-set (λ (t : PassToken). t.pass.number ≢ h1.pass.number → length t.pass.knows.trace ≤ length h1.pass.knows.trace) ps i t1 (λ ne. absurd (ne same.number)) (λ k t at ne. let l = c.self.invariant.newest k t at in omega arith))
-        (omega arith)
-        (λ k t at. let l = c.self.invariant.stations_newest k t at in omega arith)
-        tries
+    (any-set (λ (t : PassToken). t.pass ≡ t1.pass) ps i t1 inside refl)
+    (All-set (λ (t : PassToken). t.pass.number ≢ h1.pass.number → length t.pass.knows.trace ≤ length h1.pass.knows.trace) ps i t1 (λ ne. absurd (ne same.number)) (λ k t at ne. let l = c.self.invariant.newest k t at in omega arith))
+    (omega arith)
+    (λ k t at. let l = c.self.invariant.stations_newest k t at in omega arith)
+    tries
 
 pub invariant_of-self-2 : goal.invariant_of-self-2
 invariant_of-self-2 c =

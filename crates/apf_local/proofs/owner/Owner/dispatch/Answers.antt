@@ -13,6 +13,6 @@ unreachable-requires c =
     let loses : LosesGrant b0 b1 = c.in-Raced.ensures.raced c.in-Raced._count refl in
     let more = not_less b0.desk.desk.knows loses.before.knows loses.more in
     c.no_exchange_is_lost.ensures.grant c.self.inside.gate loses.before b1.desk.desk c.self.inside.passes.items c.self.inside.stations.items here.0 loses.request here.1
-        (λ k t at. let l = c.self.invariant.newest k t at in omega arith)
-        (λ k t at. let l = c.self.invariant.stations_newest k t at in omega arith)
-        loses.raced
+    (λ k t at. let l = c.self.invariant.newest k t at in omega arith)
+    (λ k t at. let l = c.self.invariant.stations_newest k t at in omega arith)
+    loses.raced

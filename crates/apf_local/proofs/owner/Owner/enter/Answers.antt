@@ -40,7 +40,7 @@ try_arrive-requires-clause-asked c =
       cost_is = asks.cost_is;
     } in
     subst (λ (t : PassToken). IsAskedBy (sizes_of c.self.inside.book.queues) t.pass.knows.trace c.args.dealt.now c.args.cost t.pass.number) (sym e1)
-        (subst (λ (x : OwnerView). IsAskedBy (sizes_of x.book.queues) a.pass.knows.trace c.args.dealt.now c.args.cost a.pass.number) (sym c.self.view_is) here)
+    (subst (λ (x : OwnerView). IsAskedBy (sizes_of x.book.queues) a.pass.knows.trace c.args.dealt.now c.args.cost a.pass.number) (sym c.self.view_is) here)
 
 pub invariant_of-self : goal.invariant_of-self
 invariant_of-self c =
@@ -72,10 +72,10 @@ unreachable-requires c =
     let known = ap (λ (q : _). q.knows.trace) asks.5 in
     let ended : IsEnded gate b1.desk.desk (set ps i p1) ts here.0 = subst (λ (xs : List PassToken). IsEnded gate b1.desk.desk xs ts here.0) (set_again ps i a p1) here.1 in
     c.no_exchange_is_lost.ensures.enter gate (set ps i p1) ts here.0 before after ended
-        (All-set (λ (t : PassToken). t.pass.number ≢ before.pass.number → length t.pass.knows.trace ≤ length before.desk.knows.trace) ps i p1 (λ ne. absurd (ne number)) (λ k t at ne. let l = c.self.invariant.newest k t at in omega arith))
-        (λ k t at. let l = c.self.invariant.stations_newest k t at in omega arith)
-        (step_stays (OfPass before.pass.number) _ _ before.pass.knows.trace (ap OfPass (sym (races.loses.number ∙ c.ask.ensures.same.number))) (races.loses.pass_more.0, ap (λ es. races.loses.pass_more.0 ++ es) (sym (known ∙ trace)) ∙ races.loses.pass_more.1))
-        races.loses.raced
+    (All-set (λ (t : PassToken). t.pass.number ≢ before.pass.number → length t.pass.knows.trace ≤ length before.desk.knows.trace) ps i p1 (λ ne. absurd (ne number)) (λ k t at ne. let l = c.self.invariant.newest k t at in omega arith))
+    (λ k t at. let l = c.self.invariant.stations_newest k t at in omega arith)
+    (step_stays (OfPass before.pass.number) _ _ before.pass.knows.trace (ap OfPass (sym (races.loses.number ∙ c.ask.ensures.same.number))) (races.loses.pass_more.0, ap (λ es. races.loses.pass_more.0 ++ es) (sym (known ∙ trace)) ∙ races.loses.pass_more.1))
+    races.loses.raced
 
 pub returns-clause-enters : goal.returns-clause-enters
 returns-clause-enters c =

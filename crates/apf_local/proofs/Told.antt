@@ -13,7 +13,9 @@ use Rattle.apf_book.specs.Life.{LifeView}
 use Rattle.apf_book.specs.LifeBook.{LifeBookView, StrikesLife}
 use Rattle.apf_book.specs.LifeCalls.{HearsLife}
 use Rattle.apf_line.specs.Tokens.{IsDone, IsInLine}
+use Rattle.apf_local.specs.declared.answer.Place.TheVariants as places
 use Rattle.apf_local.specs.Owners.{IsRead, StrikesOne}
+use Rattle.apf_local.specs.Tries.{place_by}
 use Rattle.apf_local.proofs.Hearing.{hears_running, hears_told}
 
 -- a Pass in line that heard that it left, cancelled
@@ -44,3 +46,11 @@ module _ (b b' : LifeBookView) (p r h : PassToken) (same : SameRequest r h) (hea
   read_is (Some Closed) loads after = (still_in_line (Some Closed) loads after, hears_told b b' r h same hears Closed (after.told (λ e. cc)))
   read_is (Some Cancelled) loads after = (still_in_line (Some Cancelled) loads after, hears_told b b' r h same hears Cancelled (after.told (λ e. cc)))
   read_is (Some ConcurrencyLimit) loads after = (still_in_line (Some ConcurrencyLimit) loads after, hears_told b b' r h same hears ConcurrencyLimit (after.told (λ e. cc)))
+
+-- who was told another decision than execute is at no place
+pub free_by : (d : Decision) → d ≢ Execute → places.Free ≡ place_by (Some d)
+free_by Execute not = absurd (not refl)
+free_by QueueFull not = refl
+free_by Closed not = refl
+free_by Cancelled not = refl
+free_by ConcurrencyLimit not = refl

@@ -13,7 +13,7 @@ use Rattle.apf_gate.specs.declared.record.Entry.{Entry}
 use Rattle.apf_gate.specs.declared.record.PassRecord.{PassRecord}
 use Rattle.apf_gate.specs.Lost.{PassesSawAtMost, StationsSawAtMost}
 use Rattle.apf_gate.specs.PassCalls.{TriesToTake}
-use Rattle.apf_gate.specs.PassSteps.{PassSubtractsLevel}
+use Rattle.apf_gate.specs.PassSteps.{PassSubtractsLevel, PassLoadsDecision}
 use Rattle.apf_gate.specs.Records.{told_own, KnowsMore}
 use Rattle.apf_gate.specs.StationCalls.{TriesToSet}
 use Rattle.apf_gate.specs.declared.answers.TrySetLimit.TheVariants as set
@@ -145,9 +145,13 @@ IsRead None token = IsInLine token
 IsRead (Some Execute) token = IsRunning token
 IsRead (Some decision) token = IsInLine token × (told_own token.pass ≡ Some decision)
 
+-- it read its decision by one load, and was heard then
 pub record Reads (found : Option Decision) (before after : PassToken) : Type 0 where
   pub number : after.pass.number ≡ before.pass.number
   pub is : IsRead found after
+  pub between : PassRecord
+  pub loads : PassLoadsDecision before.pass found between
+  pub goes_on : (newer : List Entry) × (newer ++ between.knows.trace ≡ after.pass.knows.trace)
 
 -- a request that waited was told that it does not execute
 pub record IsToldOff (token : PassToken) : Type 0 where
@@ -160,6 +164,7 @@ pub record Leaves (before after : PassToken) : Type 0 where
   pub number : after.pass.number ≡ before.pass.number
   pub is : IsDone after
   pub told : told_own after.pass ≡ Some Cancelled
+  pub goes_on : (newer : List Entry) × (newer ++ before.pass.knows.trace ≡ after.pass.knows.trace)
 
 -- the Strike of this request came to this very history, or nothing did
 abbrev pub StrikesOne : ℕ → LifeView → LifeBookView → Type 0

@@ -1,5 +1,10 @@
 -- What the other calls of a level answer.
-use Rattle.std.specs.Prelude.{◌≡◌, ◌≢◌, ◌⊎◌, ℕ, slice_get, Some}
+use Rattle.std.specs.Prelude.{◌≡◌, ◌≢◌, ◌⊎◌, ℕ, ◌++◌, List, slice_get, Option, Some, None}
+use Rattle.apf_words.specs.declared.decision.Decision.{Decision}
+use Rattle.apf_words.specs.declared.decision.Decision.TheVariants.{Execute, QueueFull, Closed, Cancelled, ConcurrencyLimit}
+use Rattle.apf_gate.specs.declared.record.Entry.{Entry}
+use Rattle.apf_gate.specs.declared.record.PassRecord.{PassRecord}
+use Rattle.apf_gate.specs.PassSteps.{PassLoadsDecision}
 use Rattle.apf_gate.specs.Slots.{next_of}
 use Rattle.apf_gate.specs.Tokens.{PassToken}
 use Rattle.apf_local.specs.declared.answer.Ask.{Ask}
@@ -40,10 +45,24 @@ IsTry slot ask l answers.Wrong l' = (l' ≡ l) × (slice_get l.places slot ≢ S
 IsTry slot ask l answers.Spent l' = l' ≡ l
 IsTry slot ask l answer l' = SlotMoves slot l l' (Tries ask answer)
 
--- the request is the same, and is where its Pass says
+-- where a request is whose decision is this
+abbrev pub place_by : Option Decision → Place
+place_by None = places.Waits
+place_by (Some Execute) = places.Runs
+place_by (Some QueueFull) = places.Free
+place_by (Some Closed) = places.Free
+place_by (Some Cancelled) = places.Free
+place_by (Some ConcurrencyLimit) = places.Free
+
+-- the request is the same, and is where the decision says that its Pass loaded
 pub record Places (place' : Place) (before after : PassToken) : Type 0 where
   pub number : after.pass.number ≡ before.pass.number
   pub is : IsAt place' after
+  pub found : Option Decision
+  pub says : place' ≡ place_by found
+  pub between : PassRecord
+  pub loads : PassLoadsDecision before.pass found between
+  pub goes_on : (newer : List Entry) × (newer ++ between.knows.trace ≡ after.pass.knows.trace)
 
 -- a request that waited read its decision, and is where the answer says
 pub record Waited (answer : Place) (place : Place) (before : PassToken) (place' : Place) (after : PassToken) : Type 0 where
@@ -53,7 +72,7 @@ pub record Waited (answer : Place) (place : Place) (before : PassToken) (place' 
 
 -- of a slot whose request waits its decision is read; of another one nothing is done
 abbrev pub IsReading : ℕ → LocalView → Place → LocalView → Type 0
-IsReading slot l answer l' = SlotMoves slot l l' (Waited answer) ⊎ ((l' ≡ l) × (slice_get l.places slot ≡ Some answer))
+IsReading slot l answer l' = SlotMoves slot l l' (Waited answer) ⊎ ((l' ≡ l) × (slice_get l.places slot ≡ Some answer) × (answer ≢ places.Waits))
 
 -- no slot changed
 pub record SlotsStay (l l' : LocalView) : Type 0 where

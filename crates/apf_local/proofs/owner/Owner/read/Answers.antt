@@ -7,6 +7,7 @@ use Rattle.apf_book.specs.LifeBook.{LifeBookView}
 use Rattle.apf_book.specs.LifeCalls.{HearsLife}
 use Rattle.apf_local.specs.Owners.{OwnerView, Reads}
 use Rattle.apf_local.proofs.Places.{set_again, was, moved}
+use Rattle.apf_local.proofs.Hearing.{hears_trace}
 use Rattle.apf_local.proofs.Told.{read_is}
 use Rattle.apf_local.proofs.owner.Owner.read.Goals as goal
 
@@ -25,4 +26,7 @@ returns-clause-reads c =
     moved o c.args.self.now c.args.slot p h _ (Reads c.told-found.result) c.self.view_is c.requires.is_slot c.index_mut.ensures.value (set_again c.self.inside.passes.items c.args.slot r h) (record {
       number = same.number ∙ c.told-found.ensures.same.number;
       is = read_is b0 b1 p r h same hears waits c.told-found.ensures.same c.told-found.result c.told-found.ensures.answer c.told-found.ensures.after;
+      between = r.pass;
+      loads = c.told-found.ensures.answer;
+      goes_on = hears_trace b0 b1 r h same hears;
     })

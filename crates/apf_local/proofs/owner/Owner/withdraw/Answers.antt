@@ -10,6 +10,8 @@ use Rattle.apf_book.specs.LifeCalls.{HearsLife}
 use Rattle.apf_local.specs.Owners.{OwnerView, Leaves}
 use Rattle.apf_local.proofs.Knowing.{book_then}
 use Rattle.apf_local.proofs.Places.{set_again, was, moved, same_owner}
+use Rattle.apf_gate.specs.declared.record.Entry.{Entry}
+use Rattle.apf_local.proofs.Hearing.{GoesOnFrom, goes_on_then, goes_on_more, hears_trace}
 use Rattle.apf_local.proofs.Told.{left_is_done, strikes_one}
 use Rattle.apf_local.proofs.owner.Owner.withdraw.Goals as goal
 
@@ -36,6 +38,8 @@ returns-clause-leaves c =
       number = number;
       is = left_is_done l state c.withdraw.ensures.left told;
       told = told;
+      goes_on = goes_on_then p.pass.knows.trace h.pass.knows.trace l.pass.knows.trace (hears_trace b0 c.hear.new.self p h c.hear.ensures.same_request c.hear.ensures.answer)
+          (subst (λ (es : List Entry). GoesOnFrom es l.pass.knows.trace) (sym c.hear.ensures.follows) (subst (λ (es : List Entry). GoesOnFrom c.hear.new.self.desk.desk.knows.trace es) (sym c.withdraw.ensures.follows) (goes_on_more c.hear.new.self.desk.desk.knows c.withdraw.new.self.desk.desk.knows c.withdraw.ensures.same.more)));
     })
 
 pub returns-clause-history : goal.returns-clause-history

@@ -360,7 +360,7 @@ fn reads_the_words_of_simulations(rt: HostRuntime) -> Result<(), Fail> {
     Ok(())
 }
 
-// A whole number of microseconds, or one with its unit behind it, to the longest and one more.
+// A whole number of microseconds, or a number with its unit behind it, to the longest and one more.
 #[test]
 fn reads_a_patience(rt: HostRuntime) {
     for (text, patience) in [
@@ -387,10 +387,10 @@ fn reads_a_patience(rt: HostRuntime) {
         ("us", None),
         ("-1", None),
         ("-1s", None),
-        ("1.5s", None),
+        ("1.5s", Some(1_500_000)),
         ("1 s", None),
         ("1S", None),
-        ("1m", None),
+        ("1m", Some(60_000_000)),
         ("1usus", None),
         ("1e3", None),
         ("x", None),

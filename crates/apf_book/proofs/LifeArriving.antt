@@ -6,7 +6,9 @@ use Rattle.apf_history.specs.declared.events.Status.TheVariants as status_is
 use Rattle.apf_model.specs.History.{request_of, has_arrived, waiting, IsShortest}
 use Rattle.apf_model.specs.World.{put, width}
 use Rattle.apf_model.specs.Order.{makes}
+use Rattle.apf_model.specs.declared.response.Response.TheVariants.{Queue, Reject}
 use Rattle.apf_gate.specs.declared.record.Service.TheVariants.{NotHanded}
+use Rattle.apf_gate.specs.declared.record.Shape.{Shape}
 use Rattle.apf_gate.specs.Slots.{slot_of}
 use Rattle.apf_gate.specs.Records.{service, KnowsMore}
 use Rattle.apf_gate.specs.Requests.{WaitsAlone}
@@ -24,6 +26,10 @@ use Rattle.apf_book.specs.LifeBook.{LifeBookView, IsLifeKept}
 use Rattle.apf_book.proofs.Agreeing.{agreed_away_heard, agreed_refused, agreed_arrived}
 use Rattle.apf_book.proofs.LifeAsks.{asks_then, asks_here, asks_else}
 use Rattle.apf_book.proofs.LifeKeeping.{life_rekept, life_quiet, life_statuses, life_new, new_stands_nowhere}
+
+-- a gate with queues does not reject
+pub has_queues : (desk gate : Shape) → desk ≡ gate → gate.response ≡ Queue → desk.response ≡ Reject → ⊥
+has_queues desk gate same queues rejects = let bad : Queue ≡ Reject = sym queues ∙ (ap (λ (s : Shape). s.response) (sym same) ∙ rejects) in cc
 
 -- the log says nothing of a request that is new
 pub is_away : (b : LifeBookView) (token : PassToken) (r : ℕ) → r ≡ token.pass.number → IsNewTo b token → (token.pass.handed ≡ false → service b.desk.desk token.pass.number ≡ NotHanded) → logged (service b.desk.desk r) ≡ Some status_is.Away
@@ -60,13 +66,13 @@ module _ (laws : Laws) (v : LifeView) (b : LifeBookView) (kept : IsLifeKept v b)
     -- it was refused, and not as full
     pub life_refused : (desk' : DeskToken) → Moves heard.desk r' (Some status_is.Away) desk'.desk → Says [] heard.desk.knows desk'.desk.knows → desk'.desk.held ≡ heard.desk.held → IsLifeKept v (record b { desk = desk' })
     life_refused desk' moves says held =
-        life_rekept v v (record b { desk = heard }) (record b { desk = desk' }) kept_heard moves.more refl (refl, refl) kept.of_life
+        life_rekept v v (record b { desk = heard }) (record b { desk = desk' }) kept_heard moves.more kept_heard.no_queues refl (refl, refl) kept.of_life
         (agreed_refused v.history (life_statuses laws v b kept) b.desk.desk heard.desk kept.agrees same more quiet r r' is is_new desk'.desk moves says held) kept.notes (asks_then v b.queues b.queues heard.desk.knows desk'.desk.knows refl moves.more kept_heard.asks)
 
-    life_arrived : (v' : LifeView) (b' : LifeBookView) (e : Event) → request_of e ≡ r → v'.history ≡ e ∷ v.history → length v'.costs ≡ length v.costs → SameSlots b.queues b'.queues → IsLifeOf v' b'.queues → AreNotesOf (e ∷ v.history) b'.notes
+    life_arrived : (b.desk.desk.knows.shape.response ≡ Reject → ⊥) → (v' : LifeView) (b' : LifeBookView) (e : Event) → request_of e ≡ r → v'.history ≡ e ∷ v.history → length v'.costs ≡ length v.costs → SameSlots b.queues b'.queues → IsLifeOf v' b'.queues → AreNotesOf (e ∷ v.history) b'.notes
         → Moves heard.desk r' (Some (makes e)) b'.desk.desk → Says ((r', makes e) ∷ []) heard.desk.knows b'.desk.desk.knows → b'.desk.desk.held ≡ heard.desk.held → makes e ≢ status_is.Struck → AreAsked (sizes_in v' b'.queues) b'.desk.desk.knows.trace v'.costs v'.hands v'.history → IsLifeKept v' b'
-    life_arrived v' b' e of history costs holders queues notes moves says held other asks =
-        life_rekept v v' (record b { desk = heard }) b' kept_heard moves.more costs holders queues
+    life_arrived has v' b' e of history costs holders queues notes moves says held other asks =
+        life_rekept v v' (record b { desk = heard }) b' kept_heard moves.more (λ rejects. absurd (has (ap (λ (s : Shape). s.response) (sym more.shape) ∙ rejects))) costs holders queues
         (subst (λ (h : List Event). IsDeskOf h b'.desk.desk) (sym history)
         (agreed_arrived v.history (life_statuses laws v b kept) b.desk.desk heard.desk kept.agrees same more quiet r r' is is_new b'.desk.desk e of moves says held other))
         (subst (λ (h : List Event). AreNotesOf h b'.notes) (sym history) notes) asks
@@ -80,13 +86,13 @@ module _ (laws : Laws) (v : LifeView) (b : LifeBookView) (kept : IsLifeKept v b)
     )
 
     -- it entered
-    pub life_entered : (b' : LifeBookView) (hand : List ℕ) (q cost : ℕ) → SameSlots b.queues b'.queues → IsLifeOf (then_came (asked v r hand cost) (Enter r q)) b'.queues → AreNotesOf (Enter r q ∷ v.history) b'.notes
+    pub life_entered : (b.desk.desk.knows.shape.response ≡ Reject → ⊥) → (b' : LifeBookView) (hand : List ℕ) (q cost : ℕ) → SameSlots b.queues b'.queues → IsLifeOf (then_came (asked v r hand cost) (Enter r q)) b'.queues → AreNotesOf (Enter r q ∷ v.history) b'.notes
         → Moves heard.desk r' (Some status_is.Waits) b'.desk.desk → Says ((r', status_is.Waits) ∷ []) heard.desk.knows b'.desk.desk.knows → b'.desk.desk.held ≡ heard.desk.held → IsAskedBy (sizes_in v b'.queues) b'.desk.desk.knows.trace hand cost r → IsLifeKept (then_came (asked v r hand cost) (Enter r q)) b'
-    life_entered b' hand q cost holders queues notes moves says held by =
-        life_arrived (then_came (asked v r hand cost) (Enter r q)) b' (Enter r q) refl refl (length-set v.costs r cost) holders queues notes moves says held (λ e. cc) (asks_arrived b' hand cost holders.1 moves.more (let n = queues.names_requests.0 in let l = length-set v.costs r cost in omega arith) by)
+    life_entered has b' hand q cost holders queues notes moves says held by =
+        life_arrived has (then_came (asked v r hand cost) (Enter r q)) b' (Enter r q) refl refl (length-set v.costs r cost) holders queues notes moves says held (λ e. cc) (asks_arrived b' hand cost holders.1 moves.more (let n = queues.names_requests.0 in let l = length-set v.costs r cost in omega arith) by)
 
     -- it was refused as full
-    pub life_full : (b' : LifeBookView) (hand : List ℕ) (q cost : ℕ) → SameSlots b.queues b'.queues → IsLifeOf (then_came (asked v r hand cost) (Full r q)) b'.queues → AreNotesOf (Full r q ∷ v.history) b'.notes
+    pub life_full : (b.desk.desk.knows.shape.response ≡ Reject → ⊥) → (b' : LifeBookView) (hand : List ℕ) (q cost : ℕ) → SameSlots b.queues b'.queues → IsLifeOf (then_came (asked v r hand cost) (Full r q)) b'.queues → AreNotesOf (Full r q ∷ v.history) b'.notes
         → Moves heard.desk r' (Some status_is.Full) b'.desk.desk → Says ((r', status_is.Full) ∷ []) heard.desk.knows b'.desk.desk.knows → b'.desk.desk.held ≡ heard.desk.held → IsAskedBy (sizes_in v b'.queues) b'.desk.desk.knows.trace hand cost r → IsLifeKept (then_came (asked v r hand cost) (Full r q)) b'
-    life_full b' hand q cost holders queues notes moves says held by =
-        life_arrived (then_came (asked v r hand cost) (Full r q)) b' (Full r q) refl refl (length-set v.costs r cost) holders queues notes moves says held (λ e. cc) (asks_arrived b' hand cost holders.1 moves.more (let n = queues.names_requests.0 in let l = length-set v.costs r cost in omega arith) by)
+    life_full has b' hand q cost holders queues notes moves says held by =
+        life_arrived has (then_came (asked v r hand cost) (Full r q)) b' (Full r q) refl refl (length-set v.costs r cost) holders queues notes moves says held (λ e. cc) (asks_arrived b' hand cost holders.1 moves.more (let n = queues.names_requests.0 in let l = length-set v.costs r cost in omega arith) by)

@@ -3,7 +3,6 @@ use Rattle.std.proofs.Common.{◌≡◌, ℕ, ◌≤◌, inl, inr, List, [], len
 use Rattle.std.proofs.lemmas.Bool.{cases_lt}
 use Rattle.std.proofs.lemmas.List.{get_or_past}
 use Rattle.apf_history.specs.declared.events.Event.{Event}
-use Rattle.apf_model.specs.declared.response.Response.TheVariants.{Queue}
 use Rattle.apf_model.specs.World.{width}
 use Rattle.apf_model.specs.Schedule.{AreWidths}
 use Rattle.apf_gate.specs.declared.record.DeskRecord.{DeskRecord}
@@ -27,15 +26,15 @@ agreed_new_desk desk fresh = record {
   struck = λ r struck. cc;
 }
 
-pub life_begins : (v : LifeView) (desk : DeskToken) (queues : LifeState) (notes : NotesView) (many limit : ℕ) → desk.desk ≡ new_desk desk.desk.knows.shape → desk.desk.knows.shape.response ≡ Queue → length queues.holders ≡ desk.desk.knows.shape.slots
+pub life_begins : (v : LifeView) (desk : DeskToken) (queues : LifeState) (notes : NotesView) (many limit : ℕ) → desk.desk ≡ new_desk desk.desk.knows.shape → length queues.holders ≡ desk.desk.knows.shape.slots
     → IsOpening v many limit → length v.costs ≡ length desk.desk.knows.shape.widths → IsLifeOf v queues → AreNotesOf [] notes → IsLifeKept v (record { desk = desk; queues = queues; notes = notes })
-life_begins v desk queues notes many limit fresh has_queues slots o costs of nothing = record {
+life_begins v desk queues notes many limit fresh slots o costs of nothing = record {
   of_life = of;
   agrees = subst (λ (h : List Event). IsDeskOf h desk.desk) (sym o.nothing) (agreed_new_desk desk.desk fresh);
   notes = subst (λ (h : List Event). AreNotesOf h notes) (sym o.nothing) nothing;
   one_cost_each = costs;
   one_holder_each = slots;
-  has_queues = has_queues;
+  no_queues = λ rejects. o.nothing;
   asks = subst (λ (h : List Event). AreAsked (sizes_in v queues) desk.desk.knows.trace v.costs v.hands h) (sym o.nothing) tt;
 }
 

@@ -4,6 +4,7 @@ use Rattle.std.specs.Prelude.{Contains, slice_index}
 use Rattle.apf_words.specs.declared.decision.Decision.TheVariants.{Cancelled}
 use Rattle.apf_history.specs.declared.events.Event.{Event}
 use Rattle.apf_history.specs.declared.events.Status.TheVariants as status_is
+use Rattle.apf_model.specs.declared.response.Response.TheVariants.{Reject}
 use Rattle.apf_model.specs.History.{request_of, has_arrived, waiting}
 use Rattle.apf_model.specs.Order.{makes, AreStatuses}
 use Rattle.apf_gate.specs.declared.record.Shape.{Shape}
@@ -34,14 +35,14 @@ alone_opened shape desk r alone = alone
 
 module _ (v v' : LifeView) (b b' : LifeBookView) (kept : IsLifeKept v b) (more : KnowsMore b.desk.desk.knows b'.desk.desk.knows) where
   -- what a book keeps beside its history
-  pub life_rekept : length v'.costs ≡ length v.costs → SameSlots b.queues b'.queues → IsLifeOf v' b'.queues → IsDeskOf v'.history b'.desk.desk → AreNotesOf v'.history b'.notes → AreAsked (sizes_in v' b'.queues) b'.desk.desk.knows.trace v'.costs v'.hands v'.history → IsLifeKept v' b'
-  life_rekept costs holders of agrees notes asks = record {
+  pub life_rekept : (b.desk.desk.knows.shape.response ≡ Reject → v'.history ≡ []) → length v'.costs ≡ length v.costs → SameSlots b.queues b'.queues → IsLifeOf v' b'.queues → IsDeskOf v'.history b'.desk.desk → AreNotesOf v'.history b'.notes → AreAsked (sizes_in v' b'.queues) b'.desk.desk.knows.trace v'.costs v'.hands v'.history → IsLifeKept v' b'
+  life_rekept logs costs holders of agrees notes asks = record {
     of_life = of;
     agrees = agrees;
     notes = notes;
     one_cost_each = costs ∙ (kept.one_cost_each ∙ ap (λ (s : Shape). length s.widths) (sym more.shape));
     one_holder_each = holders.0 ∙ (kept.one_holder_each ∙ ap (λ (s : Shape). s.slots) (sym more.shape));
-    has_queues = ap (λ (s : Shape). s.response) more.shape ∙ kept.has_queues;
+    no_queues = λ rejects. logs (ap (λ (s : Shape). s.response) (sym more.shape) ∙ rejects);
     asks = asks;
   }
 
@@ -49,14 +50,14 @@ module _ (v v' : LifeView) (b b' : LifeBookView) (kept : IsLifeKept v b) (more :
 pub life_quiet : (v : LifeView) (b : LifeBookView) (desk' : DeskToken) → IsLifeKept v b → (desk'.desk.services ≡ b.desk.desk.services) × (desk'.desk.held ≡ b.desk.desk.held) → KnowsMore b.desk.desk.knows desk'.desk.knows → Says [] b.desk.desk.knows desk'.desk.knows
     → IsLifeKept v (record b { desk = desk' })
 life_quiet v b desk' kept same more says =
-    life_rekept v v b (record b { desk = desk' }) kept more refl (refl, refl) kept.of_life (agreed_quiet b.desk.desk desk'.desk v.history kept.agrees same more says) kept.notes (asks_then v b.queues b.queues b.desk.desk.knows desk'.desk.knows refl more kept.asks)
+    life_rekept v v b (record b { desk = desk' }) kept more kept.no_queues refl (refl, refl) kept.of_life (agreed_quiet b.desk.desk desk'.desk v.history kept.agrees same more says) kept.notes (asks_then v b.queues b.queues b.desk.desk.knows desk'.desk.knows refl more kept.asks)
 
 -- the history has an event more, which the Desk's steps made
-pub life_came : (v v' : LifeView) (b b' : LifeBookView) (e : Event) → IsLifeKept v b → v'.history ≡ e ∷ v.history → length v'.costs ≡ length v.costs → SameSlots b.queues b'.queues → IsLifeOf v' b'.queues → AreNotesOf (e ∷ v.history) b'.notes
+pub life_came : (v v' : LifeView) (b b' : LifeBookView) (e : Event) → IsLifeKept v b → (b.desk.desk.knows.shape.response ≡ Reject → ⊥) → v'.history ≡ e ∷ v.history → length v'.costs ≡ length v.costs → SameSlots b.queues b'.queues → IsLifeOf v' b'.queues → AreNotesOf (e ∷ v.history) b'.notes
     → Moves b.desk.desk (request_of e) (Some (makes e)) b'.desk.desk → Says (saying e ∷ []) b.desk.desk.knows b'.desk.desk.knows → b'.desk.desk.held ≡ None
     → (makes e ≡ status_is.Struck → told_of b'.desk.desk.knows.told (request_of e) ≡ Some Cancelled) → AreAsked (sizes_in v' b'.queues) b'.desk.desk.knows.trace v'.costs v'.hands v'.history → IsLifeKept v' b'
-life_came v v' b b' e kept history costs holders of notes moves says held told asks =
-    life_rekept v v' b b' kept moves.more costs holders of
+life_came v v' b b' e kept queues history costs holders of notes moves says held told asks =
+    life_rekept v v' b b' kept moves.more (λ rejects. absurd (queues rejects)) costs holders of
     (subst (λ (h : List Event). IsDeskOf h b'.desk.desk) (sym history) (agreed_after b.desk.desk b'.desk.desk v.history e kept.agrees moves says held told))
     (subst (λ (h : List Event). AreNotesOf h b'.notes) (sym history) notes) asks
 
@@ -105,4 +106,4 @@ module _ (laws : Laws) (v : LifeView) (b : LifeBookView) (kept : IsLifeKept v b)
   -- a head that waits still
   pub life_head : (desk' : DeskToken) (q r : ℕ) → Contains (waiting v.history q) r → Moves b.desk.desk r (Some status_is.Waits) desk'.desk → Says [] b.desk.desk.knows desk'.desk.knows → desk'.desk.held ≡ None → IsLifeKept v (record b { desk = desk' })
   life_head desk' q r member moves says held =
-      life_rekept v v b (record b { desk = desk' }) kept moves.more refl (refl, refl) kept.of_life (agreed_head v.history life_statuses b.desk.desk desk'.desk q r kept.agrees member moves says held) kept.notes (asks_then v b.queues b.queues b.desk.desk.knows desk'.desk.knows refl moves.more kept.asks)
+      life_rekept v v b (record b { desk = desk' }) kept moves.more kept.no_queues refl (refl, refl) kept.of_life (agreed_head v.history life_statuses b.desk.desk desk'.desk q r kept.agrees member moves says held) kept.notes (asks_then v b.queues b.queues b.desk.desk.knows desk'.desk.knows refl moves.more kept.asks)

@@ -1,6 +1,6 @@
 -- One turn of a book for life: what is dispatched next, and what became of it.
 use Rattle.std.proofs.Common.{◌≡◌, ◌≢◌, Bool, false, ℕ, ◌+◌, ◌%◌, ◌^◌, ◌<◌, ◌++◌, inl, inr, cond, true, List, [], ◌∷◌, length, Option, Some, None, refl, sym, ap, ◌∙◌, subst, arith}
-use Rattle.std.specs.Prelude.{Contains, count_by, slice_index}
+use Rattle.std.specs.Prelude.{Contains, count_by, slice_index, slice_get}
 use Rattle.std.proofs.lemmas.List.{length-append, append_assoc}
 use Rattle.std.proofs.lemmas.List.Sums.{sum_by-cons, sum_by-append}
 use Rattle.apf_words.specs.Level.{Level}
@@ -31,7 +31,7 @@ use Rattle.apf_book.specs.Tries.{ServesSome, LosesGrant}
 use Rattle.apf_book.specs.Said.{Says}
 use Rattle.apf_book.specs.LifeBook.{LifeBookView, IsLifeKept, IsFirst, NextMisses, StopsAt, ServesLife, StrikesLife, then_came_all}
 use Rattle.apf_book.specs.LifeCalls.{SameLifeBook}
-use Rattle.apf_book.proofs.Lists.{first_contains}
+use Rattle.apf_book.proofs.Lists.{first_contains, Contains-none}
 use Rattle.apf_book.proofs.Knowing.{more_then, found_then, told_still}
 use Rattle.apf_book.proofs.Moving.{moves_to}
 use Rattle.apf_book.proofs.Saying.{loads_decision, leaves}
@@ -48,15 +48,22 @@ chosen_stands s c chosen = first_contains (queue_in s.queues c.queue) c.request 
 pub next_is_first : (v : LifeView) (s : LifeState) (c : Chosen) (r : ℕ) → r ≡ slice_index s.holders c.request → IsNextIn v s c → IsFirst v r c.queue
 next_is_first v s c r is next = record { is_choice = next.is_choice; is_first = next.is_first ∙ ap (λ (i : ℕ). Some i) (sym is) }
 
+-- nobody waits before anything happened
+none_waits : (h : List Event) (q r : ℕ) → h ≡ [] → Contains (waiting h q) r → ⊥
+none_waits h q r nothing member = Contains-none r (subst (λ (h' : List Event). Contains (waiting h' q) r) nothing member)
+
+none_first : (h : List Event) (q r : ℕ) → h ≡ [] → slice_get (waiting h q) 0 ≡ Some r → ⊥
+none_first h q r nothing first = let bad : None ≡ Some r = subst (λ (h' : List Event). slice_get (waiting h' q) 0 ≡ Some r) nothing first in cc
+
 -- it was dispatched
 pub life_dispatched : (v : LifeView) (b b' : LifeBookView) (r q : ℕ) → IsLifeKept v b → SameSlots b.queues b'.queues → IsLifeOf (then_came v (Dispatch r q)) b'.queues → AreNotesOf (Dispatch r q ∷ v.history) b'.notes
     → Moves b.desk.desk r (Some status_is.Dispatched) b'.desk.desk → Says ((r, status_is.Dispatched) ∷ []) b.desk.desk.knows b'.desk.desk.knows → b'.desk.desk.held ≡ None → IsLifeKept (then_came v (Dispatch r q)) b'
-life_dispatched v b b' r q kept holders of notes moves says held = life_came v (then_came v (Dispatch r q)) b b' (Dispatch r q) kept refl refl holders of notes moves says held (λ e. absurd (cc)) (asks_then v b.queues b'.queues b.desk.desk.knows b'.desk.desk.knows holders.1 moves.more kept.asks)
+life_dispatched v b b' r q kept holders of notes moves says held = life_came v (then_came v (Dispatch r q)) b b' (Dispatch r q) kept (λ rejects. none_first v.history q r (kept.no_queues rejects) of.fair.0.0) refl refl holders of notes moves says held (λ e. absurd (cc)) (asks_then v b.queues b'.queues b.desk.desk.knows b'.desk.desk.knows holders.1 moves.more kept.asks)
 
 -- it was struck
 pub life_struck : (v : LifeView) (b b' : LifeBookView) (r q : ℕ) → IsLifeKept v b → SameSlots b.queues b'.queues → IsLifeOf (then_came v (Strike r q)) b'.queues → AreNotesOf (Strike r q ∷ v.history) b'.notes
     → Moves b.desk.desk r (Some status_is.Struck) b'.desk.desk → Says ((r, status_is.Struck) ∷ []) b.desk.desk.knows b'.desk.desk.knows → b'.desk.desk.held ≡ None → told_of b'.desk.desk.knows.told r ≡ Some Cancelled → IsLifeKept (then_came v (Strike r q)) b'
-life_struck v b b' r q kept holders of notes moves says held told = life_came v (then_came v (Strike r q)) b b' (Strike r q) kept refl refl holders of notes moves says held (λ e. told) (asks_then v b.queues b'.queues b.desk.desk.knows b'.desk.desk.knows holders.1 moves.more kept.asks)
+life_struck v b b' r q kept holders of notes moves says held told = life_came v (then_came v (Strike r q)) b b' (Strike r q) kept (λ rejects. none_waits v.history q r (kept.no_queues rejects) of.fair.0.0) refl refl holders of notes moves says held (λ e. told) (asks_then v b.queues b'.queues b.desk.desk.knows b'.desk.desk.knows holders.1 moves.more kept.asks)
 
 -- what the turns so far appended to a history that the book was of
 pub served_none : (v : LifeView) (b : LifeBookView) → IsLifeKept v b → ServesSome v 0 b

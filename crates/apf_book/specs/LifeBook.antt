@@ -5,7 +5,7 @@ use Rattle.apf_history.specs.declared.events.Event.TheVariants.{Enter, Full, Dis
 use Rattle.apf_model.specs.History.{waiting}
 use Rattle.apf_model.specs.Outcome.{is_dispatch}
 use Rattle.apf_model.specs.Fair.{numbers, IsChoice}
-use Rattle.apf_model.specs.declared.response.Response.TheVariants.{Queue}
+use Rattle.apf_model.specs.declared.response.Response.TheVariants.{Reject}
 use Rattle.apf_gate.specs.declared.record.Knowledge.{Knowledge}
 use Rattle.apf_gate.specs.Records.{told_of}
 use Rattle.apf_gate.specs.Tokens.{DeskToken}
@@ -33,7 +33,8 @@ pub record IsLifeKept (v : LifeView) (b : LifeBookView) : Type 0 where
   -- each number that a request can have has its cost, and each slot its holder
   pub one_cost_each : length v.costs ≡ length b.desk.desk.knows.shape.widths
   pub one_holder_each : length b.queues.holders ≡ b.desk.desk.knows.shape.slots
-  pub has_queues : b.desk.desk.knows.shape.response ≡ Queue
+  -- at a gate without queues nothing happens to them
+  pub no_queues : b.desk.desk.knows.shape.response ≡ Reject → v.history ≡ []
   -- each request that arrived has the hand and the cost that it asked for, by what the Desk's steps found
   pub asks : AreAsked (sizes_in v b.queues) b.desk.desk.knows.trace v.costs v.hands v.history
 

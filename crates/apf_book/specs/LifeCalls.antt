@@ -4,7 +4,6 @@ use Rattle.apf_words.specs.Limits.{max_cost}
 use Rattle.apf_words.specs.declared.decision.Decision.{Decision}
 use Rattle.apf_words.specs.declared.decision.Decision.TheVariants.{Cancelled}
 use Rattle.apf_model.specs.declared.config.Config.{Config}
-use Rattle.apf_model.specs.declared.response.Response.TheVariants.{Queue}
 use Rattle.apf_model.specs.History.{has_arrived}
 use Rattle.apf_queue.specs.View.{IsQueueShape, queue_count}
 use Rattle.apf_queue.specs.declared.fault.QueueFault.TheVariants as queue
@@ -22,11 +21,10 @@ use Rattle.apf_book.specs.Arrivals.{IsTold, SaysOpen}
 use Rattle.apf_book.specs.Life.{LifeView, IsOpening}
 use Rattle.apf_book.specs.LifeBook.{LifeBookView, IsLifeKept, arrived_in}
 
--- the Desk made no step yet, and is of a gate with queues and so many slots
+-- the Desk made no step yet, and is of a gate with so many slots
 pub record IsLifeDeskFor (slots : ℕ) (desk : DeskToken) : Type 0 where
   pub fresh : desk.desk ≡ new_desk desk.desk.knows.shape
   pub slots_are : desk.desk.knows.shape.slots ≡ slots
-  pub has_queues : desk.desk.knows.shape.response ≡ Queue
 
 -- the first fault: the queues', out of memory
 abbrev pub IsLifeFaultOf : Config → ℕ → BookFault → Type 0

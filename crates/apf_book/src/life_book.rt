@@ -2,6 +2,7 @@
 
 ghost use Rattle.std.specs.Prelude.{◌≡◌, ◌⊎◌, ℕ, ◌^◌, ◌<◌, length, true, Some, All, IfSome, IfNone};
 ghost use Rattle.apf_words.specs.declared.decision.Decision.TheVariants.{Cancelled};
+ghost use Rattle.apf_model.specs.declared.response.Response.TheVariants.{Queue};
 ghost use Rattle.apf_gate.specs.Slots.{IsTicket};
 ghost use Rattle.apf_words.specs.Level.{Level};
 ghost use Rattle.apf_gate.specs.Ends.{IsEnded};
@@ -58,7 +59,8 @@ impl<A: Allocator + Copy> LifeBook<A> {
     /// A book in which nothing happened yet. All memory is taken here, that of the newest events too: two for each
     /// slot.
     ///
-    /// The Desk is as `Gate::open_for_life` gave it, for the slots and the response Queue.
+    /// The Desk is as `Gate::open_for_life` gave it, for the slots. At a gate without queues nothing ever happens to a
+    /// book: no request arrives in it.
     ///
     /// # Errors
     ///
@@ -106,6 +108,7 @@ impl<A: Allocator> LifeBook<A> {
         requires is_new { IsNewTo self.old pass.old }
         requires ask { IsAsk self.old dealt.now cost }
         requires asked { IsAskedBy (sizes_of self.old.queues) pass.old.pass.knows.trace dealt.now cost pass.old.pass.number }
+        requires has_queues { gate.now.shape.response ≡ Queue }
         ensures same { SameLifeBook self.old self.new }
         ensures same_request { SameRequest pass.old pass.new }
         ensures answer { AnswersLifeArrival self.old pass.old dealt.now cost result self.new pass.new }
@@ -133,6 +136,7 @@ impl<A: Allocator> LifeBook<A> {
         requires is_new { IsNewTo self.old pass.old }
         requires ask { IsAsk self.old dealt.now cost }
         requires asked { IsAskedBy (sizes_of self.old.queues) pass.old.pass.knows.trace dealt.now cost pass.old.pass.number }
+        requires has_queues { gate.now.shape.response ≡ Queue }
         ensures same { SameLifeBook self.old self.new }
         ensures same_request { SameRequest pass.old pass.new }
         ensures answer { IfSome result (λ a. AnswersLifeArrival self.old pass.old dealt.now cost a self.new pass.new) }

@@ -2,7 +2,6 @@
 
 ghost use Rattle.std.specs.Prelude.{◌≡◌, ◌≤◌, ◌<◌, ◌*◌, ◌^◌, ℕ, [], length, IfOk, All};
 ghost use Rattle.apf_words.specs.Limits.{max_requests};
-ghost use Rattle.apf_model.specs.declared.response.Response.TheVariants.{Queue};
 ghost use Rattle.apf_gate.specs.Tokens.{pass_gate, desk_gate, station_gate};
 ghost use Rattle.apf_book.specs.Life.{LifeView};
 ghost use Rattle.apf_book.specs.LifeBook.{IsLifeKept, IsLived};
@@ -29,7 +28,7 @@ pub fn close_book(
     requires room { book.notes.capacity ≡ 2 * slots }
     requires few { slots ≤ max_requests }
     ensures lived { IsLived book }
-    ensures closes { IfOk result (λ c. (k : LifeId) (v : LifeView) → IsBookOf k book → k.gate.shape.slots ≡ slots → k.gate.shape.response ≡ Queue → IsLifeKept v book → ClosesAs k v c) }
+    ensures closes { IfOk result (λ c. (k : LifeId) (v : LifeView) → IsBookOf k book → k.gate.shape.slots ≡ slots → IsLifeKept v book → ClosesAs k v c) }
 {
     book.has_a_history();
     let newest = newest(alloc, &book, slots)?;

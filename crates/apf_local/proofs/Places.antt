@@ -41,18 +41,18 @@ moved o now i p q ps Does same inside value is does = record {
 }
 
 pub same_owner : (o now : OwnerView) → o ≡ now → (b' : LifeBookView) → SameLifeBook o.book b' → (ps : List PassToken) → length ps ≡ length o.passes → (ts : List StationToken) → length ts ≡ length o.stations
-    → SameOwner now (record { gate = o.gate; book = b'; passes = ps; stations = ts })
-same_owner o now is b' same ps p ts t = subst (λ (x : OwnerView). SameOwner x (record { gate = o.gate; book = b'; passes = ps; stations = ts })) is (record { gate = refl; book = same; slots = p; stations = t })
+    → SameOwner now (record { gate = o.gate; response = o.response; book = b'; passes = ps; stations = ts })
+same_owner o now is b' same ps p ts t = subst (λ (x : OwnerView). SameOwner x (record { gate = o.gate; response = o.response; book = b'; passes = ps; stations = ts })) is (record { gate = refl; book = same; slots = p; stations = t })
 
 -- a Pass and the Desk told each other
 pub heard : (o : OwnerView) → IsOwner o → (i : ℕ) (q : PassToken) (b' : LifeBookView) (ps : List PassToken) → pass_gate q ≡ o.gate → SameLifeBook o.book b' → q.pass.knows.trace ≡ b'.desk.desk.knows.trace → ps ≡ set o.passes i q
-    → IsOwner (record { gate = o.gate; book = b'; passes = ps; stations = o.stations })
+    → IsOwner (record { gate = o.gate; response = o.response; book = b'; passes = ps; stations = o.stations })
 heard o is i q b' ps own same follows so =
     let more = not_less o.book.desk.desk.knows b'.desk.desk.knows same.more in
     let e = ap (λ l. length l) follows in
-    subst (λ (xs : List PassToken). IsOwner (record { gate = o.gate; book = b'; passes = xs; stations = o.stations })) (sym so) (record {
+    subst (λ (xs : List PassToken). IsOwner (record { gate = o.gate; response = o.response; book = b'; passes = xs; stations = o.stations })) (sym so) (record {
       desk = same.gate ∙ is.desk;
-      has_queues = is.has_queues;
+      response_is = is.response_is;
       room = same.room ∙ is.room;
       passes_own = All-set (λ (t : PassToken). pass_gate t ≡ o.gate) o.passes i q own is.passes_own;
       stations_own = is.stations_own;

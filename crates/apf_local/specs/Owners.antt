@@ -1,10 +1,11 @@
 -- A gate, its book and all of its tokens in one hand, and what the calls of their owner answer.
-use Rattle.std.specs.Prelude.{◌≡◌, ◌≢◌, ◌⊎◌, ℕ, ◌*◌, ◌++◌, ◌==◌, not, Bool, true, false, List, length, All, slice_get, slice_set, Option, Some, None}
+use Rattle.std.specs.Prelude.{◌≡◌, ◌≢◌, ◌⊎◌, ◌≤◌, ℕ, ◌*◌, ◌++◌, ◌==◌, not, Bool, true, false, List, length, All, slice_get, slice_set, Option, Some, None}
 use Rattle.apf_words.specs.Level.{Level}
 use Rattle.apf_words.specs.declared.decision.Decision.{Decision}
-use Rattle.apf_words.specs.declared.decision.Decision.TheVariants.{Execute, QueueFull, Closed, Cancelled}
+use Rattle.apf_words.specs.declared.decision.Decision.TheVariants.{Execute, QueueFull, Closed, Cancelled, ConcurrencyLimit}
 use Rattle.apf_flow.specs.Sizes.{Sizes}
-use Rattle.apf_model.specs.declared.response.Response.TheVariants.{Queue}
+use Rattle.apf_model.specs.declared.response.Response.{Response}
+use Rattle.apf_model.specs.declared.response.Response.TheVariants.{Queue, Reject}
 use Rattle.apf_history.specs.declared.events.Event.TheVariants.{Strike}
 use Rattle.apf_model.specs.History.{has_arrived}
 use Rattle.apf_gate.specs.declared.answers.TryTake.TheVariants as tried
@@ -33,6 +34,8 @@ use Rattle.apf_local.specs.declared.taking.Took.TheVariants as took
 
 pub record OwnerView : Type 0 where
   pub gate : GateId
+  -- what becomes of a request that finds no seats
+  pub response : Response
   pub book : LifeBookView
   pub passes : List PassToken
   pub stations : List StationToken
@@ -40,7 +43,7 @@ pub record OwnerView : Type 0 where
 -- all tokens of the gate are here, and the Desk, which the book has, has seen as much as any other
 pub record IsOwner (o : OwnerView) : Type 0 where
   pub desk : desk_gate o.book.desk ≡ o.gate
-  pub has_queues : o.gate.shape.response ≡ Queue
+  pub response_is : o.response ≡ o.gate.shape.response
   pub room : o.book.notes.capacity ≡ 2 * o.gate.shape.slots
   pub passes_own : All (λ (t : PassToken). pass_gate t ≡ o.gate) o.passes
   pub stations_own : All (λ (t : StationToken). station_gate t ≡ o.gate) o.stations
@@ -73,19 +76,27 @@ pub record Moves (slot : ℕ) (old new : List PassToken) (Does : PassToken → P
   pub now : new ≡ slice_set old slot after
   pub does : Does before after
 
--- a request that took no seats was decided so by its own Pass, or cancelled
-abbrev pub IsRefusal : Decision → Type 0
-IsRefusal decision = (decision ≡ Closed) ⊎ (decision ≡ Cancelled)
-
 -- it loaded the level word, and found that others wait, or that it does not fit
 abbrev pub FindsNoSeats : PassRecord → PassRecord → Type 0
 FindsNoSeats pass pass' = TriesToTake pass tried.Waiters pass' ⊎ TriesToTake pass tried.NoRoom pass'
 
+-- at a gate without queues it found no seats, and then decided
+pub record FindsNoRoom (pass pass' : PassRecord) : Type 0 where
+  pub no_queues : pass'.knows.shape.response ≡ Reject
+  pub found : PassRecord
+  pub number : pass'.number ≡ found.number
+  pub finds : FindsNoSeats pass found
+  pub goes_on : (newer : List Entry) × (newer ++ found.knows.trace ≡ pass'.knows.trace)
+
+-- a request that took no seats was decided so by its own Pass, or cancelled
+abbrev pub Refuses : PassRecord → Decision → PassRecord → Type 0
+Refuses pass decision pass' = (decision ≡ Closed) ⊎ ((decision ≡ Cancelled) ⊎ ((decision ≡ ConcurrencyLimit) × FindsNoRoom pass pass'))
+
 -- what a Pass that was fresh came to by its own steps
 abbrev pub Takes : PassRecord → Took → PassRecord → Type 0
 Takes pass took.Run pass' = (pass'.state ≡ states.Took) × (told_own pass' ≡ Some Execute)
-Takes pass (took.Over decision) pass' = (pass'.state ≡ states.Over) × (told_own pass' ≡ Some decision) × IsRefusal decision
-Takes pass took.Blocked pass' = (pass'.state ≡ states.Fresh) × FindsNoSeats pass pass'
+Takes pass (took.Over decision) pass' = (pass'.state ≡ states.Over) × (told_own pass' ≡ Some decision) × Refuses pass decision pass'
+Takes pass took.Blocked pass' = (pass'.state ≡ states.Fresh) × (pass'.knows.shape.response ≡ Queue) × FindsNoSeats pass pass'
 Takes pass took.Raced pass' = TriesToTake pass tried.Raced pass'
 
 -- the request of this Pass tried to take its seats, and found none
@@ -96,21 +107,30 @@ pub record FoundNoSeats (token : PassToken) : Type 0 where
   pub finds : FindsNoSeats before after
   pub goes_on : (newer : List Entry) × (newer ++ after.knows.trace ≡ token.pass.knows.trace)
 
+-- the same, where it was decided so. Only at a gate without queues is a request rejected because it found no seats
+abbrev pub IsRefusal : PassToken → Decision → Type 0
+IsRefusal token decision = (decision ≡ Closed) ⊎ ((decision ≡ Cancelled) ⊎ ((decision ≡ ConcurrencyLimit) × (token.pass.knows.shape.response ≡ Reject) × FoundNoSeats token))
+
 -- where the slot's next request is, by what its try came to
 abbrev pub IsBegun : Ask → Took → PassToken → Type 0
 IsBegun ask took.Run token = IsRunning token
-IsBegun ask (took.Over decision) token = IsDone token × (told_own token.pass ≡ Some decision) × IsRefusal decision
-IsBegun ask took.Blocked token = (token.pass.state ≡ states.Fresh) × (asked_in token.pass.knows.trace token.pass.number ≡ Some (record { hash = ask.hash; cost = ask.cost })) × FoundNoSeats token
+IsBegun ask (took.Over decision) token = IsDone token × (told_own token.pass ≡ Some decision) × IsRefusal token decision
+IsBegun ask took.Blocked token = (token.pass.state ≡ states.Fresh) × (token.pass.knows.shape.response ≡ Queue) × (asked_in token.pass.knows.trace token.pass.number ≡ Some (record { hash = ask.hash; cost = ask.cost })) × FoundNoSeats token
 IsBegun ask took.Raced token = ⊥
+
+-- the slot was given to as many requests of this width as it can be
+abbrev pub IsUsedUp : GateId → ℕ → PassToken → Type 0
+IsUsedUp gate width token = length gate.shape.widths ≤ next_of token.pass.number width
 
 -- the slot went on to its next request, of this width
 pub record Begins (ask : Ask) (took : Took) (before after : PassToken) : Type 0 where
   pub number : after.pass.number ≡ next_of before.pass.number ask.width
   pub is : IsBegun ask took after
 
--- a fresh Pass, whose request asked for this hand and this cost
+-- a fresh Pass at a gate with queues, whose request asked for this hand and this cost
 pub record IsBlocked (sizes : Sizes) (hand : List ℕ) (cost : ℕ) (token : PassToken) : Type 0 where
   pub fresh : token.pass.state ≡ states.Fresh
+  pub queues : token.pass.knows.shape.response ≡ Queue
   pub asked : IsAskedBy sizes token.pass.knows.trace hand cost token.pass.number
 
 -- where a request is that arrived in the line

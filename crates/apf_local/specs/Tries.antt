@@ -14,7 +14,7 @@ use Rattle.apf_local.specs.declared.answer.Place.{Place}
 use Rattle.apf_local.specs.declared.answer.Place.TheVariants as places
 use Rattle.apf_local.specs.declared.taking.Took.{Took}
 use Rattle.apf_local.specs.declared.taking.Took.TheVariants as took
-use Rattle.apf_local.specs.Owners.{IsBegun}
+use Rattle.apf_local.specs.Owners.{IsBegun, IsSlotOf, IsUsedUp}
 use Rattle.apf_local.specs.Levels.{LocalView, SlotMoves, IsAt}
 
 -- a request that did not take its seats, since others wait or it does not fit, is busy
@@ -42,7 +42,7 @@ pub record Tries (ask : Ask) (answer : Answer) (place : Place) (before : PassTok
 -- the next request of the slot tried; or the slot is not free, or its numbers are used up, and nothing was done
 abbrev pub IsTry : ℕ → Ask → LocalView → Answer → LocalView → Type 0
 IsTry slot ask l answers.Wrong l' = (l' ≡ l) × (slice_get l.places slot ≢ Some places.Free)
-IsTry slot ask l answers.Spent l' = l' ≡ l
+IsTry slot ask l answers.Spent l' = (l' ≡ l) × IsSlotOf l.owner.passes slot (IsUsedUp l.owner.gate ask.width)
 IsTry slot ask l answer l' = SlotMoves slot l l' (Tries ask answer)
 
 -- where a request is whose decision is this

@@ -5,7 +5,7 @@ ghost use Rattle.apf_words.specs.Limits.{max_width, max_cost};
 ghost use Rattle.apf_flow.specs.Deal.{hand_of};
 ghost use Rattle.apf_book.specs.Life.{sizes_of};
 ghost use Rattle.apf_line.specs.Tokens.{IsDone};
-ghost use Rattle.apf_local.specs.Owners.{SameOwner, Moves, IsSlotOf, IsBegun};
+ghost use Rattle.apf_local.specs.Owners.{SameOwner, Moves, IsSlotOf, IsUsedUp, IsBegun};
 ghost use Rattle.apf_local.specs.declared.taking.Took.TheVariants as took;
 ghost use Rattle.apf_local.specs.Levels.{Admits, Stands, answer_of, place_of};
 
@@ -69,6 +69,7 @@ pub fn admit(
     requires low_cost { ask.cost ≤ max_cost }
     ensures same { SameOwner owner.old owner.new }
     ensures spent { IfNone result (owner.new ≡ owner.old) }
+    ensures used_up { IfNone result (IsSlotOf owner.old.passes slot (IsUsedUp owner.old.gate ask.width)) }
     ensures admits { IfSome result (λ a. Moves slot owner.old.passes owner.new.passes (Admits ask (hand_of dealer.now ask.hash) owner.old.book a.0 a.1 owner.new.book)) }
 {
     match owner.begin(slot, ask)? {

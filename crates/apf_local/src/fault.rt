@@ -7,15 +7,19 @@ ghost use Rattle.apf_local.specs.Openings.{told_of_gate, told_of_level};
 use apf_book::BookFault;
 use apf_gate::GateFault;
 use std::alloc::AllocError;
+use thiserror::Error;
 
 /// Why a level is not opened.
-#[derive(Clone, Copy, Debug, PartialEq, Eq)]
+#[derive(Clone, Copy, Debug, PartialEq, Eq, Error)]
 pub enum OpenFault {
     /// The gate is not opened: `BadLimit` or `TooMany`.
+    #[error("{0}")]
     Gate(GateFault),
     /// The dealer or the queues are not made.
+    #[error("{0}")]
     Level(BookFault),
     /// Memory was refused.
+    #[error("out of memory")]
     NoMemory,
 }
 

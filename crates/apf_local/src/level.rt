@@ -1,9 +1,8 @@
 //! A priority level as one plain value.
 
-ghost use Rattle.std.specs.Prelude.{◌≡◌, ◌≢◌, ◌↔◌, ◌≤◌, ◌<◌, ◌^◌, ℕ, length, slice_get, All, IfOk, IsTrue};
+ghost use Rattle.std.specs.Prelude.{◌≡◌, ◌≢◌, ◌↔◌, ◌≤◌, ◌<◌, ◌^◌, ℕ, length, slice_get, All, Some, IfOk, IfErr, IsTrue};
 ghost use Rattle.apf_words.specs.Limits.{max_width, max_cost, max_limit};
 ghost use Rattle.apf_flow.specs.Deal.{hand_of};
-ghost use Rattle.apf_model.specs.declared.response.Response.TheVariants.{Queue};
 ghost use Rattle.apf_gate.specs.Slots.{IsTicket};
 ghost use Rattle.apf_gate.specs.StationCalls.{TriesToCancel, ClosesTo};
 ghost use Rattle.apf_gate.specs.StationSteps.{StationLoadsLevel};
@@ -15,14 +14,14 @@ ghost use Rattle.apf_local.specs.declared.answer.Place.TheVariants as places;
 ghost use Rattle.apf_local.specs.Levels.{id_of, SameLocal, GoesOn, IsArrival, IsFinish};
 ghost use Rattle.apf_local.specs.Owners.{IsSlotOf, Steps, Sets};
 ghost use Rattle.apf_local.specs.Tries.{IsTry, IsReading, SlotsStay};
-ghost use Rattle.apf_local.specs.Openings.{IsOpened};
+ghost use Rattle.apf_local.specs.Openings.{IsOpened, IsOpenFault};
 
 use crate::admitting::admit;
 use crate::answer::{Answer, Ask, Place};
 use crate::fault::OpenFault;
 use crate::owner::Owner;
 use crate::reading::read_place;
-use apf_book::{BookFault, Copied, LifeEvent, LifeStats};
+use apf_book::{Copied, LifeEvent, LifeStats};
 use apf_flow::Dealer;
 use apf_gate::{Cancel, Close, Ticket};
 use apf_line::{Report, every_level_has_histories};
@@ -31,7 +30,7 @@ use apf_words::LevelWord;
 use std::alloc::{AllocError, Global};
 use std::marker::Model;
 
-/// A priority level with queues, for one thread, with all that belongs to it. A slot is for one request after another.
+/// A priority level for one thread, with all that belongs to it. A slot is for one request after another.
 ///
 /// After each call nobody waits, or who is dispatched next does not fit the level word.
 #[derive(Drop)]
@@ -52,21 +51,18 @@ impl Model for LocalLevel {
 }
 
 impl LocalLevel {
-    /// A level of so many slots, at most 10,000, all of them free. All memory is taken here, that of the newest events
-    /// too: two for each slot.
+    /// A level of this many slots, at most 10,000, all of them free. All memory is taken here, that of the newest events
+    /// too: two for each slot. A level without queues rejects a request that finds no seats.
     ///
     /// # Errors
     ///
-    /// The dealer's fault, the gate's, or the queues', the first of these, and `NoMemory` whenever memory was refused.
+    /// The gate's fault, the dealer's, or the queues', the first of these, and `NoMemory` whenever memory was refused. The
+    /// settings of queues have no fault where the level has none.
     pub fn open(alloc: Global, config: &Config, slots: u32) -> Result<LocalLevel, OpenFault>
-        requires { config.now.limit_response ≡ Queue }
-        ensures { IfOk result (IsOpened config.now slots) }
+        ensures opened { IfOk result (IsOpened config.now slots) }
+        ensures fault { IfErr result (IsOpenFault config.now slots) }
     {
-        let dealer = match Dealer::new(config.queues, config.hand_size) {
-            Ok(dealer) => dealer,
-            Err(fault) => return Err(OpenFault::Level(BookFault::Dealer(fault))),
-        };
-        let owner = Owner::open(alloc, config, slots)?;
+        let (owner, dealer) = Owner::open(alloc, config, slots)?;
         let places = vec![in alloc; Place::Free; slots as usize]?;
         Ok(LocalLevel {
             owner,
@@ -178,6 +174,14 @@ impl LocalLevel {
         self.places[slot] = place;
         self.owner.dispatch();
         place
+    }
+
+    /// Where the slot's request is, as far as the level's calls told. It makes no step: one that waits may be decided.
+    pub fn held(&self, slot: usize) -> Place
+        requires { slot < length self.now.places }
+        ensures { slice_get self.now.places slot ≡ Some result }
+    {
+        self.places[slot]
     }
 
     /// What names the slot's newest request for ever.

@@ -1,6 +1,6 @@
 //! A gate, its book and all of its tokens in one hand.
 
-ghost use Rattle.std.specs.Prelude.{ℕ, ◌≡◌, ◌↔◌, ◌≢◌, ◌≤◌, ◌<◌, ◌*◌, ◌^◌, length, slice_get, All, IfSome, IfNone, IfOk, IsTrue};
+ghost use Rattle.std.specs.Prelude.{ℕ, ◌≡◌, ◌↔◌, ◌≢◌, ◌≤◌, ◌<◌, ◌*◌, ◌^◌, length, slice_get, All, IfSome, IfNone, IfOk, IfErr, IsTrue};
 ghost use Rattle.apf_words.specs.Level.{Level};
 ghost use Rattle.apf_words.specs.Limits.{max_width, max_cost, max_limit};
 ghost use Rattle.apf_words.specs.declared.decision.Decision.TheVariants.{Execute, Cancelled};
@@ -18,13 +18,14 @@ ghost use Rattle.apf_book.specs.Notes.{AreLifeStats, CopiesLate};
 ghost use Rattle.apf_line.specs.Levels.{LifeId};
 ghost use Rattle.apf_line.specs.Reports.{EndedAs};
 ghost use Rattle.apf_line.specs.Stopped.{IsStopped};
-ghost use Rattle.apf_local.specs.Openings.{IsNewOwner, HasQueuesOf};
-ghost use Rattle.apf_local.specs.Owners.{SameOwner, Moves, Stay, Begins, IsBlocked, Enters, GivesBack, Reads, IsToldOff, Leaves, StrikesOne, Steps, Sets, IsSlotOf};
+ghost use Rattle.apf_local.specs.Openings.{line_of, IsNewOwner, IsOpenFault, HasQueuesOf};
+ghost use Rattle.apf_local.specs.Owners.{SameOwner, Moves, Stay, Begins, IsBlocked, IsUsedUp, Enters, GivesBack, Reads, IsToldOff, Leaves, StrikesOne, Steps, Sets, IsSlotOf};
 
 use crate::answer::Ask;
 use crate::fault::OpenFault;
 use crate::taking::{Took, take};
-use apf_book::{Arrived, Copied, LifeBook, LifeEvent, LifeStats, TryDispatch};
+use apf_book::{Arrived, BookFault, Copied, LifeBook, LifeEvent, LifeStats, TryDispatch};
+use apf_flow::Dealer;
 use apf_gate::{
     Cancel, Close, Gate, Pass, Renew, Station, Ticket, TrySetLimit, no_exchange_is_lost,
 };
@@ -35,12 +36,13 @@ use std::alloc::{AllocError, Global};
 use std::marker::Model;
 use std::mem;
 
-/// A gate, the book of its queues, and all of its tokens. The Desk, which the book has, has seen as much as any other: it
+/// A gate, what becomes of a request that finds no seats, the book of its queues, and all of its tokens. The Desk, which the book has, has seen as much as any other: it
 /// hears each step of the others. So no exchange is ever lost.
 #[derive(Drop)]
 pub struct Owner {
     alloc: Global,
     gate: Gate<Global>,
+    response: Response,
     book: LifeBook<Global>,
     passes: Vec<Pass>,
     stations: Vec<Station>,
@@ -52,9 +54,25 @@ impl Model for Owner {
 
     ghost Value = { OwnerView };
 
-    ghost view = { λ o. record { gate = o.gate; book = o.book; passes = o.passes.items; stations = o.stations.items } };
+    ghost view = { λ o. record { gate = o.gate; response = o.response; book = o.book; passes = o.passes.items; stations = o.stations.items } };
 
-    ghost invariant = { λ o. IsOwner (record { gate = o.gate; book = o.book; passes = o.passes.items; stations = o.stations.items }) };
+    ghost invariant = { λ o. IsOwner (record { gate = o.gate; response = o.response; book = o.book; passes = o.passes.items; stations = o.stations.items }) };
+}
+
+// The settings of a level's queues. A level without queues has one of one request, which nobody enters.
+fn settings(config: &Config) -> Config
+    ensures { result ≡ line_of config.now }
+{
+    match config.limit_response {
+        Response::Queue => *config,
+        Response::Reject => Config {
+            limit: config.limit,
+            queues: 1,
+            queue_length_limit: 1,
+            hand_size: 1,
+            limit_response: Response::Reject,
+        },
+    }
 }
 
 // One account has all of these tokens, which are given up.
@@ -78,17 +96,20 @@ fn gather(
 }
 
 impl Owner {
-    /// A gate with queues, of so many slots and one Station, and a book in which nothing happened yet. All memory is taken
-    /// here.
+    /// A gate of so many slots and one Station, a book in which nothing happened yet, and the dealer of its queues. All
+    /// memory is taken here.
     ///
     /// # Errors
     ///
-    /// The first of these: the gate's fault, the queues', and `NoMemory` whenever memory was refused.
-    pub fn open(alloc: Global, config: &Config, slots: u32) -> Result<Owner, OpenFault>
-        ensures opened { IfOk result (IsNewOwner config.now slots) }
-        ensures deck { IfOk result (λ o. queue_count o.book.queues.queues ≡ config.now.queues) }
-        ensures hand { IfOk result (λ o. o.book.queues.hand ≡ config.now.hand_size) }
-        ensures stopped { IfOk result (λ o. IsStopped o.book) }
+    /// The first of these: the gate's fault, the dealer's, the queues', and `NoMemory` whenever memory was refused. The
+    /// settings of queues have no fault at a gate without queues.
+    pub fn open(alloc: Global, config: &Config, slots: u32) -> Result<(Owner, Dealer), OpenFault>
+        ensures opened { IfOk result (λ o. IsNewOwner config.now slots o.0) }
+        ensures sizes { IfOk result (λ o. o.1 ≡ record { deck = (line_of config.now).queues; hand = (line_of config.now).hand_size }) }
+        ensures deck { IfOk result (λ o. queue_count o.0.book.queues.queues ≡ (line_of config.now).queues) }
+        ensures hand { IfOk result (λ o. o.0.book.queues.hand ≡ (line_of config.now).hand_size) }
+        ensures stopped { IfOk result (λ o. IsStopped o.0.book) }
+        ensures fault { IfErr result (IsOpenFault config.now slots) }
     {
         every_level_has_histories();
         let widths = vec![in alloc; 1; slots as usize]?;
@@ -97,17 +118,24 @@ impl Owner {
             config.limit,
             widths.as_slice(),
             1,
-            Response::Queue,
+            config.limit_response,
         )?;
         desk.is_of_a_gate();
-        let book = LifeBook::new(alloc, config, slots, desk)?;
-        Ok(Owner {
+        let line = settings(config);
+        let dealer = match Dealer::new(line.queues, line.hand_size) {
+            Ok(dealer) => dealer,
+            Err(fault) => return Err(OpenFault::Level(BookFault::Dealer(fault))),
+        };
+        let book = LifeBook::new(alloc, &line, slots, desk)?;
+        let owner = Owner {
             alloc,
             gate,
+            response: config.limit_response,
             book,
             passes,
             stations,
-        })
+        };
+        Ok((owner, dealer))
     }
 
     /// What names the slot's newest request for ever.
@@ -167,6 +195,7 @@ impl Owner {
         let Owner {
             alloc: _,
             gate,
+            response: _,
             book,
             passes,
             stations,
@@ -184,6 +213,7 @@ impl Owner {
         requires narrow { ask.width ≤ max_width }
         ensures same { SameOwner self.old self.new }
         ensures spent { IfNone result (self.new ≡ self.old) }
+        ensures used_up { IfNone result (IsSlotOf self.old.passes slot (IsUsedUp self.old.gate ask.width)) }
         ensures begins { IfSome result (λ took. Moves slot self.old.passes self.new.passes (Begins ask took)) }
         ensures history { (v : LifeView) → IsLifeKept v self.old.book → IsLifeKept v self.new.book }
     {
@@ -195,7 +225,7 @@ impl Owner {
             Renew::Began(_decision) => {}
         }
         self.book.hear(&self.gate, &mut self.passes[slot]);
-        let took = take(&self.gate, &mut self.passes[slot]);
+        let took = take(&self.gate, self.response, &mut self.passes[slot]);
         if took == Took::Raced {
             gather(
                 self.alloc,

@@ -9,6 +9,7 @@ ghost use Rattle.apf_local.specs.Tries.{answer_of_try, place_of_try};
 
 use crate::answer::{Answer, Place};
 use apf_gate::{Gate, Pass, TryTake};
+use apf_model::Response;
 use apf_words::Decision;
 use std::alloc::Global;
 
@@ -50,10 +51,11 @@ impl Took {
 }
 
 /// Takes the request's seats, if the level is open, nobody waits and they fit, and decides. Seats that were taken while
-/// the request was cancelled are given back.
-pub fn take(gate: &Gate<Global>, pass: &mut Pass) -> Took
+/// the request was cancelled are given back. At a gate without queues, a request that finds no seats is rejected.
+pub fn take(gate: &Gate<Global>, response: Response, pass: &mut Pass) -> Took
     requires own { pass_gate pass.old ≡ gate.now }
     requires fresh { pass.old.pass.state ≡ Fresh }
+    requires response { response ≡ gate.now.shape.response }
     ensures same { SamePass pass.old pass.new }
     ensures takes { Takes pass.old.pass result pass.new.pass }
 {
@@ -71,7 +73,13 @@ pub fn take(gate: &Gate<Global>, pass: &mut Pass) -> Took
             Took::Over(decision)
         }
         TryTake::Waiters => Took::Blocked,
-        TryTake::NoRoom => Took::Blocked,
+        TryTake::NoRoom => match response {
+            Response::Queue => Took::Blocked,
+            Response::Reject => {
+                let decision = gate.decide(pass, Decision::ConcurrencyLimit);
+                Took::Over(decision)
+            }
+        },
         TryTake::Raced => Took::Raced,
     }
 }

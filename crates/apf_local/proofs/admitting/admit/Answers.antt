@@ -2,7 +2,7 @@
 use Rattle.std.proofs.Common.{rules, ◌≡◌, ◌≢◌, ◌⊎◌, inl, inr, List, set, Some, refl, sym, ap, ◌∙◌, subst}
 use Rattle.std.specs.Prelude.{slice_get}
 use Rattle.apf_words.specs.declared.decision.Decision.{Decision}
-use Rattle.apf_words.specs.declared.decision.Decision.TheVariants.{Execute, QueueFull, Closed, Cancelled}
+use Rattle.apf_words.specs.declared.decision.Decision.TheVariants.{Execute, QueueFull, Closed, Cancelled, ConcurrencyLimit}
 use Rattle.apf_gate.specs.Tokens.{PassToken}
 use Rattle.apf_local.specs.declared.admitting.Admitted.TheVariants as admitted
 use Rattle.apf_local.specs.declared.taking.Took.{Took}
@@ -12,13 +12,15 @@ use Rattle.apf_local.proofs.Places.{set_again}
 use Rattle.apf_local.proofs.Slots.{owner_then, get_same}
 use Rattle.apf_local.proofs.admitting.admit.Goals as goal
 
-not_execute : (d : Decision) → IsRefusal d → d ≢ Execute
-not_execute d (inl closed) is = let z = sym closed ∙ is in cc
-not_execute d (inr cancelled) is = let z = sym cancelled ∙ is in cc
+not_execute : (t : PassToken) (d : Decision) → IsRefusal t d → d ≢ Execute
+not_execute t d (inl closed) is = let z = sym closed ∙ is in cc
+not_execute t d (inr (inl cancelled)) is = let z = sym cancelled ∙ is in cc
+not_execute t d (inr (inr no_room)) is = let z = sym no_room.0 ∙ is in cc
 
-not_full : (d : Decision) → IsRefusal d → ◌≡◌ (admitted.Over d) (admitted.Over QueueFull) → ⊥
-not_full d (inl closed) is = let z : admitted.Over Closed ≡ admitted.Over QueueFull = subst (λ x. admitted.Over x ≡ admitted.Over QueueFull) closed is in cc
-not_full d (inr cancelled) is = let z : admitted.Over Cancelled ≡ admitted.Over QueueFull = subst (λ x. admitted.Over x ≡ admitted.Over QueueFull) cancelled is in cc
+not_full : (t : PassToken) (d : Decision) → IsRefusal t d → ◌≡◌ (admitted.Over d) (admitted.Over QueueFull) → ⊥
+not_full t d (inl closed) is = let z : admitted.Over Closed ≡ admitted.Over QueueFull = subst (λ x. admitted.Over x ≡ admitted.Over QueueFull) closed is in cc
+not_full t d (inr (inl cancelled)) is = let z : admitted.Over Cancelled ≡ admitted.Over QueueFull = subst (λ x. admitted.Over x ≡ admitted.Over QueueFull) cancelled is in cc
+not_full t d (inr (inr no_room)) is = let z : admitted.Over ConcurrencyLimit ≡ admitted.Over QueueFull = subst (λ x. admitted.Over x ≡ admitted.Over QueueFull) no_room.0 is in cc
 
 pub returns-in-Run-clause-admits : goal.returns-in-Run-clause-admits
 returns-in-Run-clause-admits c =
@@ -47,9 +49,9 @@ returns-in-Over-clause-admits c =
       now = moves.now;
       does = record {
         number = moves.does.number;
-        is = (moves.does.is.0, moves.does.is.1, not_execute d moves.does.is.2);
+        is = (moves.does.is.0, moves.does.is.1, not_execute moves.after d moves.does.is.2);
         tried = record { took = took.Over d; then = moves.after; number = refl; is = moves.does.is; follows = refl };
-        history = λ v kept. ((λ e. cc), not_full d moves.does.is.2, c.begin.ensures.history v kept);
+        history = λ v kept. ((λ e. cc), not_full moves.after d moves.does.is.2, c.begin.ensures.history v kept);
       };
     }
 

@@ -10,9 +10,10 @@ enter-requires-clause-blocked c = λ t at.
     let begun = c.requires.begun t at in
     record {
       fresh = begun.0;
+      queues = begun.1;
       asked = record {
         ask = record { hash = c.args.ask.hash; cost = c.args.ask.cost };
-        said = begun.1;
+        said = begun.2;
         hand_is = subst (λ (s : Sizes). c.as_slice.result.now ≡ hand_of s c.args.ask.hash) c.requires.dealt dealt;
         cost_is = refl;
       };

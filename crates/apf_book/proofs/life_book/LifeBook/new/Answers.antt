@@ -12,7 +12,7 @@ invariant_of-result-2 g c =
     record {
       view = beginning shape c.args.config.now.queues c.args.config.now.queue_length_limit;
       kept = subst (λ (d : DeskToken). IsLifeKept (beginning shape c.args.config.now.queues c.args.config.now.queue_length_limit) (record { desk = d; queues = c.in-Ok.ledger; notes = c.in_ok-new.field-0 })) (sym c.desk.view_is)
-          (life_begins _ c.args.desk c.in-Ok.ledger c.in_ok-new.field-0 _ _ c.requires.begins.fresh c.requires.begins.has_queues (c.in-Ok.ensures.slots ∙ sym c.requires.begins.slots_are) starts refl
+          (life_begins _ c.args.desk c.in-Ok.ledger c.in_ok-new.field-0 _ _ c.requires.begins.fresh (c.in-Ok.ensures.slots ∙ sym c.requires.begins.slots_are) starts refl
           (c.in-Ok.ensures.opening _ starts) c.in_ok-new.ensures.nothing);
     }
 
@@ -22,7 +22,7 @@ returns g c = record {
   room = search rules;
   hand = search rules;
   opens = λ v o costs. subst (λ (d : DeskToken). IsLifeKept v (record { desk = d; queues = c.in-Ok.ledger; notes = c.in_ok-new.field-0 })) (sym c.desk.view_is)
-      (life_begins v c.args.desk c.in-Ok.ledger c.in_ok-new.field-0 _ _ c.requires.begins.fresh c.requires.begins.has_queues (c.in-Ok.ensures.slots ∙ sym c.requires.begins.slots_are) o costs
+      (life_begins v c.args.desk c.in-Ok.ledger c.in_ok-new.field-0 _ _ c.requires.begins.fresh (c.in-Ok.ensures.slots ∙ sym c.requires.begins.slots_are) o costs
       (c.in-Ok.ensures.opening v o) c.in_ok-new.ensures.nothing);
   settings = search rules;
   fault = search rules;

@@ -3,7 +3,7 @@ use Rattle.std.proofs.Common.{rules, ◌≡◌, ◌≢◌, ◌<◌, ◌≤◌, L
 use Rattle.std.proofs.lemmas.List.{length-set}
 use Rattle.std.proofs.lemmas.List.Elements.{All-set}
 use Rattle.std.proofs.lemmas.List.Quantifiers.{any-set}
-use Rattle.std.specs.Prelude.{Some}
+use Rattle.std.specs.Prelude.{Option, Some}
 use Rattle.apf_gate.specs.declared.answers.TryTake.TheVariants as tried
 use Rattle.apf_gate.specs.Ends.{IsEnded}
 use Rattle.apf_gate.specs.PassCalls.{TriesToTake}
@@ -15,12 +15,15 @@ use Rattle.apf_book.specs.LifeBook.{LifeBookView}
 use Rattle.apf_book.specs.LifeCalls.{HearsLife}
 use Rattle.apf_local.specs.declared.taking.Took.{Took}
 use Rattle.apf_local.specs.declared.taking.Took.TheVariants as took
-use Rattle.apf_local.specs.Owners.{OwnerView, Takes, Begins}
+use Rattle.apf_local.specs.Owners.{OwnerView, Takes, Begins, IsUsedUp}
 use Rattle.apf_local.proofs.Knowing.{book_then}
-use Rattle.apf_local.proofs.Places.{set_thrice, set_four, not_less, moved, same_owner, heard}
+use Rattle.apf_local.proofs.Places.{set_thrice, set_four, not_less, was, moved, same_owner, heard}
 use Rattle.apf_local.proofs.Hearing.{hears_trace, goes_on_then, goes_on_more, asked_then}
 use Rattle.apf_local.proofs.Begun.{begun}
 use Rattle.apf_local.proofs.owner.Owner.begin.Goals as goal
+
+some_is : (a b : PassToken) → ◌≡◌ {A = Option PassToken} (Some a) (Some b) → a ≡ b
+some_is a b is = cc
 
 pub unreachable-requires : goal.unreachable-requires
 unreachable-requires c =
@@ -48,23 +51,31 @@ unreachable-requires c =
     (λ k t at. let l = c.self.invariant.stations_newest k t at in omega arith)
     tries
 
+pub returns-in-Spent-clause-used_up : goal.returns-in-Spent-clause-used_up
+returns-in-Spent-clause-used_up c = λ t at.
+    let o : OwnerView = record { gate = c.self.inside.gate; response = c.self.inside.response; book = c.self.inside.book; passes = c.self.inside.passes.items; stations = c.self.inside.stations.items } in
+    let p : PassToken = c.index_mut.result.now in
+    let here = was o c.args.self.now c.args.slot p c.self.view_is c.requires.is_slot c.index_mut.ensures.value in
+    let used : IsUsedUp o.gate c.args.ask.width p = c.renew.ensures.spent_only.0 (search rules) in
+    subst (λ (x : PassToken). IsUsedUp c.args.self.now.gate c.args.ask.width x) (some_is p t (sym here ∙ at)) (subst (λ (x : OwnerView). IsUsedUp x.gate c.args.ask.width p) c.self.view_is used)
+
 pub invariant_of-self-2 : goal.invariant_of-self-2
 invariant_of-self-2 c =
-    let o : OwnerView = record { gate = c.self.inside.gate; book = c.self.inside.book; passes = c.self.inside.passes.items; stations = c.self.inside.stations.items } in
+    let o : OwnerView = record { gate = c.self.inside.gate; response = c.self.inside.response; book = c.self.inside.book; passes = c.self.inside.passes.items; stations = c.self.inside.stations.items } in
     let own : pass_gate c.index_mut-4.result.now ≡ c.self.inside.gate = (search rules) in
     heard o c.self.invariant c.args.slot c.hear-2.new.pass c.hear-2.new.self _ (c.hear-2.ensures.same_request.pass ∙ own) (book_then c.self.inside.book c.hear.new.self c.hear-2.new.self c.hear.ensures.same c.hear-2.ensures.same) c.hear-2.ensures.follows
     (set_four c.self.inside.passes.items c.args.slot c.renew.new.pass c.hear.new.pass c.take-took.new.pass c.hear-2.new.pass)
 
 pub returns-clause-same : goal.returns-clause-same
 returns-clause-same c =
-    let o : OwnerView = record { gate = c.self.inside.gate; book = c.self.inside.book; passes = c.self.inside.passes.items; stations = c.self.inside.stations.items } in
+    let o : OwnerView = record { gate = c.self.inside.gate; response = c.self.inside.response; book = c.self.inside.book; passes = c.self.inside.passes.items; stations = c.self.inside.stations.items } in
     let ps : List PassToken = c.self.inside.passes.items in
     same_owner o c.args.self.now c.self.view_is c.hear-2.new.self (book_then c.self.inside.book c.hear.new.self c.hear-2.new.self c.hear.ensures.same c.hear-2.ensures.same) _
     (ap (λ (xs : List PassToken). length xs) (set_four ps c.args.slot c.renew.new.pass c.hear.new.pass c.take-took.new.pass c.hear-2.new.pass) ∙ length-set ps c.args.slot c.hear-2.new.pass) _ refl
 
 pub returns-clause-begins : goal.returns-clause-begins
 returns-clause-begins c =
-    let o : OwnerView = record { gate = c.self.inside.gate; book = c.self.inside.book; passes = c.self.inside.passes.items; stations = c.self.inside.stations.items } in
+    let o : OwnerView = record { gate = c.self.inside.gate; response = c.self.inside.response; book = c.self.inside.book; passes = c.self.inside.passes.items; stations = c.self.inside.stations.items } in
     let b0 : LifeBookView = c.self.inside.book in
     let b1 : LifeBookView = c.hear.new.self in
     let b2 : LifeBookView = c.hear-2.new.self in

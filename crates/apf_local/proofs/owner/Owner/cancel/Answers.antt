@@ -9,14 +9,14 @@ use Rattle.apf_local.proofs.owner.Owner.cancel.Goals as goal
 
 pub returns-then-eq-clause-same : goal.returns-then-eq-clause-same
 returns-then-eq-clause-same c =
-    let o : OwnerView = record { gate = c.self.inside.gate; book = c.self.inside.book; passes = c.self.inside.passes.items; stations = c.self.inside.stations.items } in
+    let o : OwnerView = record { gate = c.self.inside.gate; response = c.self.inside.response; book = c.self.inside.book; passes = c.self.inside.passes.items; stations = c.self.inside.stations.items } in
     let ts : List StationToken = c.self.inside.stations.items in
     same_owner o c.args.self.now c.self.view_is c.strike.new.self (book_then c.self.inside.book c.hear_station-2.new.self c.strike.new.self (book_then c.self.inside.book c.hear_station.new.self c.hear_station-2.new.self c.hear_station.ensures.same c.hear_station-2.ensures.same) c.strike.ensures.same) _ refl _
     (ap (λ (xs : List StationToken). length xs) (set_thrice ts 0 c.hear_station.new.station c.cancel_without_wake-answer.new.station c.hear_station-2.new.station) ∙ length-set ts 0 c.hear_station-2.new.station)
 
 pub returns-else-eq-clause-same : goal.returns-else-eq-clause-same
 returns-else-eq-clause-same c =
-    let o : OwnerView = record { gate = c.self.inside.gate; book = c.self.inside.book; passes = c.self.inside.passes.items; stations = c.self.inside.stations.items } in
+    let o : OwnerView = record { gate = c.self.inside.gate; response = c.self.inside.response; book = c.self.inside.book; passes = c.self.inside.passes.items; stations = c.self.inside.stations.items } in
     let ts : List StationToken = c.self.inside.stations.items in
     same_owner o c.args.self.now c.self.view_is c.hear_station-2.new.self (book_then c.self.inside.book c.hear_station.new.self c.hear_station-2.new.self c.hear_station.ensures.same c.hear_station-2.ensures.same) _ refl _
     (ap (λ (xs : List StationToken). length xs) (set_thrice ts 0 c.hear_station.new.station c.cancel_without_wake-answer.new.station c.hear_station-2.new.station) ∙ length-set ts 0 c.hear_station-2.new.station)

@@ -18,7 +18,7 @@ end_level-requires-clause-own_desk c =
     let own : IsBookOf k book = record { gate = c.self.invariant.desk; queues = refl; limit = refl; hand = refl } in
     let lived = c.in_ok-closing.ensures.lived in
     let slots : c.self.inside.gate.shape.slots ≡ c.args.slots = (search rules) in
-    (c.in_ok-closing.ensures.closes k lived.view own slots c.self.invariant.has_queues lived.kept).gate
+    (c.in_ok-closing.ensures.closes k lived.view own slots lived.kept).gate
 
 pub returns : goal.returns
 returns c = of_each _ _ (λ r ends k v same queues kept.
@@ -27,5 +27,5 @@ returns c = of_each _ _ (λ r ends k v same queues kept.
     let has : HasQueuesOf k c.self.inside.book = subst (λ (o : OwnerView). HasQueuesOf k o.book) (sym c.self.view_is) queues in
     let gate : k.gate ≡ c.self.inside.gate = same ∙ ap (λ (o : OwnerView). o.gate) (sym c.self.view_is) in
     let own : IsBookOf k c.self.inside.book = record { gate = c.self.invariant.desk ∙ sym gate; queues = has.queues; limit = has.limit; hand = has.hand } in
-    let closes = c.in_ok-closing.ensures.closes k v own slots (ap (λ (g : GateId). g.shape.response) gate ∙ c.self.invariant.has_queues) here in
+    let closes = c.in_ok-closing.ensures.closes k v own slots here in
     subst (λ (o : OwnerView). EndedAs k v o.passes o.stations r) c.self.view_is (ends k v (sym gate) closes)) c.end_level.result c.end_level.ensures

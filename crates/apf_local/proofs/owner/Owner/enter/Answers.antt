@@ -18,16 +18,23 @@ use Rattle.apf_local.proofs.Hearing.{asked_then, goes_on_more}
 use Rattle.apf_local.proofs.Entering.{entered, step_stays}
 use Rattle.apf_local.proofs.owner.Owner.enter.Goals as goal
 
+pub try_arrive-requires-clause-has_queues : goal.try_arrive-requires-clause-has_queues
+try_arrive-requires-clause-has_queues c =
+    let o : OwnerView = record { gate = c.self.inside.gate; response = c.self.inside.response; book = c.self.inside.book; passes = c.self.inside.passes.items; stations = c.self.inside.stations.items } in
+    let blocked = c.requires.blocked c.index_mut.result.now (was o c.args.self.now c.args.slot c.index_mut.result.now c.self.view_is c.requires.is_slot c.index_mut.ensures.value) in
+    let own : pass_gate c.index_mut.result.now ≡ c.self.inside.gate = (search rules) in
+    ap (λ (g : GateId). g.shape.response) (sym own) ∙ blocked.queues
+
 pub try_arrive-requires-clause-is_new : goal.try_arrive-requires-clause-is_new
 try_arrive-requires-clause-is_new c =
-    let o : OwnerView = record { gate = c.self.inside.gate; book = c.self.inside.book; passes = c.self.inside.passes.items; stations = c.self.inside.stations.items } in
+    let o : OwnerView = record { gate = c.self.inside.gate; response = c.self.inside.response; book = c.self.inside.book; passes = c.self.inside.passes.items; stations = c.self.inside.stations.items } in
     let blocked = c.requires.blocked c.index_mut.result.now (was o c.args.self.now c.args.slot c.index_mut.result.now c.self.view_is c.requires.is_slot c.index_mut.ensures.value) in
     let e1 : c.index_mut-2.result.now ≡ c.ask.new.pass = (search rules) in
     subst (λ (t : PassToken). IsNewTo c.self.inside.book t) (sym e1) (record { in_line = c.ask.ensures.after.in_line blocked.fresh; away = inl (c.ask.ensures.after.not_handed blocked.fresh).0 })
 
 pub try_arrive-requires-clause-asked : goal.try_arrive-requires-clause-asked
 try_arrive-requires-clause-asked c =
-    let o : OwnerView = record { gate = c.self.inside.gate; book = c.self.inside.book; passes = c.self.inside.passes.items; stations = c.self.inside.stations.items } in
+    let o : OwnerView = record { gate = c.self.inside.gate; response = c.self.inside.response; book = c.self.inside.book; passes = c.self.inside.passes.items; stations = c.self.inside.stations.items } in
     let blocked = c.requires.blocked c.index_mut.result.now (was o c.args.self.now c.args.slot c.index_mut.result.now c.self.view_is c.requires.is_slot c.index_mut.ensures.value) in
     let p : PassToken = c.index_mut.result.now in
     let a : PassToken = c.ask.new.pass in
@@ -44,14 +51,14 @@ try_arrive-requires-clause-asked c =
 
 pub invariant_of-self : goal.invariant_of-self
 invariant_of-self c =
-    let o : OwnerView = record { gate = c.self.inside.gate; book = c.self.inside.book; passes = c.self.inside.passes.items; stations = c.self.inside.stations.items } in
+    let o : OwnerView = record { gate = c.self.inside.gate; response = c.self.inside.response; book = c.self.inside.book; passes = c.self.inside.passes.items; stations = c.self.inside.stations.items } in
     let own : pass_gate c.index_mut-2.result.now ≡ c.self.inside.gate = (search rules) in
     heard o c.self.invariant c.args.slot c.try_arrive.new.pass c.try_arrive.new.self _ (c.try_arrive.ensures.same_request.pass ∙ own) c.try_arrive.ensures.same c.try_arrive.ensures.follows
     (set_again c.self.inside.passes.items c.args.slot c.ask.new.pass c.try_arrive.new.pass)
 
 pub unreachable-requires : goal.unreachable-requires
 unreachable-requires c =
-    let o : OwnerView = record { gate = c.self.inside.gate; book = c.self.inside.book; passes = c.self.inside.passes.items; stations = c.self.inside.stations.items } in
+    let o : OwnerView = record { gate = c.self.inside.gate; response = c.self.inside.response; book = c.self.inside.book; passes = c.self.inside.passes.items; stations = c.self.inside.stations.items } in
     let here = c.gather.ensures.here in
     let gate : GateId = c.self.inside.gate in
     let i : ℕ = c.args.slot in
@@ -79,7 +86,7 @@ unreachable-requires c =
 
 pub returns-clause-enters : goal.returns-clause-enters
 returns-clause-enters c =
-    let o : OwnerView = record { gate = c.self.inside.gate; book = c.self.inside.book; passes = c.self.inside.passes.items; stations = c.self.inside.stations.items } in
+    let o : OwnerView = record { gate = c.self.inside.gate; response = c.self.inside.response; book = c.self.inside.book; passes = c.self.inside.passes.items; stations = c.self.inside.stations.items } in
     let p : PassToken = c.index_mut.result.now in
     let a : PassToken = c.ask.new.pass in
     let p1 : PassToken = c.try_arrive.new.pass in
@@ -87,7 +94,9 @@ returns-clause-enters c =
     let same = c.try_arrive.ensures.same_request in
     let n1 : c.index_mut-2.result.now.pass.number ≡ p.pass.number = ap (λ (t : PassToken). t.pass.number) e1 ∙ c.ask.ensures.same.number in
     let own : pass_gate c.index_mut-2.result.now ≡ c.self.inside.gate = (search rules) in
-    let queues : p1.pass.knows.shape.response ≡ Queue = ap (λ (g : GateId). g.shape.response) (same.pass ∙ own) ∙ c.self.invariant.has_queues in
+    let blocked = c.requires.blocked p (was o c.args.self.now c.args.slot p c.self.view_is c.requires.is_slot c.index_mut.ensures.value) in
+    let begins : pass_gate p ≡ c.self.inside.gate = (search rules) in
+    let queues : p1.pass.knows.shape.response ≡ Queue = ap (λ (g : GateId). g.shape.response) (same.pass ∙ (own ∙ sym begins)) ∙ blocked.queues in
     let kept = λ (v : LifeView) (is : IsLifeKept v c.args.self.now.book). subst (λ (x : OwnerView). IsLifeKept v x.book) (sym c.self.view_is) is in
     moved o c.args.self.now c.args.slot p p1 _ (Enters c.args.self.now.book c.args.dealt.now c.args.cost c.in-Some.arrived c.try_arrive.new.self) c.self.view_is c.requires.is_slot c.index_mut.ensures.value (set_again c.self.inside.passes.items c.args.slot a p1) (record {
       number = same.number ∙ n1;

@@ -1,20 +1,29 @@
 -- An owner of a gate that was just opened.
-use Rattle.std.proofs.Common.{rules, ◌≡◌, ◌≤◌, ◌<◌, ◌*◌, ℕ, length, get_or, refl, sym, ap, ◌∙◌, subst, arith}
+use Rattle.std.proofs.Common.{rules, ◌≡◌, ◌≤◌, ◌<◌, ◌*◌, ℕ, List, [], ◌∷◌, length, get_or, Some, inl, inr, refl, sym, ap, ◌∙◌, subst, arith}
+use Rattle.std.specs.Prelude.{map}
 use Rattle.std.proofs.lemmas.Option.{get_or_from_slice_get}
-use Rattle.apf_model.specs.declared.response.Response.TheVariants.{Queue}
-use Rattle.apf_gate.specs.Tokens.{GateId, PassToken, StationToken, desk_gate}
+use Rattle.apf_history.specs.declared.events.Event.{Event}
+use Rattle.apf_model.specs.declared.config.Config.{Config}
+use Rattle.apf_model.specs.declared.response.Response.{Response}
+use Rattle.apf_model.specs.declared.response.Response.TheVariants.{Queue, Reject}
+use Rattle.apf_gate.specs.Records.{new_desk}
+use Rattle.apf_gate.specs.Tokens.{GateId, PassToken, StationToken, DeskToken, desk_gate}
+use Rattle.apf_book.specs.Said.{saying, sayings}
+use Rattle.apf_book.specs.Life.{LifeView}
+use Rattle.apf_book.specs.LifeBook.{LifeBookView, IsLifeKept}
+use Rattle.apf_local.specs.Openings.{line_of}
 use Rattle.apf_local.proofs.Beginning.{beginning, is_beginning, opened}
 use Rattle.apf_local.proofs.owner.Owner.open.Goals as goal
 
-pub invariant_of-result : goal.invariant_of-result
-invariant_of-result c =
+pub invariant_of-owner : goal.invariant_of-owner
+invariant_of-owner c =
     let gate : GateId = c.in_ok-gate.gate in
     let made = c.in_ok-book.ensures in
     let steps = length c.in_ok-book.book.desk.desk.knows.trace in
     let slots : gate.shape.slots ≡ c.args.slots = (search rules) in
     record {
       desk = ap desk_gate made.desk ∙ ap desk_gate c.in_ok-gate.ensures.desk;
-      has_queues = ap (λ s. s.response) c.in_ok-gate.ensures.shape;
+      response_is = sym (ap (λ s. s.response) c.in_ok-gate.ensures.shape);
       room = made.room ∙ ap (λ (n : ℕ). 2 * n) (sym slots);
       passes_own = λ k t at. (c.in_ok-gate.ensures.fresh k t at).0;
       stations_own = c.in_ok-gate.ensures.own;
@@ -28,18 +37,44 @@ invariant_of-result c =
           subst (λ (x : StationToken). length x.station.knows.trace ≤ steps) (sym e) (omega arith);
     }
 
+-- a book whose Desk made no step is of no history in which anything happened
+says_nothing : (h : List Event) → map saying h ≡ [] → h ≡ []
+says_nothing [] is = refl
+says_nothing (e ∷ h) is = absurd (cc)
+
+blank : (b : LifeBookView) (d : DeskToken) (v : LifeView) → b.desk ≡ d → d.desk ≡ new_desk d.desk.knows.shape → IsLifeKept v b → v.history ≡ []
+blank b d v same fresh kept = says_nothing v.history (kept.agrees.said ∙ (ap (λ (x : DeskToken). sayings x.desk.knows.trace) same ∙ ap (λ x. sayings x.knows.trace) fresh))
+
+-- the book of settings, which are those of the level
 pub returns-clause-deck : goal.returns-clause-deck
 returns-clause-deck c =
-    let config = c.args.config.now in
+    let line : Config = c.settings-line.result in
     let shape = c.in_ok-gate.desk.desk.knows.shape in
-    let v = beginning shape config.queues config.queue_length_limit in
-    let kept = c.in_ok-book.ensures.opens v (is_beginning shape config.queues config.queue_length_limit c.is_of_a_gate.ensures.shape) refl in
-    kept.of_life.deck
+    let v = beginning shape line.queues line.queue_length_limit in
+    let kept = c.in_ok-book.ensures.opens v (is_beginning shape line.queues line.queue_length_limit c.is_of_a_gate.ensures.shape) refl in
+    kept.of_life.deck ∙ ap (λ (x : Config). x.queues) c.settings-line.ensures
 
 pub returns-clause-stopped : goal.returns-clause-stopped
 returns-clause-stopped c =
-    let config = c.args.config.now in
+    let line : Config = c.settings-line.result in
     let shape = c.in_ok-gate.desk.desk.knows.shape in
-    let v = beginning shape config.queues config.queue_length_limit in
-    let kept = c.in_ok-book.ensures.opens v (is_beginning shape config.queues config.queue_length_limit c.is_of_a_gate.ensures.shape) refl in
+    let v = beginning shape line.queues line.queue_length_limit in
+    let kept = c.in_ok-book.ensures.opens v (is_beginning shape line.queues line.queue_length_limit c.is_of_a_gate.ensures.shape) refl in
     (opened c.every_level_has_histories.ensures).begins v c.in_ok-book.book refl kept
+
+pub returns-clause-opened : goal.returns-clause-opened
+returns-clause-opened c =
+    let line : Config = c.settings-line.result in
+    let shape = c.in_ok-gate.desk.desk.knows.shape in
+    let v = beginning shape line.queues line.queue_length_limit in
+    let kept = c.in_ok-book.ensures.opens v (is_beginning shape line.queues line.queue_length_limit c.is_of_a_gate.ensures.shape) refl in
+    let desk : c.in_ok-gate.desk.desk ≡ new_desk c.in_ok-gate.desk.desk.knows.shape = (search rules) in
+    record {
+      limit = search rules;
+      response = search rules;
+      slots_are = search rules;
+      one_station = search rules;
+      queue_limit = kept.of_life.limit ∙ ap (λ (x : Config). x.queue_length_limit) c.settings-line.ensures;
+      fresh = λ k t at. (c.in_ok-gate.ensures.fresh k t at).1;
+      blank = λ w of. blank c.in_ok-book.book c.in_ok-gate.desk w c.in_ok-book.ensures.desk desk of;
+    }

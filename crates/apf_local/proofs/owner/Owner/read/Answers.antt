@@ -13,7 +13,7 @@ use Rattle.apf_local.proofs.owner.Owner.read.Goals as goal
 
 pub returns-clause-reads : goal.returns-clause-reads
 returns-clause-reads c =
-    let o : OwnerView = record { gate = c.self.inside.gate; book = c.self.inside.book; passes = c.self.inside.passes.items; stations = c.self.inside.stations.items } in
+    let o : OwnerView = record { gate = c.self.inside.gate; response = c.self.inside.response; book = c.self.inside.book; passes = c.self.inside.passes.items; stations = c.self.inside.stations.items } in
     let b0 : LifeBookView = c.self.inside.book in
     let b1 : LifeBookView = c.hear.new.self in
     let p : PassToken = c.index_mut.result.now in

@@ -17,14 +17,14 @@ use Rattle.apf_local.proofs.owner.Owner.withdraw.Goals as goal
 
 pub returns-clause-same : goal.returns-clause-same
 returns-clause-same c =
-    let o : OwnerView = record { gate = c.self.inside.gate; book = c.self.inside.book; passes = c.self.inside.passes.items; stations = c.self.inside.stations.items } in
+    let o : OwnerView = record { gate = c.self.inside.gate; response = c.self.inside.response; book = c.self.inside.book; passes = c.self.inside.passes.items; stations = c.self.inside.stations.items } in
     let ps : List PassToken = c.self.inside.passes.items in
     same_owner o c.args.self.now c.self.view_is c.withdraw.new.self (book_then c.self.inside.book c.hear.new.self c.withdraw.new.self c.hear.ensures.same c.withdraw.ensures.same) _
     (ap (λ (xs : List PassToken). length xs) (set_again ps c.args.slot c.hear.new.pass c.withdraw.new.pass) ∙ length-set ps c.args.slot c.withdraw.new.pass) _ refl
 
 pub returns-clause-leaves : goal.returns-clause-leaves
 returns-clause-leaves c =
-    let o : OwnerView = record { gate = c.self.inside.gate; book = c.self.inside.book; passes = c.self.inside.passes.items; stations = c.self.inside.stations.items } in
+    let o : OwnerView = record { gate = c.self.inside.gate; response = c.self.inside.response; book = c.self.inside.book; passes = c.self.inside.passes.items; stations = c.self.inside.stations.items } in
     let b0 : LifeBookView = c.self.inside.book in
     let p : PassToken = c.index_mut.result.now in
     let h : PassToken = c.hear.new.pass in

@@ -1,5 +1,6 @@
 pub mod Knowing
 pub mod Places
+pub mod Worlds
 pub mod Hearing
 pub mod Begun
 pub mod Entering

@@ -9,13 +9,16 @@ use Rattle.apf_local.specs.declared.admitting.Admitted.{Admitted}
 use Rattle.apf_local.specs.declared.admitting.Admitted.TheVariants as admitted
 use Rattle.apf_local.specs.declared.answer.Ask.{Ask}
 use Rattle.apf_local.specs.declared.answer.Place.{Place}
+use Rattle.apf_local.specs.declared.answer.Place.TheVariants as places
 use Rattle.apf_local.specs.declared.taking.Took.{Took}
 use Rattle.apf_local.specs.declared.taking.Took.TheVariants as took
+use Rattle.apf_local.specs.Worlds.{HasComeIn}
 use Rattle.apf_local.specs.Owners.{OwnerView, SameOwner, Stay, Moves, IsBegun}
 use Rattle.apf_local.specs.Tries.{answer_of_try, place_of_try, Tries, IsTry}
 use Rattle.apf_local.specs.Levels.{LocalView, IsLocal, IsAt, IsAdmitted, place_of, answer_of, SlotMoves, Arrives, IsArrival}
 use Rattle.apf_book.specs.declared.life_event.LifeEvent.{LifeEvent}
 use Rattle.apf_local.proofs.Knowing.{book_then}
+use Rattle.apf_local.proofs.Worlds.{came_more}
 
 some_is : {A : Type 0} (a b : A) → ◌≡◌ {A = Option A} (Some a) (Some b) → a ≡ b
 some_is a b is = cc
@@ -28,15 +31,15 @@ get_same [] i x y is = absurd (none_is y is)
 get_same (z ∷ zs) zero x y is = sym (some_is x y is)
 get_same (z ∷ zs) (suc i) x y is = get_same zs i x y is
 
--- each Pass is where its slot's request is, also of the slot that changed
-pub at_set : (ps : List Place) (ts : List PassToken) (i : ℕ) (p' : Place) (t' : PassToken) → ((k : ℕ) (p : Place) (t : PassToken) → slice_get ps k ≡ Some p → slice_get ts k ≡ Some t → IsAt p t) → IsAt p' t'
-    → (k : ℕ) (p : Place) (t : PassToken) → slice_get (set ps i p') k ≡ Some p → slice_get (set ts i t') k ≡ Some t → IsAt p t
-at_set [] ts i p' t' at new k p t at_p at_t = absurd (none_is p at_p)
-at_set (q ∷ ps) [] i p' t' at new k p t at_p at_t = absurd (none_is t at_t)
-at_set (q ∷ ps) (u ∷ ts) zero p' t' at new zero p t at_p at_t = subst (λ (x : Place). IsAt x t) (some_is p' p at_p) (subst (λ (y : PassToken). IsAt p' y) (some_is t' t at_t) new)
-at_set (q ∷ ps) (u ∷ ts) zero p' t' at new (suc k) p t at_p at_t = at (suc k) p t at_p at_t
-at_set (q ∷ ps) (u ∷ ts) (suc i) p' t' at new zero p t at_p at_t = at zero p t at_p at_t
-at_set (q ∷ ps) (u ∷ ts) (suc i) p' t' at new (suc k) p t at_p at_t = at_set ps ts i p' t' (λ n. at (suc n)) new k p t at_p at_t
+-- what holds of each slot's place and Pass, also of the slot that changed
+pub set_each : (Is : Place → PassToken → Type 0) (ps : List Place) (ts : List PassToken) (i : ℕ) (p' : Place) (t' : PassToken) → ((k : ℕ) (p : Place) (t : PassToken) → slice_get ps k ≡ Some p → slice_get ts k ≡ Some t → Is p t) → Is p' t'
+    → (k : ℕ) (p : Place) (t : PassToken) → slice_get (set ps i p') k ≡ Some p → slice_get (set ts i t') k ≡ Some t → Is p t
+set_each Is [] ts i p' t' at new k p t at_p at_t = absurd (none_is p at_p)
+set_each Is (q ∷ ps) [] i p' t' at new k p t at_p at_t = absurd (none_is t at_t)
+set_each Is (q ∷ ps) (u ∷ ts) zero p' t' at new zero p t at_p at_t = subst (λ (x : Place). Is x t) (some_is p' p at_p) (subst (λ (y : PassToken). Is p' y) (some_is t' t at_t) new)
+set_each Is (q ∷ ps) (u ∷ ts) zero p' t' at new (suc k) p t at_p at_t = at (suc k) p t at_p at_t
+set_each Is (q ∷ ps) (u ∷ ts) (suc i) p' t' at new zero p t at_p at_t = at zero p t at_p at_t
+set_each Is (q ∷ ps) (u ∷ ts) (suc i) p' t' at new (suc k) p t at_p at_t = set_each Is ps ts i p' t' (λ n. at (suc n)) new k p t at_p at_t
 
 pub owner_then : (a b c : OwnerView) → SameOwner a b → SameOwner b c → SameOwner a c
 owner_then a b c first then = record {
@@ -48,13 +51,19 @@ owner_then a b c first then = record {
 
 -- after a step of one slot's Pass, and a dispatch
 module _ (l : LocalView) (is : IsLocal l) (o1 o2 : OwnerView) (first : SameOwner l.owner o1) (then : SameOwner o1 o2) (stay : Stay o1 o2) where
-  pub local_kept : (slot : ℕ) (place' : Place) (after : PassToken) → o1.passes ≡ set l.owner.passes slot after → IsAt place' after → IsStopped o2.book → IsLocal (record { owner = o2; sizes = l.sizes; places = set l.places slot place' })
-  local_kept slot place' after now new stopped = record {
+  -- who came has come still
+  pub came_still : (r : ℕ) → HasComeIn l.owner.book r → HasComeIn o2.book r
+  came_still r came = came_more o1.book.desk.desk.knows o2.book.desk.desk.knows then.book.more r (came_more l.owner.book.desk.desk.knows o1.book.desk.desk.knows first.book.more r came)
+
+  pub local_kept : (slot : ℕ) (place' : Place) (after : PassToken) → o1.passes ≡ set l.owner.passes slot after → IsAt place' after → (place' ≡ places.Waits → HasComeIn o2.book after.pass.number) → IsStopped o2.book → IsLocal (record { owner = o2; sizes = l.sizes; places = set l.places slot place' })
+  local_kept slot place' after now new came stopped = record {
     deck = then.book.queues ∙ (first.book.queues ∙ is.deck);
     hand = then.book.hand ∙ (first.book.hand ∙ is.hand);
     operator = subst (λ (n : ℕ). 0 < n) (sym (then.stations ∙ first.stations)) is.operator;
     count = length-set l.places slot place' ∙ (is.count ∙ sym (then.slots ∙ first.slots));
-    at = λ k p t at_p at_t. at_set l.places l.owner.passes slot place' after is.at new k p t at_p (subst (λ (ts : List PassToken). slice_get ts k ≡ Some t) (stay.passes ∙ now) at_t);
+    at = λ k p t at_p at_t. set_each IsAt l.places l.owner.passes slot place' after is.at new k p t at_p (subst (λ (ts : List PassToken). slice_get ts k ≡ Some t) (stay.passes ∙ now) at_t);
+    came = λ k t at_p at_t. set_each (λ (p : Place) (x : PassToken). p ≡ places.Waits → HasComeIn o2.book x.pass.number) l.places l.owner.passes slot place' after
+        (λ n p x here there waits. came_still x.pass.number (is.came n x (subst (λ (q : Place). slice_get l.places n ≡ Some q) waits here) there)) came k places.Waits t at_p (subst (λ (ts : List PassToken). slice_get ts k ≡ Some t) (stay.passes ∙ now) at_t) refl;
     stopped = stopped;
   }
 
@@ -66,6 +75,7 @@ module _ (l : LocalView) (is : IsLocal l) (o1 o2 : OwnerView) (first : SameOwner
     operator = subst (λ (n : ℕ). 0 < n) (sym (then.stations ∙ first.stations)) is.operator;
     count = is.count ∙ sym (then.slots ∙ first.slots);
     at = λ k p t at_p at_t. is.at k p t at_p (subst (λ (ts : List PassToken). slice_get ts k ≡ Some t) (stay.passes ∙ same) at_t);
+    came = λ k t at_p at_t. came_still t.pass.number (is.came k t at_p (subst (λ (ts : List PassToken). slice_get ts k ≡ Some t) (stay.passes ∙ same) at_t));
     stopped = stopped;
   }
 
@@ -80,6 +90,19 @@ is_try slot ask l l' took.Run moves = moves
 is_try slot ask l l' (took.Over d) moves = moves
 is_try slot ask l l' took.Blocked moves = moves
 is_try slot ask l l' took.Raced moves = moves
+
+-- who tried does not wait
+pub try_waits_not : (x : Took) → place_of_try x ≡ places.Waits → ⊥
+try_waits_not took.Run is = cc
+try_waits_not (took.Over d) is = cc
+try_waits_not took.Blocked is = cc
+try_waits_not took.Raced is = cc
+
+-- where one waits, that is answered
+pub waits_of : (a : Admitted) → place_of a ≡ places.Waits → a ≡ admitted.Waits
+waits_of admitted.Run is = absurd (let z : places.Runs ≡ places.Waits = is in cc)
+waits_of (admitted.Over d) is = absurd (let z : places.Free ≡ places.Waits = is in cc)
+waits_of admitted.Waits is = refl
 
 pub at_of : (a : Admitted) (t : PassToken) → IsAdmitted a t → IsAt (place_of a) t
 at_of admitted.Run t is = is

@@ -31,6 +31,14 @@ pub strikes_one : (v : LifeView) (b b' : LifeBookView) (r : ℕ) (struck : Bool)
 strikes_one v b b' r true strikes = inr (strikes.0, strikes.2)
 strikes_one v b b' r false strikes = inl strikes.0
 
+-- a Pass in line that is heard is in line still
+pub hears_in_line : (b b' : LifeBookView) (p p' : PassToken) → SameRequest p p' → HearsLife b p b' p' → IsInLine p → IsInLine p'
+hears_in_line b b' p p' same hears waits = record {
+  state = hears.state ∙ waits.state;
+  entered = ap (λ (x : Both). x.pass.entered) hears.answer.1.5 ∙ waits.entered;
+  queues = ap (λ (g : GateId). g.shape.response) same.pass ∙ waits.queues;
+}
+
 module _ (b b' : LifeBookView) (p r h : PassToken) (same : SameRequest r h) (hears : HearsLife b r b' h) (waits : IsInLine p) (told : SamePass p r) where
   still_in_line : (found : Option Decision) → PassLoadsDecision p.pass found r.pass → AfterTold p.pass found r.pass → IsInLine h
   still_in_line found loads after = record {

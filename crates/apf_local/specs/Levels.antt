@@ -27,6 +27,7 @@ use Rattle.apf_local.specs.declared.admitting.Admitted.{Admitted}
 use Rattle.apf_local.specs.declared.admitting.Admitted.TheVariants as admitted
 use Rattle.apf_local.specs.declared.taking.Took.{Took}
 use Rattle.apf_local.specs.declared.taking.Took.TheVariants as took
+use Rattle.apf_local.specs.Worlds.{HasComeIn}
 use Rattle.apf_local.specs.Owners.{OwnerView, SameOwner, GivesBack, IsBegun, IsSlotOf, IsUsedUp}
 
 pub record LocalView : Type 0 where
@@ -44,6 +45,10 @@ IsAt places.Free token = IsDone token
 IsAt places.Waits token = IsInLine token
 IsAt places.Runs token = IsRunning token
 
+-- each request that waits came, by the steps that the Desk knows
+abbrev pub HaveCome : List Place → List PassToken → LifeBookView → Type 0
+HaveCome waiting passes b = (i : ℕ) (t : PassToken) → slice_get waiting i ≡ Some places.Waits → slice_get passes i ≡ Some t → HasComeIn b t.pass.number
+
 -- the queues are those that its dealer deals, each Pass is where its slot's request is, and nobody waits or who is dispatched next does not fit the level word that the Desk found last
 pub record IsLocal (l : LocalView) : Type 0 where
   pub deck : queue_count l.owner.book.queues.queues ≡ l.sizes.deck
@@ -51,6 +56,7 @@ pub record IsLocal (l : LocalView) : Type 0 where
   pub operator : 0 < length l.owner.stations
   pub count : length l.places ≡ length l.owner.passes
   pub at : (i : ℕ) (p : Place) (t : PassToken) → slice_get l.places i ≡ Some p → slice_get l.owner.passes i ≡ Some t → IsAt p t
+  pub came : HaveCome l.places l.owner.passes l.owner.book
   pub stopped : IsStopped l.owner.book
 
 -- the same level, with as many slots
@@ -114,12 +120,14 @@ pub record Admits (ask : Ask) (hand : List ℕ) (b : LifeBookView) (answer : Adm
   pub number : after.pass.number ≡ next_of before.pass.number ask.width
   pub is : IsAdmitted answer after
   pub tried : HasTried ask answer after
+  pub came : answer ≡ admitted.Waits → HasComeIn b' after.pass.number
   pub history : (v : LifeView) → IsLifeKept v b → LogsOne v after.pass.number hand ask.cost answer event b'
 
 -- the slot's request arrived in the line
 pub record Stands (ask : Ask) (hand : List ℕ) (b : LifeBookView) (answer : Admitted) (event : Option LifeEvent) (b' : LifeBookView) (before after : PassToken) : Type 0 where
   pub number : after.pass.number ≡ before.pass.number
   pub is : IsAdmitted answer after
+  pub came : answer ≡ admitted.Waits → HasComeIn b' after.pass.number
   pub history : (v : LifeView) → IsLifeKept v b → LogsOne v after.pass.number hand ask.cost answer event b'
 
 -- the same, and then Dispatches and Strikes alone

@@ -1,3 +1,4 @@
+pub mod Worlds
 pub mod Owners
 pub mod Levels
 pub mod Openings

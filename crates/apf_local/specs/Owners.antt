@@ -29,6 +29,7 @@ use Rattle.apf_book.specs.LifeBook.{LifeBookView, IsLifeKept, arrived_in}
 use Rattle.apf_book.specs.LifeCalls.{SameLifeBook}
 use Rattle.apf_line.specs.Tokens.{IsDone, IsInLine, IsRunning}
 use Rattle.apf_local.specs.declared.answer.Ask.{Ask}
+use Rattle.apf_local.specs.Worlds.{HasComeIn}
 use Rattle.apf_local.specs.declared.taking.Took.{Took}
 use Rattle.apf_local.specs.declared.taking.Took.TheVariants as took
 
@@ -147,6 +148,7 @@ pub record Enters (book : LifeBookView) (hand : List ℕ) (cost : ℕ) (answer :
   pub is : IsEntered answer after
   pub is_new : (v : LifeView) → IsLifeKept v book → has_arrived v.history before.pass.number ≡ false
   pub history : (v : LifeView) → IsLifeKept v book → IsLifeKept (arrived_in v before.pass.number hand cost answer) book'
+  pub came : (q : ℕ) → answer ≡ arrived.Queued q → HasComeIn book' after.pass.number
 
 -- the seats went back by one step, which found whether requests waited
 pub record GivesBack (waiting : Bool) (before after : PassToken) : Type 0 where
@@ -165,12 +167,14 @@ IsRead None token = IsInLine token
 IsRead (Some Execute) token = IsRunning token
 IsRead (Some decision) token = IsInLine token × (told_own token.pass ≡ Some decision)
 
--- it read its decision by one load, and was heard then
+-- it heard what the Desk knows, read its decision by one load, and was heard then
 pub record Reads (found : Option Decision) (before after : PassToken) : Type 0 where
   pub number : after.pass.number ≡ before.pass.number
   pub is : IsRead found after
+  pub heard : PassRecord
+  pub hears : (newer : List Entry) × (newer ++ before.pass.knows.trace ≡ heard.knows.trace)
   pub between : PassRecord
-  pub loads : PassLoadsDecision before.pass found between
+  pub loads : PassLoadsDecision heard found between
   pub goes_on : (newer : List Entry) × (newer ++ between.knows.trace ≡ after.pass.knows.trace)
 
 -- a request that waited was told that it does not execute

@@ -60,8 +60,10 @@ pub record Places (place' : Place) (before after : PassToken) : Type 0 where
   pub is : IsAt place' after
   pub found : Option Decision
   pub says : place' ≡ place_by found
+  pub heard : PassRecord
+  pub hears : (newer : List Entry) × (newer ++ before.pass.knows.trace ≡ heard.knows.trace)
   pub between : PassRecord
-  pub loads : PassLoadsDecision before.pass found between
+  pub loads : PassLoadsDecision heard found between
   pub goes_on : (newer : List Entry) × (newer ++ between.knows.trace ≡ after.pass.knows.trace)
 
 -- a request that waited read its decision, and is where the answer says

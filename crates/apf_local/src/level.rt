@@ -11,6 +11,8 @@ ghost use Rattle.apf_book.specs.LifeBook.{IsLifeKept};
 ghost use Rattle.apf_book.specs.Notes.{AreLifeStats, CopiesLate};
 ghost use Rattle.apf_line.specs.Reports.{Ended};
 ghost use Rattle.apf_local.specs.declared.answer.Place.TheVariants as places;
+ghost use Rattle.apf_words.specs.declared.decision.Decision.{Decision};
+ghost use Rattle.apf_local.specs.Worlds.{IsDecidedIn};
 ghost use Rattle.apf_local.specs.Levels.{id_of, SameLocal, GoesOn, IsArrival, IsFinish};
 ghost use Rattle.apf_local.specs.Owners.{IsSlotOf, Steps, Sets};
 ghost use Rattle.apf_local.specs.Tries.{IsTry, IsReading, SlotsStay};
@@ -156,11 +158,12 @@ impl LocalLevel {
     }
 
     /// Where the slot's request is. One that waits reads its decision, and one that is cancelled leaves its queue. Then
-    /// requests that wait are dispatched.
+    /// requests that wait are dispatched. One that was cancelled does not wait any more.
     pub fn place(&mut self, slot: usize) -> Place
         requires is_slot { slot < length self.old.places }
         ensures same { SameLocal self.old self.new }
         ensures reads { IsReading slot self.old result self.new }
+        ensures decided { IsSlotOf self.old.owner.passes slot (λ t. IsDecidedIn self.old.owner.book t.pass.number → result ≢ places.Waits) }
         ensures history { (v : LifeView) → IsLifeKept v self.old.owner.book → GoesOn v self.new.owner.book }
     {
         every_level_has_histories();
@@ -201,6 +204,8 @@ impl LocalLevel {
         ensures same { SameLocal self.old self.new }
         ensures slots { SlotsStay self.old self.new }
         ensures cancels { Steps self.old.owner.stations self.new.owner.stations (λ station station'. TriesToCancel station request.number result station') }
+        ensures decides { (d : Decision) → result ≡ Cancel.Is d → IsDecidedIn self.new.owner.book request.number }
+        ensures ends { (i : ℕ) → slice_get self.old.places i ≡ Some places.Waits → IsSlotOf self.old.owner.passes i (λ t. t.pass.number ≡ request.number → IsDecidedIn self.new.owner.book request.number) }
         ensures history { (v : LifeView) → IsLifeKept v self.old.owner.book → GoesOn v self.new.owner.book }
     {
         every_level_has_histories();

@@ -1,8 +1,9 @@
 //! A gate, its book and all of its tokens in one hand.
 
-ghost use Rattle.std.specs.Prelude.{ℕ, ◌≡◌, ◌↔◌, ◌≢◌, ◌≤◌, ◌<◌, ◌*◌, ◌^◌, length, slice_get, All, IfSome, IfNone, IfOk, IfErr, IsTrue};
+ghost use Rattle.std.specs.Prelude.{ℕ, ◌≡◌, ◌↔◌, ◌≢◌, ◌≤◌, ◌<◌, ◌*◌, ◌^◌, length, slice_get, All, None, IfSome, IfNone, IfOk, IfErr, IsTrue};
 ghost use Rattle.apf_words.specs.Level.{Level};
 ghost use Rattle.apf_words.specs.Limits.{max_width, max_cost, max_limit};
+ghost use Rattle.apf_words.specs.declared.decision.Decision.{Decision};
 ghost use Rattle.apf_words.specs.declared.decision.Decision.TheVariants.{Execute, Cancelled};
 ghost use Rattle.apf_gate.specs.Ends.{IsEnded};
 ghost use Rattle.apf_gate.specs.Slots.{IsTicket};
@@ -19,6 +20,7 @@ ghost use Rattle.apf_line.specs.Levels.{LifeId};
 ghost use Rattle.apf_line.specs.Reports.{EndedAs};
 ghost use Rattle.apf_line.specs.Stopped.{IsStopped};
 ghost use Rattle.apf_local.specs.Openings.{line_of, IsNewOwner, IsOpenFault, HasQueuesOf};
+ghost use Rattle.apf_local.specs.Worlds.{HasComeIn, IsDecidedIn};
 ghost use Rattle.apf_local.specs.Owners.{SameOwner, Moves, Stay, Begins, IsBlocked, IsUsedUp, Enters, GivesBack, Reads, IsToldOff, Leaves, StrikesOne, Steps, Sets, IsSlotOf};
 
 use crate::answer::Ask;
@@ -250,6 +252,7 @@ impl Owner {
         ensures same { SameOwner self.old self.new }
         ensures enters { Moves slot self.old.passes self.new.passes (Enters self.old.book dealt.now cost result self.new.book) }
     {
+        self.book.has_a_history();
         self.gate.ask(&mut self.passes[slot]);
         match self
             .book
@@ -306,14 +309,16 @@ impl Owner {
         waiting
     }
 
-    /// Reads the decision of the slot's request, which waits.
+    /// Reads the decision of the slot's request, which waits. It finds one that the Desk knows of.
     pub fn read(&mut self, slot: usize) -> Option<Decision>
         requires is_slot { slot < length self.old.passes }
         requires waits { IsSlotOf self.old.passes slot IsInLine }
         ensures same { SameOwner self.old self.new }
         ensures reads { Moves slot self.old.passes self.new.passes (Reads result) }
+        ensures decided { IsSlotOf self.old.passes slot (λ t. IsDecidedIn self.old.book t.pass.number → result ≢ None) }
         ensures history { (v : LifeView) → IsLifeKept v self.old.book → IsLifeKept v self.new.book }
     {
+        self.book.hear(&self.gate, &mut self.passes[slot]);
         let found = self.gate.told(&mut self.passes[slot]);
         self.book.hear(&self.gate, &mut self.passes[slot]);
         found
@@ -333,6 +338,23 @@ impl Owner {
         self.book.withdraw(&self.gate, &mut self.passes[slot]);
     }
 
+    // Cancels a request, if it is undecided and holds its slot. It stays in its queue.
+    fn decide_cancelled(&mut self, ticket: Ticket) -> Cancel
+        requires is_request { IsTicket self.old.gate.shape ticket.number }
+        requires operator { 0 < length self.old.stations }
+        ensures same { SameOwner self.old self.new }
+        ensures passes { self.new.passes ≡ self.old.passes }
+        ensures cancels { Steps self.old.stations self.new.stations (λ station station'. TriesToCancel station ticket.number result station') }
+        ensures decides { (d : Decision) → result ≡ Cancel.Is d → IsDecidedIn self.new.book ticket.number }
+        ensures ends { HasComeIn self.old.book ticket.number → IsDecidedIn self.new.book ticket.number }
+        ensures history { (v : LifeView) → IsLifeKept v self.old.book → IsLifeKept v self.new.book }
+    {
+        self.book.hear_station(&self.gate, &mut self.stations[0]);
+        let answer = self.gate.cancel_without_wake(&mut self.stations[0], ticket);
+        self.book.hear_station(&self.gate, &mut self.stations[0]);
+        answer
+    }
+
     /// Cancels a request, if it is undecided and holds its slot, and strikes it out of its queue. Answers its decision,
     /// or `Other`: another request holds the slot, so that this one is over.
     pub fn cancel(&mut self, ticket: Ticket) -> Cancel
@@ -341,11 +363,11 @@ impl Owner {
         ensures same { SameOwner self.old self.new }
         ensures passes { self.new.passes ≡ self.old.passes }
         ensures cancels { Steps self.old.stations self.new.stations (λ station station'. TriesToCancel station ticket.number result station') }
+        ensures decides { (d : Decision) → result ≡ Cancel.Is d → IsDecidedIn self.new.book ticket.number }
+        ensures ends { HasComeIn self.old.book ticket.number → IsDecidedIn self.new.book ticket.number }
         ensures history { (v : LifeView) → IsLifeKept v self.old.book → StrikesOne ticket.number v self.new.book }
     {
-        self.book.hear_station(&self.gate, &mut self.stations[0]);
-        let answer = self.gate.cancel_without_wake(&mut self.stations[0], ticket);
-        self.book.hear_station(&self.gate, &mut self.stations[0]);
+        let answer = self.decide_cancelled(ticket);
         if answer == Cancel::Is(Decision::Cancelled) {
             self.book.strike(&self.gate, ticket);
         }

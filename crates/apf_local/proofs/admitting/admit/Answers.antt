@@ -34,6 +34,7 @@ returns-in-Run-clause-admits c =
         number = moves.does.number;
         is = moves.does.is;
         tried = record { took = took.Run; then = moves.after; number = refl; is = moves.does.is; follows = refl };
+        came = λ e. cc;
         history = λ v kept. ((λ e. cc), (λ e. cc), c.begin.ensures.history v kept);
       };
     }
@@ -51,6 +52,7 @@ returns-in-Over-clause-admits c =
         number = moves.does.number;
         is = (moves.does.is.0, moves.does.is.1, not_execute moves.after d moves.does.is.2);
         tried = record { took = took.Over d; then = moves.after; number = refl; is = moves.does.is; follows = refl };
+        came = λ e. cc;
         history = λ v kept. ((λ e. cc), not_full moves.after d moves.does.is.2, c.begin.ensures.history v kept);
       };
     }
@@ -74,6 +76,7 @@ returns-in-Blocked-clause-admits c =
         number = stands.does.number ∙ (ap (λ (t : PassToken). t.pass.number) same ∙ moves.does.number);
         is = stands.does.is;
         tried = record { took = took.Blocked; then = moves.after; number = stands.does.number ∙ ap (λ (t : PassToken). t.pass.number) same; is = moves.does.is; follows = tt };
+        came = stands.does.came;
         history = λ v kept. stands.does.history v (c.begin.ensures.history v kept);
       };
     }

@@ -34,10 +34,13 @@ returns-in-Some c =
           is = leaves.does.is;
           found = c.read.result;
           says = subst (λ (x : Option Decision). places.Free ≡ place_by x) (sym is) (free_by c.in-Some._decision not);
+          heard = reads.does.heard;
+          hears = reads.does.hears;
           between = reads.does.between;
           loads = reads.does.loads;
           goes_on = goes_on_then reads.does.between.knows.trace reads.after.pass.knows.trace leaves.after.pass.knows.trace reads.does.goes_on (subst (λ (t : PassToken). GoesOnFrom t.pass.knows.trace leaves.after.pass.knows.trace) same leaves.does.goes_on);
         };
       };
+      decided = λ t at is waits. (let z : places.Free ≡ places.Waits = waits in cc);
       history = λ v kept. let s = c.withdraw.ensures.history v (c.read.ensures.history v kept) in struck_on v c.withdraw.new.self.book s.0 s.1;
     }

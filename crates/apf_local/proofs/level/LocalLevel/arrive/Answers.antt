@@ -9,7 +9,8 @@ use Rattle.apf_local.specs.declared.answer.Place.TheVariants as places
 use Rattle.apf_local.specs.Levels.{LocalView, SameLocal, SlotMoves, Arrives, IsArrival, IsAt, answer_of}
 use Rattle.apf_local.proofs.Beginning.{opened}
 use Rattle.apf_local.proofs.Logging.{logged, logs_in}
-use Rattle.apf_local.proofs.Slots.{owner_then, local_kept, at_of, is_arrival}
+use Rattle.apf_local.proofs.Slots.{owner_then, local_kept, at_of, waits_of, is_arrival}
+use Rattle.apf_local.proofs.Worlds.{came_more}
 use Rattle.apf_local.proofs.level.LocalLevel.arrive.Goals as goal
 
 pub admit-requires-clause-free : goal.admit-requires-clause-free
@@ -30,7 +31,8 @@ invariant_of-self-2 c =
     let logs = logged h.view moves.after.pass.number (hand_of l.sizes c.args.ask.hash) c.args.ask.cost a b1 b2 c.in-Some.event (moves.does.history h.view h.kept) in
     let stopped = (opened c.every_level_has_histories.ensures).served logs.0 b1 b2 c.dispatch.result c.dispatch.ensures.same.book (c.dispatch.ensures.served logs.0 logs.1) in
     local_kept l c.self.invariant c.admit.new.owner c.dispatch.new.self c.in-Some.ensures.same c.dispatch.ensures.same c.dispatch.ensures.stay c.args.slot c.place.result moves.after moves.now
-    (subst (λ (p : Place). IsAt p moves.after) (sym c.place.ensures) (at_of a moves.after moves.does.is)) stopped
+    (subst (λ (p : Place). IsAt p moves.after) (sym c.place.ensures) (at_of a moves.after moves.does.is))
+    (λ is. came_more b1.desk.desk.knows b2.desk.desk.knows c.dispatch.ensures.same.book.more moves.after.pass.number (moves.does.came (waits_of a (sym c.place.ensures ∙ is)))) stopped
 
 pub returns-clause-same : goal.returns-clause-same
 returns-clause-same c =

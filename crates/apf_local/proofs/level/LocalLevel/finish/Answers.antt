@@ -23,7 +23,7 @@ invariant_of-self c =
     let moves = c.give_back.ensures.gives in
     let kept = c.give_back.ensures.history h.view h.kept in
     let stopped = (opened c.every_level_has_histories.ensures).served h.view c.give_back.new.self.book c.dispatch.new.self.book c.dispatch.result c.dispatch.ensures.same.book (c.dispatch.ensures.served h.view kept) in
-    local_kept l c.self.invariant c.give_back.new.self c.dispatch.new.self c.give_back.ensures.same c.dispatch.ensures.same c.dispatch.ensures.stay c.args.slot places.Free moves.after moves.now moves.does.is stopped
+    local_kept l c.self.invariant c.give_back.new.self c.dispatch.new.self c.give_back.ensures.same c.dispatch.ensures.same c.dispatch.ensures.stay c.args.slot places.Free moves.after moves.now moves.does.is (λ e. absurd (let z : places.Free ≡ places.Waits = e in cc)) stopped
 
 pub returns-clause-same : goal.returns-clause-same
 returns-clause-same c =

@@ -8,7 +8,7 @@ use Rattle.apf_local.specs.declared.answer.Place.TheVariants as places
 use Rattle.apf_local.specs.Levels.{LocalView, SameLocal, IsAt}
 use Rattle.apf_local.specs.Tries.{IsTry, answer_of_try}
 use Rattle.apf_local.proofs.Beginning.{opened}
-use Rattle.apf_local.proofs.Slots.{owner_then, local_kept, at_of_try, is_try}
+use Rattle.apf_local.proofs.Slots.{owner_then, local_kept, at_of_try, try_waits_not, is_try}
 use Rattle.apf_local.proofs.level.LocalLevel.try_arrive.Goals as goal
 
 pub begin-requires-clause-free : goal.begin-requires-clause-free
@@ -25,7 +25,7 @@ invariant_of-self-2 c =
     let moves = c.in-Some.ensures.begins in
     let stopped = (opened c.every_level_has_histories.ensures).served h.view c.begin.new.self.book c.dispatch.new.self.book c.dispatch.result c.dispatch.ensures.same.book (c.dispatch.ensures.served h.view (c.in-Some.ensures.history h.view h.kept)) in
     local_kept l c.self.invariant c.begin.new.self c.dispatch.new.self c.in-Some.ensures.same c.dispatch.ensures.same c.dispatch.ensures.stay c.args.slot c.place.result moves.after moves.now
-    (subst (λ (p : Place). IsAt p moves.after) (sym c.place.ensures) (at_of_try c.args.ask c.in-Some.took moves.after moves.does.is)) stopped
+    (subst (λ (p : Place). IsAt p moves.after) (sym c.place.ensures) (at_of_try c.args.ask c.in-Some.took moves.after moves.does.is)) (λ is. absurd (try_waits_not c.in-Some.took (sym c.place.ensures ∙ is))) stopped
 
 pub returns-clause-same : goal.returns-clause-same
 returns-clause-same c =

@@ -1,22 +1,24 @@
--- The same gate, with the book heard twice.
-use Rattle.std.proofs.Common.{◌≡◌, refl, List, length, ◌∙◌, ap}
-use Rattle.std.proofs.lemmas.List.{length-set}
-use Rattle.apf_gate.specs.Tokens.{StationToken}
+-- A request that is cancelled is struck, and is decided still.
+use Rattle.std.proofs.Common.{◌≡◌, refl, sym, subst}
+use Rattle.apf_local.specs.Worlds.{IsDecidedIn}
 use Rattle.apf_local.specs.Owners.{OwnerView}
-use Rattle.apf_local.proofs.Knowing.{book_then}
-use Rattle.apf_local.proofs.Places.{set_thrice, same_owner}
+use Rattle.apf_local.proofs.Places.{same_owner}
+use Rattle.apf_local.proofs.Slots.{owner_then}
+use Rattle.apf_local.proofs.Worlds.{decided_more}
 use Rattle.apf_local.proofs.owner.Owner.cancel.Goals as goal
 
 pub returns-then-eq-clause-same : goal.returns-then-eq-clause-same
 returns-then-eq-clause-same c =
     let o : OwnerView = record { gate = c.self.inside.gate; response = c.self.inside.response; book = c.self.inside.book; passes = c.self.inside.passes.items; stations = c.self.inside.stations.items } in
-    let ts : List StationToken = c.self.inside.stations.items in
-    same_owner o c.args.self.now c.self.view_is c.strike.new.self (book_then c.self.inside.book c.hear_station-2.new.self c.strike.new.self (book_then c.self.inside.book c.hear_station.new.self c.hear_station-2.new.self c.hear_station.ensures.same c.hear_station-2.ensures.same) c.strike.ensures.same) _ refl _
-    (ap (λ (xs : List StationToken). length xs) (set_thrice ts 0 c.hear_station.new.station c.cancel_without_wake-answer.new.station c.hear_station-2.new.station) ∙ length-set ts 0 c.hear_station-2.new.station)
+    let after : OwnerView = record { gate = c.self.inside.gate; response = c.self.inside.response; book = c.strike.new.self; passes = c.self.inside.passes.items; stations = c.self.inside.stations.items } in
+    owner_then c.args.self.now c.decide_cancelled-answer.new.self after c.decide_cancelled-answer.ensures.same (same_owner o c.decide_cancelled-answer.new.self c.self.view_is c.strike.new.self c.strike.ensures.same _ refl _ refl)
 
-pub returns-else-eq-clause-same : goal.returns-else-eq-clause-same
-returns-else-eq-clause-same c =
-    let o : OwnerView = record { gate = c.self.inside.gate; response = c.self.inside.response; book = c.self.inside.book; passes = c.self.inside.passes.items; stations = c.self.inside.stations.items } in
-    let ts : List StationToken = c.self.inside.stations.items in
-    same_owner o c.args.self.now c.self.view_is c.hear_station-2.new.self (book_then c.self.inside.book c.hear_station.new.self c.hear_station-2.new.self c.hear_station.ensures.same c.hear_station-2.ensures.same) _ refl _
-    (ap (λ (xs : List StationToken). length xs) (set_thrice ts 0 c.hear_station.new.station c.cancel_without_wake-answer.new.station c.hear_station-2.new.station) ∙ length-set ts 0 c.hear_station-2.new.station)
+pub returns-then-eq-clause-decides : goal.returns-then-eq-clause-decides
+returns-then-eq-clause-decides c = λ d is.
+    decided_more c.self.inside.book.desk.desk.knows c.strike.new.self.desk.desk.knows c.strike.ensures.same.more c.args.ticket.number
+    (subst (λ (x : OwnerView). IsDecidedIn x.book c.args.ticket.number) (sym c.self.view_is) (c.decide_cancelled-answer.ensures.decides d is))
+
+pub returns-then-eq-clause-ends : goal.returns-then-eq-clause-ends
+returns-then-eq-clause-ends c = λ came.
+    decided_more c.self.inside.book.desk.desk.knows c.strike.new.self.desk.desk.knows c.strike.ensures.same.more c.args.ticket.number
+    (subst (λ (x : OwnerView). IsDecidedIn x.book c.args.ticket.number) (sym c.self.view_is) (c.decide_cancelled-answer.ensures.ends came))

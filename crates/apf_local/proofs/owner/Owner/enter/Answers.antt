@@ -2,7 +2,7 @@
 use Rattle.std.proofs.Common.{rules, ◌≡◌, ◌≢◌, ◌<◌, ◌≤◌, ◌++◌, List, length, set, inl, inr, refl, sym, ap, ◌∙◌, subst, ℕ, arith}
 use Rattle.std.proofs.lemmas.List.{length-set}
 use Rattle.std.proofs.lemmas.List.Elements.{All-set}
-use Rattle.std.specs.Prelude.{slice_get, Some, false}
+use Rattle.std.specs.Prelude.{slice_get, map, Some, false}
 use Rattle.apf_model.specs.declared.response.Response.TheVariants.{Queue}
 use Rattle.apf_model.specs.History.{has_arrived}
 use Rattle.apf_gate.specs.declared.record.Actor.TheVariants.{OfPass}
@@ -11,11 +11,16 @@ use Rattle.apf_gate.specs.Steps.{Both}
 use Rattle.apf_gate.specs.Tokens.{GateId, PassToken, StationToken, pass_gate}
 use Rattle.apf_book.specs.Life.{LifeView, IsAskedBy, sizes_of}
 use Rattle.apf_book.specs.LifeBook.{LifeBookView, IsLifeKept, arrived_in}
+use Rattle.apf_book.specs.declared.arrived.Arrived.{Arrived}
+use Rattle.apf_book.specs.declared.arrived.Arrived.TheVariants as arrived
+use Rattle.apf_book.specs.Said.{saying}
 use Rattle.apf_book.specs.Tries.{IsNewTo, RacesArrival}
+use Rattle.apf_local.specs.Worlds.{HasComeIn}
 use Rattle.apf_local.specs.Owners.{OwnerView, IsBlocked, Enters}
 use Rattle.apf_local.proofs.Places.{set_again, not_less, was, moved, same_owner, heard}
 use Rattle.apf_local.proofs.Hearing.{asked_then, goes_on_more}
 use Rattle.apf_local.proofs.Entering.{entered, step_stays}
+use Rattle.apf_local.proofs.Worlds.{said_came}
 use Rattle.apf_local.proofs.owner.Owner.enter.Goals as goal
 
 pub try_arrive-requires-clause-has_queues : goal.try_arrive-requires-clause-has_queues
@@ -101,6 +106,12 @@ returns-clause-enters c =
     moved o c.args.self.now c.args.slot p p1 _ (Enters c.args.self.now.book c.args.dealt.now c.args.cost c.in-Some.arrived c.try_arrive.new.self) c.self.view_is c.requires.is_slot c.index_mut.ensures.value (set_again c.self.inside.passes.items c.args.slot a p1) (record {
       number = same.number ∙ n1;
       is = entered c.self.inside.book c.try_arrive.new.self c.args.dealt.now c.args.cost c.index_mut-2.result.now p1 c.in-Some.arrived c.in-Some.ensures.answer c.in-Some.ensures.after queues;
+      came = λ q is.
+          let lived = c.has_a_history.ensures in
+          let n : ℕ = c.index_mut-2.result.now.pass.number in
+          let now : LifeBookView = c.try_arrive.new.self in
+          let of : IsLifeKept (arrived_in lived.view n c.args.dealt.now c.args.cost (arrived.Queued q)) now = subst (λ (a : Arrived). IsLifeKept (arrived_in lived.view n c.args.dealt.now c.args.cost a) now) is (c.in-Some.ensures.answer.history lived.view lived.kept) in
+          subst (λ (r : ℕ). HasComeIn now r) (sym same.number) (said_came now.desk.desk.knows.shape n now.desk.desk.knows.trace (map saying lived.view.history) (sym of.agrees.said));
       is_new = λ v is. subst (λ (r : ℕ). has_arrived v.history r ≡ false) n1 (c.in-Some.ensures.answer.is_new v (kept v is));
       history = λ v is. subst (λ (r : ℕ). IsLifeKept (arrived_in v r c.args.dealt.now c.args.cost c.in-Some.arrived) c.try_arrive.new.self) n1 (c.in-Some.ensures.answer.history v (kept v is));
     })

@@ -40,6 +40,7 @@ pub struct Queued<K: Naming> {
     // request.
     pub sleepers: Vec<Ticket>,
     pub of: PhantomData<K>,
+    ghost has_queues: { K.level.gate.shape.response ≡ Queue },
     ghost tied: { IsBookOf K.level book },
     ghost room: { book.notes.capacity ≡ 2 * K.level.gate.shape.slots },
     ghost each_slot: { AreSleepers K.level sleepers.items },

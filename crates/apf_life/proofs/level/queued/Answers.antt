@@ -17,6 +17,7 @@ invariant_of-queued g c =
     let kept = made.opens v (is_beginning shape config.queues config.queue_length_limit c.is_of_a_gate.ensures.shape) refl in
     let given = ap desk_gate c.requires.opening.desk in
     record {
+      has_queues = c.requires.has_queues;
       tied = record {
         gate = ap desk_gate made.desk ∙ given;
         queues = kept.of_life.deck ∙ sym (ap (λ (s : Sizes). s.deck) c.requires.opening.sizes);

@@ -1,5 +1,6 @@
 -- The book is the level's still, and at rest.
-use Rattle.std.proofs.Common.{rules, ◌≡◌, ◌∙◌, ℕ, List, refl, sym, subst}
+use Rattle.std.proofs.Common.{rules, ◌≡◌, ◌∙◌, ℕ, List, refl, sym, ap, subst}
+use Rattle.apf_gate.specs.Tokens.{GateId}
 use Rattle.apf_book.specs.declared.arrived.Arrived.{Arrived}
 use Rattle.apf_book.specs.declared.arrived.Arrived.TheVariants as arrived
 use Rattle.apf_book.specs.Life.{LifeView}
@@ -16,6 +17,9 @@ same_limit v r hand cost arrived.Closed = refl
 same_limit v r hand cost arrived.Cancelled = refl
 same_limit v r hand cost arrived.Again = refl
 
+pub arrive-arrived-requires-clause-has_queues : goal.arrive-arrived-requires-clause-has_queues
+arrive-arrived-requires-clause-has_queues g c = ap (λ (x : GateId). x.shape.response) c.requires.own ∙ c.args.self.now.has_queues
+
 pub invariant_of-self : goal.invariant_of-self
 invariant_of-self g c =
     let k = g.K.Naming.level in
@@ -28,7 +32,7 @@ invariant_of-self g c =
     let kept = c.arrive-arrived.ensures.answer.history h.view h.kept in
     let own = still_own k old.book c.arrive-arrived.new.self h.view v old.tied c.arrive-arrived.ensures.same h.kept kept (same_limit h.view r hand c.args.cost c.arrive-arrived.result) in
     let now = rests laws k v c.arrive-arrived.new.self c.serve.new.book c.serve.result own kept c.serve.ensures.same (c.serve.ensures.served v kept) in
-    record { tied = now.own; room = c.serve.ensures.same.room ∙ (c.arrive-arrived.ensures.same.room ∙ old.room); each_slot = old.each_slot; stopped = now.stopped }
+    record { has_queues = old.has_queues; tied = now.own; room = c.serve.ensures.same.room ∙ (c.arrive-arrived.ensures.same.room ∙ old.room); each_slot = old.each_slot; stopped = now.stopped }
 
 pub returns-in-Queued-clause-stands : goal.returns-in-Queued-clause-stands
 returns-in-Queued-clause-stands g c =

@@ -9,4 +9,4 @@ invariant_of-self g c =
     let old = c.args.self.now in
     let h = c.has_a_history.ensures in
     let now = rests laws g.K.Naming.level h.view old.book c.serve.new.book c.serve.result old.tied h.kept c.serve.ensures.same (c.serve.ensures.served h.view h.kept) in
-    record { tied = now.own; room = c.serve.ensures.same.room ∙ old.room; each_slot = old.each_slot; stopped = now.stopped }
+    record { has_queues = old.has_queues; tied = now.own; room = c.serve.ensures.same.room ∙ old.room; each_slot = old.each_slot; stopped = now.stopped }

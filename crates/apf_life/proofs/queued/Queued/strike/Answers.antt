@@ -12,4 +12,4 @@ invariant_of-self g c =
     let struck = after_strike h.view old.book c.strike-struck.new.self c.args.request.number c.strike-struck.result (c.strike-struck.ensures.answer h.view h.kept) in
     let own = still_own k old.book c.strike-struck.new.self h.view struck.view old.tied c.strike-struck.ensures.same h.kept struck.kept struck.limit in
     let now = rests laws k struck.view c.strike-struck.new.self c.serve.new.book c.serve.result own struck.kept c.serve.ensures.same (c.serve.ensures.served struck.view struck.kept) in
-    record { tied = now.own; room = c.serve.ensures.same.room ∙ (c.strike-struck.ensures.same.room ∙ old.room); each_slot = old.each_slot; stopped = now.stopped }
+    record { has_queues = old.has_queues; tied = now.own; room = c.serve.ensures.same.room ∙ (c.strike-struck.ensures.same.room ∙ old.room); each_slot = old.each_slot; stopped = now.stopped }

@@ -14,4 +14,4 @@ invariant_of-self g c =
     let struck = after_strike h.view c.hear.new.self c.withdraw-struck.new.self c.hear.new.pass.pass.number c.withdraw-struck.result (c.withdraw-struck.ensures.answer h.view heard) in
     let out = still_own k c.hear.new.self c.withdraw-struck.new.self h.view struck.view own c.withdraw-struck.ensures.same heard struck.kept struck.limit in
     let now = rests laws k struck.view c.withdraw-struck.new.self c.serve.new.book c.serve.result out struck.kept c.serve.ensures.same (c.serve.ensures.served struck.view struck.kept) in
-    record { tied = now.own; room = c.serve.ensures.same.room ∙ (c.withdraw-struck.ensures.same.room ∙ (c.hear.ensures.same.room ∙ old.room)); each_slot = old.each_slot; stopped = now.stopped }
+    record { has_queues = old.has_queues; tied = now.own; room = c.serve.ensures.same.room ∙ (c.withdraw-struck.ensures.same.room ∙ (c.hear.ensures.same.room ∙ old.room)); each_slot = old.each_slot; stopped = now.stopped }

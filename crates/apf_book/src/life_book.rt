@@ -8,6 +8,8 @@ ghost use Rattle.apf_words.specs.Level.{Level};
 ghost use Rattle.apf_gate.specs.Ends.{IsEnded};
 ghost use Rattle.apf_gate.specs.Records.{told_own, KnowsMore};
 ghost use Rattle.apf_gate.specs.Tokens.{pass_gate, desk_gate, station_gate};
+ghost use Rattle.apf_gate.specs.Traces.{GoesOn};
+ghost use Rattle.apf_gate.specs.declared.record.Actor.TheVariants.{OfStation};
 ghost use Rattle.apf_book.specs.BookResults.{SameRequest};
 ghost use Rattle.apf_book.specs.Life.{IsAskedBy, sizes_of, how_many, LifeView};
 ghost use Rattle.apf_book.specs.Notes.{AreLifeStats, CopiesLate};
@@ -249,12 +251,14 @@ impl<A: Allocator> LifeBook<A> {
         gate.hear(&mut self.desk, pass);
     }
 
-    /// The Desk and a Station hear every step of each other. They make one load, with the tokens joined.
+    /// The Desk and a Station hear every step of each other. They make one load, with the tokens joined. What the Station
+    /// hears is steps of others alone.
     pub fn hear_station<G: Allocator>(&mut self, gate: &Gate<G>, station: &mut Station)
         requires own { desk_gate self.old.desk ≡ gate.now }
         requires own_station { station_gate station.old ≡ gate.now }
         ensures same { SameLifeBook self.old self.new }
         ensures same_station { (station_gate station.new ≡ station_gate station.old) × (station.new.station.number ≡ station.old.station.number) × KnowsMore station.old.station.knows station.new.station.knows }
+        ensures of_others { GoesOn station.new.station.knows.trace (OfStation station.old.station.number) station.old.station.knows.trace }
         ensures history { (v : LifeView) → IsLifeKept v self.old → IsLifeKept v self.new }
         ensures follows { station.new.station.knows.trace ≡ self.new.desk.desk.knows.trace }
     {

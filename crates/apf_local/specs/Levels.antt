@@ -163,10 +163,10 @@ pub record Finishes (place : Place) (before : PassToken) (place' : Place) (after
   pub waiting : Bool
   pub gives : GivesBack waiting before after
 
--- the next request of the slot arrived; or the slot is not free, or its numbers are used up, and nothing was done
+-- the next request of the slot arrived; or the slot is not free, or it is and its numbers are used up, and nothing was done
 abbrev pub IsArrival : ℕ → Ask → List ℕ → LocalView → Answer → Option LifeEvent → LocalView → Type 0
 IsArrival slot ask hand l answers.Wrong event l' = (l' ≡ l) × (event ≡ None) × (slice_get l.places slot ≢ Some places.Free)
-IsArrival slot ask hand l answers.Spent event l' = (l' ≡ l) × (event ≡ None) × IsSlotOf l.owner.passes slot (IsUsedUp l.owner.gate ask.width)
+IsArrival slot ask hand l answers.Spent event l' = (l' ≡ l) × (event ≡ None) × (slice_get l.places slot ≡ Some places.Free) × IsSlotOf l.owner.passes slot (IsUsedUp l.owner.gate ask.width)
 IsArrival slot ask hand l answer event l' = SlotMoves slot l l' (Arrives ask hand l.owner.book answer event l'.owner.book)
 
 -- its seats went back; or its request does not execute, and nothing was done

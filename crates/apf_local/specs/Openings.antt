@@ -1,5 +1,5 @@
 -- Why a level is not opened, and what one that was just opened is.
-use Rattle.std.specs.Prelude.{◌≡◌, ◌⊎◌, ◌≤◌, ◌<◌, ℕ, List, [], All, Some}
+use Rattle.std.specs.Prelude.{◌≡◌, ◌⊎◌, ◌≤◌, ◌<◌, ◌*◌, ℕ, List, [], length, All, Some}
 use Rattle.apf_words.specs.Limits.{max_limit, max_requests}
 use Rattle.apf_flow.specs.Sizes.{IsDealable}
 use Rattle.apf_flow.specs.Fault.{fault_of}
@@ -83,10 +83,15 @@ pub record IsNewOwner (config : Config) (slots : ℕ) (o : OwnerView) : Type 0 w
   pub queue_limit : o.book.queues.queues.length_limit ≡ (line_of config).queue_length_limit
   pub fresh : All (λ (t : PassToken). t.pass.state ≡ Fresh) o.passes
   pub blank : IsBlank o.book
+  pub few : slots ≤ max_requests
+  pub all_passes : length o.passes ≡ slots
+  -- the newest events are kept, two for each slot
+  pub room : o.book.notes.capacity ≡ 2 * slots
 
 -- a level of this config with so many slots, all of them free, to which nothing happened yet
 pub record IsOpened (config : Config) (slots : ℕ) (l : LocalView) : Type 0 where
   pub owner : IsNewOwner config slots l.owner
+  pub count : length l.places ≡ slots
   pub sizes : l.sizes ≡ record { deck = (line_of config).queues; hand = (line_of config).hand_size }
   pub free : All (λ (p : Place). p ≡ Free) l.places
 

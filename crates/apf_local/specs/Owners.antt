@@ -21,7 +21,8 @@ use Rattle.apf_gate.specs.declared.answers.TrySetLimit.TheVariants as set
 use Rattle.apf_gate.specs.declared.record.StationRecord.{StationRecord}
 use Rattle.apf_gate.specs.Slots.{next_of}
 use Rattle.apf_gate.specs.Tokens.{GateId, PassToken, StationToken, pass_gate, desk_gate, station_gate}
-use Rattle.apf_gate.specs.Traces.{asked_in}
+use Rattle.apf_gate.specs.Traces.{asked_in, GoesOn}
+use Rattle.apf_gate.specs.declared.record.Actor.TheVariants.{OfStation}
 use Rattle.apf_book.specs.declared.arrived.Arrived.{Arrived}
 use Rattle.apf_book.specs.declared.arrived.Arrived.TheVariants as arrived
 use Rattle.apf_book.specs.Life.{LifeView, IsAskedBy, then_came}
@@ -194,7 +195,7 @@ pub record Leaves (before after : PassToken) : Type 0 where
 abbrev pub StrikesOne : ℕ → LifeView → LifeBookView → Type 0
 StrikesOne r v b' = IsLifeKept v b' ⊎ ((q : ℕ) × IsLifeKept (then_came v (Strike r q)) b')
 
--- the first Station heard what the others know, made these steps, and told them. The others are as they were
+-- the first Station heard what the others know, made these steps and no others, and told them. The other Stations are as they were
 pub record Steps (old new : List StationToken) (Does : StationRecord → StationRecord → Type 0) : Type 0 where
   pub before : StationToken
   pub after : StationToken
@@ -204,8 +205,10 @@ pub record Steps (old new : List StationToken) (Does : StationRecord → Station
   pub heard : StationRecord
   pub did : StationRecord
   pub more : KnowsMore before.station.knows heard.knows
+  pub of_others : GoesOn heard.knows.trace (OfStation before.station.number) before.station.knows.trace
   pub does : Does heard did
   pub told : KnowsMore did.knows after.station.knows
+  pub then_of_others : GoesOn after.station.knows.trace (OfStation did.number) did.knows.trace
 
 -- the limit was set by one exchange, which answers the old one
 abbrev pub Sets : ℕ → ℕ → StationRecord → StationRecord → Type 0

@@ -5,6 +5,7 @@ use Rattle.apf_words.specs.declared.decision.Decision.TheVariants.{Execute, Queu
 use Rattle.apf_gate.specs.declared.record.Entry.{Entry}
 use Rattle.apf_gate.specs.declared.record.PassRecord.{PassRecord}
 use Rattle.apf_gate.specs.PassSteps.{PassLoadsDecision}
+use Rattle.apf_gate.specs.Records.{told_own}
 use Rattle.apf_gate.specs.Slots.{next_of}
 use Rattle.apf_gate.specs.Tokens.{PassToken}
 use Rattle.apf_local.specs.declared.answer.Ask.{Ask}
@@ -39,10 +40,10 @@ pub record Tries (ask : Ask) (answer : Answer) (place : Place) (before : PassTok
   pub place_is : place' ≡ place_of_try took
   pub is : IsBegun ask took after
 
--- the next request of the slot tried; or the slot is not free, or its numbers are used up, and nothing was done
+-- the next request of the slot tried; or the slot is not free, or it is and its numbers are used up, and nothing was done
 abbrev pub IsTry : ℕ → Ask → LocalView → Answer → LocalView → Type 0
 IsTry slot ask l answers.Wrong l' = (l' ≡ l) × (slice_get l.places slot ≢ Some places.Free)
-IsTry slot ask l answers.Spent l' = (l' ≡ l) × IsSlotOf l.owner.passes slot (IsUsedUp l.owner.gate ask.width)
+IsTry slot ask l answers.Spent l' = (l' ≡ l) × (slice_get l.places slot ≡ Some places.Free) × IsSlotOf l.owner.passes slot (IsUsedUp l.owner.gate ask.width)
 IsTry slot ask l answer l' = SlotMoves slot l l' (Tries ask answer)
 
 -- where a request is whose decision is this
@@ -65,6 +66,8 @@ pub record Places (place' : Place) (before after : PassToken) : Type 0 where
   pub between : PassRecord
   pub loads : PassLoadsDecision heard found between
   pub goes_on : (newer : List Entry) × (newer ++ between.knows.trace ≡ after.pass.knows.trace)
+  -- who is over was told that it is cancelled
+  pub over : place' ≡ places.Free → told_own after.pass ≡ Some Cancelled
 
 -- a request that waited read its decision, and is where the answer says
 pub record Waited (answer : Place) (place : Place) (before : PassToken) (place' : Place) (after : PassToken) : Type 0 where

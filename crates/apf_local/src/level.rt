@@ -7,7 +7,7 @@ ghost use Rattle.apf_gate.specs.Slots.{IsTicket};
 ghost use Rattle.apf_gate.specs.StationCalls.{TriesToCancel, ClosesTo};
 ghost use Rattle.apf_gate.specs.StationSteps.{StationLoadsLevel};
 ghost use Rattle.apf_book.specs.Life.{LifeView};
-ghost use Rattle.apf_book.specs.LifeBook.{IsLifeKept};
+ghost use Rattle.apf_book.specs.LifeBook.{IsLifeKept, IsLived};
 ghost use Rattle.apf_book.specs.Notes.{AreLifeStats, CopiesLate};
 ghost use Rattle.apf_line.specs.Reports.{Ended};
 ghost use Rattle.apf_local.specs.declared.answer.Place.TheVariants as places;
@@ -185,6 +185,13 @@ impl LocalLevel {
         ensures { slice_get self.now.places slot ≡ Some result }
     {
         self.places[slot]
+    }
+
+    /// There is a history that the level's book is of. It makes no step: the contract is the law.
+    pub fn has_a_history(&self)
+        ensures { IsLived self.now.owner.book }
+    {
+        self.owner.has_a_history();
     }
 
     /// What names the slot's newest request for ever.

@@ -39,6 +39,7 @@ returns-in-Some c =
           between = reads.does.between;
           loads = reads.does.loads;
           goes_on = goes_on_then reads.does.between.knows.trace reads.after.pass.knows.trace leaves.after.pass.knows.trace reads.does.goes_on (subst (λ (t : PassToken). GoesOnFrom t.pass.knows.trace leaves.after.pass.knows.trace) same leaves.does.goes_on);
+          over = λ free. leaves.does.told;
         };
       };
       decided = λ t at is waits. (let z : places.Free ≡ places.Waits = waits in cc);

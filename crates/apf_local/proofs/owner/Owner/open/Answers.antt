@@ -2,6 +2,7 @@
 use Rattle.std.proofs.Common.{rules, ◌≡◌, ◌≤◌, ◌<◌, ◌*◌, ℕ, List, [], ◌∷◌, length, get_or, Some, inl, inr, refl, sym, ap, ◌∙◌, subst, arith}
 use Rattle.std.specs.Prelude.{map}
 use Rattle.std.proofs.lemmas.Option.{get_or_from_slice_get}
+use Rattle.apf_words.specs.Limits.{max_requests}
 use Rattle.apf_history.specs.declared.events.Event.{Event}
 use Rattle.apf_model.specs.declared.config.Config.{Config}
 use Rattle.apf_model.specs.declared.response.Response.{Response}
@@ -69,6 +70,7 @@ returns-clause-opened c =
     let v = beginning shape line.queues line.queue_length_limit in
     let kept = c.in_ok-book.ensures.opens v (is_beginning shape line.queues line.queue_length_limit c.is_of_a_gate.ensures.shape) refl in
     let desk : c.in_ok-gate.desk.desk ≡ new_desk c.in_ok-gate.desk.desk.knows.shape = (search rules) in
+    let slots : shape.slots ≡ c.args.slots = (search rules) in
     record {
       limit = search rules;
       response = search rules;
@@ -77,4 +79,7 @@ returns-clause-opened c =
       queue_limit = kept.of_life.limit ∙ ap (λ (x : Config). x.queue_length_limit) c.settings-line.ensures;
       fresh = λ k t at. (c.in_ok-gate.ensures.fresh k t at).1;
       blank = λ w of. blank c.in_ok-book.book c.in_ok-gate.desk w c.in_ok-book.ensures.desk desk of;
+      few = subst (λ (n : ℕ). n ≤ max_requests) slots c.is_of_a_gate.ensures.shape.few_slots;
+      all_passes = search rules;
+      room = c.in_ok-book.ensures.room;
     }

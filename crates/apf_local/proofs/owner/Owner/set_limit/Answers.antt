@@ -12,6 +12,8 @@ use Rattle.apf_gate.specs.Records.{KnowsMore}
 use Rattle.apf_gate.specs.StationCalls.{TriesToSet}
 use Rattle.apf_gate.specs.StationResults.{SameStation}
 use Rattle.apf_gate.specs.Tokens.{GateId, PassToken, StationToken}
+use Rattle.apf_gate.specs.Traces.{GoesOn}
+use Rattle.apf_gate.specs.declared.record.Actor.TheVariants.{OfStation}
 use Rattle.apf_book.specs.LifeBook.{LifeBookView}
 use Rattle.apf_local.specs.Owners.{OwnerView}
 use Rattle.apf_local.proofs.Knowing.{book_then}
@@ -68,6 +70,8 @@ returns-clause-sets c =
       heard = s1.station;
       did = s2.station;
       more = c.hear_station.ensures.same_station.2;
+      of_others = c.hear_station.ensures.of_others;
       does = (c.in-Set._waiting, subst (λ (t : StationToken). TriesToSet t.station c.args.limit (answers.Set c.in-Set.old c.in-Set._waiting) s2.station) e1 c.in-Set.ensures.answer);
       told = subst (λ (t : StationToken). KnowsMore t.station.knows s3.station.knows) e2 c.hear_station-in-Set.ensures.same_station.2;
+      then_of_others = subst (λ (t : StationToken). GoesOn s3.station.knows.trace (OfStation t.station.number) t.station.knows.trace) e2 c.hear_station-in-Set.ensures.of_others;
     }

@@ -155,7 +155,7 @@ fn print_action<F: Files, O: Write, E: Write, R: Wait + Threads + Sync>(
                 name,
                 charge,
             };
-            print_served(rt, alloc, files, level, out)
+            print_served(alloc, files, level, out)
         }
         Arguments::Simulation {
             config,

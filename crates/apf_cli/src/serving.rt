@@ -6,13 +6,12 @@ ghost use Rattle.apf_cli.specs.Choices.{IsChargeFor, IsNoChargeFor};
 use crate::faults::Fault;
 use crate::files::{Files, Input, STANDARD_INPUT, judge_names, read_input};
 use apf_charges::ChargedBy;
-use apf_life_session::OpenFault;
+use apf_local::OpenFault;
 use apf_run::{Config, ReplayFault, read_config};
 use apf_service::{ServeFault, serve};
 use std::alloc::Global;
 use std::io;
 use std::io::{Read, Write};
-use std::sync::Wait;
 
 // Standard input, as it comes.
 #[derive(Drop)]
@@ -79,8 +78,7 @@ fn charged_by(word: Option<&str>) -> Result<ChargedBy, Fault>
 }
 
 /// Opens the level of the file, as the words say, and carries out the commands of standard input.
-pub(crate) fn print_served<F: Files, O: Write, R: Wait>(
-    rt: &R,
+pub(crate) fn print_served<F: Files, O: Write>(
     alloc: Global,
     files: &mut F,
     level: Served<'_>,
@@ -90,7 +88,6 @@ pub(crate) fn print_served<F: Files, O: Write, R: Wait>(
     let config = config_of(alloc, files, level.config)?;
     let mut commands = Commands { files };
     Ok(serve(
-        rt,
         alloc,
         &config,
         level.slots,

@@ -1,7 +1,9 @@
 -- The numbers stay those of the slots, as the request of one slot goes on.
-use Rattle.std.proofs.Common.{◌≡◌, ℕ, ◌+◌, ◌%◌, ◌^◌, ◌<◌, ◌≤◌, List, length, get_or, set, inl, inr, Bool, not, ◌==◌, refl, sym, ap, ◌∙◌, subst, arith}
-use Rattle.std.specs.Prelude.{min, max, if◌then◌else◌}
+use Rattle.std.proofs.Common.{◌≡◌, ℕ, ◌+◌, ◌*◌, ◌%◌, ◌^◌, ◌<◌, ◌≤◌, List, length, get_or, set, inl, inr, refl, sym, ap, ◌∙◌, subst, arith}
+use Rattle.std.specs.Prelude.{min, max, if◌then◌else◌, Option}
+use Rattle.std.specs.List.{sum_by}
 use Rattle.std.proofs.lemmas.Bool.{le-leb}
+use Rattle.std.proofs.lemmas.List.{length-set}
 use Rattle.apf_words.specs.Limits.{max_width}
 use Rattle.apf_words.specs.declared.decision.Decision.{Decision}
 use Rattle.apf_words.specs.declared.decision.Decision.TheVariants.{Execute, QueueFull, Closed, ConcurrencyLimit, Cancelled}
@@ -9,30 +11,38 @@ use Rattle.apf_gate.specs.declared.record.Shape.{Shape}
 use Rattle.apf_gate.specs.declared.counts.Counts.{Counts}
 use Rattle.apf_gate.specs.Tokens.{PassToken}
 use Rattle.apf_gate.specs.Slots.{IsTicket, wide, coded_width, round_of, mark_of, next_of}
-use Rattle.apf_life_session.specs.declared.answer.Answer.{Answer}
-use Rattle.apf_life_session.specs.declared.answer.Answer.TheVariants.{Run, Over, Tried, Busy, Waits, Released, Spent, Wrong}
-use Rattle.apf_life_session.specs.declared.answer.Place.TheVariants as places
-use Rattle.apf_life_session.specs.declared.token.Token.{Token}
-use Rattle.apf_life_session.specs.declared.token.Token.TheVariants as tokens
-use Rattle.apf_life_session.specs.Requests.{number_in, Answers, Arrives, Tries, Polls, Says, SaysWhere, SaysTried, IsToldOver, ReleasesAs}
+use Rattle.apf_book.specs.declared.life_event.LifeEvent.{LifeEvent}
+use Rattle.apf_local.specs.declared.admitting.Admitted.{Admitted}
+use Rattle.apf_local.specs.declared.admitting.Admitted.TheVariants as admitted
+use Rattle.apf_local.specs.declared.taking.Took.{Took}
+use Rattle.apf_local.specs.declared.taking.Took.TheVariants as took
+use Rattle.apf_local.specs.declared.answer.Ask.{Ask}
+use Rattle.apf_local.specs.declared.answer.Answer.{Answer}
+use Rattle.apf_local.specs.declared.answer.Answer.TheVariants.{Run, Over, Busy, Waits, Released, Spent, Wrong}
+use Rattle.apf_local.specs.declared.answer.Place.{Place}
+use Rattle.apf_local.specs.declared.answer.Place.TheVariants as places
+use Rattle.apf_local.specs.Levels.{LocalView, SameLocal, SlotMoves, Arrives, Finishes, IsArrival, IsFinish, answer_of, place_of}
+use Rattle.apf_local.specs.Owners.{IsSlotOf}
+use Rattle.apf_local.specs.Tries.{Tries, Waited, IsTry, IsReading, SlotsStay, answer_of_try, place_of_try}
 use Rattle.apf_service.specs.declared.tally.Tally.{Tally}
-use Rattle.apf_service.specs.Tallies.{decided_in, arrived_in, counted, started, queued, ended, left, finished, after_arrival, after_poll, after_finish, waits_in, runs_in, seats_in, rounds_in, IsTallyOf}
-use Rattle.apf_service.specs.Kept.{width_in}
+use Rattle.apf_service.specs.Tallies.{Held, held_by, slots_of, decided_in, arrived_in, counted, started, queued, ended, finished, after_arrival, after_poll, after_finish, waits_in, runs_in, seats_in, rounds_in, IsTallyOf, IsTallied}
+use Rattle.apf_service.specs.Kept.{width_in, no_slot}
+use Rattle.apf_service.proofs.Slots.{held, reads_waiting, moved_slots, was_held, is_inside}
 use Rattle.apf_service.proofs.Sums.{sum_at, part_at}
 
--- what one slot's change from one token to another does to the numbers
-record Goes (old new : Token) (t t' : Tally) : Type 0 where
+-- what one slot's change from one request or place to another does to the numbers
+record Goes (old new : Held) (t t' : Tally) : Type 0 where
   waiting : t'.waiting + waits_in old ≡ t.waiting + waits_in new
   running : t'.running + runs_in old ≡ t.running + runs_in new
   seats : t'.seats + seats_in old ≡ t.seats + seats_in new
   arrived : arrived_in t' + rounds_in old ≤ arrived_in t + rounds_in new
 
-goes_on : (slots : List Token) (slot : ℕ) (token : Token) (t t' : Tally) → slot < length slots → IsTallyOf slots t → Goes (get_or slots slot tokens.Gone) token t t' → IsTallyOf (set slots slot token) t'
-goes_on slots slot token t t' inside kept goes = record {
-  waiting = omega (arith, kept.waiting, goes.waiting, sum_at waits_in slots slot token inside);
-  running = omega (arith, kept.running, goes.running, sum_at runs_in slots slot token inside);
-  seats = omega (arith, kept.seats, goes.seats, sum_at seats_in slots slot token inside);
-  arrived = omega (arith, kept.arrived, goes.arrived, sum_at rounds_in slots slot token inside);
+goes_on : (slots : List Held) (slot : ℕ) (h : Held) (t t' : Tally) → slot < length slots → IsTallyOf slots t → Goes (get_or slots slot no_slot) h t t' → IsTallyOf (set slots slot h) t'
+goes_on slots slot h t t' inside kept goes = record {
+  waiting = omega (arith, kept.waiting, goes.waiting, sum_at waits_in slots slot h inside);
+  running = omega (arith, kept.running, goes.running, sum_at runs_in slots slot h inside);
+  seats = omega (arith, kept.seats, goes.seats, sum_at seats_in slots slot h inside);
+  arrived = omega (arith, kept.arrived, goes.arrived, sum_at rounds_in slots slot h inside);
 }
 
 -- one more decision of any kind
@@ -59,249 +69,224 @@ coded_next r w some narrow = ap wide (let mark : mark_of (next_of r w) % 32768 �
 rounds_below : (shape : Shape) (r : ℕ) → IsTicket shape r → round_of r < 2 ^ 46
 rounds_below shape r is = let small = is.small in omega arith
 
-rounds_next : (shape : Shape) (r w n : ℕ) → w ≤ max_width → n ≡ next_of r w → IsTicket shape n → min (round_of r) (2 ^ 46) + 1 ≡ min (round_of n) (2 ^ 46)
-rounds_next shape r w n narrow is ticket =
-    let below = rounds_below shape n ticket in
+-- the next request is of one round more, and has its own width
+record IsNext (w r n : ℕ) : Type 0 where
+  rounds : min (round_of r) (2 ^ 46) + 1 ≡ min (round_of n) (2 ^ 46)
+  width : coded_width n ≡ w
+
+is_next : (shape : Shape) (w r n : ℕ) → 1 ≤ w → w ≤ max_width → IsTicket shape r → n ≡ next_of r w → IsNext w r n
+is_next shape w r n some narrow ticket is =
+    let below = rounds_below shape r ticket in
     let next : round_of n ≡ round_of r + 1 = ap round_of is ∙ round_next r w narrow in
-    omega arith
-
--- the request of a slot, which waited, was told: it executes
-poll_run : (old new : Token) (t : Tally) → number_in new ≡ number_in old → waits_in old ≡ 1 → waits_in old ≤ t.waiting → runs_in old ≡ 0 → seats_in old ≡ 0 → Says Run new → Goes old new t (started (width_in new) (left t))
-poll_run old (tokens.Free pass) t same one some zero none says = absurd says
-poll_run old (tokens.Waiting pass) t same one some zero none says = absurd says
-poll_run old tokens.Gone t same one some zero none says = absurd says
-poll_run old (tokens.Running pass) t same one some zero none says = record {
-  waiting = omega (arith, one, some);
-  running = omega (arith, zero);
-  seats = omega (arith, none);
-  arrived = omega (arith, one, some, ap (λ (r : ℕ). min (round_of r) (2 ^ 46)) same);
-}
-
--- it is over
-poll_over : (old new : Token) (t : Tally) (decision : Decision) → number_in new ≡ number_in old → waits_in old ≡ 1 → waits_in old ≤ t.waiting → runs_in old ≡ 0 → seats_in old ≡ 0 → Says (Over decision) new → Goes old new t (ended decision (left t))
-poll_over old (tokens.Waiting pass) t decision same one some zero none says = absurd says.0
-poll_over old (tokens.Running pass) t decision same one some zero none says = absurd says.0
-poll_over old tokens.Gone t decision same one some zero none says = absurd says.0
-poll_over old (tokens.Free pass) t decision same one some zero none says = record {
-  waiting = omega (arith, one, some);
-  running = omega (arith, zero);
-  seats = omega (arith, none);
-  arrived = omega (arith, one, some, decided_counted decision t.counts, ap (λ (r : ℕ). min (round_of r) (2 ^ 46)) same);
-}
-
--- it still waits
-poll_waits : (old new : Token) (t : Tally) → number_in new ≡ number_in old → waits_in old ≡ 1 → runs_in old ≡ 0 → seats_in old ≡ 0 → Says Waits new → Goes old new t t
-poll_waits old (tokens.Free pass) t same one zero none says = absurd cc
-poll_waits old (tokens.Running pass) t same one zero none says = absurd cc
-poll_waits old tokens.Gone t same one zero none says = absurd cc
-poll_waits old (tokens.Waiting pass) t same one zero none says = record {
-  waiting = omega (arith, one);
-  running = omega (arith, zero);
-  seats = omega (arith, none);
-  arrived = omega (arith, ap (λ (r : ℕ). min (round_of r) (2 ^ 46)) same);
-}
+    record { rounds = omega arith; width = ap coded_width is ∙ coded_next r w some narrow }
 
 -- nothing changed
-goes_same : (old new : Token) (t : Tally) → new ≡ old → Goes old new t t
+goes_same : (old new : Held) (t : Tally) → new ≡ old → Goes old new t t
 goes_same old new t same = record {
-  waiting = ap (λ (x : Token). t.waiting + waits_in x) (sym same);
-  running = ap (λ (x : Token). t.running + runs_in x) (sym same);
-  seats = ap (λ (x : Token). t.seats + seats_in x) (sym same);
+  waiting = ap (λ (x : Held). t.waiting + waits_in x) (sym same);
+  running = ap (λ (x : Held). t.running + runs_in x) (sym same);
+  seats = ap (λ (x : Held). t.seats + seats_in x) (sym same);
   arrived = omega (arith, ap rounds_in same);
 }
 
--- a request that waited read its decision
-waiting_goes : (pass : PassToken) (new : Token) (answer : Answer) (t : Tally) → Polls (tokens.Waiting pass) answer new → 1 ≤ t.waiting → Goes (tokens.Waiting pass) new t (after_poll (width_in new) answer t)
-waiting_goes pass new Run t polls some = poll_run (tokens.Waiting pass) new t polls.answers.same refl some refl refl polls.answers.says
-waiting_goes pass new (Over decision) t polls some = poll_over (tokens.Waiting pass) new t decision polls.answers.same refl some refl refl polls.answers.says
-waiting_goes pass new Waits t polls some = poll_waits (tokens.Waiting pass) new t polls.answers.same refl refl refl polls.answers.says
-waiting_goes pass new (Tried decision waiting) t polls some = absurd (polls.place refl)
-waiting_goes pass new Busy t polls some = absurd (polls.place refl)
-waiting_goes pass new (Released waiting) t polls some = absurd (polls.place refl)
-waiting_goes pass new Spent t polls some = absurd (polls.place refl)
-waiting_goes pass new Wrong t polls some = absurd (polls.answers.right refl refl)
+-- the next request of a free slot came, and executes, waits or is over, or it did not come in
+module _ (r n w : ℕ) (t : Tally) (next : IsNext w r n) where
+  came_run : Goes (record { place = places.Free; number = r }) (record { place = places.Runs; number = n }) t (started w t)
+  came_run = record {
+    waiting = omega arith;
+    running = omega arith;
+    seats = omega (arith, next.width);
+    arrived = omega (arith, next.rounds);
+  }
 
--- a call that was wrong for the slot changed nothing
-wrong_goes : (old new : Token) (answer : Answer) (t : Tally) → (answer ≡ Wrong) × (new ≡ old) → Goes old new t (after_poll (width_in new) answer t)
-wrong_goes old new answer t wrong = subst (λ (a : Answer). Goes old new t (after_poll (width_in new) a t)) (sym wrong.0) (goes_same old new t wrong.1)
+  came_waits : Goes (record { place = places.Free; number = r }) (record { place = places.Waits; number = n }) t (queued t)
+  came_waits = record {
+    waiting = omega arith;
+    running = omega arith;
+    seats = omega arith;
+    arrived = omega (arith, next.rounds);
+  }
 
-poll_goes : (old new : Token) (answer : Answer) (t : Tally) → Polls old answer new → waits_in old ≤ t.waiting → Goes old new t (after_poll (width_in new) answer t)
-poll_goes (tokens.Waiting pass) new answer t polls some = waiting_goes pass new answer t polls some
-poll_goes (tokens.Free pass) new answer t polls some = wrong_goes (tokens.Free pass) new answer t (polls.answers.wrong (λ e. cc))
-poll_goes (tokens.Running pass) new answer t polls some = wrong_goes (tokens.Running pass) new answer t (polls.answers.wrong (λ e. cc))
-poll_goes tokens.Gone new answer t polls some = wrong_goes tokens.Gone new answer t (polls.answers.wrong (λ e. cc))
+  came_over : (decision : Decision) → Goes (record { place = places.Free; number = r }) (record { place = places.Free; number = n }) t (ended decision t)
+  came_over decision = record {
+    waiting = omega arith;
+    running = omega arith;
+    seats = omega arith;
+    arrived = omega (arith, next.rounds, decided_counted decision t.counts);
+  }
 
--- the numbers stay those of the slots where a request reads its decision
-pub poll_keeps : (slots : List Token) (slot : ℕ) (token : Token) (answer : Answer) (t : Tally) → slot < length slots → IsTallyOf slots t
-    → Polls (get_or slots slot tokens.Gone) answer token → IsTallyOf (set slots slot token) (after_poll (width_in token) answer t)
-poll_keeps slots slot token answer t inside kept polls =
-    goes_on slots slot token t (after_poll (width_in token) answer t) inside kept
-    (poll_goes (get_or slots slot tokens.Gone) token answer t polls (omega (arith, kept.waiting, part_at waits_in slots slot inside)))
+  came_busy : Goes (record { place = places.Free; number = r }) (record { place = places.Free; number = n }) t t
+  came_busy = record {
+    waiting = omega arith;
+    running = omega arith;
+    seats = omega arith;
+    arrived = omega (arith, next.rounds);
+  }
 
-wrong_finish : (old new : Token) (answer : Answer) (t : Tally) → (answer ≡ Wrong) × (new ≡ old) → Goes old new t (after_finish (width_in new) answer t)
-wrong_finish old new answer t wrong = subst (λ (a : Answer). Goes old new t (after_finish (width_in new) a t)) (sym wrong.0) (goes_same old new t wrong.1)
+  -- as it was admitted
+  came_goes : (a : Admitted) → Goes (record { place = places.Free; number = r }) (record { place = place_of a; number = n }) t (after_arrival w (answer_of a) t)
+  came_goes admitted.Run = came_run
+  came_goes (admitted.Over decision) = came_over decision
+  came_goes admitted.Waits = came_waits
+
+  -- as its try came out
+  tried_goes : (x : Took) → Goes (record { place = places.Free; number = r }) (record { place = place_of_try x; number = n }) t (after_arrival w (answer_of_try x) t)
+  tried_goes took.Run = came_run
+  tried_goes (took.Over decision) = came_over decision
+  tried_goes took.Blocked = came_busy
+  tried_goes took.Raced = came_busy
 
 -- a request that executed gave its seats back
-free_goes : (pass done : PassToken) (t : Tally) (waiting : Bool) → done.pass.number ≡ pass.pass.number → 1 ≤ t.running → coded_width pass.pass.number ≤ t.seats
-    → Goes (tokens.Running pass) (tokens.Free done) t (finished (coded_width done.pass.number) t)
-free_goes pass done t waiting same some seats = record {
+free_goes : (r n : ℕ) (t : Tally) → n ≡ r → 1 ≤ t.running → coded_width r ≤ t.seats → Goes (record { place = places.Runs; number = r }) (record { place = places.Free; number = n }) t (finished (coded_width r) t)
+free_goes r n t same some seats = record {
   waiting = omega arith;
   running = omega (arith, some);
-  seats = omega (arith, seats, ap coded_width same);
-  arrived = omega (arith, ap (λ (r : ℕ). min (round_of r) (2 ^ 46)) same);
+  seats = omega (arith, seats);
+  arrived = omega (arith, ap (λ (x : ℕ). min (round_of x) (2 ^ 46)) same);
 }
 
-running_goes : (pass : PassToken) (new : Token) (answer : Answer) (t : Tally) → number_in new ≡ pass.pass.number → ReleasesAs (tokens.Running pass) answer new → 1 ≤ t.running → coded_width pass.pass.number ≤ t.seats
-    → Goes (tokens.Running pass) new t (after_finish (width_in new) answer t)
-running_goes pass new answer t same (done, level, step, is, free) some seats =
-    subst (λ (a : Answer). Goes (tokens.Running pass) new t (after_finish (width_in new) a t)) (sym is)
-    (subst (λ (x : Token). Goes (tokens.Running pass) x t (finished (width_in x) t)) (sym free)
-    (free_goes pass done t (not (level.waiters == 0)) (sym (ap number_in free) ∙ same) some seats))
+-- a request that waited is where its decision says
+module _ (r n : ℕ) (t : Tally) (same : n ≡ r) (some : 1 ≤ t.waiting) where
+  poll_goes : (place : Place) → Goes (record { place = places.Waits; number = r }) (record { place = place; number = n }) t (after_poll (coded_width r) place t)
+  poll_goes places.Runs = record {
+    waiting = omega (arith, some);
+    running = omega arith;
+    seats = omega (arith, ap coded_width same);
+    arrived = omega (arith, some, ap (λ (x : ℕ). min (round_of x) (2 ^ 46)) same);
+  }
+  poll_goes places.Free = record {
+    waiting = omega (arith, some);
+    running = omega arith;
+    seats = omega arith;
+    arrived = omega (arith, some, ap (λ (x : ℕ). min (round_of x) (2 ^ 46)) same);
+  }
+  poll_goes places.Waits = record {
+    waiting = omega arith;
+    running = omega arith;
+    seats = omega arith;
+    arrived = omega (arith, ap (λ (x : ℕ). min (round_of x) (2 ^ 46)) same);
+  }
 
--- a request that executed gave its seats back
-finish_goes : (old new : Token) (answer : Answer) (t : Tally) → Answers places.Runs old answer new → ReleasesAs old answer new → runs_in old ≤ t.running → seats_in old ≤ t.seats → Goes old new t (after_finish (width_in new) answer t)
-finish_goes (tokens.Free pass) new answer t answers steps some seats = wrong_finish (tokens.Free pass) new answer t (answers.wrong (λ e. cc))
-finish_goes (tokens.Waiting pass) new answer t answers steps some seats = wrong_finish (tokens.Waiting pass) new answer t (answers.wrong (λ e. cc))
-finish_goes tokens.Gone new answer t answers steps some seats = wrong_finish tokens.Gone new answer t (answers.wrong (λ e. cc))
-finish_goes (tokens.Running pass) new answer t answers steps some seats = running_goes pass new answer t answers.same steps some seats
+-- a call that did nothing
+pub tallied_same : (l l' : LocalView) (t : Tally) → l' ≡ l → IsTallied l t → IsTallied l' t
+tallied_same l l' t same kept = subst (λ (x : LocalView). IsTallied x t) (sym same) kept
+
+-- a call by which no slot changed
+pub tallied_stays : (l l' : LocalView) (t : Tally) → SameLocal l l' → SlotsStay l l' → IsTallied l t → IsTallied l' t
+tallied_stays l l' t same stay kept = record {
+  few = subst (λ (ps : List Place). length ps ≤ 10000) (sym stay.places) kept.few;
+  each_its_pass = ap (λ (ts : List PassToken). length ts) stay.passes ∙ (kept.each_its_pass ∙ ap (λ (ps : List Place). length ps) (sym stay.places));
+  room = same.owner.book.room ∙ (kept.room ∙ ap (λ (ps : List Place). 2 * length ps) (sym stay.places));
+  numbers = subst (λ (hs : List Held). IsTallyOf hs t) (ap (λ (ps : List Place). held_by ps l.owner.passes) (sym stay.places) ∙ ap (λ (ts : List PassToken). held_by l'.places ts) (sym stay.passes)) kept.numbers;
+}
+
+-- a call by which one slot moved
+module _ (slot : ℕ) (l l' : LocalView) (Does : Place → PassToken → Place → PassToken → Type 0) (m : SlotMoves slot l l' Does) where
+  tallied_moves : SameLocal l l' → (t t' : Tally) → IsTallied l t → Goes (held m.place m.before) (held m.place' m.after) t t' → IsTallied l' t'
+  tallied_moves same t t' kept goes =
+      record {
+        few = subst (λ (ps : List Place). length ps ≤ 10000) (sym m.now_at) (subst (λ (n : ℕ). n ≤ 10000) (sym (length-set l.places slot m.place')) kept.few);
+        each_its_pass = ap (λ (ts : List PassToken). length ts) m.now ∙ (length-set l.owner.passes slot m.after ∙ (kept.each_its_pass ∙ (sym (length-set l.places slot m.place') ∙ ap (λ (ps : List Place). length ps) (sym m.now_at))));
+        room = same.owner.book.room ∙ (kept.room ∙ (ap (λ (n : ℕ). 2 * n) (sym (length-set l.places slot m.place')) ∙ ap (λ (ps : List Place). 2 * length ps) (sym m.now_at)));
+        numbers = subst (λ (hs : List Held). IsTallyOf hs t') (sym (moved_slots slot l l' Does m))
+            (goes_on (slots_of l) slot (held m.place' m.after) t t' (is_inside slot l l' Does m) kept.numbers (subst (λ (h : Held). Goes h (held m.place' m.after) t t') (sym (was_held slot l l' Does m)) goes));
+      }
+
+  -- what the slot held is part of the sums
+  part_of : (f : Held → ℕ) → f (held m.place m.before) ≤ sum_by f (slots_of l)
+  part_of f = subst (λ (h : Held). f h ≤ sum_by f (slots_of l)) (was_held slot l l' Does m) (part_at f (slots_of l) slot (is_inside slot l l' Does m))
+
+-- the next request of a free slot arrived
+module _ (shape : Shape) (slot : ℕ) (ask : Ask) (l l' : LocalView) (same : SameLocal l l') (t : Tally) (kept : IsTallied l t) (some : 1 ≤ ask.width) (narrow : ask.width ≤ max_width)
+    (number : ℕ) (ticket : IsTicket shape number) (of_slot : IsSlotOf l.owner.passes slot (λ x. number ≡ x.pass.number)) where
+  arrived_keeps : (hand : List ℕ) (answer : Answer) (event : Option LifeEvent) → SlotMoves slot l l' (Arrives ask hand l.owner.book answer event l'.owner.book) → IsTallied l' (after_arrival ask.width answer t)
+  arrived_keeps hand answer event m =
+      let does = m.does in
+      let next = is_next shape ask.width m.before.pass.number m.after.pass.number some narrow (subst (λ (n : ℕ). IsTicket shape n) (of_slot m.before m.was) ticket) does.number in
+      let goes : Goes (record { place = places.Free; number = m.before.pass.number }) (record { place = place_of does.admitted; number = m.after.pass.number }) t (after_arrival ask.width (answer_of does.admitted) t)
+      = came_goes m.before.pass.number m.after.pass.number ask.width t next does.admitted in
+      tallied_moves slot l l' (Arrives ask hand l.owner.book answer event l'.owner.book) m same t (after_arrival ask.width answer t) kept
+      (subst (λ (p : Place). Goes (record { place = p; number = m.before.pass.number }) (held m.place' m.after) t (after_arrival ask.width answer t)) (sym does.was_free)
+      (subst (λ (p : Place). Goes (record { place = places.Free; number = m.before.pass.number }) (record { place = p; number = m.after.pass.number }) t (after_arrival ask.width answer t)) (sym does.place_is)
+      (subst (λ (a : Answer). Goes (record { place = places.Free; number = m.before.pass.number }) (record { place = place_of does.admitted; number = m.after.pass.number }) t (after_arrival ask.width a t)) (sym does.answer_is) goes)))
+
+  pub arrival_keeps : (hand : List ℕ) (answer : Answer) (event : Option LifeEvent) → IsArrival slot ask hand l answer event l' → IsTallied l' (after_arrival ask.width answer t)
+  arrival_keeps hand Wrong event is = tallied_same l l' t is.0 kept
+  arrival_keeps hand Spent event is = tallied_same l l' t is.0 kept
+  arrival_keeps hand Run event m = arrived_keeps hand Run event m
+  arrival_keeps hand (Over decision) event m = arrived_keeps hand (Over decision) event m
+  arrival_keeps hand Busy event m = arrived_keeps hand Busy event m
+  arrival_keeps hand Waits event m = arrived_keeps hand Waits event m
+  arrival_keeps hand Released event m = arrived_keeps hand Released event m
+
+  -- and where it tried
+  tried_keeps : (answer : Answer) → SlotMoves slot l l' (Tries ask answer) → IsTallied l' (after_arrival ask.width answer t)
+  tried_keeps answer m =
+      let does = m.does in
+      let next = is_next shape ask.width m.before.pass.number m.after.pass.number some narrow (subst (λ (n : ℕ). IsTicket shape n) (of_slot m.before m.was) ticket) does.number in
+      let goes : Goes (record { place = places.Free; number = m.before.pass.number }) (record { place = place_of_try does.took; number = m.after.pass.number }) t (after_arrival ask.width (answer_of_try does.took) t)
+      = tried_goes m.before.pass.number m.after.pass.number ask.width t next does.took in
+      tallied_moves slot l l' (Tries ask answer) m same t (after_arrival ask.width answer t) kept
+      (subst (λ (p : Place). Goes (record { place = p; number = m.before.pass.number }) (held m.place' m.after) t (after_arrival ask.width answer t)) (sym does.was_free)
+      (subst (λ (p : Place). Goes (record { place = places.Free; number = m.before.pass.number }) (record { place = p; number = m.after.pass.number }) t (after_arrival ask.width answer t)) (sym does.place_is)
+      (subst (λ (a : Answer). Goes (record { place = places.Free; number = m.before.pass.number }) (record { place = place_of_try does.took; number = m.after.pass.number }) t (after_arrival ask.width a t)) (sym does.answer_is) goes)))
+
+  pub try_keeps : (answer : Answer) → IsTry slot ask l answer l' → IsTallied l' (after_arrival ask.width answer t)
+  try_keeps Wrong is = tallied_same l l' t is.0 kept
+  try_keeps Spent is = tallied_same l l' t is.0 kept
+  try_keeps Run m = tried_keeps Run m
+  try_keeps (Over decision) m = tried_keeps (Over decision) m
+  try_keeps Busy m = tried_keeps Busy m
+  try_keeps Waits m = tried_keeps Waits m
+  try_keeps Released m = tried_keeps Released m
+
+-- the seats of a request that gave them back are part of all
+pub seats_there : (slot : ℕ) (l l' : LocalView) (t : Tally) → IsTallied l t → (answer : Answer) → IsFinish slot l answer l' → answer ≡ Released → (1 ≤ t.running) × (width_in (get_or (slots_of l) slot no_slot) ≤ t.seats)
+seats_there slot l l' t kept answer finish is =
+    let m : SlotMoves slot l l' Finishes = subst (λ (a : Answer). IsFinish slot l a l') is finish in
+    let runs = subst (λ (p : Place). runs_in (record { place = p; number = m.before.pass.number }) ≤ sum_by runs_in (slots_of l)) m.does.ran (part_of slot l l' Finishes m runs_in) in
+    let seats = subst (λ (p : Place). seats_in (record { place = p; number = m.before.pass.number }) ≤ sum_by seats_in (slots_of l)) m.does.ran (part_of slot l l' Finishes m seats_in) in
+    (omega (arith, kept.numbers.running, runs), omega (arith, kept.numbers.seats, seats, ap width_in (was_held slot l l' Finishes m)))
 
 -- the numbers stay those of the slots where a request gives its seats back
-pub finish_keeps : (slots : List Token) (slot : ℕ) (token : Token) (answer : Answer) (t : Tally) → slot < length slots → IsTallyOf slots t
-    → Answers places.Runs (get_or slots slot tokens.Gone) answer token → ReleasesAs (get_or slots slot tokens.Gone) answer token → IsTallyOf (set slots slot token) (after_finish (width_in token) answer t)
-finish_keeps slots slot token answer t inside kept answers steps =
-    goes_on slots slot token t (after_finish (width_in token) answer t) inside kept
-    (finish_goes (get_or slots slot tokens.Gone) token answer t answers steps
-    (omega (arith, kept.running, part_at runs_in slots slot inside)) (omega (arith, kept.seats, part_at seats_in slots slot inside)))
+module _ (slot : ℕ) (l l' : LocalView) (same : SameLocal l l') (t : Tally) (kept : IsTallied l t) where
+  released_keeps : IsFinish slot l Released l' → IsTallied l' (finished (width_in (get_or (slots_of l) slot no_slot)) t)
+  released_keeps m =
+      let room = seats_there slot l l' t kept Released m refl in
+      let width : width_in (get_or (slots_of l) slot no_slot) ≡ coded_width m.before.pass.number = ap width_in (was_held slot l l' Finishes m) in
+      let goes = free_goes m.before.pass.number m.after.pass.number t m.does.gives.number room.0 (omega (arith, room.1, width)) in
+      tallied_moves slot l l' Finishes m same t (finished (width_in (get_or (slots_of l) slot no_slot)) t) kept
+      (subst (λ (p : Place). Goes (record { place = p; number = m.before.pass.number }) (held m.place' m.after) t (finished (width_in (get_or (slots_of l) slot no_slot)) t)) (sym m.does.ran)
+      (subst (λ (p : Place). Goes (record { place = places.Runs; number = m.before.pass.number }) (record { place = p; number = m.after.pass.number }) t (finished (width_in (get_or (slots_of l) slot no_slot)) t)) (sym m.does.place_is)
+      (subst (λ (w : ℕ). Goes (record { place = places.Runs; number = m.before.pass.number }) (record { place = places.Free; number = m.after.pass.number }) t (finished w t)) (sym width) goes)))
 
--- the next request of a free slot came, and executes
-came_run : (pass : PassToken) (new : Token) (t : Tally) → min (round_of pass.pass.number) (2 ^ 46) + 1 ≡ rounds_in new → Says Run new → Goes (tokens.Free pass) new t (started (width_in new) t)
-came_run pass (tokens.Free p) t next says = absurd says
-came_run pass (tokens.Waiting p) t next says = absurd says
-came_run pass tokens.Gone t next says = absurd says
-came_run pass (tokens.Running p) t next says = record {
-  waiting = omega arith;
-  running = omega arith;
-  seats = omega arith;
-  arrived = omega (arith, next);
-}
+  pub finish_keeps : (answer : Answer) → IsFinish slot l answer l' → IsTallied l' (after_finish (width_in (get_or (slots_of l) slot no_slot)) answer t)
+  finish_keeps Wrong is = tallied_same l l' t is.0 kept
+  finish_keeps Released m = released_keeps m
+  finish_keeps Run is = absurd is
+  finish_keeps (Over decision) is = absurd is
+  finish_keeps Busy is = absurd is
+  finish_keeps Waits is = absurd is
+  finish_keeps Spent is = absurd is
 
--- it waits
-came_waits : (pass : PassToken) (new : Token) (t : Tally) → min (round_of pass.pass.number) (2 ^ 46) + 1 ≡ rounds_in new → Says Waits new → Goes (tokens.Free pass) new t (queued t)
-came_waits pass (tokens.Free p) t next says = absurd cc
-came_waits pass (tokens.Running p) t next says = absurd cc
-came_waits pass tokens.Gone t next says = absurd cc
-came_waits pass (tokens.Waiting p) t next says = record {
-  waiting = omega arith;
-  running = omega arith;
-  seats = omega arith;
-  arrived = omega (arith, next);
-}
+-- who waits is counted as waiting
+pub some_wait : (slot : ℕ) (l : LocalView) (t : Tally) → IsTallied l t → slot < length (slots_of l) → (get_or (slots_of l) slot no_slot).place ≡ places.Waits → 1 ≤ t.waiting
+some_wait slot l t kept inside waits = omega (arith, kept.numbers.waiting, part_at waits_in (slots_of l) slot inside, ap (λ (p : Place). waits_in (record { place = p; number = 0 })) waits)
 
--- it is over
-came_over : (pass : PassToken) (new : Token) (t : Tally) (decision : Decision) → min (round_of pass.pass.number) (2 ^ 46) + 1 ≡ rounds_in new → IsToldOver decision new → Goes (tokens.Free pass) new t (ended decision t)
-came_over pass (tokens.Waiting p) t decision next says = absurd says
-came_over pass (tokens.Running p) t decision next says = absurd says
-came_over pass tokens.Gone t decision next says = absurd says
-came_over pass (tokens.Free p) t decision next says = record {
-  waiting = omega arith;
-  running = omega arith;
-  seats = omega arith;
-  arrived = omega (arith, next, decided_counted decision t.counts);
-}
+-- the numbers stay those of the slots where a request that waits reads its decision
+module _ (slot : ℕ) (l l' : LocalView) (same : SameLocal l l') (t : Tally) (kept : IsTallied l t) where
+  read_keeps : (place : Place) → SlotMoves slot l l' (Waited place) → IsTallied l' (after_poll (width_in (get_or (slots_of l) slot no_slot)) place t)
+  read_keeps place m =
+      let does = m.does in
+      let was = was_held slot l l' (Waited place) m in
+      let width : width_in (get_or (slots_of l) slot no_slot) ≡ coded_width m.before.pass.number = ap width_in was in
+      let some = some_wait slot l t kept (is_inside slot l l' (Waited place) m) (ap (λ (h : Held). h.place) was ∙ does.waited) in
+      let goes = poll_goes m.before.pass.number m.after.pass.number t does.reads.number some place in
+      tallied_moves slot l l' (Waited place) m same t (after_poll (width_in (get_or (slots_of l) slot no_slot)) place t) kept
+      (subst (λ (p : Place). Goes (record { place = p; number = m.before.pass.number }) (held m.place' m.after) t (after_poll (width_in (get_or (slots_of l) slot no_slot)) place t)) (sym does.waited)
+      (subst (λ (p : Place). Goes (record { place = places.Waits; number = m.before.pass.number }) (record { place = p; number = m.after.pass.number }) t (after_poll (width_in (get_or (slots_of l) slot no_slot)) place t)) (sym does.place_is)
+      (subst (λ (w : ℕ). Goes (record { place = places.Waits; number = m.before.pass.number }) (record { place = place; number = m.after.pass.number }) t (after_poll w place t)) (sym width) goes)))
 
--- it did not come in
-came_busy : (pass : PassToken) (new : Token) (t : Tally) → min (round_of pass.pass.number) (2 ^ 46) + 1 ≡ rounds_in new → Says Busy new → Goes (tokens.Free pass) new t t
-came_busy pass (tokens.Waiting p) t next says = absurd cc
-came_busy pass (tokens.Running p) t next says = absurd cc
-came_busy pass tokens.Gone t next says = record {
-  waiting = omega arith;
-  running = omega arith;
-  seats = omega arith;
-  arrived = omega (arith, next);
-}
-came_busy pass (tokens.Free p) t next says = record {
-  waiting = omega arith;
-  running = omega arith;
-  seats = omega arith;
-  arrived = omega (arith, next);
-}
-
--- an arrival in a free slot that was answered so
-came_goes : (pass : PassToken) (new : Token) (answer : Answer) (t : Tally) → min (round_of pass.pass.number) (2 ^ 46) + 1 ≡ rounds_in new → SaysWhere answer → Says answer new → Goes (tokens.Free pass) new t (after_arrival (width_in new) answer t)
-came_goes pass new Run t next place says = came_run pass new t next says
-came_goes pass new (Over decision) t next place says = came_over pass new t decision next says.0
-came_goes pass new Waits t next place says = came_waits pass new t next says
-came_goes pass new (Tried decision waiting) t next place says = absurd place
-came_goes pass new Busy t next place says = absurd place
-came_goes pass new (Released waiting) t next place says = absurd place
-came_goes pass new Spent t next place says = absurd place
-came_goes pass new Wrong t next place says = absurd place
-
--- an attempt in a free slot that was answered so
-tried_goes : (pass : PassToken) (new : Token) (answer : Answer) (t : Tally) → min (round_of pass.pass.number) (2 ^ 46) + 1 ≡ rounds_in new → SaysTried answer → Says answer new → Goes (tokens.Free pass) new t (after_arrival (width_in new) answer t)
-tried_goes pass new Run t next place says = came_run pass new t next says
-tried_goes pass new (Tried decision waiting) t next place says = came_over pass new t decision next says.0
-tried_goes pass new Busy t next place says = came_busy pass new t next says
-tried_goes pass new (Over decision) t next place says = absurd place
-tried_goes pass new Waits t next place says = absurd place
-tried_goes pass new (Released waiting) t next place says = absurd place
-tried_goes pass new Spent t next place says = absurd place
-tried_goes pass new Wrong t next place says = absurd place
-
--- in a slot that was not free, or is used up, nothing was counted
-spent_goes : (old new : Token) (answer answer' : Answer) (t : Tally) → ((width : ℕ) → after_arrival width answer' t ≡ t) → (answer ≡ answer') × (new ≡ old) → Goes old new t (after_arrival (width_in new) answer t)
-spent_goes old new answer answer' t none is = subst (λ (a : Answer). Goes old new t (after_arrival (width_in new) a t)) (sym is.0)
-    (subst (λ (t' : Tally). Goes old new t t') (sym (none (width_in new))) (goes_same old new t is.1))
-
-arrival_goes : (shape : Shape) (w : ℕ) (old new : Token) (answer : Answer) (t : Tally) → w ≤ max_width → IsTicket shape (number_in new) → Arrives w old answer new → Goes old new t (after_arrival (width_in new) answer t)
-arrival_goes shape w (tokens.Free pass) new answer t narrow ticket (inl spent) = spent_goes (tokens.Free pass) new answer Spent t (λ width. refl) spent
-arrival_goes shape w (tokens.Free pass) new answer t narrow ticket (inr came) = came_goes pass new answer t (rounds_next shape pass.pass.number w (number_in new) narrow came.2 ticket) came.0 came.1
-arrival_goes shape w (tokens.Waiting pass) new answer t narrow ticket wrong = spent_goes (tokens.Waiting pass) new answer Wrong t (λ width. refl) wrong
-arrival_goes shape w (tokens.Running pass) new answer t narrow ticket wrong = spent_goes (tokens.Running pass) new answer Wrong t (λ width. refl) wrong
-arrival_goes shape w tokens.Gone new answer t narrow ticket wrong = absurd wrong
-
-attempt_goes : (shape : Shape) (w : ℕ) (old new : Token) (answer : Answer) (t : Tally) → w ≤ max_width → IsTicket shape (number_in new) → Tries w old answer new → Goes old new t (after_arrival (width_in new) answer t)
-attempt_goes shape w (tokens.Free pass) new answer t narrow ticket (inl spent) = spent_goes (tokens.Free pass) new answer Spent t (λ width. refl) spent
-attempt_goes shape w (tokens.Free pass) new answer t narrow ticket (inr came) = tried_goes pass new answer t (rounds_next shape pass.pass.number w (number_in new) narrow came.2 ticket) came.0 came.1
-attempt_goes shape w (tokens.Waiting pass) new answer t narrow ticket wrong = spent_goes (tokens.Waiting pass) new answer Wrong t (λ width. refl) wrong
-attempt_goes shape w (tokens.Running pass) new answer t narrow ticket wrong = spent_goes (tokens.Running pass) new answer Wrong t (λ width. refl) wrong
-attempt_goes shape w tokens.Gone new answer t narrow ticket wrong = absurd wrong
-
--- the numbers stay those of the slots where the next request of a slot arrives
-pub arrival_keeps : (shape : Shape) (slots : List Token) (slot w : ℕ) (token : Token) (answer : Answer) (t : Tally) → slot < length slots → w ≤ max_width → IsTicket shape (number_in token) → IsTallyOf slots t
-    → Arrives w (get_or slots slot tokens.Gone) answer token → IsTallyOf (set slots slot token) (after_arrival (width_in token) answer t)
-arrival_keeps shape slots slot w token answer t inside narrow ticket kept arrives =
-    goes_on slots slot token t (after_arrival (width_in token) answer t) inside kept (arrival_goes shape w (get_or slots slot tokens.Gone) token answer t narrow ticket arrives)
-
--- and where it tries
-pub attempt_keeps : (shape : Shape) (slots : List Token) (slot w : ℕ) (token : Token) (answer : Answer) (t : Tally) → slot < length slots → w ≤ max_width → IsTicket shape (number_in token) → IsTallyOf slots t
-    → Tries w (get_or slots slot tokens.Gone) answer token → IsTallyOf (set slots slot token) (after_arrival (width_in token) answer t)
-attempt_keeps shape slots slot w token answer t inside narrow ticket kept tries =
-    goes_on slots slot token t (after_arrival (width_in token) answer t) inside kept (attempt_goes shape w (get_or slots slot tokens.Gone) token answer t narrow ticket tries)
-
--- who read a decision waited
-some_by : (old new : Token) (answer : Answer) → Polls old answer new → SaysWhere answer → waits_in old ≡ 1
-some_by (tokens.Waiting pass) new answer polls place = refl
-some_by (tokens.Free pass) new answer polls place = absurd (subst SaysWhere (polls.answers.wrong (λ e. cc)).0 place)
-some_by (tokens.Running pass) new answer polls place = absurd (subst SaysWhere (polls.answers.wrong (λ e. cc)).0 place)
-some_by tokens.Gone new answer polls place = absurd (subst SaysWhere (polls.answers.wrong (λ e. cc)).0 place)
-
-pub some_waited : (slots : List Token) (slot : ℕ) (token : Token) (answer : Answer) (t : Tally) → slot < length slots → IsTallyOf slots t
-    → Polls (get_or slots slot tokens.Gone) answer token → SaysWhere answer → 1 ≤ t.waiting
-some_waited slots slot token answer t inside kept polls place =
-    omega (arith, kept.waiting, part_at waits_in slots slot inside, some_by (get_or slots slot tokens.Gone) token answer polls place)
-
--- who gives seats back has them
-room_by : (old new : Token) (answer : Answer) (waiting : Bool) → Answers places.Runs old answer new → answer ≡ Released waiting → (runs_in old ≡ 1) × (seats_in old ≡ width_in new)
-room_by (tokens.Running pass) new answer waiting answers is = (refl, ap coded_width (sym answers.same))
-room_by (tokens.Free pass) new answer waiting answers is = absurd (let wrong : answer ≡ Wrong = (answers.wrong (λ e. cc)).0 in cc)
-room_by (tokens.Waiting pass) new answer waiting answers is = absurd (let wrong : answer ≡ Wrong = (answers.wrong (λ e. cc)).0 in cc)
-room_by tokens.Gone new answer waiting answers is = absurd (let wrong : answer ≡ Wrong = (answers.wrong (λ e. cc)).0 in cc)
-
-pub seats_there : (slots : List Token) (slot : ℕ) (token : Token) (answer : Answer) (waiting : Bool) (t : Tally) → slot < length slots → IsTallyOf slots t
-    → Answers places.Runs (get_or slots slot tokens.Gone) answer token → answer ≡ Released waiting → (1 ≤ t.running) × (width_in token ≤ t.seats)
-seats_there slots slot token answer waiting t inside kept answers is =
-    let room = room_by (get_or slots slot tokens.Gone) token answer waiting answers is in
-    let runs = part_at runs_in slots slot inside in
-    let seats = part_at seats_in slots slot inside in
-    (omega (arith, kept.running, room.0), omega (arith, kept.seats, room.1))
+  pub poll_keeps : (place : Place) → (get_or (slots_of l) slot no_slot).place ≡ places.Waits → IsReading slot l place l' → IsTallied l' (after_poll (width_in (get_or (slots_of l) slot no_slot)) place t)
+  poll_keeps place waits (inl m) = read_keeps place m
+  poll_keeps place waits (inr (is, at, not)) = absurd (not (reads_waiting l.places l.owner.passes slot place waits at))

@@ -1,13 +1,12 @@
 -- How many requests ever arrived, from line to line.
 use Rattle.std.specs.Prelude.{◌≡◌, ℕ, ◌+◌, List, Result, Ok}
 use Rattle.apf_book.specs.declared.life_event.LifeEvent.{LifeEvent}
-use Rattle.apf_line.specs.Levels.{LifeId}
 use Rattle.apf_protocol.specs.declared.answer.Answer.{Answer as Told}
 use Rattle.apf_protocol.specs.declared.answer.Answer.TheVariants as tell
 use Rattle.apf_protocol.specs.declared.answer.Tried.TheVariants as tried
 use Rattle.apf_protocol.specs.declared.command.Command.{Command}
 use Rattle.apf_service.specs.declared.replies.Refusal.{Refusal}
-use Rattle.apf_service.specs.Tallies.{arrived_in, IsTallyOf}
+use Rattle.apf_service.specs.Tallies.{arrived_in, slots_of, IsTallyOf}
 use Rattle.apf_service.specs.Kept.{State, FollowsAll}
 use Rattle.apf_service.specs.Turns.{Turns}
 
@@ -19,6 +18,6 @@ came_by reply = 0
 
 -- where the command turns one state into the next, and what follows of the new events turns that into the last, the executed, the rejected, the cancelled and the waiting are as many more as came
 abbrev pub IsEveryRequestCounted : Type 0
-IsEveryRequestCounted = (k : LifeId) (command : Command) (reply : Result Told Refusal) (log : List LifeEvent) (next : ℕ) (old between new : State)
-    → IsTallyOf old.slots old.tally → Turns k command old reply between → FollowsAll log (record between { seen = next }) new
+IsEveryRequestCounted = (command : Command) (reply : Result Told Refusal) (log : List LifeEvent) (next : ℕ) (old between new : State)
+    → IsTallyOf (slots_of old.level) old.tally → Turns command old reply between → FollowsAll log (record between { seen = next }) new
     → arrived_in new.tally ≡ arrived_in old.tally + came_by reply

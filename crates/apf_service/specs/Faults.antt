@@ -1,9 +1,9 @@
 -- Why a level was not served to the end of its input.
 use Rattle.std.specs.Prelude.{◌≢◌, ⊤, ℕ}
 use Rattle.apf_model.specs.declared.config.Config.{Config}
-use Rattle.apf_life_session.specs.declared.fault.OpenFault.{OpenFault}
-use Rattle.apf_life_session.specs.declared.fault.OpenFault.TheVariants as opens
-use Rattle.apf_life_session.specs.Openings.{IsOpenFault}
+use Rattle.apf_local.specs.declared.fault.OpenFault.{OpenFault}
+use Rattle.apf_local.specs.declared.fault.OpenFault.TheVariants as opens
+use Rattle.apf_local.specs.Openings.{IsOpenFault}
 use Rattle.apf_service.specs.declared.serving.ServeFault.{ServeFault}
 use Rattle.apf_service.specs.declared.serving.ServeFault.TheVariants.{Open, CannotRead, CannotWrite, NoMemory}
 
@@ -20,9 +20,9 @@ IsPipeFault CannotWrite = ⊤
 IsPipeFault NoMemory = ⊥
 IsPipeFault (Open fault) = ⊥
 
--- the first fault of the opening of a level with these settings, so many slots and one operator; or what may come at any time
+-- the first fault of the opening of a level with these settings and so many slots; or what may come at any time
 abbrev pub IsServeFault : Config → ℕ → ServeFault → Type 0
-IsServeFault config slots (Open fault) = (fault ≢ opens.NoMemory) × IsOpenFault config slots 1 fault
+IsServeFault config slots (Open fault) = (fault ≢ opens.NoMemory) × IsOpenFault config slots fault
 IsServeFault config slots CannotRead = ⊤
 IsServeFault config slots CannotWrite = ⊤
 IsServeFault config slots NoMemory = ⊤

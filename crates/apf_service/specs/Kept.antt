@@ -1,15 +1,16 @@
 -- What a live level keeps, as its calls change it.
-use Rattle.std.specs.Prelude.{◌≡◌, ℕ, ◌+◌, ◌-◌, ◌^◌, ◌<◌, min, List, [], ◌∷◌, length, map, slice_index_or, slice_set, nat_lt, if◌then◌else◌, Bool, true, false}
+use Rattle.std.specs.Prelude.{◌≡◌, ◌≢◌, ℕ, ◌+◌, ◌-◌, ◌^◌, min, List, [], ◌∷◌, length, map, slice_index_or, slice_set, nat_lt, if◌then◌else◌, Bool, true, false}
 use Rattle.std.specs.List.{range_with_len}
 use Rattle.apf_gate.specs.Slots.{coded_width, slot_of}
-use Rattle.apf_gate.specs.Tokens.{StationToken}
 use Rattle.apf_book.specs.declared.life_event.LifeEvent.{LifeEvent}
 use Rattle.apf_book.specs.declared.life_event.LifeEvent.TheVariants as events
+use Rattle.apf_book.specs.Life.{LifeView}
+use Rattle.apf_book.specs.LifeBook.{IsLifeKept}
+use Rattle.apf_local.specs.declared.answer.Place.{Place}
+use Rattle.apf_local.specs.declared.answer.Place.TheVariants as places
+use Rattle.apf_local.specs.Levels.{LocalView, SameLocal, GoesOn}
+use Rattle.apf_local.specs.Tries.{IsReading}
 use Rattle.apf_protocol.specs.declared.answer.Given.{Given}
-use Rattle.apf_life_session.specs.declared.answer.Answer.{Answer}
-use Rattle.apf_life_session.specs.declared.token.Token.{Token}
-use Rattle.apf_life_session.specs.declared.token.Token.TheVariants as tokens
-use Rattle.apf_life_session.specs.Requests.{Polls as ReadsDecision, number_in}
 use Rattle.apf_model.specs.declared.config.Config.{Config}
 use Rattle.apf_model.specs.declared.response.Response.{Response}
 use Rattle.apf_model.specs.declared.response.Response.TheVariants as responses
@@ -18,36 +19,42 @@ use Rattle.apf_charges.specs.Charging.{charge_of}
 use Rattle.apf_service.specs.declared.notes.Asked.{Asked}
 use Rattle.apf_service.specs.declared.notes.Notes.{Notes}
 use Rattle.apf_service.specs.declared.tally.Tally.{Tally}
-use Rattle.apf_service.specs.Tallies.{after_poll}
+use Rattle.apf_service.specs.Tallies.{Held, slots_of, after_poll}
 
--- the slots with their requests, the operators, the numbers, what each queue was given, up to which place the events of the queues were read, what requests are charged, and what the newest request of each slot asked
+-- the level, the numbers, what each queue was given, up to which place the events of the queues were read, what requests are charged, and what the newest request of each slot asked
 pub record State : Type 0 where
-  pub slots : List Token
-  pub operators : List StationToken
+  pub level : LocalView
   pub tally : Tally
   pub queues : List Given
   pub seen : ℕ
   pub charges : Charges
   pub asked : List Asked
 
--- these slots and operators, and what is kept beside them
-abbrev pub state_of : List Token → List StationToken → Notes → State
-state_of slots operators notes = record { slots = slots; operators = operators; tally = notes.tally; queues = notes.queues.items; seen = notes.seen; charges = notes.charges; asked = notes.asked.items }
+-- this level, and what is kept beside it
+abbrev pub state_of : LocalView → Notes → State
+state_of level notes = record { level = level; tally = notes.tally; queues = notes.queues.items; seen = notes.seen; charges = notes.charges; asked = notes.asked.items }
+
+-- what a slot holds that is not there
+abbrev pub no_slot : Held
+no_slot = record { place = places.Free; number = 0 }
 
 -- what the slot of this number holds
-abbrev pub slot_in : State → ℕ → Token
-slot_in s n = slice_index_or s.slots n tokens.Gone
+abbrev pub slot_in : State → ℕ → Held
+slot_in s n = slice_index_or (slots_of s.level) n no_slot
 
 -- the width of the request that holds a slot
-abbrev pub width_in : Token → ℕ
-width_in token = coded_width (number_in token)
+abbrev pub width_in : Held → ℕ
+width_in held = coded_width held.number
+
+-- who waits or executes is there, at its place
+abbrev pub is_there_at : Place → Bool
+is_there_at places.Free = false
+is_there_at places.Waits = true
+is_there_at places.Runs = true
 
 -- a request is there: it waits or executes
-abbrev pub is_there : Token → Bool
-is_there (tokens.Free pass) = false
-is_there (tokens.Waiting pass) = true
-is_there (tokens.Running pass) = true
-is_there tokens.Gone = false
+abbrev pub is_there : Held → Bool
+is_there held = is_there_at held.place
 
 -- a queue that was given nothing
 abbrev pub given_none : ℕ → Given
@@ -97,16 +104,22 @@ with_event charge (events.Full t q) given = given
 with_event charge (events.Dispatch t q) given = changed q (λ g. record g { waiting = g.waiting - 1; service = told (g.service + charge) }) given
 with_event charge (events.Strike t q) given = changed q (λ g. record g { waiting = g.waiting - 1 }) given
 
--- the request of the slot read its decision, if it waits, and is counted so
-pub record Polls (slot : ℕ) (old new : State) : Type 0 where
-  pub answer : Answer
-  pub token : Token
-  pub reads : ReadsDecision (slot_in old slot) answer token
-  pub after : new ≡ record old { slots = slice_set old.slots slot token; tally = after_poll (width_in token) answer old.tally }
+-- the same level, of which each history that it was of went on by Dispatches and Strikes alone
+pub record Continues (l l' : LocalView) : Type 0 where
+  pub same : SameLocal l l'
+  pub history : (v : LifeView) → IsLifeKept v l.owner.book → GoesOn v l'.owner.book
 
--- the request of an event is out of its queue, and read its decision; the level has no other slots
+-- the request of the slot, which waited, read its decision, and is counted by where it is now
+pub record Polls (slot : ℕ) (old new : State) : Type 0 where
+  pub place : Place
+  pub level : LocalView
+  pub reads : IsReading slot old.level place level
+  pub continues : Continues old.level level
+  pub after : new ≡ record old { level = level; tally = after_poll (width_in (slot_in old slot)) place old.tally }
+
+-- the request of an event is out of its queue, and read its decision; one that does not wait in its slot did before
 abbrev pub Leaves : ℕ → State → State → Type 0
-Leaves slot old new = (slot < length old.slots → Polls slot old new) × (nat_lt slot (length old.slots) ≡ false → new ≡ old)
+Leaves slot old new = ((slot_in old slot).place ≡ places.Waits → Polls slot old new) × ((slot_in old slot).place ≢ places.Waits → new ≡ old)
 
 -- what follows of one event: it is counted of its queue, and who left the queue read its decision
 abbrev pub Follows : LifeEvent → State → State → Type 0

@@ -1,14 +1,15 @@
 -- What a live level does with one line.
-use Rattle.std.specs.Prelude.{◌≡◌, ◌≢◌, ◌⊎◌, ℕ, ◌+◌, List, [], ◌++◌, length, take, nat_eq, if◌then◌else◌, Bool, false, Option, Some, None, IfSome, Result, Ok, Err}
+use Rattle.std.specs.Prelude.{◌≡◌, ◌≢◌, ◌⊎◌, ℕ, ◌-◌, ◌^◌, ◌<◌, List, [], ◌++◌, length, map, drop, reverse, max, nat_eq, if◌then◌else◌, Bool, false, Option, Some, None, IfSome, Result, Ok, Err}
 use Rattle.std.specs.List.{flat_map}
 use Rattle.apf_words.specs.Level.{Level}
 use Rattle.apf_files.specs.FirstFault.{◌>>=◌}
 use Rattle.apf_gate.specs.StationSteps.{StationLoadsLevel}
 use Rattle.apf_book.specs.declared.life_event.LifeEvent.{LifeEvent}
 use Rattle.apf_book.specs.declared.life_stats.LifeStats.{LifeStats}
-use Rattle.apf_book.specs.declared.notes.Copied.{Copied}
-use Rattle.apf_line.specs.Levels.{LifeId}
-use Rattle.apf_life.specs.Sections.{IsCopied, AreStatsOf}
+use Rattle.apf_book.specs.Life.{LifeView}
+use Rattle.apf_book.specs.LifeBook.{IsLifeKept, IsLived}
+use Rattle.apf_book.specs.Notes.{event_of, AreLifeStats}
+use Rattle.apf_local.specs.Levels.{LocalView}
 use Rattle.apf_run.specs.declared.totals.Totals.{Totals}
 use Rattle.apf_run.specs.Texts.{totals_text}
 use Rattle.apf_protocol.specs.declared.answer.Answer.{Answer as Told}
@@ -26,7 +27,7 @@ use Rattle.apf_protocol.specs.Faults.{IsFoundIn, fault_text}
 use Rattle.apf_protocol.specs.Texts.{answer_text, queue_text}
 use Rattle.apf_service.specs.declared.replies.Refusal.{Refusal}
 use Rattle.apf_service.specs.declared.tally.Tally.{Tally}
-use Rattle.apf_service.specs.Kept.{State, FollowsAll, is_there, slot_in, told}
+use Rattle.apf_service.specs.Kept.{State, FollowsAll, is_there, slot_in}
 use Rattle.apf_service.specs.Replies.{reply_text, moves_text}
 use Rattle.apf_service.specs.Turns.{Turns, OperatorDoes}
 use Rattle.apf_service.specs.Metrics.{metrics_text}
@@ -47,7 +48,7 @@ judged s w = unless_fault (there_fault (there_in s (request_in w.head)) w.head) 
 
 -- the words of a line for a level in this state, or its first fault
 unfoldable pub words_in : State → List ℕ → Result Words FaultKind
-words_in s line = form_of (length s.slots) line >>= judged s
+words_in s line = form_of (length s.level.places) line >>= judged s
 
 -- what a line commands, or its first fault
 unfoldable pub command_in : State → List ℕ → Result Command FaultKind
@@ -77,31 +78,32 @@ pub record Refuses (number : ℕ) (line : List ℕ) (old : State) (Writes : List
   pub told : IfSome (fault_text number kind found) Writes
   pub same : new ≡ old
 
--- these events of the level's queues were copied from this place on, and the next place is behind them
-pub record AreNewEvents (k : LifeId) (from : ℕ) (log : List LifeEvent) (next : ℕ) : Type 0 where
-  pub room : List LifeEvent
-  pub filled : List LifeEvent
-  pub copied : Copied
-  pub copies : IsCopied k from room copied filled
-  pub log_is : log ≡ take copied.count filled
-  pub next_is : next ≡ told (copied.from + length log)
+-- of a history these are the events from this place on, or from the oldest that is kept, and the next place is behind the newest
+pub record AreEventsFrom (from : ℕ) (kept : ℕ) (v : LifeView) (log : List LifeEvent) (next : ℕ) : Type 0 where
+  pub events : map event_of log ≡ drop (max from (length v.history - kept)) (reverse v.history)
+  pub next_is : next ≡ max from (length v.history)
+
+-- of each history that the level is of, of fewer than 2^64 events, these are the new events, as far as they are kept; and there is one (`lived`)
+pub record AreNewEvents (l : LocalView) (from : ℕ) (log : List LifeEvent) (next : ℕ) : Type 0 where
+  pub lived : IsLived l.owner.book
+  pub of_each : (v : LifeView) → IsLifeKept v l.owner.book → length v.history < 2 ^ 64 → AreEventsFrom from l.owner.book.notes.capacity v log next
 
 -- this is told as the answer to the line of this number, and then each event by which a request left a queue; and what follows of the events was done
-pub record Tells (k : LifeId) (number : ℕ) (reply : Result Told Refusal) (old : State) (Writes : List ℕ → Type 0) (new : State) : Type 0 where
+pub record Tells (number : ℕ) (reply : Result Told Refusal) (old : State) (Writes : List ℕ → Type 0) (new : State) : Type 0 where
   pub log : List LifeEvent
   pub next : ℕ
-  pub events : AreNewEvents k old.seen log next
+  pub events : AreNewEvents old.level old.seen log next
   pub follows : FollowsAll log (record old { seen = next }) new
   pub told : Writes (reply_text number reply ++ moves_text log)
 
 -- a command that changes something: the level's call was made, and what it answered is told
-pub record Changes (k : LifeId) (number : ℕ) (command : Command) (old : State) (Writes : List ℕ → Type 0) (new : State) : Type 0 where
+pub record Changes (number : ℕ) (command : Command) (old : State) (Writes : List ℕ → Type 0) (new : State) : Type 0 where
   pub reply : Result Told Refusal
   pub between : State
-  pub turns : Turns k command old reply between
-  pub tells : Tells k number reply between Writes new
+  pub turns : Turns command old reply between
+  pub tells : Tells number reply between Writes new
 
--- the book, by what the level's word says of its being closed, by the numbers, and by those of a history of its queues
+-- the book, by what the level's word says of its being closed, by the numbers, and by those of a history
 abbrev pub book_of : Level → Tally → LifeStats → Totals
 book_of word t stats =
     record {
@@ -115,12 +117,17 @@ book_of word t stats =
       struck = stats.struck;
     }
 
+-- these are the numbers of each history that the level is of, of fewer than 2^64 events; and there is one (`lived`)
+pub record AreStatsOf (l : LocalView) (stats : LifeStats) : Type 0 where
+  pub lived : IsLived l.owner.book
+  pub of_each : (v : LifeView) → IsLifeKept v l.owner.book → length v.history < 2 ^ 64 → AreLifeStats stats v.history
+
 -- the book is told
-pub record TellsBook (k : LifeId) (old : State) (Writes : List ℕ → Type 0) (new : State) : Type 0 where
+pub record TellsBook (old : State) (Writes : List ℕ → Type 0) (new : State) : Type 0 where
   pub word : Level
   pub stats : LifeStats
-  pub stats_are : AreStatsOf k stats
-  pub does : OperatorDoes (λ s s'. StationLoadsLevel s.station word s'.station) old new
+  pub does : OperatorDoes (λ s s'. StationLoadsLevel s word s') old new
+  pub stats_are : AreStatsOf new.level stats
   pub told : Writes (totals_text (book_of word old.tally stats))
 
 -- the line of a queue that a request ever entered
@@ -135,22 +142,22 @@ pub record TellsQueues (old : State) (Writes : List ℕ → Type 0) (new : State
 -- the numbers are told, with the limit that the level's word says
 pub record TellsMetrics (level : List ℕ) (old : State) (Writes : List ℕ → Type 0) (new : State) : Type 0 where
   pub word : Level
-  pub does : OperatorDoes (λ s s'. StationLoadsLevel s.station word s'.station) old new
+  pub does : OperatorDoes (λ s s'. StationLoadsLevel s word s') old new
   pub told : Writes (metrics_text level word.limit old.tally)
 
 -- the command was carried out
-abbrev pub Obeys : LifeId → (level : List ℕ) → (number : ℕ) → Command → State → (List ℕ → Type 0) → State → Type 0
-Obeys k level number commands.Book old Writes new = TellsBook k old Writes new
-Obeys k level number commands.Queues old Writes new = TellsQueues old Writes new
-Obeys k level number commands.Metrics old Writes new = TellsMetrics level old Writes new
-Obeys k level number command old Writes new = Changes k number command old Writes new
+abbrev pub Obeys : (level : List ℕ) → (number : ℕ) → Command → State → (List ℕ → Type 0) → State → Type 0
+Obeys level number commands.Book old Writes new = TellsBook old Writes new
+Obeys level number commands.Queues old Writes new = TellsQueues old Writes new
+Obeys level number commands.Metrics old Writes new = TellsMetrics level old Writes new
+Obeys level number command old Writes new = Changes number command old Writes new
 
 -- the line of this number commands this, and it was carried out
-pub record Carries (k : LifeId) (level : List ℕ) (number : ℕ) (line : List ℕ) (old : State) (Writes : List ℕ → Type 0) (new : State) : Type 0 where
+pub record Carries (level : List ℕ) (number : ℕ) (line : List ℕ) (old : State) (Writes : List ℕ → Type 0) (new : State) : Type 0 where
   pub command : Command
   pub commands : command_in old line ≡ Ok command
-  pub obeys : Obeys k level number command old Writes new
+  pub obeys : Obeys level number command old Writes new
 
 -- what a level of this name did with the line of this number, and what it answered
-abbrev pub Serves : LifeId → (level : List ℕ) → (number : ℕ) → (line : List ℕ) → State → (List ℕ → Type 0) → State → Type 0
-Serves k level number line old Writes new = Refuses number line old Writes new ⊎ Carries k level number line old Writes new
+abbrev pub Serves : (level : List ℕ) → (number : ℕ) → (line : List ℕ) → State → (List ℕ → Type 0) → State → Type 0
+Serves level number line old Writes new = Refuses number line old Writes new ⊎ Carries level number line old Writes new

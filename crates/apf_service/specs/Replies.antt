@@ -9,8 +9,8 @@ use Rattle.apf_gate.specs.declared.answers.Close.{Close}
 use Rattle.apf_gate.specs.declared.answers.Close.TheVariants as closes
 use Rattle.apf_book.specs.declared.life_event.LifeEvent.{LifeEvent}
 use Rattle.apf_book.specs.declared.life_event.LifeEvent.TheVariants as events
-use Rattle.apf_life_session.specs.declared.answer.Answer.{Answer}
-use Rattle.apf_life_session.specs.declared.answer.Answer.TheVariants as answers
+use Rattle.apf_local.specs.declared.answer.Answer.{Answer}
+use Rattle.apf_local.specs.declared.answer.Answer.TheVariants as answers
 use Rattle.apf_explain.specs.declared.place.Part.TheVariants.{Sent}
 use Rattle.apf_explain.specs.Lines.{place_text}
 use Rattle.apf_protocol.specs.declared.answer.Answer.{Answer as Told}
@@ -39,13 +39,13 @@ told_of_arrival n answer event = told_alone n answer
 -- an attempt
 abbrev pub told_of_attempt : ℕ → Answer → Result Told Refusal
 told_of_attempt n answers.Run = Ok (tell.Tries n (tried.Decided Execute))
-told_of_attempt n (answers.Tried decision waiting) = Ok (tell.Tries n (tried.Decided decision))
+told_of_attempt n (answers.Over decision) = Ok (tell.Tries n (tried.Decided decision))
 told_of_attempt n answers.Busy = Ok (tell.Tries n tried.Busy)
 told_of_attempt n answer = Err (UsedUp n)
 
 -- a finish
 abbrev pub told_of_finish : ℕ → Answer → Result Told Refusal
-told_of_finish n (answers.Released waiting) = Ok (tell.Finishes n)
+told_of_finish n answers.Released = Ok (tell.Finishes n)
 told_of_finish n answer = Ok (tell.NotRunning n)
 
 -- a cancel; where another request holds the slot, its own is not there

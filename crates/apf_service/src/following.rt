@@ -1,50 +1,49 @@
 //! What follows of the events of the queues: who left a queue reads its decision, and is counted so.
 
-ghost use Rattle.std.specs.Prelude.{◌≡◌, ◌+◌, ◌^◌, ◌<◌, ◌≤◌, length};
-ghost use Rattle.apf_words.specs.Limits.{max_requests};
-ghost use Rattle.apf_life_session.specs.Requests.{SaysWhere};
-ghost use Rattle.apf_service.specs.Tallies.{IsTallyOf, decided_in, after_poll as after_answer};
+ghost use Rattle.std.specs.Prelude.{◌≡◌, ◌≢◌, ◌+◌, ◌^◌, ◌<◌, ◌≤◌, length};
+ghost use Rattle.apf_local.specs.declared.answer.Place.TheVariants as places;
+ghost use Rattle.apf_service.specs.Tallies.{IsTallied, decided_in, after_poll as after_place};
 ghost use Rattle.apf_service.specs.Kept.{state_of, charged_by, Leaves, Follows, FollowsAll};
 
 use crate::notes::Notes;
 use crate::queues::{count, width_of};
 use crate::tally::Tally;
 use apf_book::LifeEvent;
-use apf_life::Naming;
-use apf_life_session::{Answer, Session};
-use std::sync::Wait;
+use apf_local::{LocalLevel, Place};
+use apf_words::Decision;
 
-// Counts that a request of this width, which waited, read its decision.
-fn after_poll(tally: Tally, width: u32, answer: Answer) -> Tally
+// Counts that a request of this width, which waited, read its decision: where it is now. One that is over was cancelled.
+fn after_poll(tally: Tally, width: u32, place: Place) -> Tally
     requires few { decided_in tally.counts < 2 ^ 63 }
     requires running { tally.running < 2 ^ 31 }
     requires seats { tally.seats + width < 2 ^ 32 }
-    requires waiting { SaysWhere answer → 1 ≤ tally.waiting }
-    ensures { result ≡ after_answer width answer tally }
+    requires waiting { 1 ≤ tally.waiting }
+    ensures { result ≡ after_place width place tally }
 {
-    match answer {
-        Answer::Run => tally.leave().start(width),
-        Answer::Over(decision) => tally.leave().end(decision),
-        _ => tally,
+    match place {
+        Place::Runs => tally.leave().start(width),
+        Place::Free => tally.leave().end(Decision::Cancelled),
+        Place::Waits => tally,
     }
 }
 
 // The request of this slot reads its decision, if it waits, and is counted so.
-#[tactic(auto, using(crate::proofs::Keeps::poll_keeps))]
-fn leave<K: Naming, R: Wait>(rt: &R, session: &mut Session<K>, notes: &mut Notes, slot: u32)
-    requires few { length session.old.slots.items ≤ max_requests }
-    requires tally { IsTallyOf session.old.slots.items notes.old.tally }
-    ensures tally { IsTallyOf session.new.slots.items notes.new.tally }
-    ensures count { length session.new.slots.items ≡ length session.old.slots.items }
+fn leave(level: &mut LocalLevel, notes: &mut Notes, slot: u32)
+    requires tallied { IsTallied level.old notes.old.tally }
+    ensures tallied { IsTallied level.new notes.new.tally }
+    ensures count { length level.new.places ≡ length level.old.places }
     ensures seen { notes.new.seen ≡ notes.old.seen }
-    ensures leaves { Leaves slot (state_of session.old.slots.items session.old.operators.items notes.old) (state_of session.new.slots.items session.new.operators.items notes.new) }
+    ensures leaves { Leaves slot (state_of level.old notes.old) (state_of level.new notes.new) }
 {
-    let Some(request) = session.slots.get_mut(slot as usize) else {
+    if slot as usize >= level.slots() {
         return;
-    };
-    let answer = request.poll(rt, &session.level);
-    let width = width_of(request.ticket());
-    notes.tally = after_poll(notes.tally, width, answer);
+    }
+    if level.held(slot as usize) != Place::Waits {
+        return;
+    }
+    let width = width_of(level.ticket(slot as usize));
+    let place = level.place(slot as usize);
+    notes.tally = after_poll(notes.tally, width, place);
 }
 
 // What a queue is charged by the event.
@@ -62,39 +61,32 @@ fn charge(notes: &Notes, event: LifeEvent) -> u32
 }
 
 // What follows of one event.
-fn follow<K: Naming, R: Wait>(rt: &R, session: &mut Session<K>, notes: &mut Notes, event: LifeEvent)
-    requires few { length session.old.slots.items ≤ max_requests }
-    requires tally { IsTallyOf session.old.slots.items notes.old.tally }
-    ensures tally { IsTallyOf session.new.slots.items notes.new.tally }
-    ensures count { length session.new.slots.items ≡ length session.old.slots.items }
+fn follow(level: &mut LocalLevel, notes: &mut Notes, event: LifeEvent)
+    requires tallied { IsTallied level.old notes.old.tally }
+    ensures tallied { IsTallied level.new notes.new.tally }
+    ensures count { length level.new.places ≡ length level.old.places }
     ensures seen { notes.new.seen ≡ notes.old.seen }
-    ensures follows { Follows event (state_of session.old.slots.items session.old.operators.items notes.old) (state_of session.new.slots.items session.new.operators.items notes.new) }
+    ensures follows { Follows event (state_of level.old notes.old) (state_of level.new notes.new) }
 {
     let charge = charge(notes, event);
     count(notes.queues.as_mut_slice(), event, charge);
     match event {
         LifeEvent::Enter(..) | LifeEvent::Full(..) => {}
         LifeEvent::Dispatch(request, _) | LifeEvent::Strike(request, _) => {
-            leave(rt, session, notes, request.slot());
+            leave(level, notes, request.slot());
         }
     }
 }
 
 /// What follows of these events, the oldest first.
-pub fn follow_all<K: Naming, R: Wait>(
-    rt: &R,
-    session: &mut Session<K>,
-    notes: &mut Notes,
-    log: &[LifeEvent],
-)
-    requires few { length session.old.slots.items ≤ max_requests }
-    requires tally { IsTallyOf session.old.slots.items notes.old.tally }
-    ensures tally { IsTallyOf session.new.slots.items notes.new.tally }
-    ensures count { length session.new.slots.items ≡ length session.old.slots.items }
+pub fn follow_all(level: &mut LocalLevel, notes: &mut Notes, log: &[LifeEvent])
+    requires tallied { IsTallied level.old notes.old.tally }
+    ensures tallied { IsTallied level.new notes.new.tally }
+    ensures count { length level.new.places ≡ length level.old.places }
     ensures seen { notes.new.seen ≡ notes.old.seen }
-    ensures follows { FollowsAll log.now (state_of session.old.slots.items session.old.operators.items notes.old) (state_of session.new.slots.items session.new.operators.items notes.new) }
+    ensures follows { FollowsAll log.now (state_of level.old notes.old) (state_of level.new notes.new) }
 {
     for event in log {
-        follow(rt, session, notes, *event);
+        follow(level, notes, *event);
     }
 }

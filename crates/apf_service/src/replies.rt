@@ -7,7 +7,7 @@ ghost use Rattle.apf_service.specs.Replies.{told_alone, told_of_arrival, told_of
 use crate::moves::write_moves;
 use apf_book::LifeEvent;
 use apf_gate::{Cancel, Close};
-use apf_life_session::Answer;
+use apf_local::Answer;
 use apf_protocol::{Answer as Told, Arrived, FaultKind, LineFault, Tried};
 use apf_words::Decision;
 use std::io;
@@ -64,7 +64,7 @@ pub fn of_attempt(slot: u32, answer: Answer) -> Result<Told, Refusal>
 {
     match answer {
         Answer::Run => Ok(Told::Tries(slot, Tried::Decided(Decision::Execute))),
-        Answer::Tried(decision, _) => Ok(Told::Tries(slot, Tried::Decided(decision))),
+        Answer::Over(decision) => Ok(Told::Tries(slot, Tried::Decided(decision))),
         Answer::Busy => Ok(Told::Tries(slot, Tried::Busy)),
         _ => Err(Refusal::UsedUp(slot)),
     }
@@ -75,7 +75,7 @@ pub fn of_finish(slot: u32, answer: Answer) -> Result<Told, Refusal>
     ensures { result ≡ told_of_finish slot answer }
 {
     match answer {
-        Answer::Released(_) => Ok(Told::Finishes(slot)),
+        Answer::Released => Ok(Told::Finishes(slot)),
         _ => Ok(Told::NotRunning(slot)),
     }
 }

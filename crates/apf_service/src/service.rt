@@ -1,21 +1,19 @@
 //! A level with its slots, which takes one line of the protocol after another.
 
-ghost use Rattle.std.specs.Prelude.{◌≡◌, ℕ, ◌+◌, ◌^◌, ◌<◌, ◌≤◌, List, ◌++◌, length, string_bytes, replicate, take, IfOk, IfErr, OnOk, Ok, Err};
+ghost use Rattle.std.specs.Prelude.{◌≡◌, ◌≤◌, ◌*◌, ◌++◌, length, string_bytes, replicate, take, IfOk, IfErr, OnOk, Ok, Err};
 ghost use Rattle.std.specs.List.{flat_map};
 ghost use Rattle.std.specs.Io.KnownBytes.{Appends};
-ghost use Rattle.apf_words.specs.Limits.{max_requests};
-ghost use Rattle.apf_life_session.specs.Openings.{level_of, IsOpenFault};
-ghost use Rattle.apf_life_session.specs.Requests.{AreFree};
+ghost use Rattle.apf_local.specs.Openings.{IsOpened, IsOpenFault};
 ghost use Rattle.apf_protocol.specs.declared.answer.Answer.TheVariants.{End};
 ghost use Rattle.apf_protocol.specs.Lines.{words as words_of, request_in, IsHeadInRange};
 ghost use Rattle.apf_protocol.specs.Commands.{IsCommandInRange};
 ghost use Rattle.apf_protocol.specs.Texts.{answer_text};
-ghost use Rattle.apf_service.specs.Tallies.{IsTallyOf, no_tally};
+ghost use Rattle.apf_service.specs.Tallies.{slots_of, IsTallyOf, IsTallied, no_tally};
 ghost use Rattle.apf_service.specs.Kept.{state_of, slot_in, is_there as there, none_given, queues_of, none_asked, FollowsAll};
 ghost use Rattle.apf_charges.specs.Charging.{opening_charges};
 ghost use Rattle.apf_service.specs.Lines.{there_in, words_in, command_in, IsFaultOf, AreNewEvents, Tells, TellsBook, TellsMetrics, Obeys, Serves, given_text};
 
-use crate::acting::{arrive, attempt, cancel, close, finish, look, set_limit};
+use crate::acting::{arrive, attempt, cancel, close, finish, set_limit};
 use crate::following::follow_all;
 use crate::metrics::write_metrics;
 use crate::notes::{Asked, Notes};
@@ -25,29 +23,27 @@ use crate::tally::Tally;
 use apf_book::LifeEvent;
 use apf_charges::{ChargedBy, Charges};
 use apf_gate::Ticket;
-use apf_life::{Naming, Report};
-use apf_life_session::{OpenFault, Opening, Place, Session};
+use apf_local::{LocalLevel, OpenFault, Place};
 use apf_model::{Config, Response};
 use apf_protocol::{
     Answer as Told, Command, FaultKind, FirstLine, Form, Given, Head, LineFault, read_command,
     read_form,
 };
 use apf_run::Totals;
-use std::alloc::{AllocError, Global};
+use std::alloc::Global;
 use std::io;
 use std::io::Write;
-use std::sync::Wait;
 
-/// A level with its slots. A request's number in the protocol is its slot's. It must be ended.
-pub struct Service<K: Naming> {
-    session: Session<K>,
+/// A level with its slots. A request's number in the protocol is its slot's.
+#[derive(Drop)]
+pub struct Service {
+    level: LocalLevel,
     notes: Notes,
     room: Vec<LifeEvent>,
     config: Config,
     name: String,
-    ghost one_operator: { K.level.gate.shape.stations ≡ 1 },
-    ghost few_slots: { length session.slots.items ≤ max_requests },
-    ghost tallied: { IsTallyOf session.slots.items notes.tally },
+    ghost tallied: { IsTallied level notes.tally },
+    ghost room_for_new: { length room.items ≡ 2 * length level.places },
 }
 
 // Writes the line of a queue, if a request ever entered it.
@@ -71,32 +67,28 @@ fn write_queues<W: Write>(out: &mut W, queues: &[Given]) -> io::Result<()>
     Told::End.write(out)
 }
 
-impl<K: Naming> Service<K> {
-    /// The level of this opening, under a name that its metrics have, and charged so. All memory of the level is taken here.
+impl Service {
+    /// A level with these settings and so many slots, at most 10,000, under a name that its metrics have, and charged so.
+    /// All memory of the level is taken here.
     ///
     /// # Errors
     ///
-    /// The first of these: the dealer's fault and the queues', in `OpenFault::Level`. `NoMemory` whenever memory was
-    /// refused. Then everything is given up.
-    pub fn open<R: Wait>(
-        rt: &R,
+    /// The first of these: the gate's fault, the dealer's and the queues'. `NoMemory` whenever memory was refused.
+    pub fn open(
         alloc: Global,
-        opening: Opening,
+        config: &Config,
+        slots: u32,
         name: String,
         by: ChargedBy,
-    ) -> Result<Service<K>, OpenFault>
-        requires level { K.level ≡ level_of opening.gate opening.config }
-        requires one { opening.gate.shape.stations ≡ 1 }
-        ensures slots { IfOk result (λ s. length s.session.slots.items ≡ opening.gate.shape.slots) }
-        ensures free { IfOk result (λ s. AreFree s.session.slots.items) }
-        ensures operators { IfOk result (λ s. s.session.operators.items ≡ opening.stations.items) }
-        ensures none { IfOk result (λ s. (s.notes.tally ≡ no_tally) × (s.notes.queues.items ≡ none_given (queues_of opening.config)) × (s.notes.seen ≡ 0)) }
-        ensures charged { IfOk result (λ s. (s.notes.charges ≡ opening_charges by) × (s.notes.asked.items ≡ replicate opening.gate.shape.slots none_asked)) }
-        ensures config { IfOk result (λ s. s.config ≡ opening.config) }
+    ) -> Result<Service, OpenFault>
+        ensures opened { IfOk result (λ s. IsOpened config.now slots s.level) }
+        ensures none { IfOk result (λ s. (s.notes.tally ≡ no_tally) × (s.notes.queues.items ≡ none_given (queues_of config.now)) × (s.notes.seen ≡ 0)) }
+        ensures charged { IfOk result (λ s. (s.notes.charges ≡ opening_charges by) × (s.notes.asked.items ≡ replicate slots none_asked)) }
+        ensures config { IfOk result (λ s. s.config ≡ config.now) }
         ensures name { IfOk result (λ s. s.name ≡ name) }
-        ensures fault { IfErr result (IsOpenFault opening.config opening.gate.shape.slots opening.gate.shape.stations) }
+        ensures fault { IfErr result (IsOpenFault config.now slots) }
     {
-        let config = opening.config;
+        let level = LocalLevel::open(alloc, config, slots)?;
         let queues = match config.limit_response {
             Response::Queue => config.queues,
             Response::Reject => 0,
@@ -106,26 +98,25 @@ impl<K: Naming> Service<K> {
             queues: no_queues(alloc, queues)?,
             seen: 0,
             charges: Charges::new(alloc, by)?,
-            asked: vec![in alloc; Asked { flow: 0, cost: 0 }; opening.passes.len()]?,
+            asked: vec![in alloc; Asked { flow: 0, cost: 0 }; slots as usize]?,
         };
         let no_event = LifeEvent::Enter(Ticket::of(0), 0);
-        let room = vec![in alloc; no_event; 2 * opening.passes.len()]?;
-        let session = Session::open_for_life(rt, alloc, opening)?;
+        let room = vec![in alloc; no_event; 2 * slots as usize]?;
         Ok(Service {
-            session,
+            level,
             notes,
             room,
-            config,
+            config: *config,
             name,
         })
     }
 
     /// The line that tells how the level was opened.
     pub fn first_line(&self) -> FirstLine
-        ensures { result ≡ record { slots = length self.now.session.slots.items; config = self.now.config } }
+        ensures { result ≡ record { slots = length self.now.level.places; config = self.now.config } }
     {
         FirstLine {
-            slots: self.session.slots.len() as u32,
+            slots: self.level.slots() as u32,
             config: self.config,
         }
     }
@@ -133,24 +124,21 @@ impl<K: Naming> Service<K> {
     /// The numbers: who waits, who executes, and what was decided.
     pub fn tally(&self) -> Tally
         ensures numbers { result ≡ self.now.notes.tally }
-        ensures add_up { IsTallyOf self.now.session.slots.items result }
+        ensures add_up { IsTallyOf (slots_of self.now.level) result }
     {
         self.notes.tally
     }
 
     // Whether a request is there under the number.
     fn is_there(&self, slot: u32) -> bool
-        ensures { result ≡ there (slot_in (state_of self.now.session.slots.items self.now.session.operators.items self.now.notes) slot) }
+        ensures { result ≡ there (slot_in (state_of self.now.level self.now.notes) slot) }
     {
-        match self.session.slots.get(slot as usize) {
-            Some(request) => request.place() != Place::Free,
-            None => false,
-        }
+        (slot as usize) < self.level.slots() && self.level.held(slot as usize) != Place::Free
     }
 
     // Whether a request is there under the number that the words name.
     fn is_there_under(&self, head: Head) -> bool
-        ensures { result ≡ there_in (state_of self.now.session.slots.items self.now.session.operators.items self.now.notes) (request_in head) }
+        ensures { result ≡ there_in (state_of self.now.level self.now.notes) (request_in head) }
     {
         match head.number() {
             Some(slot) => self.is_there(slot),
@@ -161,11 +149,11 @@ impl<K: Naming> Service<K> {
     // The words of the line, if it is not wrong that a request is there under their number, or that none is.
     #[tactic(auto, unfolding(crate::specs::Lines::words_in))]
     fn words<'b>(&self, line: &'b [u8]) -> Result<Form<'b>, FaultKind>
-        ensures ok { IfOk result (λ form. words_in (state_of self.now.session.slots.items self.now.session.operators.items self.now.notes) line.now ≡ Ok (words_of form)) }
-        ensures ranges { IfOk result (λ form. IsHeadInRange (length self.now.session.slots.items) form.head) }
-        ensures err { IfErr result (λ kind. words_in (state_of self.now.session.slots.items self.now.session.operators.items self.now.notes) line.now ≡ Err kind) }
+        ensures ok { IfOk result (λ form. words_in (state_of self.now.level self.now.notes) line.now ≡ Ok (words_of form)) }
+        ensures ranges { IfOk result (λ form. IsHeadInRange (length self.now.level.places) form.head) }
+        ensures err { IfErr result (λ kind. words_in (state_of self.now.level self.now.notes) line.now ≡ Err kind) }
     {
-        let form = read_form(line, self.session.slots.len() as u32)?;
+        let form = read_form(line, self.level.slots() as u32)?;
         match form.head.there_fault(self.is_there_under(form.head)) {
             Some(kind) => Err(kind),
             None => Ok(form),
@@ -174,9 +162,9 @@ impl<K: Naming> Service<K> {
 
     // What the line commands.
     fn read(&self, alloc: Global, line: &[u8]) -> Result<Command, LineFault>
-        ensures ok { IfOk result (λ c. command_in (state_of self.now.session.slots.items self.now.session.operators.items self.now.notes) line.now ≡ Ok c) }
-        ensures ranges { IfOk result (IsCommandInRange (length self.now.session.slots.items)) }
-        ensures err { IfErr result (λ f. IsFaultOf (state_of self.now.session.slots.items self.now.session.operators.items self.now.notes) line.now f.kind f.found) }
+        ensures ok { IfOk result (λ c. command_in (state_of self.now.level self.now.notes) line.now ≡ Ok c) }
+        ensures ranges { IfOk result (IsCommandInRange (length self.now.level.places)) }
+        ensures err { IfErr result (λ f. IsFaultOf (state_of self.now.level self.now.notes) line.now f.kind f.found) }
     {
         match self.words(line) {
             Ok(form) => read_command(alloc, form),
@@ -185,36 +173,32 @@ impl<K: Naming> Service<K> {
     }
 
     // Reads what the log gained, and does what follows. Tells how many events these are, which stand in `room`.
-    fn follow<R: Wait>(&mut self, rt: &R) -> usize
+    fn follow(&mut self) -> usize
         ensures inside { result ≤ length self.new.room.items }
-        ensures events { AreNewEvents K.level self.old.notes.seen (take result self.new.room.items) self.new.notes.seen }
-        ensures follows { FollowsAll (take result self.new.room.items) (record (state_of self.old.session.slots.items self.old.session.operators.items self.old.notes) { seen = self.new.notes.seen }) (state_of self.new.session.slots.items self.new.session.operators.items self.new.notes) }
-        ensures same { (self.new.config ≡ self.old.config) × (self.new.name ≡ self.old.name) × (length self.new.session.slots.items ≡ length self.old.session.slots.items) }
+        ensures events { AreNewEvents self.old.level self.old.notes.seen (take result self.new.room.items) self.new.notes.seen }
+        ensures follows { FollowsAll (take result self.new.room.items) (record (state_of self.old.level self.old.notes) { seen = self.new.notes.seen }) (state_of self.new.level self.new.notes) }
+        ensures same { (self.new.config ≡ self.old.config) × (self.new.name ≡ self.old.name) × (length self.new.level.places ≡ length self.old.level.places) }
     {
+        self.level.has_a_history();
         let room = self.room.as_mut_slice();
-        let copied = self
-            .session
-            .level
-            .lock(rt)
-            .copy_events(self.notes.seen, room);
+        let copied = self.level.copy_events(self.notes.seen, room);
         let count = copied.count.min(self.room.len());
         self.notes.seen = copied.from.saturating_add(count as u64);
-        follow_all(rt, &mut self.session, &mut self.notes, &self.room[..count]);
+        follow_all(&mut self.level, &mut self.notes, &self.room[..count]);
         count
     }
 
     // Answers a command that changed something, and tells who left a queue since.
-    fn tell<R: Wait, W: Write>(
+    fn tell<W: Write>(
         &mut self,
-        rt: &R,
         line: u64,
         reply: Result<Told, Refusal>,
         out: &mut W,
     ) -> io::Result<()>
-        ensures same { (self.new.config ≡ self.old.config) × (self.new.name ≡ self.old.name) × (length self.new.session.slots.items ≡ length self.old.session.slots.items) }
-        ensures told { OnOk result (Tells K.level line reply (state_of self.old.session.slots.items self.old.session.operators.items self.old.notes) (Appends (W.contents out.old) (W.contents out.new)) (state_of self.new.session.slots.items self.new.session.operators.items self.new.notes)) }
+        ensures same { (self.new.config ≡ self.old.config) × (self.new.name ≡ self.old.name) × (length self.new.level.places ≡ length self.old.level.places) }
+        ensures told { OnOk result (Tells line reply (state_of self.old.level self.old.notes) (Appends (W.contents out.old) (W.contents out.new)) (state_of self.new.level self.new.notes)) }
     {
-        let count = self.follow(rt);
+        let count = self.follow();
         write_told(out, line, reply, &self.room[..count])
     }
 
@@ -223,12 +207,13 @@ impl<K: Naming> Service<K> {
     /// # Errors
     ///
     /// The writer's. Then nothing is known of how much was written.
-    pub fn write_book<R: Wait, W: Write>(&mut self, rt: &R, out: &mut W) -> io::Result<()>
-        ensures same { (self.new.config ≡ self.old.config) × (self.new.name ≡ self.old.name) × (length self.new.session.slots.items ≡ length self.old.session.slots.items) }
-        ensures told { OnOk result (TellsBook K.level (state_of self.old.session.slots.items self.old.session.operators.items self.old.notes) (Appends (W.contents out.old) (W.contents out.new)) (state_of self.new.session.slots.items self.new.session.operators.items self.new.notes)) }
+    pub fn write_book<W: Write>(&mut self, out: &mut W) -> io::Result<()>
+        ensures same { (self.new.config ≡ self.old.config) × (self.new.name ≡ self.old.name) × (length self.new.level.places ≡ length self.old.level.places) }
+        ensures told { OnOk result (TellsBook (state_of self.old.level self.old.notes) (Appends (W.contents out.old) (W.contents out.new)) (state_of self.new.level self.new.notes)) }
     {
-        let word = look(&mut self.session);
-        let stats = self.session.level.lock(rt).stats();
+        let word = self.level.look();
+        self.level.has_a_history();
+        let stats = self.level.stats();
         let Tally {
             counts,
             waiting,
@@ -250,43 +235,35 @@ impl<K: Naming> Service<K> {
 
     // Writes the numbers for Prometheus.
     fn write_metrics<W: Write>(&mut self, out: &mut W) -> io::Result<()>
-        ensures same { (self.new.config ≡ self.old.config) × (self.new.name ≡ self.old.name) × (length self.new.session.slots.items ≡ length self.old.session.slots.items) }
-        ensures told { OnOk result (TellsMetrics (string_bytes self.old.name) (state_of self.old.session.slots.items self.old.session.operators.items self.old.notes) (Appends (W.contents out.old) (W.contents out.new)) (state_of self.new.session.slots.items self.new.session.operators.items self.new.notes)) }
+        ensures same { (self.new.config ≡ self.old.config) × (self.new.name ≡ self.old.name) × (length self.new.level.places ≡ length self.old.level.places) }
+        ensures told { OnOk result (TellsMetrics (string_bytes self.old.name) (state_of self.old.level self.old.notes) (Appends (W.contents out.old) (W.contents out.new)) (state_of self.new.level self.new.notes)) }
     {
-        let word = look(&mut self.session);
+        let word = self.level.look();
         write_metrics(out, self.name.as_str(), word.limit(), self.notes.tally)
     }
 
     // Carries out what the line of this number commands.
-    fn obey<R: Wait, W: Write>(
-        &mut self,
-        rt: &R,
-        line: u64,
-        command: Command,
-        out: &mut W,
-    ) -> io::Result<()>
-        requires range { IsCommandInRange (length self.old.session.slots.items) command }
-        ensures same { (self.new.config ≡ self.old.config) × (self.new.name ≡ self.old.name) × (length self.new.session.slots.items ≡ length self.old.session.slots.items) }
-        ensures told { OnOk result (Obeys K.level (string_bytes self.old.name) line command (state_of self.old.session.slots.items self.old.session.operators.items self.old.notes) (Appends (W.contents out.old) (W.contents out.new)) (state_of self.new.session.slots.items self.new.session.operators.items self.new.notes)) }
+    fn obey<W: Write>(&mut self, line: u64, command: Command, out: &mut W) -> io::Result<()>
+        requires range { IsCommandInRange (length self.old.level.places) command }
+        ensures same { (self.new.config ≡ self.old.config) × (self.new.name ≡ self.old.name) × (length self.new.level.places ≡ length self.old.level.places) }
+        ensures told { OnOk result (Obeys (string_bytes self.old.name) line command (state_of self.old.level self.old.notes) (Appends (W.contents out.old) (W.contents out.new)) (state_of self.new.level self.new.notes)) }
     {
         let reply = match command {
             Command::Arrive(slot, arrival) => {
-                arrive(rt, &mut self.session, &mut self.notes, slot, arrival)
+                arrive(&mut self.level, &mut self.notes, slot, arrival)
             }
             Command::Try(slot, arrival) => {
-                attempt(rt, &mut self.session, &mut self.notes, slot, arrival)
+                attempt(&mut self.level, &mut self.notes, slot, arrival)
             }
-            Command::Finish(slot, ran) => {
-                finish(rt, &mut self.session, &mut self.notes, slot, ran)
-            }
-            Command::Cancel(slot) => cancel(rt, &mut self.session, &self.notes, slot),
-            Command::Limit(limit) => set_limit(rt, &mut self.session, &self.notes, limit),
-            Command::Close => close(&mut self.session, &self.notes),
-            Command::Book => return self.write_book(rt, out),
+            Command::Finish(slot, ran) => finish(&mut self.level, &mut self.notes, slot, ran),
+            Command::Cancel(slot) => cancel(&mut self.level, &self.notes, slot),
+            Command::Limit(limit) => set_limit(&mut self.level, &self.notes, limit),
+            Command::Close => close(&mut self.level, &self.notes),
+            Command::Book => return self.write_book(out),
             Command::Queues => return write_queues(out, self.notes.queues.as_slice()),
             Command::Metrics => return self.write_metrics(out),
         };
-        self.tell(rt, line, reply, out)
+        self.tell(line, reply, out)
     }
 
     /// Takes the line of this number, whose bytes come without its LF: carries it out and writes the answer, or writes
@@ -296,36 +273,19 @@ impl<K: Naming> Service<K> {
     /// # Errors
     ///
     /// The writer's. Then nothing is known of how much was written; the line was carried out.
-    pub fn take_line<R: Wait, W: Write>(
+    pub fn take_line<W: Write>(
         &mut self,
-        rt: &R,
         alloc: Global,
         number: u64,
         line: &[u8],
         out: &mut W,
     ) -> io::Result<()>
-        ensures same { (self.new.config ≡ self.old.config) × (self.new.name ≡ self.old.name) × (length self.new.session.slots.items ≡ length self.old.session.slots.items) }
-        ensures served { OnOk result (Serves K.level (string_bytes self.old.name) number line.now (state_of self.old.session.slots.items self.old.session.operators.items self.old.notes) (Appends (W.contents out.old) (W.contents out.new)) (state_of self.new.session.slots.items self.new.session.operators.items self.new.notes)) }
+        ensures same { (self.new.config ≡ self.old.config) × (self.new.name ≡ self.old.name) × (length self.new.level.places ≡ length self.old.level.places) }
+        ensures served { OnOk result (Serves (string_bytes self.old.name) number line.now (state_of self.old.level self.old.notes) (Appends (W.contents out.old) (W.contents out.new)) (state_of self.new.level self.new.notes)) }
     {
         match self.read(alloc, line) {
-            Ok(command) => self.obey(rt, number, command, out),
+            Ok(command) => self.obey(number, command, out),
             Err(fault) => fault.write(out, number),
         }
-    }
-
-    /// Ends the level: who waits is cancelled, and who executes gives its seats back.
-    ///
-    /// # Errors
-    ///
-    /// `AllocError` if memory was refused. Then everything is given up.
-    pub fn end<R: Wait>(self, rt: &R, alloc: Global) -> Result<Report, AllocError> {
-        let Service {
-            session,
-            notes: _,
-            room: _,
-            config: _,
-            name: _,
-        } = self;
-        session.end(rt, alloc)
     }
 }

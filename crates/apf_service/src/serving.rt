@@ -3,20 +3,16 @@
 ghost use Rattle.std.specs.Prelude.{◌≡◌, IfErr};
 ghost use Rattle.apf_service.specs.declared.serving.ServeFault.TheVariants.{NoMemory, CannotRead, CannotWrite};
 ghost use Rattle.apf_service.specs.Faults.{told_of_open, IsServeFault, IsPipeFault};
-ghost use Rattle.apf_life_session.specs.Openings.{level_of};
 
 use crate::lines::{Cut, Lines};
 use crate::service::Service;
 use apf_charges::ChargedBy;
-use apf_life::Naming;
-use apf_life_session::{OpenFault, Opening};
+use apf_local::OpenFault;
 use apf_model::Config;
 use apf_protocol::{FaultKind, LineFault};
 use std::alloc::{AllocError, Global};
 use std::io;
 use std::io::{Read, Write};
-use std::marker::Brand;
-use std::sync::Wait;
 use thiserror::Error;
 
 /// Why a level was not served to the end of its input.
@@ -68,7 +64,7 @@ fn cannot_write(_error: io::Error) -> ServeFault
 }
 
 /// Opens a level with so many slots, 1 to 10,000, whose requests are charged so, and carries out the lines of the input, in one thread, to its end. At
-/// the end the book is written, and then the level is ended, of which nothing is told. What was answered is handed to the
+/// the end the book is written, and the level is given up with all who are there still. What was answered is handed to the
 /// system before the input is read again.
 ///
 /// All memory of the level is taken before the first line is written. Reading an arrival's object may ask for memory, and
@@ -77,8 +73,7 @@ fn cannot_write(_error: io::Error) -> ServeFault
 /// # Errors
 ///
 /// `Open` and `NoMemory` before the first line is written. `CannotRead`, `CannotWrite` if the input or the output fails.
-pub fn serve<R: Wait, I: Read, O: Write>(
-    rt: &R,
+pub fn serve<I: Read, O: Write>(
     alloc: Global,
     config: &Config,
     slots: u32,
@@ -90,36 +85,15 @@ pub fn serve<R: Wait, I: Read, O: Write>(
     ensures fault { IfErr result (IsServeFault config.now slots) }
 {
     let name = String::from_str(alloc, name)?;
-    let opening = Opening::new(alloc, config, slots, 1)?;
-    serve_named::<Brand, R, I, O>(rt, alloc, opening, name, by, input, out)
-}
-
-fn serve_named<K: Naming, R: Wait, I: Read, O: Write>(
-    rt: &R,
-    alloc: Global,
-    opening: Opening,
-    name: String,
-    by: ChargedBy,
-    input: &mut I,
-    out: &mut O,
-) -> Result<(), ServeFault>
-    requires level { K.level ≡ level_of opening.gate opening.config }
-    requires one { opening.gate.shape.stations ≡ 1 }
-    ensures fault { IfErr result (IsServeFault opening.config opening.gate.shape.slots) }
-{
+    let mut service = Service::open(alloc, config, slots, name, by)?;
     let mut lines = Lines::new(alloc)?;
-    let mut service = Service::<K>::open(rt, alloc, opening, name, by)?;
-    let answered = answer_all(rt, alloc, &mut service, &mut lines, input, out);
-    // what the end could tell, the book told before it: memory that is refused for its report takes nothing from anybody
-    let _ = service.end(rt, alloc);
-    answered
+    answer_all(alloc, &mut service, &mut lines, input, out)
 }
 
 // Writes the first line, answers each line of the input, and writes the book.
-fn answer_all<K: Naming, R: Wait, I: Read, O: Write>(
-    rt: &R,
+fn answer_all<I: Read, O: Write>(
     alloc: Global,
-    service: &mut Service<K>,
+    service: &mut Service,
     lines: &mut Lines,
     input: &mut I,
     out: &mut O,
@@ -127,21 +101,20 @@ fn answer_all<K: Naming, R: Wait, I: Read, O: Write>(
     ensures fault { IfErr result IsPipeFault }
 {
     service.first_line().write(out).map_err(cannot_write)?;
-    let number = answer_lines(rt, alloc, service, lines, input, out)?;
+    let number = answer_lines(alloc, service, lines, input, out)?;
     if lines.has_rest() {
         LineFault::from(FaultKind::Truncated)
             .write(out, number.saturating_add(1))
             .map_err(cannot_write)?;
     }
-    service.write_book(rt, out).map_err(cannot_write)?;
+    service.write_book(out).map_err(cannot_write)?;
     out.flush().map_err(cannot_write)
 }
 
 // Answers each line up to the end of the input. Tells how many there were.
-fn answer_lines<K: Naming, R: Wait, I: Read, O: Write>(
-    rt: &R,
+fn answer_lines<I: Read, O: Write>(
     alloc: Global,
-    service: &mut Service<K>,
+    service: &mut Service,
     lines: &mut Lines,
     input: &mut I,
     out: &mut O,
@@ -154,7 +127,7 @@ fn answer_lines<K: Naming, R: Wait, I: Read, O: Write>(
             Cut::Line(from, to) => {
                 number = number.saturating_add(1);
                 service
-                    .take_line(rt, alloc, number, lines.between(from, to), out)
+                    .take_line(alloc, number, lines.between(from, to), out)
                     .map_err(cannot_write)?;
             }
             Cut::TooLong => {

@@ -1,25 +1,41 @@
 -- The numbers stay those of the slots.
-use Rattle.std.proofs.lemmas.List.{get_or_read_under}
-use Rattle.std.proofs.Common.{◌≡◌, ℕ, length, refl, get_or, set, sym, ap, ◌∙◌, subst}
+use Rattle.std.proofs.Common.{rules, ◌≡◌, ◌≤◌, ℕ, get_or, sym, ap, ◌∙◌, subst}
 use Rattle.apf_gate.specs.Slots.{coded_width}
-use Rattle.apf_life_session.specs.declared.answer.Place.TheVariants as places
-use Rattle.apf_life_session.specs.declared.token.Token.{Token}
-use Rattle.apf_life_session.specs.declared.token.Token.TheVariants.{Gone}
-use Rattle.apf_life_session.specs.Requests.{Answers, ReleasesAs}
+use Rattle.apf_local.specs.Levels.{LocalView}
 use Rattle.apf_service.specs.declared.tally.Tally.{Tally}
-use Rattle.apf_service.specs.Tallies.{IsTallyOf, after_finish}
-use Rattle.apf_service.specs.Kept.{width_in}
-use Rattle.apf_service.proofs.Keeps.{finish_keeps}
+use Rattle.apf_service.specs.Tallies.{IsTallied, slots_of, after_finish}
+use Rattle.apf_service.specs.Kept.{no_slot, width_in}
+use Rattle.apf_service.proofs.Slots.{number_of}
+use Rattle.apf_service.proofs.Keeps.{finish_keeps, seats_there}
 use Rattle.apf_service.proofs.acting.finish.Goals as goal
 
-pub returns-clause-tally : goal.returns-clause-tally
-returns-clause-tally g c =
-    let slots = c.args.session.now.slots.items in
-    let token = c.finish-answer.new.self in
+pub after_finish-notes-requires : goal.after_finish-notes-requires
+after_finish-notes-requires c = record {
+  room = λ released.
+      let l : LocalView = c.args.level.now in
+      let width : c.width_of-width.result ≡ width_in (get_or (slots_of l) c.args.slot no_slot) = c.width_of-width.ensures ∙ ap coded_width (number_of l c.args.slot c.ticket.result.number c.requires.tallied.each_its_pass c.requires.is_slot c.ticket.ensures.number) in
+      let there = seats_there c.args.slot l c.finish-answer.new.self c.args.notes.now.tally c.requires.tallied c.finish-answer.result c.finish-answer.ensures.finishes released in
+      (there.0, subst (λ (n : ℕ). n ≤ c.args.notes.now.tally.seats) (sym width) there.1);
+}
+
+pub returns-clause-turns : goal.returns-clause-turns
+returns-clause-turns c =
+    let l : LocalView = c.args.level.now in
+    let width : c.width_of-width.result ≡ width_in (get_or (slots_of l) c.args.slot no_slot) = c.width_of-width.ensures ∙ ap coded_width (number_of l c.args.slot c.ticket.result.number c.requires.tallied.each_its_pass c.requires.is_slot c.ticket.ensures.number) in
+    record {
+      answer = c.finish-answer.result;
+      level = c.finish-answer.new.self;
+      finishes = c.finish-answer.ensures.finishes;
+      continues = record { same = c.finish-answer.ensures.same; history = c.finish-answer.ensures.history };
+      told = search rules;
+      after = search (width, rules);
+    }
+
+pub returns-clause-tallied : goal.returns-clause-tallied
+returns-clause-tallied c =
+    let l : LocalView = c.args.level.now in
     let answer = c.finish-answer.result in
-    let width : c.width_of-width.result ≡ width_in token = c.width_of-width.ensures ∙ ap coded_width c.ticket.ensures.number in
-    let answers : Answers places.Runs (get_or slots c.args.slot Gone) answer token = subst (λ (t : Token). Answers places.Runs t answer token) (get_or_read_under slots c.args.slot (length slots) c.index_mut-request.result.now Gone c.index_mut-request.ensures.value c.requires.is_slot refl) c.finish-answer.ensures.answers in
-    let steps : ReleasesAs (get_or slots c.args.slot Gone) answer token = subst (λ (t : Token). ReleasesAs t answer token) (get_or_read_under slots c.args.slot (length slots) c.index_mut-request.result.now Gone c.index_mut-request.ensures.value c.requires.is_slot refl) c.finish-answer.ensures.steps in
-    subst (λ (t : Tally). IsTallyOf (set slots c.args.slot token) t)
+    let width : c.width_of-width.result ≡ width_in (get_or (slots_of l) c.args.slot no_slot) = c.width_of-width.ensures ∙ ap coded_width (number_of l c.args.slot c.ticket.result.number c.requires.tallied.each_its_pass c.requires.is_slot c.ticket.ensures.number) in
+    subst (λ (t : Tally). IsTallied c.finish-answer.new.self t)
     (sym (c.learn.ensures.same.0 ∙ c.after_finish-notes.ensures ∙ ap (λ (n : ℕ). after_finish n answer c.args.notes.now.tally) width))
-    (finish_keeps slots c.args.slot token answer c.args.notes.now.tally c.requires.is_slot c.requires.tally answers steps)
+    (finish_keeps c.args.slot l c.finish-answer.new.self c.finish-answer.ensures.same c.args.notes.now.tally c.requires.tallied answer c.finish-answer.ensures.finishes)

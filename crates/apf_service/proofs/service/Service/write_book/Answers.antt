@@ -1,4 +1,4 @@
--- The book is that of the level's word, of the numbers and of the level's history.
+-- The book is that of the level's word, of the numbers and of the level's histories.
 use Rattle.std.proofs.Common.{rules}
 use Rattle.std.proofs.lemmas.Result.{IfOk-weaker}
 use Rattle.apf_service.proofs.service.Service.write_book.Goals as goal
@@ -9,13 +9,14 @@ returns-clause-told g c =
     (λ done appended. record {
       word = c.look-word.result;
       stats = c.stats-stats.result;
-      stats_are = c.stats-stats.ensures.of_level;
       does = record {
-        operators = c.look-word.new.session.operators.items;
-        first = c.look-word.ensures.answer;
-        others = c.look-word.ensures.others;
-        after = search (c.look-word.ensures.same, rules);
+        level = c.look-word.new.self;
+        steps = c.look-word.ensures.looks;
+        slots = c.look-word.ensures.slots;
+        continues = record { same = c.look-word.ensures.same; history = c.look-word.ensures.history };
+        after = search rules;
       };
+      stats_are = record { lived = c.has_a_history.ensures; of_each = c.stats-stats.ensures };
       told = search (appended, c.closed.ensures, c.from.ensures, rules);
     })
     c.write.ensures

@@ -9,10 +9,11 @@ returns-clause-told g c =
     (λ done appended. record {
       word = c.look-word.result;
       does = record {
-        operators = c.look-word.new.session.operators.items;
-        first = c.look-word.ensures.answer;
-        others = c.look-word.ensures.others;
-        after = search (c.look-word.ensures.same, rules);
+        level = c.look-word.new.self;
+        steps = c.look-word.ensures.looks;
+        slots = c.look-word.ensures.slots;
+        continues = record { same = c.look-word.ensures.same; history = c.look-word.ensures.history };
+        after = search rules;
       };
       told = search (appended, rules);
     })

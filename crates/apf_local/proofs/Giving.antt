@@ -1,7 +1,7 @@
 -- A level whose requests are given up, one slot after another.
-use Rattle.std.proofs.Common.{◌≡◌, ◌≢◌, ◌+◌, ◌<◌, ℕ, zero, suc, inl, inr, List, [], ◌∷◌, ◌++◌, length, get_or, set, Option, Some, None, refl, sym, ap, ◌∙◌, subst, arith}
+use Rattle.std.proofs.Common.{◌≡◌, ◌<◌, ℕ, zero, suc, inl, inr, List, [], ◌∷◌, ◌++◌, length, get_or, set, Option, Some, None, refl, sym, ap, ◌∙◌, subst, arith}
 use Rattle.std.specs.Prelude.{slice_get, All}
-use Rattle.std.proofs.lemmas.List.{append_assoc, length-set}
+use Rattle.std.proofs.lemmas.List.{append_assoc}
 use Rattle.apf_history.specs.declared.events.Event.{Event}
 use Rattle.apf_book.specs.Life.{LifeView}
 use Rattle.apf_book.specs.LifeBook.{LifeBookView, IsLifeKept}
@@ -12,7 +12,6 @@ use Rattle.apf_local.specs.declared.answer.Place.TheVariants as places
 use Rattle.apf_local.specs.Levels.{LocalView, SameLocal, GoesOn, IsFinish}
 use Rattle.apf_local.specs.Tries.{IsReading}
 use Rattle.apf_local.proofs.Logging.{servings_then, still_on}
-use Rattle.apf_local.proofs.Places.{set_again}
 use Rattle.apf_local.proofs.Slots.{owner_then}
 
 some_is : {A : Type 0} (a b : A) → ◌≡◌ {A = Option A} (Some a) (Some b) → a ≡ b

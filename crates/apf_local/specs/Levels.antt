@@ -1,6 +1,5 @@
 -- A level as a plain value, as contracts see it, and what its calls answer.
-use Rattle.std.specs.Prelude.{◌≡◌, ◌≢◌, ◌<◌, ℕ, ◌++◌, Bool, false, List, length, All, slice_get, slice_set, Option, Some, None}
-use Rattle.apf_words.specs.declared.decision.Decision.{Decision}
+use Rattle.std.specs.Prelude.{◌≡◌, ◌≢◌, ◌<◌, ℕ, Bool, false, List, length, slice_get, slice_set, Option, Some, None}
 use Rattle.apf_words.specs.declared.decision.Decision.TheVariants.{Execute, QueueFull}
 use Rattle.apf_flow.specs.Sizes.{Sizes}
 use Rattle.apf_history.specs.declared.events.Event.{Event}

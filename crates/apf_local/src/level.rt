@@ -296,8 +296,8 @@ impl LocalLevel {
         self.places.iter().all(|place| *place == Place::Free)
     }
 
-    /// Ends the level, and tells what its words and its history say of all requests that ever held a slot. A request that
-    /// waits is cancelled before that, and one that executes gives its seats back.
+    /// Ends the level, and tells what its words and its history say of all requests that ever held a slot. Before that each
+    /// request that waits is cancelled, and then each that executes gives its seats back.
     ///
     /// # Errors
     ///
@@ -318,8 +318,35 @@ impl LocalLevel {
         ensures idle { All (λ p. p ≡ places.Free) self.old.places → self.new ≡ self.old }
         ensures history { (v : LifeView) → IsLifeKept v self.old.owner.book → GoesOn v self.new.owner.book }
     {
+        self.cancel_waiting();
         for slot in 0..self.places.len() {
             self.give_up(slot);
+        }
+    }
+
+    // Each request that waits is cancelled, so that none of them executes as seats are given back.
+    fn cancel_waiting(&mut self)
+        ensures same { SameLocal self.old self.new }
+        ensures count { length self.new.places ≡ length self.old.places }
+        ensures idle { All (λ p. p ≡ places.Free) self.old.places → self.new ≡ self.old }
+        ensures history { (v : LifeView) → IsLifeKept v self.old.owner.book → GoesOn v self.new.owner.book }
+    {
+        for slot in 0..self.places.len() {
+            self.cancel_at(slot);
+        }
+    }
+
+    // The slot's request is cancelled, if it waits.
+    fn cancel_at(&mut self, slot: usize)
+        requires is_slot { slot < length self.old.places }
+        ensures same { SameLocal self.old self.new }
+        ensures count { length self.new.places ≡ length self.old.places }
+        ensures idle { slice_get self.old.places slot ≡ Some places.Free → self.new ≡ self.old }
+        ensures history { (v : LifeView) → IsLifeKept v self.old.owner.book → GoesOn v self.new.owner.book }
+    {
+        match self.places[slot] {
+            Place::Free | Place::Runs => {}
+            Place::Waits => self.stop_waiting(slot),
         }
     }
 

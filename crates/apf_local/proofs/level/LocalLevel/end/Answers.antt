@@ -1,6 +1,5 @@
 -- How a level ended whose requests were given up.
-use Rattle.std.proofs.Common.{◌≡◌, ℕ, refl, sym, ap, ◌∙◌, subst}
-use Rattle.apf_book.specs.Life.{LifeView}
+use Rattle.std.proofs.Common.{◌≡◌, sym, ◌∙◌, subst}
 use Rattle.apf_book.specs.LifeBook.{then_came_all}
 use Rattle.apf_line.specs.Levels.{LifeId}
 use Rattle.apf_line.specs.Reports.{EndedAs}

@@ -1,5 +1,5 @@
 -- Each slot is given up.
-use Rattle.std.proofs.Common.{rules, ◌≡◌, ◌≢◌, ◌+◌, ◌<◌, ℕ, List, length, get_or, set, inl, inr, Some, refl, sym, ap, ◌∙◌, subst, arith}
+use Rattle.std.proofs.Common.{rules, ◌≡◌, ◌<◌, ℕ, List, length, get_or, set, inl, inr, Some, sym, ap, ◌∙◌, subst, arith}
 use Rattle.std.specs.Prelude.{slice_get, All}
 use Rattle.std.proofs.lemmas.Bool.{cases_eq}
 use Rattle.std.proofs.lemmas.List.{length-set}
@@ -7,11 +7,17 @@ use Rattle.std.proofs.lemmas.Option.{slice_get-get_or}
 use Rattle.apf_local.specs.declared.answer.Place.{Place}
 use Rattle.apf_local.specs.declared.answer.Place.TheVariants as places
 use Rattle.apf_local.specs.Levels.{LocalView}
-use Rattle.apf_local.proofs.Giving.{AreGivenUp, none_given_up, get_set, get_still, get_or_of, local_then, on_then}
+use Rattle.apf_local.proofs.Giving.{AreGivenUp, get_set, get_still, get_or_of, local_then, on_then}
 use Rattle.apf_local.proofs.level.LocalLevel.give_up_all.Goals as goal
 
 pub loop-slot-init : goal.loop-slot-init
-loop-slot-init c = none_given_up c.args.self.now
+loop-slot-init c = record {
+  same = c.cancel_waiting.ensures.same;
+  count = c.cancel_waiting.ensures.count;
+  free = λ i low. absurd (omega (arith, low));
+  idle = c.cancel_waiting.ensures.idle;
+  history = c.cancel_waiting.ensures.history;
+}
 
 pub loop-slot-preserved : goal.loop-slot-preserved
 loop-slot-preserved c =

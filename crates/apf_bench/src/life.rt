@@ -1,4 +1,5 @@
-//! Requests that wait in line one after another, on a level whose slots are used again: two slots in turn.
+//! Requests that take their seats at once, or wait in line one after another, on a level whose slots are used again: two
+//! slots in turn.
 
 ghost use Rattle.std.specs.Prelude.{◌≡◌, length};
 ghost use Rattle.apf_life_session.specs.Openings.{level_of};
@@ -8,19 +9,32 @@ use crate::course::REQUESTS;
 use crate::shuffle::Shuffle;
 use apf_life::{Level, Naming, Report};
 use apf_life_session::{Answer, Opening, Request, Session};
-use apf_model::{Ask, Config, Response};
+use apf_model::Ask;
 use std::alloc::Global;
 use std::marker::Brand;
 use std::sync::Wait;
 use std::time::{Clock, Instant};
 
-// Whether the report is that of a level on which each request executed, and each but the first one waited before.
-fn is_report(report: &Report) -> bool {
+/// How the requests come.
+#[derive(Clone, Copy, Debug, PartialEq, Eq)]
+pub enum Traffic {
+    /// Each takes its seats at once.
+    Room,
+    /// Each but the first waits behind the one before it.
+    Line,
+}
+
+/// Whether the report is that of a level on which each request executed, and those waited before that should.
+pub fn is_report(traffic: Traffic, report: &Report) -> bool {
+    let waited = match traffic {
+        Traffic::Room => 0,
+        Traffic::Line => u64::from(REQUESTS - 1),
+    };
     let counts = report.words.counts();
     let stats = report.newest.stats;
     counts.executed == u64::from(REQUESTS)
-        && stats.entered == u64::from(REQUESTS - 1)
-        && stats.dispatched == u64::from(REQUESTS - 1)
+        && stats.entered == waited
+        && stats.dispatched == waited
 }
 
 // The request waits until the one before it has given its seat back, and is dispatched. Says whether it did so.
@@ -39,6 +53,29 @@ fn follow<K: Naming, R: Wait>(
     }
     before.finish(rt, level);
     request.poll(rt, level) == Answer::Run
+}
+
+// Serves the requests, each of which takes its seat at once. Says whether each did as it should.
+fn serve_room<K: Naming, R: Wait>(
+    rt: &R,
+    level: &Level<K>,
+    slots: &mut [Request<K>],
+    shuffle: Shuffle,
+) -> bool
+    ensures { length slots.new ≡ length slots.old }
+{
+    let [even, _odd] = slots else {
+        return false;
+    };
+    for number in 0..REQUESTS {
+        if even.arrive(rt, level, shuffle.ask(number)).0 != Answer::Run {
+            return false;
+        }
+        if even.finish(rt, level) != Answer::Released(false) {
+            return false;
+        }
+    }
+    true
 }
 
 // Serves the requests, each behind the one before it. Says whether each did as it should.
@@ -75,10 +112,16 @@ fn serve_line<K: Naming, R: Wait>(
 fn play<K: Naming, R: Clock + Wait>(
     rt: &R,
     session: &mut Session<K>,
+    traffic: Traffic,
     shuffle: Shuffle,
 ) -> Option<u64> {
     let start = Instant::now(rt).ok()?;
-    if !serve_line(rt, &session.level, session.slots.as_mut_slice(), shuffle) {
+    let slots = session.slots.as_mut_slice();
+    let serves = match traffic {
+        Traffic::Room => serve_room(rt, &session.level, slots, shuffle),
+        Traffic::Line => serve_line(rt, &session.level, slots, shuffle),
+    };
+    if !serves {
         return None;
     }
     picos_each(rt, start, REQUESTS)
@@ -88,29 +131,28 @@ fn run_named<K: Naming, R: Clock + Wait>(
     rt: &R,
     alloc: Global,
     opening: Opening,
+    traffic: Traffic,
     shuffle: Shuffle,
 ) -> Option<u64>
     requires { K.level ≡ level_of opening.gate opening.config }
 {
     let mut session = Session::<K>::open_for_life(rt, alloc, opening).ok()?;
-    let picos = play(rt, &mut session, shuffle);
+    let picos = play(rt, &mut session, traffic, shuffle);
     let report = session.end(rt, alloc).ok()?;
-    if !is_report(&report) {
+    if !is_report(traffic, &report) {
         return None;
     }
     picos
 }
 
-/// How long a request in line takes by the calls of a level for life, in picoseconds: `None` if there was no memory or
-/// clock, or its answers are not those that are expected.
-pub fn by_life<R: Clock + Wait>(rt: &R, alloc: Global, shuffle: Shuffle) -> Option<u64> {
-    let config = Config {
-        limit: 1,
-        queues: shuffle.queues,
-        hand_size: shuffle.hand,
-        queue_length_limit: 50,
-        limit_response: Response::Queue,
-    };
-    let opening = Opening::new(alloc, &config, 2, 0).ok()?;
-    run_named::<Brand, R>(rt, alloc, opening, shuffle)
+/// How long a request takes by the calls of a level for life, in picoseconds: `None` if there was no memory or clock, or
+/// its answers are not those that are expected.
+pub fn by_life<R: Clock + Wait>(
+    rt: &R,
+    alloc: Global,
+    traffic: Traffic,
+    shuffle: Shuffle,
+) -> Option<u64> {
+    let opening = Opening::new(alloc, &shuffle.config(), 2, 0).ok()?;
+    run_named::<Brand, R>(rt, alloc, opening, traffic, shuffle)
 }

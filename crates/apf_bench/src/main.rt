@@ -14,6 +14,7 @@ mod level;
 mod levelled;
 mod life;
 mod lined;
+mod local;
 mod locked;
 mod measures;
 mod plain;
@@ -24,8 +25,10 @@ mod shuffle;
 
 use choices::{Shape, after, before, median};
 use course::Callers;
+use life::Traffic;
 use measures::{
-    measured_admission, measured_life, measured_line, tell_admission, tell_life, tell_line,
+    measured_admission, measured_life, measured_line, measured_on_one_thread, tell_admission,
+    tell_life, tell_line, tell_on_one_thread,
 };
 use shuffle::Shuffle;
 use std::process::ExitCode;
@@ -203,6 +206,26 @@ fn line_up_for_life<R: Clock + Wait>(
     Ok(true)
 }
 
+// Measures requests of one thread on a level for life and on one that is a plain value. Says whether each executed.
+fn serve_alone<R: Clock + Wait>(rt: &HostRuntime, runner: &R, rounds: Rounds) -> io::Result<bool> {
+    for (traffic, shuffle) in [
+        (Traffic::Room, SHUFFLES[0]),
+        (Traffic::Line, SHUFFLES[0]),
+        (Traffic::Line, SHUFFLES[1]),
+    ] {
+        let alloc = rt.alloc();
+        let Some(medians) = measured_on_one_thread(runner, alloc, traffic, shuffle, rounds.count)
+        else {
+            println!(rt; "a request did not execute, or there was no memory or clock")?;
+            return Ok(false);
+        };
+        if rounds.are_told {
+            tell_on_one_thread(rt, traffic, shuffle, medians)?;
+        }
+    }
+    Ok(true)
+}
+
 fn bench<R: Threads + Clock + Wait + Sync>(rt: &HostRuntime, runner: &R) -> io::Result<bool> {
     let asked = asked(rt)?;
     let rounds = Rounds {
@@ -212,7 +235,8 @@ fn bench<R: Threads + Clock + Wait + Sync>(rt: &HostRuntime, runner: &R) -> io::
     let agree = choose(rt, rounds)?
         && admit(rt, runner, rounds)?
         && line_up(rt, runner, rounds)?
-        && line_up_for_life(rt, runner, rounds)?;
+        && line_up_for_life(rt, runner, rounds)?
+        && serve_alone(rt, runner, rounds)?;
     if agree && !rounds.are_told {
         println!(rt; "the answers agree")?;
     }

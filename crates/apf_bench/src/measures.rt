@@ -5,7 +5,8 @@ use crate::choices::median;
 use crate::course::Callers;
 use crate::gated::{Beside, gated};
 use crate::level::{Scene, by_level};
-use crate::life::by_life;
+use crate::life::{Traffic, by_life};
+use crate::local::by_local;
 use crate::locked::locked;
 use crate::plain::plain;
 use crate::ratio::Ratio;
@@ -56,6 +57,55 @@ pub struct InLineForLife {
     tree: u64,
     // By a level's calls.
     life: u64,
+}
+
+/// How long a request took on one thread, in picoseconds.
+#[derive(Clone, Copy)]
+pub struct OnOneThread {
+    // By a session for life.
+    session: u64,
+    // By a level that is one plain value.
+    value: u64,
+}
+
+/// The medians of this many rounds, or `None` where a run fails.
+pub fn measured_on_one_thread<R: Clock + Wait>(
+    rt: &R,
+    alloc: Global,
+    traffic: Traffic,
+    shuffle: Shuffle,
+    rounds: u32,
+) -> Option<OnOneThread> {
+    let mut sessions = Vec::new(alloc);
+    let mut values = Vec::new(alloc);
+    for _ in 0..rounds {
+        sessions
+            .push(by_life(rt, alloc, traffic, shuffle)?)
+            .ok()?;
+        values.push(by_local(rt, alloc, traffic, shuffle)?).ok()?;
+    }
+    Some(OnOneThread {
+        session: median(sessions)?,
+        value: median(values)?,
+    })
+}
+
+/// Tells what a request took on one thread.
+pub fn tell_on_one_thread(
+    rt: &HostRuntime,
+    traffic: Traffic,
+    shuffle: Shuffle,
+    medians: OnOneThread,
+) -> io::Result<()> {
+    let (session, value) = (medians.session / 1_000, medians.value / 1_000);
+    let ratio = Ratio::of(medians.value, medians.session);
+    let comes = match traffic {
+        Traffic::Room => "with room",
+        Traffic::Line => "in line",
+    };
+    println!(rt;
+        "on one thread {comes}, {shuffle}: by a session for life {session} ns, by a plain value {value} ns, ratio {ratio}"
+    )
 }
 
 /// The medians of so many rounds by these callers, or `None` where a run fails.
@@ -128,7 +178,9 @@ pub fn measured_life<R: Clock + Wait>(
     for _ in 0..rounds {
         scans.push(plain::<Scan, R>(rt, alloc, shuffle)?).ok()?;
         trees.push(plain::<Checked, R>(rt, alloc, shuffle)?).ok()?;
-        lives.push(by_life(rt, alloc, shuffle)?).ok()?;
+        lives
+            .push(by_life(rt, alloc, Traffic::Line, shuffle)?)
+            .ok()?;
     }
     Some(InLineForLife {
         scan: median(scans)?,

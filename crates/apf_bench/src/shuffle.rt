@@ -2,7 +2,7 @@
 
 ghost use Rattle.std.specs.Prelude.{◌≡◌};
 
-use apf_model::Ask;
+use apf_model::{Ask, Config, Response};
 use std::fmt;
 
 /// So many queues, of which each request is dealt so many.
@@ -13,6 +13,17 @@ pub struct Shuffle {
 }
 
 impl Shuffle {
+    /// The settings of a level with these queues, whose one seat each request wants.
+    pub fn config(self) -> Config {
+        Config {
+            limit: 1,
+            queues: self.queues,
+            hand_size: self.hand,
+            queue_length_limit: 50,
+            limit_response: Response::Queue,
+        }
+    }
+
     /// What the request of this number asks for: one seat, and a flow of its own.
     pub fn ask(self, number: u32) -> Ask
         ensures width { result.width ≡ 1 }

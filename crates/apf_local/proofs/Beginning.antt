@@ -1,5 +1,5 @@
 -- A history in which nothing happened yet.
-use Rattle.std.proofs.Common.{◌≡◌, ℕ, ◌≤◌, ◌<◌, inl, inr, List, [], length, refl, arith}
+use Rattle.std.proofs.Common.{ℕ, ◌≤◌, inl, inr, List, [], length, refl, arith}
 use Rattle.std.proofs.lemmas.Bool.{cases_lt}
 use Rattle.std.proofs.lemmas.List.{get_or_past}
 use Rattle.std.specs.Prelude.{Result, Ok, Err, IfOk}

@@ -1,12 +1,10 @@
 -- Where a request is after its try and a hearing.
-use Rattle.std.proofs.Common.{◌≡◌, ◌≢◌, inl, inr, ℕ, Option, Some, None, refl, sym, ap, ◌∙◌, subst}
+use Rattle.std.proofs.Common.{◌≡◌, ◌≢◌, inl, inr, Some, None, refl, sym, ap, ◌∙◌}
 use Rattle.apf_words.specs.declared.decision.Decision.{Decision}
-use Rattle.apf_words.specs.declared.decision.Decision.TheVariants.{Execute}
 use Rattle.apf_gate.specs.declared.record.State.TheVariants as states
 use Rattle.apf_gate.specs.Records.{told_own}
 use Rattle.apf_gate.specs.Tokens.{GateId, PassToken}
 use Rattle.apf_gate.specs.Traces.{asked_in}
-use Rattle.apf_gate.specs.PassResults.{SamePass}
 use Rattle.apf_book.specs.BookResults.{SameRequest}
 use Rattle.apf_book.specs.LifeBook.{LifeBookView}
 use Rattle.apf_book.specs.LifeCalls.{HearsLife}

@@ -1,5 +1,5 @@
 -- Where a request is after it arrived in the line.
-use Rattle.std.proofs.Common.{◌≡◌, ◌≢◌, inl, inr, ℕ, Bool, true, false, List, [], ◌∷◌, ◌++◌, Option, Some, None, refl, sym, ap, ◌∙◌, subst}
+use Rattle.std.proofs.Common.{◌≡◌, ◌≢◌, inl, inr, ℕ, Bool, true, false, List, [], ◌∷◌, ◌++◌, Some, None, refl, sym, ◌∙◌, subst}
 use Rattle.apf_words.specs.declared.decision.Decision.{Decision}
 use Rattle.apf_words.specs.declared.decision.Decision.TheVariants.{Execute, QueueFull, Closed, Cancelled}
 use Rattle.apf_model.specs.declared.response.Response.TheVariants.{Queue}
@@ -12,8 +12,8 @@ use Rattle.apf_gate.specs.Traces.{NoneOf}
 use Rattle.apf_book.specs.declared.arrived.Arrived.{Arrived}
 use Rattle.apf_book.specs.declared.arrived.Arrived.TheVariants as arrived
 use Rattle.apf_book.specs.LifeBook.{LifeBookView}
-use Rattle.apf_book.specs.LifeCalls.{AfterLifeArrival, AnswersLifeArrival, SaysQueued}
-use Rattle.apf_line.specs.Tokens.{IsDone, IsInLine}
+use Rattle.apf_book.specs.LifeCalls.{AfterLifeArrival, AnswersLifeArrival}
+use Rattle.apf_line.specs.Tokens.{IsDone}
 use Rattle.apf_local.specs.Owners.{IsEntered}
 use Rattle.apf_local.proofs.Hearing.{GoesOnFrom}
 

@@ -1,5 +1,5 @@
 -- What a Pass knows after it was heard.
-use Rattle.std.proofs.Common.{◌≡◌, ◌≢◌, ◌⊎◌, inl, inr, ℕ, List, [], ◌∷◌, ◌++◌, Option, Some, None, refl, sym, ap, ◌∙◌, subst}
+use Rattle.std.proofs.Common.{◌≡◌, ◌≢◌, ◌⊎◌, inl, inr, ℕ, List, [], ◌∷◌, ◌++◌, Option, Some, sym, ap, ◌∙◌}
 use Rattle.std.proofs.lemmas.List.{append_assoc}
 use Rattle.apf_words.specs.declared.decision.Decision.{Decision}
 use Rattle.apf_words.specs.declared.decision.Decision.TheVariants.{Execute}
@@ -11,12 +11,12 @@ use Rattle.apf_gate.specs.declared.record.State.TheVariants as states
 use Rattle.apf_gate.specs.JoinedSteps.{JoinedLoadsDecision}
 use Rattle.apf_gate.specs.Records.{told_own, KnowsMore}
 use Rattle.apf_gate.specs.Steps.{Both}
-use Rattle.apf_gate.specs.Tokens.{PassToken, pass_gate}
+use Rattle.apf_gate.specs.Tokens.{PassToken}
 use Rattle.apf_gate.specs.Traces.{world_of, ask_by, first_ask, asked_in}
 use Rattle.apf_book.specs.BookResults.{SameRequest}
 use Rattle.apf_book.specs.LifeBook.{LifeBookView}
 use Rattle.apf_book.specs.LifeCalls.{HearsLife}
-use Rattle.apf_line.specs.Tokens.{IsRunning, IsInLine}
+use Rattle.apf_line.specs.Tokens.{IsRunning}
 
 -- a trace goes on from another one
 abbrev pub GoesOnFrom : List Entry → List Entry → Type 0

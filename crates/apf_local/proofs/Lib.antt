@@ -8,3 +8,4 @@ pub mod Told
 pub mod Beginning
 pub mod Slots
 pub mod Logging
+pub mod Giving

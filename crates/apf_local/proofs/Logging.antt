@@ -1,5 +1,5 @@
 -- What a history has after an arrival and a dispatch.
-use Rattle.std.proofs.Common.{◌≡◌, ℕ, inl, inr, List, [], ◌∷◌, ◌++◌, Option, Some, None, sym, subst}
+use Rattle.std.proofs.Common.{ℕ, inl, inr, List, [], ◌∷◌, ◌++◌, Option, Some, None, sym, subst}
 use Rattle.std.proofs.lemmas.List.{append_assoc}
 use Rattle.apf_history.specs.declared.events.Event.{Event}
 use Rattle.apf_history.specs.declared.events.Event.TheVariants.{Enter, Full, Dispatch, Strike}
@@ -26,7 +26,7 @@ module _ (v : LifeView) (r : ℕ) (hand : List ℕ) (cost : ℕ) (a : Admitted) 
       let w = then_came (asked v r hand cost) (event_of event) in
       (logs.0, logs.1, went_on w b b' count (served w logs.2))
 
-servings_then : (a b : List Event) → AreServings a → AreServings b → AreServings (a ++ b)
+pub servings_then : (a b : List Event) → AreServings a → AreServings b → AreServings (a ++ b)
 servings_then [] b first then = then
 servings_then (Enter r q ∷ a) b first then = absurd first
 servings_then (Full r q ∷ a) b first then = absurd first

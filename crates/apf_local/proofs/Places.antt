@@ -1,6 +1,6 @@
 -- The tokens of an owner after a step.
-use Rattle.std.proofs.Common.{◌≡◌, ℕ, zero, suc, ◌<◌, ◌≤◌, List, [], ◌∷◌, ◌++◌, length, get_or, set, Option, Some, refl, sym, ap, ◌∙◌, subst, arith}
-use Rattle.std.specs.Prelude.{slice_get, slice_set, All}
+use Rattle.std.proofs.Common.{◌≡◌, ℕ, zero, suc, ◌<◌, ◌≤◌, List, [], ◌∷◌, length, get_or, set, Some, refl, sym, ap, ◌∙◌, subst, arith}
+use Rattle.std.specs.Prelude.{slice_get}
 use Rattle.std.proofs.lemmas.Option.{slice_get_read}
 use Rattle.std.proofs.lemmas.List.{length-set, length-append}
 use Rattle.std.proofs.lemmas.List.Elements.{All-set}
@@ -9,7 +9,7 @@ use Rattle.apf_gate.specs.Records.{KnowsMore}
 use Rattle.apf_gate.specs.Tokens.{PassToken, StationToken, pass_gate}
 use Rattle.apf_book.specs.LifeBook.{LifeBookView}
 use Rattle.apf_book.specs.LifeCalls.{SameLifeBook}
-use Rattle.apf_local.specs.Owners.{OwnerView, IsOwner, SameOwner, Moves, Steps}
+use Rattle.apf_local.specs.Owners.{OwnerView, IsOwner, SameOwner, Moves}
 
 pub set_again : {A : Type 0} (xs : List A) (i : ℕ) (x y : A) → set (set xs i x) i y ≡ set xs i y
 set_again [] i x y = refl

@@ -1,8 +1,7 @@
 -- The slots of a level after a call.
-use Rattle.std.proofs.Common.{◌≡◌, ◌≢◌, ◌<◌, ℕ, zero, suc, inl, List, [], ◌∷◌, length, set, Option, Some, None, refl, sym, ap, ◌∙◌, subst}
+use Rattle.std.proofs.Common.{◌≡◌, ◌<◌, ℕ, zero, suc, inl, List, [], ◌∷◌, set, Option, Some, None, refl, sym, ◌∙◌, subst}
 use Rattle.std.specs.Prelude.{slice_get}
 use Rattle.std.proofs.lemmas.List.{length-set}
-use Rattle.apf_words.specs.declared.decision.Decision.TheVariants.{Execute}
 use Rattle.apf_gate.specs.Tokens.{PassToken}
 use Rattle.apf_line.specs.Stopped.{IsStopped}
 use Rattle.apf_local.specs.declared.admitting.Admitted.{Admitted}
@@ -13,7 +12,7 @@ use Rattle.apf_local.specs.declared.answer.Place.TheVariants as places
 use Rattle.apf_local.specs.declared.taking.Took.{Took}
 use Rattle.apf_local.specs.declared.taking.Took.TheVariants as took
 use Rattle.apf_local.specs.Worlds.{HasComeIn}
-use Rattle.apf_local.specs.Owners.{OwnerView, SameOwner, Stay, Moves, IsBegun}
+use Rattle.apf_local.specs.Owners.{OwnerView, SameOwner, Stay, IsBegun}
 use Rattle.apf_local.specs.Tries.{answer_of_try, place_of_try, Tries, IsTry}
 use Rattle.apf_local.specs.Levels.{LocalView, IsLocal, IsAt, IsAdmitted, place_of, answer_of, SlotMoves, Arrives, IsArrival}
 use Rattle.apf_book.specs.declared.life_event.LifeEvent.{LifeEvent}

@@ -1,5 +1,5 @@
 -- Where a request is that waited, after it read its decision or left.
-use Rattle.std.proofs.Common.{◌≡◌, ◌≢◌, inl, inr, ℕ, Bool, true, false, Option, Some, None, refl, sym, ap, ◌∙◌, subst}
+use Rattle.std.proofs.Common.{◌≡◌, ◌≢◌, inl, inr, ℕ, Bool, true, false, Option, Some, None, refl, sym, ap, ◌∙◌}
 use Rattle.apf_words.specs.declared.decision.Decision.{Decision}
 use Rattle.apf_words.specs.declared.decision.Decision.TheVariants.{Execute, QueueFull, Closed, Cancelled, ConcurrencyLimit}
 use Rattle.apf_gate.specs.declared.record.State.TheVariants as states
@@ -7,7 +7,7 @@ use Rattle.apf_gate.specs.PassResults.{SamePass, AfterTold}
 use Rattle.apf_gate.specs.PassSteps.{PassLoadsDecision}
 use Rattle.apf_gate.specs.Records.{told_own}
 use Rattle.apf_gate.specs.Steps.{Both}
-use Rattle.apf_gate.specs.Tokens.{GateId, PassToken, pass_gate}
+use Rattle.apf_gate.specs.Tokens.{GateId, PassToken}
 use Rattle.apf_book.specs.BookResults.{SameRequest}
 use Rattle.apf_book.specs.Life.{LifeView}
 use Rattle.apf_book.specs.LifeBook.{LifeBookView, StrikesLife}

@@ -23,7 +23,7 @@ use Rattle.apf_gate.specs.declared.record.StationRecord.{StationRecord}
 use Rattle.apf_gate.specs.Records.{KnowsMore}
 use Rattle.apf_gate.specs.StationCalls.{TriesToCancel}
 use Rattle.apf_gate.specs.Steps.{SawDecision}
-use Rattle.apf_gate.specs.Traces.{opening_of, entry, moves, move_before, world_of}
+use Rattle.apf_gate.specs.Traces.{opening_of, moves, move_before, world_of}
 use Rattle.apf_book.specs.Said.{said_of, sayings}
 use Rattle.apf_book.specs.LifeBook.{LifeBookView}
 use Rattle.apf_local.specs.Worlds.{IsDecidedIn}

@@ -1,6 +1,5 @@
 -- A level as a plain value, as contracts see it, and what its calls answer.
-use Rattle.std.specs.Prelude.{◌≡◌, ◌≢◌, ◌<◌, ℕ, ◌++◌, Bool, false, List, length, All, slice_get, slice_set, Option, Some, None}
-use Rattle.apf_words.specs.declared.decision.Decision.{Decision}
+use Rattle.std.specs.Prelude.{◌≡◌, ◌≢◌, ◌<◌, ℕ, Bool, false, List, length, slice_get, slice_set, Option, Some, None}
 use Rattle.apf_words.specs.declared.decision.Decision.TheVariants.{Execute, QueueFull}
 use Rattle.apf_flow.specs.Sizes.{Sizes}
 use Rattle.apf_history.specs.declared.events.Event.{Event}
@@ -9,13 +8,15 @@ use Rattle.apf_model.specs.History.{has_arrived}
 use Rattle.apf_queue.specs.View.{queue_count}
 use Rattle.apf_gate.specs.Records.{told_own}
 use Rattle.apf_gate.specs.Slots.{next_of}
-use Rattle.apf_gate.specs.Tokens.{PassToken}
+use Rattle.apf_gate.specs.Tokens.{PassToken, StationToken}
 use Rattle.apf_book.specs.declared.life_event.LifeEvent.{LifeEvent}
 use Rattle.apf_book.specs.Life.{LifeView, asked, then_came}
 use Rattle.apf_book.specs.LifeBook.{LifeBookView, IsLifeKept, then_came_all}
 use Rattle.apf_book.specs.Notes.{event_of}
 use Rattle.apf_book.specs.Servings.{AreServings}
+use Rattle.apf_line.specs.declared.report.Report.{Report}
 use Rattle.apf_line.specs.Levels.{LifeId}
+use Rattle.apf_line.specs.Reports.{EndedAs}
 use Rattle.apf_line.specs.Stopped.{IsStopped}
 use Rattle.apf_line.specs.Tokens.{IsDone, IsInLine, IsRunning}
 use Rattle.apf_local.specs.declared.answer.Ask.{Ask}
@@ -69,6 +70,12 @@ pub record GoesOn (v : LifeView) (b' : LifeBookView) : Type 0 where
   pub events : List Event
   pub kept : IsLifeKept (then_came_all events v) b'
   pub servings : AreServings events
+
+-- what a level told when it ended: Dispatches and Strikes alone came to each history that it was of, and it ended by that
+pub record EndsFrom (l : LocalView) (r : Report) : Type 0 where
+  pub passes : List PassToken
+  pub stations : List StationToken
+  pub history : (v : LifeView) → IsLifeKept v l.owner.book → (events : List Event) × AreServings events × EndedAs (id_of l) (then_came_all events v) passes stations r
 
 -- the slot and its Pass, before and after a call. The other slots are as they were
 pub record SlotMoves (slot : ℕ) (l l' : LocalView) (Does : Place → PassToken → Place → PassToken → Type 0) : Type 0 where

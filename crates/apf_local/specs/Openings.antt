@@ -1,5 +1,5 @@
 -- Why a level is not opened, and what one that was just opened is.
-use Rattle.std.specs.Prelude.{◌≡◌, ◌⊎◌, ◌≤◌, ◌<◌, ◌*◌, ℕ, List, [], length, All, Some}
+use Rattle.std.specs.Prelude.{◌≡◌, ◌⊎◌, ◌≤◌, ◌<◌, ◌*◌, ℕ, [], length, All, Some}
 use Rattle.apf_words.specs.Limits.{max_limit, max_requests}
 use Rattle.apf_flow.specs.Sizes.{IsDealable}
 use Rattle.apf_flow.specs.Fault.{fault_of}

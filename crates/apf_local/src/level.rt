@@ -1,6 +1,6 @@
 //! A priority level as one plain value.
 
-ghost use Rattle.std.specs.Prelude.{◌≡◌, ◌≢◌, ◌↔◌, ◌≤◌, ◌<◌, ◌^◌, ℕ, length, slice_get, All, Some, IfOk, IfErr, IsTrue};
+ghost use Rattle.std.specs.Prelude.{◌≡◌, ◌≢◌, ◌↔◌, ◌≤◌, ◌<◌, ◌^◌, ℕ, length, slice_get, slice_set, All, Some, IfOk, IfErr, IsTrue};
 ghost use Rattle.apf_words.specs.Limits.{max_width, max_cost, max_limit};
 ghost use Rattle.apf_flow.specs.Deal.{hand_of};
 ghost use Rattle.apf_gate.specs.Slots.{IsTicket};
@@ -9,11 +9,11 @@ ghost use Rattle.apf_gate.specs.StationSteps.{StationLoadsLevel};
 ghost use Rattle.apf_book.specs.Life.{LifeView};
 ghost use Rattle.apf_book.specs.LifeBook.{IsLifeKept, IsLived};
 ghost use Rattle.apf_book.specs.Notes.{AreLifeStats, CopiesLate};
-ghost use Rattle.apf_line.specs.Reports.{Ended};
+ghost use Rattle.apf_line.specs.Reports.{Ended, EndedAs};
 ghost use Rattle.apf_local.specs.declared.answer.Place.TheVariants as places;
 ghost use Rattle.apf_words.specs.declared.decision.Decision.{Decision};
 ghost use Rattle.apf_local.specs.Worlds.{IsDecidedIn};
-ghost use Rattle.apf_local.specs.Levels.{id_of, SameLocal, GoesOn, IsArrival, IsFinish};
+ghost use Rattle.apf_local.specs.Levels.{id_of, SameLocal, GoesOn, EndsFrom, IsArrival, IsFinish};
 ghost use Rattle.apf_local.specs.Owners.{IsSlotOf, Steps, Sets};
 ghost use Rattle.apf_local.specs.Tries.{IsTry, IsReading, SlotsStay};
 ghost use Rattle.apf_local.specs.Openings.{IsOpened, IsOpenFault};
@@ -296,15 +296,96 @@ impl LocalLevel {
         self.places.iter().all(|place| *place == Place::Free)
     }
 
-    /// Ends a level whose slots are all free, and tells what its words and its history say of all requests that ever
-    /// held a slot.
+    /// Ends the level, and tells what its words and its history say of all requests that ever held a slot. Before that each
+    /// request that waits is cancelled, and then each that executes gives its seats back.
     ///
     /// # Errors
     ///
     /// `AllocError` if memory was refused. Then everything is given up.
     pub fn end(self, alloc: Global) -> Result<Report, AllocError>
+        ensures ended { IfOk result (EndsFrom self) }
+        ensures idle { All (λ p. p ≡ places.Free) self.places → IfOk result (Ended (id_of self) self.owner.passes self.owner.stations) }
+    {
+        let mut level = self;
+        level.give_up_all();
+        level.end_idle(alloc)
+    }
+
+    // No request waits or executes then.
+    fn give_up_all(&mut self)
+        ensures same { SameLocal self.old self.new }
+        ensures free { All (λ p. p ≡ places.Free) self.new.places }
+        ensures idle { All (λ p. p ≡ places.Free) self.old.places → self.new ≡ self.old }
+        ensures history { (v : LifeView) → IsLifeKept v self.old.owner.book → GoesOn v self.new.owner.book }
+    {
+        self.cancel_waiting();
+        for slot in 0..self.places.len() {
+            self.give_up(slot);
+        }
+    }
+
+    // Each request that waits is cancelled, so that none of them executes as seats are given back.
+    fn cancel_waiting(&mut self)
+        ensures same { SameLocal self.old self.new }
+        ensures count { length self.new.places ≡ length self.old.places }
+        ensures idle { All (λ p. p ≡ places.Free) self.old.places → self.new ≡ self.old }
+        ensures history { (v : LifeView) → IsLifeKept v self.old.owner.book → GoesOn v self.new.owner.book }
+    {
+        for slot in 0..self.places.len() {
+            self.cancel_at(slot);
+        }
+    }
+
+    // The slot's request is cancelled, if it waits.
+    fn cancel_at(&mut self, slot: usize)
+        requires is_slot { slot < length self.old.places }
+        ensures same { SameLocal self.old self.new }
+        ensures count { length self.new.places ≡ length self.old.places }
+        ensures idle { slice_get self.old.places slot ≡ Some places.Free → self.new ≡ self.old }
+        ensures history { (v : LifeView) → IsLifeKept v self.old.owner.book → GoesOn v self.new.owner.book }
+    {
+        match self.places[slot] {
+            Place::Free | Place::Runs => {}
+            Place::Waits => self.stop_waiting(slot),
+        }
+    }
+
+    // The slot's request is over then: one that waits is cancelled, and one that executes gives its seats back.
+    fn give_up(&mut self, slot: usize)
+        requires is_slot { slot < length self.old.places }
+        ensures same { SameLocal self.old self.new }
+        ensures frees { self.new.places ≡ slice_set self.old.places slot places.Free }
+        ensures idle { slice_get self.old.places slot ≡ Some places.Free → self.new ≡ self.old }
+        ensures history { (v : LifeView) → IsLifeKept v self.old.owner.book → GoesOn v self.new.owner.book }
+    {
+        self.has_a_history();
+        match self.places[slot] {
+            Place::Free => {}
+            Place::Waits => self.stop_waiting(slot),
+            Place::Runs => {
+                self.finish(slot);
+            }
+        }
+    }
+
+    // The slot's request, which waits, is cancelled. Where it executes already it gives its seats back.
+    fn stop_waiting(&mut self, slot: usize)
+        requires waits { slice_get self.old.places slot ≡ Some places.Waits }
+        ensures same { SameLocal self.old self.new }
+        ensures frees { self.new.places ≡ slice_set self.old.places slot places.Free }
+        ensures history { (v : LifeView) → IsLifeKept v self.old.owner.book → GoesOn v self.new.owner.book }
+    {
+        let request = self.ticket(slot);
+        self.cancel(request);
+        if self.place(slot) == Place::Runs {
+            self.finish(slot);
+        }
+    }
+
+    // Ends a level whose slots are all free.
+    fn end_idle(self, alloc: Global) -> Result<Report, AllocError>
         requires free { All (λ p. p ≡ places.Free) self.places }
-        ensures { IfOk result (Ended (id_of self) self.owner.passes self.owner.stations) }
+        ensures { IfOk result (λ r. (v : LifeView) → IsLifeKept v self.owner.book → EndedAs (id_of self) v self.owner.passes self.owner.stations r) }
     {
         self.owner.has_a_history();
         let LocalLevel {

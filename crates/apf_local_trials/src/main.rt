@@ -1,4 +1,4 @@
-//! Three levels in one `Vec`, which one thread serves in turn. There is no lock, and nothing waits.
+//! Four levels in one `Vec`, which one thread serves in turn. There is no lock, and no call waits.
 #![tactic(auto)]
 
 mod script;
@@ -9,26 +9,35 @@ use script::{SCRIPT, take_step};
 use std::alloc::Global;
 use std::process::ExitCode;
 
-// A level of one queue for one request that waits, beside its limit.
-fn open(alloc: Global, limit: u32, slots: u32) -> Result<LocalLevel, OpenFault> {
+// A level of one queue for one request that waits, or of none, beside its limit.
+fn open(
+    alloc: Global,
+    limit: u32,
+    slots: u32,
+    limit_response: Response,
+) -> Result<LocalLevel, OpenFault> {
     let config = Config {
         limit,
         queues: 1,
         hand_size: 1,
         queue_length_limit: 1,
-        limit_response: Response::Queue,
+        limit_response,
     };
     LocalLevel::open(alloc, &config, slots)
 }
 
-// Levels of one, two and three seats, of three slots each.
-fn three(alloc: Global) -> Result<Vec<LocalLevel>, OpenFault> {
-    let mut levels = Vec::with_capacity(alloc, 3)?;
+// Levels of one, two and three seats with a queue, and one of one seat without, of three slots each.
+fn four(alloc: Global) -> Result<Vec<LocalLevel>, OpenFault> {
+    let mut levels = Vec::with_capacity(alloc, 4)?;
     for limit in 1..4 {
-        let level = open(alloc, limit, 3)?;
+        let level = open(alloc, limit, 3, Response::Queue)?;
         if levels.push(level).is_err() {
             return Err(OpenFault::NoMemory);
         }
+    }
+    let last = open(alloc, 1, 3, Response::Reject)?;
+    if levels.push(last).is_err() {
+        return Err(OpenFault::NoMemory);
     }
     Ok(levels)
 }
@@ -36,7 +45,7 @@ fn three(alloc: Global) -> Result<Vec<LocalLevel>, OpenFault> {
 // What each step was answered, and how each level ended.
 fn run(rt: &HostRuntime) -> Result<(), ExitCode> {
     let alloc = rt.alloc();
-    let Ok(mut levels) = three(alloc) else {
+    let Ok(mut levels) = four(alloc) else {
         return Err(ExitCode::from(3));
     };
     for (number, step) in SCRIPT {
@@ -49,9 +58,6 @@ fn run(rt: &HostRuntime) -> Result<(), ExitCode> {
         }
     }
     for level in levels {
-        if !level.is_idle() {
-            return Err(ExitCode::from(2));
-        }
         let Ok(report) = level.end(alloc) else {
             return Err(ExitCode::from(3));
         };

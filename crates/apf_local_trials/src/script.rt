@@ -33,7 +33,7 @@ pub enum Told {
 }
 
 /// The level of each step, and the step.
-pub const SCRIPT: [(usize, Step); 25] = [
+pub const SCRIPT: [(usize, Step); 32] = [
     (0, Step::Arrive(0, 1)),
     (1, Step::Arrive(0, 2)),
     (2, Step::Arrive(0, 1)),
@@ -59,6 +59,13 @@ pub const SCRIPT: [(usize, Step); 25] = [
     (0, Step::Finish(1)),
     (1, Step::Finish(0)),
     (2, Step::Finish(3)),
+    (3, Step::Arrive(0, 1)),
+    (3, Step::Arrive(1, 1)),
+    (3, Step::Try(2, 1)),
+    (3, Step::Finish(0)),
+    (3, Step::Arrive(1, 1)),
+    (2, Step::Arrive(0, 3)),
+    (2, Step::Arrive(1, 1)),
 ];
 
 /// Takes one step.

@@ -1,6 +1,5 @@
 -- The Pass after all of its steps.
 use Rattle.std.proofs.Common.{rules, ◌≡◌, ◌≢◌, ◌⊎◌, inl, inr, refl, sym, ap, ◌∙◌}
-use Rattle.std.specs.Prelude.{Some}
 use Rattle.apf_words.specs.declared.decision.Decision.{Decision}
 use Rattle.apf_words.specs.declared.decision.Decision.TheVariants.{Execute, Closed, Cancelled, ConcurrencyLimit}
 use Rattle.apf_model.specs.declared.response.Response.{Response}

@@ -6,7 +6,7 @@ use Rattle.apf_flow.specs.Deal.{hand_of}
 use Rattle.apf_local.specs.declared.answer.Answer.{Answer}
 use Rattle.apf_local.specs.declared.answer.Place.{Place}
 use Rattle.apf_local.specs.declared.answer.Place.TheVariants as places
-use Rattle.apf_local.specs.Levels.{LocalView, SameLocal, SlotMoves, Arrives, IsArrival, IsAt, answer_of}
+use Rattle.apf_local.specs.Levels.{LocalView, SameLocal, IsArrival, IsAt, answer_of}
 use Rattle.apf_local.proofs.Beginning.{opened}
 use Rattle.apf_local.proofs.Logging.{logged, logs_in}
 use Rattle.apf_local.proofs.Slots.{owner_then, local_kept, at_of, waits_of, is_arrival}

@@ -1,26 +1,22 @@
--- The Passes of free slots are done.
-use Rattle.std.proofs.Common.{rules, ◌≡◌, ◌<◌, ℕ, length, get_or, Some, refl, sym, ap, ◌∙◌, subst}
-use Rattle.std.specs.Prelude.{slice_get, All}
-use Rattle.std.proofs.lemmas.Option.{slice_get-get_or}
-use Rattle.apf_book.specs.LifeBook.{IsLifeKept}
-use Rattle.apf_line.specs.Reports.{Ended}
-use Rattle.apf_local.specs.declared.answer.Place.{Place}
-use Rattle.apf_local.specs.declared.answer.Place.TheVariants as places
+-- How a level ended whose requests were given up.
+use Rattle.std.proofs.Common.{◌≡◌, sym, ◌∙◌, subst}
+use Rattle.apf_book.specs.LifeBook.{then_came_all}
+use Rattle.apf_line.specs.Levels.{LifeId}
+use Rattle.apf_line.specs.Reports.{EndedAs}
 use Rattle.apf_local.specs.Levels.{LocalView, id_of}
 use Rattle.apf_local.proofs.Beginning.{of_each}
 use Rattle.apf_local.proofs.level.LocalLevel.end.Goals as goal
 
-pub end-requires-clause-done : goal.end-requires-clause-done
-end-requires-clause-done c = λ k d low.
-    let ps = c.self.inside.places.items in
-    let inside : k < length ps = subst (λ (n : ℕ). k < n) (sym c.self.invariant.count) low in
-    let free : All (λ (p : Place). p ≡ places.Free) ps = subst (λ (l : LocalView). All (λ (p : Place). p ≡ places.Free) l.places) (sym c.self.view_is) c.requires.free in
-    let here : slice_get ps k ≡ Some places.Free = slice_get-get_or ps k places.Free inside ∙ ap (λ (p : Place). Some p) (free k places.Free inside) in
-    c.self.invariant.at k places.Free (get_or c.self.inside.owner.passes k d) here (slice_get-get_or c.self.inside.owner.passes k d low)
-
-pub returns : goal.returns
-returns c = of_each _ _ (λ r ends.
-    let l : LocalView = record { owner = c.self.inside.owner; sizes = c.self.inside.dealer; places = c.self.inside.places.items } in
-    let h = c.has_a_history.ensures in
-    subst (λ (x : LocalView). Ended (id_of x) x.owner.passes x.owner.stations r) c.self.view_is
-    (record { view = h.view; ended_as = ends (id_of l) h.view refl (record { queues = c.self.invariant.deck; limit = refl; hand = c.self.invariant.hand }) h.kept })) c.end.result c.end.ensures
+pub returns-clause-ended : goal.returns-clause-ended
+returns-clause-ended c = of_each _ _ (λ r ends.
+    let old : LocalView = c.args.self in
+    let new : LocalView = c.give_up_all.new.self in
+    record {
+      passes = new.owner.passes;
+      stations = new.owner.stations;
+      history = λ v kept.
+          let on = c.give_up_all.ensures.history v kept in
+          let same = c.give_up_all.ensures.same in
+          let is : id_of new ≡ id_of old = (λ i. record { gate = same.owner.gate i; sizes = same.sizes i; queue_limit = (on.kept.of_life.limit ∙ sym kept.of_life.limit) i }) in
+          (on.events, on.servings, subst (λ (k : LifeId). EndedAs k (then_came_all on.events v) new.owner.passes new.owner.stations r) is (ends (then_came_all on.events v) on.kept));
+    }) c.end_idle.result c.end_idle.ensures

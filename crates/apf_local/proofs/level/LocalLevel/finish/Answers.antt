@@ -1,5 +1,5 @@
 -- A slot whose request gave its seats back.
-use Rattle.std.proofs.Common.{rules, ◌≡◌, ◌<◌, length, get_or, set, Some, refl, sym, ap, ◌∙◌, subst}
+use Rattle.std.proofs.Common.{rules, ◌≡◌, ◌<◌, length, get_or, set, Some, refl, ap, ◌∙◌, subst}
 use Rattle.std.specs.Prelude.{slice_get}
 use Rattle.std.proofs.lemmas.Option.{slice_get-get_or}
 use Rattle.apf_local.specs.declared.answer.Place.{Place}

@@ -9,7 +9,6 @@ use Rattle.apf_gate.specs.Ends.{IsEnded}
 use Rattle.apf_gate.specs.PassCalls.{TriesToTake}
 use Rattle.apf_gate.specs.PassResults.{SamePass}
 use Rattle.apf_gate.specs.Tokens.{GateId, PassToken, StationToken, pass_gate}
-use Rattle.apf_gate.specs.Traces.{asked_in}
 use Rattle.apf_book.specs.BookResults.{SameRequest}
 use Rattle.apf_book.specs.LifeBook.{LifeBookView}
 use Rattle.apf_book.specs.LifeCalls.{HearsLife}

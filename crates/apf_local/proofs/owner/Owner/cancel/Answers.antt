@@ -1,5 +1,5 @@
 -- A request that is cancelled is struck, and is decided still.
-use Rattle.std.proofs.Common.{◌≡◌, refl, sym, subst}
+use Rattle.std.proofs.Common.{refl, sym, subst}
 use Rattle.apf_local.specs.Worlds.{IsDecidedIn}
 use Rattle.apf_local.specs.Owners.{OwnerView}
 use Rattle.apf_local.proofs.Places.{same_owner}

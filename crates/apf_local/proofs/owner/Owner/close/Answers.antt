@@ -1,5 +1,5 @@
 -- The same gate, with the book heard twice.
-use Rattle.std.proofs.Common.{◌≡◌, refl, List, length, ◌∙◌, ap}
+use Rattle.std.proofs.Common.{refl, List, length, ◌∙◌, ap}
 use Rattle.std.proofs.lemmas.List.{length-set}
 use Rattle.apf_gate.specs.Tokens.{StationToken}
 use Rattle.apf_local.specs.Owners.{OwnerView}

@@ -1,15 +1,13 @@
 -- A request is decided, by the steps that the Desk heard of the Station.
-use Rattle.std.proofs.Common.{rules, ◌≡◌, ◌≢◌, ℕ, List, length, refl, sym, ap, ◌∙◌, subst}
+use Rattle.std.proofs.Common.{rules, ◌≡◌, ℕ, List, length, refl, sym, ap, ◌∙◌, subst}
 use Rattle.std.proofs.lemmas.List.{length-set}
-use Rattle.std.specs.Prelude.{None}
 use Rattle.apf_gate.specs.declared.answers.Cancel.{Cancel}
 use Rattle.apf_gate.specs.declared.answers.Cancel.TheVariants as cancels
 use Rattle.apf_gate.specs.Records.{KnowsMore}
 use Rattle.apf_gate.specs.StationCalls.{TriesToCancel}
 use Rattle.apf_gate.specs.Tokens.{GateId, StationToken, station_gate}
-use Rattle.apf_gate.specs.Traces.{world_of}
 use Rattle.apf_book.specs.LifeBook.{LifeBookView}
-use Rattle.apf_local.specs.Worlds.{HasComeIn, IsDecidedIn}
+use Rattle.apf_local.specs.Worlds.{HasComeIn}
 use Rattle.apf_local.specs.Owners.{OwnerView}
 use Rattle.apf_local.proofs.Knowing.{book_then}
 use Rattle.apf_local.proofs.Places.{set_thrice, same_owner}

@@ -1,5 +1,5 @@
 -- No grant is lost.
-use Rattle.std.proofs.Common.{◌≤◌, length, refl, arith}
+use Rattle.std.proofs.Common.{refl, arith}
 use Rattle.apf_book.specs.LifeBook.{LifeBookView}
 use Rattle.apf_book.specs.Tries.{LosesGrant}
 use Rattle.apf_local.proofs.Places.{not_less}

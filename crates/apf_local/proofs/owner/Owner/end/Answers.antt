@@ -1,11 +1,10 @@
 -- How the level ended, of every history of its book.
-use Rattle.std.proofs.Common.{rules, ◌≡◌, ℕ, refl, sym, ap, ◌∙◌, subst}
+use Rattle.std.proofs.Common.{rules, ◌≡◌, refl, sym, ap, ◌∙◌, subst}
 use Rattle.apf_queue.specs.View.{queue_count}
 use Rattle.apf_gate.specs.Tokens.{GateId}
-use Rattle.apf_book.specs.Life.{LifeView}
 use Rattle.apf_book.specs.LifeBook.{LifeBookView, IsLifeKept}
 use Rattle.apf_line.specs.Levels.{LifeId, IsBookOf}
-use Rattle.apf_line.specs.Reports.{ClosesAs, EndedAs}
+use Rattle.apf_line.specs.Reports.{EndedAs}
 use Rattle.apf_local.specs.Owners.{OwnerView}
 use Rattle.apf_local.specs.Openings.{HasQueuesOf}
 use Rattle.apf_local.proofs.Beginning.{of_each}

@@ -1,8 +1,7 @@
 -- The request arrives in the line, and its exchange is not lost.
-use Rattle.std.proofs.Common.{rules, ◌≡◌, ◌≢◌, ◌<◌, ◌≤◌, ◌++◌, List, length, set, inl, inr, refl, sym, ap, ◌∙◌, subst, ℕ, arith}
-use Rattle.std.proofs.lemmas.List.{length-set}
+use Rattle.std.proofs.Common.{rules, ◌≡◌, ◌≢◌, ◌≤◌, ◌++◌, List, length, set, inl, sym, ap, ◌∙◌, subst, ℕ, arith}
 use Rattle.std.proofs.lemmas.List.Elements.{All-set}
-use Rattle.std.specs.Prelude.{slice_get, map, Some, false}
+use Rattle.std.specs.Prelude.{map, false}
 use Rattle.apf_model.specs.declared.response.Response.TheVariants.{Queue}
 use Rattle.apf_model.specs.History.{has_arrived}
 use Rattle.apf_gate.specs.declared.record.Actor.TheVariants.{OfPass}
@@ -16,8 +15,8 @@ use Rattle.apf_book.specs.declared.arrived.Arrived.TheVariants as arrived
 use Rattle.apf_book.specs.Said.{saying}
 use Rattle.apf_book.specs.Tries.{IsNewTo, RacesArrival}
 use Rattle.apf_local.specs.Worlds.{HasComeIn}
-use Rattle.apf_local.specs.Owners.{OwnerView, IsBlocked, Enters}
-use Rattle.apf_local.proofs.Places.{set_again, not_less, was, moved, same_owner, heard}
+use Rattle.apf_local.specs.Owners.{OwnerView, Enters}
+use Rattle.apf_local.proofs.Places.{set_again, not_less, was, moved, heard}
 use Rattle.apf_local.proofs.Hearing.{asked_then, goes_on_more}
 use Rattle.apf_local.proofs.Entering.{entered, step_stays}
 use Rattle.apf_local.proofs.Worlds.{said_came}

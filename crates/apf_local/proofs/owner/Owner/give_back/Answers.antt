@@ -1,5 +1,5 @@
 -- The seats went back by one step.
-use Rattle.std.proofs.Common.{rules, ◌≡◌, refl, sym, ap, ◌∙◌, subst}
+use Rattle.std.proofs.Common.{rules, ◌≡◌, ◌∙◌, subst}
 use Rattle.std.specs.Prelude.{Some}
 use Rattle.apf_words.specs.declared.decision.Decision.TheVariants.{Execute}
 use Rattle.apf_gate.specs.Records.{told_own}

@@ -1,18 +1,15 @@
 -- An owner of a gate that was just opened.
-use Rattle.std.proofs.Common.{rules, ◌≡◌, ◌≤◌, ◌<◌, ◌*◌, ℕ, List, [], ◌∷◌, length, get_or, Some, inl, inr, refl, sym, ap, ◌∙◌, subst, arith}
+use Rattle.std.proofs.Common.{rules, ◌≡◌, ◌≤◌, ◌<◌, ◌*◌, ℕ, List, [], ◌∷◌, length, refl, sym, ap, ◌∙◌, subst, arith}
 use Rattle.std.specs.Prelude.{map}
 use Rattle.std.proofs.lemmas.Option.{get_or_from_slice_get}
 use Rattle.apf_words.specs.Limits.{max_requests}
 use Rattle.apf_history.specs.declared.events.Event.{Event}
 use Rattle.apf_model.specs.declared.config.Config.{Config}
-use Rattle.apf_model.specs.declared.response.Response.{Response}
-use Rattle.apf_model.specs.declared.response.Response.TheVariants.{Queue, Reject}
 use Rattle.apf_gate.specs.Records.{new_desk}
 use Rattle.apf_gate.specs.Tokens.{GateId, PassToken, StationToken, DeskToken, desk_gate}
 use Rattle.apf_book.specs.Said.{saying, sayings}
 use Rattle.apf_book.specs.Life.{LifeView}
 use Rattle.apf_book.specs.LifeBook.{LifeBookView, IsLifeKept}
-use Rattle.apf_local.specs.Openings.{line_of}
 use Rattle.apf_local.proofs.Beginning.{beginning, is_beginning, opened}
 use Rattle.apf_local.proofs.owner.Owner.open.Goals as goal
 

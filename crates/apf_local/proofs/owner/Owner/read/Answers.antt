@@ -3,8 +3,7 @@ use Rattle.std.proofs.Common.{rules, ◌≡◌, List, ℕ, length, refl, sym, ap
 use Rattle.std.proofs.lemmas.List.{length-set}
 use Rattle.std.specs.Prelude.{Option, Some}
 use Rattle.apf_gate.specs.declared.record.Actor.TheVariants.{OfPass}
-use Rattle.apf_gate.specs.declared.record.Shape.{Shape}
-use Rattle.apf_gate.specs.Tokens.{GateId, PassToken, pass_gate, desk_gate}
+use Rattle.apf_gate.specs.Tokens.{GateId, PassToken, pass_gate}
 use Rattle.apf_gate.specs.PassResults.{SamePass, AfterTold}
 use Rattle.apf_gate.specs.PassSteps.{PassLoadsDecision}
 use Rattle.apf_book.specs.BookResults.{SameRequest}
@@ -13,7 +12,7 @@ use Rattle.apf_book.specs.LifeCalls.{HearsLife}
 use Rattle.apf_local.specs.Worlds.{IsDecidedIn}
 use Rattle.apf_local.specs.Owners.{OwnerView, Reads}
 use Rattle.apf_local.proofs.Knowing.{book_then}
-use Rattle.apf_local.proofs.Places.{set_thrice, was, moved, same_owner, heard}
+use Rattle.apf_local.proofs.Places.{set_thrice, was, moved, same_owner}
 use Rattle.apf_local.proofs.Hearing.{hears_trace}
 use Rattle.apf_local.proofs.Told.{hears_in_line, read_is}
 use Rattle.apf_local.proofs.Worlds.{decided_more, decided_same, undecided_before}

@@ -1,11 +1,10 @@
 -- The limit is set, and its exchange is not lost.
-use Rattle.std.proofs.Common.{rules, ◌≡◌, ◌≢◌, ◌<◌, ◌≤◌, List, length, set, get_or, refl, sym, ap, ◌∙◌, subst, ℕ, arith}
+use Rattle.std.proofs.Common.{rules, ◌≡◌, ◌≢◌, ◌<◌, ◌≤◌, List, length, set, refl, ap, ◌∙◌, subst, arith}
 use Rattle.std.proofs.lemmas.List.{length-set}
 use Rattle.std.proofs.lemmas.List.Elements.{All-set}
 use Rattle.std.proofs.lemmas.List.Quantifiers.{any-set}
 use Rattle.std.proofs.lemmas.Option.{slice_get_read}
 use Rattle.std.specs.Prelude.{slice_get, Some}
-use Rattle.apf_gate.specs.declared.answers.TrySetLimit.{TrySetLimit}
 use Rattle.apf_gate.specs.declared.answers.TrySetLimit.TheVariants as answers
 use Rattle.apf_gate.specs.Ends.{IsEnded}
 use Rattle.apf_gate.specs.Records.{KnowsMore}

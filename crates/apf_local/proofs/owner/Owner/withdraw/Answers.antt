@@ -1,12 +1,8 @@
 -- A request leaves the line.
-use Rattle.std.proofs.Common.{rules, ◌≡◌, ◌≢◌, inl, inr, ℕ, List, length, refl, sym, ap, ◌∙◌, subst}
+use Rattle.std.proofs.Common.{rules, ◌≡◌, List, length, refl, sym, ap, ◌∙◌, subst}
 use Rattle.std.proofs.lemmas.List.{length-set}
 use Rattle.apf_gate.specs.Tokens.{PassToken}
-use Rattle.apf_gate.specs.Records.{told_own}
-use Rattle.apf_book.specs.BookResults.{SameRequest}
-use Rattle.apf_book.specs.Life.{LifeView}
 use Rattle.apf_book.specs.LifeBook.{LifeBookView, IsLifeKept}
-use Rattle.apf_book.specs.LifeCalls.{HearsLife}
 use Rattle.apf_local.specs.Owners.{OwnerView, Leaves}
 use Rattle.apf_local.proofs.Knowing.{book_then}
 use Rattle.apf_local.proofs.Places.{set_again, was, moved, same_owner}

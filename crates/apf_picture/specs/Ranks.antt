@@ -1,5 +1,5 @@
 -- Which flows have a row of their own: those that waited longest.
-use Rattle.std.specs.Prelude.{◌≡◌, ℕ, ◌+◌, List, [], ◌∷◌, take, map, Bool, true, false, ◌&&◌, ◌||◌, nat_lt, ◌==◌, if◌then◌else◌, count_by, IsPermutation, IsSortedBy}
+use Rattle.std.specs.Prelude.{◌≡◌, ℕ, ◌+◌, ◌*◌, ◌^◌, ◌≤◌, List, [], ◌∷◌, take, map, Bool, true, false, ◌&&◌, ◌||◌, nat_lt, ◌==◌, if◌then◌else◌, count_by, IsPermutation, IsSortedBy}
 use Rattle.std.specs.List.{range_with_len}
 use Rattle.apf_picture.specs.declared.rank.Standing.{Standing}
 use Rattle.apf_picture.specs.declared.scene.Outcome.{Outcome}
@@ -27,6 +27,10 @@ standing_of outcomes of flow = record { flow = flow; waited = waited_by outcomes
 
 abbrev pub standings_of : List Outcome → (of : List ℕ) → (flows : ℕ) → List Standing
 standings_of outcomes of flows = map (standing_of outcomes of) (range_with_len 0 flows)
+
+-- the flow has no more requests than this, each of which waited less than 2^64 microseconds
+abbrev pub IsOfSome : ℕ → Standing → Type 0
+IsOfSome n s = (s.waited ≤ n * 2 ^ 64) × (s.requests ≤ n)
 
 -- a flow comes before another one: it waited longer, or as long and has more requests, or as many and is the earlier one
 abbrev pub comes_before : Standing → Standing → Bool

@@ -1,7 +1,7 @@
 //! Which flows have a row of their own: those that waited longest.
 
-ghost use Rattle.std.specs.Prelude.{◌≡◌, ◌<◌, ◌≤◌, ◌*◌, ◌^◌, ◌==◌, length, map, min, vec_len, All, IfOk, IsPermutation, IsSortedBy};
-ghost use Rattle.apf_picture.specs.Ranks.{own_rows, count_of, wait_if, waited_by, standing_of, standings_of, comes_before, AreOwnFlows, place_of, rows_of};
+ghost use Rattle.std.specs.Prelude.{◌≡◌, ◌<◌, ◌+◌, ◌-◌, ◌^◌, ℕ, List, [], ◌∷◌, length, map, min, vec_len, All, IfOk, IsPermutation, IsSortedBy};
+ghost use Rattle.apf_picture.specs.Ranks.{own_rows, IsOfSome, standings_of, comes_before, AreOwnFlows, place_of, rows_of};
 
 use crate::scene::Outcome;
 use std::alloc::{AllocError, Global};
@@ -19,47 +19,41 @@ pub(crate) struct Standing {
     pub(crate) requests: u32,
 }
 
-// How many requests a flow has, if these are the flows of the requests.
-fn count(of: &[u32], flow: u32) -> u32
-    requires { length of.now < 2 ^ 32 }
-    ensures { result ≡ count_of of.now flow }
+// The standings of all flows before any request is counted, in the order of the flows.
+fn no_standings(alloc: Global, flows: u32) -> Result<Vec<Standing>, AllocError>
+    ensures { IfOk result (λ all. all.items ≡ standings_of [] [] flows) }
 {
-    of.iter().filter(|other| **other == flow).count() as u32
-}
-
-// How long a request waited, if it is of the flow.
-fn wait(outcome: &Outcome, other: u32, flow: u32) -> u64
-    ensures { result ≡ wait_if (other == flow) outcome.now }
-{
-    if other == flow { outcome.wait } else { 0 }
-}
-
-// How long the requests of a flow waited in sum.
-fn waited(outcomes: &[Outcome], of: &[u32], flow: u32) -> u128
-    requires few { length of.now < 2 ^ 32 }
-    requires each { length of.now ≡ length outcomes.now }
-    ensures { result ≡ waited_by outcomes.now of.now flow }
-{
-    let mut waited = 0;
-    for (number, outcome) in outcomes.iter().enumerate() {
-        waited += u128::from(wait(outcome, of[number], flow));
+    let mut standings = Vec::with_capacity(alloc, flows as usize)?;
+    for flow in 0..flows {
+        standings.push(Standing {
+            flow,
+            waited: 0,
+            requests: 0,
+        })?;
     }
-    waited
+    Ok(standings)
 }
 
-fn flow_standing(outcomes: &[Outcome], of: &[u32], flow: u32) -> Standing
-    requires few { length of.now < 2 ^ 32 }
-    requires each { length of.now ≡ length outcomes.now }
-    ensures { result ≡ standing_of outcomes.now of.now flow }
+// Counts one request more, which is of this flow, if there is one of this number. So many were counted before.
+fn count(standings: &mut Vec<Standing>, outcome: &Outcome, flow: u32, counted: usize)
+    requires few { counted < 2 ^ 32 - 1 }
+    requires before { All (IsOfSome counted) standings.old.items }
+    ensures after { All (IsOfSome (counted + 1)) standings.new.items }
+    ensures counts { (flows : ℕ) (outcomes : List Outcome) (of : List ℕ) → standings.old.items ≡ standings_of outcomes of flows
+        → standings.new.items ≡ standings_of (outcome.now ∷ outcomes) (flow ∷ of) flows }
 {
-    Standing {
-        flow,
-        waited: waited(outcomes, of, flow),
-        requests: count(of, flow),
+    let place = flow as usize;
+    if place < standings.len() {
+        let standing = standings[place];
+        standings[place] = Standing {
+            flow: standing.flow,
+            waited: standing.waited + u128::from(outcome.wait),
+            requests: standing.requests + 1,
+        };
     }
 }
 
-// The standings of all flows, in the order of the flows.
+// The standings of all flows, in the order of the flows. The requests are counted from the last one to the first.
 fn standings(
     alloc: Global,
     outcomes: &[Outcome],
@@ -72,9 +66,10 @@ fn standings(
     ensures count { IfOk result (λ all. vec_len all ≡ flows) }
     ensures known { IfOk result (λ all. All (λ it. it.flow < flows) all.items) }
 {
-    let mut standings = Vec::new(alloc);
-    for flow in 0..flows {
-        standings.push(flow_standing(outcomes, of, flow))?;
+    let mut standings = no_standings(alloc, flows)?;
+    for counted in 0..of.len() {
+        let number = of.len() - 1 - counted;
+        count(&mut standings, &outcomes[number], of[number], counted);
     }
     Ok(standings)
 }

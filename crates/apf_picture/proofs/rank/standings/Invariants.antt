@@ -1,12 +1,11 @@
--- The standings of the flows so far.
-use Rattle.std.proofs.Common.{◌≡◌, ◌<◌, length}
+-- The standings by the requests that were counted so far, which are the last ones.
+use Rattle.std.proofs.Common.{◌≡◌, ◌-◌, ◌≤◌, drop, length}
 use Rattle.std.specs.Prelude.{All}
-use Rattle.apf_picture.specs.Ranks.{standings_of}
+use Rattle.apf_picture.specs.Ranks.{IsOfSome, standings_of}
 use Rattle.apf_picture.proofs.rank.standings.Given as goal
 
-abbrev pub invariant-loop-flow : goal.invariant-loop-flow
-invariant-loop-flow l = record {
-  all : l.standings.items ≡ standings_of l.outcomes l.of l.flow;
-  count : length l.standings.items ≡ l.flow;
-  known : All (λ it. it.flow < l.flows) l.standings.items;
+abbrev pub invariant-loop-counted : goal.invariant-loop-counted
+invariant-loop-counted l = record {
+  all : l.standings.items ≡ standings_of (drop (length l.of - l.counted) l.outcomes) (drop (length l.of - l.counted) l.of) l.flows;
+  some : All (IsOfSome l.counted) l.standings.items;
 }

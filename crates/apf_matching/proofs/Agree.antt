@@ -1,5 +1,5 @@
 -- A schema is missed by nothing exactly where it matches.
-use Rattle.std.proofs.Common.{◌≡◌, ◌∙◌, List, [], ◌∷◌, Bool, true, false, Option, Some, None, refl, sym, ap}
+use Rattle.std.proofs.Common.{◌≡◌, ◌∙◌, List, [], ◌∷◌, Bool, true, false, Option, Some, None, refl, ap}
 use Rattle.std.specs.Prelude.{◌&&◌, ◌||◌, is_none, nat_lt, if◌then◌else◌}
 use Rattle.std.specs.List.{list_any}
 use Rattle.apf_objects.specs.Rules.{Text, Resources, Paths, RuleSaid}

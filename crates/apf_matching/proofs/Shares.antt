@@ -1,8 +1,7 @@
 -- The parts of the seats.
-use Rattle.std.proofs.Common.{◌≡◌, ℕ, zero, suc, sym, ◌∙◌, ◌+◌, ◌*◌, ◌-◌, ◌/◌, ◌%◌, ◌<◌, ◌≤◌, min, List, [], ◌∷◌, length, map, refl, arith}
-use Rattle.std.specs.List.{sum}
+use Rattle.std.proofs.Common.{◌≡◌, ℕ, zero, suc, ◌+◌, ◌*◌, ◌-◌, ◌/◌, ◌<◌, ◌≤◌, List, [], ◌∷◌, length, arith}
 use Rattle.std.proofs.lemmas.Nat.{div_below, mod_below}
-use Rattle.std.proofs.Math.Nat.{div-add-mod, div-mul-le_self, mul_comm, mul-suc, suc-mul, mul-zero, mul-add, add-mul, mul-le-mul_left, mul-le-mul_right, le_of_mul-le-mul_right, lt_of_mul-lt-mul_right}
+use Rattle.std.proofs.Math.Nat.{div-add-mod, div-mul-le_self, mul_comm, mul-suc, suc-mul, mul-zero, mul-add, add-mul, le_of_mul-le-mul_right, lt_of_mul-lt-mul_right}
 use Rattle.apf_matching.specs.Limits.{nominal_of, sum_of_shares, sum_of_parts, sum_of_nominal}
 use Rattle.apf_objects.specs.Levels.{LevelSaid}
 

@@ -1,5 +1,5 @@
 -- The first schema that a request matches.
-use Rattle.std.specs.Prelude.{◌≡◌, ℕ, suc, List, [], ◌∷◌, Bool, Option, Some, None, option_map, if◌then◌else◌, codes, bytes_eq}
+use Rattle.std.specs.Prelude.{◌≡◌, ℕ, suc, List, [], ◌∷◌, Bool, Option, Some, None, if◌then◌else◌, codes, bytes_eq}
 use Rattle.apf_objects.specs.Rules.{Text}
 use Rattle.apf_objects.specs.Schemas.{SchemaSaid}
 use Rattle.apf_objects.specs.declared.schema.Distinguisher.{Distinguisher}

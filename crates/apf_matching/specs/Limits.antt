@@ -1,5 +1,5 @@
 -- The limits of levels.
-use Rattle.std.specs.Prelude.{ℕ, zero, suc, ◌+◌, ◌-◌, ◌*◌, ◌/◌, List, [], ◌∷◌, Option, Some, None}
+use Rattle.std.specs.Prelude.{ℕ, zero, suc, ◌+◌, ◌*◌, ◌/◌, List, [], ◌∷◌, Option, Some, None}
 use Rattle.apf_objects.specs.Levels.{LevelSaid}
 use Rattle.apf_objects.specs.declared.level.LevelSettings.{LevelSettings}
 use Rattle.apf_matching.specs.declared.limits.LevelLimits.{LevelLimits}

@@ -1,5 +1,5 @@
 -- Which requests a schema matches.
-use Rattle.std.specs.Prelude.{ℕ, ◌-◌, List, ◌++◌, length, take, drop, Bool, false, ◌&&◌, ◌||◌, nat_eq, Option, Some, None, option_and_then, if◌then◌else◌, codes, bytes_eq}
+use Rattle.std.specs.Prelude.{◌-◌, List, length, take, drop, Bool, false, ◌&&◌, ◌||◌, nat_eq, Option, Some, None, option_and_then, if◌then◌else◌, codes, bytes_eq}
 use Rattle.std.specs.Borrow.{Bor}
 use Rattle.std.specs.List.{list_any, starts_with, ends_with}
 use Rattle.apf_objects.specs.Rules.{Text, Who, user, group, account, Resources, Paths, RuleSaid}

@@ -1,5 +1,5 @@
 -- The schema that takes what no other does is there.
-use Rattle.std.proofs.Common.{◌≡◌, ◌∙◌, List, [], ◌∷◌, Bool, true, false, refl, ap, codes}
+use Rattle.std.proofs.Common.{◌≡◌, List, [], ◌∷◌, Bool, true, false, refl, codes}
 use Rattle.std.specs.Prelude.{◌||◌, if◌then◌else◌, bytes_eq}
 use Rattle.apf_objects.specs.Cluster.{with_lacking_schema, with_own_schemas}
 use Rattle.apf_objects.specs.Objects.{has_schema}

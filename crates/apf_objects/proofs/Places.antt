@@ -1,8 +1,8 @@
 -- A schema is put where it belongs.
-use Rattle.std.proofs.Common.{◌≡◌, ℕ, suc, List, [], ◌∷◌, ◌++◌, Bool, true, false, take, drop, map, refl, ap}
+use Rattle.std.proofs.Common.{◌≡◌, suc, List, [], ◌∷◌, ◌++◌, Bool, true, false, take, drop, map, refl, ap}
 use Rattle.std.specs.Prelude.{if◌then◌else◌}
 use Rattle.apf_objects.specs.Order.{comes_before, insert, place_for}
-use Rattle.apf_objects.specs.Schemas.{SchemaSaid, schema_view}
+use Rattle.apf_objects.specs.Schemas.{schema_view}
 use Rattle.apf_objects.specs.declared.schema.Schema.{Schema}
 
 view_by : (schema other : Schema) (others : List Schema) (b : Bool)

@@ -1,5 +1,5 @@
 -- The levels, as a text of objects says them.
-use Rattle.std.specs.Prelude.{ℕ, ◌≤◌, List, true, false, Option, Some, None, is_some, IfSome, if◌then◌else◌, Result, Ok, Err, codes, bytes_eq, string_bytes}
+use Rattle.std.specs.Prelude.{ℕ, ◌≤◌, true, false, Option, Some, None, is_some, IfSome, if◌then◌else◌, Result, Ok, Err, codes, bytes_eq, string_bytes}
 use Rattle.serde_json.specs.Data.{Data}
 use Rattle.apf_words.specs.Limits.{max_queues, max_queue_length}
 use Rattle.apf_files.specs.FirstFault.{◌>>=◌}

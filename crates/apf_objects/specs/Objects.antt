@@ -2,7 +2,7 @@
 use Rattle.std.specs.Prelude.{ℕ, ◌+◌, List, [], ◌∷◌, ◌++◌, length, map, Bool, nat_le, nat_lt, Option, Some, None, option_and_then, is_some, if◌then◌else◌, Result, Ok, Err, codes, bytes_eq}
 use Rattle.std.specs.List.{list_any}
 use Rattle.serde_json.specs.Data.{Data, Items, no_items, item}
-use Rattle.serde_json.specs.Find.{as_str, as_object, as_array}
+use Rattle.serde_json.specs.Find.{as_str, as_object}
 use Rattle.apf_files.specs.FirstFault.{◌>>=◌, or_fault}
 use Rattle.apf_files.specs.RequestsFile.{items_count}
 use Rattle.apf_objects.specs.Rules.{Text}
@@ -11,7 +11,7 @@ use Rattle.apf_objects.specs.Schemas.{SchemaSaid, schema_view, schema_of}
 use Rattle.apf_objects.specs.Values.{at}
 use Rattle.apf_objects.specs.declared.fault.Place.{Place}
 use Rattle.apf_objects.specs.declared.fault.ObjectFault.{ObjectFault}
-use Rattle.apf_objects.specs.declared.fault.ObjectFault.TheVariants.{NoObjects, BadItems, TooMany, NotObject, Missing, BadValue, Repeated, TooManyLevels}
+use Rattle.apf_objects.specs.declared.fault.ObjectFault.TheVariants.{TooMany, NotObject, Missing, BadValue, Repeated, TooManyLevels}
 use Rattle.apf_objects.specs.declared.key.ObjectKey.TheVariants as key
 use Rattle.apf_objects.specs.declared.level.Version.{Version}
 use Rattle.apf_objects.specs.declared.level.Version.TheVariants.{V1, V1beta3, V1beta2}

@@ -1,5 +1,5 @@
 -- The rules of a schema, as a text of objects says them.
-use Rattle.std.specs.Prelude.{ℕ, List, Bool, map, Option, Some, None, is_some, if◌then◌else◌, Result, Ok, Err, String, codes, bytes_eq, string_bytes}
+use Rattle.std.specs.Prelude.{ℕ, List, Bool, map, Option, Some, is_some, if◌then◌else◌, Result, Ok, Err, String, codes, bytes_eq, string_bytes}
 use Rattle.std.specs.declared.alloc.Global.{Global}
 use Rattle.serde_json.specs.Data.{Data, Items}
 use Rattle.serde_json.specs.Find.{as_object}

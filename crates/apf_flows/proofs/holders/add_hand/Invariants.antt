@@ -1,5 +1,5 @@
 -- The place stands at the queues so far.
-use Rattle.std.proofs.Common.{◌≡◌, ℕ, List, [], ◌∷◌, ◌++◌, take}
+use Rattle.std.proofs.Common.{◌≡◌, ℕ, [], ◌∷◌, ◌++◌, take}
 use Rattle.std.specs.Prelude.{if◌then◌else◌}
 use Rattle.apf_flows.specs.Hands.{holds}
 use Rattle.apf_flows.specs.Holders.{places_at}

@@ -1,9 +1,6 @@
 -- Each queue has the places of those of the flows so far that hold it.
-use Rattle.std.proofs.Common.{◌≡◌, ℕ, length, take}
-use Rattle.std.specs.Prelude.{filter, slice_get}
-use Rattle.std.specs.List.{filter_map}
+use Rattle.std.proofs.Common.{take}
 use Rattle.apf_flows.specs.Dealt.{flows_of}
-use Rattle.apf_flows.specs.Hands.{Flow, holds, holders_of}
 use Rattle.apf_flows.specs.Holders.{places_at}
 use Rattle.apf_flows.proofs.Held.{ArePlaces}
 use Rattle.apf_flows.proofs.holders.holders_of.Given as goal

@@ -1,4 +1,4 @@
-use Rattle.std.proofs.Common.{◌≡◌, drop, map, string_bytes, length, option_map, ◌+◌}
+use Rattle.std.proofs.Common.{◌≡◌, drop, map}
 use Rattle.apf_matching.specs.First.{first_match, place_from}
 use Rattle.apf_objects.specs.Schemas.{schema_view}
 use Rattle.apf_matching.specs.Matches.{schema_matches}

@@ -1,4 +1,4 @@
-use Rattle.std.proofs.Common.{◌≡◌, drop, map, string_bytes, length, option_map, ◌+◌}
+use Rattle.std.proofs.Common.{◌≡◌, drop, map}
 use Rattle.apf_matching.specs.First.{place_named, place_from}
 use Rattle.apf_objects.specs.Schemas.{schema_view}
 use Rattle.std.specs.Prelude.{bytes_eq}

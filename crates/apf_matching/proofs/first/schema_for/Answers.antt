@@ -1,4 +1,4 @@
-use Rattle.std.proofs.Common.{◌≡◌, None, sym, ◌∙◌, codes, map, rules}
+use Rattle.std.proofs.Common.{◌≡◌, None, codes, map, rules}
 use Rattle.std.specs.Prelude.{bytes_eq}
 use Rattle.apf_objects.specs.Schemas.{schema_view}
 use Rattle.apf_matching.specs.First.{place_named}

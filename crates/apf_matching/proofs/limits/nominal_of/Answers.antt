@@ -1,4 +1,4 @@
-use Rattle.std.proofs.Common.{◌≡◌, ◌≤◌, ◌+◌, ◌*◌, ◌-◌, ℕ, rules, arith, sym}
+use Rattle.std.proofs.Common.{◌≤◌, rules, arith}
 use Rattle.apf_matching.proofs.Shares.{small_product, not_above}
 use Rattle.apf_matching.proofs.limits.nominal_of.Goals as goal
 

@@ -1,4 +1,4 @@
-use Rattle.std.proofs.Common.{◌≡◌, drop, map, string_bytes, length, option_map, ◌+◌}
+use Rattle.std.proofs.Common.{◌≡◌, map, length}
 use Rattle.apf_matching.specs.Misses.{furthest, furthest_from, rule_miss}
 use Rattle.apf_objects.specs.Rules.{rule_view}
 use Rattle.apf_matching.specs.declared.miss.Miss.TheVariants as of_miss

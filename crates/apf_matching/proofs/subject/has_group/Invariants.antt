@@ -1,4 +1,4 @@
-use Rattle.std.proofs.Common.{◌≡◌, drop, map, string_bytes, length, option_map, ◌+◌}
+use Rattle.std.proofs.Common.{◌≡◌, drop}
 use Rattle.apf_matching.specs.Matches.{has_group}
 use Rattle.apf_matching.proofs.subject.has_group.Given as goal
 

@@ -1,4 +1,4 @@
-use Rattle.std.proofs.Common.{◌≡◌, drop, map, string_bytes, length, option_map, ◌+◌}
+use Rattle.std.proofs.Common.{◌≡◌, drop, map}
 use Rattle.apf_matching.specs.Matches.{has_subject}
 use Rattle.apf_objects.specs.Rules.{subject_view}
 use Rattle.apf_matching.proofs.subject.has_subject.Given as goal

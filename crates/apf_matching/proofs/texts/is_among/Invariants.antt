@@ -1,4 +1,4 @@
-use Rattle.std.proofs.Common.{◌≡◌, drop, map, string_bytes, length, option_map, ◌+◌}
+use Rattle.std.proofs.Common.{◌≡◌, drop, map, string_bytes}
 use Rattle.apf_matching.specs.Matches.{is_among}
 use Rattle.apf_matching.proofs.texts.is_among.Given as goal
 

@@ -1,5 +1,4 @@
-use Rattle.std.proofs.Common.{◌≡◌, ◌++◌, ◌∷◌, take, drop, rules, ap, map, ◌∙◌}
-use Rattle.apf_objects.specs.Schemas.{schema_view}
+use Rattle.std.proofs.Common.{◌≡◌, ◌++◌, ◌∷◌, take, drop, rules}
 use Rattle.apf_objects.proofs.Places.{insert_at_place}
 use Rattle.apf_objects.proofs.order.insert.Goals as goal
 

@@ -1,5 +1,5 @@
 -- Why a level is not opened, and what one that was just opened is.
-use Rattle.std.specs.Prelude.{◌≡◌, ◌⊎◌, ◌≤◌, ◌<◌, ◌*◌, ℕ, [], length, All, Some}
+use Rattle.std.specs.Prelude.{◌≡◌, ◌⊎◌, ◌≤◌, ◌<◌, ◌*◌, ℕ, [], length, slice_get, All, Some}
 use Rattle.apf_words.specs.Limits.{max_limit, max_requests}
 use Rattle.apf_flow.specs.Sizes.{IsDealable}
 use Rattle.apf_flow.specs.Fault.{fault_of}
@@ -9,7 +9,8 @@ use Rattle.apf_model.specs.declared.response.Response.TheVariants.{Queue, Reject
 use Rattle.apf_gate.specs.declared.fault.GateFault.{GateFault}
 use Rattle.apf_gate.specs.declared.fault.GateFault.TheVariants as gate
 use Rattle.apf_gate.specs.declared.record.State.TheVariants.{Fresh}
-use Rattle.apf_gate.specs.Tokens.{PassToken}
+use Rattle.apf_gate.specs.Gauges.{max_numbers}
+use Rattle.apf_gate.specs.Tokens.{PassToken, StationToken}
 use Rattle.apf_queue.specs.View.{queue_count, IsQueueShape}
 use Rattle.apf_queue.specs.declared.fault.QueueFault.TheVariants.{BadShape}
 use Rattle.apf_line.specs.Levels.{LifeId}
@@ -50,6 +51,15 @@ line_of c = record c { queues = set_by c.limit_response c.queues; queue_length_l
 abbrev pub IsLimit : Config → Type 0
 IsLimit config = (1 ≤ config.limit) × (config.limit ≤ max_limit)
 
+-- the queues of these settings are dealt and made. A level without queues has none
+abbrev pub HasQueues : Response → Config → ℕ → Type 0
+HasQueues Queue c slots = IsDealable c.queues c.hand_size × IsQueueShape c.queues c.queue_length_limit slots
+HasQueues Reject c slots = Unit {0}
+
+-- a level is opened for these settings and so many slots: nothing of them is out of range
+abbrev pub CanOpen : Config → ℕ → Type 0
+CanOpen config slots = IsLimit config × (slots ≤ max_requests) × HasQueues config.limit_response config slots
+
 -- the gate's fault that is told as such: its first, unless that is out of memory
 abbrev pub IsGateFault : Config → ℕ → GateFault → Type 0
 IsGateFault config slots gate.BadLimit = (config.limit < 1) ⊎ (max_limit < config.limit)
@@ -74,14 +84,18 @@ IsOpenFault config slots faults.NoMemory = Unit {0}
 abbrev pub IsBlank : LifeBookView → Type 0
 IsBlank b = (v : LifeView) → IsLifeKept v b → v.history ≡ []
 
--- the gate has this limit and response, so many slots and one Station, and no Pass made a step
+-- the gate has this limit and response, so many slots and one Station, and no Pass made a step, nor the Station
 pub record IsNewOwner (config : Config) (slots : ℕ) (o : OwnerView) : Type 0 where
   pub limit : o.gate.shape.limit ≡ config.limit
   pub response : o.gate.shape.response ≡ config.limit_response
   pub slots_are : o.gate.shape.slots ≡ slots
   pub one_station : o.gate.shape.stations ≡ 1
+  pub new_station : All (λ (t : StationToken). t.station.knows.trace ≡ []) o.stations
   pub queue_limit : o.book.queues.queues.length_limit ≡ (line_of config).queue_length_limit
   pub fresh : All (λ (t : PassToken). t.pass.state ≡ Fresh) o.passes
+  -- each Pass has the number of its slot, and all numbers are there for the requests that come
+  pub numbered : (i : ℕ) (t : PassToken) → slice_get o.passes i ≡ Some t → t.pass.number ≡ i
+  pub numbers : length o.gate.shape.widths ≡ max_numbers
   pub blank : IsBlank o.book
   pub few : slots ≤ max_requests
   pub all_passes : length o.passes ≡ slots

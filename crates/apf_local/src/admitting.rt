@@ -70,6 +70,7 @@ pub fn admit(
     ensures same { SameOwner owner.old owner.new }
     ensures spent { IfNone result (owner.new ≡ owner.old) }
     ensures used_up { IfNone result (IsSlotOf owner.old.passes slot (IsUsedUp owner.old.gate ask.width)) }
+    ensures operators { owner.new.stations ≡ owner.old.stations }
     ensures admits { IfSome result (λ a. Moves slot owner.old.passes owner.new.passes (Admits ask (hand_of dealer.now ask.hash) owner.old.book a.0 a.1 owner.new.book)) }
 {
     match owner.begin(slot, ask)? {
@@ -88,6 +89,7 @@ fn stand(owner: &mut Owner, dealer: &Dealer, slot: usize, ask: Ask) -> (Admitted
     requires some_cost { 1 ≤ ask.cost }
     requires low_cost { ask.cost ≤ max_cost }
     ensures same { SameOwner owner.old owner.new }
+    ensures operators { owner.new.stations ≡ owner.old.stations }
     ensures stands { Moves slot owner.old.passes owner.new.passes (Stands ask (hand_of dealer.now ask.hash) owner.old.book result.0 result.1 owner.new.book) }
 {
     let hand = dealer.deal(ask.hash);

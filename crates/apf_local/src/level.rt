@@ -1,6 +1,6 @@
 //! A priority level as one plain value.
 
-ghost use Rattle.std.specs.Prelude.{◌≡◌, ◌≢◌, ◌↔◌, ◌≤◌, ◌<◌, ◌^◌, ℕ, length, slice_get, slice_set, All, Some, IfOk, IfErr, IsTrue};
+ghost use Rattle.std.specs.Prelude.{◌≡◌, ◌≢◌, ◌↔◌, ◌≤◌, ◌<◌, ◌^◌, ℕ, length, slice_get, slice_set, All, Some, IfOk, IfErr, OnOk, IsTrue};
 ghost use Rattle.apf_words.specs.Limits.{max_width, max_cost, max_limit};
 ghost use Rattle.apf_flow.specs.Deal.{hand_of};
 ghost use Rattle.apf_gate.specs.Slots.{IsTicket};
@@ -16,7 +16,7 @@ ghost use Rattle.apf_local.specs.Worlds.{IsDecidedIn};
 ghost use Rattle.apf_local.specs.Levels.{id_of, SameLocal, GoesOn, EndsFrom, IsArrival, IsFinish};
 ghost use Rattle.apf_local.specs.Owners.{IsSlotOf, Steps, Sets};
 ghost use Rattle.apf_local.specs.Tries.{IsTry, IsReading, SlotsStay};
-ghost use Rattle.apf_local.specs.Openings.{IsOpened, IsOpenFault};
+ghost use Rattle.apf_local.specs.Openings.{IsOpened, CanOpen, IsOpenFault};
 
 use crate::admitting::admit;
 use crate::answer::{Answer, Ask, Place};
@@ -62,6 +62,7 @@ impl LocalLevel {
     /// settings of queues have no fault where the level has none.
     pub fn open(alloc: Global, config: &Config, slots: u32) -> Result<LocalLevel, OpenFault>
         ensures opened { IfOk result (IsOpened config.now slots) }
+        ensures settings { OnOk result (CanOpen config.now slots) }
         ensures fault { IfErr result (IsOpenFault config.now slots) }
     {
         let (owner, dealer) = Owner::open(alloc, config, slots)?;
@@ -97,6 +98,7 @@ impl LocalLevel {
         requires some_cost { 1 ≤ ask.cost }
         requires low_cost { ask.cost ≤ max_cost }
         ensures same { SameLocal self.old self.new }
+        ensures operators { self.new.owner.stations ≡ self.old.owner.stations }
         ensures arrives { IsArrival slot ask (hand_of self.old.sizes ask.hash) self.old result.0 result.1 self.new }
     {
         every_level_has_histories();
@@ -118,6 +120,7 @@ impl LocalLevel {
     pub fn finish(&mut self, slot: usize) -> Answer
         requires is_slot { slot < length self.old.places }
         ensures same { SameLocal self.old self.new }
+        ensures operators { self.new.owner.stations ≡ self.old.owner.stations }
         ensures finishes { IsFinish slot self.old result self.new }
         ensures history { (v : LifeView) → IsLifeKept v self.old.owner.book → GoesOn v self.new.owner.book }
     {
@@ -140,6 +143,7 @@ impl LocalLevel {
         requires some_width { 1 ≤ ask.width }
         requires narrow { ask.width ≤ max_width }
         ensures same { SameLocal self.old self.new }
+        ensures operators { self.new.owner.stations ≡ self.old.owner.stations }
         ensures tries { IsTry slot ask self.old result self.new }
         ensures history { (v : LifeView) → IsLifeKept v self.old.owner.book → GoesOn v self.new.owner.book }
     {
@@ -162,6 +166,7 @@ impl LocalLevel {
     pub fn place(&mut self, slot: usize) -> Place
         requires is_slot { slot < length self.old.places }
         ensures same { SameLocal self.old self.new }
+        ensures operators { self.new.owner.stations ≡ self.old.owner.stations }
         ensures reads { IsReading slot self.old result self.new }
         ensures decided { IsSlotOf self.old.owner.passes slot (λ t. IsDecidedIn self.old.owner.book t.pass.number → result ≢ places.Waits) }
         ensures history { (v : LifeView) → IsLifeKept v self.old.owner.book → GoesOn v self.new.owner.book }
@@ -305,6 +310,7 @@ impl LocalLevel {
     pub fn end(self, alloc: Global) -> Result<Report, AllocError>
         ensures ended { IfOk result (EndsFrom self) }
         ensures idle { All (λ p. p ≡ places.Free) self.places → IfOk result (Ended (id_of self) self.owner.passes self.owner.stations) }
+        ensures idle_of_each { All (λ p. p ≡ places.Free) self.places → IfOk result (λ r. (v : LifeView) → IsLifeKept v self.owner.book → EndedAs (id_of self) v self.owner.passes self.owner.stations r) }
     {
         let mut level = self;
         level.give_up_all();

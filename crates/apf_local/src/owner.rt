@@ -1,6 +1,6 @@
 //! A gate, its book and all of its tokens in one hand.
 
-ghost use Rattle.std.specs.Prelude.{ℕ, ◌≡◌, ◌↔◌, ◌≢◌, ◌≤◌, ◌<◌, ◌*◌, ◌^◌, length, slice_get, All, None, IfSome, IfNone, IfOk, IfErr, IsTrue};
+ghost use Rattle.std.specs.Prelude.{ℕ, ◌≡◌, ◌↔◌, ◌≢◌, ◌≤◌, ◌<◌, ◌*◌, ◌^◌, length, slice_get, All, None, IfSome, IfNone, IfOk, IfErr, OnOk, IsTrue};
 ghost use Rattle.apf_words.specs.Level.{Level};
 ghost use Rattle.apf_words.specs.Limits.{max_width, max_cost, max_limit};
 ghost use Rattle.apf_words.specs.declared.decision.Decision.{Decision};
@@ -19,7 +19,7 @@ ghost use Rattle.apf_book.specs.Notes.{AreLifeStats, CopiesLate};
 ghost use Rattle.apf_line.specs.Levels.{LifeId};
 ghost use Rattle.apf_line.specs.Reports.{EndedAs};
 ghost use Rattle.apf_line.specs.Stopped.{IsStopped};
-ghost use Rattle.apf_local.specs.Openings.{line_of, IsNewOwner, IsOpenFault, HasQueuesOf};
+ghost use Rattle.apf_local.specs.Openings.{line_of, IsNewOwner, CanOpen, IsOpenFault, HasQueuesOf};
 ghost use Rattle.apf_local.specs.Worlds.{HasComeIn, IsDecidedIn};
 ghost use Rattle.apf_local.specs.Owners.{SameOwner, Moves, Stay, Begins, IsBlocked, IsUsedUp, Enters, GivesBack, Reads, IsToldOff, Leaves, StrikesOne, Steps, Sets, IsSlotOf};
 
@@ -111,6 +111,7 @@ impl Owner {
         ensures deck { IfOk result (λ o. queue_count o.0.book.queues.queues ≡ (line_of config.now).queues) }
         ensures hand { IfOk result (λ o. o.0.book.queues.hand ≡ (line_of config.now).hand_size) }
         ensures stopped { IfOk result (λ o. IsStopped o.0.book) }
+        ensures settings { OnOk result (CanOpen config.now slots) }
         ensures fault { IfErr result (IsOpenFault config.now slots) }
     {
         every_level_has_histories();
@@ -217,6 +218,7 @@ impl Owner {
         ensures spent { IfNone result (self.new ≡ self.old) }
         ensures used_up { IfNone result (IsSlotOf self.old.passes slot (IsUsedUp self.old.gate ask.width)) }
         ensures begins { IfSome result (λ took. Moves slot self.old.passes self.new.passes (Begins ask took)) }
+        ensures operators { self.new.stations ≡ self.old.stations }
         ensures history { (v : LifeView) → IsLifeKept v self.old.book → IsLifeKept v self.new.book }
     {
         match self
@@ -251,6 +253,7 @@ impl Owner {
         requires ask { IsAsk self.old.book dealt.now cost }
         ensures same { SameOwner self.old self.new }
         ensures enters { Moves slot self.old.passes self.new.passes (Enters self.old.book dealt.now cost result self.new.book) }
+        ensures operators { self.new.stations ≡ self.old.stations }
     {
         self.book.has_a_history();
         self.gate.ask(&mut self.passes[slot]);
@@ -302,6 +305,7 @@ impl Owner {
         requires runs { IsSlotOf self.old.passes slot IsRunning }
         ensures same { SameOwner self.old self.new }
         ensures gives { Moves slot self.old.passes self.new.passes (GivesBack result) }
+        ensures operators { self.new.stations ≡ self.old.stations }
         ensures history { (v : LifeView) → IsLifeKept v self.old.book → IsLifeKept v self.new.book }
     {
         let waiting = self.gate.release(&mut self.passes[slot]);
@@ -315,6 +319,7 @@ impl Owner {
         requires waits { IsSlotOf self.old.passes slot IsInLine }
         ensures same { SameOwner self.old self.new }
         ensures reads { Moves slot self.old.passes self.new.passes (Reads result) }
+        ensures operators { self.new.stations ≡ self.old.stations }
         ensures decided { IsSlotOf self.old.passes slot (λ t. IsDecidedIn self.old.book t.pass.number → result ≢ None) }
         ensures history { (v : LifeView) → IsLifeKept v self.old.book → IsLifeKept v self.new.book }
     {
@@ -331,6 +336,7 @@ impl Owner {
         requires told { IsSlotOf self.old.passes slot IsToldOff }
         ensures same { SameOwner self.old self.new }
         ensures leaves { Moves slot self.old.passes self.new.passes Leaves }
+        ensures operators { self.new.stations ≡ self.old.stations }
         ensures history { (v : LifeView) → IsLifeKept v self.old.book → (r : ℕ) × StrikesOne r v self.new.book }
     {
         // the Desk, which let it enter, knows that it is decided by nobody else

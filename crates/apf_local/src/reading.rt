@@ -20,6 +20,7 @@ pub fn read_place(owner: &mut Owner, slot: usize) -> Place
     requires waits { IsSlotOf owner.old.passes slot IsInLine }
     ensures same { SameOwner owner.old owner.new }
     ensures reads { Moves slot owner.old.passes owner.new.passes (Places result) }
+    ensures operators { owner.new.stations ≡ owner.old.stations }
     ensures decided { IsSlotOf owner.old.passes slot (λ t. IsDecidedIn owner.old.book t.pass.number → result ≢ Place.Waits) }
     ensures history { (v : LifeView) → IsLifeKept v owner.old.book → GoesOn v owner.new.book }
 {

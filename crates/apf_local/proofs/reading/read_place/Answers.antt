@@ -42,6 +42,7 @@ returns-in-Some c =
           over = λ free. leaves.does.told;
         };
       };
+      operators = c.withdraw.ensures.operators ∙ c.read.ensures.operators;
       decided = λ t at is waits. (let z : places.Free ≡ places.Waits = waits in cc);
       history = λ v kept. let s = c.withdraw.ensures.history v (c.read.ensures.history v kept) in struck_on v c.withdraw.new.self.book s.0 s.1;
     }

@@ -150,6 +150,7 @@ struct Level<K: Mark> {
     station: Station,
     dealer: Dealer,
     ghost gate_is: { gate ≡ K.gate },
+    ghost has_queues: { K.gate.shape.response ≡ Queue },
     ghost desk_is: { desk_gate book.desk ≡ K.gate },
     ghost sizes_are: { sizes_of book.queues ≡ dealer },
     ghost station_is: { station_gate station ≡ K.gate },
@@ -180,6 +181,7 @@ impl<K: Mark> Level<K> {
         dealer: Dealer,
     ) -> Level<K>
         requires gate { gate ≡ K.gate }
+        requires has_queues { K.gate.shape.response ≡ Queue }
         requires desk { desk_gate book.desk ≡ K.gate }
         requires sizes { sizes_of book.queues ≡ dealer }
         requires station { station_gate station ≡ K.gate }
@@ -340,6 +342,7 @@ fn play<K: Mark, R: Wait + Abort>(
     opened: Opened<Global>,
 ) -> Past
     requires gate { opened.0 ≡ K.gate }
+    requires has_queues { opened.0.shape.response ≡ Queue }
     requires desk { (desk_gate opened.1 ≡ opened.0) × IsLifeDeskFor 5 opened.1 }
     requires passes { All (λ t. (pass_gate t ≡ opened.0) × (t.pass.state ≡ Fresh)) opened.2.items }
     requires stations { All (λ t. station_gate t ≡ opened.0) opened.3.items }

@@ -1,6 +1,7 @@
 //! A slot's Pass, with how far its request is.
 
 ghost use Rattle.std.specs.Prelude.{◌≡◌, ◌≢◌, ◌≤◌, true, false, Some, None};
+ghost use Rattle.apf_model.specs.declared.response.Response.TheVariants.{Queue};
 ghost use Rattle.apf_words.specs.Limits.{max_width, max_cost};
 ghost use Rattle.apf_gate.specs.declared.record.State.TheVariants as states;
 ghost use Rattle.apf_words.specs.declared.decision.Decision.TheVariants.{Execute};
@@ -108,6 +109,7 @@ impl<K: Mark> Tenant<K> {
         dealer: &Dealer,
     ) -> Option<Arrived>
         requires gate { gate.now ≡ K.gate }
+        requires has_queues { K.gate.shape.response ≡ Queue }
         requires book { desk_gate book.old.desk ≡ K.gate }
         requires sizes { sizes_of book.old.queues ≡ dealer.now }
         ensures book { desk_gate book.new.desk ≡ K.gate }

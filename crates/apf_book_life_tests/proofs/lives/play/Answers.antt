@@ -1,5 +1,5 @@
 -- The book that was opened has the queues of its config.
-use Rattle.std.proofs.Common.{◌≡◌, ℕ, ◌≤◌, inl, inr, List, [], length, Some, refl, sym, ◌∙◌, arith}
+use Rattle.std.proofs.Common.{◌≡◌, ℕ, ◌≤◌, inl, inr, List, [], length, Some, refl, sym, ap, ◌∙◌, arith}
 use Rattle.std.proofs.lemmas.List.Elements.{All-pop}
 use Rattle.std.proofs.lemmas.Bool.{cases_lt}
 use Rattle.std.proofs.lemmas.List.{get_or_past}
@@ -7,7 +7,7 @@ use Rattle.apf_model.specs.World.{width}
 use Rattle.apf_model.specs.Schedule.{AreWidths}
 use Rattle.apf_gate.specs.declared.record.Shape.{Shape}
 use Rattle.apf_gate.specs.Gauges.{IsShape}
-use Rattle.apf_gate.specs.Tokens.{StationToken, station_gate}
+use Rattle.apf_gate.specs.Tokens.{GateId, StationToken, station_gate}
 use Rattle.apf_book.specs.Life.{LifeView, IsOpening}
 use Rattle.apf_book_life_tests.proofs.lives.play.Goals as goal
 
@@ -36,6 +36,9 @@ of-level-requires-clause-sizes g c =
     let deck = (c.in-Ok.ensures.opens (beginning shape c.args.config.now.queues c.args.config.now.queue_length_limit) (begins shape c.args.config.now.queues c.args.config.now.queue_length_limit c.is_of_a_gate.ensures.shape) refl).of_life.deck in
     let dealer = c.in-Ok-new.ensures.sizes in
     λ i. record { deck = (deck ∙ sym dealer.0) i; hand = (c.in-Ok.ensures.hand ∙ sym dealer.1) i }
+
+pub of-level-requires-clause-has_queues : goal.of-level-requires-clause-has_queues
+of-level-requires-clause-has_queues g c = ap (λ (x : GateId). x.shape.response) (sym c.requires.gate) ∙ c.requires.has_queues
 
 pub of-level-requires-clause-station : goal.of-level-requires-clause-station
 of-level-requires-clause-station g c =

@@ -99,6 +99,7 @@ pub record IsNewOwner (config : Config) (slots : ℕ) (o : OwnerView) : Type 0 w
   pub blank : IsBlank o.book
   pub few : slots ≤ max_requests
   pub all_passes : length o.passes ≡ slots
+  pub all_stations : length o.stations ≡ 1
   -- the newest events are kept, two for each slot
   pub room : o.book.notes.capacity ≡ 2 * slots
 

@@ -63,7 +63,7 @@ fn note_asked(all: &mut [Asked], slot: u32, asked: Asked)
     }
 }
 
-// The same, as the level is asked.
+// What an arrival asks, with its width, as the level is asked.
 fn ask_for(arrival: Arrival, asked: Asked) -> Ask
     ensures { result ≡ record { width = arrival.ask.width; hash = arrival.ask.hash; cost = asked.cost } }
 {
@@ -90,6 +90,7 @@ pub fn arrive(
 {
     level.has_a_history();
     let asked = asked_by(notes, arrival);
+    // its number says how often the slot was given, which is less than 2^46 times
     let _request = level.ticket(slot as usize);
     let (answer, event) = level.arrive(slot as usize, ask_for(arrival, asked));
     notes.tally = after_arrival(notes.tally, arrival.ask.width, answer);
@@ -112,6 +113,7 @@ pub fn attempt(
     ensures count { length level.new.places ≡ length level.old.places }
 {
     let asked = asked_by(notes, arrival);
+    // as above
     let _request = level.ticket(slot as usize);
     let answer = level.try_arrive(slot as usize, ask_for(arrival, asked));
     notes.tally = after_arrival(notes.tally, arrival.ask.width, answer);

@@ -121,5 +121,6 @@ returns-clause-opened c =
       blank = λ w of. blank c.in_ok-book.book c.in_ok-gate.desk w c.in_ok-book.ensures.desk desk of;
       few = subst (λ (n : ℕ). n ≤ max_requests) slots c.is_of_a_gate.ensures.shape.few_slots;
       all_passes = search rules;
+      all_stations = search rules;
       room = c.in_ok-book.ensures.room;
     }

@@ -18,3 +18,4 @@ pub mod Opening
 pub mod Honouring
 pub mod Closing
 pub mod Booked
+pub mod Counting

@@ -90,6 +90,7 @@ fn run_of(
     ensures decided { IfOk result (λ o. AreDecidedAs o.0.calendar.patience o.0.calendar.courses o.1.decisions.items) }
     ensures over { IfOk result (λ o. all_dues o.0.calendar.patience o.0.calendar.courses ≡ []) }
     ensures ended { IfOk result (λ o. IsEndOf config.now trace.now o.0.carried o.1.decisions.items o.1.queues.items o.2) }
+    ensures all_queues { IfOk result (λ o. length o.1.queues.items ≡ length trace.now) }
     ensures settings { OnOk result (CanOpen config.now (length trace.now)) }
     ensures fault { IfErr result (λ fault. (patience : ℕ) → IsKeptBy (times_of trace.now) patience diary → IsFault config.now (length trace.now) patience fault) }
 {

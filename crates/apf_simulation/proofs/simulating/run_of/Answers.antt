@@ -77,3 +77,6 @@ returns-clause-ended c =
       ended = subst (λ (d : DiaryView). HasEndedBy trace sim.level d.carried parts.result.2.decisions.items parts.result.2.queues.items r) (sym parts.ensures.diary)
           (subst (λ (n : Notes). HasEndedBy trace sim.level now.diary.carried n.decisions.items n.queues.items r) (sym parts.ensures.notes) ended);
     }
+
+pub returns-clause-all_queues : goal.returns-clause-all_queues
+returns-clause-all_queues c = ap (λ (n : Notes). length n.queues.items) c.into_parts-level.ensures.notes ∙ (c.in_ok-run.ensures.tied.count.queues ∙ c.in_ok-run.ensures.tied.all)

@@ -7,7 +7,6 @@ use apf_run::read_config;
 use apf_simulation::{Comparison, simulate};
 use std::alloc::Global;
 use std::io::Write;
-use std::sync::Wait;
 
 /// Simulates the trace on the level of the config, and prints what became of each request.
 ///
@@ -15,18 +14,16 @@ use std::sync::Wait;
 ///
 /// The fault of the patience, then those of the files in the order config, trace, then those of the level, then those
 /// of the output.
-pub(crate) fn print_fates<F: Files, O: Write, R: Wait>(
-    rt: &R,
+pub(crate) fn print_fates<F: Files, O: Write>(
     alloc: Global,
     files: &mut F,
     names: (&str, &str),
     patience: &str,
     out: &mut O,
 ) -> Result<(), Fault> {
-    let (_config, trace, simulation) = simulated(rt, alloc, files, names, patience)?;
-    let queues = simulation.queues(alloc)?;
+    let (_config, trace, simulation) = simulated(alloc, files, names, patience)?;
     simulation
-        .write_fates(trace.as_slice(), queues.as_slice(), out)
+        .write_fates(trace.as_slice(), out)
         .map_err(|_| Fault::CannotWrite)
 }
 
@@ -36,8 +33,7 @@ pub(crate) fn print_fates<F: Files, O: Write, R: Wait>(
 ///
 /// The fault of the patience, then those of the files in the order of their names, then those of the one level and of
 /// the other, then those of the output.
-pub(crate) fn print_comparison<F: Files, O: Write, R: Wait>(
-    rt: &R,
+pub(crate) fn print_comparison<F: Files, O: Write>(
     alloc: Global,
     files: &mut F,
     names: (&str, &str, &str),
@@ -49,8 +45,8 @@ pub(crate) fn print_comparison<F: Files, O: Write, R: Wait>(
     let config = read_config(alloc, read_input(files, Input::Config, names.0)?.as_slice())?;
     let other = read_config(alloc, read_input(files, Input::Config, names.1)?.as_slice())?;
     let trace = read_requests(alloc, files, names.2)?;
-    let one = simulate(rt, alloc, &config, trace.as_slice(), patience)?;
-    let two = simulate(rt, alloc, &other, trace.as_slice(), patience)?;
+    let one = simulate(alloc, &config, trace.as_slice(), patience)?;
+    let two = simulate(alloc, &other, trace.as_slice(), patience)?;
     let comparison = Comparison::new(alloc, &one, &two)?;
     comparison
         .write(trace.as_slice(), out)

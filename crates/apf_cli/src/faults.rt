@@ -5,9 +5,11 @@ ghost use Rattle.std.specs.Prelude.{◌≤◌};
 use crate::files::{Cause, Input};
 use apf_flow::DealerFault;
 use apf_flows::HandsFault;
+use apf_local::OpenFault;
 use apf_run::{
     ConfigFault, LevelFault, ReplayFault, RequestFault, RunFault, ScriptFault, WriteFault,
 };
+use apf_simulation::SimulationFault;
 use std::alloc::AllocError;
 use std::io::Write;
 use std::{fmt, io};
@@ -61,6 +63,8 @@ pub enum Fault {
     RequestAndLog,
     /// The level was not opened, for another cause than the dealer's. What the readers accept has none.
     Level(ReplayFault),
+    /// In a simulation nothing is due any more, and a request still waits. It has never been seen.
+    StillWaits,
     CannotRead(Input, Cause),
     /// The file has more bytes than it may have.
     TooLarge(Input),
@@ -99,6 +103,7 @@ impl Fault {
             | Fault::Script(_)
             | Fault::Told(_)
             | Fault::Level(_)
+            | Fault::StillWaits
             | Fault::CannotRead(_, _)
             | Fault::CannotReadCommands
             | Fault::TooLarge(_)
@@ -170,6 +175,17 @@ impl From<RunFault> for Fault {
             RunFault::Worker(number) => Fault::Worker(number),
             RunFault::Gate(fault) => ReplayFault::Gate(fault).into(),
             RunFault::Level(fault) => ReplayFault::Level(fault).into(),
+        }
+    }
+}
+
+impl From<SimulationFault> for Fault {
+    fn from(fault: SimulationFault) -> Fault {
+        match fault {
+            SimulationFault::Open(OpenFault::Gate(fault)) => ReplayFault::Gate(fault).into(),
+            SimulationFault::Open(OpenFault::Level(fault)) => ReplayFault::Level(fault).into(),
+            SimulationFault::Open(OpenFault::NoMemory) => Fault::NoMemory,
+            SimulationFault::StillWaits => Fault::StillWaits,
         }
     }
 }
@@ -252,6 +268,7 @@ impl fmt::Display for Fault {
             ),
             Fault::RequestAndLog => f.write_str("apf: --log goes with no other option"),
             Fault::Level(fault) => write!(f, "apf: the level can't be opened: {fault}"),
+            Fault::StillWaits => f.write_str("apf: a request still waits, and no seat is taken"),
             Fault::CannotRead(input, _) => write!(f, "apf: cannot read {input}"),
             Fault::TooLarge(input) => {
                 let most = input.most();

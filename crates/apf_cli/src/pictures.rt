@@ -6,33 +6,20 @@ use crate::faults::Fault;
 use crate::files::Files;
 use crate::traces::simulated;
 use apf_flows::flows_of;
-use apf_model::Event;
 use apf_picture::{Outcome, Picture, Scene};
 use apf_simulation::End;
 use std::alloc::{AllocError, Global};
 use std::io::Write;
-use std::sync::Wait;
-
-// The queue that each of so many requests entered, if it entered one.
-fn queues_of(alloc: Global, log: &[Event], requests: usize) -> Result<Vec<Option<u32>>, AllocError>
-    ensures { IfOk result (λ queues. vec_len queues ≡ requests) }
-{
-    let mut queues = vec![in alloc; None; requests]?;
-    for event in log {
-        if let Event::Enter(request, queue) = *event {
-            if let Some(place) = queues.get_mut(request as usize) {
-                *place = Some(queue);
-            }
-        }
-    }
-    Ok(queues)
-}
 
 // What a picture shows of each request: its decision, its wait, and the queue that it entered.
-fn outcomes_of(alloc: Global, log: &[Event], ends: &[End]) -> Result<Vec<Outcome>, AllocError>
+fn outcomes_of(
+    alloc: Global,
+    queues: &[Option<u32>],
+    ends: &[End],
+) -> Result<Vec<Outcome>, AllocError>
+    requires { length queues.now ≡ length ends.now }
     ensures { IfOk result (λ outcomes. vec_len outcomes ≡ length ends.now) }
 {
-    let queues = queues_of(alloc, log, ends.len())?;
     let mut outcomes = Vec::with_capacity(alloc, ends.len())?;
     for (number, end) in ends.iter().enumerate() {
         outcomes.push(Outcome {
@@ -50,17 +37,19 @@ fn outcomes_of(alloc: Global, log: &[Event], ends: &[End]) -> Result<Vec<Outcome
 ///
 /// The fault of the patience, then those of the files in the order config, trace, then those of the level, then those
 /// of the output.
-pub(crate) fn print_picture<F: Files, O: Write, R: Wait>(
-    rt: &R,
+pub(crate) fn print_picture<F: Files, O: Write>(
     alloc: Global,
     files: &mut F,
     names: (&str, &str),
     patience: &str,
     out: &mut O,
 ) -> Result<(), Fault> {
-    let (config, trace, simulation) = simulated(rt, alloc, files, names, patience)?;
-    let log = simulation.report.log.as_slice();
-    let outcomes = outcomes_of(alloc, log, simulation.ends.as_slice())?;
+    let (config, trace, simulation) = simulated(alloc, files, names, patience)?;
+    let outcomes = outcomes_of(
+        alloc,
+        simulation.queues.as_slice(),
+        simulation.ends.as_slice(),
+    )?;
     let flows = flows_of(alloc, trace.as_slice())?;
     let scene = Scene {
         config,

@@ -89,8 +89,7 @@ fn print_scripted<F: Files, O: Write, R: Wait>(
 }
 
 // Does what a command on a simulation asks for, and prints what it says.
-fn print_simulated<F: Files, O: Write, R: Wait>(
-    rt: &R,
+fn print_simulated<F: Files, O: Write>(
     alloc: Global,
     command: &str,
     files: &mut F,
@@ -101,13 +100,13 @@ fn print_simulated<F: Files, O: Write, R: Wait>(
     requires { is_simulation_command command.now ≡ true }
 {
     if command == "simulate" {
-        print_simulation(rt, alloc, files, names, patience, out)
+        print_simulation(alloc, files, names, patience, out)
     } else if command == "timeline" {
-        print_timeline(rt, alloc, files, names, patience, out)
+        print_timeline(alloc, files, names, patience, out)
     } else if command == "fates" {
-        print_fates(rt, alloc, files, names, patience, out)
+        print_fates(alloc, files, names, patience, out)
     } else if command == "picture" {
-        print_picture(rt, alloc, files, names, patience, out)
+        print_picture(alloc, files, names, patience, out)
     } else {
         unreachable!()
     }
@@ -161,13 +160,13 @@ fn print_action<F: Files, O: Write, E: Write, R: Wait + Threads + Sync>(
             config,
             trace,
             patience,
-        } => print_simulated(rt, alloc, command, files, (config, trace), patience, out),
+        } => print_simulated(alloc, command, files, (config, trace), patience, out),
         Arguments::Comparison {
             config,
             other,
             trace,
             patience,
-        } => print_comparison(rt, alloc, files, (config, other, trace), patience, out),
+        } => print_comparison(alloc, files, (config, other, trace), patience, out),
         Arguments::Trace { trace } => print_requests(alloc, files, trace, out),
         Arguments::Flows {
             config,

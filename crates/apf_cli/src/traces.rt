@@ -10,12 +10,12 @@ use crate::measuring::Measure;
 use crate::telling::{named, trace_fault};
 use apf_commands::read_patience;
 use apf_flows::{write_hands, write_hands_of, write_requests};
-use apf_run::{Config, read_config, write_book};
+use apf_gate::Counts;
+use apf_run::{Config, Totals, read_config};
 use apf_simulation::{Simulation, simulate};
 use apf_traces::{TraceRequest, read_trace};
 use std::alloc::Global;
 use std::io::Write;
-use std::sync::Wait;
 
 /// The patience that a command line names, in microseconds.
 ///
@@ -73,8 +73,7 @@ pub(crate) type Simulated = (Config, Vec<TraceRequest>, Simulation);
 /// # Errors
 ///
 /// The fault of the patience, then those of the files in the order config, trace, then those of the level.
-pub(crate) fn simulated<F: Files, R: Wait>(
-    rt: &R,
+pub(crate) fn simulated<F: Files>(
     alloc: Global,
     files: &mut F,
     names: (&str, &str),
@@ -82,11 +81,35 @@ pub(crate) fn simulated<F: Files, R: Wait>(
 ) -> Result<Simulated, Fault>
     ensures few { IfOk result (λ o. vec_len o.1 ≤ max_lines) }
     ensures each { IfOk result (λ o. vec_len o.2.ends ≡ vec_len o.1) }
+    ensures all_queues { IfOk result (λ o. vec_len o.2.queues ≡ vec_len o.1) }
 {
     let patience = patience_of(patience)?;
     let (config, trace) = read_both(alloc, files, names)?;
-    let simulation = simulate(rt, alloc, &config, trace.as_slice(), patience)?;
+    let simulation = simulate(alloc, &config, trace.as_slice(), patience)?;
     Ok((config, trace, simulation))
+}
+
+// What the book of a simulation says.
+fn totals_of(simulation: &Simulation) -> Totals {
+    let word = simulation.report.words.level();
+    let stats = simulation.report.newest.stats;
+    let counts = simulation.counts;
+    Totals {
+        closed: word.closed(),
+        seats: word.seats(),
+        waiters: word.waiters(),
+        counts: Counts {
+            executed: u64::from(counts.executed),
+            queue_full: u64::from(counts.queue_full),
+            closed: u64::from(counts.closed),
+            concurrency_limit: u64::from(counts.concurrency_limit),
+            cancelled: u64::from(counts.cancelled),
+        },
+        undecided: 0,
+        entered: stats.entered,
+        dispatched: stats.dispatched,
+        struck: stats.struck,
+    }
 }
 
 /// Simulates the trace on the level of the config, and prints what its flows met and the book.
@@ -95,19 +118,20 @@ pub(crate) fn simulated<F: Files, R: Wait>(
 ///
 /// The fault of the patience, then those of the files in the order config, trace, then those of the level, then those
 /// of the output.
-pub(crate) fn print_simulation<F: Files, O: Write, R: Wait>(
-    rt: &R,
+pub(crate) fn print_simulation<F: Files, O: Write>(
     alloc: Global,
     files: &mut F,
     names: (&str, &str),
     patience: &str,
     out: &mut O,
 ) -> Result<(), Fault> {
-    let (_config, trace, simulation) = simulated(rt, alloc, files, names, patience)?;
+    let (_config, trace, simulation) = simulated(alloc, files, names, patience)?;
     simulation
         .write(trace.as_slice(), out)
         .map_err(|_| Fault::CannotWrite)?;
-    Ok(write_book(&simulation.report, out)?)
+    totals_of(&simulation)
+        .write(out)
+        .map_err(|_| Fault::CannotWrite)
 }
 
 /// Simulates the trace on the level of the config, and prints the script of the simulation.
@@ -115,15 +139,14 @@ pub(crate) fn print_simulation<F: Files, O: Write, R: Wait>(
 /// # Errors
 ///
 /// As for `print_simulation`.
-pub(crate) fn print_timeline<F: Files, O: Write, R: Wait>(
-    rt: &R,
+pub(crate) fn print_timeline<F: Files, O: Write>(
     alloc: Global,
     files: &mut F,
     names: (&str, &str),
     patience: &str,
     out: &mut O,
 ) -> Result<(), Fault> {
-    let (_config, _trace, simulation) = simulated(rt, alloc, files, names, patience)?;
+    let (_config, _trace, simulation) = simulated(alloc, files, names, patience)?;
     simulation
         .write_timeline(out)
         .map_err(|_| Fault::CannotWrite)

@@ -1,10 +1,9 @@
--- The flows' columns sum to the numbers of the report.
-use Rattle.std.proofs.Common.{◌≡◌, ℕ, ◌+◌, ◌<◌, List, length, get_or, slice_get, sym, ◌∙◌, subst, arith}
+-- The flows' columns sum to the numbers of the decisions.
+use Rattle.std.proofs.Common.{◌≡◌, ℕ, ◌+◌, ◌<◌, List, length, get_or, sym, ◌∙◌, subst, arith}
 use Rattle.std.proofs.lemmas.List.{length-map}
 use Rattle.apf_words.specs.declared.decision.Decision.{Decision}
 use Rattle.apf_words.specs.declared.decision.Decision.TheVariants.{Execute, QueueFull, Closed, Cancelled, ConcurrencyLimit}
-use Rattle.apf_level.specs.declared.report.Counts.{Counts}
-use Rattle.apf_level.specs.Reports.{AreSums}
+use Rattle.apf_simulation.specs.declared.counts.Counts.{Counts}
 use Rattle.apf_times.specs.declared.course.Course.{Course}
 use Rattle.apf_traces.specs.declared.request.TraceRequest.{TraceRequest}
 use Rattle.apf_flows.specs.declared.flows.Flows.{Flows}
@@ -12,7 +11,7 @@ use Rattle.apf_flows.specs.Flows.{AreFlows, hashes_of}
 use Rattle.apf_simulation.specs.declared.end.End.{End}
 use Rattle.apf_simulation.specs.declared.row.Row.{Row}
 use Rattle.apf_simulation.specs.declared.whole.Whole.{Whole}
-use Rattle.apf_simulation.specs.Columns.{AddUp, column}
+use Rattle.apf_simulation.specs.Columns.{AddUp, AreSums, column}
 use Rattle.apf_simulation.specs.Ends.{AreOf, ends_of}
 use Rattle.apf_simulation.specs.Rows.{AreRows, IsWhole}
 use Rattle.apf_simulation.specs.Tallies.{executes, rejects, cancels, in_all, one_of, executed, rejected, cancelled, seat_time_of}
@@ -21,7 +20,7 @@ use Rattle.apf_simulation.proofs.Summing.{all_by_decision, column_is, decided_to
 
 pub add_up : (c : Counts) (w : Whole) (patience : ℕ) (fs : List ℕ) (ds : List Decision) (ts : List TraceRequest) (cs : List Course) (firsts : List ℕ) (rs : List Row)
     → length fs ≡ length ds → length ts ≡ length ds → length cs ≡ length ds → ((i : ℕ) → i < length fs → get_or fs i 0 < length firsts)
-    → AreRows ts (ends_of patience fs ds ts cs) 0 firsts rs → AreSums c (slice_get ds) (length ds)
+    → AreRows ts (ends_of patience fs ds ts cs) 0 firsts rs → AreSums c ds
     → w.seat_time ≡ in_all seat_time_of (ends_of patience fs ds ts cs) → AddUp c w rs
 add_up c w patience fs ds ts cs firsts rs e0 e1 e2 known rows sums used =
     let es = ends_of patience fs ds ts cs in
@@ -55,7 +54,7 @@ add_up c w patience fs ds ts cs firsts rs e0 e1 e2 known rows sums used =
 
 -- the same of a simulation
 pub columns : (limit : ℕ) (ts : List TraceRequest) (patience : ℕ) (cs : List Course) (flows : Flows) (ds : List Decision) (counts : Counts) (es : List End) (rs : List Row) (w : Whole)
-    → length ds ≡ length ts → AreOf ts cs → AreSums counts (slice_get ds) (length ds) → AreFlows (hashes_of ts) flows.firsts.items flows.of.items
+    → length ds ≡ length ts → AreOf ts cs → AreSums counts ds → AreFlows (hashes_of ts) flows.firsts.items flows.of.items
     → es ≡ ends_of patience flows.of.items ds ts cs → AreRows ts es 0 flows.firsts.items rs → IsWhole limit patience es w → AddUp counts w rs
 columns limit ts patience cs flows ds counts es rs w decided of sums are ends rows whole =
     let hashes : length (hashes_of ts) ≡ length ts = length-map ts (λ (r : TraceRequest). r.hash) in

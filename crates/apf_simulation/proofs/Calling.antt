@@ -1,9 +1,8 @@
 -- What was just carried out is what its one request is owed, and the others stay tied.
-use Rattle.std.proofs.Common.{◌≡◌, ◌≢◌, ◌==◌, ℕ, zero, suc, ◌+◌, ◌<◌, true, false, true≢false, List, [], ◌∷◌, length, get_or, refl, sym, ap, ◌∙◌, subst, ⊎_elim, arith}
+use Rattle.std.proofs.Common.{◌≡◌, ◌≢◌, ◌==◌, ℕ, zero, suc, ◌+◌, ◌<◌, true, false, true≢false, List, [], ◌∷◌, length, get_or, refl, sym, ap, ◌∙◌, subst, ⊎_elim, inr, arith}
 use Rattle.std.proofs.lemmas.Bool.Decides.{nat_tests}
-use Rattle.apf_session.specs.declared.token.Token.{Token}
-use Rattle.apf_session.specs.declared.token.Token.TheVariants as tokens
-use Rattle.apf_session.specs.Requests.{RequestView}
+use Rattle.apf_local.specs.declared.answer.Place.{Place}
+use Rattle.apf_local.specs.declared.answer.Place.TheVariants as places
 use Rattle.apf_times.specs.declared.act.Act.TheVariants.{CarriedOut}
 use Rattle.apf_times.specs.declared.course.Course.{Course}
 use Rattle.apf_times.specs.declared.course.Seats.{Seats}
@@ -14,7 +13,9 @@ use Rattle.apf_times.specs.Dues.{arrival, giving_up, is_before}
 use Rattle.apf_times.specs.Courses.{At, ComesFirst, IsDueBy, IsInTurn, marked, returned, updated}
 use Rattle.apf_times.specs.Runs.{IsStep}
 use Rattle.apf_times.specs.Views.{CalendarView}
-use Rattle.apf_simulation.specs.Ties.{AreTied, EndsAs, Follows, HasFinished, Holds, IsCallDue, Owes}
+use Rattle.apf_traces.specs.declared.request.TraceRequest.{TraceRequest}
+use Rattle.apf_simulation.specs.Slots.{Held as InSlot, Slots, held_at}
+use Rattle.apf_simulation.specs.Ties.{AreTied, EndsAs, Follows, HasFinished, Holds, IsCallDue, IsTold, Owes, Stands, StandsAt}
 use Rattle.apf_simulation.proofs.Tying.{length-updated, updated_same, updated_other}
 
 some_end : (patience : ℕ) → patience ≢ 0 → (patience == 0) ≡ false
@@ -27,37 +28,40 @@ arrives_first : (r at patience : ℕ) → patience ≢ 0 → is_before (arrival 
 arrives_first r at patience ne = grind (arith, nat_tests)
 
 -- time goes on to what comes first
-later : (patience time : ℕ) (d : Due) (r : ℕ) (c : Course) (t : Token) → IsInTurn d patience r c → Follows patience time c t → Follows patience d.at c t
-later patience time d r c t turn is = by_token t is
-  where
-    by_token : (t : Token) → Follows patience time c t → Follows patience d.at c t
-    by_token (tokens.Fresh p) is = record { stands = is.stands; patient = is.patient }
-    by_token (tokens.Waiting p) is = record {
-      stands = record { arrived = is.stands.arrived; not_given = is.stands.not_given; in_time = λ ne. turn.while_patient (is.patient ∙ some_end patience ne) };
-      patient = is.patient;
-    }
-    by_token (tokens.Running p) is = record { stands = is.stands; patient = is.patient }
-    by_token (tokens.Done p) is = record { stands = is.stands; patient = is.patient }
-    by_token tokens.Gone is = absurd is.stands
+later_at : (trace : List TraceRequest) (patience time : ℕ) (d : Due) (r : ℕ) (c : Course) (h : InSlot) → IsInTurn d patience r c → Follows trace patience time r c h → (p : Place) → h.place ≡ p → StandsAt patience time r c p h → StandsAt patience d.at r c p h
+later_at trace patience time d r c h turn is places.Free at stands = stands
+later_at trace patience time d r c h turn is places.Waits at stands = (record {
+  arrived = stands.0.arrived;
+  not_given = stands.0.not_given;
+  in_time = λ ne. turn.while_patient (is.patient.waits at ∙ some_end patience ne);
+}, stands.1)
+later_at trace patience time d r c h turn is places.Runs at stands = stands
 
-module _ (patience time r : ℕ) (c : Course) where
+later : (trace : List TraceRequest) (patience time : ℕ) (d : Due) (r : ℕ) (c : Course) (h : InSlot) → IsInTurn d patience r c → Follows trace patience time r c h → Follows trace patience d.at r c h
+later trace patience time d r c h turn is = record { stands = later_at trace patience time d r c h turn is h.place refl is.stands; patient = is.patient; number = is.number }
+
+module _ (trace : List TraceRequest) (patience time r : ℕ) (c : Course) (h : InSlot) (is : Follows trace patience time r c h) where
   -- an arrival: its request did not arrive on the level
-  arriving : (t : Token) → c.has_arrived ≡ false → Follows patience time c t → Owes Arrive patience c.times.arrives_at (marked Arrive c) t
-  arriving (tokens.Fresh p) isnt is = (record { arrived = refl; not_given = is.stands.1; in_time = λ ne. omega arith }, is.patient, refl)
-  arriving (tokens.Waiting p) isnt is = absurd (true≢false (sym is.stands.arrived ∙ isnt))
-  arriving (tokens.Running p) isnt is = absurd (true≢false (sym is.stands.0 ∙ isnt))
-  arriving (tokens.Done p) isnt is = absurd (true≢false (sym is.stands.0 ∙ isnt))
-  arriving tokens.Gone isnt is = absurd is.stands
+  arriving : (p : Place) → h.place ≡ p → StandsAt patience time r c p h → c.has_arrived ≡ false → Owes trace Arrive patience c.times.arrives_at r (marked Arrive c) h
+  arriving places.Free at stands isnt = ⊎_elim
+      (λ away. (record { arrived = refl; not_given = away.1; in_time = λ ne. omega arith }, is.patient.away isnt, away.2))
+      (λ told. absurd (true≢false (sym told.arrived ∙ isnt)))
+      stands
+  arriving places.Waits at stands isnt = absurd (true≢false (sym stands.0.arrived ∙ isnt))
+  arriving places.Runs at stands isnt = absurd (true≢false (sym stands.0 ∙ isnt))
 
   -- the end of a patience: its request has arrived, since an arrival comes first
-  giving : (t : Token) → c.patience_over ≡ false → IsInTurn (giving_up r c.times.arrives_at patience) patience r c → Follows patience time c t
-      → Owes GiveUp patience (c.times.arrives_at + patience) (marked GiveUp c) t
-  giving (tokens.Fresh p) isnt turn is =
-      absurd (true≢false (sym (arrives_first r c.times.arrives_at patience (no_end patience (sym is.patient ∙ isnt))) ∙ turn.after_arrival is.stands.0))
-  giving (tokens.Waiting p) isnt turn is = (record { arrived = is.stands.arrived; not_given = is.stands.not_given; in_time = λ ne. omega arith }, λ e. cc)
-  giving (tokens.Running p) isnt turn is = (is.stands, λ e. cc)
-  giving (tokens.Done p) isnt turn is = (is.stands, λ e. cc)
-  giving tokens.Gone isnt turn is = absurd is.stands
+  giving_at : (p : Place) → h.place ≡ p → StandsAt patience time r c p h → c.patience_over ≡ false → IsInTurn (giving_up r c.times.arrives_at patience) patience r c
+      → StandsAt patience (c.times.arrives_at + patience) r (marked GiveUp c) p h × (c.has_arrived ≡ true)
+  giving_at places.Free at stands isnt turn = ⊎_elim
+      (λ away. absurd (true≢false (sym (arrives_first r c.times.arrives_at patience (no_end patience (sym (is.patient.away away.0) ∙ isnt))) ∙ turn.after_arrival away.0)))
+      (λ told. (inr (record { arrived = told.arrived; told = told.told; ends = told.ends }), told.arrived))
+      stands
+  giving_at places.Waits at stands isnt turn = ((record { arrived = stands.0.arrived; not_given = stands.0.not_given; in_time = λ ne. omega arith }, stands.1), stands.0.arrived)
+  giving_at places.Runs at stands isnt turn = ((stands.0, stands.1, stands.2), stands.0)
+
+  giving : c.patience_over ≡ false → IsInTurn (giving_up r c.times.arrives_at patience) patience r c → Owes trace GiveUp patience (c.times.arrives_at + patience) r (marked GiveUp c) h
+  giving isnt turn = (let both = giving_at h.place refl is.stands isnt turn in (both.0, both.1, is.number both.1))
 
   held_ends : (since : ℕ) (s : Seats) → s ≡ Held since → Holds patience c.times.arrives_at s → HasFinished patience c.times.arrives_at (returned s)
   held_ends since NotGiven is h = absurd h
@@ -68,21 +72,22 @@ module _ (patience time r : ℕ) (c : Course) where
   not_held since s is none = (let e : Held since ≡ NotGiven = sym is ∙ none in cc)
 
   -- a finish: its request executes on the level
-  finishing : (since : ℕ) (t : Token) → c.seats ≡ Held since → Follows patience time c t → Owes Finish patience (since + c.times.runs_for) (marked Finish c) t
-  finishing since (tokens.Fresh p) held is = absurd (not_held since c.seats held is.stands.1)
-  finishing since (tokens.Waiting p) held is = absurd (not_held since c.seats held is.stands.not_given)
-  finishing since (tokens.Running p) held is = (is.stands.0, held_ends since c.seats held is.stands.1, refl)
-  finishing since (tokens.Done p) held is = absurd (subst (EndsAs patience c.times.arrives_at _) held is.stands.2)
-  finishing since tokens.Gone held is = absurd is.stands
+  finishing : (p : Place) → h.place ≡ p → StandsAt patience time r c p h → (since : ℕ) → c.seats ≡ Held since → Owes trace Finish patience (since + c.times.runs_for) r (marked Finish c) h
+  finishing places.Free at stands since held = absurd (⊎_elim
+      (λ away. not_held since c.seats held away.1)
+      (λ told. subst (EndsAs patience c.times.arrives_at _) held told.ends)
+      stands)
+  finishing places.Waits at stands since held = absurd (not_held since c.seats held stands.0.not_given)
+  finishing places.Runs at stands since held = (stands.0, held_ends since c.seats held stands.1, at, stands.2, is.number stands.0)
 
 -- what was carried out of a request that is where its course says
-owes : (patience time : ℕ) (d : Due) (c : Course) (t : Token) → IsDueBy patience d c → IsInTurn d patience d.request c → Follows patience time c t
-    → Owes d.kind patience d.at (marked d.kind c) t
-owes patience time d c t by turn is = ⊎_elim
-    (λ a. subst (λ (x : Due). Owes x.kind patience x.at (marked x.kind c) t) (sym a.1) (arriving patience time d.request c t a.0 is))
+owes : (trace : List TraceRequest) (patience time : ℕ) (d : Due) (c : Course) (h : InSlot) → IsDueBy patience d c → IsInTurn d patience d.request c → Follows trace patience time d.request c h
+    → Owes trace d.kind patience d.at d.request (marked d.kind c) h
+owes trace patience time d c h by turn is = ⊎_elim
+    (λ a. subst (λ (x : Due). Owes trace x.kind patience x.at x.request (marked x.kind c) h) (sym a.1) (arriving trace patience time d.request c h is h.place refl is.stands a.0))
     (λ b. ⊎_elim
-    (λ o. subst (λ (x : Due). Owes x.kind patience x.at (marked x.kind c) t) (sym o.1) (giving patience time d.request c t o.0 (subst (λ (x : Due). IsInTurn x patience d.request c) o.1 turn) is))
-    (λ f. subst (λ (x : Due). Owes x.kind patience x.at (marked x.kind c) t) (sym f.2) (finishing patience time d.request c f.0 t f.1 is))
+    (λ o. subst (λ (x : Due). Owes trace x.kind patience x.at x.request (marked x.kind c) h) (sym o.1) (giving trace patience time d.request c h is o.0 (subst (λ (x : Due). IsInTurn x patience d.request c) o.1 turn)))
+    (λ f. subst (λ (x : Due). Owes trace x.kind patience x.at x.request (marked x.kind c) h) (sym f.2) (finishing trace patience time d.request c h is h.place refl is.stands f.0 f.1))
     b)
     by
 
@@ -91,19 +96,19 @@ due_at P r [] c h = absurd h
 due_at P zero (x ∷ cs) c h = h
 due_at P (suc r) (x ∷ cs) c h = due_at P r cs c h
 
-pub call_due : (u v : CalendarView) (requests : List RequestView) (d : Due) → AreTied u requests → IsStep u (CarriedOut d) v
-    → At d.request u.courses (IsDueBy u.patience d) → ComesFirst d u.patience u.courses → d.request < length u.courses → IsCallDue d v requests
-call_due u v requests d tied step due turn low =
+pub call_due : (trace : List TraceRequest) (u v : CalendarView) (s : Slots) (d : Due) → AreTied trace u s → IsStep u (CarriedOut d) v
+    → At d.request u.courses (IsDueBy u.patience d) → ComesFirst d u.patience u.courses → d.request < length u.courses → IsCallDue trace d v s
+call_due trace u v s d tied step due turn low =
     let cs = updated (marked d.kind) d.request u.courses in
     let n = length-updated (marked d.kind) d.request u.courses in
-    subst (λ (w : CalendarView). IsCallDue d w requests) (sym step.1) (record {
+    subst (λ (w : CalendarView). IsCallDue trace d w s) (sym step.1) (record {
       others = record {
-        count = tied.count ∙ sym n;
-        numbered = tied.numbered;
+        all = n ∙ tied.all;
+        count = record { places = tied.count.places ∙ sym n; passes = tied.count.passes ∙ sym n; decisions = tied.count.decisions ∙ sym n; queues = tied.count.queues ∙ sym n };
         inside = omega (arith, low, n);
-        others = λ i b ne c q. subst (λ (x : Course). Follows u.patience d.at x (get_or requests i q).token) (sym (updated_other (marked d.kind) d.request i u.courses c ne))
-            (later u.patience u.time d i (get_or u.courses i c) (get_or requests i q).token (turn i c (omega (arith, b, n))) (tied.each i (omega (arith, b, n)) c q));
+        others = λ i b ne c h. subst (λ (x : Course). Follows trace u.patience d.at i x (held_at s i h)) (sym (updated_other (marked d.kind) d.request i u.courses c ne))
+            (later trace u.patience u.time d i (get_or u.courses i c) (held_at s i h) (turn i c (omega (arith, b, n))) (tied.each i (omega (arith, b, n)) c h));
       };
-      here = λ c q. subst (λ (x : Course). Owes d.kind u.patience d.at x (get_or requests d.request q).token) (sym (updated_same (marked d.kind) d.request u.courses c low))
-          (owes u.patience u.time d (get_or u.courses d.request c) (get_or requests d.request q).token (due_at (IsDueBy u.patience d) d.request u.courses c due) (turn d.request c low) (tied.each d.request low c q));
+      here = λ c h. subst (λ (x : Course). Owes trace d.kind u.patience d.at d.request x (held_at s d.request h)) (sym (updated_same (marked d.kind) d.request u.courses c low))
+          (owes trace u.patience u.time d (get_or u.courses d.request c) (held_at s d.request h) (due_at (IsDueBy u.patience d) d.request u.courses c due) (turn d.request c low) (tied.each d.request low c h));
     })

@@ -1,26 +1,26 @@
 -- When nothing is due and nobody waits, each request's decision is what its course came to.
-use Rattle.std.proofs.Common.{◌≡◌, ◌≢◌, ℕ, zero, suc, ◌<◌, true, false, true≢false, if◌then◌else◌, List, [], ◌∷◌, length, map, get_or, Option, Some, None, refl, sym, ap, ◌∙◌, subst, arith}
-use Rattle.std.specs.Prelude.{slice_get, Bool}
+use Rattle.std.proofs.Common.{◌≡◌, ◌≢◌, ◌==◌, ℕ, zero, suc, ◌<◌, true, false, true≢false, List, [], ◌∷◌, length, get_or, Option, Some, None, refl, sym, ap, ◌∙◌, subst, ⊎_elim, arith}
+use Rattle.std.specs.Prelude.{slice_get, Bool, All}
 use Rattle.std.specs.List.{AllByRecursion}
+use Rattle.std.proofs.lemmas.Bool.{eqb-true}
+use Rattle.std.proofs.lemmas.Option.{slice_get-get_or}
 use Rattle.apf_words.specs.declared.decision.Decision.{Decision}
 use Rattle.apf_words.specs.declared.decision.Decision.TheVariants.{Execute, QueueFull, Closed, Cancelled, ConcurrencyLimit}
-use Rattle.apf_level.specs.declared.report.Report.{Report}
-use Rattle.apf_session.specs.declared.token.Token.{Token}
-use Rattle.apf_session.specs.declared.token.Token.TheVariants as tokens
-use Rattle.apf_session.specs.declared.answer.Place.TheVariants as places
-use Rattle.apf_session.specs.Requests.{RequestView, place_of, told_by}
-use Rattle.apf_session.specs.Ends.{TellsTheSame, is_undecided, undecided}
+use Rattle.apf_gate.specs.Tokens.{PassToken}
+use Rattle.apf_local.specs.declared.answer.Place.{Place}
+use Rattle.apf_local.specs.declared.answer.Place.TheVariants as places
 use Rattle.apf_times.specs.declared.course.Course.{Course}
-use Rattle.apf_times.specs.declared.course.Times.{Times}
 use Rattle.apf_times.specs.declared.course.Seats.{Seats}
 use Rattle.apf_times.specs.declared.course.Seats.TheVariants.{NotGiven, Held, Returned}
-use Rattle.apf_times.specs.Calendars.{awaited, opening}
 use Rattle.apf_times.specs.Runs.{IsOver}
 use Rattle.apf_times.specs.Views.{CalendarView}
 use Rattle.apf_traces.specs.declared.request.TraceRequest.{TraceRequest}
 use Rattle.apf_simulation.specs.Ends.{AreOf, end_of, ends_of}
+use Rattle.apf_simulation.specs.Slots.{Held as InSlot, Slots, held_at}
 use Rattle.apf_simulation.specs.Tallies.{is_execute}
-use Rattle.apf_simulation.specs.Ties.{AreAwaited, AreDecidedAs, AreTied, EndsAs, Follows, Holds, IsAwaited, IsHonoured, NobodyWaits}
+use Rattle.apf_simulation.specs.Ties.{AreDecidedAs, AreTied, AreTold, EndsAs, Follows, Holds, IsHonoured, IsTold, NobodyWaits, StandsAt}
+use Rattle.apf_simulation.proofs.Arriving.{new_held, some_at}
+use Rattle.apf_simulation.proofs.Tying.{no_course}
 
 over_at : (i : ℕ) (cs : List Course) (c : Course) → i < length cs → AllByRecursion IsOver cs → IsOver (get_or cs i c)
 over_at i [] c low all = absurd (omega arith)
@@ -28,64 +28,53 @@ over_at zero (x ∷ cs) c low all = all.0
 over_at (suc i) (x ∷ cs) c low all = over_at i cs c (omega arith) all.1
 
 -- a request whose course is over, and which does not wait, was told what its course came to
-told_so : (patience time : ℕ) (c : Course) (t : Token) (told : Option Decision) → IsOver c → Follows patience time c t → place_of t ≢ places.Waits → (told_by t ≢ None → told ≡ told_by t)
-    → EndsAs patience c.times.arrives_at told c.seats
-told_so patience time c (tokens.Fresh p) told over is isnt same = absurd (true≢false (sym over.arrived ∙ is.stands.0))
-told_so patience time c (tokens.Waiting p) told over is isnt same = absurd (isnt refl)
-told_so patience time c (tokens.Running p) told over is isnt same = absurd (by_seats c.seats refl is.stands.1)
-  where
-    by_seats : (s : Seats) → c.seats ≡ s → Holds patience c.times.arrives_at s → ⊥
-    by_seats NotGiven e h = h
-    by_seats (Held since) e h = over.holds_none since e
-    by_seats (Returned since) e h = h
-told_so patience time c (tokens.Done p) told over is isnt same = subst (λ (o : Option Decision). EndsAs patience c.times.arrives_at o c.seats) (sym (same is.stands.1)) is.stands.2
-told_so patience time c tokens.Gone told over is isnt same = absurd is.stands
+by_seats : (patience : ℕ) (c : Course) (s : Seats) → IsOver c → c.seats ≡ s → Holds patience c.times.arrives_at s → ⊥
+by_seats patience c NotGiven over e h = h
+by_seats patience c (Held since) over e h = over.holds_none since e
+by_seats patience c (Returned since) over e h = h
 
-pub are_decided : (v : CalendarView) (requests : List RequestView) (r : Report) → AreTied v requests → NobodyWaits requests → AllByRecursion IsOver v.courses → TellsTheSame requests r
-    → AreDecidedAs v.patience v.courses r.decisions.items
-are_decided v requests r tied none over same i c low =
-    let d : RequestView = record { number = 0; token = tokens.Gone } in
-    let b : i < length requests = (let n = tied.count in omega (arith, low, n)) in
-    told_so v.patience v.time (get_or v.courses i c) (get_or requests i d).token (slice_get r.decisions.items i) (over_at i v.courses c low over) (tied.each i low c d) (none i d b)
-    (λ some. subst (λ (n : ℕ). slice_get r.decisions.items n ≡ told_by (get_or requests i d).token) (tied.numbered i d b) (same i d b some))
+settled_at : (patience time r : ℕ) (c : Course) (h : InSlot) (p : Place) → h.place ≡ p → p ≢ places.Waits → StandsAt patience time r c p h → IsOver c → (h.place ≡ places.Free) × IsTold patience c h
+settled_at patience time r c h places.Free at isnt stands over = ⊎_elim (λ away. absurd (true≢false (sym over.arrived ∙ away.0))) (λ told. (at, told)) stands
+settled_at patience time r c h places.Waits at isnt stands over = absurd (isnt refl)
+settled_at patience time r c h places.Runs at isnt stands over = absurd (by_seats patience c c.seats over refl stands.1)
 
--- a request whose course is over, and which does not wait, was told a decision
-decided : (patience time : ℕ) (c : Course) (t : Token) → IsOver c → Follows patience time c t → place_of t ≢ places.Waits → is_undecided (place_of t) ≡ false
-decided patience time c (tokens.Fresh p) over is isnt = absurd (true≢false (sym over.arrived ∙ is.stands.0))
-decided patience time c (tokens.Waiting p) over is isnt = absurd (isnt refl)
-decided patience time c (tokens.Running p) over is isnt = refl
-decided patience time c (tokens.Done p) over is isnt = refl
-decided patience time c tokens.Gone over is isnt = refl
+module _ (trace : List TraceRequest) (v : CalendarView) (s : Slots) (tied : AreTied trace v s) (over : AllByRecursion IsOver v.courses) where
+  module _ (none : NobodyWaits s.places) where
+    settled : (i : ℕ) (c : Course) (h : InSlot) → i < length v.courses → ((held_at s i h).place ≡ places.Free) × IsTold v.patience (get_or v.courses i c) (held_at s i h)
+    settled i c h low = settled_at v.patience v.time i (get_or v.courses i c) (held_at s i h) (held_at s i h).place refl (none i h.place (let n = tied.count.places in omega (arith, low, n))) (tied.each i low c h).stands (over_at i v.courses c low over)
 
-left_out : (is : Bool) (n : ℕ) (ns : List ℕ) → is ≡ false → ns ≡ [] → (if is then n ∷ ns else ns) ≡ []
-left_out true n ns is none = absurd (true≢false is)
-left_out false n ns is none = none
+    token : (i : ℕ) → i < length v.courses → PassToken
+    token i low = (some_at s.passes i (let n = tied.count.passes in omega (arith, low, n))).0
 
-none_of : (requests : List RequestView) → ((i : ℕ) (d : RequestView) → i < length requests → is_undecided (place_of (get_or requests i d).token) ≡ false) → undecided requests ≡ []
-none_of [] each = refl
-none_of (r ∷ rs) each = left_out (is_undecided (place_of r.token)) r.number (undecided rs) (each 0 r (omega arith)) (none_of rs (λ i d low. each (suc i) d (omega (arith, low))))
+    pub are_free : All (λ (p : Place). p ≡ places.Free) s.places
+    are_free = λ i p at.
+        let low : i < length v.courses = (let n = tied.count.places in omega (arith, at, n)) in
+        (settled i no_course (record { place = p; token = token i low; decision = Execute; queue = None }) low).0
 
-pub none_undecided : (v : CalendarView) (requests : List RequestView) → AreTied v requests → NobodyWaits requests → AllByRecursion IsOver v.courses → undecided requests ≡ []
-none_undecided v requests tied none over =
-    let no_course : Course = record { times = record { arrives_at = 0; runs_for = 0 }; has_arrived = false; patience_over = false; seats = NotGiven } in
-    none_of requests (λ i d low. (let b : i < length v.courses = (let n = tied.count in omega (arith, low, n)) in
-    decided v.patience v.time (get_or v.courses i no_course) (get_or requests i d).token (over_at i v.courses no_course b over) (tied.each i b no_course d) (none i d low)))
+    pub are_decided : AreDecidedAs v.patience v.courses s.decisions
+    are_decided i c low =
+        let h = new_held (token i low) in
+        let at : slice_get s.decisions i ≡ Some (get_or s.decisions i Execute) = slice_get-get_or s.decisions i Execute (let n = tied.count.decisions in omega (arith, low, n)) in
+        subst (λ (o : Option Decision). EndsAs v.patience (get_or v.courses i c).times.arrives_at o (get_or v.courses i c).seats) (sym at) (settled i c h low).1.ends
 
--- the requests of a level that was just opened are tied to a calendar that was
-awaited_at : (patience i : ℕ) (ts : List Times) (c : Course) → i < length (map (awaited patience) ts) → IsAwaited patience (get_or (map (awaited patience) ts) i c)
-awaited_at patience i [] c low = absurd (omega arith)
-awaited_at patience zero (t ∷ ts) c low = record { away = refl; not_given = refl; patient = refl }
-awaited_at patience (suc i) (t ∷ ts) c low = awaited_at patience i ts c (omega arith)
+    pub are_told : AreTold trace s.passes s.decisions
+    are_told = record {
+      count = tied.count.decisions ∙ sym tied.count.passes;
+      number = λ i t at.
+          let low : i < length v.courses = (let n = tied.count.passes in omega (arith, at, n)) in
+          (tied.each i low no_course (new_held t)).number (over_at i v.courses no_course low over).arrived;
+      told = λ i t at.
+          let low : i < length v.courses = (let n = tied.count.passes in omega (arith, at, n)) in
+          (settled i no_course (new_held t) low).1.told ∙ sym (slice_get-get_or s.decisions i Execute (let n = tied.count.decisions in omega (arith, low, n)));
+    }
 
-pub are_awaited : (ts : List Times) (patience : ℕ) (v : CalendarView) → v ≡ opening ts patience → AreAwaited v
-are_awaited ts patience v is = subst (λ (w : CalendarView). AreAwaited w) (sym is) (λ i c low. awaited_at patience i ts c low)
-
-pub away_follows : (patience time : ℕ) (c : Course) (t : Token) → IsAwaited patience c → place_of t ≡ places.Away → Follows patience time c t
-away_follows patience time c (tokens.Fresh p) is e = record { stands = (is.away, is.not_given); patient = is.patient }
-away_follows patience time c (tokens.Waiting p) is e = absurd (let f : places.Waits ≡ places.Away = e in cc)
-away_follows patience time c (tokens.Running p) is e = absurd (let f : places.Runs ≡ places.Away = e in cc)
-away_follows patience time c (tokens.Done p) is e = absurd (let f : places.Over ≡ places.Away = e in cc)
-away_follows patience time c tokens.Gone is e = absurd (let f : places.Over ≡ places.Away = e in cc)
+  -- who waits still has a patience without end
+  pub endless : (i : ℕ) (p : Place) → i < length s.places → get_or s.places i p ≡ places.Waits → v.patience ≡ 0
+  endless i p at waits =
+      let low : i < length v.courses = (let n = tied.count.places in omega (arith, at, n)) in
+      let t = (some_at s.passes i (let n = tied.count.passes in omega (arith, low, n))).0 in
+      let is = (tied.each i low no_course (record { place = p; token = t; decision = Execute; queue = None })).patient.waits waits in
+      eqb-true v.patience 0 (sym is ∙ (over_at i v.courses no_course low over).patience_over)
 
 -- what became of each request honours its decision
 abbrev executes_if : Option Decision → Bool

@@ -1,9 +1,7 @@
 pub mod Areas
-pub mod Booked
 pub mod Columns
 pub mod Ending
 pub mod Going
-pub mod Operating
 pub mod Rowing
 pub mod Ranges
 pub mod Running
@@ -11,5 +9,13 @@ pub mod Summing
 pub mod Timely
 pub mod Ordered
 pub mod Tying
+pub mod Logging
+pub mod Arriving
 pub mod Calling
+pub mod Operating
+pub mod Reading
+pub mod Opening
 pub mod Honouring
+pub mod Closing
+pub mod Booked
+pub mod Counting

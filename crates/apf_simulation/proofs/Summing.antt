@@ -1,18 +1,17 @@
 -- The flows' columns sum to the book's numbers.
-use Rattle.std.proofs.Common.{◌≡◌, ℕ, zero, suc, ◌+◌, ◌<◌, ◌≤◌, Bool, true, false, List, [], ◌∷◌, length, nat_eq, cond, get_or, slice_get, Some, refl, ap, ◌∙◌, arith}
+use Rattle.std.proofs.Common.{◌≡◌, ℕ, zero, suc, ◌+◌, ◌<◌, ◌≤◌, Bool, true, false, List, [], ◌∷◌, length, nat_eq, cond, get_or, Some, refl, ap, ◌∙◌, arith}
 use Rattle.std.specs.List.{AllByRecursion}
 use Rattle.std.proofs.lemmas.Bool.{eqb-true, eqb-false, ne_eqb}
 use Rattle.apf_words.specs.declared.decision.Decision.{Decision}
 use Rattle.apf_words.specs.declared.decision.Decision.TheVariants.{Execute, QueueFull, Closed, Cancelled, ConcurrencyLimit}
 use Rattle.apf_model.specs.Outcome.{decided_at}
-use Rattle.apf_model.specs.Tally.{tally}
 use Rattle.apf_times.specs.declared.course.Course.{Course}
 use Rattle.apf_times.specs.declared.course.Seats.{Seats}
 use Rattle.apf_times.specs.declared.course.Seats.TheVariants.{NotGiven, Held, Returned}
 use Rattle.apf_traces.specs.declared.request.TraceRequest.{TraceRequest}
 use Rattle.apf_simulation.specs.declared.end.End.{End}
 use Rattle.apf_simulation.specs.declared.row.Row.{Row}
-use Rattle.apf_simulation.specs.Columns.{column}
+use Rattle.apf_simulation.specs.Columns.{column, how_many}
 use Rattle.apf_simulation.specs.Ends.{end_of, ends_of}
 use Rattle.apf_simulation.specs.Rows.{IsRow, AreRows}
 use Rattle.apf_simulation.specs.Tallies.{executes, rejects, cancels, in_flow, in_all}
@@ -22,17 +21,10 @@ abbrev pub total : (Decision → ℕ) → List Decision → ℕ
 total of [] = 0
 total of (d ∷ ds) = of d + total of ds
 
-tally_first : (f : ℕ → ℕ) (n : ℕ) → tally f (suc n) ≡ f 0 + tally (λ r. f (suc r)) n
-tally_first f zero = omega arith
-tally_first f (suc n) = (let e = tally_first f n in omega arith)
-
 -- how many are decided so, by the list
-pub decided_total : (d : Decision) (ds : List Decision) → tally (λ r. decided_at d (slice_get ds r)) (length ds) ≡ total (λ x. decided_at d (Some x)) ds
+pub decided_total : (d : Decision) (ds : List Decision) → how_many d ds ≡ total (λ x. decided_at d (Some x)) ds
 decided_total d [] = refl
-decided_total d (x ∷ ds) =
-    let first = tally_first (λ r. decided_at d (slice_get (x ∷ ds) r)) (length ds) in
-    let rest = decided_total d ds in
-    first ∙ ap (λ n. decided_at d (Some x) + n) rest
+decided_total d (x ∷ ds) = ap (λ n. decided_at d (Some x) + n) (decided_total d ds)
 
 executes_is : (x : Decision) → executes x ≡ decided_at Execute (Some x)
 executes_is Execute = refl

@@ -3,9 +3,9 @@ use Rattle.std.specs.Prelude.{◌≡◌, ℕ, ◌+◌, ◌-◌, ◌^◌, Bool, �
 use Rattle.std.specs.List.{flat_map, range_with_len}
 use Rattle.std.specs.List.Sorted.{IsPermutation, IsSortedBy}
 use Rattle.apf_flows.specs.Names.{hash_text, names_text}
-use Rattle.apf_level.specs.declared.report.Counts.{Counts}
 use Rattle.apf_traces.specs.declared.request.TraceRequest.{TraceRequest}
 use Rattle.apf_simulation.specs.declared.comparison.Place.{Place}
+use Rattle.apf_simulation.specs.declared.counts.Counts.{Counts}
 use Rattle.apf_simulation.specs.declared.end.End.{End}
 use Rattle.apf_simulation.specs.declared.figures.Figures.{Figures}
 use Rattle.apf_simulation.specs.declared.row.Row.{Row}

@@ -1,27 +1,14 @@
 -- What became of each request: the queue that it entered, and the lines of all.
-use Rattle.std.specs.Prelude.{ℕ, ◌-◌, List, [], ◌++◌, fold, replicate, slice_get, slice_set, length, nat_lt, Option, Some, None, if◌then◌else◌, codes, decimal}
+use Rattle.std.specs.Prelude.{ℕ, ◌-◌, List, [], ◌++◌, slice_get, Option, Some, None, if◌then◌else◌, codes, decimal}
 use Rattle.std.specs.List.{flat_map}
 use Rattle.apf_words.specs.declared.decision.Decision.{Decision}
 use Rattle.apf_words.specs.declared.decision.Decision.TheVariants.{Execute, QueueFull, Closed, Cancelled, ConcurrencyLimit}
-use Rattle.apf_history.specs.declared.events.Event.{Event}
-use Rattle.apf_history.specs.declared.events.Event.TheVariants.{Enter, Full, Dispatch, Strike}
 use Rattle.apf_times.specs.declared.due.Due.{Due}
 use Rattle.apf_times.specs.declared.due.Kind.{Kind}
 use Rattle.apf_times.specs.declared.due.Kind.TheVariants.{Finish, GiveUp, Arrive}
 use Rattle.apf_flows.specs.Names.{hash_text, names_text}
 use Rattle.apf_traces.specs.declared.request.TraceRequest.{TraceRequest}
 use Rattle.apf_simulation.specs.declared.end.End.{End}
-
--- the queue that each request entered, with one event more
-abbrev pub entered : List (Option ℕ) → Event → List (Option ℕ)
-entered queues (Enter request queue) = if nat_lt request (length queues) then slice_set queues request (Some queue) else queues
-entered queues (Full request queue) = queues
-entered queues (Dispatch request queue) = queues
-entered queues (Strike request queue) = queues
-
--- the queue that each of so many requests entered, by a log: none of a request that entered no queue
-abbrev pub queues_of : List Event → ℕ → List (Option ℕ)
-queues_of log requests = fold entered (replicate requests None) log
 
 -- the word of a decision
 abbrev pub decision_text : Decision → List ℕ

@@ -10,3 +10,7 @@ pub mod Times
 pub mod Comparisons
 pub mod Fates
 pub mod Ties
+pub mod Slots
+pub mod Operators
+pub mod Logs
+pub mod Faults

@@ -3,27 +3,19 @@ use Rattle.std.specs.Prelude.{◌≡◌, ◌≢◌, ◌⊎◌, ℕ, ◌+◌, ◌
 use Rattle.apf_words.specs.declared.decision.Decision.{Decision}
 use Rattle.apf_words.specs.declared.decision.Decision.TheVariants.{Execute, Cancelled}
 use Rattle.apf_gate.specs.Records.{told_own}
-use Rattle.apf_gate.specs.StationCalls.{CancelsTo}
-use Rattle.apf_gate.specs.Tokens.{GateId, StationToken}
-use Rattle.apf_session.specs.declared.token.Token.{Token}
-use Rattle.apf_session.specs.declared.token.Token.TheVariants as tokens
-use Rattle.apf_session.specs.declared.answer.Answer.{Answer}
-use Rattle.apf_session.specs.declared.answer.Answer.TheVariants as answers
-use Rattle.apf_session.specs.declared.answer.Place.{Place}
-use Rattle.apf_session.specs.declared.answer.Place.TheVariants as places
-use Rattle.apf_session.specs.Openings.{IsNew}
-use Rattle.apf_session.specs.Requests.{RequestView, AreNumbered, place_of}
-use Rattle.apf_times.specs.declared.act.Act.TheVariants.{Started}
+use Rattle.apf_gate.specs.Tokens.{PassToken}
+use Rattle.apf_local.specs.declared.answer.Place.{Place}
+use Rattle.apf_local.specs.declared.answer.Place.TheVariants as places
 use Rattle.apf_times.specs.declared.course.Course.{Course}
 use Rattle.apf_times.specs.declared.course.Seats.{Seats}
 use Rattle.apf_times.specs.declared.course.Seats.TheVariants.{NotGiven, Held, Returned}
 use Rattle.apf_times.specs.declared.due.Due.{Due}
 use Rattle.apf_times.specs.declared.due.Kind.{Kind}
 use Rattle.apf_times.specs.declared.due.Kind.TheVariants.{Finish, GiveUp, Arrive}
-use Rattle.apf_times.specs.Runs.{IsStep}
 use Rattle.apf_times.specs.Views.{CalendarView}
+use Rattle.apf_traces.specs.declared.request.TraceRequest.{TraceRequest}
 use Rattle.apf_simulation.specs.declared.end.End.{End}
-use Rattle.apf_simulation.specs.Diaries.{DiaryView}
+use Rattle.apf_simulation.specs.Slots.{Held as InSlot, Slots, held_at, number_of}
 use Rattle.apf_simulation.specs.Tallies.{is_execute}
 
 -- a request that arrived at the first time waited, by the second, no longer than its patience, if that has an end
@@ -48,43 +40,63 @@ pub record IsPending (patience time : ℕ) (c : Course) : Type 0 where
   pub not_given : c.seats ≡ NotGiven
   pub in_time : IsInTime patience c.times.arrives_at time
 
+-- it did not arrive on its level: nothing is noted of it, and the Pass of its slot has the slot's number
+pub record IsAway (r : ℕ) (h : InSlot) : Type 0 where
+  pub free : h.place ≡ places.Free
+  pub number : h.token.pass.number ≡ r
+  pub untold : h.decision ≡ Execute
+  pub no_queue : h.queue ≡ None
+
+-- it is over: its Pass was told the decision that is noted, and it ends as it was told
+pub record IsTold (patience : ℕ) (c : Course) (h : InSlot) : Type 0 where
+  pub arrived : c.has_arrived ≡ true
+  pub told : told_own h.token.pass ≡ Some h.decision
+  pub ends : EndsAs patience c.times.arrives_at (Some h.decision) c.seats
+
 -- What the request holds at this time is what its course says. One that did not arrive was given no seats. One that waits
 -- was given none. One that executes holds its seats. One that is over ends as it was told.
-abbrev pub Stands : ℕ → ℕ → Course → Token → Type 0
-Stands patience time c (tokens.Fresh pass) = (c.has_arrived ≡ false) × (c.seats ≡ NotGiven)
-Stands patience time c (tokens.Waiting pass) = IsPending patience time c
-Stands patience time c (tokens.Running pass) = (c.has_arrived ≡ true) × Holds patience c.times.arrives_at c.seats
-Stands patience time c (tokens.Done pass) = (c.has_arrived ≡ true) × (told_own pass.pass ≢ None) × EndsAs patience c.times.arrives_at (told_own pass.pass) c.seats
-Stands patience time c tokens.Gone = ⊥
+abbrev pub StandsAt : ℕ → ℕ → ℕ → Course → Place → InSlot → Type 0
+StandsAt patience time r c places.Free h = ((c.has_arrived ≡ false) × (c.seats ≡ NotGiven) × IsAway r h) ⊎ IsTold patience c h
+StandsAt patience time r c places.Waits h = IsPending patience time c × (h.decision ≡ Execute)
+StandsAt patience time r c places.Runs h = (c.has_arrived ≡ true) × Holds patience c.times.arrives_at c.seats × (h.decision ≡ Execute)
+
+abbrev pub Stands : ℕ → ℕ → ℕ → Course → InSlot → Type 0
+Stands patience time r c h = StandsAt patience time r c h.place h
 
 -- the patience of a request that did not arrive, or waits, is not over, unless it has no end
-abbrev pub IsPatient : ℕ → Course → Place → Type 0
-IsPatient patience c places.Away = c.patience_over ≡ (patience == 0)
-IsPatient patience c places.Waits = c.patience_over ≡ (patience == 0)
-IsPatient patience c places.Runs = Unit {0}
-IsPatient patience c places.Over = Unit {0}
+pub record IsPatient (patience : ℕ) (c : Course) (place : Place) : Type 0 where
+  pub away : c.has_arrived ≡ false → c.patience_over ≡ (patience == 0)
+  pub waits : place ≡ places.Waits → c.patience_over ≡ (patience == 0)
 
--- the request is where its course says
-pub record Follows (patience time : ℕ) (c : Course) (token : Token) : Type 0 where
-  pub stands : Stands patience time c token
-  pub patient : IsPatient patience c (place_of token)
+-- the request is where its course says, and has its number once it has arrived
+pub record Follows (trace : List TraceRequest) (patience time r : ℕ) (c : Course) (h : InSlot) : Type 0 where
+  pub stands : Stands patience time r c h
+  pub patient : IsPatient patience c h.place
+  pub number : c.has_arrived ≡ true → h.token.pass.number ≡ number_of trace r
 
 -- the request of this number is so, with its course
-abbrev pub Here : (Course → Token → Type 0) → ℕ → CalendarView → List RequestView → Type 0
-Here P r v requests = (c : Course) (d : RequestView) → P (slice_index_or v.courses r c) (slice_index_or requests r d).token
+abbrev pub Here : (Course → InSlot → Type 0) → ℕ → CalendarView → Slots → Type 0
+Here P r v s = (c : Course) (h : InSlot) → P (slice_index_or v.courses r c) (held_at s r h)
+
+-- each request has its course, its slot and its notes
+pub record AreAsMany (v : CalendarView) (s : Slots) : Type 0 where
+  pub places : length s.places ≡ length v.courses
+  pub passes : length s.passes ≡ length v.courses
+  pub decisions : length s.decisions ≡ length v.courses
+  pub queues : length s.queues ≡ length v.courses
 
 -- each request is where its course says
-pub record AreTied (v : CalendarView) (requests : List RequestView) : Type 0 where
-  pub count : length requests ≡ length v.courses
-  pub numbered : AreNumbered requests
-  pub each : (i : ℕ) → i < length v.courses → Here (Follows v.patience v.time) i v requests
+pub record AreTied (trace : List TraceRequest) (v : CalendarView) (s : Slots) : Type 0 where
+  pub all : length v.courses ≡ length trace
+  pub count : AreAsMany v s
+  pub each : (i : ℕ) → i < length v.courses → Here (Follows trace v.patience v.time i) i v s
 
 -- each request but this one is where its course says
-pub record AreTiedBut (r : ℕ) (v : CalendarView) (requests : List RequestView) : Type 0 where
-  pub count : length requests ≡ length v.courses
-  pub numbered : AreNumbered requests
+pub record AreTiedBut (trace : List TraceRequest) (r : ℕ) (v : CalendarView) (s : Slots) : Type 0 where
+  pub all : length v.courses ≡ length trace
+  pub count : AreAsMany v s
   pub inside : r < length v.courses
-  pub others : (i : ℕ) → i < length v.courses → i ≢ r → Here (Follows v.patience v.time) i v requests
+  pub others : (i : ℕ) → i < length v.courses → i ≢ r → Here (Follows trace v.patience v.time i) i v s
 
 -- it has finished: it was given its seats in time, and returned them
 abbrev pub HasFinished : ℕ → ℕ → Seats → Type 0
@@ -103,54 +115,37 @@ abbrev pub AreAwaited : CalendarView → Type 0
 AreAwaited v = (i : ℕ) (c : Course) → i < length v.courses → IsAwaited v.patience (slice_index_or v.courses i c)
 
 -- none of the requests waits
-abbrev pub NobodyWaits : List RequestView → Type 0
-NobodyWaits requests = (i : ℕ) (d : RequestView) → i < length requests → place_of (slice_index_or requests i d).token ≢ places.Waits
+abbrev pub NobodyWaits : List Place → Type 0
+NobodyWaits all = (i : ℕ) (p : Place) → i < length all → slice_index_or all i p ≢ places.Waits
 
 -- The course has what was just carried out of it, and the call for that was not made yet. One that arrives did not
 -- arrive on the level. One that finishes executes there. One that gives up is where its course says.
-abbrev pub Owes : Kind → ℕ → ℕ → Course → Token → Type 0
-Owes Arrive patience time c token = IsPending patience time c × (c.patience_over ≡ (patience == 0)) × (place_of token ≡ places.Away)
-Owes Finish patience time c token = (c.has_arrived ≡ true) × HasFinished patience c.times.arrives_at c.seats × (place_of token ≡ places.Runs)
-Owes GiveUp patience time c token = Stands patience time c token × (place_of token ≢ places.Away)
+abbrev pub Owes : List TraceRequest → Kind → ℕ → ℕ → ℕ → Course → InSlot → Type 0
+Owes trace Arrive patience time r c h = IsPending patience time c × (c.patience_over ≡ (patience == 0)) × IsAway r h
+Owes trace Finish patience time r c h = (c.has_arrived ≡ true) × HasFinished patience c.times.arrives_at c.seats × (h.place ≡ places.Runs) × (h.decision ≡ Execute) × (h.token.pass.number ≡ number_of trace r)
+Owes trace GiveUp patience time r c h = Stands patience time r c h × (c.has_arrived ≡ true) × (h.token.pass.number ≡ number_of trace r)
+
+-- it waits, where its course says; its patience may be over
+pub record IsWaiting (trace : List TraceRequest) (patience time r : ℕ) (c : Course) (h : InSlot) : Type 0 where
+  pub waits : h.place ≡ places.Waits
+  pub pending : IsPending patience time c
+  pub untold : h.decision ≡ Execute
+  pub number : h.token.pass.number ≡ number_of trace r
+
+-- its patience is not over, unless it has no end
+abbrev pub HasPatience : ℕ → Course → InSlot → Type 0
+HasPatience patience c h = c.patience_over ≡ (patience == 0)
 
 -- the one call that is due is that for what was just carried out
-pub record IsCallDue (due : Due) (v : CalendarView) (requests : List RequestView) : Type 0 where
-  pub others : AreTiedBut due.request v requests
-  pub here : Here (Owes due.kind v.patience v.time) due.request v requests
+pub record IsCallDue (trace : List TraceRequest) (due : Due) (v : CalendarView) (s : Slots) : Type 0 where
+  pub others : AreTiedBut trace due.request v s
+  pub here : Here (Owes trace due.kind v.patience v.time due.request) due.request v s
 
--- the session's operator cancelled this request, if it was undecided, by one step
-abbrev pub Cancels : ℕ → List StationToken → List StationToken → Type 0
-Cancels request old new = (d : StationToken) → (answer : Decision) × CancelsTo (slice_index_or old 0 d).station request answer (slice_index_or new 0 d).station
-
--- the operator made no step; or this is the end of a patience, and it cancelled that request
-abbrev pub CancelsOnly : Due → List StationToken → List StationToken → Type 0
-CancelsOnly due old new = (new ≡ old) ⊎ ((due.kind ≡ GiveUp) × Cancels due.request old new)
-
--- of each of these that were carried out, in their order, the operator made no step, or cancelled the request whose patience ended by it
-abbrev pub CancelsInTurn : List Due → List StationToken → List StationToken → Type 0
-CancelsInTurn [] old new = new ≡ old
-CancelsInTurn (due ∷ dues) old new = (between : List StationToken) × CancelsOnly due old between × CancelsInTurn dues between new
-
--- what was carried out between the two diaries, and that the operator made no other steps meanwhile than cancels of the requests whose patience ended by it
-pub record CancelsAlone (u v : DiaryView) (old new : List StationToken) : Type 0 where
-  pub dues : List Due
-  pub carried : v.carried ≡ u.carried ++ dues
-  pub in_turn : CancelsInTurn dues old new
-
--- The one operator of a level, from its opening to its end: of each of these that were carried out, in their order, it made no step, or cancelled the
--- request whose patience ended by it. It made no other step.
-pub record OnlyCancels (gate : GateId) (carried : List Due) (stations : List StationToken) : Type 0 where
-  pub opened : List StationToken
-  pub new : All (IsNew gate) opened
-  pub last : List StationToken
-  pub in_turn : CancelsInTurn carried opened last
-  pub one : length stations ≡ 1
-  pub no_more : (d : StationToken) → (slice_index_or stations 0 d).station ≡ (slice_index_or last 0 d).station
-
--- the request was given its seats now if it was answered that it executes, and nothing else changed
-pub record IsNoted (request : ℕ) (answer : Answer) (u v : DiaryView) : Type 0 where
-  pub given : answer ≡ answers.Run → IsStep u.calendar (Started request u.calendar.time) v.calendar
-  pub same : answer ≢ answers.Run → v ≡ u
+-- the Pass of each request that is over was told this decision of it, by its number at the level
+pub record AreTold (trace : List TraceRequest) (passes : List PassToken) (decisions : List Decision) : Type 0 where
+  pub count : length decisions ≡ length passes
+  pub number : (i : ℕ) (t : PassToken) → i < length passes → (slice_index_or passes i t).pass.number ≡ number_of trace i
+  pub told : (i : ℕ) (t : PassToken) → i < length passes → told_own (slice_index_or passes i t).pass ≡ slice_get decisions i
 
 -- each request's decision says what its course came to: it was given its seats, in time, if it is to execute, and else it was given none
 abbrev pub AreDecidedAs : ℕ → List Course → List Decision → Type 0

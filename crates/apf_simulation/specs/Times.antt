@@ -1,16 +1,7 @@
--- What a level and a calendar are opened with for the requests of a trace.
-use Rattle.std.specs.Prelude.{ℕ, List, map}
-use Rattle.apf_model.specs.declared.config.Ask.{Ask}
+-- What a calendar is opened with for the requests of a trace.
+use Rattle.std.specs.Prelude.{List, map}
 use Rattle.apf_times.specs.declared.course.Times.{Times}
 use Rattle.apf_traces.specs.declared.request.TraceRequest.{TraceRequest}
-
--- what a level asks of each request
-abbrev pub asks_of : List TraceRequest → List Ask
-asks_of trace = map (λ t. record { width = t.width; hash = t.hash }) trace
-
--- what a dispatch of each request is charged
-abbrev pub costs_of : List TraceRequest → List ℕ
-costs_of trace = map (λ t. t.cost) trace
 
 -- when each request arrives, and how long it runs
 abbrev pub times_of : List TraceRequest → List Times

@@ -173,13 +173,13 @@ impl<'a> Comparison<'a> {
         ensures one { IfOk result (λ c. c.one.now ≡ one.entry.now) }
         ensures other { IfOk result (λ c. c.other.now ≡ other.entry.now) }
         ensures order { IfOk result (λ c. IsOrder one.entry.now.rows.items other.entry.now.rows.items c.order.items) }
-        ensures all { IfOk result (λ c. AreOfAll one.entry.now.ends.items one.entry.now.report.counts c.all) }
-        ensures all_other { IfOk result (λ c. AreOfAll other.entry.now.ends.items other.entry.now.report.counts c.all_other) }
+        ensures all { IfOk result (λ c. AreOfAll one.entry.now.ends.items one.entry.now.counts c.all) }
+        ensures all_other { IfOk result (λ c. AreOfAll other.entry.now.ends.items other.entry.now.counts c.all_other) }
     {
         let mut order = places(alloc, one.rows.as_slice(), other.rows.as_slice())?;
         put_in_order(&mut order);
-        let all = Figures::of_all(alloc, one.ends.as_slice(), &one.report.counts)?;
-        let all_other = Figures::of_all(alloc, other.ends.as_slice(), &other.report.counts)?;
+        let all = Figures::of_all(alloc, one.ends.as_slice(), &one.counts)?;
+        let all_other = Figures::of_all(alloc, other.ends.as_slice(), &other.counts)?;
         Ok(Comparison {
             one,
             other,

@@ -4,15 +4,13 @@ ghost use Rattle.std.specs.Prelude.{◌≡◌, ◌+◌, ◌*◌, ◌<◌, ◌≤
 ghost use Rattle.std.specs.List.{AllByRecursion};
 ghost use Rattle.apf_words.specs.Limits.{max_requests};
 ghost use Rattle.apf_times.specs.declared.course.Seats.TheVariants.{NotGiven};
-ghost use Rattle.apf_times.specs.declared.act.Act.TheVariants.{CarriedOut};
+ghost use Rattle.apf_times.specs.declared.act.Act.TheVariants.{CarriedOut, Started};
 ghost use Rattle.apf_times.specs.Courses.{AreInRange, At, CanStart, ComesFirst, HasWaited, IsDueBy, all_dues, left};
 ghost use Rattle.apf_times.specs.Runs.{IsStep};
-ghost use Rattle.apf_session.specs.declared.answer.Answer.TheVariants.{Run};
 ghost use Rattle.apf_times.specs.Limits.{max_patience};
 ghost use Rattle.apf_simulation.specs.Diaries.{IsKeptBy, GoesOn};
-ghost use Rattle.apf_simulation.specs.Ties.{AreAwaited, IsNoted};
+ghost use Rattle.apf_simulation.specs.Ties.{AreAwaited};
 
-use apf_session::Answer;
 use apf_times::{Calendar, Due, Times};
 use std::alloc::{AllocError, Global};
 use std::marker::Model;
@@ -78,20 +76,17 @@ impl Diary {
         Ok(Some(due))
     }
 
-    /// The request is given its seats now, if it was answered that it executes. It has arrived, and was not given any
-    /// before.
-    #[tactic(auto, using(crate::proofs::Going::stays))]
-    pub fn note(&mut self, request: u32, answer: Answer)
-        requires can_start { answer ≡ Run → At request self.old.calendar.courses CanStart }
-        ensures noted { IsNoted request answer self.old self.new }
+    /// The request is given its seats now. It has arrived, and was not given any before.
+    #[tactic(auto, using(crate::proofs::Going::by_start))]
+    pub fn start(&mut self, request: u32)
+        requires can_start { At request self.old.calendar.courses CanStart }
+        ensures step { IsStep self.old.calendar (Started request self.old.calendar.time) self.new.calendar }
         ensures carried { self.new.carried ≡ self.old.carried }
         ensures goes_on { GoesOn self.old self.new }
         ensures as_many { left self.new.calendar.courses ≡ left self.old.calendar.courses }
         ensures count { length self.new.calendar.courses ≡ length self.old.calendar.courses }
     {
-        if answer == Answer::Run {
-            self.calendar.start(request);
-        }
+        self.calendar.start(request);
     }
 
     /// How long a request waited from its arrival until it was given its seats, in microseconds, or `None`

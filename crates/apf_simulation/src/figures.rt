@@ -4,9 +4,9 @@ ghost use Rattle.std.specs.Prelude.{◌≡◌, IfOk, OnOk};
 ghost use Rattle.std.specs.Io.KnownBytes.{Appends};
 ghost use Rattle.apf_simulation.specs.Comparisons.{waits_of, figures_of, AreOfAll, medians_text, long_text, lost_text, figures_text};
 
+use crate::counts::Counts;
 use crate::end::End;
 use crate::row::Row;
-use apf_level::Counts;
 use apf_times::Spread;
 use apf_words::Decision;
 use std::alloc::{AllocError, Global};

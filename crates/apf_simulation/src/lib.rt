@@ -1,22 +1,26 @@
 //! Runs a priority level on requests that have times, in one thread.
 //!
 //! - `diary`: what was carried out when.
-//! - `simulator`: a level and a diary in the hands of one thread. `simulating`: runs a trace on a level.
+//! - `notes`: what is noted of each request beside its slot. `simulator`: a level, a diary and the notes in one hand.
+//! - `simulating`: runs a trace on a level. `fault`: why a trace is not simulated.
 //! - `end`: what became of one request. `ends`: what became of all.
 //! - `tally`: the numbers of one flow's requests. `row`, `rows`: the lines of the flows. `whole`: the line of the whole.
 //! - `timeline`: the script of the calls.
-//! - `queues`: which queue each request entered. `fates`: the lines of what became of each request.
+//! - `fates`: the lines of what became of each request.
+//! - `counts`: how many requests were decided so.
 //! - `simulation`: all of it.
 //! - `figures`: the figures of a flow, or of all requests. `comparison`: two simulations of one trace, side by side.
 #![tactic(auto)]
 
 mod comparison;
+mod counts;
 mod diary;
 mod end;
 mod ends;
 mod fates;
+mod fault;
 mod figures;
-mod queues;
+mod notes;
 mod row;
 mod rows;
 mod simulating;
@@ -27,7 +31,9 @@ mod timeline;
 mod whole;
 
 pub use comparison::{Comparison, Place};
+pub use counts::Counts;
 pub use end::End;
+pub use fault::SimulationFault;
 pub use figures::Figures;
 pub use row::Row;
 pub use simulating::simulate;

@@ -1,56 +1,37 @@
 //! Runs a trace on a level.
 
-ghost use Rattle.std.specs.Prelude.{◌≡◌, ◌≤◌, ◌^◌, [], All, length, slice_get, IfOk, IfErr, OnOk};
+ghost use Rattle.std.specs.Prelude.{◌≡◌, ◌≤◌, ℕ, [], All, Any, length, IfOk, IfErr, OnOk};
 ghost use Rattle.std.specs.List.{AllByRecursion};
 ghost use Rattle.apf_words.specs.Limits.{max_limit, max_requests};
-ghost use Rattle.apf_model.specs.Schedule.{AreCosts};
-ghost use Rattle.apf_level.specs.Reports.{AreSums};
-ghost use Rattle.apf_session.specs.Openings.{level_with, CanOpen, IsOpenFault};
+ghost use Rattle.apf_local.specs.Openings.{CanOpen};
+ghost use Rattle.apf_local.specs.declared.answer.Place.TheVariants as places;
 ghost use Rattle.apf_times.specs.Courses.{AreInRange, all_dues};
 ghost use Rattle.apf_times.specs.Runs.{IsOver};
 ghost use Rattle.apf_traces.specs.TraceValue.{IsRequestInRange};
 ghost use Rattle.apf_times.specs.Limits.{max_patience};
+ghost use Rattle.apf_simulation.specs.declared.fault.SimulationFault.TheVariants.{StillWaits};
 ghost use Rattle.apf_simulation.specs.Diaries.{IsKeptBy, GoesOn};
 ghost use Rattle.apf_simulation.specs.Ends.{AreOf};
-ghost use Rattle.apf_simulation.specs.Runs.{HasEndedBy, HasRun, IsMadeOf, IsSimulation};
-ghost use Rattle.apf_simulation.specs.Ties.{AreAwaited, AreDecidedAs};
-ghost use Rattle.apf_simulation.specs.Times.{asks_of, costs_of, times_of};
+ghost use Rattle.apf_simulation.specs.Faults.{IsFault};
+ghost use Rattle.apf_simulation.specs.Runs.{IsEndOf, HasRun, IsMadeOf, IsSimulation};
+ghost use Rattle.apf_simulation.specs.Ties.{AreAwaited, AreDecidedAs, NobodyWaits};
+ghost use Rattle.apf_simulation.specs.Times.{times_of};
 
+use crate::counts::Counts;
+use crate::fault::SimulationFault;
+use crate::notes::Notes;
 use crate::diary::Diary;
 use crate::ends::ends_of;
 use crate::rows::rows_of;
 use crate::simulation::Simulation;
 use crate::simulator::Simulator;
 use crate::whole::Whole;
-use apf_book::{Ask, Config};
 use apf_flows::flows_of;
-use apf_level::{Naming, Report};
-use apf_session::{OpenFault, Opening};
+use apf_line::Report;
+use apf_model::Config;
 use apf_times::{Times, every_calendar_is_kept};
 use apf_traces::TraceRequest;
 use std::alloc::{AllocError, Global};
-use std::marker::Brand;
-use std::sync::Wait;
-
-// What a level asks of each request.
-fn asks_of_trace(alloc: Global, trace: &[TraceRequest]) -> Result<Vec<Ask>, AllocError>
-    ensures { IfOk result (λ v. v.items ≡ asks_of trace.now) }
-{
-    trace
-        .iter()
-        .map(|asked| Ask {
-            width: asked.width,
-            hash: asked.hash,
-        })
-        .collect(alloc)
-}
-
-// What a dispatch of each request is charged.
-fn costs_of_trace(alloc: Global, trace: &[TraceRequest]) -> Result<Vec<u32>, AllocError>
-    ensures { IfOk result (λ v. v.items ≡ costs_of trace.now) }
-{
-    trace.iter().map(|asked| asked.cost).collect(alloc)
-}
 
 // When each request arrives, and how long it runs.
 fn times_of_trace(alloc: Global, trace: &[TraceRequest]) -> Result<Vec<Times>, AllocError>
@@ -79,43 +60,46 @@ fn diary_of(alloc: Global, trace: &[TraceRequest], patience: u64) -> Result<Diar
     Diary::new(alloc, times.as_slice(), patience)
 }
 
-// When nothing is due, each request's course is over. It runs no code of its own: the contract is the law of calendars,
-// at this diary.
-fn are_over(_diary: &Diary)
-    requires { all_dues _diary.now.calendar.patience _diary.now.calendar.courses ≡ [] }
-    ensures { AllByRecursion IsOver _diary.now.calendar.courses }
+// Whether the run is over: nothing is due any more, and nobody waits.
+fn judge(simulator: &Simulator) -> Result<(), SimulationFault>
+    requires { all_dues simulator.now.diary.calendar.patience simulator.now.diary.calendar.courses ≡ [] }
+    ensures nobody_waits { OnOk result (NobodyWaits simulator.now.level.places) }
+    ensures over { AllByRecursion IsOver simulator.now.diary.calendar.courses }
+    ensures still { IfErr result (λ fault. (fault ≡ StillWaits) × Any (λ p. p ≡ places.Waits) simulator.now.level.places) }
 {
     every_calendar_is_kept();
+    if simulator.still_waits() {
+        return Err(SimulationFault::StillWaits);
+    }
+    Ok(())
 }
 
 // Opens the level, carries out all that is due, and ends the level.
-fn run_named<K: Naming, R: Wait>(
-    rt: &R,
+fn run_of(
     alloc: Global,
-    opening: Opening<'_>,
-    costs: &[u32],
+    config: &Config,
+    trace: &[TraceRequest],
     diary: Diary,
-) -> Result<(Diary, Report), OpenFault>
-    requires level { K.level ≡ level_with opening.gate opening.board.cell opening.config opening.asks.now costs.now }
-    requires one { opening.gate.shape.stations ≡ 1 }
-    requires one_cost_each { length costs.now ≡ length opening.asks.now }
-    requires costs { AreCosts costs.now }
-    requires one_course_each { length diary.calendar.courses ≡ length opening.asks.now }
+) -> Result<(Diary, Notes, Report), SimulationFault>
+    requires few { length trace.now ≤ max_requests }
+    requires ranges { All IsRequestInRange trace.now }
+    requires one_course_each { length diary.calendar.courses ≡ length trace.now }
     requires awaited { AreAwaited diary.calendar }
     requires nothing { diary.carried ≡ [] }
     ensures goes_on { IfOk result (λ o. GoesOn diary o.0) }
     ensures decided { IfOk result (λ o. AreDecidedAs o.0.calendar.patience o.0.calendar.courses o.1.decisions.items) }
     ensures over { IfOk result (λ o. all_dues o.0.calendar.patience o.0.calendar.courses ≡ []) }
-    ensures report { IfOk result (λ o. HasEndedBy K.level o.0.carried o.1) }
-    ensures settings { OnOk result (CanOpen opening.entry.config opening.entry.asks.now 1) }
-    ensures fault { IfErr result (IsOpenFault opening.entry.config opening.entry.asks.now 1) }
+    ensures ended { IfOk result (λ o. IsEndOf config.now trace.now o.0.carried o.1.decisions.items o.1.queues.items o.2) }
+    ensures all_queues { IfOk result (λ o. length o.1.queues.items ≡ length trace.now) }
+    ensures settings { OnOk result (CanOpen config.now (length trace.now)) }
+    ensures fault { IfErr result (λ fault. (patience : ℕ) → IsKeptBy (times_of trace.now) patience diary → IsFault config.now (length trace.now) patience fault) }
 {
-    let mut simulator = Simulator::<K>::open(rt, alloc, opening, costs, diary)?;
-    let ran = simulator.run(rt);
-    let (diary, report) = simulator.end(rt, alloc);
-    ran?;
-    are_over(&diary);
-    Ok((diary, report?))
+    let mut simulator = Simulator::open(alloc, config, trace.len() as u32, diary)?;
+    simulator.run(trace)?;
+    judge(&simulator)?;
+    let (level, diary, notes) = simulator.into_parts();
+    let report = level.end(alloc)?;
+    Ok((diary, notes, report))
 }
 
 // The courses of a run are those of the trace's requests. It runs no code of its own: the contract is the law of
@@ -127,44 +111,49 @@ fn are_of_trace(_diary: &Diary, _trace: &[TraceRequest], _patience: u64)
     every_calendar_is_kept();
 }
 
-// What the trace came to, by the diary and the report of its run.
+// What the trace came to, by the diary, the notes and the report of its run.
 fn simulation_of(
     alloc: Global,
     limit: u32,
     trace: &[TraceRequest],
     patience: u64,
-    diary: Diary,
-    report: Report,
+    run: (Diary, Notes, Report),
 ) -> Result<Simulation, AllocError>
     requires few { length trace.now ≤ max_requests }
     requires ranges { All IsRequestInRange trace.now }
     requires patience { patience ≤ max_patience }
     requires limit { limit ≤ max_limit }
-    requires run { HasRun trace.now patience diary }
-    requires told { AreDecidedAs patience diary.calendar.courses report.decisions.items }
-    requires decided { length report.decisions.items ≡ length trace.now }
-    requires sums { AreSums report.counts (slice_get report.decisions.items) (length report.decisions.items) }
-    ensures made { IfOk result (IsMadeOf limit trace.now patience diary report) }
+    requires run { HasRun trace.now patience run.0 }
+    requires told { AreDecidedAs patience run.0.calendar.courses run.1.decisions.items }
+    requires decided { length run.1.decisions.items ≡ length trace.now }
+    ensures made { IfOk result (IsMadeOf limit trace.now patience run.0 run.1.decisions.items) }
+    ensures queues { IfOk result (λ s. s.queues ≡ run.1.queues) }
+    ensures report { IfOk result (λ s. s.report ≡ run.2) }
     ensures each { IfOk result (λ s. length s.ends.items ≡ length trace.now) }
 {
+    let (diary, notes, report) = run;
+    let Notes { decisions, queues } = notes;
     are_of_trace(&diary, trace, patience);
     let flows = flows_of(alloc, trace)?;
     let ends = ends_of(
         alloc,
         &diary,
         flows.of.as_slice(),
-        report.decisions.as_slice(),
+        decisions.as_slice(),
         trace,
         patience,
     )?;
     let rows = rows_of(alloc, trace, flows.firsts.as_slice(), ends.as_slice())?;
     let whole = Whole::of(ends.as_slice(), limit, patience);
+    let counts = Counts::of(decisions.as_slice());
     Ok(Simulation {
         flows,
         ends,
         rows,
         whole,
         carried: diary.into_carried(),
+        queues,
+        counts,
         report,
     })
 }
@@ -180,27 +169,23 @@ fn simulation_of(
 /// # Errors
 ///
 /// The first of these: the gate's fault (`BadLimit`), and the level's (the dealer's, then the queues'). `NoMemory`
-/// whenever memory was refused.
-pub fn simulate<R: Wait>(
-    rt: &R,
+/// whenever memory was refused. `StillWaits` if a request waits when nothing is due.
+pub fn simulate(
     alloc: Global,
     config: &Config,
     trace: &[TraceRequest],
     patience: u64,
-) -> Result<Simulation, OpenFault>
+) -> Result<Simulation, SimulationFault>
     requires few { length trace.now ≤ max_requests }
     requires ranges { All IsRequestInRange trace.now }
     requires patience { patience ≤ max_patience }
     ensures simulation { IfOk result (IsSimulation config.now trace.now patience) }
     ensures each { IfOk result (λ s. length s.ends.items ≡ length trace.now) }
-    ensures settings { OnOk result (CanOpen config.now (asks_of trace.now) 1) }
-    ensures fault { IfErr result (IsOpenFault config.now (asks_of trace.now) 1) }
+    ensures all_queues { IfOk result (λ s. length s.queues.items ≡ length trace.now) }
+    ensures settings { OnOk result (CanOpen config.now (length trace.now)) }
+    ensures fault { IfErr result (IsFault config.now (length trace.now) patience) }
 {
-    let asks = asks_of_trace(alloc, trace)?;
-    let costs = costs_of_trace(alloc, trace)?;
     let diary = diary_of(alloc, trace, patience)?;
-    let opening = Opening::new(alloc, config, asks.as_slice(), 1)?;
-    let limit = opening.config.limit;
-    let (diary, report) = run_named::<Brand, R>(rt, alloc, opening, costs.as_slice(), diary)?;
-    Ok(simulation_of(alloc, limit, trace, patience, diary, report)?)
+    let run = run_of(alloc, config, trace, diary)?;
+    Ok(simulation_of(alloc, config.limit, trace, patience, run)?)
 }

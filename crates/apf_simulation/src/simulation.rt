@@ -1,22 +1,21 @@
 //! A simulation of a trace.
 
-ghost use Rattle.std.specs.Prelude.{◌≡◌, ◌≤◌, ◌++◌, ◌^◌, All, length, vec_len, IfOk, OnOk};
+ghost use Rattle.std.specs.Prelude.{◌++◌, OnOk};
 ghost use Rattle.std.specs.Io.KnownBytes.{Appends};
 ghost use Rattle.apf_simulation.specs.Texts.{flows_text, whole_text, timeline_text};
-ghost use Rattle.apf_simulation.specs.Fates.{fates_text, queues_of as the_queues_of};
+ghost use Rattle.apf_simulation.specs.Fates.{fates_text};
 
+use crate::counts::Counts;
 use crate::end::End;
 use crate::fates::write_fates;
-use crate::queues::queues_of;
 use crate::row::Row;
 use crate::rows::write_rows;
 use crate::timeline::write_calls;
 use crate::whole::Whole;
 use apf_flows::Flows;
-use apf_level::Report;
+use apf_line::Report;
 use apf_times::Due;
 use apf_traces::TraceRequest;
-use std::alloc::{AllocError, Global};
 use std::io;
 use std::io::Write;
 
@@ -33,7 +32,11 @@ pub struct Simulation {
     pub whole: Whole,
     /// What was carried out, the oldest first: each arrival, each finish, and each end of patience.
     pub carried: Vec<Due>,
-    /// What the level said when it ended.
+    /// The queue that each request entered, if it entered one.
+    pub queues: Vec<Option<u32>>,
+    /// How many requests were decided so.
+    pub counts: Counts,
+    /// What the level told when it ended.
     pub report: Report,
 }
 
@@ -64,21 +67,9 @@ impl Simulation {
         write_calls(out, self.ends.as_slice(), self.carried.as_slice())
     }
 
-    /// The queue that each request entered, by its number, or `None` of one that entered no queue.
-    ///
-    /// # Errors
-    ///
-    /// `AllocError` if memory was refused.
-    pub fn queues(&self, alloc: Global) -> Result<Vec<Option<u32>>, AllocError>
-        ensures queues { IfOk result (λ queues. queues.items ≡ the_queues_of self.now.report.log.items (length self.now.ends.items)) }
-        ensures each { IfOk result (λ queues. vec_len queues ≡ length self.now.ends.items) }
-    {
-        queues_of(alloc, self.report.log.as_slice(), self.ends.len())
-    }
-
     /// Writes a line of names, and a line for each request, in the order of their arrivals: its number, its flow, its
     /// arrival, its queue, when it took its seats, its end, its decision and its names. The trace is the one that was
-    /// simulated, and the queues are those of [`queues`](Simulation::queues).
+    /// simulated.
     ///
     /// # Errors
     ///
@@ -86,17 +77,16 @@ impl Simulation {
     pub fn write_fates<W: Write>(
         &self,
         trace: &[TraceRequest],
-        queues: &[Option<u32>],
         out: &mut W,
     ) -> io::Result<()>
         ensures { OnOk result (Appends (W.contents out.old) (W.contents out.new)
-            (fates_text trace.now self.now.ends.items queues.now self.now.carried.items)) }
+            (fates_text trace.now self.now.ends.items self.now.queues.items self.now.carried.items)) }
     {
         write_fates(
             out,
             trace,
             self.ends.as_slice(),
-            queues,
+            self.queues.as_slice(),
             self.carried.as_slice(),
         )
     }

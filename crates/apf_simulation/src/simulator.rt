@@ -1,287 +1,318 @@
-//! A level and a diary in the hands of one thread.
+//! A level, a diary and the notes in one hand.
 
-ghost use Rattle.std.specs.Prelude.{◌≡◌, ◌≢◌, ◌⊎◌, ◌*◌, ◌<◌, ◌≤◌, false, true, [], length, slice_index_or, All, IfOk, IfErr, IfNone, IfSome, OnOk};
+ghost use Rattle.std.specs.Prelude.{◌≡◌, ◌≢◌, ◌⊎◌, ◌<◌, ◌≤◌, false, true, [], List, length, slice_get, All, Any, Some, IfOk, IfErr, IsTrue, IsFalse, OnOk};
 ghost use Rattle.apf_words.specs.Limits.{max_requests};
-ghost use Rattle.apf_model.specs.Schedule.{AreCosts};
-ghost use Rattle.apf_session.specs.declared.answer.Place.TheVariants as places;
-ghost use Rattle.apf_session.specs.Ends.{SessionEnds};
-ghost use Rattle.apf_session.specs.Openings.{level_with, CanOpen, IsNew, IsOpenFault};
-ghost use Rattle.apf_session.specs.Requests.{CallsOne, RequestView, SaysWhere, place_of};
+ghost use Rattle.apf_gate.specs.Gauges.{max_numbers};
+ghost use Rattle.apf_book.specs.Life.{LifeView};
+ghost use Rattle.apf_book.specs.LifeBook.{IsLifeKept, IsLived};
+ghost use Rattle.apf_local.specs.Openings.{IsOpened, CanOpen, IsOpenFault};
+ghost use Rattle.apf_local.specs.Owners.{IsSlotOf};
+ghost use Rattle.apf_local.specs.Worlds.{IsDecidedIn};
+ghost use Rattle.apf_local.specs.declared.answer.Place.TheVariants as places;
 ghost use Rattle.apf_times.specs.declared.due.Kind.TheVariants as kinds;
 ghost use Rattle.apf_times.specs.Courses.{all_dues, left};
+ghost use Rattle.apf_traces.specs.TraceValue.{IsRequestInRange};
+ghost use Rattle.apf_traces.specs.declared.request.TraceRequest.{TraceRequest};
 ghost use Rattle.apf_simulation.specs.Diaries.{GoesOn};
-ghost use Rattle.apf_simulation.specs.Ties.{AreAwaited, AreTied, AreTiedBut, Cancels, CancelsAlone, CancelsOnly, Here, IsCallDue, IsNoted, NobodyWaits, Owes, Stands};
+ghost use Rattle.apf_simulation.specs.Operators.{Cancels, CancelsAlone, CancelsOnly};
+ghost use Rattle.apf_simulation.specs.Slots.{slots_of, IsSame};
+ghost use Rattle.apf_simulation.specs.Ties.{AreAwaited, AreTied, AreTiedBut, HasPatience, Here, IsCallDue, IsWaiting, Owes};
+ghost use Rattle.apf_simulation.specs.Logs.{queue_in as the_queue_in, IsLogged, LogsOn};
 
 use crate::diary::Diary;
-use apf_level::{Naming, Report};
-use apf_model::Event;
-use apf_session::{Answer, Follower, OpenFault, Opening, Place, Session};
+use crate::notes::Notes;
+use apf_book::LifeEvent;
+use apf_gate::Ticket;
+use apf_local::{Answer, Ask, LocalLevel, OpenFault, Place};
+use apf_model::Config;
 use apf_times::{Due, Kind};
+use apf_traces::TraceRequest;
+use apf_words::Decision;
 use std::alloc::{AllocError, Global};
-use std::sync::Wait;
 
-/// A level with its requests, and the diary of what became of them. It must be ended.
-pub(crate) struct Simulator<K: Naming> {
-    session: Session<K>,
+/// A level with a slot for each request, which is used once, and the diary of what became of them.
+#[derive(Drop)]
+pub(crate) struct Simulator {
+    level: LocalLevel,
     diary: Diary,
-    log: Follower,
-    ghost one_station: { K.level.gate.shape.stations ≡ 1 },
-    ghost one_course_each: { length diary.calendar.courses ≡ length K.level.gate.shape.widths },
+    notes: Notes,
+    // the events that were read last, and up to which place they were read
+    room: Vec<LifeEvent>,
+    seen: u64,
+    ghost numbers: { length level.owner.gate.shape.widths ≡ max_numbers },
+    ghost few: { length level.places ≤ max_requests },
 }
 
-impl<K: Naming> Simulator<K> {
-    /// The level of this opening, where a dispatch is charged the request's cost.
+// The queue that a request entered by this event, if it entered one.
+fn queue_in(event: Option<LifeEvent>) -> Option<u32>
+    ensures { result ≡ the_queue_in event }
+{
+    match event {
+        Some(LifeEvent::Enter(_, queue)) => Some(queue),
+        _ => None,
+    }
+}
+
+impl Simulator {
+    /// The level of this config, to which nothing happened yet.
     ///
     /// # Errors
     ///
     /// The level's fault, or `NoMemory`. Then everything is given up.
-    pub fn open<R: Wait>(
-        rt: &R,
+    pub fn open(
         alloc: Global,
-        opening: Opening<'_>,
-        costs: &[u32],
+        config: &Config,
+        requests: u32,
         diary: Diary,
-    ) -> Result<Simulator<K>, OpenFault>
-        requires level { K.level ≡ level_with opening.gate opening.board.cell opening.config opening.asks.now costs.now }
-        requires one { opening.gate.shape.stations ≡ 1 }
-        requires one_cost_each { length costs.now ≡ length opening.asks.now }
-        requires costs { AreCosts costs.now }
-        requires one_course_each { length diary.calendar.courses ≡ length opening.asks.now }
+    ) -> Result<Simulator, OpenFault>
+        requires one_course_each { length diary.calendar.courses ≡ requests }
         requires awaited { AreAwaited diary.calendar }
         ensures diary { IfOk result (λ s. s.diary ≡ diary) }
-        ensures tied { IfOk result (λ s. AreTied s.diary.calendar s.session.requests.items) }
-        ensures new { IfOk result (λ s. All (IsNew K.level.gate) s.session.operators.items) }
-        ensures settings { OnOk result (CanOpen opening.entry.config opening.entry.asks.now 1) }
-        ensures fault { IfErr result (IsOpenFault opening.entry.config opening.entry.asks.now 1) }
+        ensures opened { IfOk result (λ s. IsOpened config.now requests s.level) }
+        ensures tied { IfOk result (λ s. (trace : List TraceRequest) → length trace ≡ requests → AreTied trace s.diary.calendar (slots_of s.level s.notes)) }
+        ensures logs { IfOk result (λ s. (trace : List TraceRequest) (v : LifeView) → IsLifeKept v s.level.owner.book → IsLogged trace s.level.sizes s.notes.queues.items v) }
+        ensures lived { IfOk result (λ s. IsLived s.level.owner.book) }
+        ensures settings { OnOk result (CanOpen config.now requests) }
+        ensures fault { IfErr result (IsOpenFault config.now requests) }
     {
-        let log = Follower::new(alloc, opening.asks.len())?;
-        let session = Session::open_with_costs(rt, alloc, opening, costs)?;
+        let level = LocalLevel::open(alloc, config, requests)?;
+        level.has_a_history();
+        let notes = Notes::none(alloc, requests as usize)?;
+        let no_event = LifeEvent::Enter(Ticket::of(0), 0);
+        let room = vec![in alloc; no_event; 2 * requests as usize]?;
         Ok(Simulator {
-            session,
+            level,
             diary,
-            log,
+            notes,
+            room,
+            seen: 0,
         })
     }
 
     // The request arrives. It is given its seats now, if it executes.
-    fn arrive<R: Wait>(&mut self, rt: &R, request: u32)
-        requires others { AreTiedBut request self.old.diary.calendar self.old.session.requests.items }
-        requires arrives { Here (Owes kinds.Arrive self.old.diary.calendar.patience self.old.diary.calendar.time) request self.old.diary.calendar self.old.session.requests.items }
-        ensures tied { AreTied self.new.diary.calendar self.new.session.requests.items }
+    #[tactic(auto, using(crate::proofs::Going::stays))]
+    fn arrive(&mut self, trace: &[TraceRequest], request: u32)
+        requires ranges { All IsRequestInRange trace.now }
+        requires others { AreTiedBut trace.now request self.old.diary.calendar (slots_of self.old.level self.old.notes) }
+        requires arrives { Here (Owes trace.now kinds.Arrive self.old.diary.calendar.patience self.old.diary.calendar.time request) request self.old.diary.calendar (slots_of self.old.level self.old.notes) }
+        ensures tied { AreTied trace.now self.new.diary.calendar (slots_of self.new.level self.new.notes) }
         ensures goes_on { GoesOn self.old.diary self.new.diary }
         ensures as_many { left self.new.diary.calendar.courses ≡ left self.old.diary.calendar.courses }
         ensures carried { self.new.diary.carried ≡ self.old.diary.carried }
-        ensures operators { self.new.session.operators.items ≡ self.old.session.operators.items }
+        ensures same { IsSame self.old.level self.new.level }
+        ensures logs { LogsOn trace.now self.old.level self.old.notes.queues.items self.new.level self.new.notes.queues.items }
+        ensures operator { self.new.level.owner.stations ≡ self.old.level.owner.stations }
     {
-        let answer = self.session.begin(rt, request);
-        self.diary.note(request, answer);
-    }
-
-    // The request reads its decision, if it waits. It is given its seats now, if it executes.
-    fn poll<R: Wait>(&mut self, rt: &R, request: u32) -> Answer
-        requires inside { request < length self.old.diary.calendar.courses }
-        requires stands { Here (Stands self.old.diary.calendar.patience self.old.diary.calendar.time) request self.old.diary.calendar self.old.session.requests.items }
-        ensures calls { CallsOne places.Waits request self.old.session.requests.items result self.new.session.requests.items }
-        ensures kind { SaysWhere result }
-        ensures noted { IsNoted request result self.old.diary self.new.diary }
-        ensures goes_on { GoesOn self.old.diary self.new.diary }
-        ensures as_many { left self.new.diary.calendar.courses ≡ left self.old.diary.calendar.courses }
-        ensures carried { self.new.diary.carried ≡ self.old.diary.carried }
-        ensures operators { self.new.session.operators.items ≡ self.old.session.operators.items }
-    {
-        let answer = self.session.poll(rt, request);
-        self.diary.note(request, answer);
-        answer
-    }
-
-    // The request, if there is one of this number, reads its decision.
-    fn read_decision<R: Wait>(&mut self, rt: &R, request: u32)
-        requires tied { AreTied self.old.diary.calendar self.old.session.requests.items }
-        ensures tied { AreTied self.new.diary.calendar self.new.session.requests.items }
-        ensures goes_on { GoesOn self.old.diary self.new.diary }
-        ensures as_many { left self.new.diary.calendar.courses ≡ left self.old.diary.calendar.courses }
-        ensures carried { self.new.diary.carried ≡ self.old.diary.carried }
-        ensures operators { self.new.session.operators.items ≡ self.old.session.operators.items }
-    {
-        if (request as usize) < self.session.requests.len() {
-            self.poll(rt, request);
+        let slot = request as usize;
+        let asked = &trace[slot];
+        let ask = Ask {
+            width: asked.width,
+            hash: asked.hash,
+            cost: asked.cost,
+        };
+        let (answer, event) = self.level.arrive(slot, ask);
+        self.notes.queues[slot] = queue_in(event);
+        match answer {
+            Answer::Run => self.diary.start(request),
+            Answer::Over(decision) => self.notes.decisions[slot] = decision,
+            Answer::Waits => {}
+            Answer::Busy | Answer::Released | Answer::Spent | Answer::Wrong => unreachable!(),
         }
     }
 
-    // A request that was dispatched or struck by this event of the log reads its decision.
-    fn hear<R: Wait>(&mut self, rt: &R, place: u32)
-        requires tied { AreTied self.old.diary.calendar self.old.session.requests.items }
-        ensures tied { AreTied self.new.diary.calendar self.new.session.requests.items }
+    // The request, which waits, reads its decision. It is given its seats now, if it executes.
+    #[tactic(auto, using(crate::proofs::Going::stays))]
+    fn read(&mut self, trace: &[TraceRequest], request: u32) -> Place
+        requires others { AreTiedBut trace.now request self.old.diary.calendar (slots_of self.old.level self.old.notes) }
+        requires waits { Here (IsWaiting trace.now self.old.diary.calendar.patience self.old.diary.calendar.time request) request self.old.diary.calendar (slots_of self.old.level self.old.notes) }
+        ensures tied { result ≢ places.Waits → AreTied trace.now self.new.diary.calendar (slots_of self.new.level self.new.notes) }
+        ensures still { Here (HasPatience self.old.diary.calendar.patience) request self.old.diary.calendar (slots_of self.old.level self.old.notes) → AreTied trace.now self.new.diary.calendar (slots_of self.new.level self.new.notes) }
+        ensures decided { IsSlotOf self.old.level.owner.passes request (λ t. IsDecidedIn self.old.level.owner.book t.pass.number → result ≢ places.Waits) }
         ensures goes_on { GoesOn self.old.diary self.new.diary }
         ensures as_many { left self.new.diary.calendar.courses ≡ left self.old.diary.calendar.courses }
         ensures carried { self.new.diary.carried ≡ self.old.diary.carried }
-        ensures operators { self.new.session.operators.items ≡ self.old.session.operators.items }
+        ensures same { IsSame self.old.level self.new.level }
+        ensures logs { LogsOn trace.now self.old.level self.old.notes.queues.items self.new.level self.new.notes.queues.items }
+        ensures operator { self.new.level.owner.stations ≡ self.old.level.owner.stations }
     {
-        if let Some(Event::Dispatch(request, _) | Event::Strike(request, _)) = self
-            .log
-            .event(place)
+        let slot = request as usize;
+        let place = self.level.place(slot);
+        match place {
+            Place::Waits => {}
+            Place::Runs => self.diary.start(request),
+            Place::Free => self.notes.decisions[slot] = Decision::Cancelled,
+        }
+        place
+    }
+
+    // A request that was dispatched or struck by this event reads its decision, if it waits still.
+    #[tactic(auto, using(crate::proofs::Going::stays))]
+    fn hear(&mut self, trace: &[TraceRequest], event: LifeEvent)
+        requires tied { AreTied trace.now self.old.diary.calendar (slots_of self.old.level self.old.notes) }
+        ensures tied { AreTied trace.now self.new.diary.calendar (slots_of self.new.level self.new.notes) }
+        ensures goes_on { GoesOn self.old.diary self.new.diary }
+        ensures as_many { left self.new.diary.calendar.courses ≡ left self.old.diary.calendar.courses }
+        ensures carried { self.new.diary.carried ≡ self.old.diary.carried }
+        ensures same { IsSame self.old.level self.new.level }
+        ensures logs { LogsOn trace.now self.old.level self.old.notes.queues.items self.new.level self.new.notes.queues.items }
+        ensures operator { self.new.level.owner.stations ≡ self.old.level.owner.stations }
+    {
+        let (LifeEvent::Dispatch(ticket, _) | LifeEvent::Strike(ticket, _)) = event else {
+            return;
+        };
+        let request = ticket.slot();
+        if (request as usize) < self.level.slots()
+            && self.level.held(request as usize) == Place::Waits
         {
-            self.read_decision(rt, request);
+            self.read(trace, request);
         }
     }
 
-    // Reads what the log gained. Each request that was dispatched or struck reads its decision.
-    fn follow<R: Wait>(&mut self, rt: &R)
-        requires tied { AreTied self.old.diary.calendar self.old.session.requests.items }
-        ensures tied { AreTied self.new.diary.calendar self.new.session.requests.items }
+    // Reads the new events. Each request that was dispatched or struck reads its decision.
+    fn follow(&mut self, trace: &[TraceRequest])
+        requires tied { AreTied trace.now self.old.diary.calendar (slots_of self.old.level self.old.notes) }
+        ensures tied { AreTied trace.now self.new.diary.calendar (slots_of self.new.level self.new.notes) }
         ensures goes_on { GoesOn self.old.diary self.new.diary }
         ensures as_many { left self.new.diary.calendar.courses ≡ left self.old.diary.calendar.courses }
         ensures carried { self.new.diary.carried ≡ self.old.diary.carried }
-        ensures operators { self.new.session.operators.items ≡ self.old.session.operators.items }
+        ensures same { IsSame self.old.level self.new.level }
+        ensures logs { LogsOn trace.now self.old.level self.old.notes.queues.items self.new.level self.new.notes.queues.items }
+        ensures operator { self.new.level.owner.stations ≡ self.old.level.owner.stations }
     {
-        let from = self.log.len();
-        self.log.follow(rt, &self.session.level);
-        for place in from..self.log.len() {
-            self.hear(rt, place);
-        }
-    }
-
-    // The request, which has arrived, reads its decision until it has one.
-    fn hear_out<R: Wait>(&mut self, rt: &R, request: u32)
-        requires others { AreTiedBut request self.old.diary.calendar self.old.session.requests.items }
-        requires stands { Here (Stands self.old.diary.calendar.patience self.old.diary.calendar.time) request self.old.diary.calendar self.old.session.requests.items }
-        requires arrived { (d : RequestView) → place_of (slice_index_or self.old.session.requests.items request d).token ≢ places.Away }
-        ensures tied { AreTied self.new.diary.calendar self.new.session.requests.items }
-        ensures goes_on { GoesOn self.old.diary self.new.diary }
-        ensures as_many { left self.new.diary.calendar.courses ≡ left self.old.diary.calendar.courses }
-        ensures carried { self.new.diary.carried ≡ self.old.diary.carried }
-        ensures operators { self.new.session.operators.items ≡ self.old.session.operators.items }
-    {
-        for _ in rt.forever() {
-            if self.poll(rt, request) != Answer::Waits {
-                return;
+        let room = self.room.as_mut_slice();
+        let copied = self.level.copy_events(self.seen, room);
+        let count = copied.count.min(self.room.len());
+        self.seen = copied.from.saturating_add(count as u64);
+        for place in 0..count {
+            if place < self.room.len() {
+                let event = self.room[place];
+                self.hear(trace, event);
             }
         }
-        unreachable!()
     }
 
     // The request gives up, if it waits: it is cancelled and struck, and reads that.
-    fn give_up<R: Wait>(&mut self, rt: &R, request: u32)
-        requires others { AreTiedBut request self.old.diary.calendar self.old.session.requests.items }
-        requires gives_up { Here (Owes kinds.GiveUp self.old.diary.calendar.patience self.old.diary.calendar.time) request self.old.diary.calendar self.old.session.requests.items }
-        ensures given_up { AreTied self.new.diary.calendar self.new.session.requests.items }
+    #[tactic(auto, using(crate::proofs::Going::stays))]
+    fn give_up(&mut self, trace: &[TraceRequest], request: u32)
+        requires others { AreTiedBut trace.now request self.old.diary.calendar (slots_of self.old.level self.old.notes) }
+        requires gives_up { Here (Owes trace.now kinds.GiveUp self.old.diary.calendar.patience self.old.diary.calendar.time request) request self.old.diary.calendar (slots_of self.old.level self.old.notes) }
+        ensures tied { AreTied trace.now self.new.diary.calendar (slots_of self.new.level self.new.notes) }
         ensures goes_on { GoesOn self.old.diary self.new.diary }
         ensures as_many { left self.new.diary.calendar.courses ≡ left self.old.diary.calendar.courses }
         ensures carried { self.new.diary.carried ≡ self.old.diary.carried }
-        ensures cancels { (self.new.session.operators.items ≡ self.old.session.operators.items)
-            ⊎ Cancels request self.old.session.operators.items self.new.session.operators.items }
+        ensures same { IsSame self.old.level self.new.level }
+        ensures logs { LogsOn trace.now self.old.level self.old.notes.queues.items self.new.level self.new.notes.queues.items }
+        ensures cancels { (self.new.level.owner.stations ≡ self.old.level.owner.stations)
+            ⊎ Cancels trace.now request self.old.level.owner.stations self.new.level.owner.stations }
     {
-        if self.session.requests[request as usize].place() == Place::Waits {
-            self.session.cancel(rt, request);
-            self.hear_out(rt, request);
+        let slot = request as usize;
+        if self.level.held(slot) == Place::Waits {
+            let ticket = self.level.ticket(slot);
+            self.level.cancel(ticket);
+            self.read(trace, request);
         }
     }
 
     // The request gives its seats back.
-    fn finish<R: Wait>(&mut self, rt: &R, request: u32)
-        requires others { AreTiedBut request self.old.diary.calendar self.old.session.requests.items }
-        requires finishes { Here (Owes kinds.Finish self.old.diary.calendar.patience self.old.diary.calendar.time) request self.old.diary.calendar self.old.session.requests.items }
-        ensures tied { AreTied self.new.diary.calendar self.new.session.requests.items }
-        ensures same { self.new.diary ≡ self.old.diary }
-        ensures operators { self.new.session.operators.items ≡ self.old.session.operators.items }
-    {
-        self.session.finish(rt, request);
-    }
-
-    // Makes the call for what was just carried out.
-    fn call<R: Wait>(&mut self, rt: &R, due: Due)
-        requires due { IsCallDue due self.old.diary.calendar self.old.session.requests.items }
-        ensures tied { AreTied self.new.diary.calendar self.new.session.requests.items }
+    #[tactic(auto, using(crate::proofs::Going::stays))]
+    fn finish(&mut self, trace: &[TraceRequest], request: u32)
+        requires others { AreTiedBut trace.now request self.old.diary.calendar (slots_of self.old.level self.old.notes) }
+        requires finishes { Here (Owes trace.now kinds.Finish self.old.diary.calendar.patience self.old.diary.calendar.time request) request self.old.diary.calendar (slots_of self.old.level self.old.notes) }
+        ensures tied { AreTied trace.now self.new.diary.calendar (slots_of self.new.level self.new.notes) }
         ensures goes_on { GoesOn self.old.diary self.new.diary }
         ensures as_many { left self.new.diary.calendar.courses ≡ left self.old.diary.calendar.courses }
         ensures carried { self.new.diary.carried ≡ self.old.diary.carried }
-        ensures cancels { CancelsOnly due self.old.session.operators.items self.new.session.operators.items }
+        ensures same { IsSame self.old.level self.new.level }
+        ensures logs { LogsOn trace.now self.old.level self.old.notes.queues.items self.new.level self.new.notes.queues.items }
+        ensures operator { self.new.level.owner.stations ≡ self.old.level.owner.stations }
+    {
+        self.level.finish(request as usize);
+    }
+
+    // Makes the call for what was just carried out.
+    fn call(&mut self, trace: &[TraceRequest], due: Due)
+        requires ranges { All IsRequestInRange trace.now }
+        requires due { IsCallDue trace.now due self.old.diary.calendar (slots_of self.old.level self.old.notes) }
+        ensures tied { AreTied trace.now self.new.diary.calendar (slots_of self.new.level self.new.notes) }
+        ensures goes_on { GoesOn self.old.diary self.new.diary }
+        ensures as_many { left self.new.diary.calendar.courses ≡ left self.old.diary.calendar.courses }
+        ensures carried { self.new.diary.carried ≡ self.old.diary.carried }
+        ensures same { IsSame self.old.level self.new.level }
+        ensures logs { LogsOn trace.now self.old.level self.old.notes.queues.items self.new.level self.new.notes.queues.items }
+        ensures cancels { CancelsOnly trace.now due self.old.level.owner.stations self.new.level.owner.stations }
     {
         match due.kind {
-            Kind::Arrive => self.arrive(rt, due.request),
-            Kind::Finish => self.finish(rt, due.request),
-            Kind::GiveUp => self.give_up(rt, due.request),
+            Kind::Arrive => self.arrive(trace, due.request),
+            Kind::Finish => self.finish(trace, due.request),
+            Kind::GiveUp => self.give_up(trace, due.request),
         }
     }
 
     // Carries out what is due first, and makes the call for it. Says whether something was due.
-    fn step<R: Wait>(&mut self, rt: &R) -> Result<bool, AllocError>
-        requires tied { AreTied self.old.diary.calendar self.old.session.requests.items }
-        ensures tied { OnOk result (AreTied self.new.diary.calendar self.new.session.requests.items) }
+    fn step(&mut self, trace: &[TraceRequest]) -> Result<bool, AllocError>
+        requires ranges { All IsRequestInRange trace.now }
+        requires tied { AreTied trace.now self.old.diary.calendar (slots_of self.old.level self.old.notes) }
+        ensures tied { OnOk result (AreTied trace.now self.new.diary.calendar (slots_of self.new.level self.new.notes)) }
         ensures goes_on { OnOk result (GoesOn self.old.diary self.new.diary) }
-        ensures cancels { OnOk result (CancelsAlone self.old.diary self.new.diary self.old.session.operators.items self.new.session.operators.items) }
+        ensures same { OnOk result (IsSame self.old.level self.new.level) }
+        ensures logs { OnOk result (LogsOn trace.now self.old.level self.old.notes.queues.items self.new.level self.new.notes.queues.items) }
+        ensures cancels { OnOk result (CancelsAlone trace.now self.old.diary self.new.diary self.old.level.owner.stations self.new.level.owner.stations) }
         ensures fewer { IfOk result (λ more. more ≡ true → left self.new.diary.calendar.courses < left self.old.diary.calendar.courses) }
         ensures over { IfOk result (λ more. more ≡ false → all_dues self.new.diary.calendar.patience self.new.diary.calendar.courses ≡ []) }
     {
         let Some(due) = self.diary.next()? else {
             return Ok(false);
         };
-        self.call(rt, due);
-        self.follow(rt);
+        self.call(trace, due);
+        self.follow(trace);
         Ok(true)
     }
 
-    // Carries out all that is due, in its order, until nothing is.
-    fn run_out<R: Wait>(&mut self, rt: &R) -> Result<(), AllocError>
-        requires tied { AreTied self.old.diary.calendar self.old.session.requests.items }
-        ensures tied { OnOk result (AreTied self.new.diary.calendar self.new.session.requests.items) }
-        ensures goes_on { OnOk result (GoesOn self.old.diary self.new.diary) }
-        ensures cancels { OnOk result (CancelsAlone self.old.diary self.new.diary self.old.session.operators.items self.new.session.operators.items) }
-        ensures over { OnOk result (all_dues self.new.diary.calendar.patience self.new.diary.calendar.courses ≡ []) }
-    {
-        while self.step(rt)? {}
-        Ok(())
-    }
-
-    // The first request that waits, if one does.
-    fn first_waiting(&self) -> Option<u32>
-        ensures inside { IfSome result (λ r. r < length self.now.session.requests.items) }
-        ensures waits { IfSome result (λ r. (d : RequestView) → place_of (slice_index_or self.now.session.requests.items r d).token ≡ places.Waits) }
-        ensures none { IfNone result (NobodyWaits self.now.session.requests.items) }
-    {
-        self.session.level.is_a_batch();
-        for request in 0..self.session.requests.len() {
-            if self.session.requests[request].place() == Place::Waits {
-                return Some(request as u32);
-            }
-        }
-        None
-    }
-
-    /// Carries out all that is due, in its order, until nothing is and nobody waits. A level whose seats are all given
-    /// back has dispatched everyone. One that still waited would read its decision until it has one.
+    /// Carries out all that is due, in its order, until nothing is.
     ///
     /// # Errors
     ///
     /// `AllocError` if memory was refused.
-    pub fn run<R: Wait>(&mut self, rt: &R) -> Result<(), AllocError>
-        requires tied { AreTied self.old.diary.calendar self.old.session.requests.items }
-        ensures tied { OnOk result (AreTied self.new.diary.calendar self.new.session.requests.items) }
+    pub fn run(&mut self, trace: &[TraceRequest]) -> Result<(), AllocError>
+        requires ranges { All IsRequestInRange trace.now }
+        requires tied { AreTied trace.now self.old.diary.calendar (slots_of self.old.level self.old.notes) }
+        ensures tied { OnOk result (AreTied trace.now self.new.diary.calendar (slots_of self.new.level self.new.notes)) }
         ensures goes_on { OnOk result (GoesOn self.old.diary self.new.diary) }
-        ensures cancels { OnOk result (CancelsAlone self.old.diary self.new.diary self.old.session.operators.items self.new.session.operators.items) }
+        ensures same { OnOk result (IsSame self.old.level self.new.level) }
+        ensures logs { OnOk result (LogsOn trace.now self.old.level self.old.notes.queues.items self.new.level self.new.notes.queues.items) }
+        ensures cancels { OnOk result (CancelsAlone trace.now self.old.diary self.new.diary self.old.level.owner.stations self.new.level.owner.stations) }
         ensures over { OnOk result (all_dues self.new.diary.calendar.patience self.new.diary.calendar.courses ≡ []) }
-        ensures nobody_waits { OnOk result (NobodyWaits self.new.session.requests.items) }
     {
-        for _ in rt.forever() {
-            self.run_out(rt)?;
-            let Some(request) = self.first_waiting() else {
-                return Ok(());
-            };
-            self.hear_out(rt, request);
-        }
-        unreachable!()
+        while self.step(trace)? {}
+        Ok(())
     }
 
-    /// Ends the level. The diary is told, even where memory was refused.
-    pub fn end<R: Wait>(self, rt: &R, alloc: Global) -> (Diary, Result<Report, AllocError>)
-        ensures diary { result.0 ≡ self.diary }
-        ensures report { IfOk result.1 (SessionEnds K.level self.session.requests.items self.session.operators.items) }
+    /// Whether a request waits.
+    pub fn still_waits(&self) -> bool
+        ensures waits { IsTrue result → Any (λ p. p ≡ places.Waits) self.now.level.places }
+        ensures none { IsFalse result → All (λ p. p ≢ places.Waits) self.now.level.places }
+    {
+        for slot in 0..self.level.slots() {
+            if self.level.held(slot) == Place::Waits {
+                return true;
+            }
+        }
+        false
+    }
+
+    /// What there is of a run beside the level, which is given up.
+    pub fn into_parts(self) -> (LocalLevel, Diary, Notes)
+        ensures level { result.0 ≡ self.level }
+        ensures diary { result.1 ≡ self.diary }
+        ensures notes { result.2 ≡ self.notes }
     {
         let Simulator {
-            session,
+            level,
             diary,
-            log: _,
+            notes,
+            room: _,
+            seen: _,
         } = self;
-        (diary, session.end(rt, alloc))
+        (level, diary, notes)
     }
 }

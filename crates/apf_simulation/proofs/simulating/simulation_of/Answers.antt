@@ -3,6 +3,7 @@ use Rattle.std.proofs.Common.{◌≡◌, ◌≤◌, List, refl, sym, ap, ◌∙�
 use Rattle.std.specs.List.{AllByRecursion}
 use Rattle.apf_words.specs.declared.decision.Decision.{Decision}
 use Rattle.apf_simulation.specs.Areas.{AreAreas}
+use Rattle.apf_simulation.specs.Columns.{AreSums}
 use Rattle.apf_simulation.specs.Ends.{ends_of}
 use Rattle.apf_simulation.specs.Rows.{AreRows, IsWhole, latest}
 use Rattle.apf_simulation.specs.Ties.{IsHonoured}
@@ -16,10 +17,10 @@ returns-clause-made c =
     let limit = c.args.limit in
     let patience = c.args.patience in
     let ts = c.args.trace.now in
-    let cs = c.args.diary.calendar.courses in
+    let cs = c.args.run.0.calendar.courses in
     let flows = c.in_ok-flows.flows in
     let fs = flows.of.items in
-    let ds = c.args.report.decisions.items in
+    let ds = c.args.run.1.decisions.items in
     let es = c.in_ok-ends.ends.items in
     let rs = c.in_ok-rows.rows.items in
     let w = c.of-whole.result in
@@ -31,9 +32,10 @@ returns-clause-made c =
     let whole : IsWhole limit patience es w = subst (λ xs. IsWhole limit patience xs w) c.as_slice-5.ensures.value c.of-whole.ensures in
     let made : IsWhole limit patience (ends_of patience fs ds ts cs) w = subst (λ xs. IsWhole limit patience xs w) is whole in
     let ended = made.end in
+    let counts = c.of-counts.result in
+    let sums : AreSums counts ds = subst (λ (xs : List Decision). AreSums counts xs) c.as_slice-6.ensures.value c.of-counts.ensures in
     let late : latest (ends_of patience fs ds ts cs) ≤ w.end = omega arith in
     record {
-      report = refl;
       carried = c.into_carried.ensures;
       flows = c.in_ok-flows.ensures.flows;
       in_order = c.in_ok-flows.ensures.in_order;
@@ -45,5 +47,6 @@ returns-clause-made c =
         waited = made.waited ∙ waits_area w.end patience fs ds ts cs c.are_of_trace.ensures late;
         seat_time = made.seat_time ∙ holdings_area w.end patience fs ds ts cs c.are_of_trace.ensures late;
       });
-      columns = columns limit ts patience cs flows ds c.args.report.counts es rs w c.requires.decided c.are_of_trace.ensures c.requires.sums c.in_ok-flows.ensures.flows is rows whole;
+      sums = sums;
+      columns = columns limit ts patience cs flows ds counts es rs w c.requires.decided c.are_of_trace.ensures sums c.in_ok-flows.ensures.flows is rows whole;
     }

@@ -1,5 +1,5 @@
 -- The calendar is as it opens.
-use Rattle.apf_simulation.proofs.Honouring.{are_awaited}
+use Rattle.apf_simulation.proofs.Opening.{are_awaited}
 use Rattle.apf_simulation.proofs.diary.Diary.new.Goals as goal
 
 pub returns-clause-awaited : goal.returns-clause-awaited

@@ -1,17 +1,99 @@
--- The request is tied again.
-use Rattle.apf_session.specs.declared.token.Token.TheVariants as tokens
-use Rattle.apf_session.specs.Requests.{RequestView}
-use Rattle.apf_times.specs.Courses.{CanStart}
-use Rattle.apf_simulation.proofs.Tying.{at_of, begun, can_start}
+-- The request is tied again, and each history goes on by its arrival.
+use Rattle.std.proofs.Common.{refl, arith, subst, ⊎_elim}
+use Rattle.apf_local.specs.declared.answer.Answer.{Answer}
+use Rattle.apf_local.specs.declared.answer.Answer.TheVariants as answers
+use Rattle.apf_local.specs.Levels.{IsArrival}
+use Rattle.apf_flow.specs.Deal.{hand_of}
+use Rattle.apf_simulation.proofs.Arriving.{ask_of, in_range, may_start, never, tied_run, tied_wait, tied_over, logs}
+use Rattle.apf_simulation.proofs.Logging.{same_of}
+use Rattle.apf_simulation.proofs.Tying.{no_course}
 use Rattle.apf_simulation.proofs.simulator.Simulator.arrive.Goals as goal
 
-pub note-requires : goal.note-requires
-note-requires g c =
-    let v = c.args.self.now.diary.calendar in
-    let d : RequestView = record { number = 0; token = tokens.Gone } in
-    record { can_start = λ runs. at_of CanStart c.args.request v.courses c.requires.others.inside (λ x. can_start v.patience v.time _ (c.requires.arrives x d).0) }
+pub bounds-trace-slot : goal.bounds-trace-slot
+bounds-trace-slot c = (let i = c.requires.others.inside in let a = c.requires.others.all in omega (arith, i, a))
 
-pub returns-clause-tied : goal.returns-clause-tied
-returns-clause-tied g c =
-    begun c.args.request c.args.self.now.diary c.note.new.self c.args.self.now.session.requests.items c.begin-answer.new.self.requests.items c.begin-answer.result
-    c.begin-answer.ensures.kind c.begin-answer.ensures.calls c.note.ensures.noted c.requires.others c.requires.arrives
+pub arrive-answer-requires-clause-some_width : goal.arrive-answer-requires-clause-some_width
+arrive-answer-requires-clause-some_width c = (in_range c.args.trace.now c.args.request c.index-trace-slot.result c.requires.ranges (let i = c.requires.others.inside in let a = c.requires.others.all in omega (arith, i, a)) c.index-trace-slot.is).2
+
+pub arrive-answer-requires-clause-narrow : goal.arrive-answer-requires-clause-narrow
+arrive-answer-requires-clause-narrow c = (in_range c.args.trace.now c.args.request c.index-trace-slot.result c.requires.ranges (let i = c.requires.others.inside in let a = c.requires.others.all in omega (arith, i, a)) c.index-trace-slot.is).3
+
+pub arrive-answer-requires-clause-some_cost : goal.arrive-answer-requires-clause-some_cost
+arrive-answer-requires-clause-some_cost c = (in_range c.args.trace.now c.args.request c.index-trace-slot.result c.requires.ranges (let i = c.requires.others.inside in let a = c.requires.others.all in omega (arith, i, a)) c.index-trace-slot.is).4
+
+pub arrive-answer-requires-clause-low_cost : goal.arrive-answer-requires-clause-low_cost
+arrive-answer-requires-clause-low_cost c = (in_range c.args.trace.now c.args.request c.index-trace-slot.result c.requires.ranges (let i = c.requires.others.inside in let a = c.requires.others.all in omega (arith, i, a)) c.index-trace-slot.is).5
+
+pub start-requires : goal.start-requires
+start-requires c =
+    let l = c.args.self.now.level in
+    let l' = c.arrive-answer.new.self in
+    let t = c.index-trace-slot.result in
+    let moves = subst (λ (a : Answer). IsArrival c.args.request (ask_of t) (hand_of l.sizes t.hash) l a c.arrive-answer.result.1 l') c.in-Run.is c.arrive-answer.ensures.arrives in
+    record { can_start = may_start c.args.trace.now c.args.request c.args.self.now.diary.calendar l l' c.args.self.now.notes t c.requires.others c.requires.arrives c.index-trace-slot.is _ _ moves }
+
+pub unreachable-requires : goal.unreachable-requires
+unreachable-requires c =
+    let l = c.args.self.now.level in
+    let l' = c.arrive-answer.new.self in
+    let t = c.index-trace-slot.result in
+    let no = never c.args.trace.now c.args.request c.args.self.now.diary.calendar l l' c.args.self.now.notes t c.requires.others c.requires.arrives c.index-trace-slot.is no_course
+    c.args.self.now.few c.args.self.now.numbers c.requires.ranges c.arrive-answer.result.0 c.arrive-answer.result.1 c.arrive-answer.ensures.arrives in
+    ⊎_elim no.0 (⊎_elim no.1 (⊎_elim no.2 no.3)) c.in-Busy.is
+
+pub returns-in-Run-clause-tied : goal.returns-in-Run-clause-tied
+returns-in-Run-clause-tied c =
+    let l = c.args.self.now.level in
+    let l' = c.arrive-answer.new.self in
+    let t = c.index-trace-slot.result in
+    let moves = subst (λ (a : Answer). IsArrival c.args.request (ask_of t) (hand_of l.sizes t.hash) l a c.arrive-answer.result.1 l') c.in-Run.is c.arrive-answer.ensures.arrives in
+    tied_run c.args.trace.now c.args.request c.args.self.now.diary.calendar l l' c.args.self.now.notes t c.requires.others c.requires.arrives c.index-trace-slot.is answers.Run c.arrive-answer.result.1 moves c.queue_in.result c.start.new.self.calendar refl c.start.ensures.step.2
+
+pub returns-in-Over-clause-tied : goal.returns-in-Over-clause-tied
+returns-in-Over-clause-tied c =
+    let l = c.args.self.now.level in
+    let l' = c.arrive-answer.new.self in
+    let t = c.index-trace-slot.result in
+    let moves = subst (λ (a : Answer). IsArrival c.args.request (ask_of t) (hand_of l.sizes t.hash) l a c.arrive-answer.result.1 l') c.in-Over.is c.arrive-answer.ensures.arrives in
+    tied_over c.args.trace.now c.args.request c.args.self.now.diary.calendar l l' c.args.self.now.notes t c.requires.others c.requires.arrives c.index-trace-slot.is (answers.Over c.in-Over.decision) c.arrive-answer.result.1 moves c.queue_in.result c.in-Over.decision refl
+
+pub returns-in-Waits-clause-tied : goal.returns-in-Waits-clause-tied
+returns-in-Waits-clause-tied c =
+    let l = c.args.self.now.level in
+    let l' = c.arrive-answer.new.self in
+    let t = c.index-trace-slot.result in
+    let moves = subst (λ (a : Answer). IsArrival c.args.request (ask_of t) (hand_of l.sizes t.hash) l a c.arrive-answer.result.1 l') c.in-Waits.is c.arrive-answer.ensures.arrives in
+    tied_wait c.args.trace.now c.args.request c.args.self.now.diary.calendar l l' c.args.self.now.notes t c.requires.others c.requires.arrives c.index-trace-slot.is answers.Waits c.arrive-answer.result.1 moves c.queue_in.result refl
+
+pub returns-in-Run-clause-logs : goal.returns-in-Run-clause-logs
+returns-in-Run-clause-logs c =
+    let l = c.args.self.now.level in
+    let l' = c.arrive-answer.new.self in
+    let t = c.index-trace-slot.result in
+    let moves = subst (λ (a : Answer). IsArrival c.args.request (ask_of t) (hand_of l.sizes t.hash) l a c.arrive-answer.result.1 l') c.in-Run.is c.arrive-answer.ensures.arrives in
+    logs c.args.trace.now c.args.request c.args.self.now.diary.calendar l l' c.args.self.now.notes t c.requires.others c.requires.arrives c.index-trace-slot.is answers.Run c.arrive-answer.result.1 moves c.queue_in.result no_course c.queue_in.ensures c.arrive-answer.ensures.same c.args.self.now.few
+
+pub returns-in-Over-clause-logs : goal.returns-in-Over-clause-logs
+returns-in-Over-clause-logs c =
+    let l = c.args.self.now.level in
+    let l' = c.arrive-answer.new.self in
+    let t = c.index-trace-slot.result in
+    let moves = subst (λ (a : Answer). IsArrival c.args.request (ask_of t) (hand_of l.sizes t.hash) l a c.arrive-answer.result.1 l') c.in-Over.is c.arrive-answer.ensures.arrives in
+    logs c.args.trace.now c.args.request c.args.self.now.diary.calendar l l' c.args.self.now.notes t c.requires.others c.requires.arrives c.index-trace-slot.is (answers.Over c.in-Over.decision) c.arrive-answer.result.1 moves c.queue_in.result no_course c.queue_in.ensures c.arrive-answer.ensures.same c.args.self.now.few
+
+pub returns-in-Waits-clause-logs : goal.returns-in-Waits-clause-logs
+returns-in-Waits-clause-logs c =
+    let l = c.args.self.now.level in
+    let l' = c.arrive-answer.new.self in
+    let t = c.index-trace-slot.result in
+    let moves = subst (λ (a : Answer). IsArrival c.args.request (ask_of t) (hand_of l.sizes t.hash) l a c.arrive-answer.result.1 l') c.in-Waits.is c.arrive-answer.ensures.arrives in
+    logs c.args.trace.now c.args.request c.args.self.now.diary.calendar l l' c.args.self.now.notes t c.requires.others c.requires.arrives c.index-trace-slot.is answers.Waits c.arrive-answer.result.1 moves c.queue_in.result no_course c.queue_in.ensures c.arrive-answer.ensures.same c.args.self.now.few
+
+pub returns-in-Run-clause-same : goal.returns-in-Run-clause-same
+returns-in-Run-clause-same c = same_of c.args.self.now.level c.arrive-answer.new.self c.arrive-answer.ensures.same
+
+pub returns-in-Over-clause-same : goal.returns-in-Over-clause-same
+returns-in-Over-clause-same c = same_of c.args.self.now.level c.arrive-answer.new.self c.arrive-answer.ensures.same
+
+pub returns-in-Waits-clause-same : goal.returns-in-Waits-clause-same
+returns-in-Waits-clause-same c = same_of c.args.self.now.level c.arrive-answer.new.self c.arrive-answer.ensures.same

@@ -1,13 +1,20 @@
--- The requests are tied, the diary goes on, and the operator cancels alone.
+-- The requests are tied, the diary and the level go on, the operator cancels alone, and less is left with each step.
+use Rattle.apf_times.specs.Courses.{left}
 use Rattle.apf_simulation.specs.Diaries.{GoesOn}
-use Rattle.apf_simulation.specs.Ties.{AreTied, CancelsAlone}
+use Rattle.apf_simulation.specs.Logs.{LogsOn}
+use Rattle.apf_simulation.specs.Operators.{CancelsAlone}
+use Rattle.apf_simulation.specs.Slots.{IsSame, slots_of}
+use Rattle.apf_simulation.specs.Ties.{AreTied}
 use Rattle.apf_simulation.proofs.simulator.Simulator.run.Given as goal
 
 abbrev pub invariant-loop : goal.invariant-loop
-invariant-loop g l = record {
-  next : (goal.iterator-loop g).can_next l.iterator';
-  ends : (goal.iterator-loop g).is_finite l.iterator';
-  tied : AreTied l.self.diary.calendar l.self.session.requests.items;
+invariant-loop l = record {
+  tied : AreTied l.trace l.self.diary.calendar (slots_of l.self.level l.self.notes);
   goes_on : GoesOn l.initial.self.diary l.self.diary;
-  cancels : CancelsAlone l.initial.self.diary l.self.diary l.initial.self.session.operators.items l.self.session.operators.items;
+  same : IsSame l.initial.self.level l.self.level;
+  logs : LogsOn l.trace l.initial.self.level l.initial.self.notes.queues.items l.self.level l.self.notes.queues.items;
+  cancels : CancelsAlone l.trace l.initial.self.diary l.self.diary l.initial.self.level.owner.stations l.self.level.owner.stations;
 }
+
+abbrev pub decreases-loop : goal.decreases-loop
+decreases-loop l = left l.self.diary.calendar.courses

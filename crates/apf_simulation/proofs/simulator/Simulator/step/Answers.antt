@@ -1,17 +1,19 @@
--- What is due is carried out, then comes the call, then what the log gained.
-use Rattle.std.proofs.Common.{rules, ◌≡◌, ◌<◌, List, [], ◌∷◌, ◌++◌, length, sym, subst, ◌∙◌}
+-- What is due is carried out, then comes the call, then what the history gained.
+use Rattle.std.proofs.Common.{rules, ◌≡◌, ◌<◌, List, [], ◌∷◌, ◌++◌, length, refl, sym, subst, ◌∙◌}
 use Rattle.apf_gate.specs.Tokens.{StationToken}
 use Rattle.apf_times.specs.declared.act.Act.TheVariants.{CarriedOut}
 use Rattle.apf_times.specs.Courses.{At, ComesFirst, IsDueBy}
 use Rattle.apf_times.specs.Runs.{IsStep}
-use Rattle.apf_simulation.specs.Ties.{CancelsOnly}
+use Rattle.apf_simulation.specs.Operators.{CancelsOnly}
+use Rattle.apf_simulation.specs.Slots.{slots_of}
 use Rattle.apf_simulation.proofs.Calling.{call_due}
 use Rattle.apf_simulation.proofs.Going.{goes_on}
-use Rattle.apf_simulation.proofs.Operating.{one}
+use Rattle.apf_simulation.proofs.Logging.{on_then, same_as, same_then, stays}
+use Rattle.apf_simulation.proofs.Operating.{nothing, one}
 use Rattle.apf_simulation.proofs.simulator.Simulator.step.Goals as goal
 
 pub call-requires-clause-due : goal.call-requires-clause-due
-call-requires-clause-due g c κs within =
+call-requires-clause-due c =
     let u = c.args.self.now.diary.calendar in
     let v = c.next.new.self.calendar in
     let d = c.in-Some.due in
@@ -19,19 +21,28 @@ call-requires-clause-due g c κs within =
     let due : At d.request u.courses (IsDueBy u.patience d) = search rules in
     let turn : ComesFirst d u.patience u.courses = search rules in
     let low : d.request < length u.courses = search rules in
-    call_due u v c.args.self.now.session.requests.items d c.requires.tied step due turn low
+    call_due c.args.trace.now u v (slots_of c.args.self.now.level c.args.self.now.notes) d c.requires.tied step due turn low
+
+pub returns-in_default-clause-logs : goal.returns-in_default-clause-logs
+returns-in_default-clause-logs c = stays c.args.trace.now c.args.self.now.level c.args.self.now.notes.queues.items
 
 pub returns-clause-goes_on : goal.returns-clause-goes_on
-returns-clause-goes_on g c =
+returns-clause-goes_on c =
     let old = c.args.self.now.diary in
     let called = goes_on old c.next.new.self c.call.new.self.diary c.in_ok-due.ensures.goes_on c.call.ensures.goes_on in
     goes_on old c.call.new.self.diary c.follow.new.self.diary called c.follow.ensures.goes_on
 
+pub returns-clause-same : goal.returns-clause-same
+returns-clause-same c = same_then c.args.self.now.level c.call.new.self.level c.follow.new.self.level c.call.ensures.same c.follow.ensures.same
+
+pub returns-clause-logs : goal.returns-clause-logs
+returns-clause-logs c = on_then c.args.trace.now c.args.self.now.level c.call.new.self.level c.follow.new.self.level c.args.self.now.notes.queues.items c.call.new.self.notes.queues.items c.follow.new.self.notes.queues.items c.call.ensures.logs c.follow.ensures.logs
+
 pub returns-clause-cancels : goal.returns-clause-cancels
-returns-clause-cancels g c =
+returns-clause-cancels c =
     let old = c.args.self.now in
     let new = c.follow.new.self in
     let d = c.in-Some.due in
     let more : c.next.new.self.carried ≡ old.diary.carried ++ (d ∷ []) = search rules in
-    one old.diary new.diary d old.session.operators.items new.session.operators.items (c.follow.ensures.carried ∙ (c.call.ensures.carried ∙ more))
-    (subst (λ (l : List StationToken). CancelsOnly d old.session.operators.items l) (sym c.follow.ensures.operators) c.call.ensures.cancels)
+    one c.args.trace.now old.diary new.diary d old.level.owner.stations new.level.owner.stations (c.follow.ensures.carried ∙ (c.call.ensures.carried ∙ more))
+    (subst (λ (l : List StationToken). CancelsOnly c.args.trace.now d old.level.owner.stations l) (sym c.follow.ensures.operator) c.call.ensures.cancels)

@@ -9,7 +9,7 @@ ghost use Rattle.apf_protocol.specs.Lines.{words as words_of, request_in, IsHead
 ghost use Rattle.apf_protocol.specs.Commands.{IsCommandInRange};
 ghost use Rattle.apf_protocol.specs.Texts.{answer_text};
 ghost use Rattle.apf_service.specs.Tallies.{slots_of, IsTallyOf, IsTallied, no_tally};
-ghost use Rattle.apf_service.specs.Kept.{state_of, slot_in, is_there as there, none_given, queues_of, none_asked, FollowsAll};
+ghost use Rattle.apf_service.specs.Kept.{state_of, slot_in, is_there as there, is_there_at as there_at, none_given, queues_of, none_asked, FollowsAll};
 ghost use Rattle.apf_charges.specs.Charging.{opening_charges};
 ghost use Rattle.apf_service.specs.Lines.{there_in, words_in, command_in, IsFaultOf, AreNewEvents, Tells, TellsBook, TellsMetrics, Obeys, Serves, given_text};
 
@@ -65,6 +65,16 @@ fn write_queues<W: Write>(out: &mut W, queues: &[Given]) -> io::Result<()>
         write_given(out, *given)?;
     }
     Told::End.write(out)
+}
+
+// Whether a slot at this place has a request that is there.
+fn has_request(place: Place) -> bool
+    ensures { result ≡ there_at place }
+{
+    match place {
+        Place::Waits | Place::Runs => true,
+        Place::Free => false,
+    }
 }
 
 impl Service {
@@ -133,7 +143,7 @@ impl Service {
     fn is_there(&self, slot: u32) -> bool
         ensures { result ≡ there (slot_in (state_of self.now.level self.now.notes) slot) }
     {
-        (slot as usize) < self.level.slots() && self.level.held(slot as usize) != Place::Free
+        (slot as usize) < self.level.slots() && has_request(self.level.held(slot as usize))
     }
 
     // Whether a request is there under the number that the words name.

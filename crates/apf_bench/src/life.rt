@@ -32,9 +32,7 @@ pub fn is_report(traffic: Traffic, report: &Report) -> bool {
     };
     let counts = report.words.counts();
     let stats = report.newest.stats;
-    counts.executed == u64::from(REQUESTS)
-        && stats.entered == waited
-        && stats.dispatched == waited
+    counts.executed == u64::from(REQUESTS) && stats.entered == waited && stats.dispatched == waited
 }
 
 // The request waits until the one before it has given its seat back, and is dispatched. Says whether it did so.

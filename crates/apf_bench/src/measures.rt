@@ -79,9 +79,7 @@ pub fn measured_on_one_thread<R: Clock + Wait>(
     let mut sessions = Vec::new(alloc);
     let mut values = Vec::new(alloc);
     for _ in 0..rounds {
-        sessions
-            .push(by_life(rt, alloc, traffic, shuffle)?)
-            .ok()?;
+        sessions.push(by_life(rt, alloc, traffic, shuffle)?).ok()?;
         values.push(by_local(rt, alloc, traffic, shuffle)?).ok()?;
     }
     Some(OnOneThread {

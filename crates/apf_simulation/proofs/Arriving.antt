@@ -106,12 +106,12 @@ module _ (trace : List TraceRequest) (r : ℕ) (u : CalendarView) (l l' : LocalV
   never c few numbers ranges answers.Waits event is = ((λ e. cc), (λ e. cc), (λ e. cc), (λ e. cc))
   never c few numbers ranges answers.Released event is = absurd (never_released is.does.admitted is.does.answer_is)
   never c few numbers ranges answers.Spent event is = absurd (
-    let at = some_at l.owner.passes r (let i = but.inside in let m = but.count.passes in omega (arith, i, m)) in
-    let used = is.3 at.0 at.1 in
-    let mine : at.0.pass.number ≡ r = ap (λ (x : PassToken). x.pass.number) (sym (get_or_from_slice_get l.owner.passes r at.0 at.0 at.1)) ∙ (here c (new_held at.0)).2.number in
-    let w = (in_range trace r t ranges low t_is).3 in
-    far (let i = but.inside in let m = but.count.places in omega (arith, i, m, few)) t.width w
-    (subst (λ (k : ℕ). k ≤ next_of r t.width) numbers (subst (λ (k : ℕ). length l.owner.gate.shape.widths ≤ next_of k t.width) mine used)))
+      let at = some_at l.owner.passes r (let i = but.inside in let m = but.count.passes in omega (arith, i, m)) in
+      let used = is.3 at.0 at.1 in
+      let mine : at.0.pass.number ≡ r = ap (λ (x : PassToken). x.pass.number) (sym (get_or_from_slice_get l.owner.passes r at.0 at.0 at.1)) ∙ (here c (new_held at.0)).2.number in
+      let w = (in_range trace r t ranges low t_is).3 in
+      far (let i = but.inside in let m = but.count.places in omega (arith, i, m, few)) t.width w
+      (subst (λ (k : ℕ). k ≤ next_of r t.width) numbers (subst (λ (k : ℕ). length l.owner.gate.shape.widths ≤ next_of k t.width) mine used)))
   never c few numbers ranges answers.Wrong event is = absurd (is.2 (slice_get-get_or l.places r places.Free (let i = but.inside in let m = but.count.places in omega (arith, i, m)) ∙ ap (λ (p : Place). Some p) (away c).free))
 
   module _ (answer : Answer) (event : Option LifeEvent) (moves : SlotMoves r l l' (Arrives (ask_of t) (hand_of l.sizes t.hash) l.owner.book answer event l'.owner.book)) where

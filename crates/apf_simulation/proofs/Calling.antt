@@ -15,7 +15,7 @@ use Rattle.apf_times.specs.Runs.{IsStep}
 use Rattle.apf_times.specs.Views.{CalendarView}
 use Rattle.apf_traces.specs.declared.request.TraceRequest.{TraceRequest}
 use Rattle.apf_simulation.specs.Slots.{Held as InSlot, Slots, held_at}
-use Rattle.apf_simulation.specs.Ties.{AreTied, EndsAs, Follows, HasFinished, Holds, IsCallDue, IsTold, Owes, Stands, StandsAt}
+use Rattle.apf_simulation.specs.Ties.{AreTied, EndsAs, Follows, HasFinished, Holds, IsCallDue, Owes, StandsAt}
 use Rattle.apf_simulation.proofs.Tying.{length-updated, updated_same, updated_other}
 
 some_end : (patience : ℕ) → patience ≢ 0 → (patience == 0) ≡ false
@@ -30,11 +30,14 @@ arrives_first r at patience ne = grind (arith, nat_tests)
 -- time goes on to what comes first
 later_at : (trace : List TraceRequest) (patience time : ℕ) (d : Due) (r : ℕ) (c : Course) (h : InSlot) → IsInTurn d patience r c → Follows trace patience time r c h → (p : Place) → h.place ≡ p → StandsAt patience time r c p h → StandsAt patience d.at r c p h
 later_at trace patience time d r c h turn is places.Free at stands = stands
-later_at trace patience time d r c h turn is places.Waits at stands = (record {
-  arrived = stands.0.arrived;
-  not_given = stands.0.not_given;
-  in_time = λ ne. turn.while_patient (is.patient.waits at ∙ some_end patience ne);
-}, stands.1)
+later_at trace patience time d r c h turn is places.Waits at stands = (
+  record {
+    arrived = stands.0.arrived;
+    not_given = stands.0.not_given;
+    in_time = λ ne. turn.while_patient (is.patient.waits at ∙ some_end patience ne);
+  },
+  stands.1,
+)
 later_at trace patience time d r c h turn is places.Runs at stands = stands
 
 later : (trace : List TraceRequest) (patience time : ℕ) (d : Due) (r : ℕ) (c : Course) (h : InSlot) → IsInTurn d patience r c → Follows trace patience time r c h → Follows trace patience d.at r c h

@@ -8,7 +8,7 @@ use Rattle.apf_line.specs.Levels.{LifeId}
 use Rattle.apf_line.specs.Reports.{EndedAs}
 use Rattle.apf_local.specs.Levels.{LocalView, id_of}
 use Rattle.apf_traces.specs.declared.request.TraceRequest.{TraceRequest}
-use Rattle.apf_simulation.specs.Logs.{IsLogged, LogsFrom, LogsOn}
+use Rattle.apf_simulation.specs.Logs.{IsLogged, LogsOn}
 use Rattle.apf_simulation.specs.Runs.{EndsBy}
 use Rattle.apf_simulation.specs.Slots.{IsSame}
 

@@ -1,5 +1,5 @@
 -- When nothing is due and nobody waits, each request's decision is what its course came to.
-use Rattle.std.proofs.Common.{◌≡◌, ◌≢◌, ◌==◌, ℕ, zero, suc, ◌<◌, true, false, true≢false, List, [], ◌∷◌, length, get_or, Option, Some, None, refl, sym, ap, ◌∙◌, subst, ⊎_elim, arith}
+use Rattle.std.proofs.Common.{◌≡◌, ◌≢◌, ℕ, zero, suc, ◌<◌, true, false, true≢false, List, [], ◌∷◌, length, get_or, Option, Some, None, refl, sym, ap, ◌∙◌, subst, ⊎_elim, arith}
 use Rattle.std.specs.Prelude.{slice_get, Bool, All}
 use Rattle.std.specs.List.{AllByRecursion}
 use Rattle.std.proofs.lemmas.Bool.{eqb-true}
@@ -18,7 +18,7 @@ use Rattle.apf_traces.specs.declared.request.TraceRequest.{TraceRequest}
 use Rattle.apf_simulation.specs.Ends.{AreOf, end_of, ends_of}
 use Rattle.apf_simulation.specs.Slots.{Held as InSlot, Slots, held_at}
 use Rattle.apf_simulation.specs.Tallies.{is_execute}
-use Rattle.apf_simulation.specs.Ties.{AreDecidedAs, AreTied, AreTold, EndsAs, Follows, Holds, IsHonoured, IsTold, NobodyWaits, StandsAt}
+use Rattle.apf_simulation.specs.Ties.{AreDecidedAs, AreTied, AreTold, EndsAs, Holds, IsHonoured, IsTold, NobodyWaits, StandsAt}
 use Rattle.apf_simulation.proofs.Arriving.{new_held, some_at}
 use Rattle.apf_simulation.proofs.Tying.{no_course}
 

@@ -1,5 +1,5 @@
 -- A history of the level goes on with the requests of the trace.
-use Rattle.std.proofs.Common.{◌≡◌, ◌≢◌, ◌⊎◌, ◌==◌, ◌||◌, ℕ, zero, suc, ◌+◌, ◌*◌, ◌^◌, ◌%◌, ◌<◌, ◌≤◌, true, false, true≢false, List, [], ◌∷◌, ◌++◌, length, get_or, set, Option, Some, None, refl, sym, ap, ◌∙◌, subst, inl, inr, arith, if◌then◌else◌}
+use Rattle.std.proofs.Common.{◌≡◌, ◌≢◌, ◌⊎◌, ◌==◌, ◌||◌, ℕ, zero, suc, ◌%◌, ◌<◌, ◌≤◌, true, false, List, [], ◌∷◌, ◌++◌, length, get_or, set, Option, Some, None, refl, sym, ap, ◌∙◌, subst, inl, inr, arith, if◌then◌else◌}
 use Rattle.std.specs.Prelude.{slice_get, Contains, Bool}
 use Rattle.std.proofs.lemmas.Bool.{cases_eq, eqb-true, ne_eqb}
 use Rattle.std.proofs.lemmas.Bool.Decides.{nat_tests}
@@ -17,8 +17,7 @@ use Rattle.apf_gate.specs.Slots.{slot_of, next_of}
 use Rattle.apf_book.specs.declared.life_event.LifeEvent.{LifeEvent}
 use Rattle.apf_book.specs.declared.life_event.LifeEvent.TheVariants as life
 use Rattle.apf_book.specs.Life.{LifeView, asked, then_came}
-use Rattle.apf_book.specs.LifeBook.{LifeBookView, IsLifeKept, then_came_all}
-use Rattle.apf_book.specs.Notes.{event_of}
+use Rattle.apf_book.specs.LifeBook.{IsLifeKept, then_came_all}
 use Rattle.apf_book.specs.Servings.{AreServings}
 use Rattle.apf_local.specs.declared.admitting.Admitted.{Admitted}
 use Rattle.apf_local.specs.Levels.{LocalView, SameLocal, GoesOn, LogsIn}
@@ -91,20 +90,20 @@ module _ (trace : List TraceRequest) (sizes : Sizes) where
     hand_at i low came = elim (cases_eq i r) [
       | inl same ↦ ap (λ b. if b then hand else v.hands (number_of trace i)) (let e : number_of trace i ≡ n = ap (number_of trace) same ∙ sym number in ap (λ (k : ℕ). k == n) e ∙ eq_self n) ∙ (hand_is ∙ ap (λ (k : ℕ). hand_of sizes (hash_at trace k)) (sym same))
       | inr other ↦ (let ne : number_of trace i ≢ n = (λ e. other (own_number trace i r (omega (arith, low)) (omega (arith, inside)) (e ∙ number))) in
-        ap (λ b. if b then hand else v.hands (number_of trace i)) (ne_eqb (number_of trace i) n ne) ∙ elim (arrived_one (n == number_of trace i) (number_of trace i) n refl came) [
-          | inl e ↦ absurd (ne (sym e))
-          | inr before ↦ is.hand i low before
-        ])
+          ap (λ b. if b then hand else v.hands (number_of trace i)) (ne_eqb (number_of trace i) n ne) ∙ elim (arrived_one (n == number_of trace i) (number_of trace i) n refl came) [
+            | inl e ↦ absurd (ne (sym e))
+            | inr before ↦ is.hand i low before
+          ])
     ]
 
     cost_here : (i : ℕ) → i < length queues → ((n == number_of trace i) || has_arrived v.history (number_of trace i)) ≡ true → width (set v.costs n cost) (number_of trace i) ≡ cost_at trace i
     cost_here i low came = elim (cases_eq i r) [
       | inl same ↦ ap (λ (k : ℕ). width (set v.costs n cost) k) (ap (number_of trace) same ∙ sym number) ∙ (get_or-set_same v.costs n cost 0 there ∙ (cost_is ∙ ap (cost_at trace) (sym same)))
       | inr other ↦ (let ne : number_of trace i ≢ n = (λ e. other (own_number trace i r (omega (arith, low)) (omega (arith, inside)) (e ∙ number))) in
-        get_or-set_other v.costs n (number_of trace i) cost 0 ne ∙ elim (arrived_one (n == number_of trace i) (number_of trace i) n refl came) [
-          | inl e ↦ absurd (ne (sym e))
-          | inr before ↦ is.cost i low before
-        ])
+          get_or-set_other v.costs n (number_of trace i) cost 0 ne ∙ elim (arrived_one (n == number_of trace i) (number_of trace i) n refl came) [
+            | inl e ↦ absurd (ne (sym e))
+            | inr before ↦ is.cost i low before
+          ])
     ]
 
     -- and finds its queue full
@@ -139,15 +138,15 @@ module _ (trace : List TraceRequest) (sizes : Sizes) where
     when_enters q none = record {
       entered = λ i p at. elim (cases_eq i r) [
         | inl same ↦ (let e : p ≡ q = some_is p q (sym (subst (λ (k : ℕ). slice_get (set queues r (Some q)) k ≡ Some (Some p)) same at) ∙ set_here q) in
-          (0, omega arith, (λ j. Enter ((number ∙ ap (number_of trace) (sym same)) j) (sym e j))))
+            (0, omega arith, (λ j. Enter ((number ∙ ap (number_of trace) (sym same)) j) (sym e j))))
         | inr other ↦ or_other (Enter n q) (Enter (number_of trace i) p) v.history (is.entered i p (sym (set_there q i other (within q i p at)) ∙ at))
       ];
       noted = λ m p in_all. elim (first_or (Enter n q) (Enter m p) v.history in_all) [
         | inl e ↦ (let both = same_enter m p q e in
-          (r, (let w = length-set queues r (Some q) in omega (arith, inside, w)), both.0 ∙ number, set_here q ∙ ap (λ (k : ℕ). Some (Some k)) (sym both.1)))
+            (r, (let w = length-set queues r (Some q) in omega (arith, inside, w)), both.0 ∙ number, set_here q ∙ ap (λ (k : ℕ). Some (Some k)) (sym both.1)))
         | inr rest ↦ (let was = is.noted m p rest in
-          let not_r : was.0 ≢ r = (λ e. none_some p (sym none ∙ get_or_from_slice_get queues r (Some p) None (subst (λ (k : ℕ). slice_get queues k ≡ Some (Some p)) e was.3))) in
-          (was.0, (let w = length-set queues r (Some q) in let l = was.1 in omega (arith, l, w)), was.2, set_there q was.0 not_r was.1 ∙ was.3))
+            let not_r : was.0 ≢ r = (λ e. none_some p (sym none ∙ get_or_from_slice_get queues r (Some p) None (subst (λ (k : ℕ). slice_get queues k ≡ Some (Some p)) e was.3))) in
+            (was.0, (let w = length-set queues r (Some q) in let l = was.1 in omega (arith, l, w)), was.2, set_there q was.0 not_r was.1 ∙ was.3))
       ];
       hand = λ i low. hand_at i (let w = length-set queues r (Some q) in omega (arith, low, w));
       cost = λ i low. cost_here i (let w = length-set queues r (Some q) in omega (arith, low, w));

@@ -1,13 +1,11 @@
 -- The requests of a level that was just opened are tied to a calendar that was.
-use Rattle.std.proofs.Common.{◌≡◌, ◌==◌, ℕ, zero, suc, ◌<◌, true, true≢false, List, [], ◌∷◌, length, map, get_or, Option, Some, None, refl, sym, ap, ◌∙◌, subst, inl, arith, replicate}
-use Rattle.std.specs.Prelude.{slice_get, Contains, All}
+use Rattle.std.proofs.Common.{◌≡◌, ℕ, zero, suc, ◌<◌, true, true≢false, List, [], ◌∷◌, length, map, get_or, Option, Some, None, refl, sym, ap, ◌∙◌, subst, inl, arith, replicate}
+use Rattle.std.specs.Prelude.{slice_get, Contains}
 use Rattle.std.proofs.lemmas.List.{length-replicate}
 use Rattle.std.proofs.lemmas.Option.{slice_get-get_or}
 use Rattle.apf_words.specs.declared.decision.Decision.{Decision}
 use Rattle.apf_words.specs.declared.decision.Decision.TheVariants.{Execute}
-use Rattle.apf_flow.specs.Sizes.{Sizes}
 use Rattle.apf_model.specs.declared.config.Config.{Config}
-use Rattle.apf_gate.specs.Tokens.{PassToken}
 use Rattle.apf_history.specs.declared.events.Event.{Event}
 use Rattle.apf_history.specs.declared.events.Event.TheVariants.{Enter}
 use Rattle.apf_model.specs.History.{has_arrived}
@@ -24,8 +22,8 @@ use Rattle.apf_times.specs.Views.{CalendarView}
 use Rattle.apf_traces.specs.declared.request.TraceRequest.{TraceRequest}
 use Rattle.apf_simulation.specs.declared.notes.Notes.{Notes}
 use Rattle.apf_simulation.specs.Logs.{IsLogged}
-use Rattle.apf_simulation.specs.Slots.{Held, held_at, slots_of}
-use Rattle.apf_simulation.specs.Ties.{AreAwaited, AreTied, Follows, IsAwaited, StandsAt}
+use Rattle.apf_simulation.specs.Slots.{held_at, slots_of}
+use Rattle.apf_simulation.specs.Ties.{AreAwaited, AreTied, IsAwaited, StandsAt}
 
 awaited_at : (patience i : ℕ) (ts : List Times) (c : Course) → i < length (map (awaited patience) ts) → IsAwaited patience (get_or (map (awaited patience) ts) i c)
 awaited_at patience i [] c low = absurd (omega arith)
@@ -62,12 +60,16 @@ module _ (config : Config) (n : ℕ) (l : LocalView) (notes : Notes) (opened : I
         let at_pass : i < length l.owner.passes = (let m = opened.owner.all_passes in omega (arith, inside, m)) in
         let free : get_or l.places i h.place ≡ places.Free = opened.free i h.place at_place in
         record {
-          stands = subst (λ (p : Place). StandsAt v.patience v.time i (get_or v.courses i c) p (held_at (slots_of l notes) i h)) (sym free) (inl (is.away, is.not_given, record {
-            free = free;
-            number = opened.owner.numbered i (get_or l.owner.passes i h.token) (slice_get-get_or l.owner.passes i h.token at_pass);
-            untold = ap (λ (xs : List Decision). get_or xs i h.decision) decisions ∙ get_replicate n i Execute h.decision inside;
-            no_queue = ap (λ (xs : List (Option ℕ)). get_or xs i h.queue) queues ∙ get_replicate n i None h.queue inside;
-          }));
+          stands = subst (λ (p : Place). StandsAt v.patience v.time i (get_or v.courses i c) p (held_at (slots_of l notes) i h)) (sym free) (inl (
+            is.away,
+            is.not_given,
+            record {
+              free = free;
+              number = opened.owner.numbered i (get_or l.owner.passes i h.token) (slice_get-get_or l.owner.passes i h.token at_pass);
+              untold = ap (λ (xs : List Decision). get_or xs i h.decision) decisions ∙ get_replicate n i Execute h.decision inside;
+              no_queue = ap (λ (xs : List (Option ℕ)). get_or xs i h.queue) queues ∙ get_replicate n i None h.queue inside;
+            },
+          ));
           patient = record { away = λ e. is.patient; waits = λ e. is.patient };
           number = λ e. absurd (true≢false (sym e ∙ is.away));
         };

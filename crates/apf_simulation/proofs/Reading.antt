@@ -1,5 +1,5 @@
 -- A request that reads its decision, or gives its seats back, is where its course says.
-use Rattle.std.proofs.Common.{◌≡◌, ◌≢◌, ◌⊎◌, ◌==◌, ℕ, ◌<◌, List, length, get_or, set, Option, Some, None, refl, sym, ap, ◌∙◌, subst, ⊎_elim, arith, true}
+use Rattle.std.proofs.Common.{◌≡◌, ◌≢◌, ℕ, ◌<◌, List, length, get_or, set, Option, Some, None, refl, sym, ap, ◌∙◌, subst, ⊎_elim, arith}
 use Rattle.std.specs.Prelude.{slice_get}
 use Rattle.std.proofs.lemmas.List.{set-get_or}
 use Rattle.std.proofs.lemmas.Option.{slice_get-get_or, get_or_from_slice_get}
@@ -21,7 +21,7 @@ use Rattle.apf_simulation.specs.declared.notes.Notes.{Notes}
 use Rattle.apf_simulation.specs.Slots.{Held, Slots, slots_of, held_at, number_of}
 use Rattle.apf_simulation.specs.Ties.{AreTied, AreTiedBut, Follows, HasPatience, Here, IsPending, IsWaiting, Owes, Stands, StandsAt}
 use Rattle.apf_simulation.proofs.Arriving.{new_held, some_at}
-use Rattle.apf_simulation.proofs.Tying.{CallsOne, calls_one, tied_still, tied_started, runs_now, waits_on, is_over, refused, gave_back, at_of, can_start, but_of, whole, waiting, follows_still, is_waits}
+use Rattle.apf_simulation.proofs.Tying.{CallsOne, calls_one, tied_still, tied_started, runs_now, waits_on, is_over, refused, gave_back, at_of, can_start, whole, waiting, follows_still}
 
 same_place : (p q : Place) → ◌≡◌ {A = Option Place} (Some p) (Some q) → p ≡ q
 same_place p q e = cc
@@ -133,7 +133,7 @@ module _ (trace : List TraceRequest) (r : ℕ) (u : CalendarView) (s : Slots) (a
 pub gives_up_still : (trace : List TraceRequest) (r : ℕ) (u : CalendarView) (s : Slots) (p : Place) → slice_get s.places r ≡ Some p → p ≢ places.Waits → AreTiedBut trace r u s
     → Here (Owes trace kinds.GiveUp u.patience u.time r) r u s → AreTied trace u s
 gives_up_still trace r u s p at ne but owes = whole trace r u s but (λ c h. (let is = owes c h in
-  follows_still trace u.patience u.time r (get_or u.courses r c) (held_at s r h) is.0 is.1 (λ e. ne (sym (get_or_from_slice_get s.places r p h.place at) ∙ e)) is.2))
+    follows_still trace u.patience u.time r (get_or u.courses r c) (held_at s r h) is.0 is.1 (λ e. ne (sym (get_or_from_slice_get s.places r p h.place at) ∙ e)) is.2))
 
 -- the slots are those of before
 pub same_slots : (l l' : LocalView) (n : Notes) → SlotsStay l l' → slots_of l' n ≡ slots_of l n

@@ -1,9 +1,9 @@
 -- A call of one request ties it to its course again.
-use Rattle.std.proofs.Common.{◌≡◌, ◌≢◌, ◌⊎◌, ◌==◌, ℕ, zero, suc, ◌<◌, true, false, true≢false, List, [], ◌∷◌, length, get_or, set, Option, Some, None, refl, sym, ap, ◌∙◌, subst, inl, inr, arith}
+use Rattle.std.proofs.Common.{◌≡◌, ◌≢◌, ◌⊎◌, ◌==◌, ℕ, zero, suc, ◌<◌, true, false, true≢false, List, [], ◌∷◌, length, get_or, set, Option, Some, refl, sym, ap, ◌∙◌, subst, inl, inr, arith}
 use Rattle.std.proofs.lemmas.Bool.{cases_eq}
 use Rattle.std.proofs.lemmas.List.{get_or-set_same, get_or-set_other, length-set}
 use Rattle.apf_words.specs.declared.decision.Decision.{Decision}
-use Rattle.apf_words.specs.declared.decision.Decision.TheVariants.{Execute, Cancelled}
+use Rattle.apf_words.specs.declared.decision.Decision.TheVariants.{Execute}
 use Rattle.apf_gate.specs.Records.{told_own}
 use Rattle.apf_gate.specs.Tokens.{PassToken}
 use Rattle.apf_local.specs.declared.answer.Place.{Place}
@@ -15,7 +15,7 @@ use Rattle.apf_times.specs.Courses.{At, CanStart, started_at, updated}
 use Rattle.apf_times.specs.Views.{CalendarView}
 use Rattle.apf_traces.specs.declared.request.TraceRequest.{TraceRequest}
 use Rattle.apf_simulation.specs.Slots.{Held as InSlot, Slots, held_at, number_of}
-use Rattle.apf_simulation.specs.Ties.{AreAsMany, AreTied, AreTiedBut, EndsAs, Follows, HasFinished, Here, Holds, IsAway, IsPatient, IsPending, IsTold, IsWaiting, Stands, StandsAt}
+use Rattle.apf_simulation.specs.Ties.{AreAsMany, AreTied, AreTiedBut, EndsAs, Follows, HasFinished, Here, IsPending, IsTold, IsWaiting, Stands, StandsAt}
 
 -- the course of no request
 abbrev pub no_course : Course

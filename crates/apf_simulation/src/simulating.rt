@@ -18,10 +18,10 @@ ghost use Rattle.apf_simulation.specs.Ties.{AreAwaited, AreDecidedAs, NobodyWait
 ghost use Rattle.apf_simulation.specs.Times.{times_of};
 
 use crate::counts::Counts;
-use crate::fault::SimulationFault;
-use crate::notes::Notes;
 use crate::diary::Diary;
 use crate::ends::ends_of;
+use crate::fault::SimulationFault;
+use crate::notes::Notes;
 use crate::rows::rows_of;
 use crate::simulation::Simulation;
 use crate::simulator::Simulator;

@@ -74,11 +74,7 @@ impl Simulation {
     /// # Errors
     ///
     /// The writer's. Then nothing is known of how much was written.
-    pub fn write_fates<W: Write>(
-        &self,
-        trace: &[TraceRequest],
-        out: &mut W,
-    ) -> io::Result<()>
+    pub fn write_fates<W: Write>(&self, trace: &[TraceRequest], out: &mut W) -> io::Result<()>
         ensures { OnOk result (Appends (W.contents out.old) (W.contents out.new)
             (fates_text trace.now self.now.ends.items self.now.queues.items self.now.carried.items)) }
     {

@@ -1,21 +1,17 @@
 -- When the run is over, each request was told what its course came to.
-use Rattle.std.proofs.Common.{rules, ◌≡◌, ℕ, List, [], length, Option, Err, IfErr, sym, ap, ◌∙◌, subst}
+use Rattle.std.proofs.Common.{rules, ◌≡◌, ℕ, [], length, Err, IfErr, sym, ap, ◌∙◌, subst}
 use Rattle.std.specs.Prelude.{All}
-use Rattle.std.specs.List.{AllByRecursion}
 use Rattle.apf_local.specs.declared.answer.Place.{Place}
 use Rattle.apf_local.specs.declared.answer.Place.TheVariants as places
 use Rattle.apf_local.specs.Levels.{LocalView, id_of}
 use Rattle.apf_line.specs.Reports.{EndedAs}
 use Rattle.apf_book.specs.Life.{LifeView}
 use Rattle.apf_book.specs.LifeBook.{IsLifeKept}
-use Rattle.apf_times.specs.declared.due.Due.{Due}
-use Rattle.apf_times.specs.Runs.{IsOver}
 use Rattle.apf_simulation.specs.declared.fault.SimulationFault.{SimulationFault}
 use Rattle.apf_simulation.specs.declared.notes.Notes.{Notes}
 use Rattle.apf_simulation.specs.Diaries.{DiaryView, GoesOn, IsKeptBy}
 use Rattle.apf_simulation.specs.Faults.{IsFault}
-use Rattle.apf_simulation.specs.Operators.{CancelsAlone}
-use Rattle.apf_simulation.specs.Runs.{HasEndedBy, IsEndOf}
+use Rattle.apf_simulation.specs.Runs.{HasEndedBy}
 use Rattle.apf_simulation.specs.Slots.{slots_of}
 use Rattle.apf_simulation.specs.Ties.{AreDecidedAs}
 use Rattle.apf_simulation.specs.Times.{times_of}
@@ -34,10 +30,11 @@ returns-in_err-judge-clause-fault c =
     let still = c.in_err-judge.ensures.still in
     let on : GoesOn c.args.diary now.diary = subst (λ (d : DiaryView). GoesOn d now.diary) c.in_ok-simulator.ensures.diary c.in_ok-run.ensures.goes_on in
     subst (λ r. IfErr r (λ (x : SimulationFault). (patience : ℕ) → IsKeptBy (times_of trace) patience c.args.diary → IsFault c.args.config.now (length trace) patience x)) (sym is)
-    (λ patience kept. subst (λ (x : SimulationFault). IsFault c.args.config.now (length trace) patience x) (sym still.0)
-    (c.in_ok-simulator.ensures.settings,
-    sym (patience_of trace patience c.args.diary now.diary kept on)
-    ∙ endless trace now.diary.calendar (slots_of now.level now.notes) c.in_ok-run.ensures.tied c.in_err-judge.ensures.over still.1.0 still.1.1 still.1.2 (still.1.3 ∙ still.1.4)))
+    (λ patience kept. subst (λ (x : SimulationFault). IsFault c.args.config.now (length trace) patience x) (sym still.0) (
+      c.in_ok-simulator.ensures.settings,
+      sym (patience_of trace patience c.args.diary now.diary kept on)
+          ∙ endless trace now.diary.calendar (slots_of now.level now.notes) c.in_ok-run.ensures.tied c.in_err-judge.ensures.over still.1.0 still.1.1 still.1.2 (still.1.3 ∙ still.1.4),
+    ))
 
 pub returns-clause-decided : goal.returns-clause-decided
 returns-clause-decided c =

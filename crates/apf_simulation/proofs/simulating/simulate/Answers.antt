@@ -1,7 +1,6 @@
 -- The run, and what is made of it.
-use Rattle.std.proofs.Common.{◌≡◌, ℕ, List, Option, length, ap, sym, ◌∙◌, subst}
+use Rattle.std.proofs.Common.{ℕ, List, Option, length, ap, sym, ◌∙◌, subst}
 use Rattle.apf_line.specs.declared.report.Report.{Report}
-use Rattle.apf_simulation.specs.declared.notes.Notes.{Notes}
 use Rattle.apf_simulation.specs.Runs.{IsEndOf}
 use Rattle.apf_simulation.specs.Ties.{AreDecidedAs}
 use Rattle.apf_simulation.proofs.Running.{has_run, patience_of}

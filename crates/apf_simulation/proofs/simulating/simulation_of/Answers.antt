@@ -1,5 +1,5 @@
 -- The parts, each by its own call.
-use Rattle.std.proofs.Common.{◌≡◌, ◌≤◌, List, refl, sym, ap, ◌∙◌, subst, arith}
+use Rattle.std.proofs.Common.{◌≡◌, ◌≤◌, List, sym, ap, ◌∙◌, subst, arith}
 use Rattle.std.specs.List.{AllByRecursion}
 use Rattle.apf_words.specs.declared.decision.Decision.{Decision}
 use Rattle.apf_simulation.specs.Areas.{AreAreas}

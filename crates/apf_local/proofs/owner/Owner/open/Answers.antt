@@ -81,10 +81,12 @@ returns-clause-settings c =
     let is : line ≡ line_of config = c.settings-line.ensures in
     let shape = c.is_of_a_gate.ensures.shape in
     let slots : c.in_ok-gate.desk.desk.knows.shape.slots ≡ c.args.slots = (search rules) in
-    let dealable : IsDealable line.queues line.hand_size = (search rules) in
-    ((c.in_ok-gate.ensures.is_shape.some_limit, c.in_ok-gate.ensures.is_shape.small_limit), subst (λ (n : ℕ). n ≤ max_requests) slots shape.few_slots,
-    settled config.limit_response config c.args.slots (subst (λ (x : Config). IsDealable x.queues x.hand_size) is dealable)
-    (subst (λ (x : Config). IsQueueShape x.queues x.queue_length_limit c.args.slots) is c.in_ok-book.ensures.settings))
+    let dealable : IsDealable line.queues line.hand_size = (search rules) in (
+      (c.in_ok-gate.ensures.is_shape.some_limit, c.in_ok-gate.ensures.is_shape.small_limit),
+      subst (λ (n : ℕ). n ≤ max_requests) slots shape.few_slots,
+      settled config.limit_response config c.args.slots (subst (λ (x : Config). IsDealable x.queues x.hand_size) is dealable)
+          (subst (λ (x : Config). IsQueueShape x.queues x.queue_length_limit c.args.slots) is c.in_ok-book.ensures.settings),
+    )
 
 -- all numbers have a width
 length_spread : (ws : List ℕ) (n : ℕ) → length (spread ws n) ≡ n

@@ -1,5 +1,5 @@
 -- What is due is carried out, then comes the call, then what the history gained.
-use Rattle.std.proofs.Common.{rules, ◌≡◌, ◌<◌, List, [], ◌∷◌, ◌++◌, length, refl, sym, subst, ◌∙◌}
+use Rattle.std.proofs.Common.{rules, ◌≡◌, ◌<◌, List, [], ◌∷◌, ◌++◌, length, sym, subst, ◌∙◌}
 use Rattle.apf_gate.specs.Tokens.{StationToken}
 use Rattle.apf_times.specs.declared.act.Act.TheVariants.{CarriedOut}
 use Rattle.apf_times.specs.Courses.{At, ComesFirst, IsDueBy}
@@ -8,8 +8,8 @@ use Rattle.apf_simulation.specs.Operators.{CancelsOnly}
 use Rattle.apf_simulation.specs.Slots.{slots_of}
 use Rattle.apf_simulation.proofs.Calling.{call_due}
 use Rattle.apf_simulation.proofs.Going.{goes_on}
-use Rattle.apf_simulation.proofs.Logging.{on_then, same_as, same_then, stays}
-use Rattle.apf_simulation.proofs.Operating.{nothing, one}
+use Rattle.apf_simulation.proofs.Logging.{on_then, same_then, stays}
+use Rattle.apf_simulation.proofs.Operating.{one}
 use Rattle.apf_simulation.proofs.simulator.Simulator.step.Goals as goal
 
 pub call-requires-clause-due : goal.call-requires-clause-due

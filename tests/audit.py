@@ -117,6 +117,14 @@ NO_JSON = [
     (b"\xef\xbb\xbf{}\n", "1: the bytes begin with a mark of byte order (BOM): take it away"),
     (b"\xff\xfe{\n", "1: the bytes begin as UTF-16 does: they must be UTF-8"),
     (b"\x1f\x8b\x08\n", "2: the bytes begin as gzip does: unpack them first"),
+    # also without an LF, and UTF-16 without its mark
+    (b"\xff\xfe{", "1: the bytes begin as UTF-16 does: they must be UTF-8"),
+    (b'{\0"\0', "2: the bytes begin as UTF-16 does: they must be UTF-8"),
+    (b"\x1f\x8b\x08", "2: the bytes begin as gzip does: unpack them first"),
+    (b"kind: Event\nlevel: Metadata\n", "1: the bytes begin as YAML does: write them as JSON"),
+    (b"---\n", "1: the bytes begin as YAML does: write them as JSON"),
+    (b'{"a":"\\u0"}\n', "6"),
+    (b'{"a":"\\u0\n', "6: the text ends too early"),
     (b"[{},\n", "4: an array begins here: write one object on each line"),
     (b'{"a":1e999}\n', "11: the number here is too large"),
     (b"{\n", "1: the text ends too early"),
@@ -262,14 +270,18 @@ CHOSEN = [
     (coded(("a", 429, 1), ("b", 429, 1)), EVERY, [(0, 0, "a"), (0, 0, "b")]),
     # that of those that are chosen, by the flows that the choice makes
     (coded(("a", 429, 0), ("b", 200, 8), ("c", 200, 2)), Choice(by="namespace"), [(0, seconds * SECOND, "") for seconds in (2, 8, 2)]),
-    # a last line that no LF ends is left out where it is no JSON, and judged where it is
-    *((event_of() + last, EVERY, [(0, 0, "alice")]) for last in ("", "{", " ", '{"stage":"Panic","verb":"g', '{"stage":"Panic","verb":"get"}')),
+    # a last line that no LF ends is left out where it begins as an event and is no JSON, and judged where it is
+    *((event_of() + last, EVERY, [(0, 0, "alice")]) for last in ("", "{", '{"', '{"stage":"Panic","verb":"g', '{"stage":"Panic","verb":"get"}')),
 ]
 # the fault of a whole log, or of the one of its lines that comes first
 LATE = f"it must be at most {ARRIVAL} microseconds after the earliest one"
 MANY = "at most 10000 may be there: --since, --until and --user choose some of them"
 TOLD = [
     (event_of() + "{}", "3 at line 2: the key stage is missing: it must be a text"),
+    # of a last line that no event begins with
+    (event_of() + " ", "2 at line 2: this is not JSON at column 1: the text ends too early"),
+    (event_of() + "x", "2 at line 2: this is not JSON at column 1"),
+    (event_of() + "kind: Event", "2 at line 2: this is not JSON at column 1: the bytes begin as YAML does: write them as JSON"),
     (
         dated("2026-12-07T01:46:40Z") + dated("2026-11-25T12:00:00Z") + dated("2026-12-07T01:46:40.000001Z") + dated("2027-01-01T00:00:00Z"),
         f'10 at line 3: requestReceivedTimestamp is "2026-12-07T01:46:40.000001Z": {LATE}',
@@ -322,7 +334,9 @@ def notes(content, choice, is_cut=False):
     count, of = turned_away(content, choice)
     median = "each gets the median runsFor of those of its flow that ran, or of all that ran"
     said = f"apf: {count} of {of} requests were turned away with status 429: {median}\n" if count else ""
-    return (f"{CUT}\n" if is_cut else "") + said
+    is_choice = choice._replace(by=EVERY.by) != EVERY
+    nothing = "apf: nothing matched: the options choose no request of the log\n" if is_choice and of == 0 else ""
+    return (f"{CUT}\n" if is_cut else "") + said + nothing
 
 
 def check_choices():

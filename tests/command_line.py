@@ -52,7 +52,7 @@ LINES = ["arrive N", "finish N", "cancel N", "close", "limit N"]
 # each command on a trace says the form of its file and the unit of its times, and that no server is simulated
 TIMES = ["<TRACE>", "JSON Lines", "microseconds", "not kube-apiserver"]
 LEVEL = ["<CONFIG>", *TIMES]
-PATIENCE = [*LEVEL, "<PATIENCE>", "0 to 1000000000", "15s", "500ms"]
+PATIENCE = [*LEVEL, "<PATIENCE>", "0 to 1000000000", "15s", "500ms", "--charge <BY>", "time", "seats"]
 TRACE = ["arrivesAt", "1000000000000", "runsFor", "10000000000", "hash", "schema", "distinguisher", "width", "cost", "20000", "4294967295", "10000 lines", "65536"]
 FLOW = ["flow H requests N executed E rejected J cancelled X seat-time T wait median A p99 B longest C of", "SCHEMA DISTINGUISHER", "end T seat-time U of V waited W patience P"]
 for words, says in [
@@ -101,7 +101,6 @@ for command in [it.strip() for it in COMMANDS if it.startswith("  ") and it.stri
     script = "".join(re.sub("^  > ", "", it, flags=re.M) + "printf '\\0'\n" for it, _ in shown)
     with tempfile.TemporaryDirectory() as folder:
         shutil.copytree(os.path.join(TOP, "examples"), os.path.join(folder, "examples"))
-        shutil.copy(os.path.join(TOP, "examples", "audit", "audit.log"), os.path.join(folder, "audit.jsonl"))
         script = 'program=$1\napf() { "$program" "$@" 2>&1; }\n' + script
         got = subprocess.run(["bash", "-c", script, "", program], cwd=folder, stdin=subprocess.DEVNULL, stdout=subprocess.PIPE, stderr=subprocess.STDOUT, timeout=120).stdout
     for (example, printed), said in zip(shown, got.decode().split("\0")):
@@ -111,6 +110,14 @@ for command in [it.strip() for it in COMMANDS if it.startswith("  ") and it.stri
         else:
             tally.check(f"example of {command} prints something: {example}", said != "", True)
             tally.check(f"example of {command} has no fault: {example}", re.findall("^(?:apf|error): .*$", said, re.M), [])
+
+# the examples of the program's own help run on them too
+help_text = run(program, ["--help"])[1].decode()
+shown = [line.split() for line in re.findall(r"^  apf ((?:hash|replay) .*)$", help_text.partition("Examples:\n")[2], re.M)]
+tally.check("help has two examples", [it[0] for it in shown], ["hash", "replay"])
+for words in shown:
+    status, out, err = run(program, words, cwd=TOP)
+    tally.check(f"the example {words} runs", (status, out != b"", err), (0, True, b""))
 
 # the version, which is the crate's own
 for words in (["--version"], ["-V"]):

@@ -12,8 +12,9 @@ sys.path.insert(0, os.path.join(os.path.dirname(os.path.abspath(__file__)), "lib
 import simulation
 import worked
 from harness import Files, Tally, build, processor_seconds, run
+from jsontext import json_text
 from runs import Fates, comparison
-from simulation import BAD_PATIENCE, Run, flows_of, patience_of
+from simulation import BAD_PATIENCE, Run, flows_of, patience_of, words_of
 from trace import trace_of
 from traces import Traces
 
@@ -39,15 +40,15 @@ def lines_of(out):
     return out.decode().split("\n")[:-1]
 
 
-def printed(command, contents, *patience):
-    """What the program does by a command on files of these bytes."""
+def printed(command, contents, *how):
+    """What the program does by a command on files of these bytes, with a patience, and by what requests are charged."""
     paths = [files(f"file {place}", content) for place, content in enumerate(contents)]
-    return run(program, [command, *paths, *map(str, patience)])
+    return run(program, [command, *paths, *words_of(*how)])
 
 
-def told(lines):
-    """The answer of a command that prints these lines."""
-    return 0, "".join(f"{line}\n" for line in lines).encode(), b""
+def told(lines, note=""):
+    """The answer of a command that prints these lines, and this beside them."""
+    return 0, "".join(f"{line}\n" for line in lines).encode(), note.encode()
 
 
 # what happens in a drawn pair of runs, and in how many of 300 at least
@@ -108,9 +109,10 @@ def check_drawn():
     seen = dict.fromkeys(SEEN, 0)
     for number in range(TRACES):
         *configs, content, patience = drawn()
+        charge = traces.charge()
         trace = trace_of(content)
-        one, other = (Run(config, trace, patience) for config in configs)
-        name = f"{number}: {configs}, {content}, patience {patience}"
+        one, other = (Run(config, trace, patience, charge) for config in configs)
+        name = f"{number}: {configs}, {content}, patience {patience}, charged by {charge}"
         fates = [simulation.fates(made) for made in (one, other)]
         lines = simulation.compare(one, other)
         for config, each in zip(configs, fates):
@@ -118,13 +120,15 @@ def check_drawn():
         by_fates = comparison(*map(Fates, fates))
         tally.check(f"the comparison by the fates of {name}", [" ".join(it.split(" ")[:12]) for it in lines[1:]], by_fates)
         texts = [json.dumps(config).encode() for config in configs]
-        tally.check(f"fates of {name}", printed("fates", [texts[0], content], patience), told(fates[0]))
-        tally.check(f"compare of {name}", printed("compare", [*texts, content], patience), told(lines))
+        tally.check(f"fates of {name}", printed("fates", [texts[0], content], patience, charge), told(fates[0]))
+        tally.check(f"compare of {name}", printed("compare", [*texts, content], patience, charge), told(lines))
         tally.check(f"hands of {name}", printed("hands", [texts[0], content]), told(simulation.hands(configs[0], trace)))
         flows = [*sorted({it["names"][1] for it in trace if it["names"]}), "nobody"]
         flow = flows[number % len(flows)]
         of_flow = printed("hands", [texts[0], content], f"--flow={flow}")
-        tally.check(f"hands of {flow!r} of {name}", of_flow, told(simulation.hands_of(configs[0], trace, flow)))
+        shared = simulation.hands_of(configs[0], trace, flow)
+        note = f"apf: nothing matched: no flow of the trace has the distinguisher {json_text(flow)}\n"
+        tally.check(f"hands of {flow!r} of {name}", of_flow, told(shared, "" if shared else note))
         for what in happenings(one, other):
             seen[what] += 1
     for what, count in seen.items():
@@ -156,7 +160,7 @@ def check_rules():
     """The judge of what `fates` prints, by false copies of a true one."""
     name, config, content, _ = worked.WORKED[0]
     trace = trace_of(content.encode())
-    true = "".join(f"{line}\n" for line in simulation.fates(Run(json.loads(config) | {"limitResponse": "Queue"}, trace, 90)))
+    true = "".join(f"{line}\n" for line in simulation.fates(Run(json.loads(config) | {"limitResponse": "Queue"}, trace, 90, "seats")))
     tally.check(f"true fates are taken: {name}", Fates(lines_of(true.encode())).broken(2, trace, 90), [])
     for sentence, old, new in FALSE_FATES:
         false = true.replace(old, new, 1)
@@ -166,9 +170,9 @@ def check_rules():
 
 def check_examples():
     worked.self_test(tally.check)
-    for name, command, contents, patience, text in worked.worked():
+    for name, command, contents, how, text in [*worked.worked(), *worked.charged()]:
         if command.__name__ in ("fates", "compare", "hands"):
-            tally.check(name, printed(command.__name__, contents, *patience), (0, text.encode(), b""))
+            tally.check(name, printed(command.__name__, contents, *how), (0, text.encode(), b""))
     # one flow by its distinguisher, with each other one that shares a queue of its hand
     _, config, content, _ = next(it for it in worked.WORKED if it[0] == "hands that share")
     alice = (
@@ -179,7 +183,8 @@ def check_examples():
         "  covered by ffffffffffffffff\n"
     )
     for flow, text in (("alice", alice), ("users", ""), ("", "")):
-        tally.check(f"hands of {flow!r}, by hand", printed("hands", [config.encode(), content.encode()], f"--flow={flow}"), (0, text.encode(), b""))
+        note = "" if text else f'apf: nothing matched: no flow of the trace has the distinguisher "{flow}"\n'
+        tally.check(f"hands of {flow!r}, by hand", printed("hands", [config.encode(), content.encode()], f"--flow={flow}"), (0, text.encode(), note.encode()))
 
 
 def check_patience(command, levels):
@@ -214,28 +219,34 @@ def check_reading(command, levels):
     zero, half = files("zero", b'{"limit":0}'), files("half", b'{"limit":1')
     good, trace = files("good", CONFIG), files("trace", TRACE)
     absent = f"cannot read trace: {missing}: there is no such file"
+    # what is wrong with each of the configs
+    no_config = f"cannot read config: {missing}: there is no such file"
+    no_limit = f"config fault 5: bad value of limit\n{zero}: limit is 0: it must be a whole number from 1 to 10000"
+    no_json = f"config fault 1: not JSON\n{half}:1:10: this is not JSON: the text ends too early"
+    too_narrow = f"dealer fault 2: hand too large\n{narrow}: handSize is 8 and queues is 3: a hand can't have more queues than there are (8 and 64 if absent)"
+    too_wide = f"dealer fault 4: too much entropy\n{wide}: handSize is 15 and queues is 1024: queues to the power of handSize must be at most 2 to the power of 60 (8 and 64 if absent)"
     rows = [
-        ([missing], missing, 1, "cannot read config"),
-        ([zero], missing, 1, "config fault 5: bad value of limit"),
+        ([missing], missing, 1, no_config),
+        ([zero], missing, 1, no_limit),
         ([good], missing, 1, absent),
         ([narrow], missing, 1, absent),
         ([narrow], cut, 1, "trace fault 11 at line 2: the last line has no LF at its end"),
-        ([narrow], trace, 1, "dealer fault 2: hand too large"),
-        ([wide], trace, 1, "dealer fault 4: too much entropy"),
+        ([narrow], trace, 1, too_narrow),
+        ([wide], trace, 1, too_wide),
     ]
     if levels == 2:
         rows = [
             *((configs + [good], path, status, line) for configs, path, status, line in rows),
-            ([good, missing], missing, 1, "cannot read config"),
-            ([good, half], missing, 1, "config fault 1: not JSON"),
-            ([zero, half], missing, 1, "config fault 5: bad value of limit"),
-            ([half, zero], missing, 1, "config fault 1: not JSON"),
-            ([zero, missing], missing, 1, "config fault 5: bad value of limit"),
-            ([narrow, zero], trace, 1, "config fault 5: bad value of limit"),
+            ([good, missing], missing, 1, no_config),
+            ([good, half], missing, 1, no_json),
+            ([zero, half], missing, 1, no_limit),
+            ([half, zero], missing, 1, no_json),
+            ([zero, missing], missing, 1, no_limit),
+            ([narrow, zero], trace, 1, no_limit),
             ([good, narrow], missing, 1, absent),
-            ([good, narrow], trace, 1, "dealer fault 2: hand too large"),
-            ([narrow, wide], trace, 1, "dealer fault 2: hand too large"),
-            ([wide, narrow], trace, 1, "dealer fault 4: too much entropy"),
+            ([good, narrow], trace, 1, too_narrow),
+            ([narrow, wide], trace, 1, too_narrow),
+            ([wide, narrow], trace, 1, too_wide),
             (["-", "-"], trace, 2, "standard input is named twice"),
             ([good, "-"], "-", 2, "standard input is named twice"),
         ]

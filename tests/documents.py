@@ -129,11 +129,26 @@ for name in everywhere:
             links += 1
             to, _, heading = link.partition("#")
             path = os.path.normpath(os.path.join(TOP, os.path.dirname(name), to)) if to else os.path.join(TOP, name)
-            tally.check(f"{name}: the link to {link}", os.path.isfile(path) and (not heading or heading in headings(path)), True)
+            at_line = re.fullmatch(r"L\d+", heading) is not None
+            tally.check(f"{name}: the link to {link}", os.path.isfile(path) and (not heading or at_line or heading in headings(path)), True)
 tally.check("links are found", links > 40, True)
 tally.check("README.md: it links each page", [it for it in everywhere[1:] if f"]({it})" not in prose(os.path.join(TOP, "README.md"))], [])
 lines = sum(1 for _ in open(os.path.join(TOP, "README.md"), encoding="utf-8"))
 tally.check(f"README.md: at most 150 lines, of {lines}", lines <= 150, True)
+lines = sum(1 for _ in open(os.path.join(TOP, "docs", "proof", "AUDIT.md"), encoding="utf-8"))
+tally.check(f"docs/proof/AUDIT.md: at most 900 lines, of {lines}", lines <= 900, True)
+
+# the promises of README are the fields of the record that one law proves, each linked to its definition
+promises = os.path.join("crates", "apf_line", "specs", "Promises.antt")
+with open(os.path.join(TOP, promises), encoding="utf-8") as file:
+    defined = file.read().split("\n")
+bullets = re.findall(rf"^- \*\*\[(.*?)\]\({re.escape(promises)}#L(\d+)\)\.\*\*", prose(os.path.join(TOP, "README.md")), re.M)
+begin = next(at for at, line in enumerate(defined) if line.startswith("pub record Promises "))
+fields = re.findall(r"^  pub (\w+) : (.*)", "\n".join(defined[begin : defined.index("", begin)]), re.M)
+tally.check("README.md: its promises are the fields of Promises", [bullet.lower().replace(" ", "_") for bullet, _ in bullets], [name for name, _ in fields])
+for (bullet, at), (_, said) in zip(bullets, fields):
+    named = re.match(r"(?:abbrev )?pub (?:record )?(\w+)", defined[int(at) - 1])
+    tally.check(f"README.md: the definition of: {bullet}", named is not None and re.search(rf"\b{named[1]}\b", said) is not None, True)
 
 # the unit and the container of docs/SERVE.md call the gateway by options that it has, and copy files that are there or that go build makes
 with open(os.path.join(TOP, "docs", "SERVE.md"), encoding="utf-8") as page, open(os.path.join(TOP, "go", "cmd", "apf-gateway", "main.go"), encoding="utf-8") as gateway:
@@ -182,6 +197,10 @@ for example in sorted(os.listdir(os.path.join(TOP, "examples"))):
         tally.check(f"examples/{example}", names, wanted)
         shown = [it for it in PAGES if f"examples/{example}/{wanted[0]}" in open(os.path.join(TOP, it)).read()]
         tally.check(f"examples/{example} is shown", len(shown) > 0, True)
+
+# and of each promise it names a planted bug
+named = re.findall(r"`(apf_\w+/\w+)`", prose(os.path.join(TOP, "docs", "proof", "PROVED.md")).partition("Of each one planted bug")[2].partition("\n")[0])
+tally.check("docs/proof/PROVED.md: a planted bug of each promise", (len(named), [it for it in named if not os.path.isfile(os.path.join(TOP, "planted", f"{it}.edit"))]), (len(fields), []))
 
 # each row of docs/proof/PROVED.md names a contract and its files: the files are there, and they or their crates' definitions have each name
 rows = rows_of_proved()

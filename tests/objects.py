@@ -558,7 +558,7 @@ tally.check("a log and a user", run(program, ["match", objects, "--log", "x", "-
 for seats in ("0", "1000001", "x"):
     status, out, err = run(program, ["objects", objects, "--seats", seats])
     tally.check(f"--seats {seats}", (status, out, b"--seats" in err), (2, b"", True))
-for text, number in (("x\n", 2), ("5\n", 3), ('{"stage":"ResponseComplete","verb":"get"}\n', 4), ('{"stage":"ResponseComplete","verb":"get","user":{}}\n', 4)):
+for text, number in (("x\n", 2), ("x", 2), ("\0{", 2), ("5\n", 3), ('{"stage":"ResponseComplete","verb":"get"}\n', 4), ('{"stage":"ResponseComplete","verb":"get","user":{}}\n', 4)):
     status, out, err = run(program, ["match", objects, "--log", files("log.jsonl", text)])
     tally.check(f"{text!r}", (status, out, err.startswith(b"apf: audit fault %d at line 1" % number)), (1, b"", True))
 

@@ -113,7 +113,7 @@ def check_begin():
     page.command("Page.setBypassCSP", enabled=False)
     begin()
     tally.check("nothing is refused", faults(), [])
-    tally.check("the status", page.text("#status"), "The noisy client: 703 requests, 402 executed, 76 rejected, 225 gave up. The longest wait is 7,998 ms.")
+    tally.check("the status", page.text("#status"), "The noisy client: 703 requests, 398 executed, 76 rejected, 229 gave up. The longest wait is 7,999 ms.")
 
 
 def check_colours(name, root, rows):
@@ -249,7 +249,7 @@ def check_settings():
     tally.check("the limit by its slider and a key", (page.run("return document.getElementById('limit').value"), shown()), ("11", want))
     tally.check("the rejected change", rejected() != before, True)
     counts = [want[-1][it] for it in (2, 3, 4)]
-    tally.check("what changed", page.text("#status").split(". Longest wait ")[0], "Limit 10 → 11: executed 402 → {}, rejected 76 → {}, gave up 225 → {}".format(*counts))
+    tally.check("what changed", page.text("#status").split(". Longest wait ")[0], "Limit 10 → 11: executed 398 → {}, rejected 76 → {}, gave up 229 → {}".format(*counts))
     left, top, width, height = page.run("const it = document.getElementById('limit-slider').getBoundingClientRect(); return [it.left, it.top, it.width, it.height]")
     page.click_at(int(left + width * 0.3), int(top + height / 2))
     rests()
@@ -307,7 +307,7 @@ def check_two():
     other = {**LEVEL, "handSize": 2}
     want = table_of_two(config=LEVEL, other=other)
     tally.check("two levels", shown(), want)
-    tally.check("the worst change comes first", [it[0] for it in shown()][:2], ["crawler", "alice"])
+    tally.check("the worst change comes first", [it[0] for it in shown()][:2], ["crawler", "bob"])
     check_marks("better and worse", want)
     write("limit", "14")
     write("handSize", "8")
@@ -376,7 +376,7 @@ def check_keyboard():
     tally.check("a key moves the limit", shown(), table_of_one(config={**LEVEL, "limit": 12}))
     tally.check("Tab comes to keep", go("keep"), True)
     press(driver.SPACE)
-    tally.check("a key keeps", page.text("#kept"), "Kept: limit 12, 64 queues, hand size 8, queue length 50. The patience of now holds for both.")
+    tally.check("a key keeps", page.text("#kept"), "Kept: limit 12, 64 queues, hand size 8, queue length 50. The patience and the charge of now hold for both.")
     tally.check("the focus goes on", focused(), "let-go")
     press(driver.SPACE)
     flow = page.run("return document.querySelector('#flows button').dataset.flow")

@@ -15,7 +15,7 @@ from harness import TOP, Files, Tally, build, run
 from judge import Refused, config_of
 from colours import EYES, contrast, least_beside, least_distance, least_lightness
 from picture import COLUMNS, Picture, width
-from simulation import Run, answer, flows_of
+from simulation import Run, answer, flows_of, words_of
 from trace import trace_of
 from traces import Traces
 
@@ -40,9 +40,9 @@ def picture(run):
     return Picture(run).text()
 
 
-def foreseen(config, trace, patience):
+def foreseen(config, trace, patience, charge=None):
     """The status, output and errors of the command."""
-    return answer(lambda made: Picture(made).lines(), (config, trace), patience)
+    return answer(lambda made: Picture(made).lines(), (config, trace), patience, charge)
 
 
 # what a reader of the SVG finds
@@ -205,7 +205,7 @@ def check_colours():
 def check_model():
     for number in range(TRACES):
         config, (objects, patience) = traces.config(), traces.trace()
-        made = Run(config, trace_of(traces.content(objects)), patience)
+        made = Run(config, trace_of(traces.content(objects)), patience, traces.charge())
         judged(f"the picture {number} of {config}, {objects}, patience {patience}", picture(made), made)
 
 
@@ -234,7 +234,7 @@ def check_sizes():
     tally.check(f"the picture of 1,000 requests: {size} bytes", size < 300_000, True)
 
 
-# rows by hand: a level, a trace, a patience, and how many times each of some parts stands in the picture
+# rows by hand, by seats: a level, a trace, a patience, and how many times each of some parts stands in the picture
 
 ROOM = b'{"limit":100,"queues":2,"handSize":1}'
 
@@ -433,12 +433,12 @@ BY_HAND = [
 
 def check_by_hand():
     for name, config, trace, patience, parts in BY_HAND:
-        status, out, err = printed(config, trace, patience)
+        status, out, err = printed(config, trace, patience, "seats")
         text = out.decode()
         tally.check(f"{name}: a picture", (status, err), (0, b""))
         for part, count in parts.items():
             tally.check(f"{name}: {part}", text.count(part), count)
-        tally.check(f"{name}: as the model has it", (status, out, err), foreseen(config, trace, patience))
+        tally.check(f"{name}: as the model has it", (status, out, err), foreseen(config, trace, patience, "seats"))
     # a thousand requests of thirty flows, which wait in 64 queues
     config, trace = b'{"limit":40,"queues":64,"handSize":1}', hashed(*((it % 30, 7 * it, it % 97, 40) for it in range(1_000)))
     out = printed(config, trace, 0)[1]
@@ -449,14 +449,14 @@ def check_by_hand():
 # the command
 
 
-def printed(config, trace, patience):
-    return run(program, ["picture", files("config", config), files("trace", trace), str(patience)])
+def printed(config, trace, *how):
+    return run(program, ["picture", files("config", config), files("trace", trace), *words_of(*how)])
 
 
 def check_drawn():
     for number in range(TRACES):
         config, (objects, patience) = traces.config(), traces.trace()
-        taken = json.dumps(config).encode(), traces.content(objects), patience
+        taken = json.dumps(config).encode(), traces.content(objects), patience, traces.charge()
         tally.check(f"the picture of {taken}", printed(*taken), foreseen(*taken))
 
 

@@ -21,6 +21,7 @@ import threading
 import time
 
 sys.path.insert(0, os.path.join(os.path.dirname(os.path.abspath(__file__)), "lib"))
+from explain import answer
 from harness import TOP, Files, Tally, build, build_serving, run
 from judge import Refused, config_of
 from level import answer as replayed
@@ -81,10 +82,10 @@ def asked():
 
 # lines that are no command, and objects that are none of an arrival
 NO_LINES = [b"", b" ", b"\r", b"arrive", b"arrive 0", b"arrive 0 ", b"arrive 0 []", b"arrive 0  {}", b"arrive  0 {}", b"arrive 00 {}", b"arrive -1 {}", b"try", b"try 0 1"]
-NO_LINES += [b"finish", b"finish ", b"finish 0 ", b" finish 0", b"finish 00", b"finish +0", b"finish 0\r", b"FINISH 0", b"finish\t0", b"finish 0 x", b"finish 0 01", b"finish 0  1", b"finish 0 1 ", b"finish 0 1 2", b"finish 0 -1", b"finish x 1", b"cancel x", b"cancel 0 1", b"cancel 0 0", b"limit", b"limit 01"]
+NO_LINES += [b"finish", b"finish ", b"finish 0 ", b" finish 0", b"finish 00", b"finish +0", b"finish 0\r", b"FINISH 0", b"finish\t0", b"finish 0 x", b"finish 0 01", b"finish 0  1", b"finish 0 1 ", b"finish 0 1 2", b"finish 0 -1", b"finish x 1", b"spent 0", b"spent 0 01", b"spent x 1", b"spent 0 1 2", b"cancel x", b"cancel 0 1", b"cancel 0 0", b"limit", b"limit 01"]
 NO_LINES += [b"limit 1.5", b"close ", b"close 0", b"books", b"queues 0", b"metrics\r", b"\xff", b"arrive 0 {\xff}", b"finish \xc3\xbc", b"\0", b"again 0", b"dispatch 0 queue 0", b"arrive 0 \xef\xbb\xbf{}"]
 NO_LIMITS = [b"limit 0", b"limit 10001", b"limit 4294967296", b"limit 18446744073709551617", b"limit " + b"9" * 5_000]
-NO_TIMES = [b"finish 0 1000000000001", b"finish 0 18446744073709551616", b"finish 1 " + b"9" * 5_000]
+NO_TIMES = [b"spent 0 1000000000001", b"finish 0 1000000000001", b"finish 0 18446744073709551616", b"finish 1 " + b"9" * 5_000]
 NO_NUMBERS = [b"finish 10000 1000000000001", b"finish 4294967296", b"cancel 18446744073709551616", b"finish " + b"9" * 5_000, b'arrive 10000 {"hash":0}', b"try 10000 {"]
 NO_OBJECTS = ["{}", "{", '{"hash":0', '{"hash":0}}', '{"hash":0} 1', '{"hash":01}', '{"hash":0,}', '{"hash":-1}', '{"hash":1.0}', '{"hash":1e3}', '{"hash":1e999}', '{"hash":18446744073709551616}']
 NO_OBJECTS += ['{"hash":"0"}', '{"hash":null}', '{"hash":[]}', '{"hash":0,"schema":"a"}', '{"schema":"a"}', '{"distinguisher":"a"}', '{"schema":1,"distinguisher":"a"}']
@@ -136,6 +137,8 @@ def line_in(service):
                 return f"{'arrive' if kind < 0.36 else 'try'} {number} {asked()}".encode()
     if kind < 0.70 and running:
         return f"finish {draw.choice(running)}{ran()}".encode()
+    if kind < 0.72 and service.there and draw.random() < 0.5:
+        return f"spent {draw.choice(running if running and draw.random() < 0.35 else [*service.there])} {draw.choice([0, 1, 999, 20_000, 10**12, draw.randrange(1, 100_000)])}".encode()
     if kind < 0.72 and waiting:
         return f"finish {draw.choice(waiting)}{ran()}".encode()
     if kind < 0.79 and service.there:
@@ -250,7 +253,7 @@ class Conversation:
 
 SESSIONS = int(os.environ.get("APF_SESSIONS", "2000" if is_built else "40"))
 KINDS = ["arrive N execute", "arrive N queued", "arrive N queue-full", "arrive N closed", "arrive N concurrency-limit", "try N execute", "try N busy", "try N closed", "try N concurrency-limit"]
-KINDS += ["finish N", "finish N not running", "cancel N cancelled", "cancel N execute", "limit N was", "close first", "close already", "level open", "level closed", "queue N waiting", "end", "# EOF"]
+KINDS += ["finish N", "finish N not running", "spent N", "spent N not running", "cancel N cancelled", "cancel N execute", "limit N was", "close first", "close already", "level open", "level closed", "queue N waiting", "end", "# EOF"]
 KINDS += ["dispatch N queue", "strike N queue", "fault N bad line", "fault N bad number", "fault N bad time", "fault N N is there", "fault N N is not there", "fault N this is not JSON", "fault N bad limit"]
 KINDS += ["fault N truncated", "fault N the key", "fault N width is", "fault N cost is", "fault N hash"]
 # words that are numbers
@@ -455,10 +458,10 @@ LEARNT = [
     ('arrive 0 {"hash":0}', "arrive 0 execute"),
     ('arrive 1 {"hash":0,"width":3}', "arrive 1 queued 0"),
     ('arrive 2 {"hash":1,"cost":7}', "arrive 2 queued 1"),
-    # the first flow took 300 ms. What waits keeps its cost
+    # the first flow took 300 ms. What waits keeps its cost. Who was dispatched is charged at its end what it took, whatever it cost
     ("finish 0 300000", "finish 0\ndispatch 2 queue 1"),
     ("finish 2 10000", "finish 2\ndispatch 1 queue 0"),
-    ("queues", "queue 0 waiting 0 entered 1 service 30000\nqueue 1 waiting 0 entered 1 service 7\nend"),
+    ("queues", "queue 0 waiting 0 entered 1 service 30000\nqueue 1 waiting 0 entered 1 service 10000\nend"),
     ("finish 1", "finish 1"),
     ("finish 1 5", "fault L 1 is not there"),
     # 300 ms are expected of the first flow, 10 ms of the second, and (300 + 10) / 2 of any other
@@ -470,19 +473,19 @@ LEARNT = [
     ("finish 9 0", "finish 9\ndispatch 1 queue 1"),
     ("finish 1", "finish 1\ndispatch 2 queue 1"),
     ("finish 2", "finish 2\ndispatch 3 queue 1"),
-    ("queues", "queue 0 waiting 1 entered 2 service 30000\nqueue 1 waiting 0 entered 4 service 185007\nend"),
+    ("queues", "queue 0 waiting 1 entered 2 service 30000\nqueue 1 waiting 0 entered 4 service 195000\nend"),
     # one that waits learns nothing
     ("finish 0 1", "finish 0 not running"),
     ("finish 3 1000000000000", "finish 3\ndispatch 0 queue 0"),
-    ("queues", "queue 0 waiting 0 entered 2 service 330000\nqueue 1 waiting 0 entered 4 service 185007\nend"),
-    # a mean of 4,294,967,295, and of two of it: (300000 + (0 - 300000) / 2)
+    ("queues", "queue 0 waiting 0 entered 2 service 330000\nqueue 1 waiting 0 entered 4 service 1000000040000\nend"),
+    # a mean of 4,294,967,295, and of two of it: (300000 + (0 - 300000) / 2). Who took nothing took a microsecond of a seat
     ("finish 0 0", "finish 0"),
     ('arrive 9 {"hash":8}', "arrive 9 execute"),
     ('arrive 0 {"hash":0}', "arrive 0 queued 0"),
     ('arrive 1 {"hash":3,"width":2}', "arrive 1 queued 1"),
     ("finish 9", "finish 9\ndispatch 0 queue 0"),
     ("finish 0", "finish 0\ndispatch 1 queue 1"),
-    ("queues", "queue 0 waiting 0 entered 3 service 480000\nqueue 1 waiting 0 entered 5 service 4295152302\nend"),
+    ("queues", "queue 0 waiting 0 entered 3 service 180001\nqueue 1 waiting 0 entered 5 service 1004295007295\nend"),
 ]
 BY_SEATS = [
     ('arrive 0 {"hash":0}', "arrive 0 execute"),
@@ -492,7 +495,48 @@ BY_SEATS = [
     ("finish 1 1", "finish 1\ndispatch 2 queue 1"),
     ("queues", "queue 0 waiting 0 entered 1 service 3\nqueue 1 waiting 0 entered 1 service 1\nend"),
 ]
-for by, rows in (("time", LEARNT), ("seats", BY_SEATS)):
+SPENT = [
+    ('arrive 0 {"hash":0}', "arrive 0 execute"),
+    # who took its seats as it came is never charged
+    ("spent 0 5", "spent 0"),
+    ('arrive 1 {"hash":0,"cost":100}', "arrive 1 queued 0"),
+    ('arrive 2 {"hash":1,"cost":200}', "arrive 2 queued 1"),
+    ('arrive 3 {"hash":1,"cost":1}', "arrive 3 queued 1"),
+    ("spent 1 5", "spent 1 not running"),
+    ("finish 0 1000", "finish 0\ndispatch 1 queue 0"),
+    # what is less than the charge changes nothing, and what is more is charged now
+    ("spent 1 50", "spent 1"),
+    ("queues", "queue 0 waiting 0 entered 1 service 100\nqueue 1 waiting 2 entered 2 service 0\nend"),
+    ("spent 1 300", "spent 1"),
+    ("queues", "queue 0 waiting 0 entered 1 service 300\nqueue 1 waiting 2 entered 2 service 0\nend"),
+    ('arrive 4 {"hash":0,"cost":1}', "arrive 4 queued 0"),
+    # at its end it is charged what it took, less here; the queue's next one would be done at 251, and the other queue's at 200, then at 41
+    ("finish 1 250", "finish 1\ndispatch 2 queue 1"),
+    ("finish 2 40", "finish 2\ndispatch 3 queue 1"),
+    ("finish 3 1000", "finish 3\ndispatch 4 queue 0"),
+    ("spent 9 1", "fault L 9 is not there"),
+    ("spent 10 1", "fault L bad number"),
+    ("spent 10 1000000000001", "fault L bad number"),
+    ("spent 4 1000000000001", "fault L bad time"),
+    *((it, "fault L bad line") for it in ("spent 4", "spent 4 ", "spent 4 01", "spent 4 1 ", "spent 4 1 2", "spent  4 1", "spent x 1", "spent 4 x", " spent 4 1", "spent 4 -1")),
+    ("queues", "queue 0 waiting 0 entered 2 service 251\nqueue 1 waiting 0 entered 2 service 1040\nend"),
+    # the most that is told of a time, of many seats
+    ('arrive 5 {"hash":0,"width":20000}', "arrive 5 queued 0"),
+    ("finish 4", "finish 4\ndispatch 5 queue 0"),
+    ("spent 5 1000000000000", "spent 5"),
+    ("queues", "queue 0 waiting 0 entered 3 service 70368744177915\nqueue 1 waiting 0 entered 2 service 1040\nend"),
+]
+SPENT_BY_SEATS = [
+    ('arrive 0 {"hash":0}', "arrive 0 execute"),
+    ('arrive 1 {"hash":0}', "arrive 1 queued 0"),
+    ('arrive 2 {"hash":0}', "arrive 2 queued 0"),
+    ('arrive 3 {"hash":1,"cost":2}', "arrive 3 queued 1"),
+    ("finish 0 1000", "finish 0\ndispatch 1 queue 0"),
+    ("spent 1 1000", "spent 1"),
+    # were what it took charged, the other queue would be next
+    ("finish 1 1000", "finish 1\ndispatch 3 queue 1"),
+]
+for by, rows in (("time", LEARNT), ("seats", BY_SEATS), ("time", SPENT), ("seats", SPENT_BY_SEATS)):
     content = as_bytes(it.encode() for it, _ in rows)
     want = [it.replace("fault L ", f"fault {number} ") for number, (_, it) in enumerate(rows, 1)]
     status, out, err = serve(content, TWO, "--slots", "10", "--charge", by)
@@ -604,10 +648,12 @@ tally.check("a client that never reads: it can be killed", talk.left(), -signal.
 
 for text in ('{"limit":0}', "{}", "[]", "", '{"limit":1,"queues":4}', '{"limit":1,"color":1}', '{"limit":1,"queues":1024,"handSize":15}', '{"limit":1,"limitResponse":"None"}', " " * 65_537):
     path = files("bad", text)
-    want = replayed(text.encode(), b"[]", b"")
-    tally.check(f"the config {text[:40]}", (run(program, ["serve", path]), want[0]), (want, 1))
-for path in (os.path.join(files.folder.name, "missing"), files.folder.name, ""):
-    tally.check(f"the config at {path}", run(program, ["serve", path]), (1, b"", b"apf: cannot read config\n"))
+    # the line of the fault, and behind it the one that explains it
+    status, explained, line = answer([path, "requests", "script"], [text.encode(), b"[]", b""])
+    tally.check(f"the config {text[:40]}", (run(program, ["serve", path]), status), ((1, b"", line + explained), 1))
+ABSENT, FOLDER = "there is no such file", "it is a folder"
+for path, why in ((os.path.join(files.folder.name, "missing"), ABSENT), (files.folder.name, FOLDER), ("", ABSENT)):
+    tally.check(f"the config at {path}", run(program, ["serve", path]), (1, b"", f"apf: cannot read config: {path}: {why}\n".encode()))
 good = files("good", json.dumps(ONE))
 for words in (["--slots", "0"], ["--slots", "10001"], ["--slots", "-1"], ["--slots", "x"], ["--slots", ""], ["--slots", "1.5"], ["--slots", "4294967297"], ["--slots"], ["--nonsense"], ["more"]):
     status, out, err = run(program, ["serve", good, *words])

@@ -16,7 +16,7 @@ from harness import Files, Tally, build, processor_seconds, run
 from judge import config_of, requests_of
 from level import hash_of
 from runs import Record, sums_broken
-from simulation import Run, flows_of, nearest_rank
+from simulation import Run, flows_of, nearest_rank, words_of
 from trace import TraceFault, trace_of
 from traces import FAULTY_ENDS, Traces, good_ends
 
@@ -106,7 +106,7 @@ def check_replays():
     for number in range(TRACES):
         config, (objects, patience) = traces.config(), traces.trace(has_costs=False)
         content = traces.content(objects)
-        made = Run(config, trace_of(content), patience)
+        made = Run(config, trace_of(content), patience, "seats")
         script, requests = simulation.timeline(made), simulation.requests(made.trace)
         status, lines, err = replayed(config, text_of(requests), text_of(script))
         name = f"run {number} of {config}, {content}, patience {patience}"
@@ -166,7 +166,7 @@ def replaced(text, pairs):
 def check_rules():
     """The judges of a run by the rules, by false copies of a true one."""
     _, config, trace, _ = worked.WORKED[0]
-    made = Run(config_of(config.encode()), trace_of(trace.encode()), 90)
+    made = Run(config_of(config.encode()), trace_of(trace.encode()), 90, "seats")
     script, answers = text_of(simulation.timeline(made)), text_of(made.level.lines)
     for sentence, patience, in_script, in_answers in FALSE_RUNS:
         record = Record(2, made.trace, patience, lines_of(replaced(script, in_script)), lines_of(replaced(answers, in_answers)))
@@ -187,9 +187,9 @@ def check_model():
     worked.self_test(tally.check)
     for number in range(TRACES):
         config, (objects, patience) = traces.config(), traces.trace()
-        made = Run(config, trace_of(traces.content(objects)), patience)
+        made = Run(config, trace_of(traces.content(objects)), patience, traces.charge())
         lines = simulation.simulate(made)
-        name = f"the model's run {number} of {config}, {objects}, patience {patience}"
+        name = f"the model's run {number} of {config}, {objects}, patience {patience}, {'by time' if made.means else 'by seats'}"
         record = Record(made.level.limit, made.trace, patience, simulation.timeline(made), made.level.lines)
         tally.check(f"{name}: the rules", record.faults(), [])
         tally.check(f"{name}: the line of the whole", lines[-5], line_of_whole(config, record))
@@ -215,8 +215,7 @@ def meant(objects):
     requests = []
     for it in objects:
         names = (it["schema"], it["distinguisher"]) if "schema" in it else None
-        width = it.get("width", 1)
-        requests.append([it["arrivesAt"], it["runsFor"], hash_of(*names) if names else it["hash"], names, width, it.get("cost", width)])
+        requests.append([it["arrivesAt"], it["runsFor"], hash_of(*names) if names else it["hash"], names, it.get("width", 1), it.get("cost")])
     return requests
 
 
@@ -250,32 +249,32 @@ def check_judge():
 # the commands
 
 
-def printed(command, contents, *patience):
-    """What the program does by a command on files of these bytes."""
+def printed(command, contents, *how):
+    """What the program does by a command on files of these bytes, with a patience, and by what requests are charged."""
     names = ("trace",) if command == "requests" else ("config", "trace")
-    return run(program, [command, *(files(name, content) for name, content in zip(names, contents)), *map(str, patience)])
+    return run(program, [command, *(files(name, content) for name, content in zip(names, contents)), *words_of(*how)])
 
 
-def foreseen(command, contents, *patience):
-    return simulation.answer(getattr(simulation, command), contents, *patience)
+def foreseen(command, contents, *how):
+    return simulation.answer(getattr(simulation, command), contents, *how)
 
 
-def inputs(command, config, trace, patience):
-    """What the command takes of these: its files, and its patience."""
-    return [trace] if command == "requests" else [config, trace], *([patience] if command in PATIENT else [])
+def inputs(command, config, trace, patience, charge=None):
+    """What the command takes of these: its files, its patience, and by what requests are charged."""
+    return [trace] if command == "requests" else [config, trace], *([patience, charge] if command in PATIENT else [])
 
 
 def check_examples():
-    for name, command, contents, patience, text in worked.worked():
+    for name, command, contents, how, text in [*worked.worked(), *worked.charged()]:
         if command.__name__ in COMMANDS:
-            tally.check(name, printed(command.__name__, contents, *patience), (0, text.encode(), b""))
+            tally.check(name, printed(command.__name__, contents, *how), (0, text.encode(), b""))
 
 
 def check_drawn(command):
     """On drawn traces, what the model foresees."""
     for number in range(TRACES):
         config, (objects, patience) = traces.config(), traces.trace()
-        taken = inputs(command, json.dumps(config).encode(), traces.content(objects), patience)
+        taken = inputs(command, json.dumps(config).encode(), traces.content(objects), patience, traces.charge())
         got = printed(command, *taken)
         tally.check(f"{command} of {taken}", got, foreseen(command, *taken))
         if command == "simulate":
@@ -283,12 +282,12 @@ def check_drawn(command):
 
 
 def check_circle():
-    """The program's own script and requests, through its `replay`: the rules, the line of the whole and the book."""
+    """The program's own script and requests by seats, through its `replay`: the rules, the line of the whole and the book."""
     for number in range(TRACES // 3):
         config, (objects, patience) = traces.config(), traces.trace(has_costs=False)
         contents = json.dumps(config).encode(), traces.content(objects)
-        script = printed("timeline", contents, patience)[1].decode()
-        lines = lines_of(printed("simulate", contents, patience)[1].decode())
+        script = printed("timeline", contents, patience, "seats")[1].decode()
+        lines = lines_of(printed("simulate", contents, patience, "seats")[1].decode())
         _, answers, _ = replayed(config, printed("requests", contents[1:])[1], script)
         record = Record(config["limit"], trace_of(contents[1]), patience, lines_of(script), answers[:-4])
         name = f"replay of the script of {contents}, patience {patience}"
@@ -321,14 +320,15 @@ def check_reading(command):
         tally.check(f"{command} of a trace from a pipe", (done.returncode, done.stdout, done.stderr), foreseen(command, [LINE]))
         return
     narrow, zero, cut = files("narrow", b'{"limit":1,"queues":3}'), files("zero", b'{"limit":0}'), files("cut", LINE[:-1])
+    no_hand = f"dealer fault 2: hand too large\n{narrow}: handSize is 8 and queues is 3: a hand can't have more queues than there are (8 and 64 if absent)"
     for words, line in [
-        ((missing, missing), "cannot read config"),
-        ((zero, missing), "config fault 5: bad value of limit"),
+        ((missing, missing), f"cannot read config: {missing}: there is no such file"),
+        ((zero, missing), f"config fault 5: bad value of limit\n{zero}: limit is 0: it must be a whole number from 1 to 10000"),
         ((good[0], missing), absent),
         ((good[0], files.folder.name), folder),
         ((narrow, missing), absent),
         ((narrow, cut), "trace fault 11 at line 1: the last line has no LF at its end"),
-        ((narrow, good[1]), "dealer fault 2: hand too large"),
+        ((narrow, good[1]), no_hand),
     ]:
         tally.check(f"{command} {words}", run(program, [command, *words, *patience]), (1, b"", f"apf: {line}\n".encode()))
     twice = (2, b"", b"apf: standard input is named twice\n")
@@ -374,6 +374,14 @@ def check_words(command):
             taken = [CONFIG, LINE], patience
             tally.check(f"{command} with the patience {patience}", printed(command, *taken), foreseen(command, *taken))
         paths.append("0")
+        # what requests are charged is judged behind the patience, and before any file is read
+        missing = [os.path.join(files.folder.name, "missing")] * 2
+        for charge in ("", "Time", "seat", "time,seats", "width"):
+            for words in (paths, [*missing, "0"]):
+                status, out, err = run(program, [command, *words, f"--charge={charge}"])
+                tally.check(f"{command} charged by {charge!r}", (status, out, err), (2, b"", b"apf: --charge must be time or seats\n"))
+        status, out, err = run(program, [command, *missing, "x", "--charge=x"])
+        tally.check(f"{command} with a bad patience and a bad charge", (status, out, err), (2, b"", f"{simulation.BAD_PATIENCE}\n".encode()))
     for words in (paths[:-1], [*paths, "0"]):
         status, out, err = run(program, [command, *words])
         tally.check(f"{command} with {len(words)} words", (status, out, len(err) > 0), (2, b"", True))

@@ -208,7 +208,15 @@ if words[:1] == ["fates"]:
             row[4] = b"%d" % (int(row[4]) + 1)
     instead(status, b"\\n".join(map(b" ".join, rows)), err)
 '''), "compare.py", "FAILED a crawler and alice fates 90"),
-    ("compare with its levels exchanged", shell('[ "$1" = compare ] && [ $# = 5 ] && exec %s compare "$3" "$2" "$4" "$5"' % program), "compare.py", "FAILED the one whose longest wait changes most comes first"),
+    ("compare with its levels exchanged", shell('[ "$1" = compare ] && [ $# -ge 5 ] && exec %s compare "$3" "$2" "$4" "$5" ${6+"$6"}' % program), "compare.py", "FAILED the one whose longest wait changes most comes first"),
+    ("requests charged by seats though time was asked", python("""
+if words[-1:] == ["--charge=time"]:
+    instead(*answer([*words[:-1], "--charge=seats"]))
+"""), "charged.py", "FAILED fates by time of"),
+    ("requests charged by seats where nothing is said", python("""
+if words[:1] == ["fates"] and len(words) == 4:
+    instead(*answer([*words, "--charge=seats"]))
+"""), "charged.py", "FAILED fates as usual of"),
     ("milliseconds that are taken for microseconds", shell('case "$1:$4" in fates:*ms) exec %s fates "$2" "$3" "${4%%ms}" ;; esac' % program), "compare.py", "FAILED fates with the patience '500ms'"),
     ("a patience that is judged after the config", python('''
 if words[:1] == ["fates"] and len(words) == 4 and answer(words)[2].startswith(b"apf: PATIENCE"):
@@ -217,6 +225,16 @@ if words[:1] == ["fates"] and len(words) == 4 and answer(words)[2].startswith(b"
         instead(*early)
 '''), "compare.py", "FAILED fates ["),
     *((name, text, "serve.py", row) for name, text, row in (WRONG_LEVELS if serves and os.environ.get("APF_WRONG_LEVELS") else [])),
+    ("a config's fault without what explains it", python('''
+if words[:1] == ["simulate"]:
+    status, out, err = answer(words)
+    instead(status, out, err.split(b"\\n")[0] + b"\\n" if status else err)
+'''), "messages.py", 'FAILED simulate of {"limit":1'),
+    ("an explanation behind an old line", python('''
+if replay:
+    status, out, err = answer(words)
+    instead(status, out, err + (answer(["explain", *replay])[1] if status else b""))
+'''), "messages.py", 'FAILED replay of {"limit":1, as ever'),
     ("hands that are not spread", shell('[ "$1" = deal ] && [ "$3" -gt 5 ] && { seq -s " " 0 $(($3 - 1)); exit 0; }'), "dealing_table.py", "FAILED (12, 32, 4)"),
 ]
 

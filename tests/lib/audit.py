@@ -224,7 +224,7 @@ def request_of(event, line, text, choice):
 
 
 def lines_of(content):
-    """The lines, without a last one that no LF ends and that is no JSON; and whether there is such a one."""
+    """The lines, without a last one that no LF ends, that begins as an event does and is no JSON; and whether there is such a one."""
     *lines, rest = content.split(b"\n")
     if not rest:
         return lines, False
@@ -233,7 +233,8 @@ def lines_of(content):
     try:
         value_of(rest)
     except NotJson:
-        return lines, True
+        if rest.startswith(b"{") and not rest.startswith(b"{\0"):
+            return lines, True
     return [*lines, rest], False
 
 

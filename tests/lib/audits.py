@@ -133,7 +133,7 @@ class Logs:
         line = self.line(self.event(last)).strip()
         if self.draw.random() < 0.4:
             return content + line, [*requests, last], False
-        return content + self.draw.choice([line[: self.draw.randrange(1, len(line))], b"{", b"x", b" ", b"\xe2"]), requests, True
+        return content + self.draw.choice([line[: self.draw.randrange(1, len(line))], b"{", b'{"', b'{"\xe2']), requests, True
 
     def chosen(self):
         """A log with requests that were turned away, in some namespaces, and a choice of some of them."""
@@ -241,7 +241,7 @@ NO_JSON = [
     lambda line: b"",
     lambda line: b" ",
     lambda line: b"\r",
-    lambda line: line[:-3],
+    lambda line: line.rstrip()[:-3],
     lambda line: line + b"x",
     lambda line: line + line,
     lambda line: b"\xef\xbb\xbf" + line,

@@ -6,7 +6,13 @@ from collections import OrderedDict
 FIRST_GUESS = 10_000
 MOST_RAN = 10**12
 MOST = 2**32 - 1
+MOST_TAKEN = 2**46
 SETS, WAYS, NEWEST = 512, 8, 256
+
+
+def taken(width, ran):
+    """What a request took that ran so long: its seats times that."""
+    return max(1, min(MOST_TAKEN, width * ran))
 
 
 class Mean:

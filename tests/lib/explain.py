@@ -75,13 +75,14 @@ BLANK = re.compile(f"[{BLANKS}]*")
 ENDS = BLANKS + "{}[]:,"
 TEXT = re.compile(r'"(?:[^"\\\x00-\x1f]|\\["\\/bfnrt]|\\u[0-9a-fA-F]{4})*"')
 # the front of a text, which may end within an escape
-TEXT_FRONT = re.compile(r'"(?:[^"\\\x00-\x1f]|\\["\\/bfnrt]|\\u[0-9a-fA-F]{4})*(?:\\(?:u.{0,3})?)?', re.S)
+TEXT_FRONT = re.compile(r'"(?:[^"\\\x00-\x1f]|\\["\\/bfnrt]|\\u[0-9a-fA-F]{4})*(?:\\(?:u[0-9a-fA-F]{0,3})?)?')
 NUMBER = re.compile(r"-?(?:0|[1-9][0-9]*)(?:\.[0-9]+)?(?:[eE][+-]?[0-9]+)?")
 NUMBER_FRONT = re.compile(r"-|-?(?:0|[1-9][0-9]*)\.|-?(?:0|[1-9][0-9]*)(?:\.[0-9]+)?[eE][+-]?")
 WORDS = ("true", "false", "null")
 DEEP = ": more than 127 arrays and objects stand in one another"
 LARGE = ": the number here is too large"
 EARLY = ": the text ends too early"
+YAML = ": the bytes begin as YAML does: write them as JSON"
 
 
 class Stop(Exception):
@@ -254,7 +255,22 @@ def stop_of(content):
         raise AssertionError(f"{content!r} is JSON")
     except Stop as stop:
         at, why = stop.args
-    return *place(content, len(text[:at].encode())), why or (EARLY if is_front(text) else "")
+    return *place(content, len(text[:at].encode())), why or (YAML if begins_yaml(content) else EARLY if is_front(text) else "")
+
+
+def begins_yaml(content):
+    """Whether the first line that is neither empty nor a comment begins with `---`, or with a word and a colon."""
+    first = next((it for it in content.split(b"\n") if it and not it.startswith(b"#")), b"")
+    return re.match(rb"---|[A-Za-z]+:", first) is not None
+
+
+def begins_as_trace(content):
+    """Whether the first line is a JSON object that has the time of an arrival."""
+    try:
+        value = Json(content.split(b"\n")[0]).whole()
+    except NotJson:
+        return False
+    return isinstance(value, dict) and "arrivesAt" in value
 
 
 # how bytes that are no JSON may begin, and what is said of that, whatever they are
@@ -262,40 +278,54 @@ MARKS = [
     (b"\xef\xbb\xbf", ": the bytes begin with a mark of byte order (BOM): take it away"),
     (b"\xff\xfe", ": the bytes begin as UTF-16 does: they must be UTF-8"),
     (b"\xfe\xff", ": the bytes begin as UTF-16 does: they must be UTF-8"),
+    *((begin, ": the bytes begin as UTF-16 does: they must be UTF-8") for begin in (b"[\0", b"{\0", b"\0[", b"\0{")),
     (b"\x1f\x8b", ": the bytes begin as gzip does: unpack them first"),
 ]
 # a config that begins as an array does, requests that begin as an object does, and a line that begins as an array does
 NO_CONFIG = (b"[", ": an array begins here: a config is one object")
 NO_REQUESTS = (b"{", ": an object begins here: requests are one array of them")
 NO_LINE = (b"[", ": an array begins here: write one object on each line")
+# what is said of a trace in the place of each
+TRACE_AS_CONFIG = ": the first line is a request of a trace: a config is one object"
+TRACE_AS_REQUESTS = ": the first line is a request of a trace: apf requests makes requests of it"
 
 
 def mark_of(content, marks):
     return next((said for begin, said in marks if content.startswith(begin)), "")
 
 
-def not_json(name, content, bracket):
+def not_json(name, content, bracket, trace):
     """The line of bytes that are no JSON."""
     line, column, why = stop_of(content)
-    return f"{name}:{line}:{column}: this is not JSON{mark_of(content, MARKS) or why or mark_of(content, [bracket])}"
+    strange = trace if begins_as_trace(content) else mark_of(content, [bracket])
+    return f"{name}:{line}:{column}: this is not JSON{mark_of(content, MARKS) or why or strange}"
 
 
-def line_not_json(line):
-    """What is said of a line that is no JSON."""
+def line_not_json(line, file=""):
+    """What is said of a line that is no JSON, and of its file where that is known."""
     _, column, why = stop_of(line)
-    return f"this is not JSON at column {column}{mark_of(line, [*MARKS, NO_LINE]) or why}"
+    return f"this is not JSON at column {column}{mark_of(line, [*MARKS, NO_LINE]) or file or why}"
 
 
 # ---- the files
 
 
-def unknown(value, known):
-    """The first key that is none of these, by its bytes; with what it is called."""
+# which file has such a key in the place of another one
+LIKE_CONFIG = {
+    "apiVersion": ": this is an object as kubectl prints it",
+    "kind": ": this is an object as kubectl prints it",
+    "arrivesAt": ": this is a request of a trace",
+}
+LIKE_TRACE = {key: ": this is a config" for key in ("limit", "queues", "handSize", "queueLengthLimit", "limitResponse")}
+
+
+def unknown(value, known, like=()):
+    """The first key that is none of these, by its bytes; with what it is called, and the file that has such a key."""
     keys = sorted(it.encode() for it in value if it not in known)
     if not keys:
         return None
     shown = sized(keys[0].decode(), "a key")
-    return f"{'the key ' if len(keys[0]) <= LONGEST else ''}{shown} is unknown"
+    return f"{'the key ' if len(keys[0]) <= LONGEST else ''}{shown} is unknown{dict(like).get(keys[0].decode(), '')}"
 
 
 def range_of(low, high):
@@ -306,10 +336,10 @@ def config_line(name, content):
     try:
         value = Json(content).whole()
     except NotJson:
-        return not_json(name, content, NO_CONFIG)
+        return not_json(name, content, NO_CONFIG, TRACE_AS_CONFIG)
     if not isinstance(value, dict):
         return f"{name}: a config is a JSON object, but this is {found(value)}"
-    stranger = unknown(value, [*CONFIG, RESPONSE])
+    stranger = unknown(value, [*CONFIG, RESPONSE], LIKE_CONFIG)
     if stranger:
         return f"{name}: {stranger}: a config has limit, queues, handSize, queueLengthLimit and limitResponse"
     if "limit" not in value:
@@ -362,7 +392,7 @@ def requests_line(name, content):
     try:
         value = Json(content).whole()
     except NotJson:
-        return not_json(name, content, NO_REQUESTS)
+        return not_json(name, content, NO_REQUESTS, TRACE_AS_REQUESTS)
     if not isinstance(value, list):
         return f"{name}: requests are a JSON array, but this is {found(value)}"
     if len(value) > 10_000:

@@ -32,6 +32,8 @@ class Level:
         # virtual time: where each queue's next service starts, how far the level is, and who was served last
         self.starts, self.time, self.last = [0] * queues, 0, queues - 1
         self.arrived, self.running, self.decided = set(), set(), {}
+        # of each request that was dispatched and is not settled: its queue, and what that is charged for it. Of each that is settled: what it took
+        self.charged, self.settled = {}, {}
         self.lines, self.log = [], []
 
     def width(self, request):
@@ -68,6 +70,7 @@ class Level:
             self.queues[chosen].pop(0)
             self.time = max(self.time, self.starts[chosen])
             self.starts[chosen] += self.cost(request)
+            self.charged[request] = (chosen, self.cost(request))
             self.last = chosen
             self.decided[request] = "execute"
             self.running.add(request)
@@ -113,6 +116,20 @@ class Level:
         if request in self.running:
             self.running.remove(request)
             self.dispatch()
+
+    def settle(self, request, took):
+        """What a request took is charged in place of what was, once and for all."""
+        if request in self.charged:
+            queue, amount = self.charged.pop(request)
+            self.starts[queue] += took - amount
+            self.settled[request] = took
+
+    def spend(self, request, took):
+        """What a request took so far is charged, if that is more than what was."""
+        if request in self.charged and took > self.charged[request][1]:
+            queue, amount = self.charged[request]
+            self.starts[queue] += took - amount
+            self.charged[request] = (queue, took)
 
     def cancel(self, request):
         self.decided.setdefault(request, "cancelled")

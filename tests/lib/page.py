@@ -93,7 +93,10 @@ class Told:
         """The output of a command on a level, and its error."""
         levels = [self.files(f"level-{number}.json", it if isinstance(it, str) else json.dumps(it)) for number, it in enumerate((config, other)) if it is not None]
         _, out, err = run(self.program, [command, *levels, trace, *([] if command == "hands" else [patience]), *words])
-        return out.decode().split("\n")[:-1], err.decode().strip()
+        err = err.decode().strip()
+        for path, name in zip(levels, ("config", "other")):
+            err = err.replace(f"\n{path}:", f"\n{name}:")
+        return out.decode().split("\n")[:-1], err
 
     def table_of_one(self, **level):
         """The rows that `simulate` makes."""

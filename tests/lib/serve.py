@@ -7,13 +7,15 @@ By itself it is a co-process with that protocol, for the tests of what talks to 
 """
 
 import argparse
+import errno
 import os
 import re
 import sys
 
 sys.path.insert(0, os.path.dirname(os.path.abspath(__file__)))
-from charges import MOST_RAN, Means
-from explain import flow_line, line_not_json, unknown
+from charges import MOST_RAN, Means, taken
+from explain import ABSENT, FOLDER, flow_line, line_not_json, unknown
+from explain import answer as explain
 from judge import NotJson, Refused, config_of, dealer_fault, flow_of, whole_in
 from level import Level, hash_of
 from trace import SEATS, needed, value_of
@@ -27,7 +29,7 @@ NUMBER = "(0|[1-9][0-9]*)"
 ARRIVAL = re.compile(rf"(arrive|try) {NUMBER} (\{{.*)", re.DOTALL)
 LIMIT = re.compile(f"limit {NUMBER}")
 NUMBERED = re.compile(f"(finish|cancel) {NUMBER}")
-TIMED = re.compile(f"finish {NUMBER} {NUMBER}")
+TIMED = re.compile(f"(finish|spent) {NUMBER} {NUMBER}")
 WORDS = ("close", "book", "queues", "metrics")
 
 
@@ -72,7 +74,7 @@ class Service:
         if change := LIMIT.fullmatch(text):
             return self.change(int(change[1]))
         if ended := TIMED.fullmatch(text):
-            return self.ended(int(ended[1]), int(ended[2]))
+            return {"finish": self.ended, "spent": self.spent}[ended[1]](*self.ran(int(ended[2]), int(ended[3])))
         if found := NUMBERED.fullmatch(text):
             return getattr(self, found[1])(self.known(int(found[2])))
         if text in WORDS:
@@ -128,17 +130,31 @@ class Service:
         """What the dispatch of a request is charged to which no cost was given."""
         return self.means.cost(flow_hash(asked["flow"]), asked["width"]) if self.means else asked["width"]
 
-    def ended(self, number, ran):
-        """The request of this number ends, and is said to have run so long."""
+    def ran(self, number, ran):
+        """The request of this number, and how long it is said to have run."""
         self.judged(number)
         if ran > MOST_RAN:
             raise Refused("bad time")
-        request = self.known(number)
+        return self.known(number), ran
+
+    def ended(self, request, ran):
+        """The request ends, and is said to have run so long: its queue is set right, and then it gives its seats back."""
         ran_at_all = request in self.level.running
+        if ran_at_all and self.means:
+            self.level.settle(request, taken(self.requests[request]["width"], ran))
         lines = self.finish(request)
         if ran_at_all and self.means:
             self.means.learn(flow_hash(self.requests[request]["flow"]), ran)
         return lines
+
+    def spent(self, request, ran):
+        """The request is said to have run so long so far."""
+        number = self.number[request]
+        if request not in self.level.running:
+            return [f"spent {number} not running"]
+        if self.means:
+            self.level.spend(request, taken(self.requests[request]["width"], ran))
+        return [f"spent {number}"]
 
     def change(self, limit):
         if not 1 <= limit <= 10_000:
@@ -175,7 +191,9 @@ class Service:
 
     def charged(self, request):
         """What the queue of a dispatched request is said to have been charged."""
-        return self.requests[request]["cost"] if self.means else self.level.width(request)
+        if not self.means:
+            return self.level.width(request)
+        return self.level.settled[request] if request in self.level.settled else self.level.charged[request][1]
 
     def numbers(self):
         """The samples of `metrics`: each by its name and its labels."""
@@ -259,11 +277,13 @@ def main():
     asked = ask.parse_args()
     try:
         with open(asked.config, "rb") as file:
-            service = Service(config_of(file.read()), asked.slots, asked.name, asked.charge)
-    except OSError:
-        sys.exit("apf: cannot read config")
+            content = file.read()
+        service = Service(config_of(content), asked.slots, asked.name, asked.charge)
+    except OSError as why:
+        sys.exit(f"apf: cannot read config: {asked.config}: {FOLDER if why.errno == errno.EISDIR else ABSENT}")
     except Refused as line:
-        sys.exit(f"{line}")
+        explained = explain([asked.config, "requests", "script"], [content, b"[]", b""])[1]
+        sys.exit(f"{line}\n{explained.decode().strip()}")
     try:
         print(service.first(), flush=True)
         for line in sys.stdin.buffer:

@@ -1,11 +1,13 @@
 """What the commands print of requests with times: an independent computation, slow on purpose.
 
-A run looks at each step for what is due, and makes the calls of the independent level (level.py).
+A run looks at each step for what is due, and makes the calls of the independent level (level.py). A request is given its cost as it arrives, by the
+means of what finished until then (charges.py).
 """
 
 import re
 from fractions import Fraction
 
+from charges import Means
 from judge import Refused, config_of, dealer_fault
 from level import Level, hand_of
 from jsontext import json_text
@@ -32,12 +34,26 @@ def patience_of(text):
     return int(patience) if patience <= LONGEST and patience.denominator == 1 else None
 
 
-class Run:
-    """A trace on a level of one thread, from its first call to its last. With a patience of 0 no request gives up."""
+def usual_charge(trace):
+    """What requests are charged where nobody says it: time, if no line has a cost."""
+    return "seats" if any(it["cost"] is not None for it in trace) else "time"
 
-    def __init__(self, config, trace, patience):
+
+def words_of(patience=None, charge=None):
+    """The words of a command line that say so."""
+    return [*([] if patience is None else [str(patience)]), *([] if charge is None else [f"--charge={charge}"])]
+
+
+class Run:
+    """A trace on a level of one thread, from its first call to its last. With a patience of 0 no request gives up. What requests are charged is
+    "time", "seats", or as usual."""
+
+    def __init__(self, config, trace, patience, charge=None):
         self.config, self.trace, self.patience = config, trace, patience
-        self.level = Level(config, trace)
+        self.means = Means() if (charge or usual_charge(trace)) == "time" else None
+        # what each request asks of the level: its cost is there once it arrived
+        self.asked = [{**it} for it in trace]
+        self.level = Level(config, self.asked)
         # the requests that did not arrive yet, in the order of their arrivals
         self.coming = sorted(range(len(trace)), key=lambda it: (trace[it]["arrivesAt"], it))
         # when each request took its seats, and when each wait was over: by its seats, or by giving up
@@ -54,8 +70,19 @@ class Run:
         cancels = [(self.trace[it]["arrivesAt"] + self.patience, CANCEL, it) for it in waiting]
         return finishes + cancels + [(self.trace[it]["arrivesAt"], ARRIVE, it) for it in self.coming[:1]]
 
+    def cost(self, request):
+        """The cost of a request that arrives now: that of its line, or of its flow by time, or its width."""
+        asked = self.trace[request]
+        if asked["cost"] is not None:
+            return asked["cost"]
+        return self.means.cost(asked["hash"], asked["width"]) if self.means else asked["width"]
+
     def carry_out(self, time, kind, request):
         before = set(self.level.running)
+        if kind == ARRIVE:
+            self.asked[request]["cost"] = self.cost(request)
+        if kind == FINISH and self.means:
+            self.means.learn(self.trace[request]["hash"], self.trace[request]["runsFor"])
         getattr(self.level, WORDS[kind])(request)
         self.calls.append((time, kind, request))
         for other in self.level.running - before:
@@ -220,9 +247,9 @@ def hands_of(config, trace, name):
     return lines
 
 
-def answer(command, contents, *patience):
+def answer(command, contents, patience=None, charge=None):
     """The status, output and errors of one of these commands, on files of these bytes that are judged in this order: the configs
-    of its levels, and the trace. Then the levels are opened."""
+    of its levels, and the trace. Then the levels are opened. Without a patience it makes no run."""
     try:
         *configs, content = contents
         levels = [config_of(it) for it in configs]
@@ -231,7 +258,7 @@ def answer(command, contents, *patience):
             fault = level["limitResponse"] == "Queue" and dealer_fault(level["queues"], level["handSize"])
             if fault:
                 raise Refused(fault)
-        lines = command(*(Run(level, trace, *patience) for level in levels)) if patience else command(*levels, trace)
+        lines = command(*levels, trace) if patience is None else command(*(Run(level, trace, patience, charge) for level in levels))
         return 0, "".join(f"{line}\n" for line in lines).encode(), b""
     except Refused as line:
         return 1, b"", f"{line}\n".encode()

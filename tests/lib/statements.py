@@ -13,41 +13,24 @@ import sys
 TOP = os.path.dirname(os.path.dirname(os.path.dirname(os.path.abspath(__file__))))
 CRATES = os.path.join(TOP, "crates")
 
-# the parts of the page: a heading, a sentence, and the statements, each a file and the line that its contract begins with
+# the parts of the page: a heading, a sentence, and the statements. A statement is a file, the line that its contract begins with, and the name of what
+# it concludes. Without a name all that the contract cites is told
 PARTS = [
     (
-        "The level: worlds, steps, schedules, safety",
-        "What a level is, which steps it may take, and what holds of every schedule, which is every order of such steps.",
-        [("apf_model/src/laws.rt", "pub fn every_schedule_is_safe()")],
-    ),
-    (
-        "The queues: histories, order",
-        "A history is a list of events of the queues, its newest event first. What a legal one says of each queue's order.",
-        [("apf_history/src/histories.rt", "pub fn every_legal_history_is_in_order()")],
-    ),
-    (
-        "Fairness and waits",
-        "How the next queue is chosen, and what follows for those that wait.",
+        "What is promised",
+        "`Promises` has a field for each bullet of the front page, in its order. The first law is of every level for a server's whole life, and the second of every batch. Their premises, `EndedAs` and `Ended`, are what the calls that end a level answer, by their contracts. They need not be read: the laws say what follows.",
         [
-            ("apf_history/src/histories.rt", "pub fn every_fair_history_isolates()"),
-            ("apf_history/src/histories.rt", "pub fn every_fair_history_is_balanced()"),
-            ("apf_history/src/histories.rt", "pub fn every_wait_is_bounded()"),
+            ("apf_line/src/laws.rt", "pub fn every_report_keeps_the_promises()", "KeepsPromises"),
+            ("apf_level/src/laws.rt", "pub fn every_report_keeps_the_promises()", "KeepsPromises"),
         ],
     ),
     (
-        "The gate: the words that threads step on",
-        "One trace of steps explains the words and what every token knows. This holds between any two atomic steps, and each step keeps it.",
-        [("apf_gate/src/rule.rt", "    ghost holds =")],
-    ),
-    (
-        "The level's end",
-        "What the report of a level says, when all of its tokens were handed in.",
-        [("apf_level/src/end.rt", "    pub fn end(")],
-    ),
-    (
-        "The end of a level for a server's whole life",
-        "What the report of a level tells whose slots were used again, of every request that ever held one.",
-        [("apf_life/src/end.rt", "    pub fn end(")],
+        "A level that goes on",
+        "What holds at every moment, between any two atomic steps of any number of threads. The premise, `IsRuled`, is the rule of the words, which each step keeps. It need not be read: the laws say what follows, of the words and of every schedule.",
+        [
+            ("apf_gate/src/laws.rt", "pub fn every_state_is_explained()", "IsExplained"),
+            ("apf_model/src/laws.rt", "pub fn every_schedule_is_safe()"),
+        ],
     ),
 ]
 
@@ -181,12 +164,12 @@ def statement_of(file, head):
     return at + 1, "\n".join(it[indent:] for it in text), names
 
 
-def in_reading_order(specs, definitions):
-    """The files of these definitions, each after those that it cites where that can be, and in each the order of its text."""
+def in_reading_order(specs, definitions, first):
+    """The files of these definitions: the first ones, and then each after those that it cites where that can be. In each the order of its text."""
     files = {}
     for it in definitions:
         files.setdefault(it.module, []).append(it)
-    order = []
+    order = [module for module in dict.fromkeys(first) if module in files]
 
     def visit(module, above):
         if module in order or module in above:
@@ -203,6 +186,15 @@ def in_reading_order(specs, definitions):
     return [(module, sorted(files[module], key=lambda it: it.line)) for module in order]
 
 
+def joined(texts):
+    """The definitions of a file, a blank line between two unless both are short and a comment begins the second."""
+    text = texts[0]
+    for before, it in zip(texts, texts[1:]):
+        short = max(before.count("\n"), it.count("\n")) < 5 and it.startswith("--")
+        text += ("\n" if short else "\n\n") + it
+    return text
+
+
 def type_name(path):
     """`Decision` of apf_words, from Rattle.apf_words.specs.declared.decision.Decision."""
     crate = path.split(".")[1]
@@ -213,12 +205,13 @@ def page():
     specs = Specs()
     told, types, body, files = {}, set(), [], set()
     for heading, sentence, statements in PARTS:
-        roots, shown = [], []
-        for file, head in statements:
+        roots, shown, concluded_of = [], [], []
+        for file, head, *concluded in statements:
             line, text, names = statement_of(file, head)
-            cited, those = specs.cited("", WORD.findall(text), names)
+            cited, those = specs.cited("", concluded or WORD.findall(text), names)
             types |= those
             roots += cited
+            concluded_of += cited if concluded else []
             shown.append(f"`crates/{file}`, line {line}:\n\n```rust\n{text}\n```\n")
         seen, those = specs.closure(roots)
         types |= those
@@ -227,10 +220,12 @@ def page():
         body.append(f"## {heading}\n\n{sentence}\n\nThe statement{'s' if len(shown) > 1 else ''}:\n\n" + "\n".join(shown))
         count = sum(it.lines() for it in fresh)
         body.append(f"{len(fresh)} definitions that were not told above, {count} lines:\n")
-        for module, definitions in in_reading_order(specs, fresh):
+        fence = []
+        for module, definitions in in_reading_order(specs, fresh, [it.module for it in concluded_of]):
             path = os.path.relpath(definitions[0].path, TOP)
             files.add(path)
-            body.append(f"### `{path}`\n\n```text\n" + "\n\n".join(it.text for it in definitions) + "\n```\n")
+            fence.append(f"-- in {path}:\n" + joined([it.text for it in definitions]))
+        body.append("```text\n" + "\n\n".join(fence) + "\n```\n")
     lines = sum(it.lines() for it in told.values())
     kinds = {}
     for it in sorted(types):

@@ -5,7 +5,7 @@ A trace is one JSON object a line, for a request each. `trace_of` answers the re
 
 import functools
 
-from explain import flow_line, found, line_not_json, unknown
+from explain import LIKE_TRACE, flow_line, found, line_not_json, unknown
 from judge import Json, NotJson, Refused, flow_of, whole_in
 from level import hash_of
 
@@ -34,18 +34,32 @@ def needed(value, key, wanted):
     return f"{key} is {found(value[key])}: it must be {wanted}" if key in value else f"the key {key} is missing: it must be {wanted}"
 
 
-def told(number, line, value=None):
-    """What is wrong with a line that has this fault."""
+CONFIG_AS_TRACE = ": this is a config: a trace has one object on each line"
+# of a config
+MOST = 65_536
+
+
+def is_config(content):
+    """Whether a file is no larger than a config, and a JSON object that has a limit."""
+    try:
+        value = Json(content).whole() if len(content) <= MOST else None
+    except NotJson:
+        return False
+    return isinstance(value, dict) and "limit" in value
+
+
+def told(number, line, value=None, file=""):
+    """What is wrong with a line that has this fault, and what is known of its file."""
     if number == TOO_MANY:
         return f"there are more than {LINES} lines"
     if number == TOO_LONG:
         return f"the line has {len(line)} bytes: at most {BYTES} may be there"
     if number == NOT_JSON:
-        return line_not_json(line)
+        return line_not_json(line, file)
     if number == NOT_OBJECT:
         return f"a request is a JSON object, but this is {found(value)}"
     if number == UNKNOWN_KEY:
-        return f"{unknown(value, KEYS)}: a request of a trace has {', '.join(KEYS[:-1])} and {KEYS[-1]}"
+        return f"{unknown(value, KEYS, LIKE_TRACE)}: a request of a trace has {', '.join(KEYS[:-1])} and {KEYS[-1]}"
     if number == BAD_FLOW:
         return flow_line(value)
     if number == TRUNCATED:
@@ -91,15 +105,14 @@ def value_fault(value):
 def request_of(value):
     flow = flow_of(value)
     names = None if isinstance(flow, int) else flow
-    width = value.get("width", 1)
     return {
         "arrivesAt": value["arrivesAt"],
         "runsFor": value["runsFor"],
         "flow": flow,
         "names": names,
         "hash": flow if names is None else hash_of(*names),
-        "width": width,
-        "cost": value.get("cost", width),
+        "width": value.get("width", 1),
+        "cost": value.get("cost"),
     }
 
 
@@ -113,7 +126,8 @@ def trace_of(content):
         try:
             value = value_of(line)
         except NotJson:
-            raise TraceFault(NOT_JSON, number, told(NOT_JSON, line)) from None
+            file = CONFIG_AS_TRACE if number == 1 and is_config(content) else ""
+            raise TraceFault(NOT_JSON, number, told(NOT_JSON, line, file=file)) from None
         fault = value_fault(value) or (None if is_ended else TRUNCATED)
         if fault:
             raise TraceFault(fault, number, told(fault, line, value))

@@ -64,6 +64,10 @@ class Traces:
             objects.append(each)
         return objects, self.draw.choice([0, 0, 1, 5, 10, 20, 40, 100, 100, 1000, 1_000_000_000])
 
+    def charge(self):
+        """What requests are charged, or that it is not said."""
+        return self.draw.choice([None, "time", "time", "seats"])
+
     def line(self, each):
         """The object in one of the ways in which JSON can be written: keys in any order, blanks, characters as escapes."""
         keys = [*each]
@@ -249,7 +253,7 @@ def good_ends():
     yield "the greatest numbers", (
         b'{"hash":18446744073709551615,"arrivesAt":1000000000000,"runsFor":10000000000,"width":20000,"cost":4294967295}\n'
     ), [{"hash": (1 << 64) - 1, "arrivesAt": 10**12, "runsFor": 10**10, "width": 20_000, "cost": 4_294_967_295}]
-    yield "a cost that is the width", plain[:-1] + b',"width":7}\n', [{**zero, "width": 7, "cost": 7}]
+    yield "no cost beside a width", plain[:-1] + b',"width":7}\n', [{**zero, "width": 7}]
     yield "a cost beside no width", plain[:-1] + b',"cost":7}\n', [{**zero, "width": 1, "cost": 7}]
     yield "one flow by its names", b'{"schema":"batch","distinguisher":"crawler","arrivesAt":0,"runsFor":100}\n', [
         {"schema": "batch", "distinguisher": "crawler", "arrivesAt": 0, "runsFor": 100}

@@ -449,6 +449,91 @@ WORKED = [
         ],
     ),
 ]
+# on one seat and two queues, of which the flow 0 has the first and the flow 1 the second
+TWO_FLOWS = '{"limit":1,"queues":2,"handSize":1}'
+# how long a flow's requests run is learned by the first two, one of each flow; then a third flow takes the seat, and the others wait for it
+LEARNED = (
+    '{"hash":0,"arrivesAt":0,"runsFor":100}\n{"hash":1,"arrivesAt":200,"runsFor":10}\n{"hash":2,"arrivesAt":300,"runsFor":1000}\n'
+    + '{"hash":0,"arrivesAt":301,"runsFor":5}\n' * 2
+    + '{"hash":1,"arrivesAt":301,"runsFor":1000}\n'
+    + '{"hash":1,"arrivesAt":301,"runsFor":10}\n' * 3
+)
+# a name, the config, the trace, and what each command prints of them, with its patience, by what requests are charged, as usual where that is None
+CHARGED = [
+    # At 301 a request of flow 0 costs 100, and one of flow 1 costs 10. All four of flow 1 come first: the second queue ends at 10, 20, 30 and 40. That the
+    # first of them ran for 1000 changes nothing of those that wait.
+    (
+        "a flow whose requests run long comes behind",
+        TWO_FLOWS,
+        LEARNED,
+        [
+            (
+                fates,
+                0,
+                None,
+                FATES
+                + "0 0000000000000000 0 - 0 100 execute\n1 0000000000000001 200 - 200 210 execute\n2 0000000000000002 300 - 300 1300 execute\n"
+                "3 0000000000000000 301 0 2330 2335 execute\n4 0000000000000000 301 0 2335 2340 execute\n5 0000000000000001 301 1 1300 2300 execute\n"
+                "6 0000000000000001 301 1 2300 2310 execute\n7 0000000000000001 301 1 2310 2320 execute\n8 0000000000000001 301 1 2320 2330 execute\n",
+            ),
+            (
+                simulate,
+                0,
+                "time",
+                "flow 0000000000000000 requests 3 executed 3 rejected 0 cancelled 0 seat-time 110 wait median 2029 p99 2034 longest 2034\n"
+                "flow 0000000000000001 requests 5 executed 5 rejected 0 cancelled 0 seat-time 1040 wait median 1999 p99 2019 longest 2019\n"
+                "flow 0000000000000002 requests 1 executed 1 rejected 0 cancelled 0 seat-time 1000 wait median 0 p99 0 longest 0\n"
+                "end 2340 seat-time 2150 of 2340 waited 11089 patience 0\n"
+                "level open seats 0 waiting 0\n"
+                "executed 9 rejected 0 cancelled 0 undecided 0\n"
+                "queue-full 0 closed 0 concurrency-limit 0\n"
+                "entered 6 dispatched 6 struck 0\n",
+            ),
+            # by turns
+            (
+                timeline,
+                0,
+                "seats",
+                "arrive 0\nfinish 0\narrive 1\nfinish 1\narrive 2\narrive 3\narrive 4\narrive 5\narrive 6\narrive 7\narrive 8\n"
+                "finish 2\nfinish 3\nfinish 5\nfinish 4\nfinish 6\nfinish 7\nfinish 8\n",
+            ),
+        ],
+    ),
+    # The request that gives up at 151 would run for 5000, and nobody learns that. At 200 a request of flow 0 costs 40 a seat, and one of flow 5, of which
+    # none ran, as much as the first requests of flows: 40.
+    (
+        "a flow that is not known costs what the first requests of flows did, and who gives up teaches nothing",
+        TWO_FLOWS,
+        '{"hash":0,"arrivesAt":0,"runsFor":40}\n{"hash":1,"arrivesAt":50,"runsFor":200}\n{"hash":3,"arrivesAt":51,"runsFor":5000}\n'
+        '{"hash":0,"arrivesAt":200,"runsFor":10,"width":2}\n{"hash":5,"arrivesAt":200,"runsFor":10}\n',
+        [
+            (timeline, 100, "time", "arrive 0\nfinish 0\narrive 1\narrive 2\ncancel 2\narrive 3\narrive 4\nfinish 1\nfinish 4\nfinish 3\n"),
+        ],
+    ),
+    # Nothing finished before 5, so that each costs 10,000 a seat: the wide one comes last.
+    (
+        "where nothing ran, ten milliseconds are expected",
+        TWO_FLOWS,
+        '{"hash":1,"arrivesAt":0,"runsFor":5}\n{"hash":0,"arrivesAt":1,"runsFor":1,"width":2}\n{"hash":1,"arrivesAt":1,"runsFor":1}\n'
+        '{"hash":1,"arrivesAt":2,"runsFor":1,"cost":9999}\n{"hash":0,"arrivesAt":2,"runsFor":1}\n',
+        [
+            (timeline, 0, "time", "arrive 0\narrive 1\narrive 2\narrive 3\narrive 4\nfinish 0\nfinish 2\nfinish 3\nfinish 1\nfinish 4\n"),
+        ],
+    ),
+    # By time the first of flow 0 costs its 150, and the others 100: the queues end at 150 and 250, and at 100 and 200. Where it is not said, others cost a seat.
+    (
+        "a cost that a line says goes before",
+        TWO_FLOWS,
+        '{"hash":0,"arrivesAt":0,"runsFor":100}\n{"hash":1,"arrivesAt":200,"runsFor":100}\n{"hash":0,"arrivesAt":201,"runsFor":10,"cost":150}\n'
+        + '{"hash":1,"arrivesAt":201,"runsFor":10}\n' * 2
+        + '{"hash":0,"arrivesAt":201,"runsFor":10}\n',
+        [
+            (timeline, 0, "time", "arrive 0\nfinish 0\narrive 1\narrive 2\narrive 3\narrive 4\narrive 5\nfinish 1\nfinish 3\nfinish 2\nfinish 4\nfinish 5\n"),
+            (timeline, 0, None, "arrive 0\nfinish 0\narrive 1\narrive 2\narrive 3\narrive 4\narrive 5\nfinish 1\nfinish 3\nfinish 4\nfinish 2\nfinish 5\n"),
+            (timeline, 0, "seats", "arrive 0\nfinish 0\narrive 1\narrive 2\narrive 3\narrive 4\narrive 5\nfinish 1\nfinish 3\nfinish 4\nfinish 2\nfinish 5\n"),
+        ],
+    ),
+]
 COMPARED = "flow requests median median-2 p99 p99-2 longest longest-2 rejected rejected-2 cancelled cancelled-2 schema distinguisher\n"
 SMALL = '{"limit":%d,"queues":2,"handSize":1,"queueLengthLimit":2}'
 # a name, two configs, the trace, and what `compare` prints of them, with its patience
@@ -592,20 +677,28 @@ RANKS = [
 
 
 def worked():
-    """Each example: its name, the command, the contents of its files, a list of its patience if it takes one, and what is printed."""
+    """Each example by seats: its name, the command, the contents of its files, a list of its patience and of what requests are charged if it takes them, and what is
+    printed."""
     for name, config, trace, rows in WORKED:
         for command, patience, text in rows:
             contents = [trace.encode()] if command is requests else [config.encode(), trace.encode()]
-            more = [] if patience is None else [patience]
-            yield " ".join([name, command.__name__, *map(str, more)]), command, contents, more, text
+            more = [] if patience is None else [patience, "seats"]
+            yield " ".join([name, command.__name__, *map(str, more[:1])]), command, contents, more, text
     for name, configs, trace, patience, text in SIDE_BY_SIDE:
-        yield f"{name} compare {patience}", compare, [it.encode() for it in [*configs, trace]], [patience], COMPARED + text
+        yield f"{name} compare {patience}", compare, [it.encode() for it in [*configs, trace]], [patience, "seats"], COMPARED + text
+
+
+def charged():
+    """Each example of what requests are charged, in the same form."""
+    for name, config, trace, rows in CHARGED:
+        for command, patience, charge, text in rows:
+            yield f"{name}: {command.__name__} by {charge}", command, [config.encode(), trace.encode()], [patience, charge], text
 
 
 def self_test(check):
     """The computation against each example."""
-    for name, command, contents, patience, text in worked():
-        check(f"the model: {name}", answer(command, contents, *patience), (0, text.encode(), b""))
+    for name, command, contents, how, text in [*worked(), *charged()]:
+        check(f"the model: {name}", answer(command, contents, *how), (0, text.encode(), b""))
     for text, patience in PATIENCES:
         check(f"the patience {text!r}", patience_of(text), patience)
     for waits, median, high in RANKS:

@@ -52,7 +52,7 @@ fn read_bounded<R: Read + Drop>(alloc: Global, from: R, most: u32) -> Result<Vec
     let mut bounded = from.take(u64::from(most) + 1);
     bounded.read_to_end(&mut bytes).map_err(fault_of)?;
     if bytes.len() > most as usize {
-        return Err(FileFault::TooLarge);
+        return Err(FileFault::TooLarge(bytes));
     }
     Ok(bytes)
 }

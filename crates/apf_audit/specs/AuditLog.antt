@@ -1,5 +1,6 @@
 -- What an audit log says.
-use Rattle.std.specs.Prelude.{◌≡◌, ℕ, ◌+◌, List, [], ◌∷◌, length, Bool, true, false, nat_le, if◌then◌else◌, Option, Some, None, is_none, Result, Ok, Err}
+use Rattle.std.specs.Prelude.{◌≡◌, ℕ, ◌+◌, List, [], ◌∷◌, length, Bool, true, false, nat_eq, nat_le, not, ◌&&◌, if◌then◌else◌, Option, Some, None, is_none, Result, Ok, Err}
+use Rattle.std.specs.List.{starts_with}
 use Rattle.std.specs.List.Sorted.{IsPermutation}
 use Rattle.serde_json.specs.Data.{Data}
 use Rattle.apf_words.specs.Limits.{max_requests}
@@ -16,21 +17,29 @@ use Rattle.apf_audit.specs.declared.fault.AuditFault.TheVariants.{TooLong, NotUt
 abbrev pub max_line : ℕ
 max_line = 8388608
 
--- what is taken of the line of this number, none where its event is not taken, or its first fault
-abbrev pub judged_by : Choice → ℕ → Bool → Option Data → Result (Option Event) AuditFault
-judged_by choice number is_ended (Some d) = event_of choice number d
-judged_by choice number true None = Err (NotUtf8Json number)
-judged_by choice number false None = Ok None
+-- the bytes begin as an object in UTF-8 does: with `{`, which is 123, and no zero behind it, as UTF-16 has there
+abbrev pub is_begun : List ℕ → Bool
+is_begun bytes = starts_with nat_eq bytes (123 ∷ []) && not (starts_with nat_eq bytes (123 ∷ 0 ∷ []))
 
--- of a line that no LF ends, and that is no JSON text, nothing is taken: it is still written
+-- the line may be one that is still written: no LF ends it, and it begins as an event does
+abbrev pub is_unfinished : Line → Bool
+is_unfinished line = not line.is_ended && is_begun line.bytes
+
+-- what is taken of the line of this number, none where its event is not taken, or its first fault
+abbrev pub judged_by : Choice → ℕ → (is_unfinished : Bool) → Option Data → Result (Option Event) AuditFault
+judged_by choice number is_unfinished (Some d) = event_of choice number d
+judged_by choice number false None = Err (NotUtf8Json number)
+judged_by choice number true None = Ok None
+
+-- of a line that may still be written, and that is no JSON text, nothing is taken
 unfoldable pub judged_line : Choice → ℕ → Line → Result (Option Event) AuditFault
 judged_line choice number line =
-    if nat_le (length line.bytes) max_line then judged_by choice number line.is_ended (value_of line.bytes) else Err (TooLong number)
+    if nat_le (length line.bytes) max_line then judged_by choice number (is_unfinished line) (value_of line.bytes) else Err (TooLong number)
 
--- the first of the lines that no LF ends is no JSON text
+-- the first of the lines that no LF ends begins as an event does, and is no JSON text
 abbrev pub is_cut_from : List Line → Bool
 is_cut_from [] = false
-is_cut_from (line ∷ lines) = if line.is_ended then is_cut_from lines else is_none (value_of line.bytes)
+is_cut_from (line ∷ lines) = if line.is_ended then is_cut_from lines else is_begun line.bytes && is_none (value_of line.bytes)
 
 -- the last line is left out
 unfoldable pub is_cut : List ℕ → Bool

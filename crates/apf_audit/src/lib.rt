@@ -34,7 +34,7 @@ pub use event::MAX_NAME;
 pub use fault::AuditFault;
 pub use instants::write_instant;
 pub use laws::every_trace_fits;
-pub use line::{MAX_LINE, ends_early};
+pub use line::{MAX_LINE, ends_early, is_begun};
 pub use log::read_audit_log;
 pub use request::{AuditRequest, count_turned_away};
 pub use times::read_instant;

@@ -2,7 +2,7 @@
 
 ghost use Rattle.std.specs.Prelude.{◌≡◌, ◌≢◌, IfOk, IfErr, Ok, Err, option_map};
 ghost use Rattle.apf_audit.specs.AuditEvent.{event, IsInRangeIfTaken};
-ghost use Rattle.apf_audit.specs.AuditLog.{judged_line, is_cut};
+ghost use Rattle.apf_audit.specs.AuditLog.{judged_line, is_begun as is_begun_of, is_cut};
 
 use crate::choice::Choice;
 use crate::event::{Taken, event_of_value};
@@ -14,9 +14,18 @@ use std::alloc::{AllocError, Global};
 /// The most bytes of a line, without its LF. It bounds what the value of a line takes of memory.
 pub const MAX_LINE: usize = 8_388_608;
 
+/// Whether the bytes begin as an object in UTF-8 does: with `{`, and no zero byte behind it. A last line of a log that no
+/// LF ends, and that is no JSON text, may be one that is still written only if it begins so.
+pub fn is_begun(bytes: &[u8]) -> bool
+    ensures { result ≡ is_begun_of bytes.now }
+{
+    bytes.starts_with(b"{") && !bytes.starts_with(b"{\0")
+}
+
 /// What is taken of line `line`, whose bytes come without their LF, or none where its event is not taken or not chosen.
 ///
-/// `is_ended` says whether an LF ends the line. Where none does, and the line is no JSON text, nothing is taken of it.
+/// `is_ended` says whether an LF ends the line. Where none does, and the line is no JSON text, but begins as an event
+/// does, nothing is taken of it.
 #[tactic(auto, unfolding(crate::specs::AuditLog::judged_line))]
 pub(crate) fn taken_of_line(
     alloc: Global,
@@ -35,13 +44,14 @@ pub(crate) fn taken_of_line(
     }
     match value_of(alloc, bytes) {
         Ok(Some(value)) => event_of_value(alloc, choice, &value, line),
-        Ok(None) if is_ended => Err(AuditFault::NotUtf8Json(line)),
-        Ok(None) => Ok(None),
+        Ok(None) if !is_ended && is_begun(bytes) => Ok(None),
+        Ok(None) => Err(AuditFault::NotUtf8Json(line)),
         Err(AllocError) => Err(AuditFault::NoMemory),
     }
 }
 
-/// Whether the last line of a log is left out, as one that is still written: no LF ends it, and it is no JSON text.
+/// Whether the last line of a log is left out, as one that is still written: no LF ends it, it begins as an event does,
+/// and it is no JSON text.
 ///
 /// # Errors
 ///
@@ -54,7 +64,7 @@ pub fn ends_early(alloc: Global, bytes: &[u8]) -> Result<bool, AllocError>
     while !rest.is_empty() {
         let first = first_line(rest);
         if !first.is_ended {
-            return Ok(value_of(alloc, first.line)?.is_none());
+            return Ok(is_begun(first.line) && value_of(alloc, first.line)?.is_none());
         }
         rest = first.rest;
     }

@@ -64,8 +64,8 @@ fn put_in_order(requests: &mut Vec<AuditRequest>)
 }
 
 /// Reads an audit log of `audit.k8s.io/v1`: one event a line, as JSON, each line ended by LF. Of a last line that no LF
-/// ends, and that is no JSON text, nothing is taken, as it is still written: see `ends_early`. A line has at most
-/// 8,388,608 bytes.
+/// ends, that begins as an event does and is no JSON text, nothing is taken, as it is still written: see `ends_early`. A
+/// line has at most 8,388,608 bytes.
 ///
 /// An event is an object with the texts `stage` and `verb`. It is taken where `stage` is `ResponseComplete`, `verb`
 /// is not `watch`, and `objectRef.subresource` is none of `exec`, `attach`, `portforward`, `proxy` and `log`. Of an

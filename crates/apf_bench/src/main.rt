@@ -173,7 +173,7 @@ fn admit<R: Threads + Clock + Wait + Sync>(
 }
 
 // Measures requests in line. Says whether each waited, and executed.
-fn line_up<R: Threads + Clock + Wait + Sync>(
+fn enqueue_all<R: Threads + Clock + Wait + Sync>(
     rt: &HostRuntime,
     runner: &R,
     rounds: Rounds,
@@ -189,7 +189,7 @@ fn line_up<R: Threads + Clock + Wait + Sync>(
 }
 
 // Measures requests in line on a level for life. Says whether each waited, and executed.
-fn line_up_for_life<R: Clock + Wait>(
+fn enqueue_all_for_life<R: Clock + Wait>(
     rt: &HostRuntime,
     runner: &R,
     rounds: Rounds,
@@ -234,8 +234,8 @@ fn bench<R: Threads + Clock + Wait + Sync>(rt: &HostRuntime, runner: &R) -> io::
     };
     let agree = choose(rt, rounds)?
         && admit(rt, runner, rounds)?
-        && line_up(rt, runner, rounds)?
-        && line_up_for_life(rt, runner, rounds)?
+        && enqueue_all(rt, runner, rounds)?
+        && enqueue_all_for_life(rt, runner, rounds)?
         && serve_alone(rt, runner, rounds)?;
     if agree && !rounds.are_told {
         println!(rt; "the answers agree")?;

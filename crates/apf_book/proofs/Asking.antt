@@ -10,7 +10,7 @@ use Rattle.apf_history.specs.declared.events.Status.TheVariants as status_is
 use Rattle.apf_history.specs.Standing.{EachNames}
 use Rattle.apf_model.specs.World.{put, width}
 use Rattle.apf_model.specs.History.{request_of, has_arrived, waiting, IsLegal, NamesRequests}
-use Rattle.apf_model.specs.Fair.{numbers, after_enter, after_dispatch}
+use Rattle.apf_model.specs.Charged.{events, IsSettled}
 use Rattle.apf_model.specs.Order.{status}
 use Rattle.apf_queue.specs.View.{queue_in}
 use Rattle.apf_book.specs.Histories.{Laws, Stands}
@@ -49,14 +49,6 @@ module _ (laws : Laws) (hands : ℕ → List ℕ) (limit r : ℕ) where
   names_others (Strike j q ∷ h) legal new =
       ((λ same. waits_nowhere h legal.1 new q (subst (λ (i : ℕ). Contains (waiting h q) i) same legal.0)), names_others h legal.1 new)
 
--- the numbers of virtual time go by the costs of those that the history names
-same_numbers : (queues : ℕ) (costs costs' : List ℕ) (h : List Event) → EachNames (λ r. width costs' r ≡ width costs r) h → numbers queues costs' h ≡ numbers queues costs h
-same_numbers queues costs costs' [] k = refl
-same_numbers queues costs costs' (Enter r q ∷ h) k = ap (after_enter q (waiting h q)) (same_numbers queues costs costs' h k.1)
-same_numbers queues costs costs' (Full r q ∷ h) k = same_numbers queues costs costs' h k.1
-same_numbers queues costs costs' (Dispatch r q ∷ h) k = λ i. after_dispatch q (k.0 i) (same_numbers queues costs costs' h k.1 i)
-same_numbers queues costs costs' (Strike r q ∷ h) k = same_numbers queues costs costs' h k.1
-
 pub Contains-holding : (holders slots : List ℕ) (slot : ℕ) → Contains slots slot → Contains (holding holders slots) (slice_index holders slot)
 Contains-holding holders slots slot c = (
   c.0,
@@ -89,14 +81,24 @@ module _ (laws : Laws) (stands : Stands) (v : LifeView) (s : LifeState) (is : Is
     | inr ne ↦ let same = cost_else j ne in let n = is.low j in omega arith
   ]
 
+  costs_of_log : EachNames (λ j. width (set v.costs r cost) j ≡ width v.costs j) (events v.log)
+  costs_of_log = subst (λ (h : List Event). EachNames (λ j. width (set v.costs r cost) j ≡ width v.costs j) h) (sym is.events_are) same_costs
+
+  still : IsSettled v.queues (set v.costs r cost) (put v.hands r hand) v.limit v.log
+  still = stands.stands v.queues v.costs (set v.costs r cost) v.hands (put v.hands r hand) v.limit v.log
+      (subst (λ (h : List Event). EachNames (λ j. put v.hands r hand j ≡ v.hands j) h) (sym is.events_are) same_hands) costs_of_log
+      (subst (λ (h : List Event). IsLegal v.hands v.limit h) (sym is.events_are) is.fair.0, is.fair.1)
+
   -- so the queues are those of the same history with what it asks for
   pub is_asked : IsLifeOf (asked v r hand cost) s
   is_asked = record {
     queue_is = is.queue_is;
     in_slots = is.in_slots;
     in_place = is.in_place;
-    fair = stands v.queues v.costs (set v.costs r cost) v.hands (put v.hands r hand) v.limit v.history same_hands same_costs is.fair;
-    numbers_are = is.numbers_are ∙ sym (same_numbers v.queues v.costs (set v.costs r cost) v.history same_costs);
+    fair = (subst (λ (h : List Event). IsLegal (put v.hands r hand) v.limit h) is.events_are still.0, still.1);
+    events_are = is.events_are;
+    within = is.within;
+    numbers_are = is.numbers_are ∙ sym (stands.numbers v.queues v.costs (set v.costs r cost) v.log costs_of_log);
     charged = λ q slot c. is.charged q slot c ∙ sym (cost_else (slice_index s.holders slot) (holder_other q slot c));
     deck = is.deck;
     limit = is.limit;
@@ -105,4 +107,7 @@ module _ (laws : Laws) (stands : Stands) (v : LifeView) (s : LifeState) (is : Is
     names_requests = subst (λ (n : ℕ). NamesRequests n v.history) (sym (length-set v.costs r cost)) is.names_requests;
     low = low_asked;
     few = (let n = length-set v.costs r cost in let k = is.few in omega arith);
+    holders_are = is.holders_are;
+    running = λ j l holds. is.running j l holds ∙ sym (stands.charges v.costs (set v.costs r cost) v.log costs_of_log j);
+    unsettled = is.unsettled;
   }

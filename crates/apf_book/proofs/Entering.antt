@@ -1,21 +1,28 @@
 -- What the arrival of a request leaves of the queues of slots.
-use Rattle.std.proofs.Common.{◌≡◌, ◌≢◌, ℕ, ◌<◌, ◌≤◌, inl, inr, List, [], ◌∷◌, ◌++◌, length, get_or, set, length-set, get_or-set_same, get_or-set_other, refl, sym, ap, ap₂, ◌∙◌, subst, arith}
+use Rattle.std.proofs.Common.{◌≡◌, ◌≢◌, ℕ, ◌<◌, ◌≤◌, inl, inr, Bool, cond, List, [], ◌∷◌, ◌++◌, length, get_or, set, length-set, get_or-set_same, get_or-set_other, None, refl, sym, ap, ap₂, ◌∙◌, subst, arith}
 use Rattle.std.specs.Prelude.{Contains, slice_index}
-use Rattle.std.proofs.lemmas.Bool.{cases_eq}
+use Rattle.std.proofs.lemmas.Bool.{cases_eq, eq-eqb, ne_eqb}
 use Rattle.std.proofs.lemmas.List.{map_push, length-map}
 use Rattle.std.proofs.lemmas.List.Elements.{Contains-push_cases}
 use Rattle.apf_gate.specs.Slots.{slot_of}
 use Rattle.apf_words.specs.Limits.{max_cost}
+use Rattle.apf_history.specs.declared.events.Event.{Event}
 use Rattle.apf_history.specs.declared.events.Event.TheVariants.{Enter}
+use Rattle.apf_history.specs.declared.events.LogEntry.{LogEntry}
+use Rattle.apf_history.specs.declared.events.LogEntry.TheVariants.{Happens}
+use Rattle.apf_history.specs.Standing.{EachNames}
 use Rattle.apf_model.specs.World.{put, width}
-use Rattle.apf_model.specs.History.{waiting, IsShortest, MayFollow}
-use Rattle.apf_model.specs.Fair.{Numbers, numbers, after_enter}
-use Rattle.apf_queue.specs.View.{QueuesView, queue_in, StandsNowhere, Enters}
+use Rattle.apf_model.specs.History.{waiting, IsShortest, MayFollow, IsLegal}
+use Rattle.apf_model.specs.Fair.{Numbers, after_enter}
+use Rattle.apf_model.specs.Charged.{charged_numbers, charge_of}
+use Rattle.apf_queue.specs.View.{QueuesView, queue_in, numbers_in, StandsNowhere, Enters}
 use Rattle.apf_book.specs.Histories.{Laws, Stands}
-use Rattle.apf_book.specs.Life.{LifeView, LifeState, IsLifeOf, holding, Comes, asked, then_came}
+use Rattle.apf_book.specs.Life.{LifeView, LifeState, IsLifeOf, holding, holder_by, Comes, asked, then_came}
 use Rattle.apf_book.proofs.Lists.{Contains-head, Contains-tail}
 use Rattle.apf_book.proofs.Puts.{put_here, put_else}
-use Rattle.apf_book.proofs.Asking.{is_asked}
+use Rattle.apf_book.proofs.Asking.{is_asked, names_others}
+use Rattle.apf_book.proofs.LifeCharges.{still_unsettled, kept_then}
+use Rattle.apf_book.proofs.Times.{life_enter_within}
 
 -- a slot that does not stand there gets another holder
 holding_else : (holders : List ℕ) (slot r : ℕ) (slots : List ℕ) → (Contains slots slot → ⊥) → holding (set holders slot r) slots ≡ holding holders slots
@@ -106,15 +113,29 @@ module _ (laws : Laws) (stands : Stands) (v : LifeView) (s : LifeState) (is : Is
         ∙ known.charged p slot (stood p slot ne c) ∙ sym (ap (width (set v.costs r cost)) (holder_else slot ne))
   ]
 
-  pub life_enters : IsLifeOf (then_came (asked v r hand cost) (Enter r q)) (record { queues = t; holders = set s.holders (slot_of r) r; hand = s.hand })
+  holders_after : (slot : ℕ) → slot < length (set s.holders (slot_of r) r) → slice_index (set s.holders (slot_of r) r) slot ≡ holder_by (Enter r q ∷ v.history) slot
+  holders_after slot l = elim (cases_eq slot (slot_of r)) [
+    | inl e ↦ ap (slice_index (set s.holders (slot_of r) r)) e ∙ holder_here ∙ sym (ap (λ (b : Bool). cond b r (holder_by v.history slot)) (eq-eqb (slot_of r) slot (sym e)))
+    | inr ne ↦ holder_else slot ne ∙ is.holders_are slot (let n = length-set s.holders (slot_of r) r in omega arith) ∙ sym (ap (λ (b : Bool). cond b r (holder_by v.history slot)) (ne_eqb (slot_of r) slot (λ e. ne (sym e))))
+  ]
+
+  -- nothing was charged for it before
+  uncharged : charge_of (set v.costs r cost) v.log r ≡ None
+  uncharged = stands.unnamed v.queues (set v.costs r cost) (put v.hands r hand) v.limit v.log r
+      (subst (λ (h : List Event). IsLegal (put v.hands r hand) v.limit h) (sym known.events_are) known.fair.0, known.fair.1)
+      (subst (λ (h : List Event). EachNames (λ j. j ≢ r) h) (sym is.events_are) (names_others laws v.hands v.limit r v.history is.fair.0 comes.is_new))
+
+  pub life_enters : IsLifeOf (then_came (asked v r hand cost) (Enter r q)) (record { queues = t; holders = set s.holders (slot_of r) r; hand = s.hand; running = set s.running (slot_of r) None })
   life_enters = record {
     queue_is = queues_after;
     in_slots = in_slots_after;
     in_place = in_place_after;
-    fair = ((may, known.fair.0), known.fair.1);
+    fair = ((may, known.fair.0), (tt, known.fair.1));
+    events_are = ap (λ (h : List Event). Enter r q ∷ h) known.events_are;
+    within = life_enter_within v.history r q (queue_in s.queues q) (numbers_in s.queues) (numbers_in t) known.within enters.numbers;
     numbers_are = enters.numbers ∙ (ap (λ (n : Numbers). after_enter q (queue_in s.queues q) n) known.numbers_are
-        ∙ (enter_same q s.holders (queue_in s.queues q) (numbers v.queues (set v.costs r cost) v.history)
-        ∙ ap (λ (xs : List ℕ). after_enter q xs (numbers v.queues (set v.costs r cost) v.history)) (is.queue_is q)));
+        ∙ (enter_same q s.holders (queue_in s.queues q) (charged_numbers v.queues (set v.costs r cost) v.log)
+        ∙ ap (λ (xs : List ℕ). after_enter q xs (charged_numbers v.queues (set v.costs r cost) v.log)) (is.queue_is q ∙ ap (λ (h : List Event). waiting h q) (sym is.events_are))));
     charged = charged_after;
     deck = ap (λ (x : List (List ℕ)). length x) enters.queues ∙ (length-set s.queues.queues q (queue_in s.queues q ++ slot_of r ∷ []) ∙ is.deck);
     limit = enters.length_limit ∙ is.limit;
@@ -123,4 +144,8 @@ module _ (laws : Laws) (stands : Stands) (v : LifeView) (s : LifeState) (is : Is
     names_requests = ((let n = length-set v.costs r cost in let l = comes.is_request in omega arith), known.names_requests);
     low = known.low;
     few = known.few;
+    holders_are = holders_after;
+    running = kept_then s.running (set s.holders (slot_of r) r) (slot_of r) r None (charge_of (set v.costs r cost) v.log) (charge_of (set v.costs r cost) v.log) holder_here uncharged (λ j ne. refl) refl
+        (λ j l holds other. known.running j l (sym (holder_else (slot_of j) other) ∙ holds));
+    unsettled = λ none. ap (λ (l : List LogEntry). Happens (Enter r q) ∷ l) (known.unsettled (still_unsettled s.running (set s.running (slot_of r) None) (length-set s.running (slot_of r) None) none));
   }

@@ -16,6 +16,7 @@ pub mod Nexts
 pub mod Running
 pub mod Noting
 pub mod Times
+pub mod LifeCharges
 pub mod Asking
 pub mod Entering
 pub mod LifeNexts
@@ -25,6 +26,7 @@ pub mod Fewer
 pub mod LifeAsks
 pub mod LifeKeeping
 pub mod LifeTurning
+pub mod LifeSettling
 pub mod LifeArriving
 pub mod Trying
 pub mod LifeBeginning

@@ -14,7 +14,7 @@ use Rattle.apf_book.specs.BookView.{logged}
 use Rattle.apf_book.specs.Said.{sayings}
 use Rattle.apf_book.specs.Agreeing.{IsDeskOf}
 use Rattle.apf_book.specs.Life.{LifeView, LifeState, IsLifeOf, AreAsked, sizes_in, IsOpening}
-use Rattle.apf_book.specs.Notes.{NotesView, AreNotesOf}
+use Rattle.apf_book.specs.RecentEvents.{RecentEventsView, AreRecentEventsOf}
 use Rattle.apf_book.specs.LifeBook.{IsLifeKept}
 
 -- a Desk that made no step is in agreement with an empty history
@@ -26,12 +26,12 @@ agreed_new_desk desk fresh = record {
   struck = λ r struck. cc;
 }
 
-pub life_begins : (v : LifeView) (desk : DeskToken) (queues : LifeState) (notes : NotesView) (many limit : ℕ) → desk.desk ≡ new_desk desk.desk.knows.shape → length queues.holders ≡ desk.desk.knows.shape.slots
-    → IsOpening v many limit → length v.costs ≡ length desk.desk.knows.shape.widths → IsLifeOf v queues → AreNotesOf [] notes → IsLifeKept v (record { desk = desk; queues = queues; notes = notes })
+pub life_begins : (v : LifeView) (desk : DeskToken) (queues : LifeState) (notes : RecentEventsView) (many limit : ℕ) → desk.desk ≡ new_desk desk.desk.knows.shape → length queues.holders ≡ desk.desk.knows.shape.slots
+    → IsOpening v many limit → length v.costs ≡ length desk.desk.knows.shape.widths → IsLifeOf v queues → AreRecentEventsOf [] notes → IsLifeKept v (record { desk = desk; queues = queues; notes = notes })
 life_begins v desk queues notes many limit fresh slots o costs of nothing = record {
   of_life = of;
   agrees = subst (λ (h : List Event). IsDeskOf h desk.desk) (sym o.nothing) (agreed_new_desk desk.desk fresh);
-  notes = subst (λ (h : List Event). AreNotesOf h notes) (sym o.nothing) nothing;
+  notes = subst (λ (h : List Event). AreRecentEventsOf h notes) (sym o.nothing) nothing;
   one_cost_each = costs;
   one_holder_each = slots;
   no_queues = λ rejects. o.nothing;
@@ -40,7 +40,7 @@ life_begins v desk queues notes many limit fresh slots o costs of nothing = reco
 
 -- a history in which nothing happened yet, of a gate of this shape
 abbrev pub beginning : Shape → ℕ → ℕ → LifeView
-beginning shape many limit = record { history = []; costs = shape.widths; hands = λ r. []; queues = many; limit = limit }
+beginning shape many limit = record { history = []; log = []; costs = shape.widths; hands = λ r. []; queues = many; limit = limit }
 
 low : (widths : List ℕ) → AreWidths widths → (r : ℕ) → width widths r ≤ 20000
 low widths are r = elim (cases_lt r (length widths)) [
@@ -51,6 +51,7 @@ low widths are r = elim (cases_lt r (length widths)) [
 pub is_beginning : (shape : Shape) (many limit : ℕ) → IsShape shape → IsOpening (beginning shape many limit) many limit
 is_beginning shape many limit is = record {
   nothing = refl;
+  no_log = refl;
   queues_are = refl;
   limit_is = refl;
   low = λ r. (let l = low shape.widths is.widths r in omega arith);

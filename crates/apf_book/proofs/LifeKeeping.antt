@@ -18,7 +18,7 @@ use Rattle.apf_gate.specs.Tokens.{DeskToken}
 use Rattle.apf_queue.specs.View.{queue_in, StandsNowhere}
 use Rattle.apf_book.specs.Histories.{Laws}
 use Rattle.apf_book.specs.Life.{LifeView, IsLifeOf, SameSlots, AreAsked, sizes_in}
-use Rattle.apf_book.specs.Notes.{AreNotesOf}
+use Rattle.apf_book.specs.RecentEvents.{AreRecentEventsOf}
 use Rattle.apf_book.specs.BookView.{logged}
 use Rattle.apf_book.specs.Agreeing.{IsDeskOf}
 use Rattle.apf_book.specs.Moves.{Moves}
@@ -35,7 +35,7 @@ alone_opened shape desk r alone = alone
 
 module _ (v v' : LifeView) (b b' : LifeBookView) (kept : IsLifeKept v b) (more : KnowsMore b.desk.desk.knows b'.desk.desk.knows) where
   -- what a book keeps beside its history
-  pub life_rekept : (b.desk.desk.knows.shape.response ≡ Reject → v'.history ≡ []) → length v'.costs ≡ length v.costs → SameSlots b.queues b'.queues → IsLifeOf v' b'.queues → IsDeskOf v'.history b'.desk.desk → AreNotesOf v'.history b'.notes → AreAsked (sizes_in v' b'.queues) b'.desk.desk.knows.trace v'.costs v'.hands v'.history → IsLifeKept v' b'
+  pub life_rekept : (b.desk.desk.knows.shape.response ≡ Reject → v'.history ≡ []) → length v'.costs ≡ length v.costs → SameSlots b.queues b'.queues → IsLifeOf v' b'.queues → IsDeskOf v'.history b'.desk.desk → AreRecentEventsOf v'.history b'.notes → AreAsked (sizes_in v' b'.queues) b'.desk.desk.knows.trace v'.costs v'.hands v'.history → IsLifeKept v' b'
   life_rekept logs costs holders of agrees notes asks = record {
     of_life = of;
     agrees = agrees;
@@ -53,13 +53,13 @@ life_quiet v b desk' kept same more says =
     life_rekept v v b (record b { desk = desk' }) kept more kept.no_queues refl (refl, refl) kept.of_life (agreed_quiet b.desk.desk desk'.desk v.history kept.agrees same more says) kept.notes (asks_then v b.queues b.queues b.desk.desk.knows desk'.desk.knows refl more kept.asks)
 
 -- the history has an event more, which the Desk's steps made
-pub life_came : (v v' : LifeView) (b b' : LifeBookView) (e : Event) → IsLifeKept v b → (b.desk.desk.knows.shape.response ≡ Reject → ⊥) → v'.history ≡ e ∷ v.history → length v'.costs ≡ length v.costs → SameSlots b.queues b'.queues → IsLifeOf v' b'.queues → AreNotesOf (e ∷ v.history) b'.notes
+pub life_came : (v v' : LifeView) (b b' : LifeBookView) (e : Event) → IsLifeKept v b → (b.desk.desk.knows.shape.response ≡ Reject → ⊥) → v'.history ≡ e ∷ v.history → length v'.costs ≡ length v.costs → SameSlots b.queues b'.queues → IsLifeOf v' b'.queues → AreRecentEventsOf (e ∷ v.history) b'.notes
     → Moves b.desk.desk (request_of e) (Some (makes e)) b'.desk.desk → Says (saying e ∷ []) b.desk.desk.knows b'.desk.desk.knows → b'.desk.desk.held ≡ None
     → (makes e ≡ status_is.Struck → told_of b'.desk.desk.knows.told (request_of e) ≡ Some Cancelled) → AreAsked (sizes_in v' b'.queues) b'.desk.desk.knows.trace v'.costs v'.hands v'.history → IsLifeKept v' b'
 life_came v v' b b' e kept queues history costs holders of notes moves says held told asks =
     life_rekept v v' b b' kept moves.more (λ rejects. absurd (queues rejects)) costs holders of
     (subst (λ (h : List Event). IsDeskOf h b'.desk.desk) (sym history) (agreed_after b.desk.desk b'.desk.desk v.history e kept.agrees moves says held told))
-    (subst (λ (h : List Event). AreNotesOf h b'.notes) (sym history) notes) asks
+    (subst (λ (h : List Event). AreRecentEventsOf h b'.notes) (sym history) notes) asks
 
 module _ (laws : Laws) (v : LifeView) (b : LifeBookView) (kept : IsLifeKept v b) where
   pub life_statuses : AreStatuses v.history

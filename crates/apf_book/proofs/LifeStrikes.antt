@@ -4,16 +4,20 @@ use Rattle.std.specs.Prelude.{Contains, slice_index, IfSome, IfNone, ◌↔◌}
 use Rattle.std.proofs.lemmas.Bool.{cases_eq, cases_lt, eq-eqb, ne_eqb}
 use Rattle.std.proofs.lemmas.List.{get_or_past, set-get_or}
 use Rattle.apf_gate.specs.Slots.{slot_of}
+use Rattle.apf_history.specs.declared.events.Event.{Event}
+use Rattle.apf_history.specs.declared.events.LogEntry.{LogEntry}
+use Rattle.apf_history.specs.declared.events.LogEntry.TheVariants.{Happens}
 use Rattle.apf_history.specs.declared.events.Event.TheVariants.{Strike}
 use Rattle.apf_model.specs.World.{put, width}
 use Rattle.apf_model.specs.History.{waiting}
 use Rattle.apf_queue.specs.RingsView.{without}
-use Rattle.apf_queue.specs.View.{QueuesView, queue_in, struck}
+use Rattle.apf_queue.specs.View.{QueuesView, queue_in, numbers_in, struck}
 use Rattle.apf_book.specs.Histories.{Laws}
 use Rattle.apf_book.specs.Life.{LifeView, LifeState, IsLifeOf, holding, asked, then_came}
 use Rattle.apf_book.proofs.Lists.{Contains-head, Contains-tail, Contains-none, Contains-filter}
 use Rattle.apf_book.proofs.Puts.{put_here, put_else}
 use Rattle.apf_book.proofs.Asking.{Contains-holding}
+use Rattle.apf_book.proofs.Times.{life_else_within}
 
 -- a request that holds one of these slots
 slot_held : (holders slots : List ℕ) (r : ℕ) → Contains (holding holders slots) r → (slot : ℕ) × Contains slots slot × (slice_index holders slot ≡ r)
@@ -101,12 +105,14 @@ module _ (v : LifeView) (s : LifeState) (is : IsLifeOf v s) (r : ℕ) where
       | inr ne ↦ subst (λ (xs : List ℕ). Contains xs slot) (else p ne) k
     ]
 
-    pub life_strikes : IsLifeOf (then_came v (Strike r q)) (record { queues = struck s.queues q (slot_of r); holders = s.holders; hand = s.hand })
+    pub life_strikes : IsLifeOf (then_came v (Strike r q)) (record { queues = struck s.queues q (slot_of r); holders = s.holders; hand = s.hand; running = s.running })
     life_strikes = record {
       queue_is = queues_after;
       in_slots = λ p slot k. is.in_slots p slot (stood p slot k);
       in_place = λ p slot k. is.in_place p slot (stood p slot k);
-      fair = ((waits, is.fair.0), is.fair.1);
+      fair = ((waits, is.fair.0), (tt, is.fair.1));
+      events_are = ap (λ (h : List Event). Strike r q ∷ h) is.events_are;
+      within = life_else_within v.history (Strike r q) (numbers_in s.queues) is.within;
       numbers_are = is.numbers_are;
       charged = λ p slot k. is.charged p slot (stood p slot k);
       deck = length-set s.queues.queues q (without (slot_of r) (queue_in s.queues q)) ∙ is.deck;
@@ -116,6 +122,9 @@ module _ (v : LifeView) (s : LifeState) (is : IsLifeOf v s) (r : ℕ) where
       names_requests = ((laws.numbers v.hands v.limit v.history is.fair.0).waits_named (length v.costs) is.names_requests q r waits, is.names_requests);
       low = is.low;
       few = is.few;
+      holders_are = is.holders_are;
+      running = is.running;
+      unsettled = λ none. ap (λ (l : List LogEntry). Happens (Strike r q) ∷ l) (is.unsettled none);
     }
 
 -- what a removal of the slot answers
@@ -126,10 +135,10 @@ strike_none (Some p) s r stood = tt
 
 pub strike_some : (laws : Laws) (o : Option ℕ) (s : LifeState) (t : QueuesView) (r : ℕ) → slice_index s.holders (slot_of r) ≡ r
     → ((q : ℕ) → (o ≡ Some q) ↔ Contains (queue_in s.queues q) (slot_of r)) → IfSome o (λ q. t ≡ struck s.queues q (slot_of r))
-    → IfSome o (λ q. (v : LifeView) → IsLifeOf v s → IsLifeOf (then_came v (Strike r q)) (record { queues = t; holders = s.holders; hand = s.hand }))
+    → IfSome o (λ q. (v : LifeView) → IsLifeOf v s → IsLifeOf (then_came v (Strike r q)) (record { queues = t; holders = s.holders; hand = s.hand; running = s.running }))
 strike_some laws None s t r holds stood e = tt
 strike_some laws (Some q) s t r holds stood e = λ v is.
-    subst (λ (x : QueuesView). IsLifeOf (then_came v (Strike r q)) (record { queues = x; holders = s.holders; hand = s.hand })) (sym e)
+    subst (λ (x : QueuesView). IsLifeOf (then_came v (Strike r q)) (record { queues = x; holders = s.holders; hand = s.hand; running = s.running })) (sym e)
     (life_strikes v s is r laws q holds ((stood q).0 (refl {a = Some q})))
 
 -- a request that asks for what is known of it changes nothing
@@ -137,4 +146,4 @@ put_known : {A : Type 0} (f : ℕ → A) (r x : ℕ) → put f r (f r) x ≡ f x
 put_known f r x = elim (cases_eq x r) [ inl e ↦ ap (put f r (f r)) e ∙ put_here f r (f r) ∙ ap f (sym e) | inr ne ↦ put_else f r (f r) x ne ]
 
 pub asked_known : (v : LifeView) (r : ℕ) → asked v r (v.hands r) (width v.costs r) ≡ v
-asked_known v r = λ i. record { history = v.history; costs = set-get_or v.costs r 0 i; hands = λ x. put_known v.hands r x i; queues = v.queues; limit = v.limit }
+asked_known v r = λ i. record { history = v.history; log = v.log; costs = set-get_or v.costs r 0 i; hands = λ x. put_known v.hands r x i; queues = v.queues; limit = v.limit }

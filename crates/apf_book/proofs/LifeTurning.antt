@@ -24,7 +24,7 @@ use Rattle.apf_gate.specs.Tokens.{DeskToken}
 use Rattle.apf_queue.specs.View.{queue_in, IsChosen}
 use Rattle.apf_queue.specs.declared.choice.Chosen.{Chosen}
 use Rattle.apf_book.specs.Life.{LifeView, LifeState, IsLifeOf, SameSlots, then_came, IsNextIn}
-use Rattle.apf_book.specs.Notes.{NotesView, AreNotesOf}
+use Rattle.apf_book.specs.RecentEvents.{RecentEventsView, AreRecentEventsOf}
 use Rattle.apf_book.specs.Moves.{Moves, LastFound}
 use Rattle.apf_book.specs.Servings.{AreServings}
 use Rattle.apf_book.specs.Tries.{ServesSome, LosesGrant}
@@ -38,6 +38,7 @@ use Rattle.apf_book.proofs.Saying.{loads_decision, leaves}
 use Rattle.apf_book.proofs.Running.{count_within}
 use Rattle.apf_book.proofs.Agreeing.{said_of_status, struck_waits_not}
 use Rattle.apf_book.proofs.LifeAsks.{asks_then}
+use Rattle.apf_book.proofs.LifeCharges.{log_of_both}
 use Rattle.apf_book.proofs.LifeKeeping.{life_came, life_quiet, life_statuses}
 
 -- the slot that was chosen stands in its queue
@@ -56,12 +57,12 @@ none_first : (h : List Event) (q r : ℕ) → h ≡ [] → slice_get (waiting h 
 none_first h q r nothing first = let bad : None ≡ Some r = subst (λ (h' : List Event). slice_get (waiting h' q) 0 ≡ Some r) nothing first in cc
 
 -- it was dispatched
-pub life_dispatched : (v : LifeView) (b b' : LifeBookView) (r q : ℕ) → IsLifeKept v b → SameSlots b.queues b'.queues → IsLifeOf (then_came v (Dispatch r q)) b'.queues → AreNotesOf (Dispatch r q ∷ v.history) b'.notes
+pub life_dispatched : (v : LifeView) (b b' : LifeBookView) (r q : ℕ) → IsLifeKept v b → SameSlots b.queues b'.queues → IsLifeOf (then_came v (Dispatch r q)) b'.queues → AreRecentEventsOf (Dispatch r q ∷ v.history) b'.notes
     → Moves b.desk.desk r (Some status_is.Dispatched) b'.desk.desk → Says ((r, status_is.Dispatched) ∷ []) b.desk.desk.knows b'.desk.desk.knows → b'.desk.desk.held ≡ None → IsLifeKept (then_came v (Dispatch r q)) b'
 life_dispatched v b b' r q kept holders of notes moves says held = life_came v (then_came v (Dispatch r q)) b b' (Dispatch r q) kept (λ rejects. none_first v.history q r (kept.no_queues rejects) of.fair.0.0) refl refl holders of notes moves says held (λ e. absurd (cc)) (asks_then v b.queues b'.queues b.desk.desk.knows b'.desk.desk.knows holders.1 moves.more kept.asks)
 
 -- it was struck
-pub life_struck : (v : LifeView) (b b' : LifeBookView) (r q : ℕ) → IsLifeKept v b → SameSlots b.queues b'.queues → IsLifeOf (then_came v (Strike r q)) b'.queues → AreNotesOf (Strike r q ∷ v.history) b'.notes
+pub life_struck : (v : LifeView) (b b' : LifeBookView) (r q : ℕ) → IsLifeKept v b → SameSlots b.queues b'.queues → IsLifeOf (then_came v (Strike r q)) b'.queues → AreRecentEventsOf (Strike r q ∷ v.history) b'.notes
     → Moves b.desk.desk r (Some status_is.Struck) b'.desk.desk → Says ((r, status_is.Struck) ∷ []) b.desk.desk.knows b'.desk.desk.knows → b'.desk.desk.held ≡ None → told_of b'.desk.desk.knows.told r ≡ Some Cancelled → IsLifeKept (then_came v (Strike r q)) b'
 life_struck v b b' r q kept holders of notes moves says held told = life_came v (then_came v (Strike r q)) b b' (Strike r q) kept (λ rejects. none_waits v.history q r (kept.no_queues rejects) of.fair.0.0) refl refl holders of notes moves says held (λ e. told) (asks_then v b.queues b'.queues b.desk.desk.knows b'.desk.desk.knows holders.1 moves.more kept.asks)
 
@@ -116,13 +117,14 @@ same_book_then a b c first then = record {
   queues = then.queues ∙ first.queues;
   room = then.room ∙ first.room;
   hand = then.hand ∙ first.hand;
+  places = then.places ∙ first.places;
 }
 
 -- a request that waits is struck: the Desk read its word, and it left
-pub life_left : (v : LifeView) (b : LifeBookView) (read left : DeskToken) (queues : LifeState) (notes : NotesView) (r q : ℕ) (found : Option Decision) (level : Level) → IsLifeKept v b
+pub life_left : (v : LifeView) (b : LifeBookView) (read left : DeskToken) (queues : LifeState) (notes : RecentEventsView) (r q : ℕ) (found : Option Decision) (level : Level) → IsLifeKept v b
     → (read.desk.services ≡ b.desk.desk.services) × (read.desk.held ≡ b.desk.desk.held) → KnowsMore b.desk.desk.knows read.desk.knows → DeskLoadsDecision r b.desk.desk found read.desk
     → left.desk.services ≡ (r, Left) ∷ read.desk.services → left.desk.held ≡ read.desk.held → KnowsMore read.desk.knows left.desk.knows → DeskSubtractsWaiter r read.desk level left.desk
-    → told_of read.desk.knows.told r ≡ Some Cancelled → SameSlots b.queues queues → IsLifeOf (then_came v (Strike r q)) queues → AreNotesOf (Strike r q ∷ v.history) notes
+    → told_of read.desk.knows.told r ≡ Some Cancelled → SameSlots b.queues queues → IsLifeOf (then_came v (Strike r q)) queues → AreRecentEventsOf (Strike r q ∷ v.history) notes
     → IsLifeKept (then_came v (Strike r q)) (record { desk = left; queues = queues; notes = notes })
 life_left v b read left queues notes r q found level kept served more loads services held more' leaving told holders of noted =
     life_struck v (record b { desk = read }) (record { desk = left; queues = queues; notes = notes }) r q
@@ -173,6 +175,10 @@ servings_append (Full r q ∷ a) b are more = absurd are
 servings_append (Dispatch r q ∷ a) b are more = servings_append a b are more
 servings_append (Strike r q ∷ a) b are more = servings_append a b are more
 
+-- events that came after others
+came_twice : (a b : List Event) (v : LifeView) → then_came_all (a ++ b) v ≡ then_came_all a (then_came_all b v)
+came_twice a b v = λ i. record v { history = append_assoc a b v.history i; log = log_of_both a b v.log i }
+
 -- more turns after those so far
 module _ (v : LifeView) (b b' : LifeBookView) (count more : ℕ) (far : ServesSome v count b) where
   appended : (events : List Event) → AreServings events → (length (events ++ (far.events ++ v.history)) < 2 ^ 64 → count_by is_dispatch events ≡ more) → (length ((events ++ far.events) ++ v.history) < 2 ^ 64) → count_by is_dispatch (events ++ far.events) ≡ (count + more) % 2 ^ 64
@@ -191,7 +197,7 @@ module _ (v : LifeView) (b b' : LifeBookView) (count more : ℕ) (far : ServesSo
   pub served_then : (last : ServesSome (then_came_all far.events v) more b') → ServesSome v ((count + more) % 2 ^ 64) b'
   served_then last = record {
     events = last.events ++ far.events;
-    kept = subst (λ (h : List Event). IsLifeKept (record v { history = h }) b') (sym (append_assoc last.events far.events v.history)) last.kept;
+    kept = subst (λ (w : LifeView). IsLifeKept w b') (sym (came_twice last.events far.events v)) last.kept;
     servings = servings_append last.events far.events last.servings far.servings;
     dispatches = appended last.events last.servings last.dispatches;
   }
@@ -199,10 +205,10 @@ module _ (v : LifeView) (b b' : LifeBookView) (count more : ℕ) (far : ServesSo
   pub serves_then : (last : ServesLife (then_came_all far.events v) b more b') (a : LifeBookView) → KnowsMore a.desk.desk.knows b.desk.desk.knows → ServesLife v a ((count + more) % 2 ^ 64) b'
   serves_then last a knows = record {
     events = last.events ++ far.events;
-    kept = subst (λ (h : List Event). IsLifeKept (record v { history = h }) b') (sym (append_assoc last.events far.events v.history)) last.kept;
+    kept = subst (λ (w : LifeView). IsLifeKept w b') (sym (came_twice last.events far.events v)) last.kept;
     servings = servings_append last.events far.events last.servings far.servings;
     dispatches = appended last.events last.servings last.dispatches;
-    stops = subst (λ (h : List Event). StopsAt (record v { history = h }) a.desk.desk.knows b'.desk.desk.knows) (sym (append_assoc last.events far.events v.history)) (stops_then (then_came_all last.events (then_came_all far.events v)) a.desk.desk.knows b.desk.desk.knows b'.desk.desk.knows knows last.stops);
+    stops = subst (λ (w : LifeView). StopsAt w a.desk.desk.knows b'.desk.desk.knows) (sym (came_twice last.events far.events v)) (stops_then (then_came_all last.events (then_came_all far.events v)) a.desk.desk.knows b.desk.desk.knows b'.desk.desk.knows knows last.stops);
   }
 
 pub loses_then : (a b c : LifeBookView) → KnowsMore a.desk.desk.knows b.desk.desk.knows → LosesGrant b c → LosesGrant a c

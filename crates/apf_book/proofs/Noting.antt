@@ -11,8 +11,8 @@ use Rattle.std.specs.Prelude.{count_by}
 use Rattle.apf_book.specs.declared.life_event.LifeEvent.{LifeEvent}
 use Rattle.apf_book.specs.declared.life_event.LifeEvent.TheVariants as life
 use Rattle.apf_book.specs.LedgerKept.{AreRunning}
-use Rattle.apf_book.specs.declared.notes.Copied.{Copied}
-use Rattle.apf_book.specs.Notes.{event_of, NotesView, AreNotesOf, CopiesLate}
+use Rattle.apf_book.specs.declared.recent_events.Copied.{Copied}
+use Rattle.apf_book.specs.RecentEvents.{event_of, RecentEventsView, AreRecentEventsOf, CopiesLate}
 use Rattle.apf_book.proofs.Running.{count, running_after, count_within}
 
 -- the newest events after one more
@@ -31,9 +31,9 @@ newest_more h x items n newest =
     ∙ (drop-drop j k (past ++ event_of x ∷ []) ∙ (ap (λ (i : ℕ). drop i (past ++ event_of x ∷ [])) place ∙ ap (keep_last n) (sym (reverse-append (event_of x ∷ []) h)))))
 
 -- the notes after one more, by the numbers after it
-module _ (h : List Event) (x : LifeEvent) (n : NotesView) (b : Buffer LifeEvent) (is : AreNotesOf h n) (pushed : b ≡ buffer (keep_last n.capacity (n.newest ++ x ∷ [])) n.capacity) where
+module _ (h : List Event) (x : LifeEvent) (n : RecentEventsView) (b : Buffer LifeEvent) (is : AreRecentEventsOf h n) (pushed : b ≡ buffer (keep_last n.capacity (n.newest ++ x ∷ [])) n.capacity) where
   noted : (e d s f : ℕ) → (length (event_of x ∷ h) < 18446744073709551616 → AreRunning (event_of x ∷ h) e d s f)
-      → AreNotesOf (event_of x ∷ h) (record { newest = b.items; capacity = b.capacity; entered = e; dispatched = d; struck = s; full = f })
+      → AreRecentEventsOf (event_of x ∷ h) (record { newest = b.items; capacity = b.capacity; entered = e; dispatched = d; struck = s; full = f })
   noted e d s f counted = record {
     newest_are = ap (λ (c : Buffer LifeEvent). map event_of c.items) pushed
         ∙ (newest_more h x n.newest n.capacity is.newest_are ∙ ap (λ (c : Buffer LifeEvent). keep_last c.capacity (reverse (event_of x ∷ h))) (sym pushed));
@@ -45,22 +45,22 @@ module _ (h : List Event) (x : LifeEvent) (n : NotesView) (b : Buffer LifeEvent)
   goes_on a k within same few = omega arith
 
   module _ (t : Ticket) (q : ℕ) where
-    pub noted_enter : x ≡ life.Enter t q → AreNotesOf (event_of x ∷ h) (record { newest = b.items; capacity = b.capacity; entered = (n.entered + 1) % 18446744073709551616; dispatched = n.dispatched; struck = n.struck; full = n.full })
+    pub noted_enter : x ≡ life.Enter t q → AreRecentEventsOf (event_of x ∷ h) (record { newest = b.items; capacity = b.capacity; entered = (n.entered + 1) % 18446744073709551616; dispatched = n.dispatched; struck = n.struck; full = n.full })
     noted_enter e = noted _ _ _ _ (λ few. let was = is.counted (omega (arith, few)) in
         subst (λ (y : LifeEvent). AreRunning (event_of y ∷ h) ((n.entered + 1) % 18446744073709551616) n.dispatched n.struck n.full) (sym e)
         (running_after h (events.Enter t.number q) n.entered n.dispatched n.struck n.full ((n.entered + 1) % 18446744073709551616) n.dispatched n.struck n.full was (goes_on n.entered (count_by is_enter h) (count_within is_enter h) was.entered_is few) (omega arith) (omega arith) (omega arith)))
 
-    pub noted_dispatch : x ≡ life.Dispatch t q → AreNotesOf (event_of x ∷ h) (record { newest = b.items; capacity = b.capacity; entered = n.entered; dispatched = (n.dispatched + 1) % 18446744073709551616; struck = n.struck; full = n.full })
+    pub noted_dispatch : x ≡ life.Dispatch t q → AreRecentEventsOf (event_of x ∷ h) (record { newest = b.items; capacity = b.capacity; entered = n.entered; dispatched = (n.dispatched + 1) % 18446744073709551616; struck = n.struck; full = n.full })
     noted_dispatch e = noted _ _ _ _ (λ few. let was = is.counted (omega (arith, few)) in
         subst (λ (y : LifeEvent). AreRunning (event_of y ∷ h) n.entered ((n.dispatched + 1) % 18446744073709551616) n.struck n.full) (sym e)
         (running_after h (events.Dispatch t.number q) n.entered n.dispatched n.struck n.full n.entered ((n.dispatched + 1) % 18446744073709551616) n.struck n.full was (omega arith) (goes_on n.dispatched (count_by is_dispatch h) (count_within is_dispatch h) was.dispatched_is few) (omega arith) (omega arith)))
 
-    pub noted_strike : x ≡ life.Strike t q → AreNotesOf (event_of x ∷ h) (record { newest = b.items; capacity = b.capacity; entered = n.entered; dispatched = n.dispatched; struck = (n.struck + 1) % 18446744073709551616; full = n.full })
+    pub noted_strike : x ≡ life.Strike t q → AreRecentEventsOf (event_of x ∷ h) (record { newest = b.items; capacity = b.capacity; entered = n.entered; dispatched = n.dispatched; struck = (n.struck + 1) % 18446744073709551616; full = n.full })
     noted_strike e = noted _ _ _ _ (λ few. let was = is.counted (omega (arith, few)) in
         subst (λ (y : LifeEvent). AreRunning (event_of y ∷ h) n.entered n.dispatched ((n.struck + 1) % 18446744073709551616) n.full) (sym e)
         (running_after h (events.Strike t.number q) n.entered n.dispatched n.struck n.full n.entered n.dispatched ((n.struck + 1) % 18446744073709551616) n.full was (omega arith) (omega arith) (goes_on n.struck (count_by is_strike h) (count_within is_strike h) was.struck_is few) (omega arith)))
 
-    pub noted_full : x ≡ life.Full t q → AreNotesOf (event_of x ∷ h) (record { newest = b.items; capacity = b.capacity; entered = n.entered; dispatched = n.dispatched; struck = n.struck; full = (n.full + 1) % 18446744073709551616 })
+    pub noted_full : x ≡ life.Full t q → AreRecentEventsOf (event_of x ∷ h) (record { newest = b.items; capacity = b.capacity; entered = n.entered; dispatched = n.dispatched; struck = n.struck; full = (n.full + 1) % 18446744073709551616 })
     noted_full e = noted _ _ _ _ (λ few. let was = is.counted (omega (arith, few)) in
         subst (λ (y : LifeEvent). AreRunning (event_of y ∷ h) n.entered n.dispatched n.struck ((n.full + 1) % 18446744073709551616)) (sym e)
         (running_after h (events.Full t.number q) n.entered n.dispatched n.struck n.full n.entered n.dispatched n.struck ((n.full + 1) % 18446744073709551616) was (omega arith) (omega arith) (omega arith) (goes_on n.full (count_by is_full h) (count_within is_full h) was.full_is few)))
@@ -74,7 +74,7 @@ kinds (events.Dispatch r q ∷ h) = let a = count is_enter (events.Dispatch r q)
 kinds (events.Strike r q ∷ h) = let a = count is_enter (events.Strike r q) h in let b = count is_dispatch (events.Strike r q) h in let c = count is_strike (events.Strike r q) h in let d = count is_full (events.Strike r q) h in let e = kinds h in omega arith
 
 -- the numbers sum up to how many events there were
-pub summed : (h : List Event) (n : NotesView) → AreNotesOf h n → length h < 18446744073709551616
+pub summed : (h : List Event) (n : RecentEventsView) → AreRecentEventsOf h n → length h < 18446744073709551616
     → (((n.entered + n.dispatched) % 18446744073709551616 + n.struck) % 18446744073709551616 + n.full) % 18446744073709551616 ≡ length h
 summed h n is few =
     let was = is.counted few in
@@ -82,13 +82,13 @@ summed h n is few =
     let a = was.entered_is in let b = was.dispatched_is in let c = was.struck_is in let d = was.full_is in omega (arith, few)
 
 -- how many are kept
-pub kept_count : (h : List Event) (n : NotesView) → AreNotesOf h n → length n.newest ≡ length h - (length h - n.capacity)
+pub kept_count : (h : List Event) (n : RecentEventsView) → AreRecentEventsOf h n → length n.newest ≡ length h - (length h - n.capacity)
 kept_count h n is =
     let long = length-reverse h in
     sym (length-map n.newest event_of) ∙ (ap (λ (es : List Event). length es) is.newest_are ∙ (length-drop (length (reverse h) - n.capacity) (reverse h) ∙ (omega arith)))
 
 -- what is copied, by where it begins
-module _ (h : List Event) (n : NotesView) (is : AreNotesOf h n) (kept first start skipped many : ℕ) (into part : List LifeEvent)
+module _ (h : List Event) (n : RecentEventsView) (is : AreRecentEventsOf h n) (kept first start skipped many : ℕ) (into part : List LifeEvent)
     (kept_is : kept ≡ length n.newest) (first_is : first ≡ length h - kept) (skipped_is : skipped ≡ min (start - first) kept) (many_is : many ≡ min (kept - skipped) (length into))
     (late : first ≤ start) (copied : part ≡ take many (drop skipped n.newest)) where
   first_kept : first ≡ length (reverse h) - n.capacity

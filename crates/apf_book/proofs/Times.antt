@@ -1,5 +1,5 @@
 -- How large the numbers of virtual time can be.
-use Rattle.std.proofs.Common.{◌≡◌, ◌≢◌, ℕ, zero, suc, ◌+◌, ◌*◌, ◌<◌, ◌≤◌, inl, inr, Bool, List, [], ◌∷◌, length, refl, ap, ◌∙◌, subst, sym, arith}
+use Rattle.std.proofs.Common.{◌≡◌, ◌≢◌, ℕ, zero, suc, ◌+◌, ◌-◌, ◌*◌, ◌^◌, ◌<◌, ◌≤◌, inl, inr, Bool, List, [], ◌∷◌, length, refl, ap, ◌∙◌, subst, sym, arith}
 use Rattle.std.specs.Prelude.{max, count_by, slice_index}
 use Rattle.std.proofs.lemmas.Bool.{cases_eq, cases_lt}
 use Rattle.std.proofs.lemmas.List.{get_or_past}
@@ -10,18 +10,15 @@ use Rattle.apf_history.specs.Tally.{tally}
 use Rattle.apf_model.specs.World.{put, width}
 use Rattle.apf_model.specs.History.{waiting}
 use Rattle.apf_model.specs.Outcome.{is_enter, is_full, is_dispatch, is_strike, stats_of}
-use Rattle.apf_model.specs.Fair.{Numbers, after_enter, numbers, widest}
+use Rattle.apf_model.specs.Fair.{Numbers, after_enter, after_dispatch, numbers, widest}
+use Rattle.apf_model.specs.Charged.{after_charge}
 use Rattle.apf_queue.specs.View.{QueuesView, HasTime}
 use Rattle.apf_book.specs.LedgerView.{LedgerView, hand_in, AreSmall}
 use Rattle.apf_book.specs.LedgerKept.{AreOfLog}
+use Rattle.apf_book.specs.Life.{AreWithin, life_most}
 use Rattle.apf_book.specs.Histories.{Laws}
 use Rattle.apf_book.proofs.Puts.{put_here, put_else}
 use Rattle.apf_book.proofs.Running.{count}
-
--- no number is above this
-pub record AreWithin (most : ℕ) (v : Numbers) : Type 0 where
-  pub next : (q : ℕ) → v.next q ≤ most
-  pub virtual_time : v.virtual_time ≤ most
 
 put_within : (f : ℕ → ℕ) (p x most : ℕ) → ((q : ℕ) → f q ≤ most) → x ≤ most → (q : ℕ) → put f p x q ≤ most
 put_within f p x most h l q = elim (cases_eq q p) [
@@ -58,6 +55,36 @@ numbers_within queues costs most low (Strike r q ∷ h) =
     let k = count is_dispatch (Strike r q) h in
     let same : count_by is_dispatch (Strike r q ∷ h) ≡ count_by is_dispatch h = omega arith in
     subst (λ (n : ℕ). AreWithin (n * most) (numbers queues costs h)) (sym same) (numbers_within queues costs most low h)
+
+-- what each entry makes of the bound
+pub life_enter_within : (h : List Event) (r q : ℕ) (queue : List ℕ) (v w : Numbers) → AreWithin (life_most h) v → w ≡ after_enter q queue v → AreWithin (life_most (Enter r q ∷ h)) w
+life_enter_within h r q queue v w b is =
+    let k = count is_dispatch (Enter r q) h in
+    let same : count_by is_dispatch (Enter r q ∷ h) ≡ count_by is_dispatch h = omega arith in
+    subst (λ (x : Numbers). AreWithin (life_most (Enter r q ∷ h)) x) (sym is)
+    (subst (λ (n : ℕ). AreWithin (n * max_cost + (2 ^ 126 + 2 ^ 46)) (after_enter q queue v)) (sym same) (enter_within q queue v (life_most h) b))
+
+pub life_else_within : (h : List Event) (e : Event) (v : Numbers) → AreWithin (life_most h) v → AreWithin (life_most (e ∷ h)) v
+life_else_within h e v b =
+    let k = count is_dispatch e h in
+    record { next = λ q. (let n = b.next q in omega arith); virtual_time = (let n = b.virtual_time in omega arith) }
+
+pub life_dispatch_within : (h : List Event) (r q cost : ℕ) (v w : Numbers) → cost ≤ max_cost → AreWithin (life_most h) v → w ≡ after_dispatch q cost v → AreWithin (life_most (Dispatch r q ∷ h)) w
+life_dispatch_within h r q cost v w low b is =
+    let k = count is_dispatch (Dispatch r q) h in
+    let same : count_by is_dispatch (Dispatch r q ∷ h) ≡ suc (count_by is_dispatch h) = omega arith in
+    let now = b.virtual_time in let from = b.next q in
+    subst (λ (x : Numbers). AreWithin (life_most (Dispatch r q ∷ h)) x) (sym is) (record {
+      next = put_within v.next q (v.next q + cost) (life_most (Dispatch r q ∷ h)) (λ p. (let d = b.next p in omega arith)) (omega arith);
+      virtual_time = omega arith;
+    })
+
+pub life_charge_within : (h : List Event) (q old new : ℕ) (v w : Numbers) → v.next q ≤ 2 ^ 126 → new ≤ 2 ^ 46 → AreWithin (life_most h) v → w ≡ after_charge q old new v → AreWithin (life_most h) w
+life_charge_within h q old new v w early low b is =
+    subst (λ (x : Numbers). AreWithin (life_most h) x) (sym is) (record {
+      next = put_within v.next q (v.next q + new - old) (life_most h) b.next (omega arith);
+      virtual_time = b.virtual_time;
+    })
 
 -- each event is of one kind
 kinds : (h : List Event) → count_by is_enter h + count_by is_full h + count_by is_dispatch h + count_by is_strike h ≡ length h

@@ -32,7 +32,7 @@ pub record RacedSoFar (book : LifeBookView) (token : PassToken) (book' : LifeBoo
 
 pub none_yet : (book : LifeBookView) (token : PassToken) → IsNewTo book token → RacedSoFar book token book token
 none_yet book token new = record {
-  same = record { gate = refl; more = more_same book.desk.desk.knows; queues = refl; room = refl; hand = refl };
+  same = record { gate = refl; more = more_same book.desk.desk.knows; queues = refl; room = refl; hand = refl; places = refl };
   request = record { pass = refl; number = refl };
   history = λ v is. is;
   is_new = new;

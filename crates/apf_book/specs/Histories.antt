@@ -1,8 +1,11 @@
 -- The laws of histories, closed: no search looks into them, and a proof that needs one opens them.
-use Rattle.std.specs.Prelude.{◌≡◌, ℕ, ◌+◌, ◌-◌, ◌*◌, ◌<◌, ◌≤◌, List, ◌∷◌, ◌++◌, length, Contains}
+use Rattle.std.specs.Prelude.{◌≡◌, ◌≢◌, ℕ, ◌+◌, ◌-◌, ◌*◌, ◌<◌, ◌≤◌, List, ◌∷◌, ◌++◌, length, Contains, Some, None}
 use Rattle.apf_history.specs.declared.events.Event.{Event}
 use Rattle.apf_history.specs.declared.events.Event.TheVariants.{Enter}
+use Rattle.apf_history.specs.declared.events.Charge.{Charge}
+use Rattle.apf_history.specs.declared.events.LogEntry.{LogEntry}
 use Rattle.apf_history.specs.Standing.{EachNames}
+use Rattle.apf_model.specs.Charged.{events, charged_numbers, runs, charge_of, IsAmong, IsSettled}
 use Rattle.apf_model.specs.World.{width}
 use Rattle.apf_model.specs.History.{waiting, MayFollow, IsLegal}
 use Rattle.apf_model.specs.Fair.{IsFair, service, IsNeverEmpty, widest, DifferAtMost}
@@ -59,11 +62,24 @@ pub record Waits : Type 0 where
 unfoldable pub WaitLaws : Type 0
 WaitLaws = Waits
 
--- the law of every fair history: it stands if the hand or the width of a request changes that it does not name
-abbrev pub Stands : Type 0
-Stands = (queues : ℕ) (widths widths' : List ℕ) (hands hands' : ℕ → List ℕ) (limit : ℕ) (h : List Event)
-    → EachNames (λ r. hands' r ≡ hands r) h → EachNames (λ r. width widths' r ≡ width widths r) h
-    → IsFair queues widths hands limit h → IsFair queues widths' hands' limit h
+-- the laws of every settled log: it stands if the hand or the cost of a request changes that it does not name. What a queue is charged for a request is charged for one that executes from that queue, and is part of the queue's number
+pub record Stands : Type 0 where
+  pub stands : (queues : ℕ) (costs costs' : List ℕ) (hands hands' : ℕ → List ℕ) (limit : ℕ) (l : List LogEntry)
+      → EachNames (λ r. hands' r ≡ hands r) (events l) → EachNames (λ r. width costs' r ≡ width costs r) (events l)
+      → IsSettled queues costs hands limit l → IsSettled queues costs' hands' limit l
+  pub numbers : (queues : ℕ) (costs costs' : List ℕ) (l : List LogEntry) → EachNames (λ r. width costs' r ≡ width costs r) (events l)
+      → charged_numbers queues costs' l ≡ charged_numbers queues costs l
+  pub charges : (costs costs' : List ℕ) (l : List LogEntry) → EachNames (λ r. width costs' r ≡ width costs r) (events l)
+      → (r : ℕ) → charge_of costs' l r ≡ charge_of costs l r
+  pub among : (costs : List ℕ) (l : List LogEntry) (r : ℕ) (c : Charge)
+      → charge_of costs l r ≡ Some c → IsAmong r c.amount (runs costs l c.queue)
+  pub unnamed : (queues : ℕ) (costs : List ℕ) (hands : ℕ → List ℕ) (limit : ℕ) (l : List LogEntry) (r : ℕ)
+      → IsSettled queues costs hands limit l → EachNames (λ j. j ≢ r) (events l) → charge_of costs l r ≡ None
+  pub covered : (queues : ℕ) (costs : List ℕ) (hands : ℕ → List ℕ) (limit : ℕ) (l : List LogEntry) (q r k : ℕ)
+      → IsSettled queues costs hands limit l → IsAmong r k (runs costs l q)
+      → k ≤ (charged_numbers queues costs l).next q
+  pub from_queue : (queues : ℕ) (costs : List ℕ) (hands : ℕ → List ℕ) (limit : ℕ) (l : List LogEntry) (r k q : ℕ)
+      → IsSettled queues costs hands limit l → IsAmong r k (runs costs l q) → q < queues
 
 -- the same, closed
 unfoldable pub StandingLaw : Type 0

@@ -1,5 +1,5 @@
 -- What is true of every book, and of one whose gate ended.
-use Rattle.std.specs.Prelude.{◌≡◌, ◌↔◌, ℕ, ◌==◌, ◌&&◌, ◌||◌, Bool, true, false, List, [], ◌∷◌, slice_index_or, All, Contains, map, Option, Some, None}
+use Rattle.std.specs.Prelude.{◌≡◌, ◌↔◌, ℕ, ◌<◌, ◌==◌, ◌&&◌, ◌||◌, Bool, true, false, List, [], ◌∷◌, length, slice_index_or, All, Contains, map, Option, Some, None}
 use Rattle.apf_words.specs.declared.decision.Decision.{Decision}
 use Rattle.apf_words.specs.declared.decision.Decision.TheVariants.{Cancelled}
 use Rattle.apf_history.specs.declared.events.Event.{Event}
@@ -21,7 +21,7 @@ use Rattle.apf_gate.specs.Ends.{WordsView}
 use Rattle.apf_book.specs.LedgerView.{LedgerView, HasFairLog}
 
 -- the Desk and the log say the same
-pub record IsOfOneMind (desk : DeskRecord) (v : LedgerView) : Type 0 where
+pub record DeskAgreesWithLog (desk : DeskRecord) (v : LedgerView) : Type 0 where
   -- the log is legal, and each dispatch names the choice
   pub fair : HasFairLog v
   -- the Desk's waiting requests are the members of the queues
@@ -61,6 +61,8 @@ pub record IsMade (gate : GateId) (h : List Event) (level : Level) (passes : Lis
 pub record LogAgrees (gate : GateId) (v : LedgerView) (passes : List PassToken) (stations : List StationToken) (words : WordsView) : Type 0 where
   -- the log is what the Desk's steps of the whole trace say, in their order
   pub made : IsMade gate v.history words.level passes stations
+  -- each decision is the one that these steps wrote
+  pub decides : (r : ℕ) → r < length gate.shape.widths → decision_in words r ≡ (world_of gate.shape made.trace).decision r
   -- each dispatched request is executed, each struck one is cancelled, and those with a Full event are those decided queue-full
   pub agrees : Agrees v.history (decision_in words)
   -- each executed request was dispatched, or its Pass took its seats on arrival

@@ -1,6 +1,6 @@
 pub mod LedgerView
 pub mod LedgerKept
-pub mod Notes
+pub mod RecentEvents
 pub mod Life
 pub mod Opening
 pub mod Stretch

@@ -1,20 +1,24 @@
 -- The book of a level whose slots are used again, as contracts see it.
 use Rattle.std.specs.Prelude.{◌≡◌, ◌≢◌, ◌⊎◌, ℕ, ◌^◌, ◌<◌, ◌++◌, Bool, true, false, List, [], length, slice_get, count_by, Contains, Option, Some, None}
+use Rattle.apf_history.specs.declared.events.Charge.{Charge}
 use Rattle.apf_history.specs.declared.events.Event.{Event}
 use Rattle.apf_history.specs.declared.events.Event.TheVariants.{Enter, Full, Dispatch, Strike}
 use Rattle.apf_model.specs.History.{waiting}
 use Rattle.apf_model.specs.Outcome.{is_dispatch}
-use Rattle.apf_model.specs.Fair.{numbers, IsChoice}
+use Rattle.apf_model.specs.Fair.{IsChoice}
+use Rattle.apf_model.specs.Charged.{charged_numbers, charge_of, log_of}
 use Rattle.apf_model.specs.declared.response.Response.TheVariants.{Reject}
+use Rattle.apf_model.specs.declared.moves.Stage.TheVariants.{Stands}
 use Rattle.apf_gate.specs.declared.record.Knowledge.{Knowledge}
 use Rattle.apf_gate.specs.Records.{told_of}
-use Rattle.apf_gate.specs.Tokens.{DeskToken}
+use Rattle.apf_gate.specs.Traces.{world_of}
+use Rattle.apf_gate.specs.Tokens.{PassToken, DeskToken}
 use Rattle.apf_book.specs.declared.arrived.Arrived.{Arrived}
 use Rattle.apf_book.specs.declared.arrived.Arrived.TheVariants as arrived
 use Rattle.apf_book.specs.declared.serving.Served.{Served}
 use Rattle.apf_book.specs.declared.serving.Served.TheVariants as served
-use Rattle.apf_book.specs.Life.{LifeView, LifeState, IsLifeOf, AreAsked, sizes_in, asked, then_came}
-use Rattle.apf_book.specs.Notes.{NotesView, AreNotesOf}
+use Rattle.apf_book.specs.Life.{LifeView, LifeState, IsLifeOf, AreAsked, sizes_in, charge_in, asked, then_came, then_settled, then_spent, CannotSettle, CannotSpend}
+use Rattle.apf_book.specs.RecentEvents.{RecentEventsView, AreRecentEventsOf}
 use Rattle.apf_book.specs.Agreeing.{IsDeskOf}
 use Rattle.apf_book.specs.Moves.{LastFound}
 use Rattle.apf_book.specs.Servings.{AreServings}
@@ -23,13 +27,13 @@ use Rattle.apf_book.specs.Servings.{AreServings}
 pub record LifeBookView : Type 0 where
   pub desk : DeskToken
   pub queues : LifeState
-  pub notes : NotesView
+  pub notes : RecentEventsView
 
 -- the book is of this history: its queues and its notes are, and the Desk did what the history says
 pub record IsLifeKept (v : LifeView) (b : LifeBookView) : Type 0 where
   pub of_life : IsLifeOf v b.queues
   pub agrees : IsDeskOf v.history b.desk.desk
-  pub notes : AreNotesOf v.history b.notes
+  pub notes : AreRecentEventsOf v.history b.notes
   -- each number that a request can have has its cost, and each slot its holder
   pub one_cost_each : length v.costs ≡ length b.desk.desk.knows.shape.widths
   pub one_holder_each : length b.queues.holders ≡ b.desk.desk.knows.shape.slots
@@ -45,11 +49,11 @@ pub record IsLived (b : LifeBookView) : Type 0 where
 
 -- with these events, the newest first, after what the history has
 abbrev pub then_came_all : List Event → LifeView → LifeView
-then_came_all events v = record v { history = events ++ v.history }
+then_came_all events v = record v { history = events ++ v.history; log = log_of events ++ v.log }
 
 -- r stands first in q, and is dispatched next, by the history
 pub record IsFirst (v : LifeView) (r q : ℕ) : Type 0 where
-  pub is_choice : IsChoice v.queues v.costs (waiting v.history) (numbers v.queues v.costs v.history) q
+  pub is_choice : IsChoice v.queues v.costs (waiting v.history) (charged_numbers v.queues v.costs v.log) q
   pub is_first : slice_get (waiting v.history q) 0 ≡ Some r
 
 -- nothing waits
@@ -95,3 +99,17 @@ pub record ServesLife (v : LifeView) (b : LifeBookView) (count : ℕ) (b' : Life
 abbrev pub StrikesLife : LifeView → LifeBookView → ℕ → Bool → LifeBookView → Type 0
 StrikesLife v b r true b' = (q : ℕ) × Contains (waiting v.history q) r × IsLifeKept (then_came v (Strike r q)) b'
 StrikesLife v b r false b' = IsLifeKept v b' × (told_of b.desk.desk.knows.told r ≢ None → (q : ℕ) → ¬ Contains (waiting v.history q) r)
+
+-- the request of the Pass executes: by the steps that its Pass knows, it holds its seats
+abbrev pub HoldsSeats : PassToken → Type 0
+HoldsSeats token = (world_of token.pass.knows.shape token.pass.knows.trace).stage token.pass.number ≡ Stands
+
+-- of a log that the book is of: what a queue was charged for r is settled with this; or nothing is kept of r, or it can be settled no more, and the book stays as it was
+abbrev pub SettlesLife : LifeView → LifeBookView → ℕ → ℕ → Bool → LifeBookView → Type 0
+SettlesLife v b r m true b' = (c : Charge) × (charge_in b.queues r ≡ Some c) × (charge_of v.costs v.log r ≡ Some c) × IsLifeKept (then_settled v r c.queue c.amount m) b'
+SettlesLife v b r m false b' = (b' ≡ b) × CannotSettle b.queues r
+
+-- of a log that the book is of: what a queue was charged for r is less than this, and becomes this; or nothing is kept of r, it is no less, or it can be changed no more, and the book stays as it was
+abbrev pub SpendsLife : LifeView → LifeBookView → ℕ → ℕ → Bool → LifeBookView → Type 0
+SpendsLife v b r m true b' = (c : Charge) × (charge_in b.queues r ≡ Some c) × (charge_of v.costs v.log r ≡ Some c) × (c.amount < m) × IsLifeKept (then_spent v r c.queue c.amount m) b'
+SpendsLife v b r m false b' = (b' ≡ b) × CannotSpend b.queues r m

@@ -18,7 +18,8 @@ use Rattle.apf_book.specs.declared.arrived.Arrived.TheVariants as arrived
 use Rattle.apf_book.specs.declared.fault.BookFault.{BookFault}
 use Rattle.apf_book.specs.declared.fault.BookFault.TheVariants.{Queues, NoMemory}
 use Rattle.apf_book.specs.Arrivals.{IsTold, SaysOpen}
-use Rattle.apf_book.specs.Life.{LifeView, IsOpening}
+use Rattle.apf_book.specs.declared.settling.Settling.{Settling}
+use Rattle.apf_book.specs.Life.{LifeView, IsOpening, places_of}
 use Rattle.apf_book.specs.LifeBook.{LifeBookView, IsLifeKept, arrived_in}
 
 -- the Desk made no step yet, and is of a gate with so many slots
@@ -32,11 +33,12 @@ IsLifeFaultOf c slots (Queues f) = (f ≡ queue.BadShape) × (¬ IsQueueShape c.
 IsLifeFaultOf c slots NoMemory = IsQueueShape c.queues c.queue_length_limit slots
 IsLifeFaultOf c slots other = ⊥
 
--- the book that was made has the Desk as it was given, room for two events of each slot, and every history in which nothing happened yet; or the fault is the first of the settings
-pub record MakesLifeBook (config : Config) (slots : ℕ) (given : DeskToken) (made : Result LifeBookView BookFault) : Type 0 where
+-- the book that was made has the Desk as it was given, room for two events of each slot, places for what is charged where that is settled, and every history in which nothing happened yet; or the fault is the first of the settings
+pub record MakesLifeBook (config : Config) (slots : ℕ) (given : DeskToken) (settling : Settling) (made : Result LifeBookView BookFault) : Type 0 where
   pub desk : IfOk made (λ (b : LifeBookView). b.desk ≡ given)
   pub room : IfOk made (λ (b : LifeBookView). b.notes.capacity ≡ 2 * slots)
   pub hand : IfOk made (λ (b : LifeBookView). b.queues.hand ≡ config.hand_size)
+  pub places : IfOk made (λ (b : LifeBookView). length b.queues.running ≡ places_of settling slots)
   pub opens : IfOk made (λ (b : LifeBookView). (v : LifeView) → IsOpening v config.queues config.queue_length_limit → length v.costs ≡ length given.desk.knows.shape.widths → IsLifeKept v b)
   pub settings : OnOk made (IsQueueShape config.queues config.queue_length_limit slots)
   pub fault : IfErr made (IsLifeFaultOf config slots)
@@ -58,13 +60,14 @@ pub record IsAsk (book : LifeBookView) (hand : List ℕ) (cost : ℕ) : Type 0 w
   pub some_cost : 1 ≤ cost
   pub low : cost ≤ max_cost
 
--- the Desk is of the same gate still and knows more than it did, and the book has as many queues, slots and places for events as it had
+-- the Desk is of the same gate still and knows more than it did, and the book has as many queues, slots and places for events and for charges as it had
 pub record SameLifeBook (book book' : LifeBookView) : Type 0 where
   pub gate : desk_gate book'.desk ≡ desk_gate book.desk
   pub more : KnowsMore book.desk.desk.knows book'.desk.desk.knows
   pub queues : queue_count book'.queues.queues ≡ queue_count book.queues.queues
   pub room : book'.notes.capacity ≡ book.notes.capacity
   pub hand : book'.queues.hand ≡ book.queues.hand
+  pub places : length book'.queues.running ≡ length book.queues.running
 
 -- the request entered exactly if the answer says so
 abbrev pub SaysQueued : Arrived → Type 0

@@ -148,7 +148,7 @@ impl<A: Allocator> Book<A> {
     {
         let mut count = 0;
         for _ in rt.forever() {
-            match self.turn(gate) {
+            match self.serve_head_once(gate) {
                 None => return count,
                 Some(Served::NoRoom) => return count,
                 Some(Served::Dispatched) => count += 1,
@@ -225,7 +225,7 @@ impl<A: Allocator> Book<A> {
     }
 
     // Tries once to serve the chosen head, if any waits.
-    fn turn<G: Allocator>(&mut self, gate: &Gate<G>) -> Option<Served>
+    fn serve_head_once<G: Allocator>(&mut self, gate: &Gate<G>) -> Option<Served>
         requires own { desk_gate self.old.desk ≡ gate.now }
         ensures same { SameBook self.old self.new }
         ensures turns { Turns result self.old.ledger self.new.ledger self.old.desk.desk.knows self.new.desk.desk.knows }

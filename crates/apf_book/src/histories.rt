@@ -5,7 +5,9 @@
 
 ghost use Rattle.apf_book.specs.Histories.{LegalLaws, FairLaw, IsolationLaw, WaitLaws, StandingLaw};
 
-use apf_history::every_fair_history_stands;
+use apf_history::{
+    every_charge_is_of_one_that_executes, every_settled_log_balances, every_settled_log_stands,
+};
 use apf_model::{
     every_fair_history_is_balanced, every_fair_history_isolates, every_legal_history_is_in_order,
     every_wait_is_bounded,
@@ -39,9 +41,11 @@ pub fn waits_are_bounded()
     every_wait_is_bounded();
 }
 
-// The law of every fair history and a request that it does not name.
-pub fn fair_histories_stand()
+// The laws of every settled log, of requests that it does not name and of charges.
+pub fn settled_logs_stand()
     ensures { StandingLaw }
 {
-    every_fair_history_stands();
+    every_settled_log_stands();
+    every_charge_is_of_one_that_executes();
+    every_settled_log_balances();
 }

@@ -7,7 +7,7 @@ ghost use Rattle.apf_gate.specs.Tokens.{GateId, DeskToken, PassToken, StationTok
 ghost use Rattle.apf_gate.specs.Ends.{WordsView, EndsWith};
 ghost use Rattle.apf_book.specs.LedgerView.{LedgerView, IsLogOf};
 ghost use Rattle.apf_book.specs.BookView.{IsKept};
-ghost use Rattle.apf_book.specs.Laws.{IsOfOneMind, LogAgrees};
+ghost use Rattle.apf_book.specs.Laws.{DeskAgreesWithLog, LogAgrees};
 ghost use Rattle.apf_book.specs.Dispatched.{AreDispatchesBounded};
 ghost use Rattle.apf_book.specs.Stopped.{NoRequestIsForgotten};
 
@@ -20,7 +20,7 @@ use apf_gate::{every_end_agrees, no_dispatch_is_lost};
 ///
 /// It runs no code: the contract is the law.
 pub fn every_book_is_kept()
-    ensures { (desk : DeskRecord) (v : LedgerView) → IsKept desk v → IsOfOneMind desk v }
+    ensures { (desk : DeskRecord) (v : LedgerView) → IsKept desk v → DeskAgreesWithLog desk v }
 {
     legal_histories_are_in_order();
 }

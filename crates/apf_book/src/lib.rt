@@ -7,8 +7,9 @@
 //! - `fault`: why a book is refused.
 //! - `histories`: the laws of histories, for proofs.
 //! - `ledger`: the queues, and the log that they are of.
+//! - `settling`: whether what requests take is settled.
 //! - `life`: the queues of slots, and every history that they are of.
-//! - `life_event`: their events, `life_stats` how many there were, `notes` the newest of them.
+//! - `life_event`: their events, `life_stats` how many there were, `recent_events` the newest of them.
 //! - `stats`: the numbers of a log.
 //! - `stretch`: the services of two queues in a stretch of a log.
 //! - `overtaking`: the wait of a request in a log, and what is granted while it lasts.
@@ -16,7 +17,7 @@
 //! - `handing`: an arrival is handed to the Desk.
 //! - `serving`: the Desk serves the head of a queue, `dispatching` what a try to serve all that fit came to.
 //! - `book`: the ledger with the Desk.
-//! - `life_book`: queues of slots and notes with the Desk.
+//! - `life_book`: queues of slots and recent events with the Desk.
 //! - `laws`: what is true of every book.
 #![tactic(auto)]
 
@@ -32,12 +33,14 @@ mod life;
 mod life_book;
 mod life_event;
 mod life_stats;
-mod notes;
 mod overtaking;
+mod recent_events;
 mod serving;
+mod settling;
 mod stats;
 mod stretch;
 
+pub use apf_history::Charge;
 pub use apf_model::{Ask, Config, Response, are_costs};
 pub use arrived::Arrived;
 pub use book::Book;
@@ -50,7 +53,8 @@ pub use laws::{
 pub use life_book::LifeBook;
 pub use life_event::LifeEvent;
 pub use life_stats::LifeStats;
-pub use notes::Copied;
 pub use overtaking::{Wait, overtaken};
+pub use recent_events::Copied;
+pub use settling::Settling;
 pub use stats::Stats;
 pub use stretch::balance;

@@ -1,17 +1,19 @@
 //! The queues of a level whose slots are used again, and whose requests bring their hands and costs.
 //!
-//! The history is stored nowhere. Each call says what becomes of every history that the queues are of.
+//! The history and its log are stored nowhere. Each call says what becomes of every one that the queues are of.
 
-ghost use Rattle.std.specs.Prelude.{◌≡◌, ◌≢◌, ℕ, ◌<◌, ◌≤◌, List, [], length, slice_index, All, Contains, ◌↔◌, IsTrue, MatchBool, IsErrOf, OnOk, IfOk, IfSome, IfNone, MatchOption};
+ghost use Rattle.std.specs.Prelude.{◌≡◌, ◌≢◌, ℕ, ◌<◌, ◌≤◌, List, [], length, slice_index, slice_set, true, false, All, Contains, ◌↔◌, IsTrue, MatchBool, IsErrOf, OnOk, IfOk, IfSome, IfNone, MatchOption};
 ghost use Rattle.apf_words.specs.Limits.{max_cost};
 ghost use Rattle.apf_gate.specs.Slots.{slot_of};
 ghost use Rattle.apf_history.specs.declared.events.Event.TheVariants as events;
 ghost use Rattle.apf_model.specs.World.{width};
 ghost use Rattle.apf_model.specs.History.{waiting, IsShortest};
-ghost use Rattle.apf_queue.specs.View.{queue_count, queue_in, IsQueueShape, StandsNowhere, IsChosen, HasTime};
-ghost use Rattle.apf_book.specs.Life.{how_many, LifeView, IsLifeOf, SameSlots, Comes, asked, then_came, IsNextIn, IsOpening};
+ghost use Rattle.apf_queue.specs.View.{queue_count, queue_in, IsQueueShape, StandsNowhere, IsChosen, HasTime, max_charge};
+ghost use Rattle.apf_book.specs.Life.{places_of, charge_in, how_many, LifeView, IsLifeOf, SameSlots, Comes, asked, then_came, IsNextIn, IsOpening, SettlesOne, SpendsOne, CannotSettle, CannotSpend};
 
-use crate::histories::{fair_histories_stand, legal_histories_are_in_order};
+use crate::histories::{legal_histories_are_in_order, settled_logs_stand};
+use crate::settling::Settling;
+use apf_history::Charge;
 use apf_queue::{Chosen, QueueFault, Queues};
 use std::alloc::Allocator;
 use std::marker::Model;
@@ -23,6 +25,8 @@ pub struct LifeLedger<A: Allocator> {
     length_limit: u32,
     holders: Vec<u128, A>,
     hand: u32,
+    // What is charged for the request that holds each slot. There are no places where nothing is settled.
+    running: Vec<Option<Charge>, A>,
 }
 
 impl<A: Allocator> Model for LifeLedger<A> {
@@ -31,7 +35,7 @@ impl<A: Allocator> Model for LifeLedger<A> {
 
     ghost Value = { LifeState };
 
-    ghost view = { λ s. record { queues = s.queues; holders = s.holders.items; hand = s.hand } };
+    ghost view = { λ s. record { queues = s.queues; holders = s.holders.items; hand = s.hand; running = s.running.items } };
 
     ghost invariant = { λ s. (length s.holders.items ≡ length s.queues.costs) × (s.length_limit ≡ s.queues.length_limit) };
 }
@@ -44,11 +48,13 @@ impl<A: Allocator + Copy> LifeLedger<A> {
         length_limit: u32,
         slots: u32,
         hand: u32,
+        settling: Settling,
     ) -> Result<LifeLedger<A>, QueueFault>
         ensures bad_shape { IsErrOf result QueueFault.BadShape ↔ (¬ IsQueueShape queues length_limit slots) }
         ensures shape { OnOk result (IsQueueShape queues length_limit slots) }
         ensures slots { IfOk result (λ l. length l.holders ≡ slots) }
         ensures hand { IfOk result (λ l. l.hand ≡ hand) }
+        ensures places { IfOk result (λ l. length l.running ≡ places_of settling slots) }
         ensures opening { IfOk result (λ l. (v : LifeView) → IsOpening v queues length_limit → IsLifeOf v l) }
     {
         Ok(LifeLedger {
@@ -56,6 +62,7 @@ impl<A: Allocator + Copy> LifeLedger<A> {
             length_limit,
             holders: vec![in alloc; 0; slots as usize]?,
             hand,
+            running: vec![in alloc; None; settling.places(slots) as usize]?,
         })
     }
 }
@@ -72,15 +79,18 @@ impl<A: Allocator> LifeLedger<A> {
         ensures enters { (v : LifeView) (hand : List ℕ) → IsLifeOf v self.old → Comes v request hand queue
             → IsLifeOf (then_came (asked v request hand cost) (events.Enter request queue)) self.new }
         ensures slots { SameSlots self.old self.new }
+        ensures places { length self.new.running ≡ length self.old.running }
     {
         legal_histories_are_in_order();
-        fair_histories_stand();
+        settled_logs_stand();
         let slot = (request % 16_384) as u32;
         let Ok(()) = self.queues.push(queue, slot, cost) else {
             unreachable!()
         };
         self.holders[slot as usize] = request;
+        keep(&mut self.running, slot, None);
     }
+
     // The request is refused, as the queue is full. Nothing that is stored changes.
     pub fn refuse(&self, request: u128, queue: u32)
         requires full { length (queue_in self.now.queues queue) ≡ self.now.queues.length_limit }
@@ -88,7 +98,7 @@ impl<A: Allocator> LifeLedger<A> {
             → IsLifeOf (then_came (asked v request hand cost) (events.Full request queue)) self.now }
     {
         legal_histories_are_in_order();
-        fair_histories_stand();
+        settled_logs_stand();
     }
 
     // The shortest queue of the hand.
@@ -148,13 +158,86 @@ impl<A: Allocator> LifeLedger<A> {
         requires chosen { IsChosen self.old.queues chosen }
         requires time { HasTime self.old.queues chosen.queue }
         ensures slots { SameSlots self.old self.new }
+        ensures places { length self.new.running ≡ length self.old.running }
         ensures fewer { how_many self.new.queues < how_many self.old.queues }
         ensures dispatches { (v : LifeView) → IsLifeOf v self.old
             → IsLifeOf (then_came v (events.Dispatch (slice_index self.old.holders chosen.request) chosen.queue)) self.new }
     {
         legal_histories_are_in_order();
         self.queues.dispatch(chosen);
+        let charge = Charge {
+            queue: chosen.queue,
+            amount: u64::from(chosen.cost),
+        };
+        keep(&mut self.running, chosen.request, Some(charge));
     }
+
+    // What a queue is charged for the request, if that is kept: it was dispatched from the queue, holds its slot, and is
+    // not settled.
+    pub fn charge(&self, request: u128) -> Option<Charge>
+        requires has_slot { slot_of request < length self.now.holders }
+        ensures { result ≡ charge_in self.now request }
+    {
+        let slot = (request % 16_384) as usize;
+        let holds = self.holders[slot] == request;
+        match self.running.get(slot) {
+            Some(charge) if holds => *charge,
+            Some(_) | None => None,
+        }
+    }
+
+    // A queue is charged so much for the request in place of what it was charged for it, once and for all. Tells whether
+    // it is: not if nothing is kept of the request, or the queue's number is past 2^126.
+    pub fn settle(&mut self, request: u128, amount: u64) -> bool
+        requires has_slot { slot_of request < length self.old.holders }
+        requires low { amount ≤ max_charge }
+        requires lived { (v : LifeView) × IsLifeOf v self.old }
+        ensures slots { SameSlots self.old self.new }
+        ensures places { length self.new.running ≡ length self.old.running }
+        ensures settles { result ≡ true → SettlesOne self.old request amount self.new }
+        ensures cannot { result ≡ false → (self.new ≡ self.old) × CannotSettle self.old request }
+    {
+        settled_logs_stand();
+        let Some(charge) = self.charge(request) else {
+            return false;
+        };
+        if !self.queues.may_settle(charge.queue) {
+            return false;
+        }
+        let slot = (request % 16_384) as u32;
+        self.queues.settle(charge.queue, charge.amount, amount);
+        keep(&mut self.running, slot, None);
+        true
+    }
+
+    // A queue is charged so much for the request, which executes still, in place of what it was charged for it, if that
+    // was less. Tells whether it is: see `settle`.
+    pub fn spend(&mut self, request: u128, amount: u64) -> bool
+        requires has_slot { slot_of request < length self.old.holders }
+        requires low { amount ≤ max_charge }
+        requires lived { (v : LifeView) × IsLifeOf v self.old }
+        ensures slots { SameSlots self.old self.new }
+        ensures places { length self.new.running ≡ length self.old.running }
+        ensures spends { result ≡ true → SpendsOne self.old request amount self.new }
+        ensures cannot { result ≡ false → (self.new ≡ self.old) × CannotSpend self.old request amount }
+    {
+        settled_logs_stand();
+        let Some(charge) = self.charge(request) else {
+            return false;
+        };
+        if amount <= charge.amount {
+            return false;
+        }
+        if !self.queues.may_settle(charge.queue) {
+            return false;
+        }
+        let slot = (request % 16_384) as u32;
+        let queue = charge.queue;
+        self.queues.settle(queue, charge.amount, amount);
+        keep(&mut self.running, slot, Some(Charge { queue, amount }));
+        true
+    }
+
     // Strikes the request out of its queue, and tells the queue: `None`, with nothing changed, if it
     // waits in none.
     pub fn strike(&mut self, request: u128) -> Option<u32>
@@ -164,6 +247,7 @@ impl<A: Allocator> LifeLedger<A> {
         ensures some { IfSome result (λ q. (v : LifeView) → IsLifeOf v self.old → IsLifeOf (then_came v (events.Strike request q)) self.new) }
         ensures fewer { IfSome result (λ q. how_many self.new.queues < how_many self.old.queues) }
         ensures slots { SameSlots self.old self.new }
+        ensures places { length self.new.running ≡ length self.old.running }
     {
         legal_histories_are_in_order();
         let slot = (request % 16_384) as u32;
@@ -171,6 +255,16 @@ impl<A: Allocator> LifeLedger<A> {
             return None;
         }
         self.queues.remove(slot)
+    }
+}
+
+// What is charged for the request that holds the slot is kept, where there are places for it.
+fn keep<A: Allocator>(running: &mut Vec<Option<Charge>, A>, slot: u32, charge: Option<Charge>)
+    ensures { running.new.items ≡ slice_set running.old.items slot charge }
+{
+    let slot = slot as usize;
+    if slot < running.len() {
+        running[slot] = charge;
     }
 }
 

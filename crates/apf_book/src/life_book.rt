@@ -1,6 +1,6 @@
 //! The book of a level whose slots are used again: its queues and its notes, with the Desk.
 
-ghost use Rattle.std.specs.Prelude.{◌≡◌, ◌⊎◌, ℕ, ◌^◌, ◌<◌, length, true, Some, All, IfSome, IfNone};
+ghost use Rattle.std.specs.Prelude.{◌≡◌, ◌⊎◌, ℕ, ◌^◌, ◌<◌, ◌≤◌, length, true, Some, All, IfSome, IfNone};
 ghost use Rattle.apf_words.specs.declared.decision.Decision.TheVariants.{Cancelled};
 ghost use Rattle.apf_model.specs.declared.response.Response.TheVariants.{Queue};
 ghost use Rattle.apf_gate.specs.Slots.{IsTicket};
@@ -11,9 +11,10 @@ ghost use Rattle.apf_gate.specs.Tokens.{pass_gate, desk_gate, station_gate};
 ghost use Rattle.apf_gate.specs.Traces.{GoesOn};
 ghost use Rattle.apf_gate.specs.declared.record.Actor.TheVariants.{OfStation};
 ghost use Rattle.apf_book.specs.BookResults.{SameRequest};
-ghost use Rattle.apf_book.specs.Life.{IsAskedBy, sizes_of, how_many, LifeView};
-ghost use Rattle.apf_book.specs.Notes.{AreLifeStats, CopiesLate};
-ghost use Rattle.apf_book.specs.LifeBook.{IsLifeKept, IsLived, TurnsLife, ServesLife, StrikesLife};
+ghost use Rattle.apf_book.specs.Life.{IsAskedBy, sizes_of, how_many, charge_in, LifeView};
+ghost use Rattle.apf_book.specs.RecentEvents.{AreLifeStats, CopiesLate};
+ghost use Rattle.apf_queue.specs.View.{max_charge};
+ghost use Rattle.apf_book.specs.LifeBook.{IsLifeKept, IsLived, HoldsSeats, TurnsLife, ServesLife, StrikesLife, SettlesLife, SpendsLife};
 ghost use Rattle.apf_book.specs.Tries.{IsNewTo, RacesArrival, LosesGrant, ServesUntil};
 ghost use Rattle.apf_book.specs.LifeCalls.{HeardAll, IsLifeDeskFor, MakesLifeBook, AreOfLife, IsAsk, SameLifeBook, AnswersLifeArrival, AfterLifeArrival, HearsLife};
 
@@ -25,9 +26,11 @@ use crate::histories::legal_histories_are_in_order;
 use crate::life::LifeLedger;
 use crate::life_event::LifeEvent;
 use crate::life_stats::LifeStats;
-use crate::notes::{Copied, Notes};
+use crate::recent_events::{Copied, RecentEvents};
 use crate::serving::{Served, serve};
+use crate::settling::Settling;
 use apf_gate::{Desk, Gate, Pass, Station, Ticket};
+use apf_history::Charge;
 use apf_model::Config;
 use apf_queue::QueueFault;
 use apf_words::Decision;
@@ -44,7 +47,7 @@ use std::sync::Wait;
 pub struct LifeBook<A: Allocator> {
     desk: Desk,
     ledger: LifeLedger<A>,
-    notes: Notes<A>,
+    notes: RecentEvents<A>,
 }
 
 impl<A: Allocator> Model for LifeBook<A> {
@@ -61,15 +64,23 @@ impl<A: Allocator + Copy> LifeBook<A> {
     /// A book in which nothing happened yet. All memory is taken here, that of the newest events too: two for each
     /// slot.
     ///
+    /// Where what requests take is settled, it keeps of each slot what a queue is charged for the request that holds it.
+    ///
     /// The Desk is as `Gate::open_for_life` gave it, for the slots. At a gate without queues nothing ever happens to a
     /// book: no request arrives in it.
     ///
     /// # Errors
     ///
     /// The queues' fault, and `NoMemory` if memory was refused, the first of these.
-    pub fn new(alloc: A, config: &Config, slots: u32, desk: Desk) -> Result<LifeBook<A>, BookFault>
+    pub fn new(
+        alloc: A,
+        config: &Config,
+        slots: u32,
+        desk: Desk,
+        settling: Settling,
+    ) -> Result<LifeBook<A>, BookFault>
         requires begins { IsLifeDeskFor slots desk }
-        ensures { MakesLifeBook config.now slots desk result }
+        ensures { MakesLifeBook config.now slots desk settling result }
     {
         legal_histories_are_in_order();
         desk.is_of_a_gate();
@@ -79,6 +90,7 @@ impl<A: Allocator + Copy> LifeBook<A> {
             config.queue_length_limit,
             slots,
             config.hand_size,
+            settling,
         ) {
             Ok(ledger) => ledger,
             Err(QueueFault::BadShape) => return Err(BookFault::Queues(QueueFault::BadShape)),
@@ -87,7 +99,7 @@ impl<A: Allocator + Copy> LifeBook<A> {
         Ok(LifeBook {
             desk,
             ledger,
-            notes: Notes::new(alloc, slots)?,
+            notes: RecentEvents::new(alloc, slots)?,
         })
     }
 }
@@ -205,7 +217,7 @@ impl<A: Allocator> LifeBook<A> {
     {
         let mut count: u64 = 0;
         loop {
-            match self.turn(gate) {
+            match self.serve_head_once(gate) {
                 None => return TryDispatch::Stopped(count),
                 Some(Served::NoRoom) => return TryDispatch::Stopped(count),
                 Some(Served::Raced) => return TryDispatch::Raced(count),
@@ -308,6 +320,48 @@ impl<A: Allocator> LifeBook<A> {
         struck
     }
 
+    /// Which queue is charged for the Pass's request, and how much. `None` if that is not kept: where nothing is settled at
+    /// all, of a request that was not dispatched from a queue, and of one that is settled. It makes no step.
+    pub fn charge(&self, pass: &Pass) -> Option<Charge>
+        requires { pass_gate pass.now ≡ desk_gate self.now.desk }
+        ensures { result ≡ charge_in self.now.queues pass.now.pass.number }
+    {
+        self.ledger.charge(pass.number())
+    }
+
+    /// The Pass's request, which executes and holds its seats still, has run, and took so much, at most 2^46 in the unit of
+    /// costs. If it was dispatched from a queue, that queue is charged this in place of what it was charged for the
+    /// request, once and for all. Says whether it was.
+    ///
+    /// It is not, and nothing changes, where nothing is settled at all; nor if the request took its seats on arrival, or
+    /// was settled before; nor past 2^126 of virtual time. It makes no step.
+    pub fn settle(&mut self, pass: &Pass, amount: u64) -> bool
+        requires own { pass_gate pass.now ≡ desk_gate self.old.desk }
+        requires executes { HoldsSeats pass.now }
+        requires low { amount ≤ max_charge }
+        ensures same { SameLifeBook self.old self.new }
+        ensures desk { self.new.desk ≡ self.old.desk }
+        ensures notes { self.new.notes ≡ self.old.notes }
+        ensures answer { (v : LifeView) → IsLifeKept v self.old → SettlesLife v self.old pass.now.pass.number amount result self.new }
+    {
+        self.ledger.settle(pass.number(), amount)
+    }
+
+    /// The Pass's request, which executes still, has run so long that it took so much, at most 2^46 in the unit of costs. If
+    /// it was dispatched from a queue, and that queue was charged less for it, the queue is charged this from now on. Says
+    /// whether it is: see `settle`. It makes no step.
+    pub fn spend(&mut self, pass: &Pass, amount: u64) -> bool
+        requires own { pass_gate pass.now ≡ desk_gate self.old.desk }
+        requires executes { HoldsSeats pass.now }
+        requires low { amount ≤ max_charge }
+        ensures same { SameLifeBook self.old self.new }
+        ensures desk { self.new.desk ≡ self.old.desk }
+        ensures notes { self.new.notes ≡ self.old.notes }
+        ensures answer { (v : LifeView) → IsLifeKept v self.old → SpendsLife v self.old pass.now.pass.number amount result self.new }
+    {
+        self.ledger.spend(pass.number(), amount)
+    }
+
     /// There is a history that the book is of.
     ///
     /// It makes no step: the contract is the law.
@@ -353,7 +407,7 @@ impl<A: Allocator> LifeBook<A> {
     }
 
     // Tries once to serve the chosen head, if any waits.
-    fn turn<G: Allocator>(&mut self, gate: &Gate<G>) -> Option<Served>
+    fn serve_head_once<G: Allocator>(&mut self, gate: &Gate<G>) -> Option<Served>
         requires own { desk_gate self.old.desk ≡ gate.now }
         ensures same { SameLifeBook self.old self.new }
         ensures turns { (v : LifeView) → IsLifeKept v self.old → TurnsLife result v self.old self.new }

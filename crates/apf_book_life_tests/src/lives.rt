@@ -1,5 +1,5 @@
-//! Many requests over a few slots, one after another. Each event is read as it comes, and the plain program judges the
-//! whole history, of all requests that ever were.
+//! Many requests over a few slots, one after another. Each event is read as it comes, and what requests took is told. The
+//! plain programs judge the whole log, of all requests that ever were.
 
 ghost use Rattle.std.specs.Prelude.{◌≡◌, ◌<◌, ◌≤◌, length, All};
 ghost use Rattle.apf_model.specs.declared.response.Response.TheVariants.{Queue};
@@ -9,12 +9,13 @@ ghost use Rattle.apf_book.specs.Life.{sizes_of};
 ghost use Rattle.apf_book.specs.LifeCalls.{IsLifeDeskFor};
 
 use crate::marks::Mark;
+use crate::plainly::{Happening, Plain};
 use crate::tenant::{Stage, Tenant};
-use apf_book::{Config, LifeBook, LifeEvent, Response};
+use apf_book::{Config, LifeBook, LifeEvent, Response, Settling};
 use apf_flow::Dealer;
 use apf_gate::{Cancel, Gate, Opened, Pass, Station, Ticket};
 use apf_model::Event;
-use apf_plain::{is_fair, names_queues, names_requests, stats_of};
+use apf_plain::{is_fair, is_legal, names_queues, names_requests, stats_of};
 use apf_words::Decision;
 use std::alloc::Global;
 use std::marker::Brand;
@@ -55,6 +56,8 @@ struct Past {
     costs: Vec<u32>,
     hands: Vec<u32>,
     log: Vec<Event>,
+    // the same, with what requests took
+    happened: Vec<Happening>,
     // how many of each kind were told to callers
     executed: u64,
     cancelled: u64,
@@ -68,6 +71,7 @@ impl Past {
             costs: Vec::new(alloc),
             hands: Vec::new(alloc),
             log: Vec::new(alloc),
+            happened: Vec::new(alloc),
             executed: 0,
             cancelled: 0,
             full: 0,
@@ -114,10 +118,28 @@ impl Past {
         let Ok(()) = self.log.push(event) else {
             panic!(rt; "memory")
         };
+        self.is_told(rt, Happening::Event(event));
     }
 
-    // The plain program judges the log: it is of these requests and queues, and fair by their costs and hands.
-    fn judge<R: Abort>(&self, rt: &R, alloc: Global) {
+    fn is_told<R: Abort>(&mut self, rt: &R, what: Happening) {
+        let Ok(()) = self.happened.push(what) else {
+            panic!(rt; "memory")
+        };
+    }
+
+    // The plain programs judge the log: it is of these requests and queues, legal by their hands, and each choice is by
+    // what the queues were charged. Tells whether it is fair by the costs alone, and how many charges were settled and grew.
+    fn judge<R: Abort>(&self, rt: &R, alloc: Global) -> (bool, u32, u32) {
+        let Ok(mut plain) = Plain::new(alloc, QUEUES, self.costs.as_slice()) else {
+            panic!(rt; "memory")
+        };
+        for what in self.happened.iter() {
+            plain.happens(rt, *what);
+        }
+        (self.is_fair(rt, alloc), plain.settled, plain.grown)
+    }
+
+    fn is_fair<R: Abort>(&self, rt: &R, alloc: Global) -> bool {
         let Ok(mut history) = self.log.to_vec(alloc) else {
             panic!(rt; "memory")
         };
@@ -137,7 +159,10 @@ impl Past {
             LENGTH,
             history,
         );
-        assert_eq!(rt; fair, Ok(true));
+        let hands = self.hands.as_slice();
+        let legal = is_legal(alloc, hands, 2, LENGTH, history);
+        assert_eq!(rt; legal, Ok(true));
+        fair == Ok(true)
     }
 }
 
@@ -227,13 +252,45 @@ impl<K: Mark> Level<K> {
         assert!(rt; arrived.is_some());
     }
 
+    // The slot's request has taken so much, if it executes.
+    fn has_taken<R: Abort>(&mut self, rt: &R, past: &mut Past, draw: &mut Draw, slot: usize)
+        requires { slot < 5 }
+    {
+        let amount = u64::from(draw.below(9));
+        let ticket = self.tenants[slot].ticket();
+        if let Some(said) = self.tenants[slot].has_taken(&mut self.book, amount) {
+            let request = past.place(rt, ticket);
+            past.is_told(rt, Happening::HasTaken(request, amount, said));
+        }
+    }
+
+    // The slot's request ends, if it executes: one of four is not measured.
+    fn ends<R: Abort>(&mut self, rt: &R, past: &mut Past, draw: &mut Draw, slot: usize)
+        requires { slot < 5 }
+    {
+        if draw.below(4) == 0 {
+            self.tenants[slot].finish(&self.gate);
+            return;
+        }
+        let amount = u64::from(draw.below(13));
+        let ticket = self.tenants[slot].ticket();
+        let settled = self.tenants[slot].finish_measured(&self.gate, &mut self.book, amount);
+        if let Some(said) = settled {
+            let request = past.place(rt, ticket);
+            past.is_told(rt, Happening::Took(request, amount, said));
+        }
+    }
+
     // Whoever waits in the slot sees its decision, and one that is over is renewed.
     fn goes_on<R: Abort>(&mut self, rt: &R, past: &mut Past, draw: &mut Draw, slot: usize)
         requires { slot < 5 }
     {
         self.tenants[slot].look(&self.gate, &mut self.book);
         if draw.below(2) == 0 {
-            self.tenants[slot].finish(&self.gate);
+            self.has_taken(rt, past, draw, slot);
+        }
+        if draw.below(2) == 0 {
+            self.ends(rt, past, draw, slot);
         }
         if !self.tenants[slot].is_over() {
             return;
@@ -353,7 +410,7 @@ fn play<K: Mark, R: Wait + Abort>(
         unreachable!()
     };
     desk.is_of_a_gate();
-    let Ok(book) = LifeBook::new(alloc, config, SLOTS, desk) else {
+    let Ok(book) = LifeBook::new(alloc, config, SLOTS, desk, Settling::Told) else {
         panic!(rt; "no book")
     };
     let Ok(dealer) = Dealer::new(config.queues, config.hand_size) else {
@@ -381,9 +438,9 @@ fn run<R: Wait + Abort>(rt: &R, alloc: Global, config: &Config, seed: u32) -> Pa
 }
 
 // Every request of many levels, each of five slots: some wait, are dispatched, struck and refused, and late cancels
-// find others.
+// find others. What most of them took is settled, so that some choices are others than by the costs alone.
 #[test]
-fn the_history_of_all_requests_is_fair(rt: HostRuntime) {
+fn the_log_of_all_requests_is_fair(rt: HostRuntime) {
     let alloc = rt.alloc();
     let config = Config {
         limit: 3,
@@ -392,10 +449,15 @@ fn the_history_of_all_requests_is_fair(rt: HostRuntime) {
         queue_length_limit: LENGTH,
         limit_response: Response::Queue,
     };
-    let mut kinds = [0u32; 4];
+    let mut kinds = [0u32; 7];
     for seed in 0..30 {
         let past = run(&rt, alloc, &config, seed);
-        past.judge(&rt, alloc);
+        let (fair, settled, grown) = past.judge(&rt, alloc);
+        if !fair {
+            kinds[4] = kinds[4].wrapping_add(7);
+        }
+        kinds[5] = kinds[5].wrapping_add(settled);
+        kinds[6] = kinds[6].wrapping_add(grown);
         for event in past.log.iter() {
             let kind = match event {
                 Event::Enter(_, _) => 0,

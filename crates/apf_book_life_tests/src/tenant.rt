@@ -9,7 +9,9 @@ ghost use Rattle.apf_gate.specs.Records.{told_own};
 ghost use Rattle.apf_gate.specs.Slots.{IsTicket};
 ghost use Rattle.apf_gate.specs.Traces.{asked_in};
 ghost use Rattle.apf_gate.specs.Tokens.{pass_gate, desk_gate};
+ghost use Rattle.apf_queue.specs.View.{max_charge};
 ghost use Rattle.apf_book.specs.Life.{sizes_of};
+ghost use Rattle.apf_book.specs.LifeBook.{HoldsSeats};
 ghost use Rattle.apf_book_life_tests.specs.declared.tenant.Stage.TheVariants as stages;
 
 use crate::marks::Mark;
@@ -55,6 +57,7 @@ pub struct Tenant<K: Mark> {
     ghost some_cost: { (1 ≤ cost) × (cost ≤ max_cost) },
     ghost waits: { stage ≡ stages.Waits → (pass.pass.state ≡ states.InLine) × (pass.pass.entered ≡ true) },
     ghost runs: { stage ≡ stages.Runs → (pass.pass.state ≡ states.InLine) × (told_own pass.pass ≡ Some Execute) },
+    ghost seats: { stage ≡ stages.Runs → HoldsSeats pass },
     ghost ended: { stage ≡ stages.Ended → (pass.pass.state ≡ states.Over) × (told_own pass.pass ≢ None) },
     ghost refused: { stage ≡ stages.Refused → (pass.pass.state ≡ states.InLine) × (pass.pass.entered ≡ false) × (told_own pass.pass ≢ None) },
     ghost withdrawn: { stage ≡ stages.Withdrawn → (pass.pass.state ≡ states.InLine) × (pass.pass.left ≡ true) × (told_own pass.pass ≢ None) },
@@ -161,6 +164,40 @@ impl<K: Mark> Tenant<K> {
         let _waiting = gate.release(&mut self.pass);
         self.stage = Stage::Ended;
         true
+    }
+
+    /// As `finish`, of a request that took so much, which the book settles before. Says what the book said of that.
+    pub fn finish_measured(
+        &mut self,
+        gate: &Gate<Global>,
+        book: &mut LifeBook<Global>,
+        amount: u64,
+    ) -> Option<bool>
+        requires gate { gate.now ≡ K.gate }
+        requires book { desk_gate book.old.desk ≡ K.gate }
+        requires low { amount ≤ max_charge }
+        ensures book { desk_gate book.new.desk ≡ K.gate }
+        ensures sizes { sizes_of book.new.queues ≡ sizes_of book.old.queues }
+    {
+        if self.stage != Stage::Runs {
+            return None;
+        }
+        let settled = book.settle(&self.pass, amount);
+        self.finish(gate);
+        Some(settled)
+    }
+
+    /// Has taken so much, if it executes, and the book is told. Says what the book said of that.
+    pub fn has_taken(&self, book: &mut LifeBook<Global>, amount: u64) -> Option<bool>
+        requires book { desk_gate book.old.desk ≡ K.gate }
+        requires low { amount ≤ max_charge }
+        ensures book { desk_gate book.new.desk ≡ K.gate }
+        ensures sizes { sizes_of book.new.queues ≡ sizes_of book.old.queues }
+    {
+        if self.stage != Stage::Runs {
+            return None;
+        }
+        Some(book.spend(&self.pass, amount))
     }
 
     /// Leaves the request, if it is over or nobody held the slot yet, for the next one of the slot, which asks for this.

@@ -28,7 +28,7 @@ use std::thread;
 use std::thread::{Threads, join_mut};
 
 // The first request takes all seats, the others wait, and then it gives its seats back.
-fn line_up<K: Mark, R: Wait + Abort>(
+fn enqueue_all<K: Mark, R: Wait + Abort>(
     rt: &R,
     gate: &Gate<Global>,
     round: &Round<K>,
@@ -167,7 +167,7 @@ fn round<K: Mark + Send + Sync, R: Threads + Wait + Abort + Sync>(
     let mut requests = requests_of::<Global, K>(alloc, passes)?;
     let round = Round::<K>::new(number, 3, Book::new(alloc, &config, asks, desk)?);
     let lost = AtomicU64::new(0);
-    line_up(rt, &gate, &round, requests.as_mut_slice());
+    enqueue_all(rt, &gate, &round, requests.as_mut_slice());
     dispatch_beside_cancels(rt, &gate, &round, &lost, stations.as_mut_slice());
     finish_all(&gate, requests.as_mut_slice());
     let book = round.into_book();

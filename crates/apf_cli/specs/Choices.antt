@@ -44,6 +44,12 @@ abbrev pub IsChargeFor : Option (Bor (List ℕ)) → ChargedBy → Type 0
 IsChargeFor None charged = charged ≡ Time
 IsChargeFor (Some word) charged = named word.now ≡ Some charged
 
+-- what the word says that requests are charged, and nothing where there is none
+abbrev pub IsChargeNamed : Option (Bor (List ℕ)) → Option ChargedBy → Type 0
+IsChargeNamed None charged = charged ≡ None
+IsChargeNamed (Some word) None = ⊥
+IsChargeNamed (Some word) (Some charged) = named word.now ≡ Some charged
+
 -- the word says nothing that requests are charged
 abbrev pub IsNoChargeFor : Option (Bor (List ℕ)) → Type 0
 IsNoChargeFor None = ⊥

@@ -6,40 +6,15 @@ ghost use Rattle.apf_cli.specs.Choices.{IsInstantFor, IsNoInstantFor, IsByFor, I
 use crate::faults::{Bound, Fault};
 use crate::files::{Files, Input, read_input};
 use crate::measuring::Measure;
+use crate::notes::{note_cut, note_nothing_chosen, note_turned_away};
 use crate::telling::{audit_fault, named};
-use apf_audit::{
-    AuditRequest, By, Choice, count_turned_away, ends_early, read_audit_log, read_instant,
-    write_trace,
-};
+use apf_audit::{By, Choice, read_audit_log, read_instant, write_trace};
 use apf_commands::Chosen;
 use std::alloc::Global;
 use std::io::Write;
 
 /// The most bytes of the name of a flow schema, so that each line of the trace has at most 65,536.
 const MOST_SCHEMA: usize = 4096;
-
-// Says on `err` that the last line of a log was left out, where it was. A write to `err` that fails changes nothing.
-fn note_cut<E: Write>(alloc: Global, bytes: &[u8], err: &mut E) -> Result<(), Fault> {
-    if ends_early(alloc, bytes)? {
-        let _ = writeln!(
-            err,
-            "apf: the last line is left out: it has no LF at its end, and is not whole JSON"
-        );
-    }
-    Ok(())
-}
-
-// Says on `err` how many requests were turned away, if any were. A write to `err` that fails changes nothing.
-fn note_turned_away<E: Write>(requests: &[AuditRequest], err: &mut E) {
-    let count = count_turned_away(requests);
-    if count > 0 {
-        let all = requests.len();
-        let _ = writeln!(
-            err,
-            "apf: {count} of {all} requests were turned away with status 429: each gets the median runsFor of those of its flow that ran, or of all that ran"
-        );
-    }
-}
 
 // What makes a flow, by the words of a command line: users if none are given.
 fn by_of(word: Option<&str>) -> Result<By, Fault>
@@ -79,8 +54,8 @@ fn choice_of<'a>(chosen: &Chosen<'a>) -> Result<Choice<'a>, Fault>
 }
 
 /// Prints the trace of the chosen requests of the audit log of the first name, all of the flow schema that the second one
-/// names. A last line that is left out, as one
-/// that is still written, is said on `err`, and how many requests were turned away.
+/// names. A last line that is left out, as one that is still written, is said on `err`, and how many requests were turned
+/// away, and that the options choose none.
 ///
 /// # Errors
 ///
@@ -112,5 +87,6 @@ pub(crate) fn print_trace<F: Files, O: Write, E: Write>(
     size.judge(Input::Trace)?;
     note_cut(alloc, bytes.as_slice(), err)?;
     note_turned_away(requests.as_slice(), err);
+    note_nothing_chosen(chosen, requests.as_slice(), err);
     write_trace(schema, requests.as_slice(), out).map_err(|_| Fault::CannotWrite)
 }

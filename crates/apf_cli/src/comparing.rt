@@ -1,10 +1,12 @@
 //! The commands that say more of a simulation: of each request, and of two levels.
 
 use crate::faults::Fault;
-use crate::files::{Files, Input, judge_names, read_input};
-use crate::traces::{patience_of, read_requests, simulated};
-use apf_run::read_config;
-use apf_simulation::{Comparison, simulate};
+use crate::files::{Files, judge_names};
+use crate::reading::config_of;
+use crate::traces::{
+    Way, charge_of, charge_or_usual, patience_of, read_requests, simulated, simulated_on,
+};
+use apf_simulation::Comparison;
 use std::alloc::Global;
 use std::io::Write;
 
@@ -12,16 +14,16 @@ use std::io::Write;
 ///
 /// # Errors
 ///
-/// The fault of the patience, then those of the files in the order config, trace, then those of the level, then those
-/// of the output.
+/// The faults of the patience and of what requests are charged, then those of the files in the order config, trace, then
+/// those of the level, then those of the output.
 pub(crate) fn print_fates<F: Files, O: Write>(
     alloc: Global,
     files: &mut F,
     names: (&str, &str),
-    patience: &str,
+    way: Way<'_>,
     out: &mut O,
 ) -> Result<(), Fault> {
-    let (_config, trace, simulation) = simulated(alloc, files, names, patience)?;
+    let (_config, trace, simulation) = simulated(alloc, files, names, way)?;
     simulation
         .write_fates(trace.as_slice(), out)
         .map_err(|_| Fault::CannotWrite)
@@ -31,22 +33,24 @@ pub(crate) fn print_fates<F: Files, O: Write>(
 ///
 /// # Errors
 ///
-/// The fault of the patience, then those of the files in the order of their names, then those of the one level and of
-/// the other, then those of the output.
+/// The faults of the patience and of what requests are charged, then those of the files in the order of their names, then
+/// those of the one level and of the other, then those of the output.
 pub(crate) fn print_comparison<F: Files, O: Write>(
     alloc: Global,
     files: &mut F,
     names: (&str, &str, &str),
-    patience: &str,
+    way: Way<'_>,
     out: &mut O,
 ) -> Result<(), Fault> {
-    let patience = patience_of(patience)?;
+    let patience = patience_of(way.patience)?;
+    let by = charge_of(way.charge)?;
     judge_names(&[names.0, names.1, names.2])?;
-    let config = read_config(alloc, read_input(files, Input::Config, names.0)?.as_slice())?;
-    let other = read_config(alloc, read_input(files, Input::Config, names.1)?.as_slice())?;
+    let config = config_of(alloc, files, names.0)?;
+    let other = config_of(alloc, files, names.1)?;
     let trace = read_requests(alloc, files, names.2)?;
-    let one = simulate(alloc, &config, trace.as_slice(), patience)?;
-    let two = simulate(alloc, &other, trace.as_slice(), patience)?;
+    let by = charge_or_usual(by, trace.as_slice());
+    let one = simulated_on(alloc, names.0, &config, trace.as_slice(), patience, by)?;
+    let two = simulated_on(alloc, names.1, &other, trace.as_slice(), patience, by)?;
     let comparison = Comparison::new(alloc, &one, &two)?;
     comparison
         .write(trace.as_slice(), out)

@@ -66,14 +66,16 @@ pub enum Fault {
     /// In a simulation nothing is due any more, and a request still waits. It has never been seen.
     StillWaits,
     CannotRead(Input, Cause),
-    /// The file has more bytes than it may have.
-    TooLarge(Input),
+    /// The file has more bytes than it may have, and begins with these.
+    TooLarge(Input, Vec<u8>),
     /// The output would have more bytes than the program reads of such a file.
     Unreadable(Input),
     /// The commands of `serve` were not read.
     CannotReadCommands,
     /// Two files are to be read from standard input.
     TwoInputs,
+    /// The config of `serve` is to be read from standard input, which has the commands.
+    CommandsOnInput,
     CannotWrite,
     /// The worker of this number could not be started.
     Worker(u32),
@@ -89,6 +91,7 @@ impl Fault {
         match self {
             Fault::Dealer(_, Sizes::OfCommandLine)
             | Fault::TwoInputs
+            | Fault::CommandsOnInput
             | Fault::LongSchema
             | Fault::BadPatience
             | Fault::BadBy
@@ -106,7 +109,7 @@ impl Fault {
             | Fault::StillWaits
             | Fault::CannotRead(_, _)
             | Fault::CannotReadCommands
-            | Fault::TooLarge(_)
+            | Fault::TooLarge(_, _)
             | Fault::Unreadable(_)
             | Fault::CannotWrite => 1,
         }
@@ -270,7 +273,7 @@ impl fmt::Display for Fault {
             Fault::Level(fault) => write!(f, "apf: the level can't be opened: {fault}"),
             Fault::StillWaits => f.write_str("apf: a request still waits, and no seat is taken"),
             Fault::CannotRead(input, _) => write!(f, "apf: cannot read {input}"),
-            Fault::TooLarge(input) => {
+            Fault::TooLarge(input, _) => {
                 let most = input.most();
                 write!(f, "apf: {input} too large: more than {most} bytes")
             }
@@ -283,6 +286,9 @@ impl fmt::Display for Fault {
             }
             Fault::CannotReadCommands => f.write_str("apf: cannot read standard input"),
             Fault::TwoInputs => f.write_str("apf: standard input is named twice"),
+            Fault::CommandsOnInput => {
+                f.write_str("apf: CONFIG must be a file: the commands come from standard input")
+            }
             Fault::CannotWrite => f.write_str("apf: cannot write"),
             Fault::Worker(number) => write!(f, "apf: worker {number} could not start"),
             Fault::NoMemory => f.write_str("apf: out of memory"),

@@ -75,12 +75,12 @@ impl fmt::Display for Cause {
 }
 
 /// Why a file was not read.
-#[derive(Clone, Copy, Debug, PartialEq, Eq)]
+#[derive(Debug, PartialEq, Eq, Drop)]
 pub enum FileFault {
     /// The system does not let it be read.
     CannotRead(Cause),
-    /// The file has more bytes than were asked for.
-    TooLarge,
+    /// The file has more bytes than were asked for. Those that were read are its beginning.
+    TooLarge(Vec<u8>),
     /// Memory was refused.
     NoMemory,
 }
@@ -169,7 +169,7 @@ pub(crate) fn read_input<F: Files>(
     match read {
         Ok(bytes) => Ok(bytes),
         Err(FileFault::CannotRead(cause)) => Err(Fault::CannotRead(input, cause)),
-        Err(FileFault::TooLarge) => Err(Fault::TooLarge(input)),
+        Err(FileFault::TooLarge(front)) => Err(Fault::TooLarge(input, front)),
         Err(FileFault::NoMemory) => Err(Fault::NoMemory),
     }
 }

@@ -3,10 +3,11 @@
 //! In the order of the data's way:
 //!
 //! - `files`: where the files' bytes come from.
-//! - `explaining`: says what is wrong with files. `telling` does that for one line on standard error.
+//! - `reading`: reads and judges the files of a level, and says what is wrong with one. `explaining` prints that, and
+//!   `telling` says it of other files.
 //! - `traces`, `comparing`, `pictures`: do the commands on a trace. `audits`: does that on an audit log.
 //! - `running`: runs requests by workers. `serving`: serves a level over standard input.
-//! - `measuring`: how large an output will be, before its first byte.
+//! - `measuring`: how large an output will be, before its first byte. `notes`: the lines beside an output.
 //! - `program`: does the others, and answers the status.
 //! - `faults`: the lines on standard error.
 #![tactic(auto)]
@@ -18,8 +19,10 @@ mod explaining;
 mod faults;
 mod files;
 mod measuring;
+mod notes;
 mod pictures;
 mod program;
+mod reading;
 mod running;
 mod serving;
 mod telling;

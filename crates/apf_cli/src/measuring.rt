@@ -16,6 +16,11 @@ impl Measure {
         Measure { count: 0 }
     }
 
+    /// Whether there is no output.
+    pub(crate) fn is_empty(&self) -> bool {
+        self.count == 0
+    }
+
     /// The output is one that the program reads as such a file.
     ///
     /// # Errors

@@ -4,7 +4,7 @@ ghost use Rattle.std.specs.Prelude.{◌≡◌, ◌≤◌, IfOk, vec_len, length}
 
 use crate::faults::Fault;
 use crate::files::Files;
-use crate::traces::simulated;
+use crate::traces::{Way, simulated};
 use apf_flows::flows_of;
 use apf_picture::{Outcome, Picture, Scene};
 use apf_simulation::End;
@@ -35,16 +35,16 @@ fn outcomes_of(
 ///
 /// # Errors
 ///
-/// The fault of the patience, then those of the files in the order config, trace, then those of the level, then those
-/// of the output.
+/// The faults of the patience and of what requests are charged, then those of the files in the order config, trace, then
+/// those of the level, then those of the output.
 pub(crate) fn print_picture<F: Files, O: Write>(
     alloc: Global,
     files: &mut F,
     names: (&str, &str),
-    patience: &str,
+    way: Way<'_>,
     out: &mut O,
 ) -> Result<(), Fault> {
-    let (config, trace, simulation) = simulated(alloc, files, names, patience)?;
+    let (config, trace, simulation) = simulated(alloc, files, names, way)?;
     let outcomes = outcomes_of(
         alloc,
         simulation.queues.as_slice(),

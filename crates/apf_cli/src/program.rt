@@ -12,20 +12,26 @@ use crate::clusters::{print_cluster, print_matches};
 use crate::comparing::{print_comparison, print_fates};
 use crate::explaining::print_explanation;
 use crate::faults::{Fault, Sizes};
-use crate::files::{Files, Input, judge_names, read_input};
+use crate::files::{Files, judge_names};
+use crate::notes::note_patience;
 use crate::pictures::print_picture;
-use crate::running::{print_run, read_level};
+use crate::reading::{Explained, level_fault, read_level, script_in};
+use crate::running::print_run;
 use crate::serving::{Served, print_served};
-use crate::traces::{print_hands, print_requests, print_simulation, print_timeline};
+use crate::traces::{Way, print_hands, print_requests, print_simulation, print_timeline};
 use apf_commands::{Action, Arguments, read_words};
 use apf_flow::{Dealer, flow_hash};
 use apf_flows::write_escaped;
-use apf_run::{Transcript, read_script, replay};
+use apf_run::{Transcript, replay};
 use clap::error::ErrorKind;
 use std::alloc::{AllocError, Global};
-use std::io::Write;
+use std::io::{IsTerminal, Write};
 use std::sync::Wait;
 use std::thread::Threads;
+
+// Where output goes.
+const OUTPUT: &str =
+    "apf: the output goes to standard output: >FILE behind the command writes it to a file";
 
 // Prints the hash as 16 hexadecimal digits.
 fn print_hash<O: Write>(schema: &str, distinguisher: &str, out: &mut O) -> Result<(), Fault> {
@@ -54,21 +60,24 @@ fn replayed<F: Files, R: Wait>(
     alloc: Global,
     files: &mut F,
     names: (&str, &str, &str),
-) -> Result<Transcript, Fault> {
-    judge_names(&[names.0, names.1, names.2])?;
+) -> Result<Transcript, Explained> {
     let (config, requests) = read_level(alloc, files, names.0, names.1)?;
-    let script = read_input(files, Input::Script, names.2)?;
-    let commands = read_script(alloc, script.as_slice(), requests.len() as u32)?;
-    Ok(replay(rt, alloc, &config, requests.as_slice(), commands.as_slice())?)
+    let commands = script_in(alloc, files, names.2, requests.len() as u32)?;
+    match replay(rt, alloc, &config, requests.as_slice(), commands.as_slice()) {
+        Ok(transcript) => Ok(transcript),
+        Err(fault) => Err(level_fault(alloc, names.0, &config, fault.into())),
+    }
 }
 
-// Does what a command on a script asks for, and prints what it says.
+// Does what a command on a script asks for, and prints what it says. `is_whole` says whether the line of a fault has the
+// one behind it that says it to a person.
 fn print_scripted<F: Files, O: Write, R: Wait>(
     rt: &R,
     alloc: Global,
     command: &str,
     files: &mut F,
     names: (&str, &str, &str),
+    is_whole: bool,
     out: &mut O,
 ) -> Result<(), Fault>
     requires { is_script_command command.now ≡ true }
@@ -76,7 +85,11 @@ fn print_scripted<F: Files, O: Write, R: Wait>(
     if command == "explain" {
         return print_explanation(rt, alloc, files, names, out);
     }
-    let transcript = replayed(rt, alloc, files, names)?;
+    judge_names(&[names.0, names.1, names.2])?;
+    let transcript = match replayed(rt, alloc, files, names) {
+        Ok(transcript) => transcript,
+        Err(explained) => return Err(explained.told(alloc, is_whole)),
+    };
     if command == "replay" {
         Ok(transcript.write(out)?)
     } else if command == "services" {
@@ -94,26 +107,26 @@ fn print_simulated<F: Files, O: Write>(
     command: &str,
     files: &mut F,
     names: (&str, &str),
-    patience: &str,
+    way: Way<'_>,
     out: &mut O,
 ) -> Result<(), Fault>
     requires { is_simulation_command command.now ≡ true }
 {
     if command == "simulate" {
-        print_simulation(alloc, files, names, patience, out)
+        print_simulation(alloc, files, names, way, out)
     } else if command == "timeline" {
-        print_timeline(alloc, files, names, patience, out)
+        print_timeline(alloc, files, names, way, out)
     } else if command == "fates" {
-        print_fates(alloc, files, names, patience, out)
+        print_fates(alloc, files, names, way, out)
     } else if command == "picture" {
-        print_picture(alloc, files, names, patience, out)
+        print_picture(alloc, files, names, way, out)
     } else {
         unreachable!()
     }
 }
 
 // Does what a command asks for, and prints what it says. Where commands have arguments of one kind, its name says which it is.
-fn print_action<F: Files, O: Write, E: Write, R: Wait + Threads + Sync>(
+fn print_action<F: Files, O: Write, E: Write + IsTerminal, R: Wait + Threads + Sync>(
     rt: &R,
     alloc: Global,
     action: Action<'_>,
@@ -135,13 +148,21 @@ fn print_action<F: Files, O: Write, E: Write, R: Wait + Threads + Sync>(
             config,
             requests,
             script,
-        } => print_scripted(rt, alloc, command, files, (config, requests, script), out),
+        } => {
+            let is_whole = err.is_terminal();
+            let names = (config, requests, script);
+            print_scripted(rt, alloc, command, files, names, is_whole, out)
+        }
         Arguments::Workers {
             config,
             requests,
             workers,
             rounds,
-        } => print_run(rt, alloc, files, (config, requests), (workers, rounds), out),
+        } => {
+            let is_whole = err.is_terminal();
+            let pace = (workers, rounds);
+            print_run(rt, alloc, files, (config, requests), pace, is_whole, out)
+        }
         Arguments::Level {
             config,
             slots,
@@ -160,19 +181,31 @@ fn print_action<F: Files, O: Write, E: Write, R: Wait + Threads + Sync>(
             config,
             trace,
             patience,
-        } => print_simulated(alloc, command, files, (config, trace), patience, out),
+            charge,
+        } => {
+            let way = Way { patience, charge };
+            print_simulated(alloc, command, files, (config, trace), way, out)?;
+            note_patience(patience, err);
+            Ok(())
+        }
         Arguments::Comparison {
             config,
             other,
             trace,
             patience,
-        } => print_comparison(alloc, files, (config, other, trace), patience, out),
+            charge,
+        } => {
+            let way = Way { patience, charge };
+            print_comparison(alloc, files, (config, other, trace), way, out)?;
+            note_patience(patience, err);
+            Ok(())
+        }
         Arguments::Trace { trace } => print_requests(alloc, files, trace, out),
         Arguments::Flows {
             config,
             trace,
             flow,
-        } => print_hands(alloc, files, (config, trace), flow, out),
+        } => print_hands(alloc, files, (config, trace), flow, out, err),
         Arguments::AuditLog {
             log,
             schema,
@@ -184,7 +217,7 @@ fn print_action<F: Files, O: Write, E: Write, R: Wait + Threads + Sync>(
 }
 
 // The same, with all of it written.
-fn perform<F: Files, O: Write, E: Write, R: Wait + Threads + Sync>(
+fn perform<F: Files, O: Write, E: Write + IsTerminal, R: Wait + Threads + Sync>(
     rt: &R,
     alloc: Global,
     action: Action<'_>,
@@ -202,6 +235,11 @@ fn perform<F: Files, O: Write, E: Write, R: Wait + Threads + Sync>(
     }
 }
 
+// Whether a refusal is of an option that names a file for the output.
+fn is_of_output(text: &str) -> bool {
+    text.contains("unexpected argument '-o'") || text.contains("unexpected argument '--out")
+}
+
 // Prints the lines of a refusal, which name words of the command line: escaped as file names are. A write to `err` that
 // fails changes nothing.
 fn print_escaped<E: Write>(
@@ -213,6 +251,9 @@ fn print_escaped<E: Write>(
     for line in text.lines() {
         let _ = write_escaped(err, line);
         let _ = err.write_all(b"\n");
+    }
+    if is_of_output(text.as_str()) {
+        let _ = writeln!(err, "{OUTPUT}");
     }
     Ok(())
 }
@@ -240,7 +281,7 @@ fn print_refusal<O: Write, E: Write>(
 }
 
 // Does what the words ask for, or prints what `clap` says of them.
-fn attempt<F: Files, O: Write, E: Write, R: Wait + Threads + Sync>(
+fn attempt<F: Files, O: Write, E: Write + IsTerminal, R: Wait + Threads + Sync>(
     rt: &R,
     alloc: Global,
     words: &[&str],
@@ -268,7 +309,7 @@ fn attempt<F: Files, O: Write, E: Write, R: Wait + Threads + Sync>(
 ///
 /// Where there is nothing to say of the words themselves, status 0 means that their command was performed. What is stated of that
 /// is what `run` prints: the book of a run of the files that it names.
-pub fn act<F: Files, O: Write, E: Write, R: Wait + Threads + Sync>(
+pub fn act<F: Files, O: Write, E: Write + IsTerminal, R: Wait + Threads + Sync>(
     rt: &R,
     alloc: Global,
     words: &[&str],

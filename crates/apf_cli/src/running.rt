@@ -1,14 +1,14 @@
 //! Runs the requests of files by workers.
 
-ghost use Rattle.std.specs.Prelude.{◌≡◌, ◌<◌, ◌≤◌, length, All, IfOk, OnOk};
-ghost use Rattle.apf_cli.specs.Runs.{AreRead, IsRunOf, IsRunInRounds, PrintsRun, PrintsRounds, PrintsBook};
-ghost use Rattle.apf_life_run.specs.Plans.{HasWidth, max_rounds};
-ghost use Rattle.apf_run.specs.Limits.{max_requests};
+ghost use Rattle.std.specs.Prelude.{◌≡◌, ◌<◌, ◌≤◌, IfOk, OnOk};
+ghost use Rattle.apf_cli.specs.Runs.{IsRunOf, IsRunInRounds, PrintsRun, PrintsRounds, PrintsBook};
+ghost use Rattle.apf_life_run.specs.Plans.{max_rounds};
 
 use crate::faults::Fault;
-use crate::files::{Files, Input, judge_names, read_input};
+use crate::files::{Files, judge_names};
+use crate::reading::{Explained, level_fault, read_level};
 use apf_life_run::{RoundsFault, run_rounds};
-use apf_run::{Config, Report, Request, RunFault, read_config, read_requests, run, write_book};
+use apf_run::{Report, RunFault, run, write_book};
 use std::alloc::Global;
 use std::hint;
 use std::io::Write;
@@ -24,24 +24,6 @@ impl From<RoundsFault> for Fault {
             RoundsFault::Level(fault) => RunFault::Level(fault).into(),
         }
     }
-}
-
-/// Reads the config and the requests, the config judged before the requests are read.
-pub(crate) fn read_level<F: Files>(
-    alloc: Global,
-    files: &mut F,
-    config: &str,
-    requests: &str,
-) -> Result<(Config, Vec<Request>), Fault>
-    ensures few { IfOk result (λ o. length o.1.items ≤ max_requests) }
-    ensures widths { IfOk result (λ o. All HasWidth o.1.items) }
-    ensures read { IfOk result (λ o. AreRead F.holds config.now requests.now o.0 o.1.items) }
-{
-    let bytes = read_input(files, Input::Config, config)?;
-    let config = read_config(alloc, bytes.as_slice())?;
-    let bytes = read_input(files, Input::Requests, requests)?;
-    let requests = read_requests(alloc, bytes.as_slice())?;
-    Ok((config, requests))
 }
 
 // Work that turns an empty loop.
@@ -72,12 +54,15 @@ fn ran<F: Files, R: Wait + Threads + Sync>(
     files: &mut F,
     names: (&str, &str),
     workers: u32,
-) -> Result<Report, Fault>
+) -> Result<Report, Explained>
     requires { 0 < workers }
     ensures { IfOk result (IsRunOf F.holds names.entry.0.now names.entry.1.now workers) }
 {
     let (config, requests) = read_level(alloc, files, names.0, names.1)?;
-    Ok(run(rt, alloc, &config, requests.as_slice(), workers, &Turns)?)
+    match run(rt, alloc, &config, requests.as_slice(), workers, &Turns) {
+        Ok(report) => Ok(report),
+        Err(fault) => Err(level_fault(alloc, names.0, &config, fault.into())),
+    }
 }
 
 // Reads the two files, and brings so many requests in the place of each one to their ends, by so many workers.
@@ -88,14 +73,14 @@ fn ran_in_rounds<F: Files, R: Wait + Threads + Sync>(
     names: (&str, &str),
     workers: u32,
     rounds: u32,
-) -> Result<apf_life_run::Report, Fault>
+) -> Result<apf_life_run::Report, Explained>
     requires workers { 0 < workers }
     requires some { 1 ≤ rounds }
     requires few { rounds ≤ max_rounds }
     ensures { IfOk result (IsRunInRounds F.holds names.entry.0.now names.entry.1.now workers rounds) }
 {
     let (config, requests) = read_level(alloc, files, names.0, names.1)?;
-    Ok(run_rounds(
+    match run_rounds(
         rt,
         alloc,
         &config,
@@ -103,7 +88,10 @@ fn ran_in_rounds<F: Files, R: Wait + Threads + Sync>(
         workers,
         rounds,
         &Turns,
-    )?)
+    ) {
+        Ok(report) => Ok(report),
+        Err(fault) => Err(level_fault(alloc, names.0, &config, fault.into())),
+    }
 }
 
 // The same as a batch, and prints the book of the report.
@@ -113,12 +101,16 @@ fn print_batch<F: Files, O: Write, R: Wait + Threads + Sync>(
     files: &mut F,
     names: (&str, &str),
     workers: u32,
+    is_whole: bool,
     out: &mut O,
 ) -> Result<(), Fault>
     requires { 0 < workers }
     ensures { OnOk result (PrintsRun F.holds names.entry.0.now names.entry.1.now workers (O.contents out.old) (O.contents out.new)) }
 {
-    let report = ran(rt, alloc, files, names, workers)?;
+    let report = match ran(rt, alloc, files, names, workers) {
+        Ok(report) => report,
+        Err(explained) => return Err(explained.told(alloc, is_whole)),
+    };
     Ok(write_book(&report, out)?)
 }
 
@@ -129,6 +121,7 @@ fn print_rounds<F: Files, O: Write, R: Wait + Threads + Sync>(
     files: &mut F,
     names: (&str, &str),
     pace: (u32, u32),
+    is_whole: bool,
     out: &mut O,
 ) -> Result<(), Fault>
     requires workers { 0 < pace.0 }
@@ -136,12 +129,15 @@ fn print_rounds<F: Files, O: Write, R: Wait + Threads + Sync>(
     requires few { pace.1 ≤ max_rounds }
     ensures { OnOk result (PrintsRounds F.holds names.entry.0.now names.entry.1.now pace.0 pace.1 (O.contents out.old) (O.contents out.new)) }
 {
-    let report = ran_in_rounds(rt, alloc, files, names, pace.0, pace.1)?;
+    let report = match ran_in_rounds(rt, alloc, files, names, pace.0, pace.1) {
+        Ok(report) => report,
+        Err(explained) => return Err(explained.told(alloc, is_whole)),
+    };
     Ok(apf_life_run::write_book(&report, out)?)
 }
 
 /// Reads the two files, lets so many workers go so often through the requests, and prints the book. A single round is
-/// run as a batch.
+/// run as a batch. `is_whole` says whether the line of a fault has the one behind it that says it to a person.
 #[tactic(auto, using(crate::proofs::Paces::batch_prints, crate::proofs::Paces::rounds_print))]
 pub(crate) fn print_run<F: Files, O: Write, R: Wait + Threads + Sync>(
     rt: &R,
@@ -149,6 +145,7 @@ pub(crate) fn print_run<F: Files, O: Write, R: Wait + Threads + Sync>(
     files: &mut F,
     names: (&str, &str),
     pace: (u32, u32),
+    is_whole: bool,
     out: &mut O,
 ) -> Result<(), Fault>
     requires workers { 0 < pace.0 }
@@ -158,9 +155,9 @@ pub(crate) fn print_run<F: Files, O: Write, R: Wait + Threads + Sync>(
 {
     judge_names(&[names.0, names.1])?;
     if pace.1 == 1 {
-        print_batch(rt, alloc, files, names, pace.0, out)?;
+        print_batch(rt, alloc, files, names, pace.0, is_whole, out)?;
         return Ok(());
     }
-    print_rounds(rt, alloc, files, names, pace, out)?;
+    print_rounds(rt, alloc, files, names, pace, is_whole, out)?;
     Ok(())
 }

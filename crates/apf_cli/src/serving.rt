@@ -4,10 +4,11 @@ ghost use Rattle.std.specs.Prelude.{◌≡◌, IfOk, IfErr};
 ghost use Rattle.apf_cli.specs.Choices.{IsChargeFor, IsNoChargeFor};
 
 use crate::faults::Fault;
-use crate::files::{Files, Input, STANDARD_INPUT, judge_names, read_input};
+use crate::files::{Files, STANDARD_INPUT};
+use crate::reading::{config_of, level_fault};
 use apf_charges::ChargedBy;
 use apf_local::OpenFault;
-use apf_run::{Config, ReplayFault, read_config};
+use apf_run::ReplayFault;
 use apf_service::{ServeFault, serve};
 use std::alloc::Global;
 use std::io;
@@ -46,13 +47,6 @@ impl From<ServeFault> for Fault {
     }
 }
 
-// The settings of the level. Standard input has the commands, so that the file can't be there.
-fn config_of<F: Files>(alloc: Global, files: &mut F, name: &str) -> Result<Config, Fault> {
-    judge_names(&[name, STANDARD_INPUT])?;
-    let bytes = read_input(files, Input::Config, name)?;
-    Ok(read_config(alloc, bytes.as_slice())?)
-}
-
 /// The words of a command line for a level that stays open.
 #[derive(Clone, Copy)]
 pub(crate) struct Served<'a> {
@@ -77,7 +71,8 @@ fn charged_by(word: Option<&str>) -> Result<ChargedBy, Fault>
     }
 }
 
-/// Opens the level of the file, as the words say, and carries out the commands of standard input.
+/// Opens the level of the file, as the words say, and carries out the commands of standard input, so that the file can't
+/// be there.
 pub(crate) fn print_served<F: Files, O: Write>(
     alloc: Global,
     files: &mut F,
@@ -85,9 +80,12 @@ pub(crate) fn print_served<F: Files, O: Write>(
     out: &mut O,
 ) -> Result<(), Fault> {
     let by = charged_by(level.charge)?;
+    if level.config == STANDARD_INPUT {
+        return Err(Fault::CommandsOnInput);
+    }
     let config = config_of(alloc, files, level.config)?;
     let mut commands = Commands { files };
-    Ok(serve(
+    match serve(
         alloc,
         &config,
         level.slots,
@@ -95,5 +93,11 @@ pub(crate) fn print_served<F: Files, O: Write>(
         by,
         &mut commands,
         out,
-    )?)
+    ) {
+        Ok(()) => Ok(()),
+        Err(fault) => {
+            let explained = level_fault(alloc, level.config, &config, fault.into());
+            Err(explained.told(alloc, true))
+        }
+    }
 }

@@ -1,21 +1,35 @@
 //! The commands on a trace: each reads its files, and prints.
 
-ghost use Rattle.std.specs.Prelude.{◌≡◌, ◌≤◌, All, IfOk, vec_len};
+ghost use Rattle.std.specs.Prelude.{◌≡◌, ◌≤◌, All, IfErr, IfOk, length, unwrap_or, vec_len};
+ghost use Rattle.apf_cli.specs.Choices.{IsChargeNamed, IsNoChargeFor};
+ghost use Rattle.apf_simulation.specs.Charged.{usual_charge as the_usual_charge};
 ghost use Rattle.apf_traces.specs.TraceFile.{max_lines};
 ghost use Rattle.apf_traces.specs.TraceValue.{IsRequestInRange};
 
 use crate::faults::Fault;
 use crate::files::{Files, Input, judge_names, read_input};
 use crate::measuring::Measure;
+use crate::notes::note_no_flow;
+use crate::reading::{config_of, level_fault};
 use crate::telling::{named, trace_fault};
+use apf_charges::ChargedBy;
 use apf_commands::read_patience;
-use apf_flows::{write_hands, write_hands_of, write_requests};
+use apf_flows::{HandsFault, write_hands, write_hands_of, write_requests};
 use apf_gate::Counts;
-use apf_run::{Config, Totals, read_config};
-use apf_simulation::{Simulation, simulate};
+use apf_run::{Config, Totals};
+use apf_simulation::{Simulation, simulate, usual_charge};
 use apf_traces::{TraceRequest, read_trace};
 use std::alloc::Global;
 use std::io::Write;
+
+/// In which way a trace is simulated, by the words of a command line.
+#[derive(Clone, Copy)]
+pub(crate) struct Way<'a> {
+    /// How long a request waits before it gives up.
+    pub(crate) patience: &'a str,
+    /// What requests are charged.
+    pub(crate) charge: Option<&'a str>,
+}
 
 /// The patience that a command line names, in microseconds.
 ///
@@ -28,6 +42,34 @@ pub(crate) fn patience_of(text: &str) -> Result<u64, Fault>
     match read_patience(text) {
         Some(patience) => Ok(u64::from(patience)),
         None => Err(Fault::BadPatience),
+    }
+}
+
+/// What requests are charged, by the word of a command line, if one is given.
+///
+/// # Errors
+///
+/// `BadCharge` if it is neither `time` nor `seats`.
+pub(crate) fn charge_of(word: Option<&str>) -> Result<Option<ChargedBy>, Fault>
+    ensures ok { IfOk result (IsChargeNamed word.entry) }
+    ensures err { IfErr result (λ fault. (fault ≡ Fault.BadCharge) × IsNoChargeFor word.entry) }
+{
+    let Some(word) = word else {
+        return Ok(None);
+    };
+    match ChargedBy::named(word) {
+        Some(by) => Ok(Some(by)),
+        None => Err(Fault::BadCharge),
+    }
+}
+
+/// What the requests of a trace are charged: this, or what they usually are.
+pub(crate) fn charge_or_usual(by: Option<ChargedBy>, trace: &[TraceRequest]) -> ChargedBy
+    ensures { result ≡ unwrap_or by (the_usual_charge trace.now) }
+{
+    match by {
+        Some(by) => by,
+        None => usual_charge(trace),
     }
 }
 
@@ -60,9 +102,34 @@ fn read_both<F: Files>(
     ensures ranges { IfOk result (λ read. All IsRequestInRange read.1.items) }
 {
     judge_names(&[names.0, names.1])?;
-    let config = read_config(alloc, read_input(files, Input::Config, names.0)?.as_slice())?;
+    let config = config_of(alloc, files, names.0)?;
     let trace = read_requests(alloc, files, names.1)?;
     Ok((config, trace))
+}
+
+/// Simulates the trace on the level of the config of this name.
+///
+/// # Errors
+///
+/// Those of the level, of which a dealer's names the config.
+pub(crate) fn simulated_on(
+    alloc: Global,
+    name: &str,
+    config: &Config,
+    trace: &[TraceRequest],
+    patience: u64,
+    by: ChargedBy,
+) -> Result<Simulation, Fault>
+    requires few { length trace.now ≤ max_lines }
+    requires ranges { All IsRequestInRange trace.now }
+    requires patience { patience ≤ 1000000000 }
+    ensures each { IfOk result (λ s. length s.ends.items ≡ length trace.now) }
+    ensures all_queues { IfOk result (λ s. length s.queues.items ≡ length trace.now) }
+{
+    match simulate(alloc, config, trace, patience, by) {
+        Ok(simulation) => Ok(simulation),
+        Err(fault) => Err(level_fault(alloc, name, config, fault.into()).told(alloc, true)),
+    }
 }
 
 /// A trace with the config of its level, and the simulation of both.
@@ -72,20 +139,23 @@ pub(crate) type Simulated = (Config, Vec<TraceRequest>, Simulation);
 ///
 /// # Errors
 ///
-/// The fault of the patience, then those of the files in the order config, trace, then those of the level.
+/// The faults of the patience and of what requests are charged, then those of the files in the order config, trace, then
+/// those of the level.
 pub(crate) fn simulated<F: Files>(
     alloc: Global,
     files: &mut F,
     names: (&str, &str),
-    patience: &str,
+    way: Way<'_>,
 ) -> Result<Simulated, Fault>
     ensures few { IfOk result (λ o. vec_len o.1 ≤ max_lines) }
     ensures each { IfOk result (λ o. vec_len o.2.ends ≡ vec_len o.1) }
     ensures all_queues { IfOk result (λ o. vec_len o.2.queues ≡ vec_len o.1) }
 {
-    let patience = patience_of(patience)?;
+    let patience = patience_of(way.patience)?;
+    let by = charge_of(way.charge)?;
     let (config, trace) = read_both(alloc, files, names)?;
-    let simulation = simulate(alloc, &config, trace.as_slice(), patience)?;
+    let by = charge_or_usual(by, trace.as_slice());
+    let simulation = simulated_on(alloc, names.0, &config, trace.as_slice(), patience, by)?;
     Ok((config, trace, simulation))
 }
 
@@ -116,16 +186,16 @@ fn totals_of(simulation: &Simulation) -> Totals {
 ///
 /// # Errors
 ///
-/// The fault of the patience, then those of the files in the order config, trace, then those of the level, then those
-/// of the output.
+/// The faults of the patience and of what requests are charged, then those of the files in the order config, trace, then
+/// those of the level, then those of the output.
 pub(crate) fn print_simulation<F: Files, O: Write>(
     alloc: Global,
     files: &mut F,
     names: (&str, &str),
-    patience: &str,
+    way: Way<'_>,
     out: &mut O,
 ) -> Result<(), Fault> {
-    let (_config, trace, simulation) = simulated(alloc, files, names, patience)?;
+    let (_config, trace, simulation) = simulated(alloc, files, names, way)?;
     simulation
         .write(trace.as_slice(), out)
         .map_err(|_| Fault::CannotWrite)?;
@@ -143,10 +213,10 @@ pub(crate) fn print_timeline<F: Files, O: Write>(
     alloc: Global,
     files: &mut F,
     names: (&str, &str),
-    patience: &str,
+    way: Way<'_>,
     out: &mut O,
 ) -> Result<(), Fault> {
-    let (_config, _trace, simulation) = simulated(alloc, files, names, patience)?;
+    let (_config, _trace, simulation) = simulated(alloc, files, names, way)?;
     simulation
         .write_timeline(out)
         .map_err(|_| Fault::CannotWrite)
@@ -170,21 +240,47 @@ pub(crate) fn print_requests<F: Files, O: Write>(
     write_requests(trace.as_slice(), out).map_err(|_| Fault::CannotWrite)
 }
 
-/// Prints the hands of the trace's flows on the level of the config, or of those of one distinguisher.
+// Writes the hands of the flows of one distinguisher, and says on `err` that there is none, if there is none.
+fn write_part<O: Write, E: Write>(
+    alloc: Global,
+    config: &Config,
+    trace: &[TraceRequest],
+    flow: &str,
+    out: &mut O,
+    err: &mut E,
+) -> Result<(), HandsFault>
+    requires { length trace.now ≤ max_lines }
+{
+    let mut size = Measure::new();
+    write_hands_of(alloc, config, trace, flow, &mut size)?;
+    if size.is_empty() {
+        note_no_flow(flow, err);
+        return Ok(());
+    }
+    write_hands_of(alloc, config, trace, flow, out)
+}
+
+/// Prints the hands of the trace's flows on the level of the config, or of those of one distinguisher. That no flow has it
+/// is said on `err`.
 ///
 /// # Errors
 ///
 /// The faults of the files in the order config, trace, then the dealer's, then those of the output.
-pub(crate) fn print_hands<F: Files, O: Write>(
+pub(crate) fn print_hands<F: Files, O: Write, E: Write>(
     alloc: Global,
     files: &mut F,
     names: (&str, &str),
     flow: Option<&str>,
     out: &mut O,
+    err: &mut E,
 ) -> Result<(), Fault> {
     let (config, trace) = read_both(alloc, files, names)?;
-    match flow {
-        Some(name) => Ok(write_hands_of(alloc, &config, trace.as_slice(), name, out)?),
-        None => Ok(write_hands(alloc, &config, trace.as_slice(), out)?),
+    let written = match flow {
+        Some(name) => write_part(alloc, &config, trace.as_slice(), name, out, err),
+        None => write_hands(alloc, &config, trace.as_slice(), out),
+    };
+    match written {
+        Ok(()) => Ok(()),
+        Err(fault) => Err(level_fault(alloc, names.0, &config, fault.into()).told(alloc, true)),
     }
 }

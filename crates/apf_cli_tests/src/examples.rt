@@ -2,6 +2,7 @@
 
 ghost use Rattle.std.specs.Prelude.{◌≤◌, IfOk, vec_len};
 
+use crate::screen::Screen;
 use apf_cli::{Cause, FileFault, Files, act};
 use std::alloc::Global;
 use std::io;
@@ -27,12 +28,14 @@ pub struct Memory<'a> {
 fn bytes_of(alloc: Global, text: &str, most: u32) -> Result<Vec<u8>, FileFault>
     ensures within { IfOk result (λ bytes. vec_len bytes ≤ most) }
 {
-    if text.len() > most as usize {
-        return Err(FileFault::TooLarge);
-    }
-    text.as_bytes()
+    let bytes = text
+        .as_bytes()
         .to_vec(alloc)
-        .map_err(|_| FileFault::NoMemory)
+        .map_err(|_| FileFault::NoMemory)?;
+    if bytes.len() > most as usize {
+        return Err(FileFault::TooLarge(bytes));
+    }
+    Ok(bytes)
 }
 
 impl Files for Memory<'_> {
@@ -57,23 +60,24 @@ impl Files for Memory<'_> {
     }
 }
 
-/// The program answers this status, and writes this and no more.
+/// The program answers this status, and writes this and no more, where standard error is a terminal or none.
 pub fn check<R: Abort + Wait + Threads + Sync>(
     rt: &R,
     files: Memory<'_>,
     words: &[&str],
+    is_terminal: bool,
     status: u8,
     out: &str,
     err: &str,
 ) {
     let mut files = files;
     let mut stdout = Vec::new(files.alloc);
-    let mut stderr = Vec::new(files.alloc);
+    let mut stderr = Screen::new(files.alloc, is_terminal);
     let alloc = files.alloc;
     let answer = act(rt, alloc, words, &mut files, &mut stdout, &mut stderr);
     assert_eq!(rt; answer, status, "{words:?}");
     assert_eq!(rt; stdout.as_slice(), out.as_bytes(), "{words:?}");
-    assert_eq!(rt; stderr.as_slice(), err.as_bytes(), "{words:?}");
+    assert_eq!(rt; stderr.bytes.as_slice(), err.as_bytes(), "{words:?}");
 }
 
 #[test]
@@ -100,6 +104,30 @@ fn replays(rt: HostRuntime) {
             requests,
             script,
         };
-        check(&rt, files, &words, 0, out, "");
+        check(&rt, files, &words, false, 0, out, "");
+    }
+}
+
+// The line of a config's fault, and behind it at a terminal, or where no old text binds it, the one that explains it.
+#[test]
+fn explains(rt: HostRuntime) {
+    let line = "apf: config fault 5: bad value of limit\n";
+    let both = "apf: config fault 5: bad value of limit\n\
+        config: limit is 0: it must be a whole number from 1 to 10000\n";
+    let replay: &[&str] = &["apf", "replay", "config", "requests", "script"];
+    let simulate: &[&str] = &["apf", "simulate", "config", "trace", "0"];
+    for (words, is_terminal, err) in [
+        (replay, false, line),
+        (replay, true, both),
+        (simulate, false, both),
+        (simulate, true, both),
+    ] {
+        let files = Memory {
+            alloc: rt.alloc(),
+            config: "{\"limit\":0}",
+            requests: "",
+            script: "",
+        };
+        check(&rt, files, words, is_terminal, 1, "", err);
     }
 }

@@ -5,6 +5,7 @@
 //! `explain.py`, `simulate.py`, `compare.py` and `audit.py`.
 //!
 //! - `words`: what a command line asks for.
+//! - `screen`: standard error in memory.
 //! - `examples`: the whole program with files in memory. `rooms`: the same with output that has no room.
 #![tactic(auto)]
 
@@ -12,5 +13,7 @@
 mod examples;
 #[cfg(test)]
 mod rooms;
+#[cfg(test)]
+mod screen;
 #[cfg(test)]
 mod words;

@@ -1,6 +1,7 @@
 //! Output that has no room at one place or another.
 
 use crate::examples::Memory;
+use crate::screen::Screen;
 use apf_cli::act;
 use std::alloc::{AllocError, Global};
 use std::process::Abort;
@@ -51,13 +52,13 @@ fn writes_a_beginning<R: Abort + Wait + Threads + Sync>(
 ) -> Result<(), AllocError> {
     let alloc = files.alloc;
     let mut files = files;
-    let mut stderr = Vec::new(alloc);
+    let mut stderr = Screen::new(alloc, false);
     let mut buffer = vec![in alloc; 0u8; whole.len()]?;
     let (mut rest, _beyond) = buffer.as_mut_slice().split_at_mut(room.min(whole.len()));
     let answer = act(rt, alloc, words, &mut files, &mut rest, &mut stderr);
     let written = room.saturating_sub(rest.len());
     assert_eq!(rt; answer, 1, "{words:?} with room for {room}");
-    assert_eq!(rt; stderr.as_slice(), b"apf: cannot write\n".as_slice());
+    assert_eq!(rt; stderr.bytes.as_slice(), b"apf: cannot write\n".as_slice());
     assert_eq!(rt; buffer.as_slice().get(..written), whole.get(..written));
     Ok(())
 }
@@ -71,7 +72,7 @@ fn fails_at_places<R: Abort + Wait + Threads + Sync>(
 ) -> Result<(), AllocError> {
     let mut first = files;
     let mut whole = Vec::new(files.alloc);
-    let mut stderr = Vec::new(files.alloc);
+    let mut stderr = Screen::new(files.alloc, false);
     let answer = act(rt, files.alloc, words, &mut first, &mut whole, &mut stderr);
     assert_eq!(rt; answer, 0, "{words:?}");
     assert!(rt; !whole.is_empty(), "{words:?}");
@@ -121,12 +122,12 @@ fn line_without_room(rt: HostRuntime) -> Result<(), AllocError> {
     };
     let whole = "config: a config is a JSON object, but this is an array\n".len();
     for room in 0..whole {
-        let mut stderr = Vec::new(rt.alloc());
+        let mut stderr = Screen::new(rt.alloc(), false);
         let mut buffer = vec![in rt.alloc(); 0u8; room]?;
         let mut rest = buffer.as_mut_slice();
         let answer = act(&rt, rt.alloc(), &words, &mut files, &mut rest, &mut stderr);
         assert_eq!(&rt; answer, 1, "with room for {room}");
-        assert_eq!(&rt; stderr.as_slice(), b"apf: cannot write\n".as_slice());
+        assert_eq!(&rt; stderr.bytes.as_slice(), b"apf: cannot write\n".as_slice());
     }
     Ok(())
 }

@@ -137,7 +137,8 @@ fn reads_texts(rt: HostRuntime) -> Result<(), Fail> {
             arguments: Arguments::Simulation {
                 config: "c",
                 trace: "t",
-                patience: "7s"
+                patience: "7s",
+                charge: None
             }
         }
     );
@@ -318,7 +319,8 @@ fn reads_the_words_of_simulations(rt: HostRuntime) -> Result<(), Fail> {
                 arguments: Arguments::Simulation {
                     config: "c",
                     trace: "t",
-                    patience
+                    patience,
+                    charge: None
                 }
             }
         );
@@ -329,7 +331,8 @@ fn reads_the_words_of_simulations(rt: HostRuntime) -> Result<(), Fail> {
                 arguments: Arguments::Simulation {
                     config: "c",
                     trace: "t",
-                    patience
+                    patience,
+                    charge: None
                 }
             }
         );
@@ -340,7 +343,8 @@ fn reads_the_words_of_simulations(rt: HostRuntime) -> Result<(), Fail> {
                 arguments: Arguments::Simulation {
                     config: "c",
                     trace: "t",
-                    patience
+                    patience,
+                    charge: None
                 }
             }
         );
@@ -352,11 +356,25 @@ fn reads_the_words_of_simulations(rt: HostRuntime) -> Result<(), Fail> {
                     config: "c",
                     other: "o",
                     trace: "t",
-                    patience
+                    patience,
+                    charge: None
                 }
             }
         );
     }
+    let charged = read_words(alloc, &["apf", "simulate", "c", "t", "0", "--charge", "x"])?;
+    let Arguments::Simulation { charge, .. } = charged.arguments else {
+        unreachable!();
+    };
+    assert_eq!(rt; charge, Some("x"));
+    let charged = read_words(
+        alloc,
+        &["apf", "compare", "--charge", "seats", "c", "o", "t", "0"],
+    )?;
+    let Arguments::Comparison { charge, .. } = charged.arguments else {
+        unreachable!();
+    };
+    assert_eq!(rt; charge, Some("seats"));
     Ok(())
 }
 

@@ -2,6 +2,7 @@
 
 ghost use Rattle.apf_objects.specs.Cluster.{HasCatchAll};
 
+use apf_audit::{MAX_LINE, is_begun};
 use apf_files::{text_at, value_of};
 use apf_flows::{write_escaped, write_text};
 use apf_matching::{Request, Target, distinguisher_of, schema_for};
@@ -11,9 +12,6 @@ use serde_json::Value;
 use std::alloc::Global;
 use std::io;
 use std::io::Write;
-
-/// The most bytes of a line, without its LF.
-const MAX_LINE: usize = 8_388_608;
 
 /// Why an audit log was not matched. Lines are counted from 1.
 #[derive(Clone, Copy, Debug, PartialEq, Eq)]
@@ -164,7 +162,8 @@ fn write_event<W: Write>(
 }
 
 /// Writes a line for each event of an audit log whose `stage` is `ResponseComplete`: the number of its line, its schema,
-/// its level and its distinguisher. Of a last line that no LF ends, and that is no JSON text, nothing is written.
+/// its level and its distinguisher. Of a last line that no LF ends, that begins as
+/// an event does and is no JSON text, nothing is written.
 ///
 /// The user and the groups are those of `impersonatedUser` where it stands, and else of `user`. A request is for a
 /// resource exactly if `objectRef` is there; else its path is `requestURI` before `?`. What is absent, or no text,
@@ -190,8 +189,8 @@ pub fn write_log<W: Write>(
         }
         match value_of(alloc, first.line) {
             Ok(Some(event)) => write_event(alloc, out, cluster, &event, line)?,
-            Ok(None) if first.is_ended => return Err(LogFault::NotJson(line)),
-            Ok(None) => {}
+            Ok(None) if !first.is_ended && is_begun(first.line) => {}
+            Ok(None) => return Err(LogFault::NotJson(line)),
             Err(_) => return Err(LogFault::NoMemory),
         }
         rest = first.rest;

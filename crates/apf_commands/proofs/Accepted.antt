@@ -112,7 +112,7 @@ level_given name words e =
 simulation_given : (name : Text) (words : List Text) → IsFaultFree (of_kind name Simulation) words → HasArguments Simulation (rows_after (of_kind name Simulation).rules [] words)
 unfolding apf_app
 simulation_given name words e =
-    let given = all_given (of_kind name Simulation) (record { rules = refl; own_ids = (refl, (refl, (refl, (refl, tt)))); defaults = refl; negates = refl }) words e in
+    let given = all_given (of_kind name Simulation) (record { rules = refl; own_ids = (refl, (refl, (refl, (refl, (refl, tt))))); defaults = refl; negates = refl }) words e in
     let config = given.0 refl refl in
     let trace = given.1.0 refl refl in
     let patience = given.1.1.0 refl refl in
@@ -121,7 +121,7 @@ simulation_given name words e =
 comparison_given : (name : Text) (words : List Text) → IsFaultFree (of_kind name Comparison) words → HasArguments Comparison (rows_after (of_kind name Comparison).rules [] words)
 unfolding apf_app
 comparison_given name words e =
-    let given = all_given (of_kind name Comparison) (record { rules = refl; own_ids = (refl, (refl, (refl, (refl, (refl, tt))))); defaults = refl; negates = refl }) words e in
+    let given = all_given (of_kind name Comparison) (record { rules = refl; own_ids = (refl, (refl, (refl, (refl, (refl, (refl, tt)))))); defaults = refl; negates = refl }) words e in
     let config = given.0 refl refl in
     let other = given.1.0 refl refl in
     let trace = given.1.1.0 refl refl in

@@ -31,8 +31,8 @@ in_range name rows action is named = go action.arguments known is.arguments name
     go (Flow schema distinguisher) known read named = record { command = known; workers = tt; rounds = tt; slots = tt; seats = tt; name = tt }
     go (Deck deck hand hash) known read named = record { command = known; workers = tt; rounds = tt; slots = tt; seats = tt; name = tt }
     go (Script config requests script) known read named = record { command = known; workers = tt; rounds = tt; slots = tt; seats = tt; name = tt }
-    go (Simulation config trace patience) known read named = record { command = known; workers = tt; rounds = tt; slots = tt; seats = tt; name = tt }
-    go (Comparison config other trace patience) known read named = record { command = known; workers = tt; rounds = tt; slots = tt; seats = tt; name = tt }
+    go (Simulation config trace patience charge) known read named = record { command = known; workers = tt; rounds = tt; slots = tt; seats = tt; name = tt }
+    go (Comparison config other trace patience charge) known read named = record { command = known; workers = tt; rounds = tt; slots = tt; seats = tt; name = tt }
     go (Trace trace) known read named = record { command = known; workers = tt; rounds = tt; slots = tt; seats = tt; name = tt }
     go (Flows config trace flow) known read named = record { command = known; workers = tt; rounds = tt; slots = tt; seats = tt; name = tt }
     go (AuditLog log schema chosen) known read named = record { command = known; workers = tt; rounds = tt; slots = tt; seats = tt; name = tt }
@@ -59,8 +59,8 @@ no_name_fault name rows action is named = go action.arguments is.kind is.argumen
     go (Flow schema distinguisher) kind read named = other_kind name rows _ kind refl
     go (Deck deck hand hash) kind read named = other_kind name rows _ kind refl
     go (Script config requests script) kind read named = other_kind name rows _ kind refl
-    go (Simulation config trace patience) kind read named = other_kind name rows _ kind refl
-    go (Comparison config other trace patience) kind read named = other_kind name rows _ kind refl
+    go (Simulation config trace patience charge) kind read named = other_kind name rows _ kind refl
+    go (Comparison config other trace patience charge) kind read named = other_kind name rows _ kind refl
     go (Trace trace) kind read named = other_kind name rows _ kind refl
     go (Flows config trace flow) kind read named = other_kind name rows _ kind refl
     go (AuditLog log schema chosen) kind read named = other_kind name rows _ kind refl
@@ -79,8 +79,8 @@ has_name_fault name rows action is named = go action.arguments is.kind is.argume
     go (Flow schema distinguisher) kind read named = absurd named
     go (Deck deck hand hash) kind read named = absurd named
     go (Script config requests script) kind read named = absurd named
-    go (Simulation config trace patience) kind read named = absurd named
-    go (Comparison config other trace patience) kind read named = absurd named
+    go (Simulation config trace patience charge) kind read named = absurd named
+    go (Comparison config other trace patience charge) kind read named = absurd named
     go (Trace trace) kind read named = absurd named
     go (Flows config trace flow) kind read named = absurd named
     go (AuditLog log schema chosen) kind read named = absurd named

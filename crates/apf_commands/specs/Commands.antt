@@ -132,9 +132,10 @@ rules_of Workers =
     ∷ number_option_rule (codes "rounds") round_count ∷ []
 rules_of Level =
     text_rule (codes "CONFIG") ∷ number_option_rule (codes "slots") slot_count ∷ option_rule (codes "name") ∷ option_rule (codes "charge") ∷ []
-rules_of Simulation = text_rule (codes "CONFIG") ∷ text_rule (codes "TRACE") ∷ text_rule (codes "PATIENCE") ∷ []
+rules_of Simulation = text_rule (codes "CONFIG") ∷ text_rule (codes "TRACE") ∷ text_rule (codes "PATIENCE") ∷ option_rule (codes "charge") ∷ []
 rules_of Comparison =
-    text_rule (codes "CONFIG") ∷ text_rule (codes "OTHER") ∷ text_rule (codes "TRACE") ∷ text_rule (codes "PATIENCE") ∷ []
+    text_rule (codes "CONFIG") ∷ text_rule (codes "OTHER") ∷ text_rule (codes "TRACE") ∷ text_rule (codes "PATIENCE")
+    ∷ option_rule (codes "charge") ∷ []
 rules_of Trace = text_rule (codes "TRACE") ∷ []
 rules_of Flows = text_rule (codes "CONFIG") ∷ text_rule (codes "TRACE") ∷ option_rule (codes "flow") ∷ []
 rules_of AuditLog =

@@ -88,13 +88,15 @@ AreArguments rows (Level config slots name charge) = IsText rows (codes "CONFIG"
     × IsSlotCount rows slots
     × IsTextOr (codes "level") rows (codes "name") name.now
     × IsOption rows (codes "charge") charge
-AreArguments rows (Simulation config trace patience) = IsText rows (codes "CONFIG") config.now
+AreArguments rows (Simulation config trace patience charge) = IsText rows (codes "CONFIG") config.now
     × IsText rows (codes "TRACE") trace.now
     × IsText rows (codes "PATIENCE") patience.now
-AreArguments rows (Comparison config other trace patience) = IsText rows (codes "CONFIG") config.now
+    × IsOption rows (codes "charge") charge
+AreArguments rows (Comparison config other trace patience charge) = IsText rows (codes "CONFIG") config.now
     × IsText rows (codes "OTHER") other.now
     × IsText rows (codes "TRACE") trace.now
     × IsText rows (codes "PATIENCE") patience.now
+    × IsOption rows (codes "charge") charge
 AreArguments rows (Trace trace) = IsText rows (codes "TRACE") trace.now
 AreArguments rows (Flows config trace flow) = IsText rows (codes "CONFIG") config.now
     × IsText rows (codes "TRACE") trace.now
@@ -114,8 +116,8 @@ kind_of (Deck a b c) = of_kind.Deck
 kind_of (Script a b c) = of_kind.Script
 kind_of (Workers a b c d) = of_kind.Workers
 kind_of (Level a b c d) = of_kind.Level
-kind_of (Simulation a b c) = of_kind.Simulation
-kind_of (Comparison a b c d) = of_kind.Comparison
+kind_of (Simulation a b c d) = of_kind.Simulation
+kind_of (Comparison a b c d e) = of_kind.Comparison
 kind_of (Trace a) = of_kind.Trace
 kind_of (Flows a b c) = of_kind.Flows
 kind_of (AuditLog a b c) = of_kind.AuditLog

@@ -27,6 +27,10 @@ const OBJECTS: &str = "FlowSchemas and PriorityLevelConfigurations, as kubectl g
 const PATIENCE: &str =
     "When a request gives up: 15s, 500ms, 1.5m, or 0 to 1000000000 microseconds; 0: never";
 
+/// What help says of what a trace's requests are charged.
+const CHARGE: &str =
+    "What a request is charged: time (the default if no line has a cost), or seats";
+
 /// What help says below the commands: the program's statuses, and how to begin.
 const HELP: &str = "\
 Status:
@@ -34,12 +38,13 @@ Status:
   1  a file's fault, or output that can't be written
   2  a command line's fault
   3  no memory, or a worker that could not start
-Each fault is one line on standard error. apf explain says more of a fault of a config, of requests
-or of a script: its file, its place, what stands there and what may stand there.
+Each fault is a line on standard error. Behind that of a config stands one more: its file, its
+place, what stands there and what may stand there. apf replay, run, services and waits have it
+at a terminal alone, and of requests and scripts too; apf explain prints it.
 
 Examples:
   apf hash workload-low alice
-  apf replay config.json requests.json script.txt
+  apf replay examples/first/config.json examples/first/requests.json examples/first/script.txt
 
 apf COMMAND --help says what the command's files hold.";
 
@@ -179,17 +184,18 @@ fn with_level<'a>(alloc: Global, command: Command<'a>) -> Result<Command<'a>, Al
         ))
 }
 
-// A level, a trace and a patience.
+// A level, a trace, a patience, and what requests are charged.
 fn with_simulation<'a>(alloc: Global, command: Command<'a>) -> Result<Command<'a>, AllocError>
     ensures { IfOk result (AddsRules (rules_of of_kind.Simulation) command.entry) }
 {
     command
         .arg(text(alloc, "CONFIG", CONFIG))?
         .arg(text(alloc, "TRACE", TRACE))?
-        .arg(text(alloc, "PATIENCE", PATIENCE))
+        .arg(text(alloc, "PATIENCE", PATIENCE))?
+        .arg(option(alloc, "charge", "BY", CHARGE))
 }
 
-// Two levels, a trace and a patience.
+// Two levels, a trace, a patience, and what requests are charged.
 fn with_comparison<'a>(alloc: Global, command: Command<'a>) -> Result<Command<'a>, AllocError>
     ensures { IfOk result (AddsRules (rules_of of_kind.Comparison) command.entry) }
 {
@@ -197,7 +203,8 @@ fn with_comparison<'a>(alloc: Global, command: Command<'a>) -> Result<Command<'a
         .arg(text(alloc, "CONFIG", "Configuration file of the one level"))?
         .arg(text(alloc, "OTHER", "Configuration file of the other level"))?
         .arg(text(alloc, "TRACE", TRACE))?
-        .arg(text(alloc, "PATIENCE", PATIENCE))
+        .arg(text(alloc, "PATIENCE", PATIENCE))?
+        .arg(option(alloc, "charge", "BY", CHARGE))
 }
 
 // A trace alone.

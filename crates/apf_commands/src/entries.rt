@@ -15,11 +15,11 @@ pub(crate) enum Kind {
     Script,
     /// `CONFIG REQUESTS WORKERS [--rounds N]`
     Workers,
-    /// `CONFIG [--slots S] [--name NAME]`
+    /// `CONFIG [--slots S] [--name NAME] [--charge BY]`
     Level,
-    /// `CONFIG TRACE PATIENCE`
+    /// `CONFIG TRACE PATIENCE [--charge BY]`
     Simulation,
-    /// `CONFIG OTHER TRACE PATIENCE`
+    /// `CONFIG OTHER TRACE PATIENCE [--charge BY]`
     Comparison,
     /// `TRACE`
     Trace,

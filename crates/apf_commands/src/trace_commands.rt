@@ -23,10 +23,14 @@ from the trace's beginning:
   hash              the flow, 0 to 18446744073709551615; or else both of
   schema, distinguisher  two texts, of which the hash is made
   width             seats that the request takes, 1 to 20000; 1 if absent
-  cost              what a dispatch is charged, 1 to 4294967295; the width if absent
+  cost              what a dispatch is charged, 1 to 4294967295; see below if absent
 PATIENCE is a number with m, s, ms or us behind it, as 1.5s, or a whole number of microseconds: at
 most 1000s. A request that waits so long after its arrival gives up. With 0 nobody gives up. An API
 server lets a request wait for a quarter of its time-out, by default 15s.
+A dispatch is charged what its request is expected to take as it arrives: its width times the mean
+of how long its flow's requests ran that finished until then. Of a flow of which none did it is the
+mean of the first requests of flows, and 10 ms if there was none. With --charge seats a dispatch is
+charged its width, and so it is where a line has a cost and no --charge is given.
 
 Prints a line for each flow, in the order of their first requests, a line of the whole, and the
 book of apf replay:
@@ -49,11 +53,11 @@ Example:
   $ sed -n 1p trace.jsonl
   {\"schema\": \"global-default\", \"distinguisher\": \"alice\", \"arrivesAt\": 168371, \"runsFor\": 84650}
   $ apf simulate config.json trace.jsonl 8s | tail -n 5
-  end 14043696 seat-time 123914843 of 140436960 waited 3222622817 patience 8000000
+  end 14043696 seat-time 123423463 of 140436960 waited 3211858671 patience 8000000
   level open seats 0 waiting 0
-  executed 402 rejected 76 cancelled 225 undecided 0
+  executed 398 rejected 76 cancelled 229 undecided 0
   queue-full 76 closed 0 concurrency-limit 0
-  entered 601 dispatched 376 struck 225
+  entered 600 dispatched 371 struck 229
 
 Status: 0 done, 1 a file's fault or output that can't be written, 2 a command line's fault,
 3 no memory.",
@@ -70,8 +74,9 @@ then those who give up, then the arrivals, each by the requests' numbers. The sc
 It simulates this level by this project's rules, and not kube-apiserver. TRACE is JSON Lines, and
 PATIENCE is as 15s or in microseconds; apf simulate --help says what they and CONFIG hold.
 
-Example, and the same run by apf replay:
-  $ apf timeline examples/noisy-client/config.json examples/noisy-client/trace.jsonl 8s >script.txt
+Example, and the same run by apf replay, which charges seats:
+  $ apf timeline examples/noisy-client/config.json examples/noisy-client/trace.jsonl 8s \\
+  >   --charge seats >script.txt
   $ apf requests examples/noisy-client/trace.jsonl >requests.json
   $ apf replay examples/noisy-client/config.json requests.json script.txt | tail -n 4
   level open seats 0 waiting 0
@@ -105,11 +110,11 @@ Example, what happens to the longest waits; column -t lays out all columns:
   $ cd examples/noisy-client
   $ apf compare config.json ../global-default/config.json trace.jsonl 8s | awk '{ print $7, $8 }'
   longest longest-2
-  7997722 2216336
-  470123 68820
-  409763 76130
-  349244 54565
-  7997722 2216336
+  7998759 2187904
+  669814 64496
+  357446 44546
+  163755 40830
+  7998759 2187904
 
 Status: 0 done, 1 a file's fault or output that can't be written, 2 a command line's fault,
 3 no memory.",
@@ -138,9 +143,9 @@ columns:
   $ cd examples/noisy-client
   $ apf fates config.json trace.jsonl 8s | awk '$5 - $3 > 400000' | grep -v crawler
   40 6cc15f39b7bdc3b9 1094431 63 1495253 1611464 execute \"global-default\" \"bob\"
-  639 f4de3bd42ccdf6b7 6689254 55 7159377 7238745 execute \"global-default\" \"alice\"
-  644 6cc15f39b7bdc3b9 7241345 63 7651108 7758584 execute \"global-default\" \"bob\"
-  667 f4de3bd42ccdf6b7 9699892 55 10118633 10206862 execute \"global-default\" \"alice\"
+  421 6cc15f39b7bdc3b9 2205104 63 2630560 2740258 execute \"global-default\" \"bob\"
+  495 6cc15f39b7bdc3b9 3219113 63 3650281 3774498 execute \"global-default\" \"bob\"
+  567 6cc15f39b7bdc3b9 4424285 63 5094099 5222721 execute \"global-default\" \"bob\"
 
 Status: 0 done, 1 a file's fault or output that can't be written, 2 a command line's fault,
 3 no memory.",
@@ -154,8 +159,8 @@ Prints the requests file of a trace, for apf replay: its flows and widths, one r
 order of their numbers. The times, which a trace has in microseconds, are left out, and so are the
 costs. TRACE is JSON Lines; apf simulate --help says what it holds.
 
-With the script of apf timeline, apf replay makes the run that apf simulate makes. Both simulate
-this level by this project's rules, and not kube-apiserver.
+With the script of apf timeline --charge seats, apf replay makes the run that apf simulate makes
+with --charge seats. Both simulate this level by this project's rules, and not kube-apiserver.
 
 Example:
   $ apf requests examples/noisy-client/trace.jsonl | sed -n 1,2p
@@ -312,7 +317,7 @@ exactly if objectRef is there; else its path is requestURI before ?.
 Examples:
   $ apf match examples/cluster/objects.json --user alice --groups system:authenticated \\
       --verb list --resource pods --namespace shop
-  $ apf match examples/cluster/objects.json --log audit.jsonl
+  $ apf match examples/cluster/objects.json --log examples/audit/audit.log
 
 Status: 0 done, 1 a file's fault or output that can't be written, 2 a command line's fault,
 3 no memory.",

@@ -57,18 +57,21 @@ pub enum Arguments<'a> {
         name: &'a str,
         charge: Option<&'a str>,
     },
-    /// The names of a configuration file and of a trace, and a patience for [`read_patience`](crate::read_patience).
+    /// The names of a configuration file and of a trace, a patience for [`read_patience`](crate::read_patience), and the word that
+    /// says what the requests are charged, if one is given.
     Simulation {
         config: &'a str,
         trace: &'a str,
         patience: &'a str,
+        charge: Option<&'a str>,
     },
-    /// The names of two configuration files and of a trace, and a patience.
+    /// The names of two configuration files and of a trace, a patience, and such a word.
     Comparison {
         config: &'a str,
         other: &'a str,
         trace: &'a str,
         patience: &'a str,
+        charge: Option<&'a str>,
     },
     /// The name of a trace.
     Trace {
@@ -234,6 +237,13 @@ fn workers_of<'a>(matches: &ArgMatches<'a>) -> Arguments<'a>
     }
 }
 
+// The word that says what requests are charged, if one is given.
+fn charge_of<'a>(matches: &ArgMatches<'a>) -> Option<&'a str>
+    ensures { IsOption (rows_of (found_of matches.now)) (codes "charge") result }
+{
+    option_of(matches, "charge")
+}
+
 fn level_of<'a>(matches: &ArgMatches<'a>) -> Arguments<'a>
     requires { HasArguments of_kind.Level (rows_of (found_of matches.now)) }
     ensures kind { kind_of_arguments result ≡ of_kind.Level }
@@ -243,7 +253,7 @@ fn level_of<'a>(matches: &ArgMatches<'a>) -> Arguments<'a>
         config: text_of(matches, "CONFIG"),
         slots: u32_or(matches, "slots", 10_000),
         name: text_or(matches, "name", "level"),
-        charge: option_of(matches, "charge"),
+        charge: charge_of(matches),
     }
 }
 
@@ -256,6 +266,7 @@ fn simulation_of<'a>(matches: &ArgMatches<'a>) -> Arguments<'a>
         config: text_of(matches, "CONFIG"),
         trace: text_of(matches, "TRACE"),
         patience: text_of(matches, "PATIENCE"),
+        charge: charge_of(matches),
     }
 }
 
@@ -269,6 +280,7 @@ fn comparison_of<'a>(matches: &ArgMatches<'a>) -> Arguments<'a>
         other: text_of(matches, "OTHER"),
         trace: text_of(matches, "TRACE"),
         patience: text_of(matches, "PATIENCE"),
+        charge: charge_of(matches),
     }
 }
 

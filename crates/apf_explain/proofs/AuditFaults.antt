@@ -11,7 +11,7 @@ use Rattle.apf_traces.specs.TraceFile.{Line, lines_of}
 use Rattle.apf_audit.specs.Arrivals.{arrived, earliest, entries_from, latest}
 use Rattle.apf_audit.specs.AuditEvent.{Event, event_by, event_of, flow_of, instant_at, is_taken, name_by, namespace_by, namespace_of, ran_at, run_at, run_by, short, taken_by, taken_of, text_within, user_of, wait_at, wait_by, was_turned_away, max_name}
 use Rattle.apf_audit.specs.AuditFaults.{line_of}
-use Rattle.apf_audit.specs.AuditLog.{before_taken, events_from, events_of, judged_by, judged_line, log_of, max_line, requests_by}
+use Rattle.apf_audit.specs.AuditLog.{before_taken, events_from, events_of, is_unfinished, judged_by, judged_line, log_of, max_line, requests_by}
 use Rattle.apf_audit.specs.Choice.{is_chosen}
 use Rattle.apf_audit.specs.Runs.{run_in}
 use Rattle.apf_audit.specs.Times.{instant_of, run_of}
@@ -176,21 +176,21 @@ of_value n line d (TooMany count first last) is h = absurd h.1
 of_value n line d (BadArrival m) is h = absurd h.1
 of_value n line d NoMemory is h = absurd h.1
 
-judged_shown : (choice : Choice) (n : ℕ) (line : Line) (is_ended : Bool) (o : Option Data) (fault : AuditFault) → line.is_ended ≡ is_ended
-    → value_of line.bytes ≡ o → judged_by choice n is_ended o ≡ Err fault → IsLineAt n line fault
-judged_shown choice n line is_ended (Some d) fault ended is h = of_value n line d fault is (event_shown choice n d fault h)
-judged_shown choice n line true None fault ended is h =
+judged_shown : (choice : Choice) (n : ℕ) (line : Line) (cut : Bool) (o : Option Data) (fault : AuditFault) → is_unfinished line ≡ cut
+    → value_of line.bytes ≡ o → judged_by choice n cut o ≡ Err fault → IsLineAt n line fault
+judged_shown choice n line cut (Some d) fault unfinished is h = of_value n line d fault is (event_shown choice n d fault h)
+judged_shown choice n line false None fault unfinished is h =
     let same : NotUtf8Json n ≡ fault = cc in
-    subst (λ (g : AuditFault). IsLineAt n line g) same (refl, (is, ended))
-judged_shown choice n line false None fault ended is h = absurd cc
+    subst (λ (g : AuditFault). IsLineAt n line g) same (refl, (is, unfinished))
+judged_shown choice n line true None fault unfinished is h = absurd cc
 
 line_shown : (choice : Choice) (n : ℕ) (line : Line) (fault : AuditFault) → judged_line choice n line ≡ Err fault → IsLineAt n line fault
 unfolding judged_line
 line_shown choice n line fault h = go (nat_le (length line.bytes) max_line) refl h
   where
-    go : (b : Bool) → nat_le (length line.bytes) max_line ≡ b → cond b (judged_by choice n line.is_ended (value_of line.bytes)) (Err (TooLong n)) ≡ Err fault
+    go : (b : Bool) → nat_le (length line.bytes) max_line ≡ b → cond b (judged_by choice n (is_unfinished line) (value_of line.bytes)) (Err (TooLong n)) ≡ Err fault
         → IsLineAt n line fault
-    go true short h = judged_shown choice n line line.is_ended (value_of line.bytes) fault refl refl h
+    go true short h = judged_shown choice n line (is_unfinished line) (value_of line.bytes) fault refl refl h
     go false long h =
         let same : TooLong n ≡ fault = cc in
         subst (λ (g : AuditFault). IsLineAt n line g) same (refl, above (length line.bytes) max_line long)

@@ -63,9 +63,9 @@ value_shown n d fault h =
     (λ e. at_step n d flow (BadFlow n) fault e (λ no. (refl, flow_told (get (codes "hash") d) (get (codes "schema") d) (get (codes "distinguisher") d) no))) (λ _ h4.
     stepped (or_fault (BadWidth n) width) _ fault h4
     (λ e. at_step n d width (BadWidth n) fault e (λ no. (refl, number_by 1 max_width 1 (codes "width") d (get (codes "width") d) refl no))) (λ w h5.
-    let cost = number_or 1 max_cost w (get (codes "cost") d) in
+    let cost = number_or 1 max_cost 1 (get (codes "cost") d) in
     stepped (or_fault (BadCost n) cost) _ fault h5
-    (λ e. at_step n d cost (BadCost n) fault e (λ no. (refl, number_by 1 max_cost w (codes "cost") d (get (codes "cost") d) refl no))) (λ _ h6. absurd cc))))))
+    (λ e. at_step n d cost (BadCost n) fault e (λ no. (refl, number_by 1 max_cost 1 (codes "cost") d (get (codes "cost") d) refl no))) (λ _ h6. absurd cc))))))
 
 -- ---- one line
 

@@ -1,5 +1,5 @@
 -- What the fault of an audit log says of the line and the value that it is shown with.
-use Rattle.std.specs.Prelude.{◌≡◌, ◌⊎◌, ℕ, ◌+◌, ◌-◌, ◌<◌, List, [], ◌∷◌, true, false, Option, Some, None, option_and_then, Ok, codes, length}
+use Rattle.std.specs.Prelude.{◌≡◌, ◌⊎◌, ℕ, ◌+◌, ◌-◌, ◌<◌, List, [], ◌∷◌, false, Option, Some, None, option_and_then, Ok, codes, length}
 use Rattle.serde_json.specs.Data.{Data}
 use Rattle.serde_json.specs.Find.{get}
 use Rattle.apf_words.specs.Limits.{max_requests}
@@ -9,7 +9,7 @@ use Rattle.apf_traces.specs.TraceFile.{Line, lines_of}
 use Rattle.apf_audit.specs.Arrivals.{earliest, latest}
 use Rattle.apf_audit.specs.AuditEvent.{Event, instant_at, wait_at, max_name}
 use Rattle.apf_audit.specs.AuditFaults.{line_of}
-use Rattle.apf_audit.specs.AuditLog.{events_of, max_line}
+use Rattle.apf_audit.specs.AuditLog.{events_of, is_unfinished, max_line}
 use Rattle.apf_audit.specs.Times.{run_of}
 use Rattle.apf_audit.specs.declared.choice.Choice.{Choice}
 use Rattle.apf_audit.specs.declared.fault.AuditFault.{AuditFault}
@@ -55,7 +55,7 @@ IsEventShown d fault = ⊥
 -- what the fault of an audit log says of its line
 abbrev pub IsEventLineShown : Line → AuditFault → Type 0
 IsEventLineShown line (audit.TooLong n) = max_line < length line.bytes
-IsEventLineShown line (audit.NotUtf8Json n) = (value_of line.bytes ≡ None) × (line.is_ended ≡ true)
+IsEventLineShown line (audit.NotUtf8Json n) = (value_of line.bytes ≡ None) × (is_unfinished line ≡ false)
 IsEventLineShown line fault = (d : Data) × (value_of line.bytes ≡ Some d) × IsEventShown d fault
 
 -- the event is one of these

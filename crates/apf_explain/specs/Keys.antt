@@ -1,5 +1,5 @@
 -- The keys of a file's objects.
-use Rattle.std.specs.Prelude.{ℕ, List, Bool, ◌||◌, bytes_eq, if◌then◌else◌, Option, Some, None, option_and_then, codes}
+use Rattle.std.specs.Prelude.{ℕ, List, [], Bool, ◌||◌, bytes_eq, if◌then◌else◌, Option, Some, None, option_and_then, codes}
 use Rattle.serde_json.specs.Data.{Data, Members, no_members, member}
 use Rattle.serde_json.specs.Find.{as_object}
 use Rattle.apf_files.specs.ConfigFile.{is_key as is_config_key}
@@ -29,6 +29,15 @@ unknown_in is_known (member k d ms) = if is_known k then unknown_in is_known ms 
 -- the unknown key of a value that is an object, and has one
 abbrev pub unknown_of : Keys → Option Data → Option (List ℕ)
 unknown_of keys o = option_and_then (λ d. option_and_then (unknown_in (is_key_of keys)) (as_object d)) o
+
+-- what an object is that has such a key in place of those of a file of this kind, in words
+abbrev pub likeness_text : Keys → List ℕ → List ℕ
+likeness_text OfConfig name =
+    if bytes_eq name (codes "apiVersion") || bytes_eq name (codes "kind") then codes "this is an object as kubectl prints it: "
+    else (if bytes_eq name (codes "arrivesAt") then codes "this is a request of a trace: " else [])
+likeness_text OfRequest name = []
+likeness_text OfTrace name = if is_config_key name then codes "this is a config: " else []
+likeness_text OfArrival name = []
 
 -- which keys there are
 abbrev pub keys_text : Keys → List ℕ

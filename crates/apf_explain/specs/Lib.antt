@@ -7,6 +7,7 @@ pub mod Lines
 pub mod ScriptTexts
 pub mod Shown
 pub mod TraceLines
+pub mod Likeness
 pub mod TraceShown
 pub mod AuditLines
 pub mod AuditShown

@@ -24,7 +24,7 @@ use Rattle.apf_explain.specs.declared.members.RequestKey.TheVariants.{Width, Wor
 use Rattle.apf_explain.specs.declared.flow.FlowFault.{FlowFault}
 use Rattle.apf_explain.specs.declared.flow.FlowFault.TheVariants.{Missing, HashBesideSchema, HashBesideDistinguisher, HashBesideBoth, SchemaAlone, DistinguisherAlone, BadValue}
 use Rattle.apf_explain.specs.Found.{quoted_text, found_text}
-use Rattle.apf_explain.specs.Keys.{unknown_of, keys_text}
+use Rattle.apf_explain.specs.Keys.{unknown_of, likeness_text, keys_text}
 use Rattle.apf_explain.specs.Wanted.{wanted_text, wanted_at, request_key_name, request_wanted}
 use Rattle.apf_explain.specs.FlowFaults.{flow_fault_of}
 use Rattle.apf_explain.specs.Reasons.{IsSaid, mark_text}
@@ -52,7 +52,7 @@ abbrev pub unknown_text : List ℕ → Keys → Option (List ℕ) → Option (Li
 unknown_text place keys None = Some place ++? Some (codes "a key is unknown: ") ++? Some (keys_text keys) ++? Some (codes "\n")
 unknown_text place keys (Some name) =
     if nat_le (length name) 64
-    then Some place ++? Some (codes "the key ") ++? quoted_text (codes "a key") name ++? Some (codes " is unknown: ") ++? Some (keys_text keys) ++? Some (codes "\n")
+    then Some place ++? Some (codes "the key ") ++? quoted_text (codes "a key") name ++? Some (codes " is unknown: ") ++? Some (likeness_text keys name) ++? Some (keys_text keys) ++? Some (codes "\n")
     else Some place ++? quoted_text (codes "a key") name ++? Some (codes " is unknown: ") ++? Some (keys_text keys) ++? Some (codes "\n")
 
 -- a config without a limit, which is at most this

@@ -6,11 +6,17 @@ use Rattle.std.specs.List.{starts_with}
 abbrev pub begins : (bytes front : List ℕ) → Bool
 begins bytes front = starts_with nat_eq bytes front
 
+-- the bytes begin as UTF-16 does: with its mark of byte order, or with a bracket of two bytes, where 91 is `[` and 123 is `{`
+abbrev pub begins_utf16 : List ℕ → Bool
+begins_utf16 bytes =
+    begins bytes (255 ∷ 254 ∷ []) || begins bytes (254 ∷ 255 ∷ []) || begins bytes (91 ∷ 0 ∷ []) || begins bytes (123 ∷ 0 ∷ [])
+    || begins bytes (0 ∷ 91 ∷ []) || begins bytes (0 ∷ 123 ∷ [])
+
 -- what is said of a mark of byte order, of UTF-16 and of gzip
 abbrev pub mark_text : List ℕ → Option (List ℕ)
 mark_text bytes =
     if begins bytes (239 ∷ 187 ∷ 191 ∷ []) then Some (codes ": the bytes begin with a mark of byte order (BOM): take it away")
-    else (if begins bytes (255 ∷ 254 ∷ []) || begins bytes (254 ∷ 255 ∷ []) then Some (codes ": the bytes begin as UTF-16 does: they must be UTF-8")
+    else (if begins_utf16 bytes then Some (codes ": the bytes begin as UTF-16 does: they must be UTF-8")
     else (if begins bytes (31 ∷ 139 ∷ []) then Some (codes ": the bytes begin as gzip does: unpack them first")
     else None))
 

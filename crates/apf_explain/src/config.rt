@@ -11,7 +11,7 @@ use crate::found::Found;
 use crate::json::{explain_not_json, value_at, write_unwanted};
 use crate::keys::{Keys, write_unknown_key};
 use crate::place::{Part, Place};
-use crate::reason::Bracket;
+use crate::reason::Strange;
 use crate::wanted::Wanted;
 use apf_files::{ConfigFault, ConfigKey, MAX_HAND_SIZE, value_of};
 use apf_words::{MAX_LIMIT, MAX_QUEUE_LENGTH, MAX_QUEUES};
@@ -20,9 +20,10 @@ use std::alloc::Global;
 use std::io;
 use std::io::Write;
 
-const ARRAY: Bracket = Bracket {
-    byte: b'[',
+const STRANGE: Strange = Strange {
+    bracket: b'[',
     why: ": an array begins here: a config is one object",
+    why_trace: ": the first line is a request of a trace: a config is one object",
 };
 
 // What has to stand at a key.
@@ -96,7 +97,7 @@ pub fn explain_config<W: Write>(
     ensures memory { result ≡ Err ExplainFault.NoMemory → out.new ≡ out.old }
 {
     match fault {
-        ConfigFault::NotJson => explain_not_json(alloc, name, bytes, ARRAY, out),
+        ConfigFault::NotJson => explain_not_json(alloc, name, bytes, STRANGE, out),
         ConfigFault::Missing => Ok(write_missing(out, name, MAX_LIMIT)?),
         ConfigFault::NoMemory => Err(ExplainFault::NoMemory),
         ConfigFault::NotObject | ConfigFault::UnknownKey | ConfigFault::BadValue(_) => {

@@ -9,7 +9,7 @@ ghost use Rattle.apf_explain.specs.Lines.{place_text, unwanted_text, stop_text, 
 use crate::fault::ExplainFault;
 use crate::found::Found;
 use crate::place::Place;
-use crate::reason::{Bracket, file_reason};
+use crate::reason::{Strange, file_reason};
 use crate::wanted::Wanted;
 use serde_json::{Error, Value};
 use std::alloc::Global;
@@ -58,7 +58,7 @@ pub(crate) fn explain_not_json<W: Write>(
     alloc: Global,
     name: &str,
     bytes: &[u8],
-    bracket: Bracket,
+    strange: Strange,
     out: &mut W,
 ) -> Result<(), ExplainFault>
     ensures line { OnOk result (IsNotJsonLine name.now bytes.now (W.contents out.old) (W.contents out.new)) }
@@ -68,7 +68,7 @@ pub(crate) fn explain_not_json<W: Write>(
         Ok(_) => Ok(writeln!(out, "{name}: this is not JSON")?),
         Err(e) if e.is_memory() => Err(ExplainFault::NoMemory),
         Err(e) => {
-            let why = file_reason(alloc, bytes, &e, bracket)?;
+            let why = file_reason(alloc, bytes, &e, strange)?;
             Ok(write_stop(out, name, &e, why)?)
         }
     }

@@ -4,7 +4,7 @@ ghost use Rattle.std.specs.Prelude.{◌≡◌, OnOk, IfSome, option_map, option_
 ghost use Rattle.std.specs.Io.KnownBytes.{Appends};
 ghost use Rattle.serde_json.specs.Find.{as_object};
 ghost use Rattle.serde_json.specs.View.{view, members_view};
-ghost use Rattle.apf_explain.specs.Keys.{is_arrival_key as is_arrival_key_of, is_key_of, unknown_in, unknown_of};
+ghost use Rattle.apf_explain.specs.Keys.{is_arrival_key as is_arrival_key_of, is_key_of, likeness_text, unknown_in, unknown_of};
 ghost use Rattle.apf_explain.specs.Lines.{place_text, unknown_text};
 
 use crate::found::Quoted;
@@ -72,6 +72,19 @@ impl Keys {
         }
     }
 
+    // What an object is that has such a key in place of these, in words.
+    fn likeness(self, name: &str) -> &'static str
+        ensures { result.now ≡ likeness_text self name.now }
+    {
+        match self {
+            Keys::OfConfig if name == "apiVersion" || name == "kind" =>
+                "this is an object as kubectl prints it: ",
+            Keys::OfConfig if name == "arrivesAt" => "this is a request of a trace: ",
+            Keys::OfTrace if is_config_key(name) => "this is a config: ",
+            _ => "",
+        }
+    }
+
     // The first unknown key of these members, in the order of the keys' bytes.
     fn unknown_of(self, members: &Map<String, Value>) -> Option<&String>
         ensures { option_map (λ name. string_bytes name.now) result ≡ unknown_in (is_key_of self) (members_view members.now.entries) }
@@ -104,7 +117,8 @@ pub fn write_unknown_key<W: Write>(
                 text,
             };
             if key.is_whole() {
-                writeln!(out, "{place}the key {key} is unknown: {keys}")
+                let other = keys.likeness(text);
+                writeln!(out, "{place}the key {key} is unknown: {other}{keys}")
             } else {
                 writeln!(out, "{place}{key} is unknown: {keys}")
             }

@@ -14,6 +14,7 @@
 //! - `requests`: the line of a requests file.
 //! - `line`: one line of a script.
 //! - `script`: the line of a script file.
+//! - `likeness`: which file the bytes are that stand in the place of another one.
 //! - `reason`: why bytes are no JSON.
 //! - `lines`: the lines of a file that has a JSON value on each.
 //! - `traces`: the line of a trace's fault.
@@ -33,6 +34,7 @@ mod found;
 mod json;
 mod keys;
 mod laws;
+mod likeness;
 mod line;
 mod lines;
 mod members;
@@ -54,6 +56,7 @@ pub use laws::{
     every_audit_fault_is_shown, every_config_fault_is_shown, every_request_fault_is_shown,
     every_script_fault_is_shown, every_trace_fault_is_shown,
 };
+pub use likeness::begins_as_trace;
 pub use lines::write_column;
 pub use place::{Part, Place};
 pub use reason::line_reason;

@@ -12,7 +12,7 @@ ghost use Rattle.apf_explain.specs.TraceLines.{nth_line, numbered_line, required
 use crate::fault::ExplainFault;
 use crate::json::{value_at, write_unwanted};
 use crate::place::Place;
-use crate::reason::line_reason;
+use crate::reason::line_reason_in;
 use crate::wanted::Wanted;
 use apf_files::value_of;
 use apf_traces::first_line;
@@ -99,12 +99,13 @@ pub fn write_column<W: Write>(
     writeln!(out, "{place}this is not JSON at column {column}{why}")
 }
 
-// Writes where these bytes stop to be JSON.
+// Writes where these bytes stop to be JSON, and why, where `file` is what is known of their file.
 fn write_stop<W: Write>(
     alloc: Global,
     out: &mut W,
     place: Place<'_>,
     bytes: &[u8],
+    file: &'static str,
 ) -> Result<(), ExplainFault>
     ensures line { OnOk result (IsColumnLine (place_text place.entry.name.now place.entry.part) (Some bytes.now) (value_of_bytes bytes.now) (W.contents out.old) (W.contents out.new)) }
     ensures memory { result ≡ Err ExplainFault.NoMemory → out.new ≡ out.old }
@@ -113,24 +114,25 @@ fn write_stop<W: Write>(
         Ok(_) => Ok(writeln!(out, "{place}this is not JSON")?),
         Err(e) if e.is_memory() => Err(ExplainFault::NoMemory),
         Err(e) => {
-            let why = line_reason(alloc, bytes, &e)?;
+            let why = line_reason_in(alloc, bytes, &e, file)?;
             Ok(write_column(out, place, e.column(), why)?)
         }
     }
 }
 
-/// Writes where a line stops to be JSON.
+/// Writes where a line stops to be JSON, and why, where `file` is what is known of its file.
 pub(crate) fn write_not_json<W: Write>(
     alloc: Global,
     out: &mut W,
     place: Place<'_>,
     line: Option<&[u8]>,
+    file: &'static str,
 ) -> Result<(), ExplainFault>
     ensures line { OnOk result (IsColumnLine (place_text place.entry.name.now place.entry.part) (option_map (λ line. line.now) line.entry) (option_and_then value_of_bytes (option_map (λ line. line.now) line.entry)) (W.contents out.old) (W.contents out.new)) }
     ensures memory { result ≡ Err ExplainFault.NoMemory → out.new ≡ out.old }
 {
     match line {
-        Some(line) => write_stop(alloc, out, place, line),
+        Some(line) => write_stop(alloc, out, place, line, file),
         None => Ok(write_column(out, place, 0, "")?),
     }
 }

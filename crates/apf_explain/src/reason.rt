@@ -1,9 +1,11 @@
 //! Why bytes are no JSON.
 
 ghost use Rattle.std.specs.Prelude.{◌≡◌, IfOk, IfErr, option_map};
-ghost use Rattle.apf_explain.specs.Reasons.{mark_text, line_mark_text, IsSaid};
+ghost use Rattle.apf_explain.specs.Reasons.{begins_utf16 as begins_utf16_of, mark_text, line_mark_text, IsSaid};
 
 use crate::fault::ExplainFault;
+use crate::likeness::begins_as_trace;
+use apf_traces::first_line;
 use serde_json::{Error, Value};
 use std::alloc::Global;
 
@@ -45,6 +47,54 @@ fn is_too_deep(bytes: &[u8], error: &Error) -> bool {
     }
 }
 
+// Whether fewer than four bytes stand behind the last `\u`, and one of them is no hexadecimal digit. The reader of JSON
+// asks for four bytes there before it looks at one.
+fn ends_in_bad_escape(bytes: &[u8]) -> bool {
+    let mut behind = 4u32;
+    let mut is_bad = false;
+    let mut is_escaped = false;
+    for byte in bytes {
+        if is_escaped && *byte == b'u' {
+            behind = 0;
+            is_bad = false;
+        } else {
+            behind = behind.saturating_add(1);
+            is_bad = is_bad || !byte.is_ascii_hexdigit();
+        }
+        is_escaped = !is_escaped && *byte == b'\\';
+    }
+    behind < 4 && is_bad
+}
+
+// Whether the line begins as one of YAML does: with `---`, or with a word and a colon.
+fn is_of_yaml(line: &[u8]) -> bool {
+    if line.starts_with(b"---") {
+        return true;
+    }
+    let mut has_letter = false;
+    for byte in line {
+        match *byte {
+            b'A'..=b'Z' | b'a'..=b'z' => has_letter = true,
+            b':' => return has_letter,
+            _ => return false,
+        }
+    }
+    false
+}
+
+// Whether the first line that is neither empty nor a comment begins as one of YAML does.
+fn begins_yaml(bytes: &[u8]) -> bool {
+    let mut rest = bytes;
+    while !rest.is_empty() {
+        let first = first_line(rest);
+        if !first.line.is_empty() && !first.line.starts_with(b"#") {
+            return is_of_yaml(first.line);
+        }
+        rest = first.rest;
+    }
+    false
+}
+
 // Whether the bytes, which are no UTF-8, are the front of a JSON text that is cut inside a character.
 fn is_cut_inside(alloc: Global, bytes: &[u8], whole: usize) -> Result<bool, ExplainFault>
     ensures { IfErr result (λ fault. fault ≡ ExplainFault.NoMemory) }
@@ -59,8 +109,20 @@ fn is_cut_inside(alloc: Global, bytes: &[u8], whole: usize) -> Result<bool, Expl
     match Value::from_slice(alloc, front.as_slice()) {
         Ok(_) => Ok(false),
         Err(e) if e.is_memory() => Err(ExplainFault::NoMemory),
-        Err(e) => Ok(e.is_eof()),
+        Err(e) => Ok(e.is_eof() && !ends_in_bad_escape(front.as_slice())),
     }
+}
+
+// Whether the bytes begin as UTF-16 does: with its mark of byte order, or with a bracket of two bytes.
+fn begins_utf16(bytes: &[u8]) -> bool
+    ensures { result ≡ begins_utf16_of bytes.now }
+{
+    bytes.starts_with(b"\xff\xfe")
+        || bytes.starts_with(b"\xfe\xff")
+        || bytes.starts_with(b"[\0")
+        || bytes.starts_with(b"{\0")
+        || bytes.starts_with(b"\0[")
+        || bytes.starts_with(b"\0{")
 }
 
 // What is said of bytes that begin with a mark of byte order, as UTF-16 does or as gzip does.
@@ -70,7 +132,7 @@ fn mark(bytes: &[u8]) -> Option<&'static str>
     if bytes.starts_with(b"\xef\xbb\xbf") {
         return Some(": the bytes begin with a mark of byte order (BOM): take it away");
     }
-    if bytes.starts_with(b"\xff\xfe") || bytes.starts_with(b"\xfe\xff") {
+    if begins_utf16(bytes) {
         return Some(": the bytes begin as UTF-16 does: they must be UTF-8");
     }
     if bytes.starts_with(b"\x1f\x8b") {
@@ -106,7 +168,10 @@ fn reason(alloc: Global, bytes: &[u8], error: &Error) -> Result<&'static str, Ex
     if is_too_deep(bytes, error) {
         return Ok(": more than 127 arrays and objects stand in one another");
     }
-    if error.is_eof() {
+    if begins_yaml(bytes) {
+        return Ok(": the bytes begin as YAML does: write them as JSON");
+    }
+    if error.is_eof() && !ends_in_bad_escape(bytes) {
         return Ok(EARLY);
     }
     let Ok(said) = format!(in alloc; "{error}") else {
@@ -118,20 +183,23 @@ fn reason(alloc: Global, bytes: &[u8], error: &Error) -> Result<&'static str, Ex
     Ok("")
 }
 
-/// A bracket that a file does not begin with, and what is said of one that does.
+/// What is said of a file that is not of its kind.
 #[derive(Clone, Copy)]
-pub(crate) struct Bracket {
-    pub(crate) byte: u8,
+pub(crate) struct Strange {
+    /// Of one that begins with this bracket.
+    pub(crate) bracket: u8,
     pub(crate) why: &'static str,
+    /// Of one that begins as a trace does.
+    pub(crate) why_trace: &'static str,
 }
 
 /// What is known of why the bytes of a file are no JSON: by how they begin, by what their reader says, or else by the
-/// bracket that they begin with.
+/// file that they are like.
 pub(crate) fn file_reason(
     alloc: Global,
     bytes: &[u8],
     error: &Error,
-    bracket: Bracket,
+    strange: Strange,
 ) -> Result<&'static str, ExplainFault>
     ensures why { IfOk result (λ why. IsSaid (mark_text bytes.now) why.now) }
     ensures memory { IfErr result (λ fault. fault ≡ ExplainFault.NoMemory) }
@@ -140,19 +208,40 @@ pub(crate) fn file_reason(
         return Ok(why);
     }
     let why = reason(alloc, bytes, error)?;
-    if why.is_empty() && bytes.first() == Some(&bracket.byte) {
-        return Ok(bracket.why);
+    if !why.is_empty() {
+        return Ok(why);
     }
-    Ok(why)
+    if begins_as_trace(alloc, bytes)? {
+        return Ok(strange.why_trace);
+    }
+    if bytes.first() == Some(&strange.bracket) {
+        return Ok(strange.why);
+    }
+    Ok("")
 }
 
-/// What is known of why the bytes of a line are no JSON: by how they begin, or else by what their reader says.
-pub fn line_reason(alloc: Global, bytes: &[u8], error: &Error) -> Result<&'static str, ExplainFault>
+/// What is known of why the bytes of a line are no JSON: by how they begin, by what is known of their file, or else by
+/// what their reader says.
+pub(crate) fn line_reason_in(
+    alloc: Global,
+    bytes: &[u8],
+    error: &Error,
+    file: &'static str,
+) -> Result<&'static str, ExplainFault>
     ensures why { IfOk result (λ why. IsSaid (line_mark_text bytes.now) why.now) }
     ensures memory { IfErr result (λ fault. fault ≡ ExplainFault.NoMemory) }
 {
     match line_mark(bytes) {
         Some(why) => Ok(why),
+        None if !file.is_empty() => Ok(file),
         None => reason(alloc, bytes, error),
     }
+}
+
+/// The same where nothing is known of their file.
+pub fn line_reason(alloc: Global, bytes: &[u8], error: &Error) -> Result<&'static str, ExplainFault>
+    ensures why { IfOk result (λ why. IsSaid (line_mark_text bytes.now) why.now) }
+    ensures memory { IfErr result (λ fault. fault ≡ ExplainFault.NoMemory) }
+{
+    line_reason_in(alloc, bytes, error, "")
 }

@@ -10,7 +10,7 @@ use crate::found::Found;
 use crate::json::{explain_not_json, items_of};
 use crate::members::write_request;
 use crate::place::{Part, Place};
-use crate::reason::Bracket;
+use crate::reason::Strange;
 use apf_files::{RequestFault, value_of};
 use apf_words::MAX_REQUESTS;
 use serde_json::Value;
@@ -18,9 +18,10 @@ use std::alloc::Global;
 use std::io;
 use std::io::Write;
 
-const OBJECT: Bracket = Bracket {
-    byte: b'{',
+const STRANGE: Strange = Strange {
+    bracket: b'{',
     why: ": an object begins here: requests are one array of them",
+    why_trace: ": the first line is a request of a trace: apf requests makes requests of it",
 };
 
 // Writes that there are too many requests.
@@ -90,7 +91,7 @@ pub fn explain_requests<W: Write>(
         return Err(ExplainFault::NoMemory);
     }
     if fault == RequestFault::NotJson {
-        return explain_not_json(alloc, name, bytes, OBJECT, out);
+        return explain_not_json(alloc, name, bytes, STRANGE, out);
     }
     let value = value_of(alloc, bytes)?;
     Ok(write_requests(out, name, value.as_ref(), fault)?)

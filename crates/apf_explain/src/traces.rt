@@ -1,6 +1,6 @@
 //! The line of a trace's fault.
 
-ghost use Rattle.std.specs.Prelude.{◌≡◌, OnOk, IfSome, Err, option_map};
+ghost use Rattle.std.specs.Prelude.{◌≡◌, OnOk, IfErr, IfSome, Err, option_map};
 ghost use Rattle.std.specs.Io.KnownBytes.{Appends};
 ghost use Rattle.serde_json.specs.View.{view};
 ghost use Rattle.apf_explain.specs.Lines.{place_text};
@@ -11,6 +11,7 @@ use crate::flow::write_bad_flow;
 use crate::found::Found;
 use crate::json::{value_at, write_unwanted};
 use crate::keys::{Keys, write_unknown_key};
+use crate::likeness::is_config;
 use crate::lines::{line_value, numbered, write_not_json, write_required, write_too_long};
 use crate::place::{Part, Place};
 use crate::wanted::Wanted;
@@ -73,20 +74,31 @@ fn write_value<W: Write>(
     }
 }
 
-// Writes the fault of this line.
+// What is known of why the first line of these bytes is no JSON.
+fn strange(alloc: Global, bytes: &[u8], fault: TraceFault) -> Result<&'static str, ExplainFault>
+    ensures memory { IfErr result (λ told. told ≡ ExplainFault.NoMemory) }
+{
+    if fault == TraceFault::NotUtf8Json(1) && is_config(alloc, bytes)? {
+        return Ok(": this is a config: a trace has one object on each line");
+    }
+    Ok("")
+}
+
+// Writes the fault of this line, where `file` is what is known of its file.
 fn write_line<W: Write>(
     alloc: Global,
     out: &mut W,
     place: Place<'_>,
     line: Option<&[u8]>,
     fault: TraceFault,
+    file: &'static str,
 ) -> Result<(), ExplainFault>
     ensures line { OnOk result (IsTraceLineAt (place_text place.entry.name.now place.entry.part) (option_map (λ line. line.now) line.entry) fault
         (W.contents out.old) (W.contents out.new)) }
     ensures memory { result ≡ Err ExplainFault.NoMemory → out.new ≡ out.old }
 {
     match fault {
-        TraceFault::NotUtf8Json(_) => write_not_json(alloc, out, place, line),
+        TraceFault::NotUtf8Json(_) => write_not_json(alloc, out, place, line, file),
         TraceFault::TooMany(_) => Ok(writeln!(
             out,
             "{place}there are more than {MAX_LINES} lines"
@@ -138,5 +150,7 @@ pub fn explain_trace<W: Write>(
         name: "apf: trace",
         part,
     };
-    write_line(alloc, out, place, numbered(bytes, u64::from(number)), fault)
+    let file = strange(alloc, bytes, fault)?;
+    let line = numbered(bytes, u64::from(number));
+    write_line(alloc, out, place, line, fault, file)
 }

@@ -14,7 +14,7 @@ pub(crate) fn two(alloc: Global) -> Result<[TraceRequest; 2], Fail> {
         hash: 0xf7c4_95a4_0a0f_eec0,
         names: Some(alice),
         width: 1,
-        cost: 1,
+        cost: None,
     };
     let second = TraceRequest {
         arrives_at: 0,
@@ -22,7 +22,7 @@ pub(crate) fn two(alloc: Global) -> Result<[TraceRequest; 2], Fail> {
         hash: 7,
         names: None,
         width: 1,
-        cost: 1,
+        cost: None,
     };
     Ok([first, second])
 }

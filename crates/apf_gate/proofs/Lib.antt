@@ -43,3 +43,4 @@ pub mod Between
 pub mod Losing
 pub mod Owing
 pub mod Same
+pub mod Explaining

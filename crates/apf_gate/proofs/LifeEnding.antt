@@ -274,6 +274,8 @@ module _ (g : GateId) (d : DeskRecord) (ps : List PassToken) (ts : List StationT
     each_station = λ k l. any_place (λ (t : StationToken). t.station.number ≡ k) ts (station_there g d ps ts w.level i k l);
     trace = e.ended.account.trace;
     longest = longest g d ps ts w.level i;
+    schedule = e.ended.sound.schedule;
+    shape = e.ended.shape;
     level = e.ended.level_is;
     present = all_every (λ (t : PassToken). slice_get w.decisions (slot_of t.pass.number) ≡ Some (D t.pass.number)) ps (every_map here (λ (t : PassToken). slice_get w.decisions (slot_of t.pass.number) ≡ Some (D t.pass.number)) ps present_word (passes_here g d ps ts w.level i));
     ever = pasts ps ++ present;

@@ -28,3 +28,4 @@ pub mod Whole
 pub mod Lost
 pub mod Owing
 pub mod Same
+pub mod Explained

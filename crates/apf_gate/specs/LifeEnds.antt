@@ -5,6 +5,7 @@ use Rattle.apf_words.specs.declared.decision.Decision.{Decision}
 use Rattle.apf_words.specs.declared.decision.Decision.TheVariants.{Execute, QueueFull, Closed, Cancelled, ConcurrencyLimit}
 use Rattle.apf_model.specs.declared.moves.Stage.TheVariants.{Away}
 use Rattle.apf_model.specs.declared.response.Response.TheVariants.{Reject}
+use Rattle.apf_model.specs.Schedule.{IsSchedule}
 use Rattle.apf_gate.specs.declared.counts.Counts.{Counts}
 use Rattle.apf_gate.specs.declared.record.Entry.{Entry}
 use Rattle.apf_gate.specs.declared.record.State.TheVariants.{Fresh}
@@ -13,7 +14,8 @@ use Rattle.apf_gate.specs.declared.record.PassRecord.{PassRecord}
 use Rattle.apf_gate.specs.declared.record.DeskRecord.{DeskRecord}
 use Rattle.apf_gate.specs.Slots.{slot_of}
 use Rattle.apf_gate.specs.Records.{level_of, told_own, service}
-use Rattle.apf_gate.specs.Traces.{world_of}
+use Rattle.apf_gate.specs.Gauges.{IsShape}
+use Rattle.apf_gate.specs.Traces.{opening_of, moves, world_of}
 use Rattle.apf_gate.specs.Counted.{AreCounts}
 use Rattle.apf_gate.specs.Tokens.{GateId, PassToken, StationToken}
 use Rattle.apf_gate.specs.Ends.{IsEnded, WasTold, IsLongest, IsBack, WroteCancelled, ClosedFirst, AtMostOne}
@@ -65,6 +67,9 @@ pub record LifeAgrees (gate : GateId) (desk : DeskRecord) (passes : List PassTok
   -- the words are those of the longest trace that a token saw: of the token that stepped last
   pub trace : List Entry
   pub longest : IsLongest gate desk passes stations trace
+  -- its moves are a schedule, and the gate is of a shape that a gate may have
+  pub schedule : IsSchedule (opening_of gate.shape) (moves trace)
+  pub shape : IsShape gate.shape
   pub level : words.level ≡ level_of gate.shape.widths (world_of gate.shape trace)
   pub present : All (λ (t : PassToken). slice_get words.decisions (slot_of t.pass.number) ≡ Some ((world_of gate.shape trace).decision t.pass.number)) passes
   -- the numbers are those of all requests that were ever decided: the executed, the rejected and the cancelled sum up

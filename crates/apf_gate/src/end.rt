@@ -19,7 +19,7 @@ use crate::desk::Desk;
 use crate::gate::{Gate, level_in};
 use crate::life_end::LifeWords;
 use crate::pass::Pass;
-use crate::plays::First;
+use crate::plays::FirstRecord;
 use crate::rule::Place;
 use crate::station::Station;
 use apf_words::{Decision, LevelWord, decision_in};
@@ -127,7 +127,7 @@ impl<A: Allocator> Gate<A> {
                 width: _,
                 counts: _,
             } = pass;
-            self.board.shared.join_seat::<First>(&mut seat, other);
+            self.board.shared.join_seat::<FirstRecord>(&mut seat, other);
         }
         seat
     }
@@ -142,7 +142,7 @@ impl<A: Allocator> Gate<A> {
     {
         while let Some(station) = stations.pop() {
             let Station { seat: other } = station;
-            self.board.shared.join_seat::<First>(&mut seat, other);
+            self.board.shared.join_seat::<FirstRecord>(&mut seat, other);
         }
         seat
     }

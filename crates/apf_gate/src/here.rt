@@ -11,7 +11,7 @@ ghost use Rattle.apf_gate.specs.Whole.{IsOne};
 use crate::desk::Desk;
 use crate::gate::Gate;
 use crate::pass::Pass;
-use crate::plays::{First, Last, LoadAll};
+use crate::plays::{FirstRecord, Last, LoadAll};
 use crate::rule::Place;
 use crate::station::Station;
 use std::alloc::Allocator;
@@ -45,7 +45,7 @@ impl<A: Allocator> Gate<A> {
         ensures one { IsOne self.now.shape (handed_in (desk_of desk.old.me.0) passes.items stations.items) }
     {
         let shared = &self.board.shared;
-        let lent = shared.split_seat::<First>(desk);
+        let lent = shared.split_seat::<FirstRecord>(desk);
         let some = self.gather_passes(lent, passes);
         let mut all = self.gather_stations(some, stations);
         shared.load::<LoadAll>(&mut all, 0);

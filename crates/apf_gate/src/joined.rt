@@ -18,7 +18,7 @@ use crate::desk::Desk;
 use crate::gate::{Gate, level_in, mark, word_of};
 use crate::pass::Pass;
 use crate::plays::{
-    First, JoinedExchangeDecision, JoinedExchangeLevel, JoinedLoadDecision, JoinedLoadLevel,
+    FirstRecord, JoinedExchangeDecision, JoinedExchangeLevel, JoinedLoadDecision, JoinedLoadLevel,
 };
 use crate::rule::Place;
 use apf_words::{Decision, LevelWord, decided, decision_in, undecided};
@@ -91,8 +91,8 @@ impl<A: Allocator> Gate<A> {
         ensures both { desk.new.me ≡ (records.Pass (pass_of pass.old.me.0) ∷ records.Desk (desk_of desk.old.me.0) ∷ [], []) }
     {
         let shared = &self.board.shared;
-        let lent = shared.split_seat::<First>(pass);
-        shared.join_seat::<First>(desk, lent);
+        let lent = shared.split_seat::<FirstRecord>(pass);
+        shared.join_seat::<FirstRecord>(desk, lent);
     }
 
     // The Pass's part goes back to its seat.
@@ -103,7 +103,7 @@ impl<A: Allocator> Gate<A> {
         ensures desk { desk.new.me ≡ (records.Desk (both_at desk.old.me).desk ∷ [], []) }
         ensures pass { pass.new.me ≡ (records.Pass (both_at desk.old.me).pass ∷ [], []) }
     {
-        *pass = self.board.shared.split_seat::<First>(desk);
+        *pass = self.board.shared.split_seat::<FirstRecord>(desk);
     }
 
     fn enter_joined(&self, seat: &mut Place) -> TryEnter

@@ -10,7 +10,7 @@ ghost use Rattle.apf_gate.specs.StationJoined.{station_and_desk_at, StationAndDe
 
 use crate::desk::Desk;
 use crate::gate::Gate;
-use crate::plays::{First, StationJoinedLoadLevel};
+use crate::plays::{FirstRecord, StationJoinedLoadLevel};
 use crate::rule::Place;
 use crate::station::Station;
 use std::alloc::Allocator;
@@ -38,8 +38,8 @@ impl<A: Allocator> Gate<A> {
         ensures both { desk.new.me ≡ (records.Station (station_of station.old.me.0) ∷ records.Desk (desk_of desk.old.me.0) ∷ [], []) }
     {
         let shared = &self.board.shared;
-        let lent = shared.split_seat::<First>(station);
-        shared.join_seat::<First>(desk, lent);
+        let lent = shared.split_seat::<FirstRecord>(station);
+        shared.join_seat::<FirstRecord>(desk, lent);
     }
 
     // The Station's part goes back to its seat.
@@ -50,7 +50,7 @@ impl<A: Allocator> Gate<A> {
         ensures desk { desk.new.me ≡ (records.Desk (station_and_desk_at desk.old.me).desk ∷ [], []) }
         ensures station { station.new.me ≡ (records.Station (station_and_desk_at desk.old.me).station ∷ [], []) }
     {
-        *station = self.board.shared.split_seat::<First>(desk);
+        *station = self.board.shared.split_seat::<FirstRecord>(desk);
     }
 
     // One load of the level word.

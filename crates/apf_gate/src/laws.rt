@@ -2,6 +2,11 @@
 
 ghost use Rattle.std.specs.Prelude.{List};
 ghost use Rattle.apf_gate.specs.declared.record.DeskRecord.{DeskRecord};
+ghost use Rattle.apf_gate.specs.declared.record.Record.{Record};
+ghost use Rattle.apf_gate.specs.declared.record.Shape.{Shape};
+ghost use Rattle.apf_gate.specs.Explained.{IsExplained};
+ghost use Rattle.apf_gate.specs.Rule.{IsRuled};
+ghost use Rattle.atomic_table.specs.Table.{State};
 ghost use Rattle.apf_gate.specs.Tokens.{GateId, PassToken, StationToken};
 ghost use Rattle.apf_gate.specs.Ends.{WordsView, EndsWith, EndAgrees};
 ghost use Rattle.apf_gate.specs.LifeEnds.{LifeView, LifeEndsWith, LifeAgrees};
@@ -31,6 +36,14 @@ pub fn every_end_agrees()
 pub fn every_end_for_life_agrees()
     ensures { (gate : GateId) (desk : DeskRecord) (passes : List PassToken) (stations : List StationToken) (words : LifeView)
         → LifeEndsWith gate desk passes stations words → LifeAgrees gate desk passes stations words }
+{}
+
+/// Every state under the rule of a gate is explained: between any two atomic steps, of any number of threads.
+///
+/// One trace of steps, which is a schedule, says what the words are and makes true what every token knows. It runs no
+/// code: the contract is the law.
+pub fn every_state_is_explained()
+    ensures { (s : Shape) (t : State (Unit {0}) (List Record)) → IsRuled s t → IsExplained s t }
 {}
 
 /// No step of a gate is hidden: between two states under its rule.

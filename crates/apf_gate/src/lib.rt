@@ -44,8 +44,8 @@ pub use end::Words;
 pub use fault::GateFault;
 pub use gate::Gate;
 pub use laws::{
-    all_are_told_the_same, every_end_agrees, every_end_for_life_agrees, no_dispatch_is_lost,
-    no_exchange_is_lost, no_step_is_hidden, nobody_came_between,
+    all_are_told_the_same, every_end_agrees, every_end_for_life_agrees, every_state_is_explained,
+    no_dispatch_is_lost, no_exchange_is_lost, no_step_is_hidden, nobody_came_between,
 };
 pub use life_end::LifeWords;
 pub use open::Opened;

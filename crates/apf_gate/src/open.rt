@@ -17,7 +17,7 @@ use crate::desk::Desk;
 use crate::fault::GateFault;
 use crate::gate::Gate;
 use crate::pass::Pass;
-use crate::plays::First;
+use crate::plays::FirstRecord;
 use crate::rule::{Board, Gauge, Place};
 use crate::station::Station;
 use apf_model::{Response, every_schedule_is_safe, every_world_adds_up};
@@ -190,7 +190,7 @@ impl<A: Allocator + Copy> Gate<A> {
         let mut passes = Vec::new(alloc);
         for r in 0..self.gauge.widths.len() {
             let pass = Pass {
-                seat: self.board.shared.split_seat::<First>(seat),
+                seat: self.board.shared.split_seat::<FirstRecord>(seat),
                 number: r as u128,
                 width: self.gauge.widths[r],
                 counts: Counts::none(),
@@ -211,7 +211,7 @@ impl<A: Allocator + Copy> Gate<A> {
         let mut stations = Vec::new(alloc);
         for _k in 0..self.gauge.stations {
             let station = Station {
-                seat: self.board.shared.split_seat::<First>(seat),
+                seat: self.board.shared.split_seat::<FirstRecord>(seat),
             };
             stations.push(station)?;
         }

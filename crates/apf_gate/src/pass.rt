@@ -65,6 +65,14 @@ impl Pass {
         self.number
     }
 
+    /// How many seats its request takes while it executes, 1 to 20,000.
+    pub fn width(&self) -> u32
+        ensures value { result ≡ own_width self.now.pass }
+        ensures small { result ≤ max_width }
+    {
+        self.width
+    }
+
     /// How the requests were decided that held the slot before.
     pub(crate) fn before(&self) -> Counts
         ensures counts { AreCounts result self.now.pass.past }

@@ -267,9 +267,9 @@ impl Play<(), LinkedList<Record>> for StationJoinedLoadLevel {
 }
 
 /// The first token's part of a seat goes to a seat of its own, or is joined in front of another's.
-pub(crate) struct First;
+pub(crate) struct FirstRecord;
 
-impl Split<LinkedList<Record>> for First {
+impl Split<LinkedList<Record>> for FirstRecord {
     ghost use Rattle.apf_gate.specs.Rule.{without_first, first_alone};
 
     ghost left = { without_first };
@@ -277,7 +277,7 @@ impl Split<LinkedList<Record>> for First {
     ghost right = { first_alone };
 }
 
-impl Join<LinkedList<Record>> for First {
+impl Join<LinkedList<Record>> for FirstRecord {
     ghost use Rattle.std.specs.Prelude.{[], ◌++◌};
 
     ghost both = { λ v w. w ++ v };

@@ -12,7 +12,7 @@ use Rattle.apf_history.proofs.Lists.{without, first_split}
 use Rattle.apf_history.proofs.Waiting.{IsLegal-append, waiting_else, waiting_dispatch, waiting_strike}
 
 -- no width is above the widest
-width-le-widest : (widths : List ℕ) (r : ℕ) → width widths r ≤ widest widths
+pub width-le-widest : (widths : List ℕ) (r : ℕ) → width widths r ≤ widest widths
 width-le-widest [] r = omega arith
 width-le-widest (k ∷ ks) zero = omega arith
 width-le-widest (k ∷ ks) (suc r) = let old = width-le-widest ks r in omega arith
@@ -110,10 +110,10 @@ module _ (queues most : ℕ) (queue after : ℕ → List ℕ) (v : Numbers) (nea
       }
 
 -- who waits after a dispatch or a strike waited before
-was_dispatch : (h : List Event) (j p q : ℕ) → waiting (Dispatch j p ∷ h) q ≢ [] → waiting h q ≢ []
+pub was_dispatch : (h : List Event) (j p q : ℕ) → waiting (Dispatch j p ∷ h) q ≢ [] → waiting h q ≢ []
 was_dispatch h j p q ne none = ne (waiting_dispatch h j p q ∙ ap (without j) none)
 
-was_strike : (h : List Event) (j p q : ℕ) → waiting (Strike j p ∷ h) q ≢ [] → waiting h q ≢ []
+pub was_strike : (h : List Event) (j p q : ℕ) → waiting (Strike j p ∷ h) q ≢ [] → waiting h q ≢ []
 was_strike h j p q ne none = ne (waiting_strike h j p q ∙ ap (without j) none)
 
 -- the numbers of every fair history
@@ -164,20 +164,20 @@ grows queues widths q (Dispatch r p ∷ stretch) h never =
     ]
 
 -- a list is empty or is not
-is_empty : (xs : List ℕ) → (xs ≡ []) ⊎ (xs ≢ [])
+pub is_empty : (xs : List ℕ) → (xs ≡ []) ⊎ (xs ≢ [])
 is_empty [] = inl refl
 is_empty (x ∷ xs) = inr (λ e. cc)
 
-still_empty : (xs : List ℕ) → ¬ (xs ≢ []) → xs ≡ []
+pub still_empty : (xs : List ℕ) → ¬ (xs ≢ []) → xs ≡ []
 still_empty [] never = refl
 still_empty (x ∷ xs) never = absurd (never (λ e. cc))
 
-time_enter : (v : Numbers) (p : ℕ) (ws : List ℕ) → (after_enter p ws v).virtual_time ≡ v.virtual_time
+pub time_enter : (v : Numbers) (p : ℕ) (ws : List ℕ) → (after_enter p ws v).virtual_time ≡ v.virtual_time
 time_enter v p [] = refl
 time_enter v p (w ∷ ws) = refl
 
 -- an Enter takes no queue's next back
-next_enter_least : (v : Numbers) (p b : ℕ) (ws : List ℕ) → v.next b ≤ (after_enter p ws v).next b
+pub next_enter_least : (v : Numbers) (p b : ℕ) (ws : List ℕ) → v.next b ≤ (after_enter p ws v).next b
 next_enter_least v p b (w ∷ ws) = omega arith
 next_enter_least v p b [] = elim (cases_eq b p) [
   | inl same ↦ (let e = ap v.next same in let n : put v.next p (max (v.next p) v.virtual_time) b ≡ max (v.next p) v.virtual_time = ap (put v.next p (max (v.next p) v.virtual_time)) same ∙ put_here v.next p (max (v.next p) v.virtual_time) in omega arith)
@@ -185,7 +185,7 @@ next_enter_least v p b [] = elim (cases_eq b p) [
 ]
 
 -- a queue that stops being empty starts no earlier than the level's virtual time
-next_entered : (v : Numbers) (p b : ℕ) (ws : List ℕ) → p ≡ b → ws ≡ [] → v.virtual_time ≤ (after_enter p ws v).next b
+pub next_entered : (v : Numbers) (p b : ℕ) (ws : List ℕ) → p ≡ b → ws ≡ [] → v.virtual_time ≤ (after_enter p ws v).next b
 next_entered v p b (w ∷ ws) same none = absurd (cons_some w ws none) where
   cons_some : (y : ℕ) (ys : List ℕ) → (y ∷ ys) ≡ [] → ⊥
   cons_some y ys e = cc

@@ -7,3 +7,7 @@ pub mod QueueOrder
 pub mod Balance
 pub mod Waits
 pub mod Standing
+pub mod Settled
+pub mod SettledStanding
+pub mod SettledOnce
+pub mod Charges

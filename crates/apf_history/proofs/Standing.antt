@@ -1,11 +1,11 @@
 -- A fair history stays fair if the hand or the cost of a request changes that it does not name.
 use Rattle.std.proofs.Common.{◌≡◌, ◌≢◌, ℕ, ◌+◌, ◌≤◌, Bool, true, false, List, [], ◌∷◌, ◌++◌, sym, refl, ap, ◌∙◌, subst}
-use Rattle.std.specs.Prelude.{◌==◌, not, if◌then◌else◌, filter, slice_index, max}
+use Rattle.std.specs.Prelude.{◌==◌, not, if◌then◌else◌, filter, slice_index}
 use Rattle.apf_history.specs.declared.events.Event.{Event}
 use Rattle.apf_history.specs.declared.events.Event.TheVariants.{Enter, Full, Dispatch, Strike}
-use Rattle.apf_history.specs.Numbered.{put, width}
-use Rattle.apf_history.specs.History.{request_of, entered, has_left, waiting, IsShortest, MayFollow, IsLegal}
-use Rattle.apf_history.specs.Fair.{Numbers, numbers, after_event, after_enter, after_dispatch, finish, IsChoice, DispatchesChoices, IsFair}
+use Rattle.apf_history.specs.Numbered.{width}
+use Rattle.apf_history.specs.History.{entered, has_left, waiting, MayFollow, IsLegal}
+use Rattle.apf_history.specs.Fair.{Numbers, numbers, after_enter, after_dispatch, finish, IsChoice, DispatchesChoices, IsFair}
 use Rattle.apf_history.specs.Standing.{EachNames}
 
 abbrev Each : (ℕ → Type 0) → List ℕ → Type 0
@@ -58,7 +58,7 @@ module _ (queues : ℕ) (costs costs' : List ℕ) where
     same_finish : (q : ℕ) → waiting h q ≢ [] → finish costs' (waiting h) v q ≡ finish costs (waiting h) v q
     same_finish q some = ap (λ x. v.next q + x) (first_named SameCost h q k some)
 
-    choice_stands : (q : ℕ) → IsChoice queues costs (waiting h) v q → IsChoice queues costs' (waiting h) v q
+    pub choice_stands : (q : ℕ) → IsChoice queues costs (waiting h) v q → IsChoice queues costs' (waiting h) v q
     choice_stands q c =
         let mine = same_finish q c.is_waited_in in record {
           is_queue = c.is_queue;
@@ -78,7 +78,7 @@ module _ (hands hands' : ℕ → List ℕ) (limit : ℕ) where
   abbrev SameHand : ℕ → Type 0
   SameHand r = hands' r ≡ hands r
 
-  legal_stands : (h : List Event) → EachNames SameHand h → IsLegal hands limit h → IsLegal hands' limit h
+  pub legal_stands : (h : List Event) → EachNames SameHand h → IsLegal hands limit h → IsLegal hands' limit h
   legal_stands [] k l = tt
   legal_stands (Enter r q ∷ h) k l = (subst (λ x. MayFollow (λ _. x) limit h (Enter r q)) (sym k.0) l.0, legal_stands h k.1 l.1)
   legal_stands (Full r q ∷ h) k l = (subst (λ x. MayFollow (λ _. x) limit h (Full r q)) (sym k.0) l.0, legal_stands h k.1 l.1)

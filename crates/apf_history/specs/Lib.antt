@@ -6,3 +6,4 @@ pub mod Waits
 pub mod Outcome
 pub mod Order
 pub mod Standing
+pub mod Charged

@@ -13,6 +13,27 @@ pub enum Event {
     Strike(u32, u32),
 }
 
+/// An entry of a log: an event, or a change of what a request that executes is charged.
+#[derive(Clone, Copy, Debug, PartialEq, Eq)]
+pub enum LogEntry {
+    /// The event happened.
+    Happens(Event),
+    /// The request, which executes from the queue and was charged the first amount, has run so long that it is charged
+    /// the second.
+    Spends(u32, u32, u64, u64),
+    /// The request, which executed from the queue and was charged the first amount, has run, and took the second.
+    Settles(u32, u32, u64, u64),
+}
+
+/// What a queue is charged for a request that was dispatched from it and executes.
+#[derive(Clone, Copy, Debug, PartialEq, Eq)]
+pub struct Charge {
+    /// The queue, by its number from 0.
+    pub queue: u32,
+    /// The charge, in the unit of costs.
+    pub amount: u64,
+}
+
 /// What became of a request, by a history of the queues.
 #[derive(Clone, Copy, Debug, PartialEq, Eq)]
 pub enum Status {

@@ -1,5 +1,5 @@
 -- What the end of a gate says of a level.
-use Rattle.std.proofs.Common.{◌≡◌, ◌≢◌, ℕ, ◌<◌, inl, List, [], length, Option, Some, None, refl, sym, ap, ◌∙◌, subst}
+use Rattle.std.proofs.Common.{◌≡◌, ◌≢◌, ℕ, ◌<◌, inl, inr, List, [], length, Option, Some, None, refl, sym, ap, ◌∙◌, subst}
 use Rattle.std.specs.Prelude.{slice_get, slice_index_or, All}
 use Rattle.std.proofs.lemmas.Option.{slice_get-get_or}
 use Rattle.apf_words.specs.declared.decision.Decision.{Decision}
@@ -9,6 +9,7 @@ use Rattle.apf_model.specs.Outcome.{Agrees, ExecutesArrivals}
 use Rattle.apf_gate.specs.declared.record.DeskRecord.{DeskRecord}
 use Rattle.apf_gate.specs.declared.record.Service.TheVariants as service_is
 use Rattle.apf_gate.specs.Records.{told_own, service}
+use Rattle.apf_gate.specs.Traces.{world_of}
 use Rattle.apf_gate.specs.Tokens.{GateId, PassToken, StationToken, pass_gate}
 use Rattle.apf_gate.specs.Ends.{WordsView, EndAgrees}
 use Rattle.apf_book.specs.LedgerView.{IsLogOf, NothingWaits}
@@ -17,12 +18,16 @@ use Rattle.apf_model.specs.declared.response.Response.TheVariants.{Reject}
 use Rattle.apf_level.specs.Levels.{LevelId, logged_as}
 use Rattle.apf_level.specs.Tokens.{IsDone}
 use Rattle.apf_level.specs.Heard.{IsHeard}
-use Rattle.apf_level.specs.Reports.{Ended}
+use Rattle.apf_level.specs.Reports.{Ended, WasToldBy}
 use Rattle.apf_level.proofs.Sums.{in_words}
 
 pub some_of : (x : Option Decision) → x ≢ None → (d : Decision) × (x ≡ Some d)
 some_of None some = absurd (some refl)
 some_of (Some d) some = (d, refl)
+
+-- the steps that made the words and the log, and that the decisions are those that these steps wrote
+abbrev pub IsDecidedBy : LevelId → WordsView → List PassToken → List StationToken → List Event → Type 0
+IsDecidedBy k w ps ss h = (made : IsMade k.gate h w.level ps ss) × ((r : ℕ) → r < length k.gate.shape.widths → decision_in w r ≡ (world_of k.gate.shape made.trace).decision r)
 
 module _ (k : LevelId) (d : DeskRecord) (w : WordsView) (ps : List PassToken) (ss : List StationToken) (e : EndAgrees k.gate d ps ss w) (count : length w.decisions ≡ length k.gate.shape.widths)
     (own : All (λ (t : PassToken). pass_gate t ≡ k.gate) ps) (done : All IsDone ps) (heard : All (IsHeard d) ps) where
@@ -54,7 +59,13 @@ module _ (k : LevelId) (d : DeskRecord) (w : WordsView) (ps : List PassToken) (s
       let x : IsDone t = subst IsDone any.3 (done any.0 t any.2) in
       x.told (sym is ∙ (ap (decision_in w) any.4 ∙ none))
 
-  pub ended : (h : List Event) → d.held ≡ None → IsLogOf (logged_as k h) → NothingWaits (logged_as k h) → Agrees h (decision_in w) → ExecutesArrivals h (decision_in w) (took_in ps) → All (EnteredBy h) ps → IsMade k.gate h w.level ps ss → (k.gate.shape.response ≡ Reject → h ≡ []) → Ended k w.level (decision_in w) h ps ss
+  told_one : (r : ℕ) (x : Decision) → r < length k.gate.shape.widths → WasToldBy ps ss r x → decision_in w r ≡ Some x
+  told_one r x low was = elim was [
+    | inl any ↦ (let t : PassToken = any.1 in let is : decision_in w t.pass.number ≡ told_own t.pass = subst (λ (u : PassToken). decision_in w u.pass.number ≡ told_own u.pass) any.3 (told any.0 t any.2) in ap (decision_in w) (sym any.4.0) ∙ (is ∙ any.4.1))
+    | inr of_station ↦ in_words w r x (e.told r x low (inr (inr of_station)))
+  ]
+
+  pub ended : (h : List Event) → d.held ≡ None → IsLogOf (logged_as k h) → NothingWaits (logged_as k h) → Agrees h (decision_in w) → ExecutesArrivals h (decision_in w) (took_in ps) → All (EnteredBy h) ps → IsDecidedBy k w ps ss h → (k.gate.shape.response ≡ Reject → h ≡ []) → Ended k w.level (decision_in w) h ps ss
   ended h held of_log nobody agrees arrivals entered made logs_nothing = record {
     drained = e.drained (λ i t low. (done i t low).back) held gone;
     of_log = of_log;
@@ -62,7 +73,9 @@ module _ (k : LevelId) (d : DeskRecord) (w : WordsView) (ps : List PassToken) (s
     agrees = agrees;
     arrivals = arrivals;
     entered = entered;
-    made = made;
+    made = made.0;
+    decides = made.1;
+    told_one = told_one;
     logs_nothing = logs_nothing;
     each = e.each_pass;
     each_station = e.each_station;

@@ -3,7 +3,7 @@ use Rattle.std.proofs.Common.{◌≡◌, ℕ, zero, suc, ◌<◌, inl, inr, Bool
 use Rattle.std.specs.Prelude.{All, Contains, slice_get, slice_index_or}
 use Rattle.std.proofs.lemmas.Bool.{eq-eqb, cases_lt}
 use Rattle.std.proofs.lemmas.List.{get_or_past}
-use Rattle.std.proofs.lemmas.Option.{slice_get-get_or}
+use Rattle.std.proofs.lemmas.Option.{get_or_from_slice_get, slice_get-get_or}
 use Rattle.apf_words.specs.declared.decision.Decision.{Decision}
 use Rattle.apf_words.specs.declared.decision.Decision.TheVariants.{Execute, QueueFull}
 use Rattle.apf_history.specs.declared.events.Event.{Event}
@@ -20,12 +20,13 @@ use Rattle.apf_gate.specs.declared.record.Record.{Record}
 use Rattle.apf_gate.specs.declared.record.Record.TheVariants.{Pass, Desk, Station}
 use Rattle.apf_gate.specs.declared.record.Actor.TheVariants.{OfPass, OfStation}
 use Rattle.apf_gate.specs.declared.record.StationRecord.{StationRecord}
-use Rattle.apf_gate.specs.Traces.{GoesOn}
+use Rattle.apf_gate.specs.Traces.{GoesOn, world_of}
 use Rattle.apf_gate.specs.declared.record.PassRecord.{PassRecord}
 use Rattle.apf_gate.specs.Requests.{IsPassRecord}
 use Rattle.apf_gate.specs.Rule.{Every, IsRecord}
 use Rattle.apf_book.specs.Laws.{decision_in, took_in, EnteredBy, IsMade}
 use Rattle.apf_level.specs.Levels.{LevelId}
+use Rattle.apf_level.proofs.Ends.{IsDecidedBy}
 
 or_true : (a b : Bool) → b ≡ true → (a || b) ≡ true
 or_true true b e = refl
@@ -106,7 +107,7 @@ each_station P [] rest k = λ i t low. absurd (omega arith)
 each_station P (s ∷ ss) rest k = stations_of P s ss k.0 (each_station P ss rest k.1)
 
 -- the steps of a level without queues, which say no event
-pub made_alone : (k : LevelId) (d : DeskRecord) (w : WordsView) (ps : List PassToken) (ss : List StationToken) (h : List Event) → EndsWith k.gate d ps ss w → k.gate.shape.response ≡ Reject → IsMade k.gate h w.level ps ss
+made_alone : (k : LevelId) (d : DeskRecord) (w : WordsView) (ps : List PassToken) (ss : List StationToken) (h : List Event) → EndsWith k.gate d ps ss w → k.gate.shape.response ≡ Reject → IsMade k.gate h w.level ps ss
 made_alone k d w ps ss h ends rejects =
     let account = ends.account in
     let passes = every_passes (IsRecord k.gate.shape account) ps (Desk d ∷ []) (every_stations (IsRecord k.gate.shape account) ss (passes_before ps (Desk d ∷ [])) ends.stand) in
@@ -124,3 +125,8 @@ made_alone k d w ps ss h ends rejects =
           let here = stations i t low in
           subst (λ (s : StationRecord). GoesOn account.trace (OfStation (slice_index_or ss i t).station.number) s.knows.trace) here.1 (ends.sound.station_knows (slice_index_or ss i t).station.number).newer;
     }
+
+-- and whose decisions are those that they wrote
+pub decided_alone : (k : LevelId) (d : DeskRecord) (w : WordsView) (ps : List PassToken) (ss : List StationToken) (h : List Event) → EndsWith k.gate d ps ss w → k.gate.shape.response ≡ Reject → IsDecidedBy k w ps ss h
+unfolding made_alone
+decided_alone k d w ps ss h ends rejects = (made_alone k d w ps ss h ends rejects, λ r low. get_or_from_slice_get w.decisions r ((world_of k.gate.shape ends.account.trace).decision r) None (ends.decided r low))

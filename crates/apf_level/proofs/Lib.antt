@@ -9,3 +9,5 @@ pub mod Nobody
 pub mod Appending
 pub mod Entered
 pub mod Following
+pub mod Listing
+pub mod Promising

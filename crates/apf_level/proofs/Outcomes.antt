@@ -1,5 +1,5 @@
 -- Lists of Passes of which each says the same of its request's end.
-use Rattle.std.proofs.Common.{◌≡◌, ◌↔◌, ℕ, ◌==◌, ◌<◌, ◌&&◌, ◌||◌, Bool, true, false, Option, List, [], ◌∷◌, length, map, refl, sym, ap, ◌∙◌, subst}
+use Rattle.std.proofs.Common.{◌≡◌, ◌↔◌, ℕ, ◌==◌, ◌<◌, ◌&&◌, ◌||◌, Bool, true, false, inl, inr, Option, Some, List, [], ◌∷◌, length, map, refl, sym, ap, ◌∙◌, subst}
 use Rattle.std.specs.Prelude.{slice_index_or, All, Any, Contains}
 use Rattle.std.proofs.lemmas.List.{length-map, get_or-map, get_or_default}
 use Rattle.apf_words.specs.Level.{Level}
@@ -66,6 +66,11 @@ ended_same k level level' f f' h ps ds ss same on a b e =
         goes_on = e.made.goes_on;
       };
       logs_nothing = e.logs_nothing;
+      decides = e.decides;
+      told_one = λ r d low was. elim was [
+        | inl any ↦ e.told_one r d low (inl (any_same ds ps (sym same) (λ (o : Outcome). (o.number ≡ r) × (o.told ≡ Some d)) any))
+        | inr of_station ↦ e.told_one r d low (inr of_station)
+      ];
       entered = all_same ps ds same (λ (o : Outcome). (o.entered ≡ true) ↔ ((q : ℕ) × Contains h (Enter o.number q))) e.entered;
       each = λ r low. any_same ps ds same (λ (o : Outcome). o.number ≡ r) (e.each r low);
       each_station = e.each_station;

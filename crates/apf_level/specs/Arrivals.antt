@@ -7,8 +7,8 @@ use Rattle.apf_gate.specs.declared.record.PassRecord.{PassRecord}
 use Rattle.apf_gate.specs.Records.{told_own}
 use Rattle.apf_book.specs.LedgerView.{IsLogOf}
 use Rattle.apf_book.specs.Servings.{AreServings}
-use Rattle.apf_level.specs.declared.answers.Stood.{Stood}
-use Rattle.apf_level.specs.declared.answers.Stood.TheVariants as stood
+use Rattle.apf_level.specs.declared.answers.Enqueued.{Enqueued}
+use Rattle.apf_level.specs.declared.answers.Enqueued.TheVariants as enqueued
 use Rattle.apf_level.specs.declared.answers.Begin.{Begin}
 use Rattle.apf_level.specs.declared.answers.Begin.TheVariants as begun
 use Rattle.apf_level.specs.Levels.{LevelId, logged_as}
@@ -22,10 +22,10 @@ pub record Appended (k : LevelId) (event : Event) : Type 0 where
   pub servings : AreServings newer
 
 -- what is told of a request that arrived under the lock, with its event: it entered a queue, or found one full; and else it has no event
-abbrev pub StandsAs : LevelId → PassRecord → Stood → Type 0
-StandsAs k pass (stood.Entered q) = (pass.entered ≡ true) × Appended k (events.Enter pass.number q)
-StandsAs k pass (stood.Full q) = (told_own pass ≡ Some decisions.QueueFull) × Appended k (events.Full pass.number q)
-StandsAs k pass (stood.Over decision) = (told_own pass ≡ Some decision) × (decision ≢ decisions.Execute) × (decision ≢ decisions.QueueFull) × (pass.entered ≡ false)
+abbrev pub EnqueuedAs : LevelId → PassRecord → Enqueued → Type 0
+EnqueuedAs k pass (enqueued.Entered q) = (pass.entered ≡ true) × Appended k (events.Enter pass.number q)
+EnqueuedAs k pass (enqueued.Full q) = (told_own pass ≡ Some decisions.QueueFull) × Appended k (events.Full pass.number q)
+EnqueuedAs k pass (enqueued.Over decision) = (told_own pass ≡ Some decision) × (decision ≢ decisions.Execute) × (decision ≢ decisions.QueueFull) × (pass.entered ≡ false)
 
 -- the answer says that a queue was full
 abbrev pub SaysFull : Begin → Type 0

@@ -11,6 +11,7 @@ pub mod Locked
 pub mod Limits
 pub mod Heard
 pub mod InPlace
-pub mod Keepers
+pub mod UnderLock
 pub mod Reports
 pub mod LevelCalls
+pub mod Promises

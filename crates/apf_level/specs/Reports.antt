@@ -1,11 +1,12 @@
 -- What the end of a level tells.
-use Rattle.std.specs.Prelude.{◌≡◌, ◌≢◌, ℕ, ◌+◌, ◌<◌, true, List, [], length, All, Any, Option, Some, None}
+use Rattle.std.specs.Prelude.{◌≡◌, ◌≢◌, ◌⊎◌, ℕ, ◌+◌, ◌<◌, true, List, [], length, All, Any, Option, Some, None}
 use Rattle.apf_words.specs.Level.{Level}
 use Rattle.apf_words.specs.declared.decision.Decision.{Decision}
 use Rattle.apf_words.specs.declared.decision.Decision.TheVariants.{Execute, QueueFull, Closed, Cancelled, ConcurrencyLimit}
 use Rattle.apf_history.specs.declared.events.Event.{Event}
 use Rattle.apf_model.specs.Outcome.{decided, Agrees, ExecutesArrivals}
-use Rattle.apf_gate.specs.Records.{told_own}
+use Rattle.apf_gate.specs.Records.{told_of, told_own}
+use Rattle.apf_gate.specs.Traces.{world_of}
 use Rattle.apf_gate.specs.Tokens.{PassToken, StationToken}
 use Rattle.apf_gate.specs.Ends.{WroteCancelled, ClosedFirst}
 use Rattle.apf_book.specs.LedgerView.{IsLogOf, NothingWaits}
@@ -31,6 +32,10 @@ pub record AreSums (c : Counts) (decision : ℕ → Option Decision) (n : ℕ) :
   pub cancelled : c.cancelled ≡ decided Cancelled decision n
   pub all : c.executed + c.queue_full + c.closed + c.concurrency_limit + c.cancelled ≡ n
 
+-- the request's Pass, or a Station, was told this decision of it
+abbrev pub WasToldBy : List PassToken → List StationToken → ℕ → Decision → Type 0
+WasToldBy passes stations r decision = Any (λ (t : PassToken). (t.pass.number ≡ r) × (told_own t.pass ≡ Some decision)) passes ⊎ Any (λ (t : StationToken). told_of t.station.knows.told r ≡ Some decision) stations
+
 -- what the words and the log of a level said when it ended, of the Passes and Stations that were handed in. The log's newest event stands first
 pub record Ended (k : LevelId) (level : Level) (decision : ℕ → Option Decision) (h : List Event) (passes : List PassToken) (stations : List StationToken) : Type 0 where
   -- no seat is taken, and nobody is counted as waiting
@@ -45,6 +50,9 @@ pub record Ended (k : LevelId) (level : Level) (decision : ℕ → Option Decisi
   -- one trace of the level's steps, which is a schedule, explains the level word, and goes on from what each Pass and each Station saw; with queues it says the log, and without them the log is empty
   pub made : IsMade k.gate h level passes stations
   pub logs_nothing : k.gate.shape.response ≡ Reject → h ≡ []
+  -- each decision is the one that these steps wrote, and whoever was told one of a request was told that
+  pub decides : (r : ℕ) → r < length k.gate.shape.widths → decision r ≡ (world_of k.gate.shape made.trace).decision r
+  pub told_one : (r : ℕ) (d : Decision) → r < length k.gate.shape.widths → WasToldBy passes stations r d → decision r ≡ Some d
   -- each Pass has that its request entered exactly if the log has its Enter
   pub entered : All (EnteredBy h) passes
   -- each request's Pass was handed in, and was told its decision

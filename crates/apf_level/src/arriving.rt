@@ -9,7 +9,7 @@ ghost use Rattle.apf_level.specs.Admission.{polled_pass, admitted_pass, IsAdmitt
 ghost use Rattle.apf_level.specs.Arrivals.{Logs};
 ghost use Rattle.apf_level.specs.LevelCalls.{IsFreshPass, AfterBegin};
 
-use crate::answers::{Admit, Begin, Begun, Poll, Stood, Tried};
+use crate::answers::{Admit, Begin, Begun, Enqueued, Poll, Tried};
 use crate::level::Level;
 use crate::naming::Naming;
 use crate::queued::QueuedLock;
@@ -108,7 +108,7 @@ impl<K: Naming> Level<K> {
                 Tried::Blocked => match &self.shared {
                     Shared::Queued(queued) => return self.enqueue(rt, queued, pass),
                     // without queues a request is busy after a lost exchange alone
-                    Shared::Alone(_alone) => {}
+                    Shared::Unqueued(_unqueued) => {}
                 },
                 Tried::Raced => {}
             }
@@ -132,17 +132,17 @@ impl<K: Naming> Level<K> {
     {
         self.gate.ask(pass);
         let request = self.number(pass);
-        let stood = queued.lock.lock(rt).arrive(rt, &self.gate, pass);
-        match stood {
-            Stood::Entered(queue) => {
+        let enqueued = queued.lock.lock(rt).arrive(rt, &self.gate, pass);
+        match enqueued {
+            Enqueued::Entered(queue) => {
                 let begun = self.read_decision(rt, pass);
                 (begun, Some(Event::Enter(request, queue)))
             }
-            Stood::Full(queue) => (
+            Enqueued::Full(queue) => (
                 Begun::Over(Decision::QueueFull),
                 Some(Event::Full(request, queue)),
             ),
-            Stood::Over(decision) => (Begun::Over(decision), None),
+            Enqueued::Over(decision) => (Begun::Over(decision), None),
         }
     }
 

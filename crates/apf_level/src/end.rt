@@ -3,27 +3,27 @@
 ghost use Rattle.std.specs.Prelude.{◌≡◌, length, reverse, slice_get, IfOk, All};
 ghost use Rattle.apf_model.specs.Outcome.{stats_of};
 ghost use Rattle.apf_book.specs.LedgerKept.{AreStats};
-ghost use Rattle.apf_level.specs.Keepers.{log_in, IsKeeperOf};
+ghost use Rattle.apf_level.specs.UnderLock.{log_in, IsUnderLockOf};
 ghost use Rattle.apf_level.specs.Reports.{AreSums, Ended};
 ghost use Rattle.apf_level.specs.LevelCalls.{AreAllOf};
 
-use crate::alone::{Alone, AloneLock};
 use crate::finish::finish;
-use crate::hearing::{Keeper, gather};
+use crate::hearing::{UnderLock, gather};
 use crate::level::Level;
 use crate::naming::Naming;
 use crate::queued::{Queued, QueuedLock};
 use crate::report::{Report, read};
 use crate::shared::Shared;
 use crate::tokens::Done;
+use crate::unqueued::{Unqueued, UnqueuedLock};
 use apf_book::Stats;
 use apf_gate::Station;
 use apf_stats::StatsPass;
 use std::alloc::{AllocError, Global};
 
 // Whoever decided under the lock.
-fn keeper_of<K: Naming>(shared: Shared<K>) -> Keeper
-    ensures { IsKeeperOf K.level result }
+fn under_lock_of<K: Naming>(shared: Shared<K>) -> UnderLock
+    ensures { IsUnderLockOf K.level result }
 {
     match shared {
         Shared::Queued(QueuedLock { lock }) => {
@@ -33,23 +33,23 @@ fn keeper_of<K: Naming>(shared: Shared<K>) -> Keeper
                 sleeps: _,
                 of: _,
             } = lock.into_inner();
-            Keeper::Book(book)
+            UnderLock::Book(book)
         }
-        Shared::Alone(AloneLock { lock }) => {
-            let Alone { desk, of: _ } = lock.into_inner();
-            Keeper::Desk(desk)
+        Shared::Unqueued(UnqueuedLock { lock }) => {
+            let Unqueued { desk, of: _ } = lock.into_inner();
+            UnderLock::Desk(desk)
         }
     }
 }
 
 // The numbers of the log.
-fn numbers<K: Naming>(keeper: &Keeper) -> Stats
-    requires { IsKeeperOf K.level keeper.now }
-    ensures { AreStats result (stats_of K.level.opening.sizes.deck (log_in keeper.now)) }
+fn numbers<K: Naming>(under_lock: &UnderLock) -> Stats
+    requires { IsUnderLockOf K.level under_lock.now }
+    ensures { AreStats result (stats_of K.level.opening.sizes.deck (log_in under_lock.now)) }
 {
-    match keeper {
-        Keeper::Book(book) => book.stats(),
-        Keeper::Desk(_desk) => Stats {
+    match under_lock {
+        UnderLock::Book(book) => book.stats(),
+        UnderLock::Desk(_desk) => Stats {
             entered: 0,
             dispatched: 0,
             struck: 0,
@@ -84,11 +84,11 @@ impl<K: Naming> Level<K> {
             shared,
             window: _,
         } = self;
-        let mut keeper = keeper_of(shared);
-        let passes = gather::<K>(alloc, &gate, &mut keeper, dones)?;
+        let mut under_lock = under_lock_of(shared);
+        let passes = gather::<K>(alloc, &gate, &mut under_lock, dones)?;
         let count = passes.len() as u32;
-        let stats = numbers::<K>(&keeper);
-        let (words, log) = finish::<K>(alloc, gate, keeper, passes, stations)?;
+        let stats = numbers::<K>(&under_lock);
+        let (words, log) = finish::<K>(alloc, gate, under_lock, passes, stations)?;
         let (decisions, counts) = read(alloc, &words, count)?;
         Ok(Report {
             word: words.level(),

@@ -2,12 +2,12 @@
 
 ghost use Rattle.std.specs.Prelude.{◌≡◌, [], reverse, length, IfOk, All};
 ghost use Rattle.apf_level.specs.Levels.{IsBookOf, IsIdleOf};
-ghost use Rattle.apf_level.specs.Keepers.{desk_in, log_in, IsKeeperOf};
+ghost use Rattle.apf_level.specs.UnderLock.{desk_in, log_in, IsUnderLockOf};
 ghost use Rattle.apf_level.specs.Tokens.{IsDone};
 ghost use Rattle.apf_level.specs.Heard.{IsHeard};
 ghost use Rattle.apf_level.specs.LevelCalls.{AreAllOf, Finishes};
 
-use crate::hearing::Keeper;
+use crate::hearing::UnderLock;
 use crate::naming::Naming;
 use apf_book::{Book, every_book_is_kept, every_ended_book_agrees};
 use apf_gate::{Desk, Gate, Pass, Station, Words, every_end_agrees};
@@ -41,7 +41,7 @@ fn finish_book<K: Naming>(
 }
 
 // Of a level without queues, whose log is empty.
-fn finish_alone<K: Naming>(
+fn finish_unqueued<K: Naming>(
     alloc: Global,
     gate: Gate<Global>,
     desk: Desk,
@@ -66,21 +66,21 @@ fn finish_alone<K: Naming>(
 pub fn finish<K: Naming>(
     alloc: Global,
     gate: Gate<Global>,
-    keeper: Keeper,
+    under_lock: UnderLock,
     passes: Vec<Pass>,
     stations: Vec<Station>,
 ) -> Result<(Words<Global>, Vec<Event>), AllocError>
     requires own { gate ≡ K.level.gate }
     requires batch { length K.level.gate.shape.widths ≡ K.level.gate.shape.slots }
-    requires own_keeper { IsKeeperOf K.level keeper }
+    requires own_keeper { IsUnderLockOf K.level under_lock }
     requires all { AreAllOf K.level passes.items stations.items }
     requires done { All IsDone passes.items }
-    requires heard { All (IsHeard (desk_in keeper).desk) passes.items }
-    ensures log { IfOk result (λ o. reverse o.1.items ≡ log_in keeper) }
+    requires heard { All (IsHeard (desk_in under_lock).desk) passes.items }
+    ensures log { IfOk result (λ o. reverse o.1.items ≡ log_in under_lock) }
     ensures finished { IfOk result (λ o. Finishes K.level o.0 (reverse o.1.items) passes.items stations.items) }
 {
-    match keeper {
-        Keeper::Book(book) => finish_book::<K>(alloc, gate, book, passes, stations),
-        Keeper::Desk(desk) => finish_alone::<K>(alloc, gate, desk, passes, stations),
+    match under_lock {
+        UnderLock::Book(book) => finish_book::<K>(alloc, gate, book, passes, stations),
+        UnderLock::Desk(desk) => finish_unqueued::<K>(alloc, gate, desk, passes, stations),
     }
 }

@@ -3,7 +3,7 @@
 ghost use Rattle.std.specs.Prelude.{◌≡◌, [], map, IfOk, All};
 ghost use Rattle.apf_gate.specs.Tokens.{desk_gate, pass_gate};
 ghost use Rattle.apf_level.specs.Levels.{IsBookOf};
-ghost use Rattle.apf_level.specs.Keepers.{desk_in, IsKeeperOf};
+ghost use Rattle.apf_level.specs.UnderLock.{desk_in, IsUnderLockOf};
 ghost use Rattle.apf_level.specs.Tokens.{IsDone};
 ghost use Rattle.apf_level.specs.Heard.{IsHeard, StaysHeard, GoesOnFrom, GoOnFrom, outcome_of};
 
@@ -15,7 +15,7 @@ use std::alloc::{AllocError, Global};
 
 // Whoever decided under the lock: the book of a level with queues, or the Desk of one without.
 #[derive(Drop)]
-pub enum Keeper {
+pub enum UnderLock {
     Book(Book<Global>),
     Desk(Desk),
 }
@@ -39,7 +39,7 @@ fn hear_in_book<K: Naming>(gate: &Gate<Global>, book: &mut Book<Global>, pass: &
 }
 
 // The Desk, which served nobody, hears the decision of a Pass's request.
-fn hear_alone(gate: &Gate<Global>, desk: &mut Desk, pass: &mut Pass)
+fn hear_unqueued(gate: &Gate<Global>, desk: &mut Desk, pass: &mut Pass)
     requires own { desk_gate desk.old ≡ gate.now }
     requires served_none { desk.old.desk.services ≡ [] }
     requires own_pass { pass_gate pass.old ≡ gate.now }
@@ -57,21 +57,21 @@ fn hear_alone(gate: &Gate<Global>, desk: &mut Desk, pass: &mut Pass)
 }
 
 // Hears what became of a Done's request. It stands in no queue then.
-fn hear<K: Naming>(gate: &Gate<Global>, keeper: &mut Keeper, done: Done) -> Pass
+fn hear<K: Naming>(gate: &Gate<Global>, under_lock: &mut UnderLock, done: Done) -> Pass
     requires own { gate.now ≡ K.level.gate }
-    requires own_keeper { IsKeeperOf K.level keeper.old }
+    requires own_keeper { IsUnderLockOf K.level under_lock.old }
     requires own_pass { pass_gate done ≡ K.level.gate }
-    ensures keeper { IsKeeperOf K.level keeper.new }
+    ensures under_lock { IsUnderLockOf K.level under_lock.new }
     ensures same { outcome_of result ≡ outcome_of done }
     ensures done { IsDone result }
-    ensures heard { IsHeard (desk_in keeper.new).desk result }
-    ensures stays { StaysHeard (desk_in keeper.old).desk (desk_in keeper.new).desk }
+    ensures heard { IsHeard (desk_in under_lock.new).desk result }
+    ensures stays { StaysHeard (desk_in under_lock.old).desk (desk_in under_lock.new).desk }
     ensures goes_on { GoesOnFrom done result }
 {
     let mut pass = done.into_pass();
-    match keeper {
-        Keeper::Book(book) => hear_in_book::<K>(gate, book, &mut pass),
-        Keeper::Desk(desk) => hear_alone(gate, desk, &mut pass),
+    match under_lock {
+        UnderLock::Book(book) => hear_in_book::<K>(gate, book, &mut pass),
+        UnderLock::Desk(desk) => hear_unqueued(gate, desk, &mut pass),
     }
     pass
 }
@@ -80,21 +80,21 @@ fn hear<K: Naming>(gate: &Gate<Global>, keeper: &mut Keeper, done: Done) -> Pass
 pub fn gather<K: Naming>(
     alloc: Global,
     gate: &Gate<Global>,
-    keeper: &mut Keeper,
+    under_lock: &mut UnderLock,
     dones: Vec<Done>,
 ) -> Result<Vec<Pass>, AllocError>
     requires own { gate.now ≡ K.level.gate }
-    requires own_keeper { IsKeeperOf K.level keeper.old }
+    requires own_keeper { IsUnderLockOf K.level under_lock.old }
     requires own_passes { All (λ t. pass_gate t ≡ K.level.gate) dones.items }
-    ensures keeper { IsKeeperOf K.level keeper.new }
+    ensures under_lock { IsUnderLockOf K.level under_lock.new }
     ensures same { IfOk result (λ ps. map outcome_of ps.items ≡ map outcome_of dones.items) }
     ensures done { IfOk result (λ ps. All IsDone ps.items) }
-    ensures heard { IfOk result (λ ps. All (IsHeard (desk_in keeper.new).desk) ps.items) }
+    ensures heard { IfOk result (λ ps. All (IsHeard (desk_in under_lock.new).desk) ps.items) }
     ensures go_on { IfOk result (λ ps. GoOnFrom dones.items ps.items []) }
 {
     let mut passes = Vec::with_capacity(alloc, dones.len())?;
     for done in dones {
-        let pass = hear::<K>(gate, keeper, done);
+        let pass = hear::<K>(gate, under_lock, done);
         passes.push(pass)?;
     }
     Ok(passes)

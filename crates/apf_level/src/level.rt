@@ -12,10 +12,10 @@ ghost use Rattle.apf_level.specs.Levels.{IsBookOf};
 ghost use Rattle.apf_book.specs.BookCalls.{AreCostsFor};
 ghost use Rattle.apf_level.specs.LevelCalls.{IsGateFor, AreEndsOf, IsOpened, IsJudged};
 
-use crate::alone::{Alone, AloneLock};
 use crate::naming::Naming;
 use crate::queued::{Queued, QueuedLock};
 use crate::shared::Shared;
+use crate::unqueued::{Unqueued, UnqueuedLock};
 use apf_book::{Ask, Book, BookFault, Config};
 use apf_gate::{Desk, Gate, Pass, Station};
 use apf_model::Response;
@@ -99,7 +99,7 @@ impl<K: Naming> Level<K> {
                 let book = Book::new(alloc, config, asks, desk);
                 queued::<K>(alloc, config, asks, book, board)?
             }
-            Response::Reject => alone::<K>(desk),
+            Response::Reject => unqueued::<K>(desk),
         };
         let level = Level {
             gate,
@@ -147,7 +147,7 @@ impl<K: Naming> Level<K> {
                 let book = Book::with_costs(alloc, config, asks, costs, desk);
                 queued::<K>(alloc, config, asks, book, board)?
             }
-            Response::Reject => alone::<K>(desk),
+            Response::Reject => unqueued::<K>(desk),
         };
         let level = Level {
             gate,
@@ -197,7 +197,7 @@ fn queued<K: Naming>(
 }
 
 // The lock of a level without queues, whose statistics nobody writes.
-fn alone<K: Naming>(desk: Desk) -> Shared<K>
+fn unqueued<K: Naming>(desk: Desk) -> Shared<K>
     requires own { desk_gate desk ≡ K.level.gate }
     requires batch { length K.level.gate.shape.widths ≡ K.level.gate.shape.slots }
     requires fresh { desk.desk ≡ new_desk desk.desk.knows.shape }
@@ -207,12 +207,12 @@ fn alone<K: Naming>(desk: Desk) -> Shared<K>
     requires no_queues { K.level.gate.shape.response ≡ Reject }
 {
     desk.is_of_a_gate();
-    let alone = Alone {
+    let unqueued = Unqueued {
         desk,
         of: PhantomData,
     };
-    let lock = AloneLock {
-        lock: Mutex::new(alone),
+    let lock = UnqueuedLock {
+        lock: Mutex::new(unqueued),
     };
-    Shared::Alone(lock)
+    Shared::Unqueued(lock)
 }

@@ -4,7 +4,7 @@
 //!
 //! - `naming`: which level a type is of.
 //! - `tokens`: a request at a level, by what became of it so far. `answers`: what calls answer.
-//! - `queued`: what stands under the lock of a level with queues. `alone`: of one without. `shared`: the lock of either.
+//! - `queued`: what stands under the lock of a level with queues. `unqueued`: of one without. `shared`: the lock of either.
 //! - `level`: the level, and how it begins.
 //! - `admission`: the steps of a request outside the lock. `arriving`: those that may take it.
 //! - `stations`: the calls of a Station. `locked`: those that take the lock.
@@ -13,7 +13,6 @@
 #![tactic(auto)]
 
 mod admission;
-mod alone;
 mod answers;
 mod arriving;
 mod end;
@@ -28,10 +27,11 @@ mod report;
 mod shared;
 mod stations;
 mod tokens;
+mod unqueued;
 
 pub use answers::{Admit, Begin, Begun, Poll, Tried, TryAdmit};
 pub use apf_stats::{Board, StatsPass, Window, open as open_statistics};
-pub use laws::every_reported_wait_is_bounded;
+pub use laws::{every_report_keeps_the_promises, every_reported_wait_is_bounded};
 pub use level::{Ends, Level, LevelFault, Opened};
 pub use locked::Locked;
 pub use naming::Naming;

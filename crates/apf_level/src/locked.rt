@@ -90,7 +90,7 @@ impl<K: Naming> Level<K> {
     pub fn lock<R: Wait>(&self, rt: &R) -> Locked<'_, K> {
         let queued = match &self.shared {
             Shared::Queued(queued) => Some(queued.lock.lock(rt)),
-            Shared::Alone(_alone) => None,
+            Shared::Unqueued(_unqueued) => None,
         };
         Locked {
             gate: &self.gate,

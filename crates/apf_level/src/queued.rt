@@ -12,12 +12,12 @@ ghost use Rattle.apf_book.specs.BookResults.{SameBook};
 ghost use Rattle.apf_book.specs.Stopped.{IsStopped};
 ghost use Rattle.apf_level.specs.Levels.{IsBookOf};
 ghost use Rattle.apf_level.specs.Tokens.{IsOf};
-ghost use Rattle.apf_level.specs.Arrivals.{StandsAs};
+ghost use Rattle.apf_level.specs.Arrivals.{EnqueuedAs};
 ghost use Rattle.apf_level.specs.Copies.{Copies, IsCopied};
 ghost use Rattle.apf_level.specs.Locked.{StrikesAndServes};
 ghost use Rattle.apf_level.specs.Shown.{shown_of, WentOn};
 
-use crate::answers::Stood;
+use crate::answers::Enqueued;
 use crate::naming::Naming;
 use apf_book::{Arrived, Book};
 use apf_gate::{Gate, Pass};
@@ -151,14 +151,14 @@ pub fn copy(log: &[Event], from: u32, into: &mut [Event]) -> u32
 impl<K: Naming> Queued<K> {
     /// The request arrives, and whoever waits is dispatched while the chosen head fits, also where the request does
     /// not enter.
-    pub fn arrive<R: Wait>(&mut self, rt: &R, gate: &Gate<Global>, pass: &mut Pass) -> Stood
+    pub fn arrive<R: Wait>(&mut self, rt: &R, gate: &Gate<Global>, pass: &mut Pass) -> Enqueued
         requires own { gate.now ≡ K.level.gate }
         requires own_pass { pass_gate pass.old ≡ K.level.gate }
         requires in_line { pass.old.pass.state ≡ InLine }
         requires not_handed { pass.old.pass.handed ≡ false }
         ensures same { IsOf pass.old pass.new }
         ensures in_line { pass.new.pass.state ≡ InLine }
-        ensures stands { StandsAs K.level pass.new.pass result }
+        ensures stands { EnqueuedAs K.level pass.new.pass result }
     {
         let before = self.book.log().len();
         let arrived = self.book.arrive(rt, gate, pass);
@@ -171,10 +171,10 @@ impl<K: Naming> Queued<K> {
             before,
         );
         match arrived {
-            Arrived::Queued(queue) => Stood::Entered(queue),
-            Arrived::Full(queue) => Stood::Full(queue),
-            Arrived::Closed => Stood::Over(Decision::Closed),
-            Arrived::Cancelled => Stood::Over(Decision::Cancelled),
+            Arrived::Queued(queue) => Enqueued::Entered(queue),
+            Arrived::Full(queue) => Enqueued::Full(queue),
+            Arrived::Closed => Enqueued::Over(Decision::Closed),
+            Arrived::Cancelled => Enqueued::Over(Decision::Cancelled),
             Arrived::Again => unreachable!(),
         }
     }

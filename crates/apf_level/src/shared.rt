@@ -1,15 +1,15 @@
 //! What a level's calls do under its lock, by its response.
 
-use crate::alone::AloneLock;
 use crate::naming::Naming;
 use crate::queued::QueuedLock;
+use crate::unqueued::UnqueuedLock;
 use std::sync::Wait;
 
 /// The lock of a level with queues, or of one without.
 #[derive(Drop)]
 pub enum Shared<K: Naming> {
     Queued(QueuedLock<K>),
-    Alone(AloneLock<K>),
+    Unqueued(UnqueuedLock<K>),
 }
 
 impl<K: Naming> Shared<K> {
@@ -17,7 +17,7 @@ impl<K: Naming> Shared<K> {
     pub fn will_sleep<R: Wait>(&self, rt: &R, request: u32) {
         match self {
             Shared::Queued(queued) => queued.lock.lock(rt).will_sleep(request),
-            Shared::Alone(_alone) => {}
+            Shared::Unqueued(_unqueued) => {}
         }
     }
 }

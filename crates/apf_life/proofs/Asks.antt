@@ -10,7 +10,7 @@ use Rattle.apf_gate.specs.declared.record.Knowledge.{Knowledge}
 use Rattle.apf_gate.specs.Records.{KnowsMore}
 use Rattle.apf_gate.specs.Traces.{ask_by, first_ask, asked_in}
 use Rattle.apf_book.specs.declared.life_event.LifeEvent.{LifeEvent}
-use Rattle.apf_book.specs.Notes.{event_of}
+use Rattle.apf_book.specs.RecentEvents.{event_of}
 use Rattle.apf_book.specs.Life.{IsAskedBy}
 use Rattle.apf_life.specs.declared.answers.Begin.{Begin}
 use Rattle.apf_line.specs.Levels.{LifeId}

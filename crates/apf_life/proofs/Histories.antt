@@ -1,5 +1,6 @@
 -- What a history of a level's book is.
 use Rattle.std.proofs.Common.{◌≡◌, ℕ, ◌≤◌, ◌<◌, inl, inr, Bool, true, false, List, [], ◌++◌, length, refl, sym, ap, ◌∙◌, arith}
+use Rattle.std.specs.Prelude.{◌==◌, not}
 use Rattle.std.proofs.lemmas.Bool.{cases_lt}
 use Rattle.std.proofs.lemmas.List.{append_assoc, get_or_past}
 use Rattle.apf_history.specs.declared.events.Event.{Event}
@@ -31,6 +32,7 @@ still_own k b b' v v' own same kept kept' limit = record {
   queues = same.queues ∙ own.queues;
   limit = kept'.of_life.limit ∙ (limit ∙ (sym kept.of_life.limit ∙ own.limit));
   hand = same.hand ∙ own.hand;
+  settles = ap (λ (n : ℕ). not (n == 0)) same.places ∙ own.settles;
 }
 
 pub came : (laws : HasHistories) (k : LifeId) (known : List Entry) (v : LifeView) (b b' : LifeBookView) (r : ℕ) (hand : List ℕ) (cost : ℕ) (e : Event) (count : ℕ) → IsBookOf k b' → has_arrived v.history r ≡ false → (later : List Entry) × (later ++ known ≡ b.desk.desk.knows.trace) → SameLifeBook b b' → ServesLife (then_came (asked v r hand cost) e) b count b' → Came k known r hand cost e
@@ -46,7 +48,7 @@ came laws k known v b b' r hand cost e count own new heard same served = record 
 
 -- a history in which nothing happened yet, of a gate of this shape
 abbrev pub beginning : Shape → ℕ → ℕ → LifeView
-beginning shape many limit = record { history = []; costs = shape.widths; hands = λ r. []; queues = many; limit = limit }
+beginning shape many limit = record { history = []; log = []; costs = shape.widths; hands = λ r. []; queues = many; limit = limit }
 
 low : (widths : List ℕ) → AreWidths widths → (r : ℕ) → width widths r ≤ 20000
 low widths are r = elim (cases_lt r (length widths)) [
@@ -57,6 +59,7 @@ low widths are r = elim (cases_lt r (length widths)) [
 pub is_beginning : (shape : Shape) (many limit : ℕ) → IsShape shape → IsOpening (beginning shape many limit) many limit
 is_beginning shape many limit is = record {
   nothing = refl;
+  no_log = refl;
   queues_are = refl;
   limit_is = refl;
   low = λ r. (let l = low shape.widths is.widths r in omega arith);

@@ -10,10 +10,10 @@ use Rattle.apf_gate.specs.Records.{told_own}
 use Rattle.apf_book.specs.declared.life_event.LifeEvent.{LifeEvent}
 use Rattle.apf_book.specs.Life.{LifeView, asked, then_came}
 use Rattle.apf_book.specs.LifeBook.{then_came_all}
-use Rattle.apf_book.specs.Notes.{event_of}
+use Rattle.apf_book.specs.RecentEvents.{event_of}
 use Rattle.apf_book.specs.Servings.{AreServings}
-use Rattle.apf_life.specs.declared.answers.Stood.{Stood}
-use Rattle.apf_life.specs.declared.answers.Stood.TheVariants as stood
+use Rattle.apf_life.specs.declared.answers.Enqueued.{Enqueued}
+use Rattle.apf_life.specs.declared.answers.Enqueued.TheVariants as enqueued
 use Rattle.apf_life.specs.declared.answers.Begin.{Begin}
 use Rattle.apf_life.specs.declared.answers.Begin.TheVariants as begun
 use Rattle.apf_line.specs.Levels.{LifeId, IsHistoryOf}
@@ -30,10 +30,10 @@ pub record Came (k : LifeId) (known : List Entry) (r : ℕ) (hand : List ℕ) (c
   pub servings : AreServings newer
 
 -- what is told of a request that arrived under the lock, with its event: it entered a queue, or found one full; and else it has no event
-abbrev pub StandsAs : LifeId → List Entry → List ℕ → ℕ → PassRecord → Stood → Type 0
-StandsAs k known hand cost pass (stood.Entered q) = (pass.entered ≡ true) × Came k known pass.number hand cost (events.Enter pass.number q)
-StandsAs k known hand cost pass (stood.Full q) = (told_own pass ≡ Some decisions.QueueFull) × (pass.entered ≡ false) × Came k known pass.number hand cost (events.Full pass.number q)
-StandsAs k known hand cost pass (stood.Over decision) = (told_own pass ≡ Some decision) × (decision ≢ decisions.Execute) × (decision ≢ decisions.QueueFull) × (pass.entered ≡ false)
+abbrev pub EnqueuedAs : LifeId → List Entry → List ℕ → ℕ → PassRecord → Enqueued → Type 0
+EnqueuedAs k known hand cost pass (enqueued.Entered q) = (pass.entered ≡ true) × Came k known pass.number hand cost (events.Enter pass.number q)
+EnqueuedAs k known hand cost pass (enqueued.Full q) = (told_own pass ≡ Some decisions.QueueFull) × (pass.entered ≡ false) × Came k known pass.number hand cost (events.Full pass.number q)
+EnqueuedAs k known hand cost pass (enqueued.Over decision) = (told_own pass ≡ Some decision) × (decision ≢ decisions.Execute) × (decision ≢ decisions.QueueFull) × (pass.entered ≡ false)
 
 -- the answer says that a queue was full
 abbrev pub SaysFull : Begin → Type 0

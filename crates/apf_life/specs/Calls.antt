@@ -29,6 +29,8 @@ pub record IsGateFor (k : LifeId) (config : Config) (gate : GateId) (given : Des
   pub response : gate.shape.response ≡ config.limit_response
   pub sizes : k.sizes ≡ record { deck = config.queues; hand = config.hand_size }
   pub queue_limit : k.queue_limit ≡ config.queue_length_limit
+  -- nothing is settled
+  pub settles : k.settles ≡ false
 
 -- the Passes are those of the gate's slots, which nobody held yet
 pub record AreFirst (gate : GateId) (passes : List PassToken) : Type 0 where

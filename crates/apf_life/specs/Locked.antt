@@ -3,11 +3,11 @@ use Rattle.std.specs.Prelude.{◌≡◌, ℕ, ◌*◌, ◌^◌, ◌<◌, Bool, f
 use Rattle.apf_model.specs.declared.response.Response.TheVariants.{Queue, Reject}
 use Rattle.apf_book.specs.declared.life_event.LifeEvent.{LifeEvent}
 use Rattle.apf_book.specs.declared.life_stats.LifeStats.{LifeStats}
-use Rattle.apf_book.specs.declared.notes.Copied.{Copied}
+use Rattle.apf_book.specs.declared.recent_events.Copied.{Copied}
 use Rattle.apf_book.specs.Life.{LifeView}
 use Rattle.apf_book.specs.LifeBook.{LifeBookView, IsLifeKept, ServesLife, StrikesLife}
 use Rattle.apf_book.specs.LifeCalls.{SameLifeBook}
-use Rattle.apf_book.specs.Notes.{AreLifeStats, CopiesLate}
+use Rattle.apf_book.specs.RecentEvents.{AreLifeStats, CopiesLate}
 use Rattle.apf_line.specs.Levels.{LifeId, IsBookOf}
 use Rattle.apf_line.specs.Stopped.{IsStopped}
 

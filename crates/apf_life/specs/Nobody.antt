@@ -1,5 +1,5 @@
 -- A level that nobody opened.
-use Rattle.std.specs.Prelude.{[]}
+use Rattle.std.specs.Prelude.{false, []}
 use Rattle.atomic_table.specs.Seated.{TableId}
 use Rattle.apf_model.specs.declared.response.Response.TheVariants.{Queue}
 use Rattle.apf_gate.specs.Gauges.{shape_of}
@@ -14,4 +14,5 @@ no_level =
       gate = record { table = no_table; shape = shape_of 0 Queue [] 0 };
       sizes = record { deck = 0; hand = 0 };
       queue_limit = 0;
+      settles = false;
     }

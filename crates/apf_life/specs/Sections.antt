@@ -5,9 +5,9 @@ use Rattle.apf_gate.specs.declared.ticket.Ticket.{Ticket}
 use Rattle.apf_gate.specs.Slots.{IsTicket}
 use Rattle.apf_book.specs.declared.life_event.LifeEvent.{LifeEvent}
 use Rattle.apf_book.specs.declared.life_stats.LifeStats.{LifeStats}
-use Rattle.apf_book.specs.declared.notes.Copied.{Copied}
+use Rattle.apf_book.specs.declared.recent_events.Copied.{Copied}
 use Rattle.apf_book.specs.Life.{LifeView}
-use Rattle.apf_book.specs.Notes.{AreLifeStats, CopiesLate}
+use Rattle.apf_book.specs.RecentEvents.{AreLifeStats, CopiesLate}
 use Rattle.apf_line.specs.Levels.{LifeId, IsHistoryOf}
 
 -- events of a history that the level may have had, of fewer than 2^64 that there ever were; the newest are kept, two for each slot

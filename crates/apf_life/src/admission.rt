@@ -90,7 +90,7 @@ impl<K: Naming> Level<K> {
             TryTake::Waiters => Tried::Blocked,
             TryTake::NoRoom => match &self.shared {
                 Shared::Queued(_queued) => Tried::Blocked,
-                Shared::Alone(_alone) => {
+                Shared::Unqueued(_unqueued) => {
                     let decision = self.gate.decide(pass, Decision::ConcurrencyLimit);
                     Tried::Over(decision, false)
                 }

@@ -75,7 +75,7 @@ pub enum Begin {
 }
 
 /// What became of an arrival under the lock.
-pub enum Stood {
+pub enum Enqueued {
     /// It entered this queue.
     Entered(u32),
     /// This queue was full: it is decided so.

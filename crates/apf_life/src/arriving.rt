@@ -13,7 +13,7 @@ ghost use Rattle.apf_life.specs.Admission.{polled_pass, admitted_pass, IsAdmitte
 ghost use Rattle.apf_life.specs.Arrivals.{Logs};
 ghost use Rattle.apf_life.specs.Calls.{IsFreshPass, AfterBegin};
 
-use crate::answers::{Admit, Begin, Begun, Poll, Stood, Tried};
+use crate::answers::{Admit, Begin, Begun, Enqueued, Poll, Tried};
 use crate::level::Level;
 use crate::naming::Naming;
 use crate::queued::QueuedLock;
@@ -133,7 +133,7 @@ impl<K: Naming> Level<K> {
                         return self.enqueue(rt, queued, pass, hash, cost);
                     }
                     // without queues a request is busy after a lost exchange alone
-                    Shared::Alone(_alone) => {}
+                    Shared::Unqueued(_unqueued) => {}
                 },
                 Tried::Raced => {}
             }
@@ -163,20 +163,20 @@ impl<K: Naming> Level<K> {
         self.gate.ask(pass);
         let hand = queued.dealer.deal(hash);
         let ticket = pass.ticket();
-        let stood = queued
+        let enqueued = queued
             .lock
             .lock(rt)
             .arrive(rt, &self.gate, pass, hand.as_slice(), cost);
-        match stood {
-            Stood::Entered(queue) => {
+        match enqueued {
+            Enqueued::Entered(queue) => {
                 let begun = self.read_decision(rt, pass);
                 (begun, Some(LifeEvent::Enter(ticket, queue)))
             }
-            Stood::Full(queue) => (
+            Enqueued::Full(queue) => (
                 Begun::Over(Decision::QueueFull),
                 Some(LifeEvent::Full(ticket, queue)),
             ),
-            Stood::Over(decision) => (Begun::Over(decision), None),
+            Enqueued::Over(decision) => (Begun::Over(decision), None),
         }
     }
 

@@ -5,12 +5,12 @@ ghost use Rattle.apf_life.specs.Calls.{AreAllOf};
 ghost use Rattle.apf_line.specs.Tokens.{IsDone};
 ghost use Rattle.apf_line.specs.Reports.{Closes, Ended};
 
-use crate::alone::{Alone, AloneLock};
 use crate::level::Level;
 use crate::naming::Naming;
 use crate::queued::{Queued, QueuedLock};
 use crate::shared::Shared;
 use crate::tokens::Done;
+use crate::unqueued::{Unqueued, UnqueuedLock};
 use apf_gate::{Pass, Station};
 use apf_line::{Closing, Report, close_book, close_desk, end_level};
 use std::alloc::{AllocError, Global};
@@ -64,8 +64,8 @@ fn close<K: Naming>(alloc: Global, shared: Shared<K>, slots: usize) -> Result<Cl
             } = lock.into_inner();
             close_book(alloc, book, slots)
         }
-        Shared::Alone(AloneLock { lock }) => {
-            let Alone { desk, of: _ } = lock.into_inner();
+        Shared::Unqueued(UnqueuedLock { lock }) => {
+            let Unqueued { desk, of: _ } = lock.into_inner();
             Ok(close_desk(alloc, desk))
         }
     }

@@ -11,12 +11,12 @@ ghost use Rattle.apf_line.specs.Levels.{IsBookOf};
 ghost use Rattle.apf_life.specs.Sections.{AreSleepers};
 ghost use Rattle.apf_life.specs.Calls.{IsGateFor, AreFirst, AreSettings, IsFaultOf, IsJudged};
 
-use crate::alone::{Alone, AloneLock};
 use crate::naming::Naming;
 use crate::queued::{Queued, QueuedLock};
 use crate::shared::Shared;
 use crate::tokens::Done;
-use apf_book::{BookFault, LifeBook};
+use crate::unqueued::{Unqueued, UnqueuedLock};
+use apf_book::{BookFault, LifeBook, Settling};
 use apf_flow::Dealer;
 use apf_gate::{Desk, Gate, Pass, Station, Ticket};
 use apf_line::every_level_has_histories;
@@ -82,7 +82,7 @@ impl<K: Naming> Level<K> {
     {
         let shared = match config.limit_response {
             Response::Queue => queued::<K>(alloc, config, passes.len() as u32, desk)?,
-            Response::Reject => alone::<K>(desk),
+            Response::Reject => unqueued::<K>(desk),
         };
         let slots = unheld(alloc, passes)?;
         Ok(Opened {
@@ -124,7 +124,7 @@ fn queued<K: Naming>(
         Ok(dealer) => dealer,
         Err(fault) => return Err(BookFault::Dealer(fault)),
     };
-    let book = LifeBook::new(alloc, config, slots, desk)?;
+    let book = LifeBook::new(alloc, config, slots, desk, Settling::Never)?;
     let queued = Queued {
         book,
         sleepers: first_tickets(alloc, slots)?,
@@ -150,17 +150,17 @@ fn first_tickets(alloc: Global, slots: u32) -> Result<Vec<Ticket>, AllocError>
 }
 
 // The lock of a level without queues.
-fn alone<K: Naming>(desk: Desk) -> Shared<K>
+fn unqueued<K: Naming>(desk: Desk) -> Shared<K>
     requires own { desk_gate desk ≡ K.level.gate }
     requires fresh { desk.desk ≡ new_desk desk.desk.knows.shape }
     requires no_queues { K.level.gate.shape.response ≡ Reject }
 {
-    let alone = Alone {
+    let unqueued = Unqueued {
         desk,
         of: PhantomData,
     };
-    let lock = AloneLock {
-        lock: Mutex::new(alone),
+    let lock = UnqueuedLock {
+        lock: Mutex::new(unqueued),
     };
-    Shared::Alone(lock)
+    Shared::Unqueued(lock)
 }

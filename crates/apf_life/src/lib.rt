@@ -4,7 +4,7 @@
 //!
 //! - `naming`: which level a type is of.
 //! - `tokens`: a slot, by what became of its request so far. `answers`: what calls answer.
-//! - `queued`: what stands under the lock of a level with queues. `alone`: of one without. `shared`: the lock of either.
+//! - `queued`: what stands under the lock of a level with queues. `unqueued`: of one without. `shared`: the lock of either.
 //! - `level`: the level, and how it begins.
 //! - `renewing`: a slot goes on to its next request.
 //! - `admission`: the steps of a request outside the lock. `arriving`: those that may take it.
@@ -13,7 +13,6 @@
 #![tactic(auto)]
 
 mod admission;
-mod alone;
 mod answers;
 mod arriving;
 mod end;
@@ -25,6 +24,7 @@ mod renewing;
 mod shared;
 mod stations;
 mod tokens;
+mod unqueued;
 
 pub use answers::{Admit, Begin, Begun, Poll, Renewed, Tried, TryAdmit};
 pub use apf_line::{

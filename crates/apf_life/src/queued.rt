@@ -12,14 +12,14 @@ ghost use Rattle.apf_book.specs.LifeBook.{IsLifeKept, ServesLife};
 ghost use Rattle.apf_book.specs.LifeCalls.{SameLifeBook};
 ghost use Rattle.apf_line.specs.Levels.{IsBookOf};
 ghost use Rattle.apf_line.specs.Tokens.{IsOf};
-ghost use Rattle.apf_life.specs.Arrivals.{StandsAs};
+ghost use Rattle.apf_life.specs.Arrivals.{EnqueuedAs};
 ghost use Rattle.apf_life.specs.Sections.{IsCopied, AreStatsOf, AreSleepers};
 ghost use Rattle.apf_life.specs.Locked.{StrikesAndServes};
-ghost use Rattle.apf_book.specs.Notes.{AreLifeStats, CopiesLate};
+ghost use Rattle.apf_book.specs.RecentEvents.{AreLifeStats, CopiesLate};
 ghost use Rattle.apf_life.specs.Calls.{StandsInLine};
 ghost use Rattle.apf_line.specs.Stopped.{IsStopped};
 
-use crate::answers::Stood;
+use crate::answers::Enqueued;
 use crate::naming::Naming;
 use apf_book::{Arrived, Copied, LifeBook, LifeEvent, LifeStats};
 use apf_flow::Dealer;
@@ -111,12 +111,12 @@ impl<K: Naming> Queued<K> {
         pass: &mut Pass,
         dealt: &[u32],
         cost: u32,
-    ) -> Stood
+    ) -> Enqueued
         requires own { gate.now ≡ K.level.gate }
         requires stands { StandsInLine K.level pass.old dealt.now cost }
         ensures same { IsOf pass.old pass.new }
         ensures in_line { pass.new.pass.state ≡ InLine }
-        ensures stands { StandsAs K.level pass.old.pass.knows.trace dealt.now cost pass.new.pass result }
+        ensures stands { EnqueuedAs K.level pass.old.pass.knows.trace dealt.now cost pass.new.pass result }
     {
         every_level_has_histories();
         self.book.has_a_history();
@@ -124,10 +124,10 @@ impl<K: Naming> Queued<K> {
         let arrived = self.book.arrive(rt, gate, pass, dealt, cost);
         serve(rt, gate, &mut self.book, self.sleepers.as_slice(), before);
         match arrived {
-            Arrived::Queued(queue) => Stood::Entered(queue),
-            Arrived::Full(queue) => Stood::Full(queue),
-            Arrived::Closed => Stood::Over(Decision::Closed),
-            Arrived::Cancelled => Stood::Over(Decision::Cancelled),
+            Arrived::Queued(queue) => Enqueued::Entered(queue),
+            Arrived::Full(queue) => Enqueued::Full(queue),
+            Arrived::Closed => Enqueued::Over(Decision::Closed),
+            Arrived::Cancelled => Enqueued::Over(Decision::Cancelled),
             Arrived::Again => unreachable!(),
         }
     }

@@ -7,9 +7,9 @@ ghost use Rattle.apf_gate.specs.Slots.{IsTicket};
 ghost use Rattle.apf_gate.specs.Tokens.{pass_gate};
 ghost use Rattle.apf_line.specs.Tokens.{IsOf, IsInLine};
 
-use crate::alone::AloneLock;
 use crate::naming::Naming;
 use crate::queued::QueuedLock;
+use crate::unqueued::UnqueuedLock;
 use apf_gate::{Gate, Pass, Ticket};
 use std::alloc::Global;
 use std::sync::Wait;
@@ -18,7 +18,7 @@ use std::sync::Wait;
 #[derive(Drop)]
 pub enum Shared<K: Naming> {
     Queued(QueuedLock<K>),
-    Alone(AloneLock<K>),
+    Unqueued(UnqueuedLock<K>),
 }
 
 impl<K: Naming> Shared<K> {
@@ -38,7 +38,7 @@ impl<K: Naming> Shared<K> {
         match self {
             Shared::Queued(queued) => queued.lock.lock(rt).withdraw(rt, gate, pass),
             // nobody enters a queue of a level without queues
-            Shared::Alone(_alone) => unreachable!(),
+            Shared::Unqueued(_unqueued) => unreachable!(),
         }
     }
 
@@ -48,7 +48,7 @@ impl<K: Naming> Shared<K> {
     {
         match self {
             Shared::Queued(queued) => queued.lock.lock(rt).will_sleep(request),
-            Shared::Alone(_alone) => {}
+            Shared::Unqueued(_unqueued) => {}
         }
     }
 }

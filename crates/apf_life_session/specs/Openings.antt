@@ -1,5 +1,5 @@
 -- What a level is opened with, and why it is not opened.
-use Rattle.std.specs.Prelude.{◌≢◌, ◌⊎◌, ◌≤◌, ◌<◌, ℕ}
+use Rattle.std.specs.Prelude.{◌≢◌, ◌⊎◌, ◌≤◌, ◌<◌, ℕ, false}
 use Rattle.apf_words.specs.Limits.{max_limit, max_requests, max_stations}
 use Rattle.apf_gate.specs.declared.fault.GateFault.{GateFault}
 use Rattle.apf_gate.specs.declared.fault.GateFault.TheVariants as gate
@@ -14,7 +14,7 @@ use Rattle.apf_life_session.specs.declared.fault.OpenFault.TheVariants as faults
 
 -- the level of this gate, opened with these settings
 abbrev pub level_of : GateId → Config → LifeId
-level_of gate config = record { gate = gate; sizes = record { deck = config.queues; hand = config.hand_size }; queue_limit = config.queue_length_limit }
+level_of gate config = record { gate = gate; sizes = record { deck = config.queues; hand = config.hand_size }; queue_limit = config.queue_length_limit; settles = false }
 
 -- a gate is opened for these settings: nothing of them is out of range
 pub record CanOpenGate (config : Config) (slots stations : ℕ) : Type 0 where

@@ -10,7 +10,7 @@ use Rattle.apf_gate.specs.Slots.{next_of}
 use Rattle.apf_gate.specs.Tokens.{PassToken, pass_gate}
 use Rattle.apf_gate.specs.PassSteps.{PassRenews, PassSubtractsLevel}
 use Rattle.apf_book.specs.declared.life_event.LifeEvent.{LifeEvent}
-use Rattle.apf_book.specs.Notes.{event_of}
+use Rattle.apf_book.specs.RecentEvents.{event_of}
 use Rattle.apf_life.specs.declared.answers.Tried.{Tried}
 use Rattle.apf_life.specs.declared.answers.Tried.TheVariants as tries
 use Rattle.apf_life.specs.Attempts.{Attempts}

@@ -12,6 +12,8 @@ use Rattle.std.proofs.Common.{List, arith}
 pub history_of : (k : LifeId) (v : LifeView) (b : LifeBookView) → IsBookOf k b → IsLifeKept v b → IsHistoryOf k b.desk.desk.knows.trace v
 history_of k v b own kept = record {
   fair = kept.of_life.fair;
+  events_are = kept.of_life.events_are;
+  unsettled = λ none. kept.of_life.unsettled (own.settles ∙ none);
   names_requests = subst (λ (n : ℕ). NamesRequests n v.history) (kept.one_cost_each ∙ ap (λ (g : GateId). length g.shape.widths) own.gate) kept.of_life.names_requests;
   names_queues = kept.of_life.names_queues;
   low = kept.of_life.low;
@@ -23,6 +25,8 @@ history_of k v b own kept = record {
 pub is_nothing_yet : (k : LifeId) (trace : List Entry) → IsHistoryOf k trace (nothing_yet k)
 is_nothing_yet k trace = record {
   fair = (tt, tt);
+  events_are = refl;
+  unsettled = λ none. refl;
   names_requests = tt;
   names_queues = tt;
   low = λ r. omega arith;

@@ -4,3 +4,5 @@ pub mod Stopped
 pub mod Histories
 pub mod Standing
 pub mod Lawful
+pub mod Promising
+pub mod Fair

@@ -3,3 +3,4 @@ pub mod Tokens
 pub mod Reports
 pub mod Stopped
 pub mod Laws
+pub mod Promises

@@ -14,7 +14,7 @@ use Rattle.apf_gate.specs.LifeEnds.{LifeAgrees}
 use Rattle.apf_book.specs.Agreeing.{IsDeskOf}
 use Rattle.apf_book.specs.Life.{LifeView}
 use Rattle.apf_book.specs.LifeBook.{NobodyWaits}
-use Rattle.apf_book.specs.Notes.{event_of, AreLifeStats}
+use Rattle.apf_book.specs.RecentEvents.{event_of, AreLifeStats}
 use Rattle.apf_line.specs.declared.report.Newest.{Newest}
 use Rattle.apf_line.specs.declared.report.Closing.{Closing}
 use Rattle.apf_line.specs.declared.report.Report.{Report}

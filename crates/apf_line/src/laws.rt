@@ -3,43 +3,84 @@
 ghost use Rattle.std.specs.Prelude.{◌≡◌, ◌+◌, ◌*◌, ◌<◌, ◌≤◌, ◌++◌, [], ◌∷◌, ℕ, List, length, slice_get, Contains, Some};
 ghost use Rattle.apf_history.specs.declared.events.Event.{Event};
 ghost use Rattle.apf_history.specs.declared.events.Event.TheVariants.{Enter};
+ghost use Rattle.apf_history.specs.declared.events.LogEntry.{LogEntry};
 ghost use Rattle.apf_history.specs.Standing.{EachNames};
 ghost use Rattle.apf_history.specs.Waits.{total_width};
 ghost use Rattle.apf_model.specs.World.{width};
 ghost use Rattle.apf_model.specs.History.{waiting};
 ghost use Rattle.apf_model.specs.Fair.{IsNeverEmpty, service, widest};
+ghost use Rattle.apf_model.specs.Charged.{log_of, seat_time, AreMeasures, AreJudged, IsNeverEmptyIn, SpendsWithin, HaveSeats};
 ghost use Rattle.apf_book.specs.Life.{LifeView};
 ghost use Rattle.apf_flow.specs.Deal.{hand_of};
 ghost use Rattle.apf_gate.specs.declared.record.Asked.{Asked};
 ghost use Rattle.apf_gate.specs.declared.record.Entry.{Entry};
 ghost use Rattle.apf_gate.specs.Traces.{asked_in};
+ghost use Rattle.apf_gate.specs.Tokens.{PassToken, StationToken};
+ghost use Rattle.apf_line.specs.declared.report.Report.{Report};
 ghost use Rattle.apf_line.specs.Levels.{LifeId, IsHistoryOf};
+ghost use Rattle.apf_line.specs.Promises.{KeepsPromises};
+ghost use Rattle.apf_line.specs.Reports.{EndedAs};
 ghost use Rattle.apf_line.specs.Stopped.{NoRequestIsForgotten};
 ghost use Rattle.apf_line.specs.Laws.{LevelHistories};
 
 use apf_gate::no_dispatch_is_lost;
 use apf_history::{
     every_fair_history_isolates, every_fair_history_stands, every_legal_history_is_in_order,
-    every_wait_is_bounded,
+    every_settled_log_balances, every_settled_log_isolates, every_settled_log_stands,
+    every_unsettled_log_is_fair, every_wait_is_bounded,
 };
+use apf_model::every_schedule_is_safe;
 
-/// Every history of a level isolates its queues: in every stretch of it in which a queue is never empty, both ends
+/// Every history of a level in which nothing was settled isolates its queues: in every stretch of it in which a queue is never empty, both ends
 /// included, no other queue is charged more than that one and twice the largest cost.
 ///
 /// Costs are those of the requests that arrived. What the others would cost is anybody's choice, as of nothing: so the
 /// largest cost is that of those that arrived. It runs no code: the contract is the law.
 pub fn every_life_history_isolates()
     ensures { (k : LifeId) (trace : List Entry) (v : LifeView) (costs : List ℕ) (later stretch earlier : List Event) (q other : ℕ)
-        → IsHistoryOf k trace v → EachNames (λ r. width costs r ≡ width v.costs r) v.history
+        → IsHistoryOf k trace v → v.log ≡ log_of v.history → EachNames (λ r. width costs r ≡ width v.costs r) v.history
         → v.history ≡ later ++ (stretch ++ earlier) → q < v.queues → other < v.queues
         → IsNeverEmpty (stretch ++ earlier) (length stretch) q
         → service costs stretch other ≤ service costs stretch q + 2 * widest costs }
 {
+    every_unsettled_log_is_fair();
     every_fair_history_stands();
     every_fair_history_isolates();
 }
 
-/// Every wait on a level is bounded. Let a request have entered a queue after the earlier events, and wait in it still
+/// Every log of a level isolates its queues, whatever was settled: in every stretch of it in which a queue is never
+/// empty, both ends included, the measured seat-time of the requests dispatched from another queue is at most that of
+/// those dispatched from this one, twice the largest cost, and three times what executing requests are misjudged by; which
+/// is at most the level's seats times the longest run.
+///
+/// A request's measure is what it takes, as far as it is settled, in the unit of costs. A request that is never settled is
+/// measured by what it is charged, if nothing else is known of it: then it is not misjudged. Costs are those of the requests
+/// that arrived, as in `every_life_history_isolates`. It runs no code: the contract is the law.
+pub fn every_life_log_isolates()
+    ensures isolated { (k : LifeId) (trace : List Entry) (v : LifeView) (costs : List ℕ) (measure : ℕ → ℕ) (slack : ℕ)
+        (later stretch earlier : List LogEntry) (q other : ℕ)
+        → IsHistoryOf k trace v → EachNames (λ r. width costs r ≡ width v.costs r) v.history
+        → v.log ≡ later ++ (stretch ++ earlier) → AreMeasures measure (stretch ++ earlier)
+        → AreJudged slack costs measure (stretch ++ earlier)
+        → q < v.queues → other < v.queues
+        → IsNeverEmptyIn (stretch ++ earlier) (length stretch) q
+        → seat_time measure stretch other ≤ seat_time measure stretch q + 2 * widest costs + 3 * slack }
+    ensures by_seats { (k : LifeId) (trace : List Entry) (v : LifeView) (costs : List ℕ) (wide measure : ℕ → ℕ)
+        (seats longest : ℕ) (later stretch earlier : List LogEntry) (q other : ℕ)
+        → IsHistoryOf k trace v → EachNames (λ r. width costs r ≡ width v.costs r) v.history
+        → v.log ≡ later ++ (stretch ++ earlier) → AreMeasures measure (stretch ++ earlier)
+        → ((r : ℕ) → width costs r ≤ wide r * longest) → ((r : ℕ) → measure r ≤ wide r * longest)
+        → SpendsWithin longest wide (stretch ++ earlier) → HaveSeats seats wide measure costs (stretch ++ earlier)
+        → q < v.queues → other < v.queues
+        → IsNeverEmptyIn (stretch ++ earlier) (length stretch) q
+        → seat_time measure stretch other ≤ seat_time measure stretch q + 2 * widest costs + 3 * (seats * longest) }
+{
+    every_settled_log_stands();
+    every_settled_log_balances();
+    every_settled_log_isolates();
+}
+
+/// Every wait on a level on which nothing was settled is bounded. Let a request have entered a queue after the earlier events, and wait in it still
 /// after the stretch that followed. In that stretch its own queue was charged at most the costs of those that waited in
 /// it when the request entered. Each other queue was charged at most these and twice the largest cost.
 ///
@@ -47,17 +88,18 @@ pub fn every_life_history_isolates()
 /// the law.
 pub fn every_life_wait_is_bounded()
     ensures own { (k : LifeId) (trace : List Entry) (v : LifeView) (costs : List ℕ) (later stretch earlier : List Event) (q r : ℕ)
-        → IsHistoryOf k trace v → EachNames (λ i. width costs i ≡ width v.costs i) v.history
+        → IsHistoryOf k trace v → v.log ≡ log_of v.history → EachNames (λ i. width costs i ≡ width v.costs i) v.history
         → v.history ≡ later ++ (stretch ++ Enter r q ∷ earlier)
         → Contains (waiting (stretch ++ Enter r q ∷ earlier) q) r
         → service costs stretch q ≤ total_width costs (waiting earlier q) }
     ensures others { (k : LifeId) (trace : List Entry) (v : LifeView) (costs : List ℕ) (later stretch earlier : List Event) (q r other : ℕ)
-        → IsHistoryOf k trace v → EachNames (λ i. width costs i ≡ width v.costs i) v.history
+        → IsHistoryOf k trace v → v.log ≡ log_of v.history → EachNames (λ i. width costs i ≡ width v.costs i) v.history
         → v.history ≡ later ++ (stretch ++ Enter r q ∷ earlier)
         → Contains (waiting (stretch ++ Enter r q ∷ earlier) q) r
         → q < v.queues → other < v.queues
         → service costs stretch other ≤ total_width costs (waiting earlier q) + 2 * widest costs }
 {
+    every_unsettled_log_is_fair();
     every_fair_history_stands();
     every_wait_is_bounded();
 }
@@ -86,6 +128,25 @@ pub fn every_queue_was_dealt()
         → asked_in trace r ≡ Some ask → IsHistoryOf k trace (record v { history = Enter r q ∷ older })
         → (place : ℕ) × (slice_get (hand_of k.sizes ask.hash) place ≡ Some q) }
 {}
+
+/// Every report keeps the promises: of any level that ended, by a history that it was of, and of the steps by which its
+/// words agree with its tokens.
+///
+/// Each request's decision was written once at most, and everybody was told that one. Each queue served its requests in
+/// order, each once. Once it was closed, none took seats or entered. The seats never passed the limit, but for one wide
+/// request alone. The numbers of the report sum to the requests. No queue starved, and nobody is left waiting.
+///
+/// It runs no code: the contract is the law.
+pub fn every_report_keeps_the_promises()
+    ensures { (k : LifeId) (v : LifeView) (slots : List PassToken) (stations : List StationToken) (r : Report)
+        → EndedAs k v slots stations r → KeepsPromises k v slots stations r }
+{
+    every_schedule_is_safe();
+    every_legal_history_is_in_order();
+    every_life_history_isolates();
+    every_life_log_isolates();
+    every_life_wait_is_bounded();
+}
 
 /// What a level's book is of is a history of the level. A book in which nothing happened yet is at rest, and so is one
 /// that was served until nothing waited or the chosen head did not fit.

@@ -12,7 +12,8 @@ mod report;
 
 pub use ending::{close_book, close_desk, end_level};
 pub use laws::{
-    every_level_has_histories, every_life_history_isolates, every_life_wait_is_bounded,
-    every_queue_was_dealt, no_life_request_is_forgotten,
+    every_level_has_histories, every_life_history_isolates, every_life_log_isolates,
+    every_life_wait_is_bounded, every_queue_was_dealt, every_report_keeps_the_promises,
+    no_life_request_is_forgotten,
 };
 pub use report::{Closing, Newest, Report};

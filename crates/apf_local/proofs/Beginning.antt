@@ -12,7 +12,7 @@ use Rattle.apf_line.specs.Laws.{HasHistories, LevelHistories}
 
 -- of a gate of this shape
 abbrev pub beginning : Shape → ℕ → ℕ → LifeView
-beginning shape many limit = record { history = []; costs = shape.widths; hands = λ r. []; queues = many; limit = limit }
+beginning shape many limit = record { history = []; log = []; costs = shape.widths; hands = λ r. []; queues = many; limit = limit }
 
 low : (widths : List ℕ) → AreWidths widths → (r : ℕ) → width widths r ≤ 20000
 low widths are r = elim (cases_lt r (length widths)) [
@@ -23,6 +23,7 @@ low widths are r = elim (cases_lt r (length widths)) [
 pub is_beginning : (shape : Shape) (many limit : ℕ) → IsShape shape → IsOpening (beginning shape many limit) many limit
 is_beginning shape many limit is = record {
   nothing = refl;
+  no_log = refl;
   queues_are = refl;
   limit_is = refl;
   low = λ r. (let l = low shape.widths is.widths r in omega arith);

@@ -1,17 +1,15 @@
 -- A level whose requests are given up, one slot after another.
 use Rattle.std.proofs.Common.{◌≡◌, ◌<◌, ℕ, zero, suc, inl, inr, List, [], ◌∷◌, ◌++◌, length, get_or, set, Option, Some, None, refl, sym, ap, ◌∙◌, subst, arith}
 use Rattle.std.specs.Prelude.{slice_get, All}
-use Rattle.std.proofs.lemmas.List.{append_assoc}
-use Rattle.apf_history.specs.declared.events.Event.{Event}
 use Rattle.apf_book.specs.Life.{LifeView}
-use Rattle.apf_book.specs.LifeBook.{LifeBookView, IsLifeKept}
+use Rattle.apf_book.specs.LifeBook.{LifeBookView, IsLifeKept, then_came_all}
 use Rattle.apf_local.specs.declared.answer.Answer.{Answer}
 use Rattle.apf_local.specs.declared.answer.Answer.TheVariants as answers
 use Rattle.apf_local.specs.declared.answer.Place.{Place}
 use Rattle.apf_local.specs.declared.answer.Place.TheVariants as places
 use Rattle.apf_local.specs.Levels.{LocalView, SameLocal, GoesOn, IsFinish}
 use Rattle.apf_local.specs.Tries.{IsReading}
-use Rattle.apf_local.proofs.Logging.{servings_then, still_on}
+use Rattle.apf_local.proofs.Logging.{servings_then, came_twice, still_on}
 use Rattle.apf_local.proofs.Slots.{owner_then}
 
 some_is : {A : Type 0} (a b : A) → ◌≡◌ {A = Option A} (Some a) (Some b) → a ≡ b
@@ -50,7 +48,7 @@ pub local_same : (a : LocalView) → SameLocal a a
 local_same a = record {
   owner = record {
     gate = refl;
-    book = record { gate = refl; more = record { shape = refl; closed = λ e. e; told = λ r e. refl; trace = ([], refl) }; queues = refl; room = refl; hand = refl };
+    book = record { gate = refl; more = record { shape = refl; closed = λ e. e; told = λ r e. refl; trace = ([], refl) }; queues = refl; room = refl; hand = refl; places = refl };
     slots = refl;
     stations = refl;
   };
@@ -59,10 +57,10 @@ local_same a = record {
 
 pub on_then : (v : LifeView) (b b' : LifeBookView) → GoesOn v b → ((w : LifeView) → IsLifeKept w b → GoesOn w b') → GoesOn v b'
 on_then v b b' on onward =
-    let next = onward (record v { history = on.events ++ v.history }) on.kept in
+    let next = onward (then_came_all on.events v) on.kept in
     record {
       events = next.events ++ on.events;
-      kept = subst (λ (h : List Event). IsLifeKept (record v { history = h }) b') (sym (append_assoc next.events on.events v.history)) next.kept;
+      kept = subst (λ (w : LifeView). IsLifeKept w b') (sym (came_twice next.events on.events v)) next.kept;
       servings = servings_then next.events on.events next.servings on.servings;
     }
 

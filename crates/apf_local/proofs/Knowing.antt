@@ -31,4 +31,5 @@ book_then a b c first then = record {
   queues = then.queues ∙ first.queues;
   room = then.room ∙ first.room;
   hand = then.hand ∙ first.hand;
+  places = then.places ∙ first.places;
 }

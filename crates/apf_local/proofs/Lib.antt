@@ -9,3 +9,4 @@ pub mod Beginning
 pub mod Slots
 pub mod Logging
 pub mod Giving
+pub mod Charged

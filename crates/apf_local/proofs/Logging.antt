@@ -1,14 +1,17 @@
 -- What a history has after an arrival and a dispatch.
-use Rattle.std.proofs.Common.{ℕ, inl, inr, List, [], ◌∷◌, ◌++◌, Option, Some, None, sym, subst}
+use Rattle.std.proofs.Common.{◌≡◌, ℕ, inl, inr, List, [], ◌∷◌, ◌++◌, Option, Some, None, refl, sym, ap, subst}
 use Rattle.std.proofs.lemmas.List.{append_assoc}
 use Rattle.apf_history.specs.declared.events.Event.{Event}
 use Rattle.apf_history.specs.declared.events.Event.TheVariants.{Enter, Full, Dispatch, Strike}
+use Rattle.apf_history.specs.declared.events.LogEntry.{LogEntry}
+use Rattle.apf_history.specs.declared.events.LogEntry.TheVariants.{Happens}
+use Rattle.apf_model.specs.Charged.{log_of}
 use Rattle.apf_book.specs.Servings.{AreServings}
 use Rattle.apf_local.specs.Owners.{StrikesOne}
 use Rattle.apf_book.specs.declared.life_event.LifeEvent.{LifeEvent}
 use Rattle.apf_book.specs.Life.{LifeView, asked, then_came}
-use Rattle.apf_book.specs.LifeBook.{LifeBookView, IsLifeKept, ServesLife}
-use Rattle.apf_book.specs.Notes.{event_of}
+use Rattle.apf_book.specs.LifeBook.{LifeBookView, IsLifeKept, ServesLife, then_came_all}
+use Rattle.apf_book.specs.RecentEvents.{event_of}
 use Rattle.apf_local.specs.declared.admitting.Admitted.{Admitted}
 use Rattle.apf_local.specs.Levels.{GoesOn, LogsOne, LogsIn}
 
@@ -33,13 +36,21 @@ servings_then (Full r q ∷ a) b first then = absurd first
 servings_then (Dispatch r q ∷ a) b first then = servings_then a b first then
 servings_then (Strike r q ∷ a) b first then = servings_then a b first then
 
+log_of_both : (a b : List Event) (l : List LogEntry) → log_of (a ++ b) ++ l ≡ log_of a ++ (log_of b ++ l)
+log_of_both [] b l = refl
+log_of_both (e ∷ a) b l = ap (λ (rest : List LogEntry). Happens e ∷ rest) (log_of_both a b l)
+
+-- events that came after others
+pub came_twice : (a b : List Event) (v : LifeView) → then_came_all (a ++ b) v ≡ then_came_all a (then_came_all b v)
+came_twice a b v = λ i. record v { history = append_assoc a b v.history i; log = log_of_both a b v.log i }
+
 -- what had come, and then a dispatch
 pub goes_on_then : (v : LifeView) (b b' : LifeBookView) (count : ℕ) → GoesOn v b → ((w : LifeView) → IsLifeKept w b → ServesLife w b count b') → GoesOn v b'
 goes_on_then v b b' count on served =
-    let next = served (record v { history = on.events ++ v.history }) on.kept in
+    let next = served (then_came_all on.events v) on.kept in
     record {
       events = next.events ++ on.events;
-      kept = subst (λ (h : List Event). IsLifeKept (record v { history = h }) b') (sym (append_assoc next.events on.events v.history)) next.kept;
+      kept = subst (λ (w : LifeView). IsLifeKept w b') (sym (came_twice next.events on.events v)) next.kept;
       servings = servings_then next.events on.events next.servings on.servings;
     }
 

@@ -1,18 +1,20 @@
 -- A level as a plain value, as contracts see it, and what its calls answer.
-use Rattle.std.specs.Prelude.{◌≡◌, ◌≢◌, ◌<◌, ℕ, Bool, false, List, length, slice_get, slice_set, Option, Some, None}
+use Rattle.std.specs.Prelude.{◌≡◌, ◌≢◌, ◌<◌, ◌⊎◌, ◌*◌, max, min, ℕ, Bool, false, List, length, slice_get, slice_set, Option, Some, None}
 use Rattle.apf_words.specs.declared.decision.Decision.TheVariants.{Execute, QueueFull}
 use Rattle.apf_flow.specs.Sizes.{Sizes}
+use Rattle.apf_history.specs.declared.events.Charge.{Charge}
 use Rattle.apf_history.specs.declared.events.Event.{Event}
 use Rattle.apf_history.specs.declared.events.Event.TheVariants as events
 use Rattle.apf_model.specs.History.{has_arrived}
-use Rattle.apf_queue.specs.View.{queue_count}
-use Rattle.apf_gate.specs.Records.{told_own}
+use Rattle.apf_model.specs.Charged.{charge_of}
+use Rattle.apf_queue.specs.View.{queue_count, max_charge}
+use Rattle.apf_gate.specs.Records.{told_own, own_width}
 use Rattle.apf_gate.specs.Slots.{next_of}
 use Rattle.apf_gate.specs.Tokens.{PassToken, StationToken}
 use Rattle.apf_book.specs.declared.life_event.LifeEvent.{LifeEvent}
-use Rattle.apf_book.specs.Life.{LifeView, asked, then_came}
+use Rattle.apf_book.specs.Life.{LifeView, asked, then_came, then_settled, then_spent, settles_in, charge_in, CannotSettle, CannotSpend}
 use Rattle.apf_book.specs.LifeBook.{LifeBookView, IsLifeKept, then_came_all}
-use Rattle.apf_book.specs.Notes.{event_of}
+use Rattle.apf_book.specs.RecentEvents.{event_of}
 use Rattle.apf_book.specs.Servings.{AreServings}
 use Rattle.apf_line.specs.declared.report.Report.{Report}
 use Rattle.apf_line.specs.Levels.{LifeId}
@@ -38,7 +40,7 @@ pub record LocalView : Type 0 where
 
 -- which level it is
 abbrev pub id_of : LocalView → LifeId
-id_of l = record { gate = l.owner.gate; sizes = l.sizes; queue_limit = l.owner.book.queues.queues.length_limit }
+id_of l = record { gate = l.owner.gate; sizes = l.sizes; queue_limit = l.owner.book.queues.queues.length_limit; settles = settles_in l.owner.book.queues }
 
 -- the Pass is where the slot's request is
 abbrev pub IsAt : Place → PassToken → Type 0
@@ -181,3 +183,23 @@ abbrev pub IsFinish : ℕ → LocalView → Answer → LocalView → Type 0
 IsFinish slot l answers.Wrong l' = (l' ≡ l) × (slice_get l.places slot ≢ Some places.Runs)
 IsFinish slot l answers.Released l' = SlotMoves slot l l' Finishes
 IsFinish slot l answer l' = ⊥
+
+-- what a request of this width took that ran so many microseconds, in microseconds of a seat: at least 1, and at most 2^46
+abbrev pub seat_time_of : ℕ → ℕ → ℕ
+seat_time_of wide micros = max 1 (min max_charge (wide * micros))
+
+-- of this very log: what a queue was charged for r is settled with this, and then Dispatches and Strikes alone came; or those alone, since nothing is kept of r, or it can be settled no more
+abbrev pub SettlesOn : LifeView → LifeBookView → ℕ → ℕ → LifeBookView → Type 0
+SettlesOn v b r m b' = ((c : Charge) × (charge_in b.queues r ≡ Some c) × (charge_of v.costs v.log r ≡ Some c) × GoesOn (then_settled v r c.queue c.amount m) b') ⊎ (CannotSettle b.queues r × GoesOn v b')
+
+-- of this very log: what a queue was charged for r was less than this, and is this from then on, and then Dispatches and Strikes alone came; or those alone, since nothing is kept of r, it was no less, or it can be changed no more
+abbrev pub SpendsOn : LifeView → LifeBookView → ℕ → ℕ → LifeBookView → Type 0
+SpendsOn v b r m b' = ((c : Charge) × (charge_in b.queues r ≡ Some c) × (charge_of v.costs v.log r ≡ Some c) × (c.amount < m) × GoesOn (then_spent v r c.queue c.amount m) b') ⊎ (CannotSpend b.queues r m × GoesOn v b')
+
+-- each log has that the slot's request took so long before anything else
+abbrev pub SettlesSlot : ℕ → ℕ → LocalView → LocalView → Type 0
+SettlesSlot slot micros l l' = IsSlotOf l.owner.passes slot (λ (t : PassToken). (v : LifeView) → IsLifeKept v l.owner.book → SettlesOn v l.owner.book t.pass.number (seat_time_of (own_width t.pass) micros) l'.owner.book)
+
+-- each log has that the slot's request has taken so long, before anything else
+abbrev pub SpendsSlot : ℕ → ℕ → LocalView → LocalView → Type 0
+SpendsSlot slot micros l l' = IsSlotOf l.owner.passes slot (λ (t : PassToken). (v : LifeView) → IsLifeKept v l.owner.book → SpendsOn v l.owner.book t.pass.number (seat_time_of (own_width t.pass) micros) l'.owner.book)

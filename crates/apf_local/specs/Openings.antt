@@ -14,7 +14,8 @@ use Rattle.apf_gate.specs.Tokens.{PassToken, StationToken}
 use Rattle.apf_queue.specs.View.{queue_count, IsQueueShape}
 use Rattle.apf_queue.specs.declared.fault.QueueFault.TheVariants.{BadShape}
 use Rattle.apf_line.specs.Levels.{LifeId}
-use Rattle.apf_book.specs.Life.{LifeView}
+use Rattle.apf_book.specs.declared.settling.Settling.{Settling}
+use Rattle.apf_book.specs.Life.{LifeView, places_of, settles_in}
 use Rattle.apf_book.specs.LifeBook.{LifeBookView, IsLifeKept}
 use Rattle.apf_book.specs.declared.fault.BookFault.{BookFault}
 use Rattle.apf_book.specs.declared.fault.BookFault.TheVariants as book
@@ -85,7 +86,7 @@ abbrev pub IsBlank : LifeBookView → Type 0
 IsBlank b = (v : LifeView) → IsLifeKept v b → v.history ≡ []
 
 -- the gate has this limit and response, so many slots and one Station, and no Pass made a step, nor the Station
-pub record IsNewOwner (config : Config) (slots : ℕ) (o : OwnerView) : Type 0 where
+pub record IsNewOwner (config : Config) (slots : ℕ) (settling : Settling) (o : OwnerView) : Type 0 where
   pub limit : o.gate.shape.limit ≡ config.limit
   pub response : o.gate.shape.response ≡ config.limit_response
   pub slots_are : o.gate.shape.slots ≡ slots
@@ -102,10 +103,12 @@ pub record IsNewOwner (config : Config) (slots : ℕ) (o : OwnerView) : Type 0 w
   pub all_stations : length o.stations ≡ 1
   -- the newest events are kept, two for each slot
   pub room : o.book.notes.capacity ≡ 2 * slots
+  -- where it is settled, it is kept of each slot what a queue is charged for its request
+  pub places : length o.book.queues.running ≡ places_of settling slots
 
 -- a level of this config with so many slots, all of them free, to which nothing happened yet
-pub record IsOpened (config : Config) (slots : ℕ) (l : LocalView) : Type 0 where
-  pub owner : IsNewOwner config slots l.owner
+pub record IsOpened (config : Config) (slots : ℕ) (settling : Settling) (l : LocalView) : Type 0 where
+  pub owner : IsNewOwner config slots settling l.owner
   pub count : length l.places ≡ slots
   pub sizes : l.sizes ≡ record { deck = (line_of config).queues; hand = (line_of config).hand_size }
   pub free : All (λ (p : Place). p ≡ Free) l.places
@@ -115,3 +118,4 @@ pub record HasQueuesOf (k : LifeId) (b : LifeBookView) : Type 0 where
   pub queues : queue_count b.queues.queues ≡ k.sizes.deck
   pub limit : b.queues.queues.length_limit ≡ k.queue_limit
   pub hand : b.queues.hand ≡ k.sizes.hand
+  pub settles : settles_in b.queues ≡ k.settles

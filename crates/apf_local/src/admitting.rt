@@ -76,13 +76,18 @@ pub fn admit(
     match owner.begin(slot, ask)? {
         Took::Run => Some((Admitted::Run, None)),
         Took::Over(decision) => Some((Admitted::Over(decision), None)),
-        Took::Blocked => Some(stand(owner, dealer, slot, ask)),
+        Took::Blocked => Some(enqueue(owner, dealer, slot, ask)),
         Took::Raced => unreachable!(),
     }
 }
 
 // The slot's request, which took no seats, arrives in the line.
-fn stand(owner: &mut Owner, dealer: &Dealer, slot: usize, ask: Ask) -> (Admitted, Option<LifeEvent>)
+fn enqueue(
+    owner: &mut Owner,
+    dealer: &Dealer,
+    slot: usize,
+    ask: Ask,
+) -> (Admitted, Option<LifeEvent>)
     requires is_slot { slot < length owner.old.passes }
     requires begun { IsSlotOf owner.old.passes slot (IsBegun ask took.Blocked) }
     requires dealt { dealer.now ≡ sizes_of owner.old.book.queues }

@@ -1,19 +1,20 @@
 //! A priority level as one plain value.
 
-ghost use Rattle.std.specs.Prelude.{◌≡◌, ◌≢◌, ◌↔◌, ◌≤◌, ◌<◌, ◌^◌, ℕ, length, slice_get, slice_set, All, Some, IfOk, IfErr, OnOk, IsTrue};
+ghost use Rattle.std.specs.Prelude.{◌≡◌, ◌≢◌, ◌↔◌, ◌≤◌, ◌<◌, ◌^◌, ℕ, length, slice_get, slice_set, true, false, All, Some, IfOk, IfErr, OnOk, IsTrue};
 ghost use Rattle.apf_words.specs.Limits.{max_width, max_cost, max_limit};
 ghost use Rattle.apf_flow.specs.Deal.{hand_of};
 ghost use Rattle.apf_gate.specs.Slots.{IsTicket};
 ghost use Rattle.apf_gate.specs.StationCalls.{TriesToCancel, ClosesTo};
 ghost use Rattle.apf_gate.specs.StationSteps.{StationLoadsLevel};
-ghost use Rattle.apf_book.specs.Life.{LifeView};
+ghost use Rattle.apf_book.specs.Life.{LifeView, charge_in};
 ghost use Rattle.apf_book.specs.LifeBook.{IsLifeKept, IsLived};
-ghost use Rattle.apf_book.specs.Notes.{AreLifeStats, CopiesLate};
+ghost use Rattle.apf_book.specs.RecentEvents.{AreLifeStats, CopiesLate};
 ghost use Rattle.apf_line.specs.Reports.{Ended, EndedAs};
 ghost use Rattle.apf_local.specs.declared.answer.Place.TheVariants as places;
 ghost use Rattle.apf_words.specs.declared.decision.Decision.{Decision};
 ghost use Rattle.apf_local.specs.Worlds.{IsDecidedIn};
-ghost use Rattle.apf_local.specs.Levels.{id_of, SameLocal, GoesOn, EndsFrom, IsArrival, IsFinish};
+ghost use Rattle.apf_local.specs.Levels.{id_of, SameLocal, GoesOn, EndsFrom, IsArrival, IsFinish, SettlesSlot, SpendsSlot, seat_time_of};
+ghost use Rattle.apf_queue.specs.View.{max_charge};
 ghost use Rattle.apf_local.specs.Owners.{IsSlotOf, Steps, Sets};
 ghost use Rattle.apf_local.specs.Tries.{IsTry, IsReading, SlotsStay};
 ghost use Rattle.apf_local.specs.Openings.{IsOpened, CanOpen, IsOpenFault};
@@ -23,7 +24,7 @@ use crate::answer::{Answer, Ask, Place};
 use crate::fault::OpenFault;
 use crate::owner::Owner;
 use crate::reading::read_place;
-use apf_book::{Copied, LifeEvent, LifeStats};
+use apf_book::{Charge, Copied, LifeEvent, LifeStats, Settling};
 use apf_flow::Dealer;
 use apf_gate::{Cancel, Close, Ticket};
 use apf_line::{Report, every_level_has_histories};
@@ -56,16 +57,37 @@ impl LocalLevel {
     /// A level of this many slots, at most 10,000, all of them free. All memory is taken here, that of the newest events
     /// too: two for each slot. A level without queues rejects a request that finds no seats.
     ///
+    /// A queue is charged the cost of each request that is dispatched from it, and that stays: see `open_settling`.
+    ///
     /// # Errors
     ///
     /// The gate's fault, the dealer's, or the queues', the first of these, and `NoMemory` whenever memory was refused. The
     /// settings of queues have no fault where the level has none.
     pub fn open(alloc: Global, config: &Config, slots: u32) -> Result<LocalLevel, OpenFault>
-        ensures opened { IfOk result (IsOpened config.now slots) }
+        ensures opened { IfOk result (IsOpened config.now slots Settling.Never) }
         ensures settings { OnOk result (CanOpen config.now slots) }
         ensures fault { IfErr result (IsOpenFault config.now slots) }
     {
-        let (owner, dealer) = Owner::open(alloc, config, slots)?;
+        LocalLevel::open_settling(alloc, config, slots, Settling::Never)
+    }
+
+    /// The same, and says whether what requests take is settled. If so, `finish_measured` and `spend` do that; else they
+    /// settle nothing.
+    ///
+    /// # Errors
+    ///
+    /// As of `open`.
+    pub fn open_settling(
+        alloc: Global,
+        config: &Config,
+        slots: u32,
+        settling: Settling,
+    ) -> Result<LocalLevel, OpenFault>
+        ensures opened { IfOk result (IsOpened config.now slots settling) }
+        ensures settings { OnOk result (CanOpen config.now slots) }
+        ensures fault { IfErr result (IsOpenFault config.now slots) }
+    {
+        let (owner, dealer) = Owner::open(alloc, config, slots, settling)?;
         let places = vec![in alloc; Place::Free; slots as usize]?;
         Ok(LocalLevel {
             owner,
@@ -134,6 +156,66 @@ impl LocalLevel {
         self.places[slot] = Place::Free;
         self.owner.dispatch();
         Answer::Released
+    }
+
+    /// Which queue is charged for the slot's newest request, and how many microseconds of a seat. `None` if that is not kept:
+    /// where nothing is settled at all, of a request that was not dispatched from a queue, and of one that is settled.
+    pub fn charge(&self, slot: usize) -> Option<Charge>
+        requires { slot < length self.now.places }
+        ensures { IsSlotOf self.now.owner.passes slot (λ t. result ≡ charge_in self.now.owner.book.queues t.pass.number) }
+    {
+        self.owner.charge(slot)
+    }
+
+    /// As `finish`, of a request that ran so many microseconds. Before it gives its seats back, what it took is settled: if
+    /// it was dispatched from a queue, that queue is charged its width times this time, 1 to 2^46 microseconds of a seat,
+    /// in place of what it was charged for it. A request that took its seats on arrival was never charged.
+    pub fn finish_measured(&mut self, slot: usize, micros: u64) -> Answer
+        requires is_slot { slot < length self.old.places }
+        ensures same { SameLocal self.old self.new }
+        ensures operators { self.new.owner.stations ≡ self.old.owner.stations }
+        ensures finishes { IsFinish slot self.old result self.new }
+        ensures settles { result ≡ Answer.Released → SettlesSlot slot micros self.old self.new }
+    {
+        every_level_has_histories();
+        self.owner.has_a_history();
+        match self.places[slot] {
+            Place::Runs => {}
+            Place::Free | Place::Waits => return Answer::Wrong,
+        }
+        let amount = seat_time(self.owner.width(slot), micros);
+        self.owner.settle(slot, amount);
+        self.owner.has_a_history();
+        self.owner.give_back(slot);
+        let place = &mut self.places[slot];
+        *place = Place::Free;
+        self.owner.dispatch();
+        Answer::Released
+    }
+
+    /// The slot's request, which executes still, has run so many microseconds. If it was dispatched from a queue, and that
+    /// queue was charged less for it than its width times this time, the queue is charged that from now on. Then requests
+    /// that wait are dispatched. Says whether the slot's request executes: if not, nothing was done.
+    pub fn spend(&mut self, slot: usize, micros: u64) -> bool
+        requires is_slot { slot < length self.old.places }
+        ensures same { SameLocal self.old self.new }
+        ensures slots { SlotsStay self.old self.new }
+        ensures operators { self.new.owner.stations ≡ self.old.owner.stations }
+        ensures executes { IsTrue result ↔ (slice_get self.old.places slot ≡ Some places.Runs) }
+        ensures nothing { result ≡ false → self.new ≡ self.old }
+        ensures spends { result ≡ true → SpendsSlot slot micros self.old self.new }
+    {
+        every_level_has_histories();
+        self.owner.has_a_history();
+        match self.places[slot] {
+            Place::Runs => {}
+            Place::Free | Place::Waits => return false,
+        }
+        let amount = seat_time(self.owner.width(slot), micros);
+        self.owner.spend(slot, amount);
+        self.owner.has_a_history();
+        self.owner.dispatch();
+        true
     }
 
     /// The next request of a free slot takes its seats, if nobody waits and they fit. It never enters a queue. Answers
@@ -401,4 +483,13 @@ impl LocalLevel {
         } = self;
         owner.end(alloc, places.len())
     }
+}
+
+/// What a request of this width took that ran so many microseconds, in microseconds of a seat: 1 to 2^46.
+pub fn seat_time(width: u32, micros: u64) -> u64
+    ensures value { result ≡ seat_time_of width micros }
+    ensures low { result ≤ max_charge }
+{
+    let taken = u128::from(width) * u128::from(micros);
+    taken.clamp(1, 1 << 46) as u64
 }

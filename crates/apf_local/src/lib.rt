@@ -16,5 +16,6 @@ mod reading;
 mod taking;
 
 pub use answer::{Answer, Ask, Place};
+pub use apf_book::{Charge, Settling};
 pub use fault::OpenFault;
-pub use level::LocalLevel;
+pub use level::{LocalLevel, seat_time};

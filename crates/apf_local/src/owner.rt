@@ -10,12 +10,13 @@ ghost use Rattle.apf_gate.specs.Slots.{IsTicket};
 ghost use Rattle.apf_gate.specs.Tokens.{PassToken, pass_gate, desk_gate, station_gate};
 ghost use Rattle.apf_gate.specs.StationCalls.{TriesToCancel, ClosesTo};
 ghost use Rattle.apf_gate.specs.StationSteps.{StationLoadsLevel};
-ghost use Rattle.apf_book.specs.Life.{LifeView, IsAskedBy, sizes_of};
-ghost use Rattle.apf_book.specs.LifeBook.{IsLifeKept, IsLived, ServesLife, StrikesLife};
+ghost use Rattle.apf_book.specs.Life.{LifeView, IsAskedBy, charge_in, sizes_of};
+ghost use Rattle.apf_book.specs.LifeBook.{IsLifeKept, IsLived, ServesLife, StrikesLife, SettlesLife, SpendsLife};
+ghost use Rattle.apf_gate.specs.Records.{own_width};
 ghost use Rattle.apf_book.specs.LifeCalls.{IsAsk};
 ghost use Rattle.apf_line.specs.Tokens.{IsDone, IsInLine, IsRunning};
-ghost use Rattle.apf_queue.specs.View.{queue_count};
-ghost use Rattle.apf_book.specs.Notes.{AreLifeStats, CopiesLate};
+ghost use Rattle.apf_queue.specs.View.{queue_count, max_charge};
+ghost use Rattle.apf_book.specs.RecentEvents.{AreLifeStats, CopiesLate};
 ghost use Rattle.apf_line.specs.Levels.{LifeId};
 ghost use Rattle.apf_line.specs.Reports.{EndedAs};
 ghost use Rattle.apf_line.specs.Stopped.{IsStopped};
@@ -26,7 +27,9 @@ ghost use Rattle.apf_local.specs.Owners.{SameOwner, Moves, Stay, Begins, IsBlock
 use crate::answer::Ask;
 use crate::fault::OpenFault;
 use crate::taking::{Took, take};
-use apf_book::{Arrived, BookFault, Copied, LifeBook, LifeEvent, LifeStats, TryDispatch};
+use apf_book::{
+    Arrived, BookFault, Charge, Copied, LifeBook, LifeEvent, LifeStats, Settling, TryDispatch,
+};
 use apf_flow::Dealer;
 use apf_gate::{
     Cancel, Close, Gate, Pass, Renew, Station, Ticket, TrySetLimit, no_exchange_is_lost,
@@ -105,8 +108,13 @@ impl Owner {
     ///
     /// The first of these: the gate's fault, the dealer's, the queues', and `NoMemory` whenever memory was refused. The
     /// settings of queues have no fault at a gate without queues.
-    pub fn open(alloc: Global, config: &Config, slots: u32) -> Result<(Owner, Dealer), OpenFault>
-        ensures opened { IfOk result (λ o. IsNewOwner config.now slots o.0) }
+    pub fn open(
+        alloc: Global,
+        config: &Config,
+        slots: u32,
+        settling: Settling,
+    ) -> Result<(Owner, Dealer), OpenFault>
+        ensures opened { IfOk result (λ o. IsNewOwner config.now slots settling o.0) }
         ensures sizes { IfOk result (λ o. o.1 ≡ record { deck = (line_of config.now).queues; hand = (line_of config.now).hand_size }) }
         ensures deck { IfOk result (λ o. queue_count o.0.book.queues.queues ≡ (line_of config.now).queues) }
         ensures hand { IfOk result (λ o. o.0.book.queues.hand ≡ (line_of config.now).hand_size) }
@@ -129,7 +137,7 @@ impl Owner {
             Ok(dealer) => dealer,
             Err(fault) => return Err(OpenFault::Level(BookFault::Dealer(fault))),
         };
-        let book = LifeBook::new(alloc, &line, slots, desk)?;
+        let book = LifeBook::new(alloc, &line, slots, desk, settling)?;
         let owner = Owner {
             alloc,
             gate,
@@ -297,6 +305,49 @@ impl Owner {
                 unreachable!()
             }
         }
+    }
+
+    /// How many seats the slot's newest request takes.
+    pub fn width(&self, slot: usize) -> u32
+        requires { slot < length self.now.passes }
+        ensures width { IsSlotOf self.now.passes slot (λ t. result ≡ own_width t.pass) }
+        ensures small { result ≤ max_width }
+    {
+        self.passes[slot].width()
+    }
+
+    /// Which queue is charged for the slot's newest request, and how much, if that is kept.
+    pub fn charge(&self, slot: usize) -> Option<Charge>
+        requires { slot < length self.now.passes }
+        ensures { IsSlotOf self.now.passes slot (λ t. result ≡ charge_in self.now.book.queues t.pass.number) }
+    {
+        self.book.charge(&self.passes[slot])
+    }
+
+    /// The slot's request, which executes, has run, and took so much. If it was dispatched from a queue, that queue is
+    /// charged this in place of what it was charged for the request, once and for all. Says whether it was.
+    pub fn settle(&mut self, slot: usize, amount: u64) -> bool
+        requires is_slot { slot < length self.old.passes }
+        requires runs { IsSlotOf self.old.passes slot IsRunning }
+        requires low { amount ≤ max_charge }
+        ensures same { SameOwner self.old self.new }
+        ensures stay { Stay self.old self.new }
+        ensures settles { IsSlotOf self.old.passes slot (λ t. (v : LifeView) → IsLifeKept v self.old.book → SettlesLife v self.old.book t.pass.number amount result self.new.book) }
+    {
+        self.book.settle(&self.passes[slot], amount)
+    }
+
+    /// The slot's request, which executes still, has taken so much so far. If it was dispatched from a queue, and that
+    /// queue was charged less for it, the queue is charged this from now on. Says whether it is.
+    pub fn spend(&mut self, slot: usize, amount: u64) -> bool
+        requires is_slot { slot < length self.old.passes }
+        requires runs { IsSlotOf self.old.passes slot IsRunning }
+        requires low { amount ≤ max_charge }
+        ensures same { SameOwner self.old self.new }
+        ensures stay { Stay self.old self.new }
+        ensures spends { IsSlotOf self.old.passes slot (λ t. (v : LifeView) → IsLifeKept v self.old.book → SpendsLife v self.old.book t.pass.number amount result self.new.book) }
+    {
+        self.book.spend(&self.passes[slot], amount)
     }
 
     /// The slot's request gives its seats back. Says whether requests waited then.

@@ -24,7 +24,7 @@ pub(crate) fn request(hash: u64, arrives_at: u64, runs_for: u64) -> TraceRequest
         hash,
         names: None,
         width: 1,
-        cost: 1,
+        cost: None,
     }
 }
 

@@ -4,11 +4,11 @@ use Rattle.std.specs.Prelude.{nat_le, nat_lt, codes, decimal}
 use Rattle.std.proofs.lemmas.Bool.Decides.{nat_tests}
 use Rattle.apf_words.specs.Limits.{max_limit}
 use Rattle.apf_traces.specs.TraceFile.{max_bytes}
-use Rattle.apf_protocol.specs.Lines.{cut_of, alone, word_of, number_of, limit_of, object_text, arrival_of, behind_word, form_from, form_of, ending_of, most_ran, IsHeadInRange}
+use Rattle.apf_protocol.specs.Lines.{cut_of, alone, word_of, number_of, limit_of, object_text, arrival_of, behind_word, form_from, form_of, ending_of, spending_of, most_ran, IsHeadInRange}
 use Rattle.apf_protocol.specs.Numerals.{told}
 use Rattle.apf_protocol.specs.Grammar.{line_of, IsObjectOf, IsEveryLineRead}
 use Rattle.apf_protocol.specs.declared.head.Head.{Head}
-use Rattle.apf_protocol.specs.declared.head.Head.TheVariants.{Arrive, Try, Finish, Cancel, Limit, Close, Book, Queues, Metrics}
+use Rattle.apf_protocol.specs.declared.head.Head.TheVariants.{Arrive, Try, Finish, Spent, Cancel, Limit, Close, Book, Queues, Metrics}
 use Rattle.apf_protocol.proofs.Written.{read_back, digits, cut_digits, uncut_digits}
 
 below : (n m : ℕ) → n < m → nat_lt n m ≡ true
@@ -66,6 +66,16 @@ finish_timed : (slots n micros : ℕ) → slots < 2 ^ 32 → n < slots → micro
 unfolding behind_word
 finish_timed slots n micros few one within = rw (timed_read slots n micros few one within) refl
 
+spending_read : (slots n micros : ℕ) → slots < 2 ^ 32 → n < slots → micros ≤ most_ran → spending_of slots (decimal n ++ 32 ∷ decimal micros) ≡ Ok (Spent n micros)
+unfolding spending_of
+spending_read slots n micros few one within =
+    let same : told micros ≡ micros = omega (arith, within) in
+    rw (cut_digits (decimal n) (decimal micros) (digits n (omega (arith, few, one))), read_back micros (omega (arith, within)), number_read slots n few one, same, at_most micros most_ran within) refl
+
+spent_read : (slots n micros : ℕ) → slots < 2 ^ 32 → n < slots → micros ≤ most_ran → behind_word slots (codes "spent") (decimal n ++ 32 ∷ decimal micros) ≡ Ok (alone (Spent n micros))
+unfolding behind_word
+spent_read slots n micros few one within = rw (spending_read slots n micros few one within) refl
+
 cancel_read : (slots n : ℕ) → slots < 2 ^ 32 → n < slots → behind_word slots (codes "cancel") (decimal n) ≡ Ok (alone (Cancel n))
 unfolding behind_word
 cancel_read slots n few one = rw (number_read slots n few one) refl
@@ -103,6 +113,9 @@ cut_try xs = refl
 cut_finish : (xs : List ℕ) → cut_of (codes "finish " ++ xs) ≡ Some (record { front = codes "finish"; rest = xs })
 cut_finish xs = refl
 
+cut_spent : (xs : List ℕ) → cut_of (codes "spent " ++ xs) ≡ Some (record { front = codes "spent"; rest = xs })
+cut_spent xs = refl
+
 cut_cancel : (xs : List ℕ) → cut_of (codes "cancel " ++ xs) ≡ Some (record { front = codes "cancel"; rest = xs })
 cut_cancel xs = refl
 
@@ -127,6 +140,9 @@ from_read slots (Finish n None) object few one is =
 from_read slots (Finish n (Some micros)) object few one is =
     rw is (behind slots (line_of (Finish n (Some micros)) []) (codes "finish") (decimal n ++ 32 ∷ decimal micros) (cut_finish (decimal n ++ 32 ∷ decimal micros))
     ∙ finish_timed slots n micros few one.0 one.1)
+from_read slots (Spent n micros) object few one is =
+    rw is (behind slots (line_of (Spent n micros) []) (codes "spent") (decimal n ++ 32 ∷ decimal micros) (cut_spent (decimal n ++ 32 ∷ decimal micros))
+    ∙ spent_read slots n micros few one.0 one.1)
 from_read slots (Cancel n) object few one is =
     rw is (behind slots (line_of (Cancel n) []) (codes "cancel") (decimal n) (cut_cancel (decimal n)) ∙ cancel_read slots n few one)
 from_read slots (Limit n) object few one is =

@@ -9,12 +9,12 @@ use Rattle.apf_words.specs.Limits.{max_limit}
 use Rattle.apf_files.specs.FirstFault.{◌>>=◌, or_fault}
 use Rattle.apf_traces.specs.TraceFile.{max_bytes}
 use Rattle.apf_protocol.specs.Numerals.{numeral, told}
-use Rattle.apf_protocol.specs.Lines.{Words, Cut, cut_of, alone, word_of, one_of, number_of, one_limit, limit_of, object_text, arrival_of, time_of, most_ran, ending_by, ending_of, behind_word, form_from, form_of, IsHeadInRange}
+use Rattle.apf_protocol.specs.Lines.{Words, Cut, cut_of, alone, word_of, one_of, number_of, one_limit, limit_of, object_text, arrival_of, time_of, most_ran, ending_by, ending_of, spending_of, behind_word, form_from, form_of, IsHeadInRange}
 use Rattle.apf_protocol.specs.Grammar.{line_of, IsObjectOf, IsLineOf, IsReadRight}
 use Rattle.apf_protocol.specs.declared.fault.FaultKind.{FaultKind}
 use Rattle.apf_protocol.specs.declared.fault.FaultKind.TheVariants.{TooLong, BadLine, BadNumber, BadTime, BadLimit}
 use Rattle.apf_protocol.specs.declared.head.Head.{Head}
-use Rattle.apf_protocol.specs.declared.head.Head.TheVariants.{Arrive, Try, Finish, Cancel, Limit, Close, Book, Queues, Metrics}
+use Rattle.apf_protocol.specs.declared.head.Head.TheVariants.{Arrive, Try, Finish, Spent, Cancel, Limit, Close, Book, Queues, Metrics}
 use Rattle.apf_protocol.proofs.Written.{both, written, joined}
 
 same : (line word : List ℕ) → bytes_eq line word ≡ true → line ≡ word
@@ -204,6 +204,32 @@ finish_right slots word rest words few is h =
     went_on (ending_of slots rest) _ words h (λ head is_head next.
     words_by slots (word ++ 32 ∷ rest) words (alone head) next (ending_right slots word rest head few is is_head))
 
+spent_by : (slots : ℕ) (bytes : List ℕ) (head made : Head) → head_read made ≡ Ok head
+    → (codes "spent " ++ bytes ≡ line_of made []) × IsHeadInRange slots made × IsObjectOf made []
+    → (codes "spent " ++ bytes ≡ line_of head []) × IsHeadInRange slots head × IsObjectOf head []
+spent_by slots bytes head made h of =
+    let is : made ≡ head = cc in
+    subst (λ (x : Head). (codes "spent " ++ bytes ≡ line_of x []) × IsHeadInRange slots x × IsObjectOf x []) is of
+
+spending_right : (slots : ℕ) (bytes : List ℕ) (head : Head) → slots < 2 ^ 32 → spending_of slots bytes ≡ Ok head
+    → (codes "spent " ++ bytes ≡ line_of head []) × IsHeadInRange slots head × IsObjectOf head []
+unfolding spending_of
+spending_right slots bytes head few h =
+    went_on (or_fault BadLine (cut_of bytes)) _ head h (λ cut is_cut h0.
+    went_on (or_fault BadLine (option_map told (numeral cut.rest))) _ head h0 (λ ran is_ran h1.
+    went_on (number_of slots cut.front) _ head h1 (λ n is_n h2.
+    went_on (time_of ran) _ head h2 (λ micros is_micros next.
+    let at = number_right slots cut.front n few is_n in
+    let time = time_right cut.rest ran micros (there BadLine (option_map told (numeral cut.rest)) ran is_ran) is_micros in
+    let whole = joined bytes cut (there BadLine (cut_of bytes) cut is_cut) in
+    spent_by slots bytes head (Spent n micros) next (rw (whole, at.0, time.0) refl, (at.1, time.1), refl)))))
+
+spent_right : (slots : ℕ) (word rest : List ℕ) (words : Words) → slots < 2 ^ 32 → word ≡ codes "spent"
+    → spending_of slots rest >>= (λ head. Ok (alone head)) ≡ Ok words → IsOf slots (word ++ 32 ∷ rest) words
+spent_right slots word rest words few is h =
+    went_on (spending_of slots rest) _ words h (λ head is_head next.
+    words_by slots (word ++ 32 ∷ rest) words (alone head) next (rw is (spending_right slots rest head few is_head)))
+
 cancel_right : (slots : ℕ) (word rest : List ℕ) (words : Words) → slots < 2 ^ 32 → word ≡ codes "cancel"
     → number_of slots rest >>= (λ n. Ok (alone (Cancel n))) ≡ Ok words → IsOf slots (word ++ 32 ∷ rest) words
 cancel_right slots word rest words few is h =
@@ -218,27 +244,29 @@ change_right slots word rest words is h =
     let good = limit_right rest n is_n in
     words_by slots (word ++ 32 ∷ rest) words (alone (Limit n)) next (rw (is, good.0) refl, (good.1, good.2), refl))
 
-behind_by : (slots : ℕ) (word rest : List ℕ) (words : Words) (b1 b2 b3 b4 b5 : Bool) → slots < 2 ^ 32
+behind_by : (slots : ℕ) (word rest : List ℕ) (words : Words) (b1 b2 b3 b4 b5 b6 : Bool) → slots < 2 ^ 32
     → bytes_eq word (codes "arrive") ≡ b1 → bytes_eq word (codes "try") ≡ b2 → bytes_eq word (codes "finish") ≡ b3
-    → bytes_eq word (codes "cancel") ≡ b4 → bytes_eq word (codes "limit") ≡ b5
+    → bytes_eq word (codes "spent") ≡ b4 → bytes_eq word (codes "cancel") ≡ b5 → bytes_eq word (codes "limit") ≡ b6
     → (if b1 then arrival_of slots rest >>= arrives
     else (if b2 then arrival_of slots rest >>= tries
     else (if b3 then ending_of slots rest >>= (λ head. Ok (alone head))
-    else (if b4 then number_of slots rest >>= (λ n. Ok (alone (Cancel n)))
-    else (if b5 then limit_of rest >>= (λ n. Ok (alone (Limit n))) else Err BadLine))))) ≡ Ok words
+    else (if b4 then spending_of slots rest >>= (λ head. Ok (alone head))
+    else (if b5 then number_of slots rest >>= (λ n. Ok (alone (Cancel n)))
+    else (if b6 then limit_of rest >>= (λ n. Ok (alone (Limit n))) else Err BadLine)))))) ≡ Ok words
     → IsOf slots (word ++ 32 ∷ rest) words
-behind_by slots word rest words true b2 b3 b4 b5 few is1 is2 is3 is4 is5 h = arrive_right slots word rest words few (same word (codes "arrive") is1) h
-behind_by slots word rest words false true b3 b4 b5 few is1 is2 is3 is4 is5 h = try_right slots word rest words few (same word (codes "try") is2) h
-behind_by slots word rest words false false true b4 b5 few is1 is2 is3 is4 is5 h = finish_right slots word rest words few (same word (codes "finish") is3) h
-behind_by slots word rest words false false false true b5 few is1 is2 is3 is4 is5 h = cancel_right slots word rest words few (same word (codes "cancel") is4) h
-behind_by slots word rest words false false false false true few is1 is2 is3 is4 is5 h = change_right slots word rest words (same word (codes "limit") is5) h
-behind_by slots word rest words false false false false false few is1 is2 is3 is4 is5 h = absurd cc
+behind_by slots word rest words true b2 b3 b4 b5 b6 few is1 is2 is3 is4 is5 is6 h = arrive_right slots word rest words few (same word (codes "arrive") is1) h
+behind_by slots word rest words false true b3 b4 b5 b6 few is1 is2 is3 is4 is5 is6 h = try_right slots word rest words few (same word (codes "try") is2) h
+behind_by slots word rest words false false true b4 b5 b6 few is1 is2 is3 is4 is5 is6 h = finish_right slots word rest words few (same word (codes "finish") is3) h
+behind_by slots word rest words false false false true b5 b6 few is1 is2 is3 is4 is5 is6 h = spent_right slots word rest words few (same word (codes "spent") is4) h
+behind_by slots word rest words false false false false true b6 few is1 is2 is3 is4 is5 is6 h = cancel_right slots word rest words few (same word (codes "cancel") is5) h
+behind_by slots word rest words false false false false false true few is1 is2 is3 is4 is5 is6 h = change_right slots word rest words (same word (codes "limit") is6) h
+behind_by slots word rest words false false false false false false few is1 is2 is3 is4 is5 is6 h = absurd cc
 
 behind_right : (slots : ℕ) (word rest : List ℕ) (words : Words) → slots < 2 ^ 32 → behind_word slots word rest ≡ Ok words → IsOf slots (word ++ 32 ∷ rest) words
 unfolding behind_word
 behind_right slots word rest words few h =
     behind_by slots word rest words (bytes_eq word (codes "arrive")) (bytes_eq word (codes "try")) (bytes_eq word (codes "finish"))
-    (bytes_eq word (codes "cancel")) (bytes_eq word (codes "limit")) few refl refl refl refl refl h
+    (bytes_eq word (codes "spent")) (bytes_eq word (codes "cancel")) (bytes_eq word (codes "limit")) few refl refl refl refl refl refl h
 
 -- ---- a whole line
 

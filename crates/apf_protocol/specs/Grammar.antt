@@ -3,7 +3,7 @@ use Rattle.std.specs.Prelude.{◌≡◌, ℕ, ◌^◌, ◌<◌, ◌≤◌, List,
 use Rattle.apf_traces.specs.TraceFile.{max_bytes}
 use Rattle.apf_protocol.specs.Lines.{Words, form_of, object_text, IsHeadInRange}
 use Rattle.apf_protocol.specs.declared.head.Head.{Head}
-use Rattle.apf_protocol.specs.declared.head.Head.TheVariants.{Arrive, Try, Finish, Cancel, Limit, Close, Book, Queues, Metrics}
+use Rattle.apf_protocol.specs.declared.head.Head.TheVariants.{Arrive, Try, Finish, Spent, Cancel, Limit, Close, Book, Queues, Metrics}
 
 -- the line of these words, and of this object's text behind the number of an arrival
 abbrev pub line_of : Head → List ℕ → List ℕ
@@ -11,6 +11,7 @@ line_of (Arrive n) object = codes "arrive " ++ (decimal n ++ (codes " " ++ objec
 line_of (Try n) object = codes "try " ++ (decimal n ++ (codes " " ++ object))
 line_of (Finish n None) object = codes "finish " ++ decimal n
 line_of (Finish n (Some micros)) object = codes "finish " ++ (decimal n ++ (codes " " ++ decimal micros))
+line_of (Spent n micros) object = codes "spent " ++ (decimal n ++ (codes " " ++ decimal micros))
 line_of (Cancel n) object = codes "cancel " ++ decimal n
 line_of (Limit n) object = codes "limit " ++ decimal n
 line_of Close object = codes "close"

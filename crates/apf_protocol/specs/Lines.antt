@@ -10,7 +10,7 @@ use Rattle.apf_protocol.specs.declared.fault.FaultKind.{FaultKind}
 use Rattle.apf_protocol.specs.declared.fault.FaultKind.TheVariants.{TooLong, BadLine, BadNumber, IsThere, IsNotThere, BadTime, BadLimit}
 use Rattle.apf_protocol.specs.declared.form.Form.{Form}
 use Rattle.apf_protocol.specs.declared.head.Head.{Head}
-use Rattle.apf_protocol.specs.declared.head.Head.TheVariants.{Arrive, Try, Finish, Cancel, Limit, Close, Book, Queues, Metrics}
+use Rattle.apf_protocol.specs.declared.head.Head.TheVariants.{Arrive, Try, Finish, Spent, Cancel, Limit, Close, Book, Queues, Metrics}
 
 -- bytes that are cut at their first blank
 pub record Cut : Type 0 where
@@ -87,6 +87,15 @@ ending_by slots bytes (Some cut) = ended_at slots cut
 unfoldable pub ending_of : ℕ → List ℕ → Result Head FaultKind
 ending_of slots bytes = ending_by slots bytes (cut_of bytes)
 
+-- the number of a request that executes still, and behind a blank how long it ran so far
+unfoldable pub spending_of : ℕ → List ℕ → Result Head FaultKind
+spending_of slots bytes = do
+  cut ← or_fault BadLine (cut_of bytes)
+  ran ← or_fault BadLine (option_map told (numeral cut.rest))
+  number ← number_of slots cut.front
+  micros ← time_of ran
+  Ok (Spent number micros)
+
 -- the text of an object: UTF-8 that begins with a brace, 123
 unfoldable pub object_text : List ℕ → Option (List ℕ)
 object_text bytes = if starts_with nat_eq bytes (123 ∷ []) && is_utf8 bytes then Some bytes else None
@@ -105,8 +114,9 @@ behind_word slots word rest =
     if bytes_eq word (codes "arrive") then arrival_of slots rest >>= (λ a. Ok (record { head = Arrive a.0; object = a.1 }))
     else (if bytes_eq word (codes "try") then arrival_of slots rest >>= (λ a. Ok (record { head = Try a.0; object = a.1 }))
     else (if bytes_eq word (codes "finish") then ending_of slots rest >>= (λ head. Ok (alone head))
+    else (if bytes_eq word (codes "spent") then spending_of slots rest >>= (λ head. Ok (alone head))
     else (if bytes_eq word (codes "cancel") then number_of slots rest >>= (λ n. Ok (alone (Cancel n)))
-    else (if bytes_eq word (codes "limit") then limit_of rest >>= (λ n. Ok (alone (Limit n))) else Err BadLine))))
+    else (if bytes_eq word (codes "limit") then limit_of rest >>= (λ n. Ok (alone (Limit n))) else Err BadLine)))))
 
 -- a line that is cut so
 abbrev pub form_from : ℕ → List ℕ → Option Cut → Result Words FaultKind
@@ -122,16 +132,18 @@ abbrev pub request_in : Head → Option ℕ
 request_in (Arrive n) = Some n
 request_in (Try n) = Some n
 request_in (Finish n ran) = Some n
+request_in (Spent n micros) = Some n
 request_in (Cancel n) = Some n
 request_in head = None
 
 -- what is wrong with the number of a line, where it is said of each whether a request is there under it
-abbrev pub there_fault : Bool → Head → Option FaultKind
-there_fault there (Arrive n) = if there then Some (IsThere n) else None
-there_fault there (Try n) = if there then Some (IsThere n) else None
-there_fault there (Finish n ran) = if there then None else Some (IsNotThere n)
-there_fault there (Cancel n) = if there then None else Some (IsNotThere n)
-there_fault there head = None
+abbrev pub occupancy_fault : Bool → Head → Option FaultKind
+occupancy_fault there (Arrive n) = if there then Some (IsThere n) else None
+occupancy_fault there (Try n) = if there then Some (IsThere n) else None
+occupancy_fault there (Finish n ran) = if there then None else Some (IsNotThere n)
+occupancy_fault there (Spent n micros) = if there then None else Some (IsNotThere n)
+occupancy_fault there (Cancel n) = if there then None else Some (IsNotThere n)
+occupancy_fault there head = None
 
 -- a time is one that a request may have run
 abbrev pub IsTimeInRange : Option ℕ → Type 0
@@ -143,6 +155,7 @@ abbrev pub IsHeadInRange : ℕ → Head → Type 0
 IsHeadInRange slots (Arrive n) = n < slots
 IsHeadInRange slots (Try n) = n < slots
 IsHeadInRange slots (Finish n ran) = (n < slots) × IsTimeInRange ran
+IsHeadInRange slots (Spent n micros) = (n < slots) × (micros ≤ most_ran)
 IsHeadInRange slots (Cancel n) = n < slots
 IsHeadInRange slots (Limit n) = (1 ≤ n) × (n ≤ max_limit)
 IsHeadInRange slots head = ⊤

@@ -8,7 +8,7 @@ use Rattle.apf_run.specs.Texts.{decision_name, line_text}
 use Rattle.apf_run.specs.declared.line.Line.{Line}
 use Rattle.apf_run.specs.declared.line.Line.TheVariants as lines
 use Rattle.apf_protocol.specs.declared.answer.Answer.{Answer}
-use Rattle.apf_protocol.specs.declared.answer.Answer.TheVariants.{Arrives, Tries, Finishes, NotRunning, Cancels, Limits, ClosesFirst, ClosesAlready, Dispatches, Strikes, Queue, End}
+use Rattle.apf_protocol.specs.declared.answer.Answer.TheVariants.{Arrives, Tries, Finishes, NotRunning, Spends, SpendsNothing, Cancels, Limits, ClosesFirst, ClosesAlready, Dispatches, Strikes, Queue, End}
 use Rattle.apf_protocol.specs.declared.answer.Arrived.{Arrived}
 use Rattle.apf_protocol.specs.declared.answer.Arrived.TheVariants as arrived
 use Rattle.apf_protocol.specs.declared.answer.FirstLine.{FirstLine}
@@ -39,6 +39,8 @@ answer_text (Arrives request it) = line_text (arrived_line request it)
 answer_text (Tries request it) = codes "try " ++ (decimal request ++ (codes " " ++ (tried_name it ++ codes "\n")))
 answer_text (Finishes request) = line_text (lines.Finishes request)
 answer_text (NotRunning request) = line_text (lines.NotRunning request)
+answer_text (Spends request) = codes "spent " ++ (decimal request ++ codes "\n")
+answer_text (SpendsNothing request) = codes "spent " ++ (decimal request ++ codes " not running\n")
 answer_text (Cancels request decision) = line_text (lines.Cancels request decision)
 answer_text (Limits limit old) = line_text (lines.Limits limit old)
 answer_text ClosesFirst = line_text lines.ClosesFirst

@@ -56,6 +56,10 @@ pub enum Answer {
     Finishes(u32),
     /// It has no seats to give back.
     NotRunning(u32),
+    /// What it took so far was charged, where that was more than what was charged before.
+    Spends(u32),
+    /// It does not execute, so it took nothing.
+    SpendsNothing(u32),
     /// It was to be cancelled, and is decided so: it is cancelled, or it executes and keeps its seats.
     Cancels(u32, Decision),
     /// The limit is set in place of this one.
@@ -143,6 +147,8 @@ impl Answer {
             }
             Answer::Finishes(request) => write_line(out, Line::Finishes(request)),
             Answer::NotRunning(request) => write_line(out, Line::NotRunning(request)),
+            Answer::Spends(request) => writeln!(out, "spent {request}"),
+            Answer::SpendsNothing(request) => writeln!(out, "spent {request} not running"),
             Answer::Cancels(request, decision) => write_line(out, Line::Cancels(request, decision)),
             Answer::Limits(limit, old) => write_line(out, Line::Limits(limit, old)),
             Answer::ClosesFirst => write_line(out, Line::ClosesFirst),

@@ -20,6 +20,8 @@ pub enum Command {
     Try(u32, Arrival),
     /// The request of this number gives its seats back. It ran this many microseconds, where that is said: at most 10^12.
     Finish(u32, Option<u64>),
+    /// The request of this number, which executes still, has run this many microseconds so far: at most 10^12.
+    Spent(u32, u64),
     /// The request of this number is cancelled.
     Cancel(u32),
     /// The level's limit becomes this one, 1 to 10,000 seats.
@@ -57,6 +59,7 @@ pub fn read_command(alloc: Global, form: Form<'_>) -> Result<Command, LineFault>
         Head::Arrive(number) => Ok(Command::Arrive(number, read_arrival(alloc, form.object)?)),
         Head::Try(number) => Ok(Command::Try(number, read_arrival(alloc, form.object)?)),
         Head::Finish(number, ran) => Ok(Command::Finish(number, ran)),
+        Head::Spent(number, ran) => Ok(Command::Spent(number, ran)),
         Head::Cancel(number) => Ok(Command::Cancel(number)),
         Head::Limit(limit) => Ok(Command::Limit(limit)),
         Head::Close => Ok(Command::Close),

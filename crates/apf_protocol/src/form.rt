@@ -2,7 +2,7 @@
 
 ghost use Rattle.std.specs.Prelude.{◌≡◌, ℕ, ◌<◌, ◌≤◌, IfOk, IfErr, IfSome, Ok, Err, option_map};
 ghost use Rattle.apf_words.specs.Limits.{max_limit};
-ghost use Rattle.apf_protocol.specs.Lines.{form_of, behind_word as behind_word_of, word_of, number_of, limit_of, time_of, most_ran, ending_of, object_text as object_text_of, arrival_of, alone as alone_words, words, IsHeadInRange};
+ghost use Rattle.apf_protocol.specs.Lines.{form_of, behind_word as behind_word_of, word_of, number_of, limit_of, time_of, most_ran, ending_of, spending_of, object_text as object_text_of, arrival_of, alone as alone_words, words, IsHeadInRange};
 
 use crate::cut::cut_at_blank;
 use crate::fault::FaultKind;
@@ -98,6 +98,18 @@ fn ending(bytes: &[u8], slots: u32) -> Result<Head, FaultKind>
     }
 }
 
+// The number of a request that executes still, and behind a blank how long it ran so far.
+#[tactic(auto, unfolding(crate::specs::Lines::spending_of))]
+fn spending(bytes: &[u8], slots: u32) -> Result<Head, FaultKind>
+    ensures value { result ≡ spending_of slots bytes.now }
+    ensures ranges { IfOk result (λ head. IsHeadInRange slots head) }
+{
+    let cut = cut_at_blank(bytes).ok_or(FaultKind::BadLine)?;
+    let ran = numeral(cut.rest).ok_or(FaultKind::BadLine)?;
+    let number = number(cut.front, slots)?;
+    Ok(Head::Spent(number, time(ran)?))
+}
+
 // The text of an object.
 #[tactic(auto, unfolding(crate::specs::Lines::object_text))]
 fn object_text(bytes: &[u8]) -> Option<&str>
@@ -154,6 +166,9 @@ fn behind_word<'a>(word: &[u8], rest: &'a [u8], slots: u32) -> Result<Form<'a>, 
     if word == b"finish".as_slice() {
         return Ok(alone(ending(rest, slots)?));
     }
+    if word == b"spent".as_slice() {
+        return Ok(alone(spending(rest, slots)?));
+    }
     if word == b"cancel".as_slice() {
         return Ok(alone(Head::Cancel(number(rest, slots)?)));
     }
@@ -165,7 +180,7 @@ fn behind_word<'a>(word: &[u8], rest: &'a [u8], slots: u32) -> Result<Form<'a>, 
 
 /// Reads the words of a line, whose bytes come without its LF, on a level with so many slots.
 ///
-/// A line is `arrive N OBJECT`, `try N OBJECT`, `finish N`, `finish N T`, `cancel N`, `limit L`, `close`, `book`, `queues` or
+/// A line is `arrive N OBJECT`, `try N OBJECT`, `finish N`, `finish N T`, `spent N T`, `cancel N`, `limit L`, `close`, `book`, `queues` or
 /// `metrics`, with one blank between its words and nothing else. N, T and L are decimal digits with no zero before another.
 /// An object begins with a brace and is UTF-8; what else it says is not asked here.
 ///

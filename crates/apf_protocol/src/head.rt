@@ -1,7 +1,7 @@
 //! The words of a line, before its object is read.
 
 ghost use Rattle.std.specs.Prelude.{◌≡◌};
-ghost use Rattle.apf_protocol.specs.Lines.{request_in, there_fault};
+ghost use Rattle.apf_protocol.specs.Lines.{request_in, occupancy_fault};
 
 use crate::fault::FaultKind;
 
@@ -14,6 +14,8 @@ pub enum Head {
     Try(u32),
     /// The request of this number gives its seats back. It ran this many microseconds, where that is said: at most 10^12.
     Finish(u32, Option<u64>),
+    /// The request of this number, which executes still, has run this many microseconds so far: at most 10^12.
+    Spent(u32, u64),
     /// The request of this number is cancelled.
     Cancel(u32),
     /// The level's limit becomes this one, 1 to 10,000 seats.
@@ -30,13 +32,13 @@ pub enum Head {
 
 impl Head {
     /// What is wrong with the line's number, where `there` says whether a request is there under it: an arrival of one
-    /// that is, or the end of one that is not.
-    pub fn there_fault(self, there: bool) -> Option<FaultKind>
-        ensures { result ≡ there_fault there self }
+    /// that is, or the end or the time of one that is not.
+    pub fn occupancy_fault(self, there: bool) -> Option<FaultKind>
+        ensures { result ≡ occupancy_fault there self }
     {
         match self {
             Head::Arrive(number) | Head::Try(number) if there => Some(FaultKind::IsThere(number)),
-            Head::Finish(number, _) | Head::Cancel(number) if !there => {
+            Head::Finish(number, _) | Head::Spent(number, _) | Head::Cancel(number) if !there => {
                 Some(FaultKind::IsNotThere(number))
             }
             _ => None,
@@ -51,6 +53,7 @@ impl Head {
             Head::Arrive(number)
             | Head::Try(number)
             | Head::Finish(number, _)
+            | Head::Spent(number, _)
             | Head::Cancel(number) => { Some(number) }
             Head::Limit(_) | Head::Close | Head::Book | Head::Queues | Head::Metrics => None,
         }

@@ -9,7 +9,8 @@ use Rattle.apf_model.specs.World.{put, width}
 use Rattle.apf_model.specs.Fair.{Numbers, after_enter, after_dispatch}
 use Rattle.apf_queue.specs.RingsView.{RingsView, ring, without}
 use Rattle.apf_queue.specs.TimeView.{TimeView, numbers_of}
-use Rattle.apf_queue.specs.View.{IsQueueShape, latest_time}
+use Rattle.apf_model.specs.Charged.{after_charge}
+use Rattle.apf_queue.specs.View.{IsQueueShape, latest_time, max_charge}
 use Rattle.apf_queue.specs.Consistent.{AreConsistent}
 use Rattle.apf_queue.proofs.Places.{split_at, length-out, Contains-without}
 
@@ -97,8 +98,8 @@ module _ (rings : RingsView) (time : TimeView) (limit : ℕ) (old : AreConsisten
         within_limit = within_push;
         low = low_push;
         are_requests = λ p x c. (let l = requests_push p x c in omega arith);
-        next_within = λ p. subst (λ (n : ℕ). n ≤ latest_time + max_cost) (sym (ap (λ (v : Numbers). v.next p) numbers))
-            (enter_bounded q (ring rings q) (numbers_of time) (latest_time + max_cost) old.next_within old.time_within p);
+        next_within = λ p. subst (λ (n : ℕ). n ≤ latest_time + max_charge) (sym (ap (λ (v : Numbers). v.next p) numbers))
+            (enter_bounded q (ring rings q) (numbers_of time) (latest_time + max_charge) old.next_within old.time_within p);
         time_within = (let e = ap (λ (v : Numbers). v.virtual_time) numbers ∙ enter_time q (ring rings q) (numbers_of time) in let a = old.time_within in omega arith);
       }
 
@@ -137,7 +138,7 @@ module _ (rings : RingsView) (time : TimeView) (limit : ℕ) (old : AreConsisten
 
   -- whatever the numbers are then
   left_consistent : (time' : TimeView) → length time'.next ≡ length time.next → time'.robin < length rings.queues
-      → ((p : ℕ) → get_or time'.next p 0 ≤ latest_time + max_cost) → time'.virtual_time ≤ latest_time + max_cost
+      → ((p : ℕ) → get_or time'.next p 0 ≤ latest_time + max_charge) → time'.virtual_time ≤ latest_time + max_charge
       → AreConsistent (with_queue rings q (without r (ring rings q))) time' limit
   left_consistent time' one_for_each robin next_within time_within =
       let queues = length-set rings.queues q (without r (ring rings q)) in
@@ -166,11 +167,11 @@ module _ (rings : RingsView) (time : TimeView) (limit : ℕ) (old : AreConsisten
   -- it is dispatched, where virtual time may go on
   module _ (k : ℕ) (k_is : k ≡ width rings.costs r) (early : get_or time.next q 0 ≤ latest_time)
       (time' : TimeView) (numbers : numbers_of time' ≡ after_dispatch q k (numbers_of time)) (one_for_each : length time'.next ≡ length time.next) where
-    next_after : (p : ℕ) → get_or time'.next p 0 ≤ latest_time + max_cost
+    next_after : (p : ℕ) → get_or time'.next p 0 ≤ latest_time + max_charge
     next_after p =
         let low = old.low r in
-        subst (λ (n : ℕ). n ≤ latest_time + max_cost) (sym (ap (λ (v : Numbers). v.next p) numbers))
-        (put_bounded (numbers_of time).next q (get_or time.next q 0 + k) (latest_time + max_cost) old.next_within (let a = early in omega arith) p)
+        subst (λ (n : ℕ). n ≤ latest_time + max_charge) (sym (ap (λ (v : Numbers). v.next p) numbers))
+        (put_bounded (numbers_of time).next q (get_or time.next q 0 + k) (latest_time + max_charge) old.next_within (let a = early in omega arith) p)
 
     pub dispatch_consistent : AreConsistent (with_queue rings q (without r (ring rings q))) time' limit
     dispatch_consistent =
@@ -178,6 +179,31 @@ module _ (rings : RingsView) (time : TimeView) (limit : ℕ) (old : AreConsisten
         let level = ap (λ (v : Numbers). v.virtual_time) numbers in
         let is_queue = stands_in in
         left_consistent time' one_for_each (omega arith) next_after (let a = early in let b = old.time_within in omega arith)
+
+-- a request is settled
+module _ (rings : RingsView) (time : TimeView) (limit : ℕ) (old : AreConsistent rings time limit) (q k m : ℕ)
+    (low : m ≤ max_charge) (early : get_or time.next q 0 ≤ latest_time)
+    (time' : TimeView) (numbers : numbers_of time' ≡ after_charge q k m (numbers_of time)) (one_for_each : length time'.next ≡ length time.next) where
+  settled_next : (p : ℕ) → get_or time'.next p 0 ≤ latest_time + max_charge
+  settled_next p =
+      subst (λ (n : ℕ). n ≤ latest_time + max_charge) (sym (ap (λ (v : Numbers). v.next p) numbers))
+      (put_bounded (numbers_of time).next q (get_or time.next q 0 + m - k) (latest_time + max_charge) old.next_within (let a = early in let b = low in omega arith) p)
+
+  pub settle_consistent : AreConsistent rings time' limit
+  settle_consistent =
+      let robin = ap (λ (v : Numbers). v.robin) numbers in
+      let level = ap (λ (v : Numbers). v.virtual_time) numbers in
+      record {
+        shape = old.shape;
+        one_cost_each = old.one_cost_each;
+        one_next_each = one_for_each ∙ old.one_next_each;
+        robin_is_queue = (let a = old.robin_is_queue in omega arith);
+        within_limit = old.within_limit;
+        low = old.low;
+        are_requests = old.are_requests;
+        next_within = settled_next;
+        time_within = (let b = old.time_within in omega arith);
+      }
 
 zeros : (n i : ℕ) → get_or (replicate {A = ℕ} n 0) i 0 ≡ 0
 zeros zero i = refl

@@ -5,6 +5,7 @@ use Rattle.std.proofs.lemmas.Bool.{cases_eq, cases_lt}
 use Rattle.std.proofs.lemmas.List.{get_or_past, length-replicate}
 use Rattle.apf_model.specs.World.{width}
 use Rattle.apf_model.specs.Fair.{Numbers, after_enter, after_dispatch, finish, steps_round, IsChoice}
+use Rattle.apf_model.specs.Charged.{after_charge}
 use Rattle.apf_queue.specs.Finishes.{no_finish, IsReachedBy, IsFirstLeastFrom}
 use Rattle.apf_queue.specs.RingsView.{RingsView, ring}
 use Rattle.apf_queue.specs.TimeView.{TimeView, numbers_of}
@@ -97,6 +98,15 @@ left_finishes rings time time' finishes limit q left kept is_queue numbers =
 -- a dispatch changes one number
 pub dispatch_other : (time time' : TimeView) (q k : ℕ) → numbers_of time' ≡ after_dispatch q k (numbers_of time) → (p : ℕ) → p ≢ q → get_or time'.next p 0 ≡ get_or time.next p 0
 dispatch_other time time' q k numbers p ne = ap (λ (v : Numbers). v.next p) numbers ∙ put_other (numbers_of time).next q _ p ne
+
+-- a settlement changes one number, and one finish
+pub settle_finishes : (rings : RingsView) (time time' : TimeView) (finishes : List ℕ) (limit q k m : ℕ) → AreKept rings time finishes limit
+    → q < length rings.queues → numbers_of time' ≡ after_charge q k m (numbers_of time)
+    → AreFinishes rings time' (set finishes q (finish_at rings time' q))
+settle_finishes rings time time' finishes limit q k m kept is_queue numbers =
+    set_finishes rings rings time time' finishes q kept.finishes_are is_queue refl
+    (λ p ne. same_finish rings.costs rings.costs (get_or time.next p 0) (get_or time'.next p 0) (slice_get (ring rings p) 0) (slice_get (ring rings p) 0) refl
+    (ap (λ (v : Numbers). v.next p) numbers ∙ put_other (numbers_of time).next q _ p ne) (λ x first. refl))
 
 finish_some : (costs : List ℕ) (n : ℕ) (requests : List ℕ) → requests ≢ [] → finish_with costs n (slice_get requests 0) ≡ n + width costs (get_or requests 0 0)
 finish_some costs n [] some = absurd (some refl)

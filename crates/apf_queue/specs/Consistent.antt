@@ -5,7 +5,7 @@ use Rattle.apf_model.specs.World.{width}
 use Rattle.apf_queue.specs.Finishes.{no_finish}
 use Rattle.apf_queue.specs.RingsView.{RingsView, ring}
 use Rattle.apf_queue.specs.TimeView.{TimeView}
-use Rattle.apf_queue.specs.View.{IsQueueShape, latest_time}
+use Rattle.apf_queue.specs.View.{IsQueueShape, latest_time, max_charge}
 
 -- the rings, the numbers and the length limit fit one another
 pub record AreConsistent (rings : RingsView) (time : TimeView) (length_limit : ℕ) : Type 0 where
@@ -17,9 +17,9 @@ pub record AreConsistent (rings : RingsView) (time : TimeView) (length_limit : �
   pub low : (r : ℕ) → width rings.costs r ≤ max_cost
   -- who stands in a queue is one of the requests
   pub are_requests : (q r : ℕ) → Contains (ring rings q) r → r < length rings.costs
-  -- a dispatch may bring them past the latest time by one cost
-  pub next_within : (q : ℕ) → slice_index time.next q ≤ latest_time + max_cost
-  pub time_within : time.virtual_time ≤ latest_time + max_cost
+  -- a dispatch or a settlement may bring them past the latest time by one charge
+  pub next_within : (q : ℕ) → slice_index time.next q ≤ latest_time + max_charge
+  pub time_within : time.virtual_time ≤ latest_time + max_charge
 
 -- the finish of a queue with this first request, if any
 abbrev pub finish_with : List ℕ → ℕ → Option ℕ → ℕ

@@ -3,6 +3,7 @@ use Rattle.std.specs.Prelude.{◌≡◌, ℕ, ◌-◌, ◌^◌, ◌<◌, ◌≤�
 use Rattle.apf_words.specs.Limits.{max_queues, max_queue_length, max_requests}
 use Rattle.apf_model.specs.World.{width}
 use Rattle.apf_model.specs.Fair.{Numbers, after_enter, after_dispatch, IsChoice}
+use Rattle.apf_model.specs.Charged.{after_charge}
 use Rattle.apf_queue.specs.declared.choice.Chosen.{Chosen}
 use Rattle.apf_queue.specs.RingsView.{without}
 
@@ -83,6 +84,13 @@ pub record Dispatches (old new : QueuesView) (q k : ℕ) : Type 0 where
   pub numbers : numbers_in new ≡ after_dispatch q k (numbers_in old)
   pub length_limit : new.length_limit ≡ old.length_limit
 
+-- q is charged m in place of the k that it was charged for a request. Nothing else changes
+pub record Settles (old new : QueuesView) (q k m : ℕ) : Type 0 where
+  pub queues : new.queues ≡ old.queues
+  pub costs : new.costs ≡ old.costs
+  pub numbers : numbers_in new ≡ after_charge q k m (numbers_in old)
+  pub length_limit : new.length_limit ≡ old.length_limit
+
 -- the first request of queue q, with its cost
 pub record IsHead (s : QueuesView) (q : ℕ) (c : Chosen) : Type 0 where
   pub queue_is : c.queue ≡ q
@@ -94,10 +102,22 @@ pub record IsChosen (s : QueuesView) (c : Chosen) : Type 0 where
   pub is_choice : IsChoice (queue_count s) s.costs (queue_in s) (numbers_in s) c.queue
   pub is_head : IsHead s c.queue c
 
--- up to this, the number of a queue may grow: far more than 2^32 times all requests that can ever be numbered, and far less than 2^128
+-- up to this, the number of a queue may grow: far more than 2^46 times all requests that can ever be numbered, and far less than 2^128
 abbrev pub latest_time : ℕ
 latest_time = 2 ^ 127
 
 -- virtual time may go on in queue q
 abbrev pub HasTime : QueuesView → ℕ → Type 0
 HasTime s q = slice_index s.next q ≤ latest_time
+
+-- the most that a request may be charged: its seat-time in microseconds, up to two years of a seat
+abbrev pub max_charge : ℕ
+max_charge = 2 ^ 46
+
+-- up to this, the number of a queue may be when a request of it is settled: so far below the latest time that all dispatches that there can be do not reach that
+abbrev pub settle_time : ℕ
+settle_time = 2 ^ 126
+
+-- a request of queue q may be settled
+abbrev pub MaySettle : QueuesView → ℕ → Type 0
+MaySettle s q = slice_index s.next q ≤ settle_time

@@ -4,7 +4,7 @@ ghost use Rattle.std.specs.Prelude.{◌≡◌, ◌≢◌, ◌≤◌, ◌<◌, �
 ghost use Rattle.apf_model.specs.History.{IsShortest};
 ghost use Rattle.apf_model.specs.Fair.{opening_numbers, IsChoice};
 ghost use Rattle.apf_queue.specs.RingsView.{without};
-ghost use Rattle.apf_queue.specs.View.{IsQueueShape, opening_view, queue_count, request_count, queue_in, numbers_in, StandsNowhere, NothingWaits, Enters, struck, Dispatches, IsHead, IsChosen, HasTime};
+ghost use Rattle.apf_queue.specs.View.{IsQueueShape, opening_view, queue_count, request_count, queue_in, numbers_in, StandsNowhere, NothingWaits, Enters, struck, Dispatches, Settles, IsHead, IsChosen, HasTime, MaySettle, max_charge};
 ghost use Rattle.apf_queue.specs.Consistent.{finish_at};
 
 use crate::choice::{Chosen, queue_after};
@@ -203,8 +203,8 @@ impl<A: Allocator> Queues<A> {
     /// Dispatches what `choose` gives now: takes it out of its queue, and moves the numbers of
     /// virtual time on by its cost.
     ///
-    /// Virtual time may go on in that queue, which `has_time` tells. It always may before the 2^112th
-    /// dispatch.
+    /// Virtual time may go on in that queue, which `has_time` tells. It always may before the 2^80th
+    /// dispatch or settlement.
     pub fn dispatch(&mut self, chosen: Chosen)
         requires chosen { IsChosen self.old chosen }
         requires time { HasTime self.old chosen.queue }
@@ -216,12 +216,37 @@ impl<A: Allocator> Queues<A> {
         self.finishes.set(chosen.queue, finish_left);
     }
 
+    /// Charges the queue what was measured in place of what it was charged for one of its requests that execute: its
+    /// number changes by the difference, and nothing else changes.
+    ///
+    /// What it was charged is part of its number. Virtual time may go on in the queue, which `has_time` tells.
+    pub fn settle(&mut self, queue: u32, charged: u64, measured: u64)
+        requires is_queue { queue < queue_count self.old }
+        requires covered { charged ≤ slice_index self.old.next queue }
+        requires low { measured ≤ max_charge }
+        requires time { HasTime self.old queue }
+        ensures { Settles self.old self.new queue charged measured }
+    {
+        self.time.settle(queue, charged, measured);
+        let finish_now = finish_in(&self.rings, &self.time, queue);
+        self.finishes.set(queue, finish_now);
+    }
+
     /// Whether virtual time may go on in the queue: whether its number is at most 2^127.
     pub fn has_time(&self, queue: u32) -> bool
         requires { queue < queue_count self.now }
         ensures { IsTrue result ↔ HasTime self.now queue }
     {
         self.time.has_time(queue)
+    }
+
+    /// Whether a request of the queue may be settled: whether the queue's number is at most 2^126. Then it stays so
+    /// small that virtual time may go on through all dispatches that there can be.
+    pub fn may_settle(&self, queue: u32) -> bool
+        requires { queue < queue_count self.now }
+        ensures { IsTrue result ↔ MaySettle self.now queue }
+    {
+        self.time.may_settle(queue)
     }
 
     // How many queues there are.

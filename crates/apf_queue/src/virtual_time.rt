@@ -5,14 +5,18 @@
 
 ghost use Rattle.std.specs.Prelude.{◌≡◌, ℕ, ◌+◌, ◌-◌, ◌<◌, ◌≤◌, ◌^◌, ◌↔◌, List, length, slice_index, replicate, IsTrue, IfOk};
 ghost use Rattle.apf_model.specs.Fair.{after_enter, after_dispatch};
+ghost use Rattle.apf_model.specs.Charged.{after_charge};
 ghost use Rattle.apf_queue.specs.TimeView.{numbers_of};
-ghost use Rattle.apf_queue.specs.View.{latest_time};
+ghost use Rattle.apf_queue.specs.View.{latest_time, settle_time};
 
 use std::alloc::{AllocError, Allocator};
 use std::marker::Model;
 
 // Up to this, the number of a queue may grow.
 const LATEST_TIME: u128 = 1 << 127;
+
+// The latest time at which a charge is set right.
+const SETTLE_TIME: u128 = 1 << 126;
 
 // The numbers of a level's virtual time, in the unit of costs.
 #[derive(Drop)]
@@ -58,6 +62,14 @@ impl<A: Allocator> VirtualTime<A> {
         self.next[queue as usize] <= LATEST_TIME
     }
 
+    // Whether a request of the queue may be settled.
+    pub fn may_settle(&self, queue: u32) -> bool
+        requires { queue < length self.now.next }
+        ensures { IsTrue result ↔ (slice_index self.now.next queue ≤ settle_time) }
+    {
+        self.next[queue as usize] <= SETTLE_TIME
+    }
+
     // The virtual finish of the queue, whose first request is of this cost.
     pub fn finish(&self, queue: u32, cost: u32) -> u128
         requires is_queue { queue < length self.now.next }
@@ -91,5 +103,17 @@ impl<A: Allocator> VirtualTime<A> {
         self.level = self.level.max(next);
         self.next[queue as usize] = next + u128::from(cost);
         self.robin = queue;
+    }
+
+    // The queue is charged what was measured in place of what it was charged for a request.
+    pub fn settle(&mut self, queue: u32, charged: u64, measured: u64)
+        requires is_queue { queue < length self.old.next }
+        requires covered { charged ≤ slice_index self.old.next queue }
+        requires fits { slice_index self.old.next queue + measured < 2 ^ 128 }
+        ensures numbers { numbers_of self.new ≡ after_charge queue charged measured (numbers_of self.old) }
+        ensures one_for_each { length self.new.next ≡ length self.old.next }
+    {
+        let next = self.next[queue as usize];
+        self.next[queue as usize] = next + u128::from(measured) - u128::from(charged);
     }
 }

@@ -1,5 +1,5 @@
 -- Each line counts the requests that came by it, and no others.
-use Rattle.std.proofs.Common.{◌≡◌, ◌≢◌, ℕ, ◌+◌, ◌≤◌, List, [], ◌∷◌, set, inl, inr, Option, Some, None, Result, refl, sym, ap, ◌∙◌, subst, arith}
+use Rattle.std.proofs.Common.{◌≡◌, ◌≢◌, ℕ, ◌+◌, ◌≤◌, Bool, true, false, List, [], ◌∷◌, set, inl, inr, Option, Some, None, Result, refl, sym, ap, ◌∙◌, subst, arith}
 use Rattle.std.specs.List.{sum_by}
 use Rattle.apf_gate.specs.Slots.{slot_of}
 use Rattle.apf_gate.specs.StationCalls.{TriesToCancel, ClosesTo}
@@ -30,13 +30,14 @@ use Rattle.apf_protocol.specs.declared.arrival.Arrival.{Arrival}
 use Rattle.apf_protocol.specs.declared.command.Command.{Command}
 use Rattle.apf_protocol.specs.declared.command.Command.TheVariants as commands
 use Rattle.apf_charges.specs.declared.charges.Charges.{Charges}
-use Rattle.apf_service.specs.declared.notes.Asked.{Asked}
+use Rattle.apf_service.specs.declared.state.Asked.{Asked}
 use Rattle.apf_service.specs.declared.replies.Refusal.{Refusal}
 use Rattle.apf_service.specs.declared.tally.Tally.{Tally}
 use Rattle.apf_service.specs.Tallies.{Held, held_by, slots_of, arrived_in, finished, after_arrival, after_poll, after_finish, waits_in, waits_at, IsTallyOf}
 use Rattle.apf_service.specs.Kept.{State, slot_in, width_in, Polls, Leaves, Follows, FollowsAll, asked_at, charged_by, with_event}
-use Rattle.apf_service.specs.Replies.{told_of_arrival, told_of_attempt, told_of_finish, told_of_cancel, told_of_close}
-use Rattle.apf_service.specs.Turns.{Turns, ArrivesAt, TriesAt, FinishesAt, OperatorDoes, asks, ask_of, charges_after}
+use Rattle.apf_service.specs.Replies.{told_of_arrival, told_of_attempt, told_of_finish, told_of_spent, told_of_cancel, told_of_close}
+use Rattle.apf_book.specs.Life.{charge_in}
+use Rattle.apf_service.specs.Turns.{Turns, ArrivesAt, TriesAt, FinishesAt, SpendsAt, OperatorDoes, asks, ask_of, charges_after, queues_after}
 use Rattle.apf_service.specs.Counted.{came_by}
 use Rattle.apf_service.proofs.Slots.{held, reads_waiting, moved_slots, was_held, is_inside}
 use Rattle.apf_service.proofs.Sums.{sum_at, part_at}
@@ -204,13 +205,27 @@ tries_grows n a old reply new kept at =
 finishes_grows : (n : ℕ) (ran : Option ℕ) (old : State) (reply : Result Told Refusal) (new : State) → old.tally.waiting ≡ sum_by waits_in (slots_of old.level) → FinishesAt n ran old reply new → Grows old new (came_by reply)
 finishes_grows n ran old reply new kept at =
     subst (λ (s : State). Grows old s (came_by reply)) (sym at.after)
-    (counts_as old (record old { level = at.level; tally = after_finish (width_in (slot_in old n)) at.answer old.tally; charges = charges_after at.answer ran (asked_at old.asked n).flow old.charges }) 0 reply (ap came_by at.told ∙ finish_told n at.answer)
-    (finish_grows n (width_in (slot_in old n)) old at.level at.answer (charges_after at.answer ran (asked_at old.asked n).flow old.charges) kept at.finishes))
+    (counts_as old (record old { level = at.level; tally = after_finish (width_in (slot_in old n)) at.answer old.tally; queues = queues_after at.answer ran (width_in (slot_in old n)) (charge_in old.level.owner.book.queues (slot_in old n).number) old.queues; charges = charges_after at.answer ran (asked_at old.asked n).flow old.charges }) 0 reply (ap came_by at.told ∙ finish_told n at.answer)
+    (let grows = finish_grows n (width_in (slot_in old n)) old at.level at.answer (charges_after at.answer ran (asked_at old.asked n).flow old.charges) kept at.finishes in record { waiting = grows.waiting; arrived = grows.arrived }))
+
+spent_told : (n : ℕ) (executes : Bool) → came_by (told_of_spent n executes) ≡ 0
+spent_told n true = refl
+spent_told n false = refl
+
+-- a time so far counts nobody
+spends_grows : (n micros : ℕ) (old : State) (reply : Result Told Refusal) (new : State) → old.tally.waiting ≡ sum_by waits_in (slots_of old.level) → SpendsAt n micros old reply new → Grows old new (came_by reply)
+spends_grows n micros old reply new kept at =
+    counts_as old new 0 reply (ap came_by at.told ∙ spent_told n at.executes)
+    (subst (λ (s : State). Grows old s 0) (sym at.after) (record {
+      waiting = kept ∙ (ap (λ (ps : List Place). sum_by waits_in (held_by ps old.level.owner.passes)) (sym at.does.slots.places) ∙ ap (λ (ts : List PassToken). sum_by waits_in (held_by at.level.places ts)) (sym at.does.slots.passes));
+      arrived = omega arith;
+    }))
 
 turn_grows : (command : Command) (old : State) (reply : Result Told Refusal) (new : State) → old.tally.waiting ≡ sum_by waits_in (slots_of old.level) → Turns command old reply new → Grows old new (came_by reply)
 turn_grows (commands.Arrive n a) old reply new kept turns = arrives_grows n a old reply new kept turns
 turn_grows (commands.Try n a) old reply new kept turns = tries_grows n a old reply new kept turns
 turn_grows (commands.Finish n ran) old reply new kept turns = finishes_grows n ran old reply new kept turns
+turn_grows (commands.Spent n micros) old reply new kept turns = spends_grows n micros old reply new kept turns
 turn_grows (commands.Cancel n) old reply new kept turns =
     counts_as old new 0 reply (ap came_by turns.told ∙ cancel_told n turns.answer) (operator_grows (λ s s'. TriesToCancel s (slot_in old n).number turns.answer s') old new kept turns.does)
 turn_grows (commands.Limit limit) old reply new kept turns = counts_as old new 0 reply (ap came_by turns.told) (operator_grows (Sets limit turns.was) old new kept turns.does)

@@ -4,5 +4,6 @@ pub mod Keeps
 pub mod Follow
 pub mod News
 pub mod Obeying
+pub mod Parts
 pub mod Counting
 pub mod Faults

@@ -4,9 +4,9 @@ use Rattle.std.specs.Prelude.{min}
 use Rattle.std.proofs.lemmas.List.{take_all, length-append, length-drop, length-reverse, length-take, take-append-le}
 use Rattle.std.proofs.Math.Seq.{take-length}
 use Rattle.apf_book.specs.declared.life_event.LifeEvent.{LifeEvent}
-use Rattle.apf_book.specs.declared.notes.Copied.{Copied}
+use Rattle.apf_book.specs.declared.recent_events.Copied.{Copied}
 use Rattle.apf_book.specs.Life.{LifeView}
-use Rattle.apf_book.specs.Notes.{event_of, CopiesLate}
+use Rattle.apf_book.specs.RecentEvents.{event_of, CopiesLate}
 use Rattle.apf_service.specs.Lines.{AreEventsFrom}
 
 pub all_new : (kept from : ℕ) (v : LifeView) (room room' : List LifeEvent) (copied : Copied) (count next : ℕ) → length room ≡ kept → from < 2 ^ 64 → length v.history < 2 ^ 64 → CopiesLate kept v.history from room copied room'

@@ -12,6 +12,7 @@ pub changes : (level : List ℕ) (number : ℕ) (command : Command) (old between
 changes level number (commands.Arrive n a) old between new reply Writes turns tells = record { reply = reply; between = between; turns = turns; tells = tells }
 changes level number (commands.Try n a) old between new reply Writes turns tells = record { reply = reply; between = between; turns = turns; tells = tells }
 changes level number (commands.Finish n ran) old between new reply Writes turns tells = record { reply = reply; between = between; turns = turns; tells = tells }
+changes level number (commands.Spent n micros) old between new reply Writes turns tells = record { reply = reply; between = between; turns = turns; tells = tells }
 changes level number (commands.Cancel n) old between new reply Writes turns tells = record { reply = reply; between = between; turns = turns; tells = tells }
 changes level number (commands.Limit limit) old between new reply Writes turns tells = record { reply = reply; between = between; turns = turns; tells = tells }
 changes level number commands.Close old between new reply Writes turns tells = record { reply = reply; between = between; turns = turns; tells = tells }

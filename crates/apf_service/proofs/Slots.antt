@@ -87,3 +87,13 @@ module _ (slot : ℕ) (l l' : LocalView) (Does : Place → PassToken → Place �
 -- the number of the slot's Pass is what the slot holds
 pub number_of : (l : LocalView) (slot n : ℕ) → length l.owner.passes ≡ length l.places → slot < length l.places → ((t : PassToken) → slice_get l.owner.passes slot ≡ Some t → n ≡ t.pass.number) → n ≡ (get_or (slots_of l) slot no_slot).number
 number_of l slot n same inside of = sym (held_number l.places l.owner.passes slot n same inside of)
+
+-- what is so of the number of the slot's Pass is so of what the slot holds
+held_so : (ps : List Place) (ts : List PassToken) (i : ℕ) (P : ℕ → Type 0) → length ts ≡ length ps → i < length ps → ((t : PassToken) → slice_get ts i ≡ Some t → P t.pass.number) → P (get_or (held_by ps ts) i no_slot).number
+held_so [] ts i P same inside of = absurd (omega arith)
+held_so (q ∷ ps) [] i P same inside of = absurd (let n : 0 ≡ suc (length ps) = same in cc)
+held_so (q ∷ ps) (u ∷ ts) zero P same inside of = of u refl
+held_so (q ∷ ps) (u ∷ ts) (suc i) P same inside of = held_so ps ts i P (omega (arith, same)) (omega (arith, inside)) of
+
+pub slot_so : (l : LocalView) (slot : ℕ) (P : ℕ → Type 0) → length l.owner.passes ≡ length l.places → slot < length l.places → ((t : PassToken) → slice_get l.owner.passes slot ≡ Some t → P t.pass.number) → P (get_or (slots_of l) slot no_slot).number
+slot_so l slot P same inside of = held_so l.places l.owner.passes slot P same inside of

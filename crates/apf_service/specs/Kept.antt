@@ -14,10 +14,15 @@ use Rattle.apf_protocol.specs.declared.answer.Given.{Given}
 use Rattle.apf_model.specs.declared.config.Config.{Config}
 use Rattle.apf_model.specs.declared.response.Response.{Response}
 use Rattle.apf_model.specs.declared.response.Response.TheVariants as responses
+use Rattle.apf_history.specs.declared.events.Charge.{Charge}
+use Rattle.apf_book.specs.declared.settling.Settling.{Settling}
+use Rattle.apf_book.specs.declared.settling.Settling.TheVariants as settling
+use Rattle.apf_charges.specs.declared.charges.ChargedBy.{ChargedBy}
+use Rattle.apf_charges.specs.declared.charges.ChargedBy.TheVariants as by
 use Rattle.apf_charges.specs.declared.charges.Charges.{Charges}
 use Rattle.apf_charges.specs.Charging.{charge_of}
-use Rattle.apf_service.specs.declared.notes.Asked.{Asked}
-use Rattle.apf_service.specs.declared.notes.Notes.{Notes}
+use Rattle.apf_service.specs.declared.state.Asked.{Asked}
+use Rattle.apf_service.specs.declared.state.ServiceState.{ServiceState}
 use Rattle.apf_service.specs.declared.tally.Tally.{Tally}
 use Rattle.apf_service.specs.Tallies.{Held, slots_of, after_poll}
 
@@ -31,7 +36,7 @@ pub record State : Type 0 where
   pub asked : List Asked
 
 -- this level, and what is kept beside it
-abbrev pub state_of : LocalView → Notes → State
+abbrev pub state_of : LocalView → ServiceState → State
 state_of level notes = record { level = level; tally = notes.tally; queues = notes.queues.items; seen = notes.seen; charges = notes.charges; asked = notes.asked.items }
 
 -- what a slot holds that is not there
@@ -103,6 +108,15 @@ with_event charge (events.Enter t q) given = changed q (λ g. record g { waiting
 with_event charge (events.Full t q) given = given
 with_event charge (events.Dispatch t q) given = changed q (λ g. record g { waiting = g.waiting - 1; service = told (g.service + charge) }) given
 with_event charge (events.Strike t q) given = changed q (λ g. record g { waiting = g.waiting - 1 }) given
+
+-- a queue by what a request took, in place of what the queue was charged for it
+abbrev pub recharged : Charge → ℕ → List Given → List Given
+recharged charge took given = changed charge.queue (λ g. record g { service = told (g.service - charge.amount + took) }) given
+
+-- whether what requests take is settled, by what they are charged
+abbrev pub settling_by : ChargedBy → Settling
+settling_by by.Time = settling.Told
+settling_by by.Seats = settling.Never
 
 -- the same level, of which each history that it was of went on by Dispatches and Strikes alone
 pub record Continues (l l' : LocalView) : Type 0 where

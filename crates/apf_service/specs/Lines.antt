@@ -8,7 +8,7 @@ use Rattle.apf_book.specs.declared.life_event.LifeEvent.{LifeEvent}
 use Rattle.apf_book.specs.declared.life_stats.LifeStats.{LifeStats}
 use Rattle.apf_book.specs.Life.{LifeView}
 use Rattle.apf_book.specs.LifeBook.{IsLifeKept, IsLived}
-use Rattle.apf_book.specs.Notes.{event_of, AreLifeStats}
+use Rattle.apf_book.specs.RecentEvents.{event_of, AreLifeStats}
 use Rattle.apf_local.specs.Levels.{LocalView}
 use Rattle.apf_run.specs.declared.totals.Totals.{Totals}
 use Rattle.apf_run.specs.Texts.{totals_text}
@@ -21,7 +21,7 @@ use Rattle.apf_protocol.specs.declared.fault.FaultKind.{FaultKind}
 use Rattle.apf_protocol.specs.declared.fault.FaultKind.TheVariants.{NoMemory}
 use Rattle.apf_protocol.specs.declared.fault.Found.{Found}
 use Rattle.apf_protocol.specs.declared.fault.Found.TheVariants.{Nothing}
-use Rattle.apf_protocol.specs.Lines.{Words, form_of, request_in, there_fault}
+use Rattle.apf_protocol.specs.Lines.{Words, form_of, request_in, occupancy_fault}
 use Rattle.apf_protocol.specs.Commands.{command_from, HasObject}
 use Rattle.apf_protocol.specs.Faults.{IsFoundIn, fault_text}
 use Rattle.apf_protocol.specs.Texts.{answer_text, queue_text}
@@ -44,7 +44,7 @@ unless_fault (Some kind) w = Err kind
 
 -- the words, unless it is wrong that a request is there under their number, or that none is
 abbrev pub judged : State → Words → Result Words FaultKind
-judged s w = unless_fault (there_fault (there_in s (request_in w.head)) w.head) w
+judged s w = unless_fault (occupancy_fault (there_in s (request_in w.head)) w.head) w
 
 -- the words of a line for a level in this state, or its first fault
 unfoldable pub words_in : State → List ℕ → Result Words FaultKind

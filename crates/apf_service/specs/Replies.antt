@@ -1,5 +1,5 @@
 -- What a command is answered by what the level's call answered.
-use Rattle.std.specs.Prelude.{ℕ, List, [], ◌++◌, Option, Some, Result, Ok, Err, codes}
+use Rattle.std.specs.Prelude.{ℕ, Bool, true, false, List, [], ◌++◌, Option, Some, Result, Ok, Err, codes}
 use Rattle.std.specs.List.{flat_map}
 use Rattle.apf_words.specs.declared.decision.Decision.TheVariants.{Execute}
 use Rattle.apf_gate.specs.Slots.{slot_of}
@@ -25,16 +25,16 @@ use Rattle.apf_service.specs.declared.replies.Refusal.TheVariants.{UsedUp, NotTh
 use Rattle.apf_protocol.specs.Texts.{answer_text}
 
 -- an arrival in the slot that no event names: it is decided so, or the slot's numbers are used up
-abbrev pub told_alone : ℕ → Answer → Result Told Refusal
-told_alone n answers.Run = Ok (tell.Arrives n (arrived.Decided Execute))
-told_alone n (answers.Over decision) = Ok (tell.Arrives n (arrived.Decided decision))
-told_alone n answer = Err (UsedUp n)
+abbrev pub told_of_answer : ℕ → Answer → Result Told Refusal
+told_of_answer n answers.Run = Ok (tell.Arrives n (arrived.Decided Execute))
+told_of_answer n (answers.Over decision) = Ok (tell.Arrives n (arrived.Decided decision))
+told_of_answer n answer = Err (UsedUp n)
 
 -- an arrival: by its event, which names the queue that it entered or found full
 abbrev pub told_of_arrival : ℕ → Answer → Option LifeEvent → Result Told Refusal
 told_of_arrival n answer (Some (events.Enter t q)) = Ok (tell.Arrives n (arrived.Queued q))
 told_of_arrival n answer (Some (events.Full t q)) = Ok (tell.Arrives n (arrived.QueueFull q))
-told_of_arrival n answer event = told_alone n answer
+told_of_arrival n answer event = told_of_answer n answer
 
 -- an attempt
 abbrev pub told_of_attempt : ℕ → Answer → Result Told Refusal
@@ -47,6 +47,11 @@ told_of_attempt n answer = Err (UsedUp n)
 abbrev pub told_of_finish : ℕ → Answer → Result Told Refusal
 told_of_finish n answers.Released = Ok (tell.Finishes n)
 told_of_finish n answer = Ok (tell.NotRunning n)
+
+-- a time so far
+abbrev pub told_of_spent : ℕ → Bool → Result Told Refusal
+told_of_spent n true = Ok (tell.Spends n)
+told_of_spent n false = Ok (tell.SpendsNothing n)
 
 -- a cancel; where another request holds the slot, its own is not there
 abbrev pub told_of_cancel : ℕ → Cancel → Result Told Refusal

@@ -3,18 +3,19 @@
 ghost use Rattle.std.specs.Prelude.{◌≡◌, ◌+◌, ◌^◌, ◌<◌, ◌≤◌, length, slice_set};
 ghost use Rattle.apf_words.specs.Limits.{max_limit};
 ghost use Rattle.apf_local.specs.declared.answer.Answer.TheVariants.{Released};
+ghost use Rattle.apf_local.specs.Levels.{SameLocal, IsFinish};
 ghost use Rattle.apf_protocol.specs.Objects.{IsArrivalInRange};
 ghost use Rattle.apf_service.specs.Tallies.{IsTallied, decided_in, after_arrival as after_answer, after_finish as after_finished};
 ghost use Rattle.apf_charges.specs.Charging.{cost_for};
 ghost use Rattle.apf_service.specs.Kept.{state_of, asked_at};
-ghost use Rattle.apf_service.specs.Turns.{ArrivesAt, TriesAt, FinishesAt, charges_after, CancelsAt, LimitsTo, Closes};
+ghost use Rattle.apf_service.specs.Turns.{ArrivesAt, TriesAt, FinishesAt, SettlesBy, charges_after, queues_after, queues_spent, SpendsAt, CancelsAt, LimitsTo, Closes};
 
-use crate::notes::{Asked, Notes};
-use crate::queues::width_of;
-use crate::replies::{Refusal, of_arrival, of_attempt, of_cancel, of_close, of_finish};
+use crate::queues::{recharge, width_of};
+use crate::replies::{Refusal, of_arrival, of_attempt, of_cancel, of_close, of_finish, of_spent};
+use crate::state::{Asked, ServiceState};
 use crate::tally::Tally;
-use apf_local::{Answer, Ask, LocalLevel};
-use apf_protocol::{Answer as Told, Arrival};
+use apf_local::{Answer, Ask, Charge, LocalLevel, seat_time};
+use apf_protocol::{Answer as Told, Arrival, Given};
 
 // Counts an arrival or an attempt that was answered so.
 fn after_arrival(tally: Tally, width: u32, answer: Answer) -> Tally
@@ -44,7 +45,7 @@ fn after_finish(tally: Tally, width: u32, answer: Answer) -> Tally
 }
 
 // What an arrival asks: its flow, and its cost.
-fn asked_by(notes: &Notes, arrival: Arrival) -> Asked
+fn asked_by(notes: &ServiceState, arrival: Arrival) -> Asked
     requires range { IsArrivalInRange arrival }
     ensures asks { result ≡ record { flow = arrival.ask.hash; cost = cost_for notes.now.charges arrival.ask.hash arrival.ask.width arrival.cost } }
     ensures some { 1 ≤ result.cost }
@@ -77,7 +78,7 @@ fn ask_for(arrival: Arrival, asked: Asked) -> Ask
 /// The next request of the slot arrives.
 pub fn arrive(
     level: &mut LocalLevel,
-    notes: &mut Notes,
+    notes: &mut ServiceState,
     slot: u32,
     arrival: Arrival,
 ) -> Result<Told, Refusal>
@@ -101,7 +102,7 @@ pub fn arrive(
 /// The next request of the slot tries.
 pub fn attempt(
     level: &mut LocalLevel,
-    notes: &mut Notes,
+    notes: &mut ServiceState,
     slot: u32,
     arrival: Arrival,
 ) -> Result<Told, Refusal>
@@ -122,7 +123,7 @@ pub fn attempt(
 }
 
 // What is learned where the request of the slot answered so and is said to have run so long.
-fn learn(notes: &mut Notes, slot: u32, ran: Option<u64>, answer: Answer)
+fn learn(notes: &mut ServiceState, slot: u32, ran: Option<u64>, answer: Answer)
     ensures charges { notes.new.charges ≡ charges_after answer ran (asked_at notes.old.asked.items slot).flow notes.old.charges }
     ensures same { (notes.new.tally ≡ notes.old.tally) × (notes.new.queues.items ≡ notes.old.queues.items) × (notes.new.seen ≡ notes.old.seen) × (notes.new.asked.items ≡ notes.old.asked.items) }
 {
@@ -139,11 +140,47 @@ fn learn(notes: &mut Notes, slot: u32, ran: Option<u64>, answer: Answer)
     notes.charges.learn(flow, micros);
 }
 
-/// The request of the slot gives its seats back, if it executes. Where it is said how long it ran, in microseconds, its flow learns
-/// that.
+// What each queue was given, where a request of this width answered so, for which a queue was charged this, and is said to have run
+// so long.
+fn settle(
+    queues: &mut [Given],
+    width: u32,
+    charge: Option<Charge>,
+    ran: Option<u64>,
+    answer: Answer,
+)
+    ensures { queues.new ≡ queues_after answer ran width charge queues.old }
+{
+    let Answer::Released = answer else {
+        return;
+    };
+    let Some(micros) = ran else {
+        return;
+    };
+    let Some(charge) = charge else {
+        return;
+    };
+    recharge(queues, charge, seat_time(width, micros));
+}
+
+// The request of the slot gives its seats back, if it executes. Where it is said how long it ran, what it took is settled before.
+fn release(level: &mut LocalLevel, slot: u32, ran: Option<u64>) -> Answer
+    requires { slot < length level.old.places }
+    ensures same { SameLocal level.old level.new }
+    ensures finishes { IsFinish slot level.old result level.new }
+    ensures settles { SettlesBy slot ran result level.old level.new }
+{
+    match ran {
+        Some(micros) => level.finish_measured(slot as usize, micros),
+        None => level.finish(slot as usize),
+    }
+}
+
+/// The request of the slot gives its seats back, if it executes. Where it is said how long it ran, in microseconds, what it took is
+/// settled before, and its flow learns that.
 pub fn finish(
     level: &mut LocalLevel,
-    notes: &mut Notes,
+    notes: &mut ServiceState,
     slot: u32,
     ran: Option<u64>,
 ) -> Result<Told, Refusal>
@@ -154,14 +191,52 @@ pub fn finish(
     ensures count { length level.new.places ≡ length level.old.places }
 {
     let width = width_of(level.ticket(slot as usize));
-    let answer = level.finish(slot as usize);
+    let charge = level.charge(slot as usize);
+    let answer = release(level, slot, ran);
     notes.tally = after_finish(notes.tally, width, answer);
+    settle(notes.queues.as_mut_slice(), width, charge, ran, answer);
     learn(notes, slot, ran, answer);
     of_finish(slot, answer)
 }
 
+// What each queue was given, where a request that executes, or does not, took this so far, for which a queue was charged this.
+fn spend_of(queues: &mut [Given], executes: bool, charge: Option<Charge>, took: u64)
+    ensures { queues.new ≡ queues_spent executes took charge queues.old }
+{
+    if !executes {
+        return;
+    }
+    let Some(charge) = charge else {
+        return;
+    };
+    if charge.amount < took {
+        recharge(queues, charge, took);
+    }
+}
+
+/// The request of the slot has run this many microseconds so far. If it executes, and was charged less than that, its queue is
+/// charged it now.
+pub fn spend(
+    level: &mut LocalLevel,
+    notes: &mut ServiceState,
+    slot: u32,
+    micros: u64,
+) -> Result<Told, Refusal>
+    requires tallied { IsTallied level.old notes.old.tally }
+    requires is_slot { slot < length level.old.places }
+    ensures turns { SpendsAt slot micros (state_of level.old notes.old) result (state_of level.new notes.new) }
+    ensures tallied { IsTallied level.new notes.new.tally }
+    ensures count { length level.new.places ≡ length level.old.places }
+{
+    let took = seat_time(width_of(level.ticket(slot as usize)), micros);
+    let charge = level.charge(slot as usize);
+    let executes = level.spend(slot as usize, micros);
+    spend_of(notes.queues.as_mut_slice(), executes, charge, took);
+    of_spent(slot, executes)
+}
+
 /// The request of the slot is cancelled, if it is undecided.
-pub fn cancel(level: &mut LocalLevel, notes: &Notes, slot: u32) -> Result<Told, Refusal>
+pub fn cancel(level: &mut LocalLevel, notes: &ServiceState, slot: u32) -> Result<Told, Refusal>
     requires tallied { IsTallied level.old notes.now.tally }
     requires is_slot { slot < length level.old.places }
     ensures turns { CancelsAt slot (state_of level.old notes.now) result (state_of level.new notes.now) }
@@ -173,7 +248,7 @@ pub fn cancel(level: &mut LocalLevel, notes: &Notes, slot: u32) -> Result<Told, 
 }
 
 /// The level is closed.
-pub fn close(level: &mut LocalLevel, notes: &Notes) -> Result<Told, Refusal>
+pub fn close(level: &mut LocalLevel, notes: &ServiceState) -> Result<Told, Refusal>
     requires tallied { IsTallied level.old notes.now.tally }
     ensures turns { Closes (state_of level.old notes.now) result (state_of level.new notes.now) }
     ensures tallied { IsTallied level.new notes.now.tally }
@@ -183,7 +258,7 @@ pub fn close(level: &mut LocalLevel, notes: &Notes) -> Result<Told, Refusal>
 }
 
 /// The limit is set.
-pub fn set_limit(level: &mut LocalLevel, notes: &Notes, limit: u32) -> Result<Told, Refusal>
+pub fn set_limit(level: &mut LocalLevel, notes: &ServiceState, limit: u32) -> Result<Told, Refusal>
     requires tallied { IsTallied level.old notes.now.tally }
     requires some { 1 ≤ limit }
     requires small { limit ≤ max_limit }

@@ -5,8 +5,8 @@ ghost use Rattle.apf_local.specs.declared.answer.Place.TheVariants as places;
 ghost use Rattle.apf_service.specs.Tallies.{IsTallied, decided_in, after_poll as after_place};
 ghost use Rattle.apf_service.specs.Kept.{state_of, charged_by, Leaves, Follows, FollowsAll};
 
-use crate::notes::Notes;
 use crate::queues::{count, width_of};
+use crate::state::ServiceState;
 use crate::tally::Tally;
 use apf_book::LifeEvent;
 use apf_local::{LocalLevel, Place};
@@ -28,7 +28,7 @@ fn after_poll(tally: Tally, width: u32, place: Place) -> Tally
 }
 
 // The request of this slot reads its decision, if it waits, and is counted so.
-fn leave(level: &mut LocalLevel, notes: &mut Notes, slot: u32)
+fn leave(level: &mut LocalLevel, notes: &mut ServiceState, slot: u32)
     requires tallied { IsTallied level.old notes.old.tally }
     ensures tallied { IsTallied level.new notes.new.tally }
     ensures count { length level.new.places ≡ length level.old.places }
@@ -47,7 +47,7 @@ fn leave(level: &mut LocalLevel, notes: &mut Notes, slot: u32)
 }
 
 // What a queue is charged by the event.
-fn charge(notes: &Notes, event: LifeEvent) -> u32
+fn charge(notes: &ServiceState, event: LifeEvent) -> u32
     ensures { result ≡ charged_by notes.now.charges notes.now.asked.items event }
 {
     let LifeEvent::Dispatch(request, _) = event else {
@@ -61,7 +61,7 @@ fn charge(notes: &Notes, event: LifeEvent) -> u32
 }
 
 // What follows of one event.
-fn follow(level: &mut LocalLevel, notes: &mut Notes, event: LifeEvent)
+fn follow(level: &mut LocalLevel, notes: &mut ServiceState, event: LifeEvent)
     requires tallied { IsTallied level.old notes.old.tally }
     ensures tallied { IsTallied level.new notes.new.tally }
     ensures count { length level.new.places ≡ length level.old.places }
@@ -79,7 +79,7 @@ fn follow(level: &mut LocalLevel, notes: &mut Notes, event: LifeEvent)
 }
 
 /// What follows of these events, the oldest first.
-pub fn follow_all(level: &mut LocalLevel, notes: &mut Notes, log: &[LifeEvent])
+pub fn follow_all(level: &mut LocalLevel, notes: &mut ServiceState, log: &[LifeEvent])
     requires tallied { IsTallied level.old notes.old.tally }
     ensures tallied { IsTallied level.new notes.new.tally }
     ensures count { length level.new.places ≡ length level.old.places }

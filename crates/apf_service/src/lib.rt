@@ -1,6 +1,6 @@
 //! One level behind a pipe: takes a line of its protocol, carries it out, and writes the answer.
 //!
-//! - `tally`: the numbers of a level. `queues`: what each queue was given. `notes`: both, kept beside a level.
+//! - `tally`: the numbers of a level. `queues`: what each queue was given. `state`: both, kept beside a level.
 //! - `acting`: what the commands that change something do, and how that is counted.
 //! - `following`: what follows of the events of the queues.
 //! - `replies`: what a command is answered. `moves`: the lines of those who left a queue.
@@ -16,11 +16,11 @@ mod laws;
 mod lines;
 mod metrics;
 mod moves;
-mod notes;
 mod queues;
 mod replies;
 mod service;
 mod serving;
+mod state;
 mod tally;
 
 pub use laws::{every_request_is_counted, every_width_is_kept};

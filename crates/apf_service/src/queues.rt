@@ -2,9 +2,9 @@
 
 ghost use Rattle.std.specs.Prelude.{◌≡◌, IfOk};
 ghost use Rattle.apf_gate.specs.Slots.{coded_width};
-ghost use Rattle.apf_service.specs.Kept.{none_given, with_event};
+ghost use Rattle.apf_service.specs.Kept.{none_given, recharged, with_event};
 
-use apf_book::LifeEvent;
+use apf_book::{Charge, LifeEvent};
 use apf_gate::Ticket;
 use apf_protocol::Given;
 use std::alloc::{AllocError, Global};
@@ -33,6 +33,24 @@ pub fn width_of(request: Ticket) -> u32
 {
     let code = (request.number / 16384 % 32768) as u32;
     code.clamp(1, 20000)
+}
+
+/// A queue is charged this for a request in place of what it was charged for it.
+pub fn recharge(queues: &mut [Given], charge: Charge, took: u64)
+    ensures { queues.new ≡ recharged charge took queues.old }
+{
+    if (charge.queue as usize) < queues.len() {
+        let given = queues[charge.queue as usize];
+        queues[charge.queue as usize] = Given {
+            queue: given.queue,
+            waiting: given.waiting,
+            entered: given.entered,
+            service: given
+                .service
+                .saturating_sub(charge.amount)
+                .saturating_add(took),
+        };
+    }
 }
 
 /// One event more is counted of its queue, which is charged this by it.

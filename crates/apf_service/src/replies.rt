@@ -2,7 +2,7 @@
 
 ghost use Rattle.std.specs.Prelude.{◌≡◌, ◌++◌, OnOk};
 ghost use Rattle.std.specs.Io.KnownBytes.{Appends};
-ghost use Rattle.apf_service.specs.Replies.{told_alone, told_of_arrival, told_of_attempt, told_of_finish, told_of_cancel, told_of_close, refused_text, reply_text, moves_text};
+ghost use Rattle.apf_service.specs.Replies.{told_of_answer, told_of_arrival, told_of_attempt, told_of_finish, told_of_spent, told_of_cancel, told_of_close, refused_text, reply_text, moves_text};
 
 use crate::moves::write_moves;
 use apf_book::LifeEvent;
@@ -37,8 +37,8 @@ impl Refusal {
 }
 
 // An arrival that no event names.
-fn of_alone(slot: u32, answer: Answer) -> Result<Told, Refusal>
-    ensures { result ≡ told_alone slot answer }
+fn of_answer(slot: u32, answer: Answer) -> Result<Told, Refusal>
+    ensures { result ≡ told_of_answer slot answer }
 {
     match answer {
         Answer::Run => Ok(Told::Arrives(slot, Arrived::Decided(Decision::Execute))),
@@ -54,7 +54,7 @@ pub fn of_arrival(slot: u32, answer: Answer, event: Option<LifeEvent>) -> Result
     match event {
         Some(LifeEvent::Enter(_, queue)) => Ok(Told::Arrives(slot, Arrived::Queued(queue))),
         Some(LifeEvent::Full(_, queue)) => Ok(Told::Arrives(slot, Arrived::QueueFull(queue))),
-        _ => of_alone(slot, answer),
+        _ => of_answer(slot, answer),
     }
 }
 
@@ -77,6 +77,17 @@ pub fn of_finish(slot: u32, answer: Answer) -> Result<Told, Refusal>
     match answer {
         Answer::Released => Ok(Told::Finishes(slot)),
         _ => Ok(Told::NotRunning(slot)),
+    }
+}
+
+/// A time so far in this slot, whose request executes, or does not.
+pub fn of_spent(slot: u32, executes: bool) -> Result<Told, Refusal>
+    ensures { result ≡ told_of_spent slot executes }
+{
+    if executes {
+        Ok(Told::Spends(slot))
+    } else {
+        Ok(Told::SpendsNothing(slot))
     }
 }
 

@@ -9,21 +9,21 @@ ghost use Rattle.apf_protocol.specs.Lines.{words as words_of, request_in, IsHead
 ghost use Rattle.apf_protocol.specs.Commands.{IsCommandInRange};
 ghost use Rattle.apf_protocol.specs.Texts.{answer_text};
 ghost use Rattle.apf_service.specs.Tallies.{slots_of, IsTallyOf, IsTallied, no_tally};
-ghost use Rattle.apf_service.specs.Kept.{state_of, slot_in, is_there as there, is_there_at as there_at, none_given, queues_of, none_asked, FollowsAll};
+ghost use Rattle.apf_service.specs.Kept.{state_of, slot_in, is_there as there, is_there_at as there_at, none_given, settling_by, queues_of, none_asked, FollowsAll};
 ghost use Rattle.apf_charges.specs.Charging.{opening_charges};
 ghost use Rattle.apf_service.specs.Lines.{there_in, words_in, command_in, IsFaultOf, AreNewEvents, Tells, TellsBook, TellsMetrics, Obeys, Serves, given_text};
 
-use crate::acting::{arrive, attempt, cancel, close, finish, set_limit};
+use crate::acting::{arrive, attempt, cancel, close, finish, set_limit, spend};
 use crate::following::follow_all;
 use crate::metrics::write_metrics;
-use crate::notes::{Asked, Notes};
 use crate::queues::no_queues;
 use crate::replies::{Refusal, write_told};
+use crate::state::{Asked, ServiceState};
 use crate::tally::Tally;
 use apf_book::LifeEvent;
 use apf_charges::{ChargedBy, Charges};
 use apf_gate::Ticket;
-use apf_local::{LocalLevel, OpenFault, Place};
+use apf_local::{LocalLevel, OpenFault, Place, Settling};
 use apf_model::{Config, Response};
 use apf_protocol::{
     Answer as Told, Command, FaultKind, FirstLine, Form, Given, Head, LineFault, read_command,
@@ -38,7 +38,7 @@ use std::io::Write;
 #[derive(Drop)]
 pub struct Service {
     level: LocalLevel,
-    notes: Notes,
+    notes: ServiceState,
     room: Vec<LifeEvent>,
     config: Config,
     name: String,
@@ -67,6 +67,16 @@ fn write_queues<W: Write>(out: &mut W, queues: &[Given]) -> io::Result<()>
     Told::End.write(out)
 }
 
+// Whether what requests take is settled, by what they are charged.
+fn settling_of(by: ChargedBy) -> Settling
+    ensures { result ≡ settling_by by }
+{
+    match by {
+        ChargedBy::Time => Settling::Told,
+        ChargedBy::Seats => Settling::Never,
+    }
+}
+
 // Whether a slot at this place has a request that is there.
 fn has_request(place: Place) -> bool
     ensures { result ≡ there_at place }
@@ -91,19 +101,19 @@ impl Service {
         name: String,
         by: ChargedBy,
     ) -> Result<Service, OpenFault>
-        ensures opened { IfOk result (λ s. IsOpened config.now slots s.level) }
+        ensures opened { IfOk result (λ s. IsOpened config.now slots (settling_by by) s.level) }
         ensures none { IfOk result (λ s. (s.notes.tally ≡ no_tally) × (s.notes.queues.items ≡ none_given (queues_of config.now)) × (s.notes.seen ≡ 0)) }
         ensures charged { IfOk result (λ s. (s.notes.charges ≡ opening_charges by) × (s.notes.asked.items ≡ replicate slots none_asked)) }
         ensures config { IfOk result (λ s. s.config ≡ config.now) }
         ensures name { IfOk result (λ s. s.name ≡ name) }
         ensures fault { IfErr result (IsOpenFault config.now slots) }
     {
-        let level = LocalLevel::open(alloc, config, slots)?;
+        let level = LocalLevel::open_settling(alloc, config, slots, settling_of(by))?;
         let queues = match config.limit_response {
             Response::Queue => config.queues,
             Response::Reject => 0,
         };
-        let notes = Notes {
+        let notes = ServiceState {
             tally: Tally::none(),
             queues: no_queues(alloc, queues)?,
             seen: 0,
@@ -164,7 +174,7 @@ impl Service {
         ensures err { IfErr result (λ kind. words_in (state_of self.now.level self.now.notes) line.now ≡ Err kind) }
     {
         let form = read_form(line, self.level.slots() as u32)?;
-        match form.head.there_fault(self.is_there_under(form.head)) {
+        match form.head.occupancy_fault(self.is_there_under(form.head)) {
             Some(kind) => Err(kind),
             None => Ok(form),
         }
@@ -266,6 +276,7 @@ impl Service {
                 attempt(&mut self.level, &mut self.notes, slot, arrival)
             }
             Command::Finish(slot, ran) => finish(&mut self.level, &mut self.notes, slot, ran),
+            Command::Spent(slot, ran) => spend(&mut self.level, &mut self.notes, slot, ran),
             Command::Cancel(slot) => cancel(&mut self.level, &self.notes, slot),
             Command::Limit(limit) => set_limit(&mut self.level, &self.notes, limit),
             Command::Close => close(&mut self.level, &self.notes),

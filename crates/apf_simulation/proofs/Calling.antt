@@ -107,7 +107,7 @@ call_due trace u v s d tied step due turn low =
     subst (λ (w : CalendarView). IsCallDue trace d w s) (sym step.1) (record {
       others = record {
         all = n ∙ tied.all;
-        count = record { places = tied.count.places ∙ sym n; passes = tied.count.passes ∙ sym n; decisions = tied.count.decisions ∙ sym n; queues = tied.count.queues ∙ sym n };
+        count = record { places = tied.count.places ∙ sym n; passes = tied.count.passes ∙ sym n; decisions = tied.count.decisions ∙ sym n; queues = tied.count.queues ∙ sym n; costs = tied.count.costs ∙ sym n };
         inside = omega (arith, low, n);
         others = λ i b ne c h. subst (λ (x : Course). Follows trace u.patience d.at i x (held_at s i h)) (sym (updated_other (marked d.kind) d.request i u.courses c ne))
             (later trace u.patience u.time d i (get_or u.courses i c) (held_at s i h) (turn i c (omega (arith, b, n))) (tied.each i (omega (arith, b, n)) c h));

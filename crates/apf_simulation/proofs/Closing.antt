@@ -1,5 +1,5 @@
 -- A level whose requests are all over has ended.
-use Rattle.std.proofs.Common.{◌≡◌, ℕ, List, Option, sym, ◌∙◌, subst}
+use Rattle.std.proofs.Common.{◌≡◌, List, sym, ◌∙◌, subst}
 use Rattle.apf_flow.specs.Sizes.{Sizes}
 use Rattle.apf_book.specs.Life.{LifeView}
 use Rattle.apf_book.specs.LifeBook.{IsLifeKept}
@@ -8,16 +8,16 @@ use Rattle.apf_line.specs.Levels.{LifeId}
 use Rattle.apf_line.specs.Reports.{EndedAs}
 use Rattle.apf_local.specs.Levels.{LocalView, id_of}
 use Rattle.apf_traces.specs.declared.request.TraceRequest.{TraceRequest}
-use Rattle.apf_simulation.specs.Logs.{IsLogged, LogsOn}
+use Rattle.apf_simulation.specs.Logs.{IsLogged, LogsOn, Noted}
 use Rattle.apf_simulation.specs.Runs.{EndsBy}
 use Rattle.apf_simulation.specs.Slots.{IsSame}
 
 same_id : (opened last : LocalView) (v w : LifeView) → IsSame opened last → IsLifeKept v opened.owner.book → IsLifeKept w last.owner.book → w.limit ≡ v.limit → id_of last ≡ id_of opened
 same_id opened last v w same kept now limit =
     let queues = now.of_life.limit ∙ (limit ∙ sym kept.of_life.limit) in
-    (λ i. record { gate = same.gate i; sizes = same.sizes i; queue_limit = queues i })
+    (λ i. record { gate = same.gate i; sizes = same.sizes i; queue_limit = queues i; settles = same.settles i })
 
-pub ends_by : (trace : List TraceRequest) (opened last : LocalView) (q0 q1 : List (Option ℕ)) (r : Report) → IsSame opened last → LogsOn trace opened q0 last q1
+pub ends_by : (trace : List TraceRequest) (opened last : LocalView) (q0 q1 : Noted) (r : Report) → IsSame opened last → LogsOn trace opened q0 last q1
     → ((v : LifeView) → IsLifeKept v opened.owner.book → IsLogged trace opened.sizes q0 v)
     → ((v : LifeView) → IsLifeKept v last.owner.book → EndedAs (id_of last) v last.owner.passes last.owner.stations r)
     → (v : LifeView) → IsLifeKept v opened.owner.book → EndsBy trace opened last q1 r v

@@ -49,7 +49,7 @@ module _ (trace : List TraceRequest) (v : CalendarView) (s : Slots) (tied : AreT
     pub are_free : All (λ (p : Place). p ≡ places.Free) s.places
     are_free = λ i p at.
         let low : i < length v.courses = (let n = tied.count.places in omega (arith, at, n)) in
-        (settled i no_course (record { place = p; token = token i low; decision = Execute; queue = None }) low).0
+        (settled i no_course (record { place = p; token = token i low; decision = Execute; queue = None; cost = 0 }) low).0
 
     pub are_decided : AreDecidedAs v.patience v.courses s.decisions
     are_decided i c low =
@@ -73,7 +73,7 @@ module _ (trace : List TraceRequest) (v : CalendarView) (s : Slots) (tied : AreT
   endless i p at waits =
       let low : i < length v.courses = (let n = tied.count.places in omega (arith, at, n)) in
       let t = (some_at s.passes i (let n = tied.count.passes in omega (arith, low, n))).0 in
-      let is = (tied.each i low no_course (record { place = p; token = t; decision = Execute; queue = None })).patient.waits waits in
+      let is = (tied.each i low no_course (record { place = p; token = t; decision = Execute; queue = None; cost = 0 })).patient.waits waits in
       eqb-true v.patience 0 (sym is ∙ (over_at i v.courses no_course low over).patience_over)
 
 -- what became of each request honours its decision

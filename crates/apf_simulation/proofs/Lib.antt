@@ -10,6 +10,7 @@ pub mod Timely
 pub mod Ordered
 pub mod Tying
 pub mod Logging
+pub mod Charging
 pub mod Arriving
 pub mod Calling
 pub mod Operating

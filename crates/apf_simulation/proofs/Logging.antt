@@ -1,6 +1,6 @@
 -- A history of the level goes on with the requests of the trace.
 use Rattle.std.proofs.Common.{◌≡◌, ◌≢◌, ◌⊎◌, ◌==◌, ◌||◌, ℕ, zero, suc, ◌%◌, ◌<◌, ◌≤◌, true, false, List, [], ◌∷◌, ◌++◌, length, get_or, set, Option, Some, None, refl, sym, ap, ◌∙◌, subst, inl, inr, arith, if◌then◌else◌}
-use Rattle.std.specs.Prelude.{slice_get, Contains, Bool}
+use Rattle.std.specs.Prelude.{slice_get, Contains, Bool, not}
 use Rattle.std.proofs.lemmas.Bool.{cases_eq, eqb-true, ne_eqb}
 use Rattle.std.proofs.lemmas.Bool.Decides.{nat_tests}
 use Rattle.std.proofs.lemmas.List.{get_or-set_same, get_or-set_other, length-set, set-get_or}
@@ -22,8 +22,8 @@ use Rattle.apf_book.specs.Servings.{AreServings}
 use Rattle.apf_local.specs.declared.admitting.Admitted.{Admitted}
 use Rattle.apf_local.specs.Levels.{LocalView, SameLocal, GoesOn, LogsIn}
 use Rattle.apf_traces.specs.declared.request.TraceRequest.{TraceRequest}
-use Rattle.apf_simulation.specs.Logs.{IsLogged, LogsFrom, LogsOn, queue_in}
-use Rattle.apf_simulation.specs.Slots.{IsSame, number_of, hash_at, cost_at, width_at}
+use Rattle.apf_simulation.specs.Logs.{IsLogged, LogsFrom, LogsOn, Noted, queue_in}
+use Rattle.apf_simulation.specs.Slots.{IsSame, number_of, hash_at, width_at}
 
 -- Dispatches and Strikes say of nobody that it arrived or entered
 arrived_then : (events h : List Event) (n : ℕ) → AreServings events → has_arrived (events ++ h) n ≡ has_arrived h n
@@ -71,17 +71,36 @@ own_number trace i r a b e =
     sym (own_slot i (omega (arith, a))) ∙ (sym one ∙ (ap slot_of e ∙ (other ∙ own_slot r (omega (arith, b)))))
 
 module _ (trace : List TraceRequest) (sizes : Sizes) where
-  pub serves : (queues : List (Option ℕ)) (v : LifeView) (events : List Event) → AreServings events → IsLogged trace sizes queues v → IsLogged trace sizes queues (then_came_all events v)
-  serves queues v events are is = record {
+  pub serves : (notes : Noted) (v : LifeView) (events : List Event) → AreServings events → IsLogged trace sizes notes v → IsLogged trace sizes notes (then_came_all events v)
+  serves notes v events are is = record {
     entered = λ r q at. Contains-append_right events v.history (Enter (number_of trace r) q) (is.entered r q at);
     noted = λ n q in_all. is.noted n q (entered_then events v.history n q are in_all);
     hand = λ r low came. is.hand r low (sym (arrived_then events v.history (number_of trace r) are) ∙ came);
     cost = λ r low came. is.cost r low (sym (arrived_then events v.history (number_of trace r) are) ∙ came);
+    some_cost = λ r low came. is.some_cost r low (sym (arrived_then events v.history (number_of trace r) are) ∙ came);
   }
 
+  -- whoever has no cost did not arrive
+  not_came : (notes : Noted) (v : LifeView) (r : ℕ) → r < length notes.queues → get_or notes.costs r 0 ≡ 0 → IsLogged trace sizes notes v → has_arrived v.history (number_of trace r) ≡ true → ⊥
+  not_came notes v r low none is came = (let some = is.some_cost r low came in omega (arith, some, none))
+
+  -- a request that did not arrive is given a cost
+  pub costs_one : (queues : List (Option ℕ)) (costs : List ℕ) (v : LifeView) (r cost : ℕ) → r < length queues → get_or costs r 0 ≡ 0
+      → IsLogged trace sizes (record { queues = queues; costs = costs }) v → IsLogged trace sizes (record { queues = queues; costs = set costs r cost }) v
+  costs_one queues costs v r cost inside none is =
+      let there : (i : ℕ) → has_arrived v.history (number_of trace i) ≡ true → i ≢ r = (λ i came same. not_came (record { queues = queues; costs = costs }) v r inside none is (subst (λ (k : ℕ). has_arrived v.history (number_of trace k) ≡ true) same came)) in
+      let as_was : (i : ℕ) → has_arrived v.history (number_of trace i) ≡ true → get_or (set costs r cost) i 0 ≡ get_or costs i 0 = (λ i came. get_or-set_other costs r i cost 0 (there i came)) in
+      record {
+        entered = is.entered;
+        noted = is.noted;
+        hand = is.hand;
+        cost = λ i low came. is.cost i low came ∙ sym (as_was i came);
+        some_cost = λ i low came. subst (λ (k : ℕ). 1 ≤ k) (sym (as_was i came)) (is.some_cost i low came);
+      }
+
   -- the request r arrives
-  module _ (queues : List (Option ℕ)) (v : LifeView) (r n cost : ℕ) (hand : List ℕ) (few : length queues ≤ max_requests) (inside : r < length queues) (number : n ≡ number_of trace r)
-      (hand_is : hand ≡ hand_of sizes (hash_at trace r)) (cost_is : cost ≡ cost_at trace r) (there : n < length v.costs) (is : IsLogged trace sizes queues v) where
+  module _ (queues : List (Option ℕ)) (costs : List ℕ) (v : LifeView) (r n cost : ℕ) (hand : List ℕ) (few : length queues ≤ max_requests) (inside : r < length queues) (number : n ≡ number_of trace r)
+      (hand_is : hand ≡ hand_of sizes (hash_at trace r)) (some : 1 ≤ cost) (noting : r < length costs) (there : n < length v.costs) (is : IsLogged trace sizes (record { queues = queues; costs = costs }) v) where
     arrived_one : (b : Bool) (i m : ℕ) → (m == i) ≡ b → (b || has_arrived v.history i) ≡ true → (m ≡ i) ⊎ (has_arrived v.history i ≡ true)
     arrived_one true i m test came = inl (eqb-true m i test)
     arrived_one false i m test came = inr came
@@ -96,18 +115,33 @@ module _ (trace : List TraceRequest) (sizes : Sizes) where
           ])
     ]
 
-    cost_here : (i : ℕ) → i < length queues → ((n == number_of trace i) || has_arrived v.history (number_of trace i)) ≡ true → width (set v.costs n cost) (number_of trace i) ≡ cost_at trace i
+    noted_here : (i : ℕ) → i ≡ r → get_or (set costs r cost) i 0 ≡ cost
+    noted_here i same = ap (λ (k : ℕ). get_or (set costs r cost) k 0) same ∙ get_or-set_same costs r cost 0 noting
+
+    cost_here : (i : ℕ) → i < length queues → ((n == number_of trace i) || has_arrived v.history (number_of trace i)) ≡ true → width (set v.costs n cost) (number_of trace i) ≡ get_or (set costs r cost) i 0
     cost_here i low came = elim (cases_eq i r) [
-      | inl same ↦ ap (λ (k : ℕ). width (set v.costs n cost) k) (ap (number_of trace) same ∙ sym number) ∙ (get_or-set_same v.costs n cost 0 there ∙ (cost_is ∙ ap (cost_at trace) (sym same)))
+      | inl same ↦ ap (λ (k : ℕ). width (set v.costs n cost) k) (ap (number_of trace) same ∙ sym number) ∙ (get_or-set_same v.costs n cost 0 there ∙ sym (noted_here i same))
       | inr other ↦ (let ne : number_of trace i ≢ n = (λ e. other (own_number trace i r (omega (arith, low)) (omega (arith, inside)) (e ∙ number))) in
-          get_or-set_other v.costs n (number_of trace i) cost 0 ne ∙ elim (arrived_one (n == number_of trace i) (number_of trace i) n refl came) [
+          let was : width v.costs (number_of trace i) ≡ get_or costs i 0 = elim (arrived_one (n == number_of trace i) (number_of trace i) n refl came) [
             | inl e ↦ absurd (ne (sym e))
             | inr before ↦ is.cost i low before
-          ])
+          ] in
+          get_or-set_other v.costs n (number_of trace i) cost 0 ne ∙ (was ∙ sym (get_or-set_other costs r i cost 0 other)))
+    ]
+
+    some_here : (i : ℕ) → i < length queues → ((n == number_of trace i) || has_arrived v.history (number_of trace i)) ≡ true → 1 ≤ get_or (set costs r cost) i 0
+    some_here i low came = elim (cases_eq i r) [
+      | inl same ↦ subst (λ (k : ℕ). 1 ≤ k) (sym (noted_here i same)) some
+      | inr other ↦ (let ne : number_of trace i ≢ n = (λ e. other (own_number trace i r (omega (arith, low)) (omega (arith, inside)) (e ∙ number))) in
+          let was : 1 ≤ get_or costs i 0 = elim (arrived_one (n == number_of trace i) (number_of trace i) n refl came) [
+            | inl e ↦ absurd (ne (sym e))
+            | inr before ↦ is.some_cost i low before
+          ] in
+          subst (λ (k : ℕ). 1 ≤ k) (sym (get_or-set_other costs r i cost 0 other)) was)
     ]
 
     -- and finds its queue full
-    pub when_full : (q : ℕ) → IsLogged trace sizes queues (then_came (asked v n hand cost) (Full n q))
+    pub when_full : (q : ℕ) → IsLogged trace sizes (record { queues = queues; costs = set costs r cost }) (then_came (asked v n hand cost) (Full n q))
     when_full q = record {
       entered = λ i p at. or_other (Full n q) (Enter (number_of trace i) p) v.history (is.entered i p at);
       noted = λ m p in_all. elim (first_or (Full n q) (Enter m p) v.history in_all) [
@@ -116,6 +150,7 @@ module _ (trace : List TraceRequest) (sizes : Sizes) where
       ];
       hand = hand_at;
       cost = cost_here;
+      some_cost = some_here;
     }
 
     some_is : (a b : ℕ) → ◌≡◌ {A = Option (Option ℕ)} (Some (Some a)) (Some (Some b)) → a ≡ b
@@ -134,7 +169,7 @@ module _ (trace : List TraceRequest) (sizes : Sizes) where
     same_enter m p q e = (cc, cc)
 
     -- or enters it
-    pub when_enters : (q : ℕ) → get_or queues r None ≡ None → IsLogged trace sizes (set queues r (Some q)) (then_came (asked v n hand cost) (Enter n q))
+    pub when_enters : (q : ℕ) → get_or queues r None ≡ None → IsLogged trace sizes (record { queues = set queues r (Some q); costs = set costs r cost }) (then_came (asked v n hand cost) (Enter n q))
     when_enters q none = record {
       entered = λ i p at. elim (cases_eq i r) [
         | inl same ↦ (let e : p ≡ q = some_is p q (sym (subst (λ (k : ℕ). slice_get (set queues r (Some q)) k ≡ Some (Some p)) same at) ∙ set_here q) in
@@ -150,6 +185,7 @@ module _ (trace : List TraceRequest) (sizes : Sizes) where
       ];
       hand = λ i low. hand_at i (let w = length-set queues r (Some q) in omega (arith, low, w));
       cost = λ i low. cost_here i (let w = length-set queues r (Some q) in omega (arith, low, w));
+      some_cost = λ i low. some_here i (let w = length-set queues r (Some q) in omega (arith, low, w));
     }
       where
         none_some : (p : ℕ) → ◌≡◌ {A = Option ℕ} None (Some p) → ⊥
@@ -159,22 +195,30 @@ module _ (trace : List TraceRequest) (sizes : Sizes) where
 same_queues : (queues : List (Option ℕ)) (r : ℕ) → get_or queues r None ≡ None → set queues r None ≡ queues
 same_queues queues r none = ap (λ (o : Option ℕ). set queues r o) (sym none) ∙ set-get_or queues r None
 
-module _ (trace : List TraceRequest) (l l' : LocalView) (queues : List (Option ℕ)) (same : SameLocal l l') where
-  from_events : (v w : LifeView) (queues' : List (Option ℕ)) → w.limit ≡ v.limit → IsLogged trace l.sizes queues' w → GoesOn w l'.owner.book → LogsFrom trace v l' queues'
-  from_events v w queues' limit is on = record {
+module _ (trace : List TraceRequest) (l l' : LocalView) (notes : Noted) (same : SameLocal l l') where
+  from_events : (v w : LifeView) (notes' : Noted) → w.limit ≡ v.limit → IsLogged trace l.sizes notes' w → GoesOn w l'.owner.book → LogsFrom trace v l' notes'
+  from_events v w notes' limit is on = record {
     view = then_came_all on.events w;
     kept = on.kept;
-    logged = subst (λ (x : Sizes). IsLogged trace x queues' (then_came_all on.events w)) (sym same.sizes) (serves trace l.sizes queues' w on.events on.servings is);
+    logged = subst (λ (x : Sizes). IsLogged trace x notes' (then_came_all on.events w)) (sym same.sizes) (serves trace l.sizes notes' w on.events on.servings is);
     limit = limit;
   }
 
   -- nobody arrives
-  pub on : ((v : LifeView) → IsLifeKept v l.owner.book → GoesOn v l'.owner.book) → LogsOn trace l queues l' queues
+  pub on : ((v : LifeView) → IsLifeKept v l.owner.book → GoesOn v l'.owner.book) → LogsOn trace l notes l' notes
   unfolding LogsOn
-  on goes v kept is = from_events v v queues refl is (goes v kept)
+  on goes v kept is = from_events v v notes refl is (goes v kept)
 
   -- a request arrives
-  module _ (r n : ℕ) (few : length queues ≤ max_requests) (inside : r < length queues) (number : n ≡ number_of trace r) (none : get_or queues r None ≡ None) where
+  module _ (r n : ℕ) (few : length notes.queues ≤ max_requests) (inside : r < length notes.queues) (noting : r < length notes.costs) (number : n ≡ number_of trace r) (none : get_or notes.queues r None ≡ None)
+      (no_cost : get_or notes.costs r 0 ≡ 0) where
+    abbrev after : (cost : ℕ) → Option ℕ → Noted
+    after cost q = record { queues = set notes.queues r q; costs = set notes.costs r cost }
+
+    -- what is noted if it entered no queue
+    after_none : (cost : ℕ) → after cost None ≡ record { queues = notes.queues; costs = set notes.costs r cost }
+    after_none cost = ap (λ (xs : List (Option ℕ)). record { queues = xs; costs = set notes.costs r cost }) (same_queues notes.queues r none)
+
     first_named : (events h : List Event) (e : Event) (m k q : ℕ) → NamesRequests k (events ++ e ∷ h) → e ≡ Enter m q → m < k
     first_named [] h e m k q names is = (subst (λ (x : Event). NamesRequests k (x ∷ h)) is names).0
     first_named (x ∷ events) h e m k q names is = first_named events h e m k q names.1 is
@@ -183,34 +227,39 @@ module _ (trace : List TraceRequest) (l l' : LocalView) (queues : List (Option �
     first_full [] h e m k q names is = (subst (λ (x : Event). NamesRequests k (x ∷ h)) is names).0
     first_full (x ∷ events) h e m k q names is = first_full events h e m k q names.1 is
 
-    by_event : (hand : List ℕ) (cost : ℕ) (answer : Admitted) (event : Option LifeEvent) (v : LifeView) → hand ≡ hand_of l.sizes (hash_at trace r) → cost ≡ cost_at trace r
-        → IsLogged trace l.sizes queues v → LogsIn v n hand cost answer event l'.owner.book → LogsFrom trace v l' (set queues r (queue_in event))
-    by_event hand cost answer None v h c is logs = subst (λ (xs : List (Option ℕ)). LogsFrom trace v l' xs) (sym (same_queues queues r none)) (from_events v v queues refl is logs.2)
-    by_event hand cost answer (Some (life.Enter t q)) v h c is logs =
+    by_event : (hand : List ℕ) (cost : ℕ) (answer : Admitted) (event : Option LifeEvent) (v : LifeView) → hand ≡ hand_of l.sizes (hash_at trace r) → 1 ≤ cost
+        → IsLogged trace l.sizes notes v → LogsIn v n hand cost answer event l'.owner.book → LogsFrom trace v l' (after cost (queue_in event))
+    by_event hand cost answer None v h some is logs =
+        subst (λ (x : Noted). LogsFrom trace v l' x) (sym (after_none cost))
+        (from_events v v (record { queues = notes.queues; costs = set notes.costs r cost }) refl (costs_one trace l.sizes notes.queues notes.costs v r cost inside no_cost is) logs.2)
+    by_event hand cost answer (Some (life.Enter t q)) v h some is logs =
         let on = logs.2 in
         let same_n : t.number ≡ n = logs.0.0 in
         let low : t.number < length (set v.costs n cost) = first_named on.events v.history (Enter t.number q) t.number _ q on.kept.of_life.names_requests refl in
         let there : n < length v.costs = (let w = length-set v.costs n cost in omega (arith, low, same_n, w)) in
-        from_events v (then_came (asked v n hand cost) (Enter t.number q)) (set queues r (Some q)) refl
-        (subst (λ (k : ℕ). IsLogged trace l.sizes (set queues r (Some q)) (then_came (asked v n hand cost) (Enter k q))) (sym same_n) (when_enters trace l.sizes queues v r n cost hand few inside number h c there is q none)) on
-    by_event hand cost answer (Some (life.Full t q)) v h c is logs =
+        from_events v (then_came (asked v n hand cost) (Enter t.number q)) (after cost (Some q)) refl
+        (subst (λ (k : ℕ). IsLogged trace l.sizes (after cost (Some q)) (then_came (asked v n hand cost) (Enter k q))) (sym same_n)
+        (when_enters trace l.sizes notes.queues notes.costs v r n cost hand few inside number h some noting there is q none)) on
+    by_event hand cost answer (Some (life.Full t q)) v h some is logs =
         let on = logs.2 in
         let same_n : t.number ≡ n = logs.0.0 in
         let low : t.number < length (set v.costs n cost) = first_full on.events v.history (Full t.number q) t.number _ q on.kept.of_life.names_requests refl in
         let there : n < length v.costs = (let w = length-set v.costs n cost in omega (arith, low, same_n, w)) in
-        subst (λ (xs : List (Option ℕ)). LogsFrom trace v l' xs) (sym (same_queues queues r none))
-        (from_events v (then_came (asked v n hand cost) (Full t.number q)) queues refl
-        (subst (λ (k : ℕ). IsLogged trace l.sizes queues (then_came (asked v n hand cost) (Full k q))) (sym same_n) (when_full trace l.sizes queues v r n cost hand few inside number h c there is q)) on)
-    by_event hand cost answer (Some (life.Dispatch t q)) v h c is logs = absurd logs.0
-    by_event hand cost answer (Some (life.Strike t q)) v h c is logs = absurd logs.0
+        let noted : Noted = record { queues = notes.queues; costs = set notes.costs r cost } in
+        subst (λ (x : Noted). LogsFrom trace v l' x) (sym (after_none cost))
+        (from_events v (then_came (asked v n hand cost) (Full t.number q)) noted refl
+        (subst (λ (k : ℕ). IsLogged trace l.sizes noted (then_came (asked v n hand cost) (Full k q))) (sym same_n)
+        (when_full trace l.sizes notes.queues notes.costs v r n cost hand few inside number h some noting there is q)) on)
+    by_event hand cost answer (Some (life.Dispatch t q)) v h some is logs = absurd logs.0
+    by_event hand cost answer (Some (life.Strike t q)) v h some is logs = absurd logs.0
 
-    pub arrives : (hand : List ℕ) (cost : ℕ) (answer : Admitted) (event : Option LifeEvent) → hand ≡ hand_of l.sizes (hash_at trace r) → cost ≡ cost_at trace r
-        → ((v : LifeView) → IsLifeKept v l.owner.book → LogsIn v n hand cost answer event l'.owner.book) → LogsOn trace l queues l' (set queues r (queue_in event))
+    pub arrives : (hand : List ℕ) (cost : ℕ) (answer : Admitted) (event : Option LifeEvent) → hand ≡ hand_of l.sizes (hash_at trace r) → 1 ≤ cost
+        → ((v : LifeView) → IsLifeKept v l.owner.book → LogsIn v n hand cost answer event l'.owner.book) → LogsOn trace l notes l' (after cost (queue_in event))
     unfolding LogsOn
-    arrives hand cost answer event h c goes v kept is = by_event hand cost answer event v h c is (goes v kept)
+    arrives hand cost answer event h some goes v kept is = by_event hand cost answer event v h some is (goes v kept)
 
 -- one stretch after another
-pub on_then : (trace : List TraceRequest) (a b c : LocalView) (qa qb qc : List (Option ℕ)) → LogsOn trace a qa b qb → LogsOn trace b qb c qc → LogsOn trace a qa c qc
+pub on_then : (trace : List TraceRequest) (a b c : LocalView) (qa qb qc : Noted) → LogsOn trace a qa b qb → LogsOn trace b qb c qc → LogsOn trace a qa c qc
 unfolding LogsOn
 on_then trace a b c qa qb qc first second v kept is =
     let one = first v kept is in
@@ -218,16 +267,16 @@ on_then trace a b c qa qb qc first second v kept is =
     record { view = two.view; kept = two.kept; logged = two.logged; limit = two.limit ∙ one.limit }
 
 -- nothing was done
-pub stays : (trace : List TraceRequest) (l : LocalView) (queues : List (Option ℕ)) → LogsOn trace l queues l queues
+pub stays : (trace : List TraceRequest) (l : LocalView) (notes : Noted) → LogsOn trace l notes l notes
 unfolding LogsOn
-stays trace l queues v kept is = record { view = v; kept = kept; logged = is; limit = refl }
+stays trace l notes v kept is = record { view = v; kept = kept; logged = is; limit = refl }
 
 -- the same level
 pub same_of : (a b : LocalView) → SameLocal a b → IsSame a b
-same_of a b same = record { gate = same.owner.gate; sizes = same.sizes }
+same_of a b same = record { gate = same.owner.gate; sizes = same.sizes; settles = ap (λ (n : ℕ). not (n == 0)) same.owner.book.places }
 
 pub same_then : (a b c : LocalView) → IsSame a b → IsSame b c → IsSame a c
-same_then a b c first second = record { gate = second.gate ∙ first.gate; sizes = second.sizes ∙ first.sizes }
+same_then a b c first second = record { gate = second.gate ∙ first.gate; sizes = second.sizes ∙ first.sizes; settles = second.settles ∙ first.settles }
 
 pub same_as : (a : LocalView) → IsSame a a
-same_as a = record { gate = refl; sizes = refl }
+same_as a = record { gate = refl; sizes = refl; settles = refl }

@@ -14,6 +14,7 @@ use Rattle.apf_book.specs.LifeBook.{IsLifeKept}
 use Rattle.apf_local.specs.declared.answer.Place.{Place}
 use Rattle.apf_local.specs.declared.answer.Place.TheVariants as places
 use Rattle.apf_local.specs.Levels.{LocalView}
+use Rattle.apf_book.specs.declared.settling.Settling.TheVariants.{Never}
 use Rattle.apf_local.specs.Openings.{IsOpened}
 use Rattle.apf_times.specs.declared.course.Course.{Course}
 use Rattle.apf_times.specs.declared.course.Times.{Times}
@@ -21,7 +22,7 @@ use Rattle.apf_times.specs.Calendars.{awaited, opening}
 use Rattle.apf_times.specs.Views.{CalendarView}
 use Rattle.apf_traces.specs.declared.request.TraceRequest.{TraceRequest}
 use Rattle.apf_simulation.specs.declared.notes.Notes.{Notes}
-use Rattle.apf_simulation.specs.Logs.{IsLogged}
+use Rattle.apf_simulation.specs.Logs.{IsLogged, noted_of}
 use Rattle.apf_simulation.specs.Slots.{held_at, slots_of}
 use Rattle.apf_simulation.specs.Ties.{AreAwaited, AreTied, IsAwaited, StandsAt}
 
@@ -43,7 +44,7 @@ none_noted zero i q e = cc
 none_noted (suc n) zero q e = cc
 none_noted (suc n) (suc i) q e = none_noted n i q e
 
-module _ (config : Config) (n : ℕ) (l : LocalView) (notes : Notes) (opened : IsOpened config n l) (decisions : notes.decisions.items ≡ replicate n Execute) (queues : notes.queues.items ≡ replicate n None) where
+module _ (config : Config) (n : ℕ) (l : LocalView) (notes : Notes) (opened : IsOpened config n Never l) (decisions : notes.decisions.items ≡ replicate n Execute) (queues : notes.queues.items ≡ replicate n None) (costs : notes.costs.items ≡ replicate n 0) where
   pub tied_new : (trace : List TraceRequest) (v : CalendarView) → length v.courses ≡ n → length trace ≡ n → AreAwaited v → AreTied trace v (slots_of l notes)
   tied_new trace v many all awaited = record {
     all = many ∙ sym all;
@@ -52,6 +53,7 @@ module _ (config : Config) (n : ℕ) (l : LocalView) (notes : Notes) (opened : I
       passes = opened.owner.all_passes ∙ sym many;
       decisions = ap (λ (xs : List Decision). length xs) decisions ∙ (length-replicate n Execute ∙ sym many);
       queues = ap (λ (xs : List (Option ℕ)). length xs) queues ∙ (length-replicate n None ∙ sym many);
+      costs = ap (λ (xs : List ℕ). length xs) costs ∙ (length-replicate n 0 ∙ sym many);
     };
     each = λ i low c h.
         let is = awaited i c low in
@@ -68,6 +70,7 @@ module _ (config : Config) (n : ℕ) (l : LocalView) (notes : Notes) (opened : I
               number = opened.owner.numbered i (get_or l.owner.passes i h.token) (slice_get-get_or l.owner.passes i h.token at_pass);
               untold = ap (λ (xs : List Decision). get_or xs i h.decision) decisions ∙ get_replicate n i Execute h.decision inside;
               no_queue = ap (λ (xs : List (Option ℕ)). get_or xs i h.queue) queues ∙ get_replicate n i None h.queue inside;
+              no_cost = ap (λ (xs : List ℕ). get_or xs i h.cost) costs ∙ get_replicate n i 0 h.cost inside;
             },
           ));
           patient = record { away = λ e. is.patient; waits = λ e. is.patient };
@@ -81,7 +84,7 @@ module _ (config : Config) (n : ℕ) (l : LocalView) (notes : Notes) (opened : I
   came_none : (h : List Event) (m : ℕ) → h ≡ [] → has_arrived h m ≡ true → ⊥
   came_none h m none came = true≢false (sym came ∙ ap (λ (xs : List Event). has_arrived xs m) none)
 
-  pub logged_new : (trace : List TraceRequest) (v : LifeView) → IsLifeKept v l.owner.book → IsLogged trace l.sizes notes.queues.items v
+  pub logged_new : (trace : List TraceRequest) (v : LifeView) → IsLifeKept v l.owner.book → IsLogged trace l.sizes (noted_of notes) v
   logged_new trace v kept =
       let none = opened.owner.blank v kept in
       record {
@@ -89,4 +92,5 @@ module _ (config : Config) (n : ℕ) (l : LocalView) (notes : Notes) (opened : I
         noted = λ m q in_all. absurd (nothing_in v.history (Enter m q) none in_all);
         hand = λ r low came. absurd (came_none v.history _ none came);
         cost = λ r low came. absurd (came_none v.history _ none came);
+        some_cost = λ r low came. absurd (came_none v.history _ none came);
       }

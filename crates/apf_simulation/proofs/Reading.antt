@@ -32,13 +32,13 @@ cancelled_not e = cc
 module _ (trace : List TraceRequest) (r : ℕ) (u : CalendarView) (l l' : LocalView) (n : Notes) (but : AreTiedBut trace r u (slots_of l n)) where
   -- what its slot holds then, with its notes as they were
   abbrev new_slot : PassToken → Place → Decision → Held
-  new_slot t p d = record { place = p; token = t; decision = d; queue = get_or n.queues.items r None }
+  new_slot t p d = record { place = p; token = t; decision = d; queue = get_or n.queues.items r None; cost = get_or n.costs.items r 0 }
 
   abbrev slots' : List Decision → Slots
-  slots' ds = record { places = l'.places; passes = l'.owner.passes; decisions = ds; queues = n.queues.items }
+  slots' ds = record { places = l'.places; passes = l'.owner.passes; decisions = ds; queues = n.queues.items; costs = n.costs.items }
 
   calls : (t : PassToken) (p : Place) (d : Decision) (ds : List Decision) → l'.owner.passes ≡ set l.owner.passes r t → l'.places ≡ set l.places r p → ds ≡ set n.decisions.items r d → CallsOne r (slots_of l n) (slots' ds) (new_slot t p d)
-  calls t p d ds e1 e0 e2 = calls_one r (slots_of l n) (slots' ds) u (new_slot t p d) but.count but.inside e0 e1 e2 (sym (set-get_or n.queues.items r None))
+  calls t p d ds e1 e0 e2 = calls_one r (slots_of l n) (slots' ds) u (new_slot t p d) but.count but.inside e0 e1 e2 (sym (set-get_or n.queues.items r None)) (sym (set-get_or n.costs.items r 0))
 
   same_decisions : n.decisions.items ≡ set n.decisions.items r (get_or n.decisions.items r Execute)
   same_decisions = sym (set-get_or n.decisions.items r Execute)
@@ -137,4 +137,4 @@ gives_up_still trace r u s p at ne but owes = whole trace r u s but (λ c h. (le
 
 -- the slots are those of before
 pub same_slots : (l l' : LocalView) (n : Notes) → SlotsStay l l' → slots_of l' n ≡ slots_of l n
-same_slots l l' n stay = (λ i. record { places = stay.places i; passes = stay.passes i; decisions = n.decisions.items; queues = n.queues.items })
+same_slots l l' n stay = (λ i. record { places = stay.places i; passes = stay.passes i; decisions = n.decisions.items; queues = n.queues.items; costs = n.costs.items })

@@ -56,31 +56,37 @@ pub record CallsOne (r : ℕ) (s s' : Slots) (new : InSlot) : Type 0 where
   pub passes : length s'.passes ≡ length s.passes
   pub decisions : length s'.decisions ≡ length s.decisions
   pub queues : length s'.queues ≡ length s.queues
+  pub costs : length s'.costs ≡ length s.costs
 
 pub calls_one : (r : ℕ) (s s' : Slots) (v : CalendarView) (new : InSlot) → AreAsMany v s → r < length v.courses
-    → s'.places ≡ set s.places r new.place → s'.passes ≡ set s.passes r new.token → s'.decisions ≡ set s.decisions r new.decision → s'.queues ≡ set s.queues r new.queue → CallsOne r s s' new
-calls_one r s s' v new many low e0 e1 e2 e3 =
+    → s'.places ≡ set s.places r new.place → s'.passes ≡ set s.passes r new.token → s'.decisions ≡ set s.decisions r new.decision → s'.queues ≡ set s.queues r new.queue → s'.costs ≡ set s.costs r new.cost
+    → CallsOne r s s' new
+calls_one r s s' v new many low e0 e1 e2 e3 e4 =
     let n0 = many.places in
     let n1 = many.passes in
     let n2 = many.decisions in
     let n3 = many.queues in
+    let n4 = many.costs in
     record {
       here = λ h.
           let p0 = ap (λ (xs : List Place). get_or xs r h.place) e0 ∙ get_or-set_same s.places r new.place h.place (omega (arith, low, n0)) in
           let p1 = ap (λ (xs : List PassToken). get_or xs r h.token) e1 ∙ get_or-set_same s.passes r new.token h.token (omega (arith, low, n1)) in
           let p2 = ap (λ (xs : List Decision). get_or xs r h.decision) e2 ∙ get_or-set_same s.decisions r new.decision h.decision (omega (arith, low, n2)) in
           let p3 = ap (λ (xs : List (Option ℕ)). get_or xs r h.queue) e3 ∙ get_or-set_same s.queues r new.queue h.queue (omega (arith, low, n3)) in
-          (λ i. record { place = p0 i; token = p1 i; decision = p2 i; queue = p3 i });
+          let p4 = ap (λ (xs : List ℕ). get_or xs r h.cost) e4 ∙ get_or-set_same s.costs r new.cost h.cost (omega (arith, low, n4)) in
+          (λ i. record { place = p0 i; token = p1 i; decision = p2 i; queue = p3 i; cost = p4 i });
       others = λ k h ne.
           let p0 = ap (λ (xs : List Place). get_or xs k h.place) e0 ∙ get_or-set_other s.places r k new.place h.place ne in
           let p1 = ap (λ (xs : List PassToken). get_or xs k h.token) e1 ∙ get_or-set_other s.passes r k new.token h.token ne in
           let p2 = ap (λ (xs : List Decision). get_or xs k h.decision) e2 ∙ get_or-set_other s.decisions r k new.decision h.decision ne in
           let p3 = ap (λ (xs : List (Option ℕ)). get_or xs k h.queue) e3 ∙ get_or-set_other s.queues r k new.queue h.queue ne in
-          (λ i. record { place = p0 i; token = p1 i; decision = p2 i; queue = p3 i });
+          let p4 = ap (λ (xs : List ℕ). get_or xs k h.cost) e4 ∙ get_or-set_other s.costs r k new.cost h.cost ne in
+          (λ i. record { place = p0 i; token = p1 i; decision = p2 i; queue = p3 i; cost = p4 i });
       places = ap (λ (xs : List Place). length xs) e0 ∙ length-set s.places r new.place;
       passes = ap (λ (xs : List PassToken). length xs) e1 ∙ length-set s.passes r new.token;
       decisions = ap (λ (xs : List Decision). length xs) e2 ∙ length-set s.decisions r new.decision;
       queues = ap (λ (xs : List (Option ℕ)). length xs) e3 ∙ length-set s.queues r new.queue;
+      costs = ap (λ (xs : List ℕ). length xs) e4 ∙ length-set s.costs r new.cost;
     }
 
 many_then : (r : ℕ) (v : CalendarView) (s s' : Slots) (new : InSlot) → AreAsMany v s → CallsOne r s s' new → AreAsMany v s'
@@ -89,6 +95,7 @@ many_then r v s s' new many calls = record {
   passes = calls.passes ∙ many.passes;
   decisions = calls.decisions ∙ many.decisions;
   queues = calls.queues ∙ many.queues;
+  costs = calls.costs ∙ many.costs;
 }
 
 module _ (trace : List TraceRequest) where
@@ -123,7 +130,7 @@ module _ (trace : List TraceRequest) where
   changed_but f r v s but =
       let n = length-updated f r v.courses in record {
         all = n ∙ but.all;
-        count = record { places = but.count.places ∙ sym n; passes = but.count.passes ∙ sym n; decisions = but.count.decisions ∙ sym n; queues = but.count.queues ∙ sym n };
+        count = record { places = but.count.places ∙ sym n; passes = but.count.passes ∙ sym n; decisions = but.count.decisions ∙ sym n; queues = but.count.queues ∙ sym n; costs = but.count.costs ∙ sym n };
         inside = (let low = but.inside in omega (arith, low, n));
         others = λ i low ne c h. subst (λ (x : Course). Follows trace v.patience v.time i x (held_at s i h)) (sym (updated_other f r i v.courses c ne)) (but.others i (omega (arith, low, n)) ne c h);
       }

@@ -13,4 +13,5 @@ pub mod Ties
 pub mod Slots
 pub mod Operators
 pub mod Logs
+pub mod Charged
 pub mod Faults

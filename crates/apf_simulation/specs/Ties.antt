@@ -46,6 +46,7 @@ pub record IsAway (r : ℕ) (h : InSlot) : Type 0 where
   pub number : h.token.pass.number ≡ r
   pub untold : h.decision ≡ Execute
   pub no_queue : h.queue ≡ None
+  pub no_cost : h.cost ≡ 0
 
 -- it is over: its Pass was told the decision that is noted, and it ends as it was told
 pub record IsTold (patience : ℕ) (c : Course) (h : InSlot) : Type 0 where
@@ -84,6 +85,7 @@ pub record AreAsMany (v : CalendarView) (s : Slots) : Type 0 where
   pub passes : length s.passes ≡ length v.courses
   pub decisions : length s.decisions ≡ length v.courses
   pub queues : length s.queues ≡ length v.courses
+  pub costs : length s.costs ≡ length v.courses
 
 -- each request is where its course says
 pub record AreTied (trace : List TraceRequest) (v : CalendarView) (s : Slots) : Type 0 where

@@ -1,6 +1,7 @@
 //! Runs a priority level on requests that have times, in one thread.
 //!
 //! - `diary`: what was carried out when.
+//! - `charge`: what a trace's requests are charged where nobody says it.
 //! - `notes`: what is noted of each request beside its slot. `simulator`: a level, a diary and the notes in one hand.
 //! - `simulating`: runs a trace on a level. `fault`: why a trace is not simulated.
 //! - `end`: what became of one request. `ends`: what became of all.
@@ -12,6 +13,7 @@
 //! - `figures`: the figures of a flow, or of all requests. `comparison`: two simulations of one trace, side by side.
 #![tactic(auto)]
 
+mod charge;
 mod comparison;
 mod counts;
 mod diary;
@@ -30,6 +32,7 @@ mod tally;
 mod timeline;
 mod whole;
 
+pub use charge::usual_charge;
 pub use comparison::{Comparison, Place};
 pub use counts::Counts;
 pub use end::End;

@@ -13,6 +13,8 @@ pub struct Notes {
     pub decisions: Vec<Decision>,
     /// The queue that it entered, if it entered one.
     pub queues: Vec<Option<u32>>,
+    /// What its dispatch is charged, or 0 until it arrives.
+    pub costs: Vec<u32>,
 }
 
 impl Notes {
@@ -24,9 +26,15 @@ impl Notes {
     pub fn none(alloc: Global, requests: usize) -> Result<Notes, AllocError>
         ensures decisions { IfOk result (λ n. n.decisions.items ≡ replicate requests Execute) }
         ensures queues { IfOk result (λ n. n.queues.items ≡ replicate requests None) }
+        ensures costs { IfOk result (λ n. n.costs.items ≡ replicate requests 0) }
     {
         let decisions = vec![in alloc; Decision::Execute; requests]?;
         let queues = vec![in alloc; None; requests]?;
-        Ok(Notes { decisions, queues })
+        let costs = vec![in alloc; 0; requests]?;
+        Ok(Notes {
+            decisions,
+            queues,
+            costs,
+        })
     }
 }

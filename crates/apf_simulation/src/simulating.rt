@@ -10,9 +10,11 @@ ghost use Rattle.apf_times.specs.Runs.{IsOver};
 ghost use Rattle.apf_traces.specs.TraceValue.{IsRequestInRange};
 ghost use Rattle.apf_times.specs.Limits.{max_patience};
 ghost use Rattle.apf_simulation.specs.declared.fault.SimulationFault.TheVariants.{StillWaits};
+ghost use Rattle.apf_simulation.specs.Charged.{costs_of};
 ghost use Rattle.apf_simulation.specs.Diaries.{IsKeptBy, GoesOn};
 ghost use Rattle.apf_simulation.specs.Ends.{AreOf};
 ghost use Rattle.apf_simulation.specs.Faults.{IsFault};
+ghost use Rattle.apf_simulation.specs.Logs.{noted_of};
 ghost use Rattle.apf_simulation.specs.Runs.{IsEndOf, HasRun, IsMadeOf, IsSimulation};
 ghost use Rattle.apf_simulation.specs.Ties.{AreAwaited, AreDecidedAs, NobodyWaits};
 ghost use Rattle.apf_simulation.specs.Times.{times_of};
@@ -26,6 +28,7 @@ use crate::rows::rows_of;
 use crate::simulation::Simulation;
 use crate::simulator::Simulator;
 use crate::whole::Whole;
+use apf_charges::ChargedBy;
 use apf_flows::flows_of;
 use apf_line::Report;
 use apf_model::Config;
@@ -80,6 +83,7 @@ fn run_of(
     config: &Config,
     trace: &[TraceRequest],
     diary: Diary,
+    by: ChargedBy,
 ) -> Result<(Diary, Notes, Report), SimulationFault>
     requires few { length trace.now ≤ max_requests }
     requires ranges { All IsRequestInRange trace.now }
@@ -89,12 +93,13 @@ fn run_of(
     ensures goes_on { IfOk result (λ o. GoesOn diary o.0) }
     ensures decided { IfOk result (λ o. AreDecidedAs o.0.calendar.patience o.0.calendar.courses o.1.decisions.items) }
     ensures over { IfOk result (λ o. all_dues o.0.calendar.patience o.0.calendar.courses ≡ []) }
-    ensures ended { IfOk result (λ o. IsEndOf config.now trace.now o.0.carried o.1.decisions.items o.1.queues.items o.2) }
+    ensures ended { IfOk result (λ o. IsEndOf config.now trace.now o.0.carried o.1.decisions.items (noted_of o.1) o.2) }
+    ensures charged { IfOk result (λ o. o.1.costs.items ≡ costs_of by trace.now o.0.carried) }
     ensures all_queues { IfOk result (λ o. length o.1.queues.items ≡ length trace.now) }
     ensures settings { OnOk result (CanOpen config.now (length trace.now)) }
     ensures fault { IfErr result (λ fault. (patience : ℕ) → IsKeptBy (times_of trace.now) patience diary → IsFault config.now (length trace.now) patience fault) }
 {
-    let mut simulator = Simulator::open(alloc, config, trace.len() as u32, diary)?;
+    let mut simulator = Simulator::open(alloc, config, trace.len() as u32, diary, by)?;
     simulator.run(trace)?;
     judge(&simulator)?;
     let (level, diary, notes) = simulator.into_parts();
@@ -128,11 +133,16 @@ fn simulation_of(
     requires decided { length run.1.decisions.items ≡ length trace.now }
     ensures made { IfOk result (IsMadeOf limit trace.now patience run.0 run.1.decisions.items) }
     ensures queues { IfOk result (λ s. s.queues ≡ run.1.queues) }
+    ensures costs { IfOk result (λ s. s.costs ≡ run.1.costs) }
     ensures report { IfOk result (λ s. s.report ≡ run.2) }
     ensures each { IfOk result (λ s. length s.ends.items ≡ length trace.now) }
 {
     let (diary, notes, report) = run;
-    let Notes { decisions, queues } = notes;
+    let Notes {
+        decisions,
+        queues,
+        costs,
+    } = notes;
     are_of_trace(&diary, trace, patience);
     let flows = flows_of(alloc, trace)?;
     let ends = ends_of(
@@ -153,6 +163,7 @@ fn simulation_of(
         whole,
         carried: diary.into_carried(),
         queues,
+        costs,
         counts,
         report,
     })
@@ -163,8 +174,11 @@ fn simulation_of(
 /// Each arrival, each finish and each end of patience is carried out at its time. At one time finishes come first,
 /// then the ends of patience, then arrivals, each by the numbers of the requests. A request that takes its seats
 /// finishes as long after that as it runs. One that still waits at the end of its patience is cancelled. A patience of
-/// 0 has no end. It is at most 1,000,000,000 microseconds. A dispatch is charged the request's cost. The run ends when
-/// nothing is due: no request waits, and no seat is taken.
+/// 0 has no end. It is at most 1,000,000,000 microseconds. The run ends when nothing is due: no request waits, and no seat
+/// is taken.
+///
+/// A dispatch is charged the request's cost, which it is given as it arrives: its line's, or else its width times how long
+/// its flow's requests ran that finished until then, or by seats its width.
 ///
 /// # Errors
 ///
@@ -175,17 +189,18 @@ pub fn simulate(
     config: &Config,
     trace: &[TraceRequest],
     patience: u64,
+    by: ChargedBy,
 ) -> Result<Simulation, SimulationFault>
     requires few { length trace.now ≤ max_requests }
     requires ranges { All IsRequestInRange trace.now }
     requires patience { patience ≤ max_patience }
-    ensures simulation { IfOk result (IsSimulation config.now trace.now patience) }
+    ensures simulation { IfOk result (IsSimulation config.now trace.now patience by) }
     ensures each { IfOk result (λ s. length s.ends.items ≡ length trace.now) }
     ensures all_queues { IfOk result (λ s. length s.queues.items ≡ length trace.now) }
     ensures settings { OnOk result (CanOpen config.now (length trace.now)) }
     ensures fault { IfErr result (IsFault config.now (length trace.now) patience) }
 {
     let diary = diary_of(alloc, trace, patience)?;
-    let run = run_of(alloc, config, trace, diary)?;
+    let run = run_of(alloc, config, trace, diary, by)?;
     Ok(simulation_of(alloc, config.limit, trace, patience, run)?)
 }

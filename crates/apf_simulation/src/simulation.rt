@@ -34,6 +34,8 @@ pub struct Simulation {
     pub carried: Vec<Due>,
     /// The queue that each request entered, if it entered one.
     pub queues: Vec<Option<u32>>,
+    /// What each request's dispatch is charged: microseconds of a seat, or seats.
+    pub costs: Vec<u32>,
     /// How many requests were decided so.
     pub counts: Counts,
     /// What the level told when it ended.

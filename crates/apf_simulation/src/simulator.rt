@@ -5,6 +5,7 @@ ghost use Rattle.apf_words.specs.Limits.{max_requests};
 ghost use Rattle.apf_gate.specs.Gauges.{max_numbers};
 ghost use Rattle.apf_book.specs.Life.{LifeView};
 ghost use Rattle.apf_book.specs.LifeBook.{IsLifeKept, IsLived};
+ghost use Rattle.apf_book.specs.declared.settling.Settling.TheVariants.{Never};
 ghost use Rattle.apf_local.specs.Openings.{IsOpened, CanOpen, IsOpenFault};
 ghost use Rattle.apf_local.specs.Owners.{IsSlotOf};
 ghost use Rattle.apf_local.specs.Worlds.{IsDecidedIn};
@@ -13,15 +14,17 @@ ghost use Rattle.apf_times.specs.declared.due.Kind.TheVariants as kinds;
 ghost use Rattle.apf_times.specs.Courses.{all_dues, left};
 ghost use Rattle.apf_traces.specs.TraceValue.{IsRequestInRange};
 ghost use Rattle.apf_traces.specs.declared.request.TraceRequest.{TraceRequest};
+ghost use Rattle.apf_simulation.specs.Charged.{ChargesOn, arrived, charged_by, charged_in, finished, nothing_charged};
 ghost use Rattle.apf_simulation.specs.Diaries.{GoesOn};
 ghost use Rattle.apf_simulation.specs.Operators.{Cancels, CancelsAlone, CancelsOnly};
 ghost use Rattle.apf_simulation.specs.Slots.{slots_of, IsSame};
 ghost use Rattle.apf_simulation.specs.Ties.{AreAwaited, AreTied, AreTiedBut, HasPatience, Here, IsCallDue, IsWaiting, Owes};
-ghost use Rattle.apf_simulation.specs.Logs.{queue_in as the_queue_in, IsLogged, LogsOn};
+ghost use Rattle.apf_simulation.specs.Logs.{queue_in as the_queue_in, IsLogged, LogsOn, noted_of};
 
 use crate::diary::Diary;
 use crate::notes::Notes;
 use apf_book::LifeEvent;
+use apf_charges::{ChargedBy, Charges};
 use apf_gate::Ticket;
 use apf_local::{Answer, Ask, LocalLevel, OpenFault, Place};
 use apf_model::Config;
@@ -36,6 +39,7 @@ pub(crate) struct Simulator {
     level: LocalLevel,
     diary: Diary,
     notes: Notes,
+    charges: Charges,
     // the events that were read last, and up to which place they were read
     room: Vec<LifeEvent>,
     seen: u64,
@@ -64,32 +68,36 @@ impl Simulator {
         config: &Config,
         requests: u32,
         diary: Diary,
+        by: ChargedBy,
     ) -> Result<Simulator, OpenFault>
         requires one_course_each { length diary.calendar.courses ≡ requests }
         requires awaited { AreAwaited diary.calendar }
         ensures diary { IfOk result (λ s. s.diary ≡ diary) }
-        ensures opened { IfOk result (λ s. IsOpened config.now requests s.level) }
+        ensures opened { IfOk result (λ s. IsOpened config.now requests Never s.level) }
         ensures tied { IfOk result (λ s. (trace : List TraceRequest) → length trace ≡ requests → AreTied trace s.diary.calendar (slots_of s.level s.notes)) }
-        ensures logs { IfOk result (λ s. (trace : List TraceRequest) (v : LifeView) → IsLifeKept v s.level.owner.book → IsLogged trace s.level.sizes s.notes.queues.items v) }
+        ensures logs { IfOk result (λ s. (trace : List TraceRequest) (v : LifeView) → IsLifeKept v s.level.owner.book → IsLogged trace s.level.sizes (noted_of s.notes) v) }
         ensures lived { IfOk result (λ s. IsLived s.level.owner.book) }
+        ensures charged { IfOk result (λ s. charged_in s.charges s.notes ≡ nothing_charged by requests) }
         ensures settings { OnOk result (CanOpen config.now requests) }
         ensures fault { IfErr result (IsOpenFault config.now requests) }
     {
         let level = LocalLevel::open(alloc, config, requests)?;
         level.has_a_history();
         let notes = Notes::none(alloc, requests as usize)?;
+        let charges = Charges::new(alloc, by)?;
         let no_event = LifeEvent::Enter(Ticket::of(0), 0);
         let room = vec![in alloc; no_event; 2 * requests as usize]?;
         Ok(Simulator {
             level,
             diary,
             notes,
+            charges,
             room,
             seen: 0,
         })
     }
 
-    // The request arrives. It is given its seats now, if it executes.
+    // The request arrives. It is given its cost, and its seats if it executes.
     #[tactic(auto, using(crate::proofs::Going::stays))]
     fn arrive(&mut self, trace: &[TraceRequest], request: u32)
         requires ranges { All IsRequestInRange trace.now }
@@ -99,19 +107,22 @@ impl Simulator {
         ensures goes_on { GoesOn self.old.diary self.new.diary }
         ensures as_many { left self.new.diary.calendar.courses ≡ left self.old.diary.calendar.courses }
         ensures carried { self.new.diary.carried ≡ self.old.diary.carried }
+        ensures charged { charged_in self.new.charges self.new.notes ≡ arrived request (slice_get trace.now request) (charged_in self.old.charges self.old.notes) }
         ensures same { IsSame self.old.level self.new.level }
-        ensures logs { LogsOn trace.now self.old.level self.old.notes.queues.items self.new.level self.new.notes.queues.items }
+        ensures logs { LogsOn trace.now self.old.level (noted_of self.old.notes) self.new.level (noted_of self.new.notes) }
         ensures operator { self.new.level.owner.stations ≡ self.old.level.owner.stations }
     {
         let slot = request as usize;
         let asked = &trace[slot];
+        let cost = self.charges.cost_of(asked.hash, asked.width, asked.cost);
         let ask = Ask {
             width: asked.width,
             hash: asked.hash,
-            cost: asked.cost,
+            cost,
         };
         let (answer, event) = self.level.arrive(slot, ask);
         self.notes.queues[slot] = queue_in(event);
+        self.notes.costs[slot] = cost;
         match answer {
             Answer::Run => self.diary.start(request),
             Answer::Over(decision) => self.notes.decisions[slot] = decision,
@@ -131,8 +142,9 @@ impl Simulator {
         ensures goes_on { GoesOn self.old.diary self.new.diary }
         ensures as_many { left self.new.diary.calendar.courses ≡ left self.old.diary.calendar.courses }
         ensures carried { self.new.diary.carried ≡ self.old.diary.carried }
+        ensures charged { charged_in self.new.charges self.new.notes ≡ charged_in self.old.charges self.old.notes }
         ensures same { IsSame self.old.level self.new.level }
-        ensures logs { LogsOn trace.now self.old.level self.old.notes.queues.items self.new.level self.new.notes.queues.items }
+        ensures logs { LogsOn trace.now self.old.level (noted_of self.old.notes) self.new.level (noted_of self.new.notes) }
         ensures operator { self.new.level.owner.stations ≡ self.old.level.owner.stations }
     {
         let slot = request as usize;
@@ -153,8 +165,9 @@ impl Simulator {
         ensures goes_on { GoesOn self.old.diary self.new.diary }
         ensures as_many { left self.new.diary.calendar.courses ≡ left self.old.diary.calendar.courses }
         ensures carried { self.new.diary.carried ≡ self.old.diary.carried }
+        ensures charged { charged_in self.new.charges self.new.notes ≡ charged_in self.old.charges self.old.notes }
         ensures same { IsSame self.old.level self.new.level }
-        ensures logs { LogsOn trace.now self.old.level self.old.notes.queues.items self.new.level self.new.notes.queues.items }
+        ensures logs { LogsOn trace.now self.old.level (noted_of self.old.notes) self.new.level (noted_of self.new.notes) }
         ensures operator { self.new.level.owner.stations ≡ self.old.level.owner.stations }
     {
         let (LifeEvent::Dispatch(ticket, _) | LifeEvent::Strike(ticket, _)) = event else {
@@ -175,8 +188,9 @@ impl Simulator {
         ensures goes_on { GoesOn self.old.diary self.new.diary }
         ensures as_many { left self.new.diary.calendar.courses ≡ left self.old.diary.calendar.courses }
         ensures carried { self.new.diary.carried ≡ self.old.diary.carried }
+        ensures charged { charged_in self.new.charges self.new.notes ≡ charged_in self.old.charges self.old.notes }
         ensures same { IsSame self.old.level self.new.level }
-        ensures logs { LogsOn trace.now self.old.level self.old.notes.queues.items self.new.level self.new.notes.queues.items }
+        ensures logs { LogsOn trace.now self.old.level (noted_of self.old.notes) self.new.level (noted_of self.new.notes) }
         ensures operator { self.new.level.owner.stations ≡ self.old.level.owner.stations }
     {
         let room = self.room.as_mut_slice();
@@ -200,8 +214,9 @@ impl Simulator {
         ensures goes_on { GoesOn self.old.diary self.new.diary }
         ensures as_many { left self.new.diary.calendar.courses ≡ left self.old.diary.calendar.courses }
         ensures carried { self.new.diary.carried ≡ self.old.diary.carried }
+        ensures charged { charged_in self.new.charges self.new.notes ≡ charged_in self.old.charges self.old.notes }
         ensures same { IsSame self.old.level self.new.level }
-        ensures logs { LogsOn trace.now self.old.level self.old.notes.queues.items self.new.level self.new.notes.queues.items }
+        ensures logs { LogsOn trace.now self.old.level (noted_of self.old.notes) self.new.level (noted_of self.new.notes) }
         ensures cancels { (self.new.level.owner.stations ≡ self.old.level.owner.stations)
             ⊎ Cancels trace.now request self.old.level.owner.stations self.new.level.owner.stations }
     {
@@ -213,7 +228,7 @@ impl Simulator {
         }
     }
 
-    // The request gives its seats back.
+    // The request gives its seats back, and its flow learns how long it ran.
     #[tactic(auto, using(crate::proofs::Going::stays))]
     fn finish(&mut self, trace: &[TraceRequest], request: u32)
         requires others { AreTiedBut trace.now request self.old.diary.calendar (slots_of self.old.level self.old.notes) }
@@ -222,11 +237,15 @@ impl Simulator {
         ensures goes_on { GoesOn self.old.diary self.new.diary }
         ensures as_many { left self.new.diary.calendar.courses ≡ left self.old.diary.calendar.courses }
         ensures carried { self.new.diary.carried ≡ self.old.diary.carried }
+        ensures charged { charged_in self.new.charges self.new.notes ≡ finished (slice_get trace.now request) (charged_in self.old.charges self.old.notes) }
         ensures same { IsSame self.old.level self.new.level }
-        ensures logs { LogsOn trace.now self.old.level self.old.notes.queues.items self.new.level self.new.notes.queues.items }
+        ensures logs { LogsOn trace.now self.old.level (noted_of self.old.notes) self.new.level (noted_of self.new.notes) }
         ensures operator { self.new.level.owner.stations ≡ self.old.level.owner.stations }
     {
-        self.level.finish(request as usize);
+        let slot = request as usize;
+        let asked = &trace[slot];
+        self.level.finish(slot);
+        self.charges.learn(asked.hash, asked.runs_for);
     }
 
     // Makes the call for what was just carried out.
@@ -237,8 +256,9 @@ impl Simulator {
         ensures goes_on { GoesOn self.old.diary self.new.diary }
         ensures as_many { left self.new.diary.calendar.courses ≡ left self.old.diary.calendar.courses }
         ensures carried { self.new.diary.carried ≡ self.old.diary.carried }
+        ensures charged { charged_in self.new.charges self.new.notes ≡ charged_by trace.now due (charged_in self.old.charges self.old.notes) }
         ensures same { IsSame self.old.level self.new.level }
-        ensures logs { LogsOn trace.now self.old.level self.old.notes.queues.items self.new.level self.new.notes.queues.items }
+        ensures logs { LogsOn trace.now self.old.level (noted_of self.old.notes) self.new.level (noted_of self.new.notes) }
         ensures cancels { CancelsOnly trace.now due self.old.level.owner.stations self.new.level.owner.stations }
     {
         match due.kind {
@@ -255,7 +275,8 @@ impl Simulator {
         ensures tied { OnOk result (AreTied trace.now self.new.diary.calendar (slots_of self.new.level self.new.notes)) }
         ensures goes_on { OnOk result (GoesOn self.old.diary self.new.diary) }
         ensures same { OnOk result (IsSame self.old.level self.new.level) }
-        ensures logs { OnOk result (LogsOn trace.now self.old.level self.old.notes.queues.items self.new.level self.new.notes.queues.items) }
+        ensures logs { OnOk result (LogsOn trace.now self.old.level (noted_of self.old.notes) self.new.level (noted_of self.new.notes)) }
+        ensures charged { OnOk result (ChargesOn trace.now self.old.diary (charged_in self.old.charges self.old.notes) self.new.diary (charged_in self.new.charges self.new.notes)) }
         ensures cancels { OnOk result (CancelsAlone trace.now self.old.diary self.new.diary self.old.level.owner.stations self.new.level.owner.stations) }
         ensures fewer { IfOk result (λ more. more ≡ true → left self.new.diary.calendar.courses < left self.old.diary.calendar.courses) }
         ensures over { IfOk result (λ more. more ≡ false → all_dues self.new.diary.calendar.patience self.new.diary.calendar.courses ≡ []) }
@@ -279,7 +300,8 @@ impl Simulator {
         ensures tied { OnOk result (AreTied trace.now self.new.diary.calendar (slots_of self.new.level self.new.notes)) }
         ensures goes_on { OnOk result (GoesOn self.old.diary self.new.diary) }
         ensures same { OnOk result (IsSame self.old.level self.new.level) }
-        ensures logs { OnOk result (LogsOn trace.now self.old.level self.old.notes.queues.items self.new.level self.new.notes.queues.items) }
+        ensures logs { OnOk result (LogsOn trace.now self.old.level (noted_of self.old.notes) self.new.level (noted_of self.new.notes)) }
+        ensures charged { OnOk result (ChargesOn trace.now self.old.diary (charged_in self.old.charges self.old.notes) self.new.diary (charged_in self.new.charges self.new.notes)) }
         ensures cancels { OnOk result (CancelsAlone trace.now self.old.diary self.new.diary self.old.level.owner.stations self.new.level.owner.stations) }
         ensures over { OnOk result (all_dues self.new.diary.calendar.patience self.new.diary.calendar.courses ≡ []) }
     {
@@ -310,6 +332,7 @@ impl Simulator {
             level,
             diary,
             notes,
+            charges: _,
             room: _,
             seen: _,
         } = self;

@@ -13,14 +13,14 @@ use Rattle.apf_traces.specs.declared.fault.TraceFault.TheVariants.{NotObject, Un
 use Rattle.apf_traces.specs.declared.request.FlowNames.{FlowNames}
 use Rattle.apf_traces.specs.declared.request.TraceRequest.{TraceRequest}
 
--- a request as a line says it, with the bytes of the flow's two names, schema and distinguisher, where it has them
+-- a request as a line says it, with the bytes of the flow's two names, schema and distinguisher, and its cost, where it has them
 pub record Entry : Type 0 where
   pub arrives_at : ℕ
   pub runs_for : ℕ
   pub hash : ℕ
   pub names : Option (List ℕ × List ℕ)
   pub width : ℕ
-  pub cost : ℕ
+  pub cost : Option ℕ
 
 -- the bytes of a flow's names
 abbrev pub texts : FlowNames → List ℕ × List ℕ
@@ -66,21 +66,21 @@ entry_of line d = do
   runs_for ← or_fault (BadRun line) (number_at (codes "runsFor") max_run d)
   hash ← or_fault (BadFlow line) (flow_of (get (codes "hash") d) (get (codes "schema") d) (get (codes "distinguisher") d))
   width ← or_fault (BadWidth line) (number_or 1 max_width 1 (get (codes "width") d))
-  cost ← or_fault (BadCost line) (number_or 1 max_cost width (get (codes "cost") d))
+  cost ← or_fault (BadCost line) (number_or 1 max_cost 1 (get (codes "cost") d))
   Ok (record {
     arrives_at = arrives_at;
     runs_for = runs_for;
     hash = hash;
     names = names_of d;
     width = width;
-    cost = cost;
+    cost = option_map (λ given. cost) (get (codes "cost") d);
   })
 
 -- each number is in its range
 abbrev pub IsRequestInRange : TraceRequest → Type 0
 IsRequestInRange request =
     (request.arrives_at ≤ max_arrival) × (request.runs_for ≤ max_run)
-    × (1 ≤ request.width) × (request.width ≤ max_width) × (1 ≤ request.cost) × (request.cost ≤ max_cost)
+    × (1 ≤ request.width) × (request.width ≤ max_width) × IfSome request.cost (λ cost. (1 ≤ cost) × (cost ≤ max_cost))
 
 -- where the request has the names of its flow, its hash is theirs
 abbrev pub IsNamed : TraceRequest → Type 0

@@ -22,6 +22,6 @@ pub struct TraceRequest {
     pub names: Option<FlowNames>,
     /// The seats that the request takes while it executes, 1 to 20,000; 1 if absent.
     pub width: u32,
-    /// What a dispatch of the request is charged, 1 to 4,294,967,295; the width if absent.
-    pub cost: u32,
+    /// What a dispatch of the request is charged, 1 to 4,294,967,295, where the line says that.
+    pub cost: Option<u32>,
 }

@@ -87,7 +87,8 @@ pub(crate) fn request_of_value(
     let width = number_or(value, "width", 1, MAX_WIDTH, DEFAULT_WIDTH).ok_or(TraceFault::BadWidth(
         line,
     ))?;
-    let cost = number_or(value, "cost", 1, MAX_COST, width).ok_or(TraceFault::BadCost(line))?;
+    let cost = number_or(value, "cost", 1, MAX_COST, 1).ok_or(TraceFault::BadCost(line))?;
+    let cost = value.get("cost").map(|_given| cost);
     let Ok(names) = names_of(alloc, value) else {
         return Err(TraceFault::NoMemory);
     };

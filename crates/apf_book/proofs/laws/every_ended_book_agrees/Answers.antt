@@ -15,7 +15,7 @@ use Rattle.apf_gate.specs.declared.record.Record.{Record}
 use Rattle.apf_gate.specs.declared.record.Record.TheVariants.{Pass, Desk, Station}
 use Rattle.apf_gate.specs.declared.record.Actor.TheVariants.{OfPass, OfDesk, OfStation}
 use Rattle.apf_gate.specs.declared.record.StationRecord.{StationRecord}
-use Rattle.apf_gate.specs.Traces.{GoesOn}
+use Rattle.apf_gate.specs.Traces.{GoesOn, world_of}
 use Rattle.apf_gate.specs.declared.record.PassRecord.{PassRecord}
 use Rattle.apf_gate.specs.declared.record.DeskRecord.{DeskRecord}
 use Rattle.apf_gate.specs.Records.{service}
@@ -27,7 +27,7 @@ use Rattle.apf_book.proofs.Saying.{none_say}
 use Rattle.apf_book.proofs.Keeping.{entered_logs}
 use Rattle.apf_book.specs.LedgerView.{LedgerView}
 use Rattle.apf_book.specs.BookView.{IsKept}
-use Rattle.apf_book.specs.Laws.{IsOfOneMind, decision_in, took_in}
+use Rattle.apf_book.specs.Laws.{DeskAgreesWithLog, decision_in, took_in}
 use Rattle.apf_book.proofs.laws.every_ended_book_agrees.Goals as goal
 
 or_true : (a b : Bool) → b ≡ true → (a || b) ≡ true
@@ -85,7 +85,7 @@ every_passes P (p ∷ ps) rest k = let h = every_passes P ps rest k.1 in (each_o
 pub returns : goal.returns
 returns c = λ gate desk v passes stations words own kept ends.
     let agrees : EndAgrees gate desk.desk passes stations words = c.every_end_agrees.ensures gate desk.desk passes stations words ends in
-    let mind : IsOfOneMind desk.desk v = c.every_book_is_kept.ensures desk.desk v kept in
+    let mind : DeskAgreesWithLog desk.desk v = c.every_book_is_kept.ensures desk.desk v kept in
     let within : (e : Event) → Contains v.history e → request_of e < length gate.shape.widths = inside gate desk v passes stations words own kept in
     let below : (r : ℕ) → r < length words.decisions → r < length gate.shape.widths = (λ r l. let k = ends.count in omega arith) in
     record {
@@ -107,6 +107,7 @@ returns c = λ gate desk v passes stations words own kept ends.
                 let here = of_stations.0 i t low in
                 subst (λ (s : StationRecord). GoesOn account.trace (OfStation (slice_index_or stations i t).station.number) s.knows.trace) here.1 (ends.sound.station_knows (slice_index_or stations i t).station.number).newer;
           };
+      decides = λ r low. get_or_from_slice_get words.decisions r ((world_of gate.shape ends.account.trace).decision r) None (ends.decided r low);
       agrees = record {
         dispatched = λ r q here. decided words r Execute (agrees.settled r (within (Dispatch r q) here) ((mind.dispatched_is r).1 (q, here)));
         struck = λ r q here. decided words r Cancelled (agrees.told r Cancelled (within (Strike r q) here) (inl (mind.struck_is_told r q here)));

@@ -19,11 +19,12 @@ low widths are r = elim (cases_lt r (length widths)) [
 
 -- a history in which nothing happened yet
 abbrev beginning : Shape → ℕ → ℕ → LifeView
-beginning shape queues limit = record { history = []; costs = shape.widths; hands = λ r. []; queues = queues; limit = limit }
+beginning shape queues limit = record { history = []; log = []; costs = shape.widths; hands = λ r. []; queues = queues; limit = limit }
 
 begins : (shape : Shape) (queues limit : ℕ) → IsShape shape → IsOpening (beginning shape queues limit) queues limit
 begins shape queues limit is = record {
   nothing = refl;
+  no_log = refl;
   queues_are = refl;
   limit_is = refl;
   low = λ r. (let l = low shape.widths is.widths r in omega arith);

@@ -8,4 +8,4 @@ returns-clause-read c =
     let rows = rows_of (found_of c.args.matches.now) in
     let slots = c.requires.slots in
     let same_slots = c.u32_or.ensures slots.0 slots.1.0 in
-    (c.text_of.ensures, subst (λ (n : ℕ). IsSlotCount rows n) (sym same_slots) slots.1, c.text_or.ensures, c.option_of.ensures)
+    (c.text_of.ensures, subst (λ (n : ℕ). IsSlotCount rows n) (sym same_slots) slots.1, c.text_or.ensures, c.charge_of.ensures)

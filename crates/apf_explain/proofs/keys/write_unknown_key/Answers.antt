@@ -5,7 +5,7 @@ use Rattle.apf_explain.proofs.keys.write_unknown_key.Goals as goal
 pub returns-then-is_whole : goal.returns-then-is_whole
 returns-then-is_whole g c =
     let whole : nat_le (length c.in-Some.text.now) 64 ≡ true = search rules in
-    rw (sym c.in-Some.ensures, whole) c.writeln.ensures.bytes
+    rw (sym c.in-Some.ensures, whole, sym c.likeness-other.ensures) c.writeln.ensures.bytes
 
 pub returns-else-is_whole : goal.returns-else-is_whole
 returns-else-is_whole g c =

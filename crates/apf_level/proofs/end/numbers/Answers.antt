@@ -3,8 +3,8 @@ use Rattle.apf_history.specs.Tally.{tally}
 use Rattle.apf_model.specs.Outcome.{stats_of}
 use Rattle.apf_book.specs.declared.stats.Stats.{Stats}
 use Rattle.apf_book.specs.LedgerKept.{AreStats}
-use Rattle.apf_level.specs.declared.hearing.Keeper.{Keeper}
-use Rattle.apf_level.specs.Keepers.{log_in}
+use Rattle.apf_level.specs.declared.hearing.UnderLock.{UnderLock}
+use Rattle.apf_level.specs.UnderLock.{log_in}
 use Rattle.apf_level.proofs.end.numbers.Goals as goal
 
 none_wait : (n : ℕ) → tally (λ q. 0) n ≡ 0
@@ -19,4 +19,4 @@ of_nothing deck = record { entered = refl; dispatched = refl; struck = refl; ful
 
 pub returns-in-Desk : goal.returns-in-Desk
 returns-in-Desk g c =
-    subst (λ (k : Keeper). AreStats no_numbers (stats_of g.K.Naming.level.opening.sizes.deck (log_in k))) (sym c.in-Desk.is) (of_nothing g.K.Naming.level.opening.sizes.deck)
+    subst (λ (k : UnderLock). AreStats no_numbers (stats_of g.K.Naming.level.opening.sizes.deck (log_in k))) (sym c.in-Desk.is) (of_nothing g.K.Naming.level.opening.sizes.deck)

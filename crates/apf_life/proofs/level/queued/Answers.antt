@@ -1,6 +1,6 @@
 -- A book that was made is the level's.
 use Rattle.std.proofs.Common.{◌*◌, ◌<◌, ◌∙◌, ℕ, refl, sym, ap, subst}
-use Rattle.std.specs.Prelude.{slice_index_or}
+use Rattle.std.specs.Prelude.{◌==◌, not, slice_index_or}
 use Rattle.apf_flow.specs.Sizes.{Sizes}
 use Rattle.apf_gate.specs.Gauges.{IsShape}
 use Rattle.apf_gate.specs.Tokens.{GateId, desk_gate}
@@ -23,6 +23,7 @@ invariant_of-queued g c =
         queues = kept.of_life.deck ∙ sym (ap (λ (s : Sizes). s.deck) c.requires.opening.sizes);
         limit = kept.of_life.limit ∙ sym c.requires.opening.queue_limit;
         hand = made.hand ∙ sym (ap (λ (s : Sizes). s.hand) c.requires.opening.sizes);
+        settles = ap (λ (n : ℕ). not (n == 0)) made.places ∙ sym c.requires.opening.settles;
       };
       stopped = (opened c.every_level_has_histories.ensures).begins v c.in_ok-book.book refl kept;
       room = made.room ∙ ap (λ (n : ℕ). 2 * n) c.requires.slots;

@@ -1,5 +1,5 @@
 -- The history of a book that is closed.
-use Rattle.std.proofs.Common.{◌≡◌, ◌*◌, ◌∙◌, ℕ, sym, ap, subst}
+use Rattle.std.proofs.Common.{◌*◌, ◌∙◌, ℕ, sym, ap, subst}
 use Rattle.apf_gate.specs.Tokens.{DeskToken, GateId, desk_gate}
 use Rattle.apf_book.specs.Agreeing.{IsDeskOf}
 use Rattle.apf_line.specs.Levels.{IsHistoryOf}

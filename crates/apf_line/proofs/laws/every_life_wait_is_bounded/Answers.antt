@@ -2,14 +2,15 @@ use Rattle.std.proofs.Common.{List, subst}
 use Rattle.apf_history.specs.declared.events.Event.{Event}
 use Rattle.apf_model.specs.Fair.{IsFair}
 use Rattle.apf_line.proofs.Standing.{same_hands}
+use Rattle.apf_line.proofs.Fair.{fair_if_unsettled}
 use Rattle.apf_line.proofs.laws.every_life_wait_is_bounded.Goals as goal
 
 pub returns-clause-own : goal.returns-clause-own
-returns-clause-own c = λ k trace v costs later stretch earlier q r of agree is waits.
-    let fair = c.every_fair_history_stands.ensures v.queues v.costs costs v.hands v.hands v.limit v.history (same_hands v.hands v.history) agree of.fair in
+returns-clause-own c = λ k trace v costs later stretch earlier q r of same agree is waits.
+    let fair = c.every_fair_history_stands.ensures v.queues v.costs costs v.hands v.hands v.limit v.history (same_hands v.hands v.history) agree (fair_if_unsettled k trace v of c.every_unsettled_log_is_fair.ensures.fair same) in
     c.every_wait_is_bounded.ensures.own v.queues costs v.hands v.limit later stretch earlier q r (subst (λ (h : List Event). IsFair v.queues costs v.hands v.limit h) is fair) waits
 
 pub returns-clause-others : goal.returns-clause-others
-returns-clause-others c = λ k trace v costs later stretch earlier q r other of agree is waits low other_low.
-    let fair = c.every_fair_history_stands.ensures v.queues v.costs costs v.hands v.hands v.limit v.history (same_hands v.hands v.history) agree of.fair in
+returns-clause-others c = λ k trace v costs later stretch earlier q r other of same agree is waits low other_low.
+    let fair = c.every_fair_history_stands.ensures v.queues v.costs costs v.hands v.hands v.limit v.history (same_hands v.hands v.history) agree (fair_if_unsettled k trace v of c.every_unsettled_log_is_fair.ensures.fair same) in
     c.every_wait_is_bounded.ensures.others v.queues costs v.hands v.limit later stretch earlier q r (subst (λ (h : List Event). IsFair v.queues costs v.hands v.limit h) is fair) waits low other other_low

@@ -58,14 +58,14 @@ returns-in-Over-clause-admits c =
     }
 
 pub returns-in-Blocked-clause-same : goal.returns-in-Blocked-clause-same
-returns-in-Blocked-clause-same c = owner_then c.args.owner.now c.begin.new.self c.stand.new.owner c.begin.ensures.same c.stand.ensures.same
+returns-in-Blocked-clause-same c = owner_then c.args.owner.now c.begin.new.self c.enqueue.new.owner c.begin.ensures.same c.enqueue.ensures.same
 
 pub returns-in-Blocked-clause-admits : goal.returns-in-Blocked-clause-admits
 returns-in-Blocked-clause-admits c =
     let i = c.args.slot in
     let ps = c.args.owner.now.passes in
     let moves : Moves i ps c.begin.new.self.passes (Begins c.args.ask took.Blocked) = subst (λ (t : Took). Moves i ps c.begin.new.self.passes (Begins c.args.ask t)) c.in-Blocked.is c.in_ok-begin.ensures.begins in
-    let stands = c.stand.ensures.stands in
+    let stands = c.enqueue.ensures.stands in
     let same : stands.before ≡ moves.after = get_same ps i moves.after stands.before (subst (λ (xs : List PassToken). slice_get xs i ≡ Some stands.before) moves.now stands.was) in
     record {
       before = moves.before;

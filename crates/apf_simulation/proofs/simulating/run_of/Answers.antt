@@ -9,12 +9,15 @@ use Rattle.apf_book.specs.Life.{LifeView}
 use Rattle.apf_book.specs.LifeBook.{IsLifeKept}
 use Rattle.apf_simulation.specs.declared.fault.SimulationFault.{SimulationFault}
 use Rattle.apf_simulation.specs.declared.notes.Notes.{Notes}
+use Rattle.apf_simulation.specs.Charged.{Charged, charged_in, costs_of, nothing_charged}
 use Rattle.apf_simulation.specs.Diaries.{DiaryView, GoesOn, IsKeptBy}
 use Rattle.apf_simulation.specs.Faults.{IsFault}
+use Rattle.apf_simulation.specs.Logs.{noted_of}
 use Rattle.apf_simulation.specs.Runs.{HasEndedBy}
 use Rattle.apf_simulation.specs.Slots.{slots_of}
 use Rattle.apf_simulation.specs.Ties.{AreDecidedAs}
 use Rattle.apf_simulation.specs.Times.{times_of}
+use Rattle.apf_simulation.proofs.Charging.{all_charged}
 use Rattle.apf_simulation.proofs.Closing.{ends_by}
 use Rattle.apf_simulation.proofs.Honouring.{are_decided, are_free, are_told, endless}
 use Rattle.apf_simulation.proofs.Operating.{all_in_turn}
@@ -60,10 +63,10 @@ returns-clause-ended c =
     subst (λ (l : LocalView). (x : LifeView) → IsLifeKept x l.owner.book → EndedAs (id_of l) x l.owner.passes l.owner.stations r) parts.ensures.level
     (c.in_ok-report.ensures.idle_of_each (subst (λ (l : LocalView). All (λ (p : Place). p ≡ places.Free) l.places) (sym parts.ensures.level) free)) in
     let empty : sim.diary.carried ≡ [] = ap (λ (d : DiaryView). d.carried) c.in_ok-simulator.ensures.diary ∙ c.requires.nothing in
-    let ended : HasEndedBy trace sim.level now.diary.carried now.notes.decisions.items now.notes.queues.items r = record {
+    let ended : HasEndedBy trace sim.level now.diary.carried now.notes.decisions.items (noted_of now.notes) r = record {
       lived = c.in_ok-simulator.ensures.lived;
       last = now.level;
-      report = ends_by trace sim.level now.level sim.notes.queues.items now.notes.queues.items r c.in_ok-run.ensures.same c.in_ok-run.ensures.logs (c.in_ok-simulator.ensures.logs trace) ends;
+      report = ends_by trace sim.level now.level (noted_of sim.notes) (noted_of now.notes) r c.in_ok-run.ensures.same c.in_ok-run.ensures.logs (c.in_ok-simulator.ensures.logs trace) ends;
       operator = all_in_turn trace sim.diary now.diary sim.level.owner.stations now.level.owner.stations empty c.in_ok-run.ensures.cancels;
       told = are_told trace v s tied c.in_ok-judge.ensures.over c.in_ok-judge.ensures.nobody_waits;
       each = tied.count.passes ∙ tied.all;
@@ -71,9 +74,19 @@ returns-clause-ended c =
     record {
       opened = sim.level;
       is_opened = c.in_ok-simulator.ensures.opened;
-      ended = subst (λ (d : DiaryView). HasEndedBy trace sim.level d.carried parts.result.2.decisions.items parts.result.2.queues.items r) (sym parts.ensures.diary)
-          (subst (λ (n : Notes). HasEndedBy trace sim.level now.diary.carried n.decisions.items n.queues.items r) (sym parts.ensures.notes) ended);
+      ended = subst (λ (d : DiaryView). HasEndedBy trace sim.level d.carried parts.result.2.decisions.items (noted_of parts.result.2) r) (sym parts.ensures.diary)
+          (subst (λ (n : Notes). HasEndedBy trace sim.level now.diary.carried n.decisions.items (noted_of n) r) (sym parts.ensures.notes) ended);
     }
+
+pub returns-clause-charged : goal.returns-clause-charged
+returns-clause-charged c =
+    let trace = c.args.trace.now in
+    let sim = c.in_ok-simulator.simulator in
+    let now = c.run.new.self in
+    let parts = c.into_parts-level in
+    let empty : sim.diary.carried ≡ [] = ap (λ (d : DiaryView). d.carried) c.in_ok-simulator.ensures.diary ∙ c.requires.nothing in
+    let all = all_charged trace sim.diary now.diary (charged_in sim.charges sim.notes) (charged_in now.charges now.notes) (nothing_charged c.args.by (length trace)) empty c.in_ok-simulator.ensures.charged c.in_ok-run.ensures.charged in
+    ap (λ (n : Notes). n.costs.items) parts.ensures.notes ∙ (ap (λ (x : Charged). x.costs) all ∙ ap (λ (d : DiaryView). costs_of c.args.by trace d.carried) (sym parts.ensures.diary))
 
 pub returns-clause-all_queues : goal.returns-clause-all_queues
 returns-clause-all_queues c = ap (λ (n : Notes). length n.queues.items) c.into_parts-level.ensures.notes ∙ (c.in_ok-run.ensures.tied.count.queues ∙ c.in_ok-run.ensures.tied.all)

@@ -17,7 +17,7 @@ pub returns-clause-dispatches : goal.returns-clause-dispatches
 returns-clause-dispatches g c v is =
     let was = subst (λ (x : LifeState). IsLifeOf v x) (sym c.self.view_is) is in
     let chosen = subst (λ (x : LifeState). IsChosen x.queues c.args.chosen) (sym c.self.view_is) c.requires.chosen in
-    rw (← c.self.view_is) (life_dispatches v _ was (opened c.legal_histories_are_in_order.ensures) c.args.chosen c.dispatch.new.self chosen c.dispatch.ensures)
+    rw (← c.self.view_is, c.keep.ensures, c.from.ensures) (life_dispatches v _ was (opened c.legal_histories_are_in_order.ensures) c.args.chosen c.dispatch.new.self chosen c.dispatch.ensures)
 
 pub returns-clause-fewer : goal.returns-clause-fewer
 returns-clause-fewer g c =

@@ -5,4 +5,4 @@ use Rattle.apf_book.proofs.life.LifeLedger.refuse.Goals as goal
 
 pub returns : goal.returns
 returns g c v hand cost is comes low =
-    life_refuses (opened c.legal_histories_are_in_order.ensures) (stands c.fair_histories_stand.ensures) v c.args.self.now is c.args.request hand c.args.queue cost comes low c.requires.full
+    life_refuses (opened c.legal_histories_are_in_order.ensures) (stands c.settled_logs_stand.ensures) v c.args.self.now is c.args.request hand c.args.queue cost comes low c.requires.full

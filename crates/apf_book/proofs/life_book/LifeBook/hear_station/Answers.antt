@@ -1,5 +1,5 @@
 -- A hearing changes no history.
-use Rattle.std.proofs.Common.{rules, sym, subst}
+use Rattle.std.proofs.Common.{sym, subst}
 use Rattle.apf_book.specs.LifeBook.{LifeBookView, IsLifeKept}
 use Rattle.apf_book.proofs.Saying.{station_quiet}
 use Rattle.apf_book.proofs.LifeKeeping.{life_quiet}

@@ -21,6 +21,7 @@ returns g c = record {
   desk = search rules;
   room = search rules;
   hand = search rules;
+  places = search rules;
   opens = λ v o costs. subst (λ (d : DeskToken). IsLifeKept v (record { desk = d; queues = c.in-Ok.ledger; notes = c.in_ok-new.field-0 })) (sym c.desk.view_is)
       (life_begins v c.args.desk c.in-Ok.ledger c.in_ok-new.field-0 _ _ c.requires.begins.fresh (c.in-Ok.ensures.slots ∙ sym c.requires.begins.slots_are) o costs
       (c.in-Ok.ensures.opening v o) c.in_ok-new.ensures.nothing);

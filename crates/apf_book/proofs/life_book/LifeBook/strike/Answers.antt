@@ -73,6 +73,7 @@ returns-clause-same g c = record {
   queues = (c.in-Some.ensures.some c.self.invariant.view c.self.invariant.kept.of_life).deck ∙ (sym c.self.invariant.kept.of_life.deck ∙ ap (λ (b : LifeBookView). queue_count b.queues.queues) c.self.view_is);
   room = search rules;
   hand = search rules;
+  places = search rules;
 }
 
 pub returns-clause-answer : goal.returns-clause-answer

@@ -118,6 +118,7 @@ returns-in-Entered-clause-same g c = record {
   queues = (c.enter.ensures.enters c.self.invariant.view c.args.dealt.now c.self.invariant.kept.of_life (comes (opened c.legal_histories_are_in_order.ensures) c.self.invariant.view (record { desk = c.self.inside.desk; queues = c.self.inside.ledger; notes = c.self.inside.notes }) c.self.invariant.kept c.number-request.result (is_away (record { desk = c.self.inside.desk; queues = c.self.inside.ledger; notes = c.self.inside.notes }) c.args.pass.now c.number-request.result c.number-request.ensures.number (subst (λ (b : LifeBookView). IsNewTo b c.args.pass.now) (sym c.self.view_is) c.requires.is_new) c.hear-found.ensures.same.not_handed) c.args.dealt.now c.shortest-queue.result (subst (λ (s : Shape). c.number-request.result < length s.widths) (sym (ap (λ (b : LifeBookView). b.desk.desk.knows.shape) c.self.view_is ∙ (ap (λ (x : GateId). x.shape) c.requires.own.own ∙ sym (ap (λ (x : GateId). x.shape) c.requires.own.own_pass)))) c.number-request.ensures.inside) c.shortest-queue.ensures.is_queue (c.shortest-queue.ensures.shortest c.self.invariant.view c.self.invariant.kept.of_life))).deck ∙ (sym c.self.invariant.kept.of_life.deck ∙ ap (λ (b : LifeBookView). queue_count b.queues.queues) c.self.view_is);
   room = search rules;
   hand = search rules;
+  places = search rules;
 }
 
 pub returns-in-Full-clause-same : goal.returns-in-Full-clause-same
@@ -128,6 +129,7 @@ returns-in-Full-clause-same g c = record {
   queues = search rules;
   room = search rules;
   hand = search rules;
+  places = search rules;
 }
 
 pub returns-in-Closed-clause-same : goal.returns-in-Closed-clause-same
@@ -138,6 +140,7 @@ returns-in-Closed-clause-same g c = record {
   queues = search rules;
   room = search rules;
   hand = search rules;
+  places = search rules;
 }
 
 pub returns-in-Cancelled-clause-same : goal.returns-in-Cancelled-clause-same
@@ -148,6 +151,7 @@ returns-in-Cancelled-clause-same g c = record {
   queues = search rules;
   room = search rules;
   hand = search rules;
+  places = search rules;
 }
 
 pub returns-in-Entered-clause-after : goal.returns-in-Entered-clause-after
@@ -219,4 +223,5 @@ returns-in-Raced-clause-same g c = record {
   queues = search rules;
   room = search rules;
   hand = search rules;
+  places = search rules;
 }

@@ -65,15 +65,15 @@ returns-in-Raced-clause-steps g c = λ pass same reads. record {
   takes = inl c.in-Raced.ensures.answer;
 }
 
-pub returns-in-Alone-clause-steps : goal.returns-in-Alone-clause-steps
-returns-in-Alone-clause-steps g c = λ pass same reads. inr (inr (inl (
+pub returns-in-Unqueued-clause-steps : goal.returns-in-Unqueued-clause-steps
+returns-in-Unqueued-clause-steps g c = λ pass same reads. inr (inr (inl (
   refl,
   record {
-    no_queues = responds g.K.Naming.level _ pass.knows.shape Reject c.requires.own same c.in-Alone._alone.no_queues.response;
+    no_queues = responds g.K.Naming.level _ pass.knows.shape Reject c.requires.own same c.in-Unqueued._unqueued.no_queues.response;
     read = c.args.pass.now.pass;
     found = c.try_take.new.pass.pass;
     reads = reads;
     takes = c.in-NoRoom.ensures.answer;
-    decides = c.decide-decision-in-Alone.ensures.answer;
+    decides = c.decide-decision-in-Unqueued.ensures.answer;
   },
 )))

@@ -7,8 +7,8 @@ use Rattle.apf_life.specs.Arrivals.{Came}
 use Rattle.apf_life.proofs.Asks.{asked_more, is_asked, came_more}
 use Rattle.apf_life.proofs.level.Level.enqueue.Goals as goal
 
-pub arrive-stood-requires-clause-stands : goal.arrive-stood-requires-clause-stands
-arrive-stood-requires-clause-stands g c = λ κs outlive.
+pub arrive-enqueued-requires-clause-stands : goal.arrive-enqueued-requires-clause-stands
+arrive-enqueued-requires-clause-stands g c = λ κs outlive.
     let dealt : c.as_slice.result.now ≡ hand_of g.K.Naming.level.sizes c.args.hash = (search rules) in
     record {
       own = search rules;
@@ -28,10 +28,10 @@ returns-in-Entered-clause-logs g c =
     let k = g.K.Naming.level in
     let r = c.args.pass.now.pass.number in
     let dealt : c.as_slice.result.now ≡ hand_of k.sizes c.args.hash = (search rules) in
-    let number : c.arrive-stood.new.pass.pass.number ≡ r = c.in-Entered.ensures.same.number ∙ c.ask.ensures.same.number in
+    let number : c.arrive-enqueued.new.pass.pass.number ≡ r = c.in-Entered.ensures.same.number ∙ c.ask.ensures.same.number in
     let ticket : c.ticket-ticket.result.number ≡ r = c.ticket-ticket.ensures.number ∙ c.ask.ensures.same.number in
     let t = c.ask.new.pass.pass.knows.trace in
-    let a = subst (λ (xs : List ℕ). Came k t c.arrive-stood.new.pass.pass.number xs c.args.cost (Enter c.arrive-stood.new.pass.pass.number c.in-Entered.queue)) dealt c.in-Entered.ensures.stands.1 in
+    let a = subst (λ (xs : List ℕ). Came k t c.arrive-enqueued.new.pass.pass.number xs c.args.cost (Enter c.arrive-enqueued.new.pass.pass.number c.in-Entered.queue)) dealt c.in-Entered.ensures.stands.1 in
     let b = subst (λ (i : ℕ). Came k t i (hand_of k.sizes c.args.hash) c.args.cost (Enter i c.in-Entered.queue)) number a in
     let d = subst (λ (i : ℕ). Came k t r (hand_of k.sizes c.args.hash) c.args.cost (Enter i c.in-Entered.queue)) (sym ticket) b in
     ((ticket, (search rules)), came_more k c.args.pass.now.pass.knows c.ask.new.pass.pass.knows r (hand_of k.sizes c.args.hash) c.args.cost (Enter c.ticket-ticket.result.number c.in-Entered.queue) c.ask.ensures.same.more d)
@@ -41,10 +41,10 @@ returns-in-Full-clause-logs g c =
     let k = g.K.Naming.level in
     let r = c.args.pass.now.pass.number in
     let dealt : c.as_slice.result.now ≡ hand_of k.sizes c.args.hash = (search rules) in
-    let number : c.arrive-stood.new.pass.pass.number ≡ r = c.in-Full.ensures.same.number ∙ c.ask.ensures.same.number in
+    let number : c.arrive-enqueued.new.pass.pass.number ≡ r = c.in-Full.ensures.same.number ∙ c.ask.ensures.same.number in
     let ticket : c.ticket-ticket.result.number ≡ r = c.ticket-ticket.ensures.number ∙ c.ask.ensures.same.number in
     let t = c.ask.new.pass.pass.knows.trace in
-    let a = subst (λ (xs : List ℕ). Came k t c.arrive-stood.new.pass.pass.number xs c.args.cost (Full c.arrive-stood.new.pass.pass.number c.in-Full.queue)) dealt c.in-Full.ensures.stands.2 in
+    let a = subst (λ (xs : List ℕ). Came k t c.arrive-enqueued.new.pass.pass.number xs c.args.cost (Full c.arrive-enqueued.new.pass.pass.number c.in-Full.queue)) dealt c.in-Full.ensures.stands.2 in
     let b = subst (λ (i : ℕ). Came k t i (hand_of k.sizes c.args.hash) c.args.cost (Full i c.in-Full.queue)) number a in
     let d = subst (λ (i : ℕ). Came k t r (hand_of k.sizes c.args.hash) c.args.cost (Full i c.in-Full.queue)) (sym ticket) b in
     ((ticket, (search rules)), came_more k c.args.pass.now.pass.knows c.ask.new.pass.pass.knows r (hand_of k.sizes c.args.hash) c.args.cost (Full c.ticket-ticket.result.number c.in-Full.queue) c.ask.ensures.same.more d)

@@ -66,16 +66,16 @@ returns-in-Raced-clause-steps g c = λ pass same reads. record {
   takes = inl c.in-Raced.ensures.answer;
 }
 
-pub returns-in-Alone-clause-steps : goal.returns-in-Alone-clause-steps
-returns-in-Alone-clause-steps g c = λ pass same reads. inr (inr (inl (
+pub returns-in-Unqueued-clause-steps : goal.returns-in-Unqueued-clause-steps
+returns-in-Unqueued-clause-steps g c = λ pass same reads. inr (inr (inl (
   refl,
   record {
-    no_queues = responds g.K.Naming.level _ pass.knows.shape Reject c.requires.fresh.own same c.in-Alone._alone.no_queues;
+    no_queues = responds g.K.Naming.level _ pass.knows.shape Reject c.requires.fresh.own same c.in-Unqueued._unqueued.no_queues;
     read = c.args.pass.now.pass;
     found = c.try_take.new.pass.pass;
     reads = reads;
     takes = c.in-NoRoom.ensures.answer;
-    decides = c.decide-decision-in-Alone.ensures.answer;
+    decides = c.decide-decision-in-Unqueued.ensures.answer;
   },
 )))
 
@@ -85,8 +85,8 @@ returns-then-eq-clause-more g c = more_then c.args.pass.now.pass.knows c.try_tak
 pub returns-in-Closed-clause-more : goal.returns-in-Closed-clause-more
 returns-in-Closed-clause-more g c = more_then c.args.pass.now.pass.knows c.try_take.new.pass.pass.knows c.decide-decision-in-Closed.new.pass.pass.knows c.try_take.ensures.same.more c.decide-decision-in-Closed.ensures.same.more
 
-pub returns-in-Alone-clause-more : goal.returns-in-Alone-clause-more
-returns-in-Alone-clause-more g c = more_then c.args.pass.now.pass.knows c.try_take.new.pass.pass.knows c.decide-decision-in-Alone.new.pass.pass.knows c.try_take.ensures.same.more c.decide-decision-in-Alone.ensures.same.more
+pub returns-in-Unqueued-clause-more : goal.returns-in-Unqueued-clause-more
+returns-in-Unqueued-clause-more g c = more_then c.args.pass.now.pass.knows c.try_take.new.pass.pass.knows c.decide-decision-in-Unqueued.new.pass.pass.knows c.try_take.ensures.same.more c.decide-decision-in-Unqueued.ensures.same.more
 
 pub returns-else-eq-clause-more : goal.returns-else-eq-clause-more
 returns-else-eq-clause-more g c = more_then c.args.pass.now.pass.knows c.decide-decision.new.pass.pass.knows c.release-waiting.new.pass.pass.knows (more_then c.args.pass.now.pass.knows c.try_take.new.pass.pass.knows c.decide-decision.new.pass.pass.knows c.try_take.ensures.same.more c.decide-decision.ensures.same.more) c.release-waiting.ensures.same.more

@@ -1,6 +1,6 @@
 -- Events of a history of the level.
 use Rattle.std.proofs.Common.{ℕ, subst}
-use Rattle.apf_book.specs.Notes.{CopiesLate}
+use Rattle.apf_book.specs.RecentEvents.{CopiesLate}
 use Rattle.apf_life.proofs.Histories.{opened}
 use Rattle.apf_life.proofs.queued.Queued.copy_events.Goals as goal
 

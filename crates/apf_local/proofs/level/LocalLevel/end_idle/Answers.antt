@@ -22,4 +22,4 @@ pub returns : goal.returns
 returns c = of_each _ _ (λ r ends v is.
     let l : LocalView = record { owner = c.self.inside.owner; sizes = c.self.inside.dealer; places = c.self.inside.places.items } in
     let kept : IsLifeKept v l.owner.book = subst (λ (x : LocalView). IsLifeKept v x.owner.book) (sym c.self.view_is) is in
-    subst (λ (x : LocalView). EndedAs (id_of x) v x.owner.passes x.owner.stations r) c.self.view_is (ends (id_of l) v refl (record { queues = c.self.invariant.deck; limit = refl; hand = c.self.invariant.hand }) kept)) c.end.result c.end.ensures
+    subst (λ (x : LocalView). EndedAs (id_of x) v x.owner.passes x.owner.stations r) c.self.view_is (ends (id_of l) v refl (record { queues = c.self.invariant.deck; limit = refl; hand = c.self.invariant.hand; settles = refl }) kept)) c.end.result c.end.ensures

@@ -1,5 +1,5 @@
 -- An owner of a gate that was just opened.
-use Rattle.std.proofs.Common.{rules, ◌≡◌, ◌≤◌, ◌<◌, ◌*◌, ℕ, zero, suc, ◌+◌, List, [], ◌∷◌, ◌++◌, length, get_or, Some, inl, inr, refl, sym, ap, ◌∙◌, subst, arith}
+use Rattle.std.proofs.Common.{rules, ◌≡◌, ◌≤◌, ◌<◌, ◌*◌, ℕ, zero, suc, List, [], ◌∷◌, length, get_or, Some, refl, sym, ap, ◌∙◌, subst, arith}
 use Rattle.std.specs.Prelude.{map, Option}
 use Rattle.std.proofs.lemmas.Option.{get_or_from_slice_get, slice_get_within}
 use Rattle.apf_words.specs.Limits.{max_requests}
@@ -18,7 +18,7 @@ use Rattle.apf_book.specs.Life.{LifeView}
 use Rattle.apf_book.specs.LifeBook.{LifeBookView, IsLifeKept}
 use Rattle.apf_flow.specs.Sizes.{IsDealable}
 use Rattle.apf_queue.specs.View.{IsQueueShape}
-use Rattle.apf_local.specs.Openings.{line_of, set_by, HasQueues, CanOpen}
+use Rattle.apf_local.specs.Openings.{line_of, set_by, HasQueues}
 use Rattle.apf_local.proofs.Beginning.{beginning, is_beginning, opened}
 use Rattle.apf_local.proofs.owner.Owner.open.Goals as goal
 
@@ -125,4 +125,5 @@ returns-clause-opened c =
       all_passes = search rules;
       all_stations = search rules;
       room = c.in_ok-book.ensures.room;
+      places = c.in_ok-book.ensures.places;
     }

@@ -7,7 +7,7 @@ use Rattle.apf_service.specs.Kept.{state_of}
 use Rattle.apf_service.specs.Turns.{Turns}
 use Rattle.apf_service.proofs.Obeying.{changes}
 use Rattle.apf_service.proofs.service.Service.obey.Goals as goal
-use Rattle.apf_service.proofs.service.Service.obey.Goals.{in-Arrive, in-Try, in-Finish, in-Cancel, in-Limit, in-Close}
+use Rattle.apf_service.proofs.service.Service.obey.Goals.{in-Arrive, in-Try, in-Finish, in-Spent, in-Cancel, in-Limit, in-Close}
 
 pub returns-clause-told : goal.returns-clause-told
 returns-clause-told g c =
@@ -15,6 +15,7 @@ returns-clause-told g c =
       | in-Arrive w ↦ search (w.arrive-reply.ensures.turns, w.self-is, w.reply-is, rules)
       | in-Try w ↦ search (w.attempt-reply.ensures.turns, w.self-is, w.reply-is, rules)
       | in-Finish w ↦ search (w.finish-reply.ensures.turns, w.self-is, w.reply-is, rules)
+      | in-Spent w ↦ search (w.spend-reply.ensures.turns, w.self-is, w.reply-is, rules)
       | in-Cancel w ↦ search (w.cancel-reply.ensures.turns, w.self-is, w.reply-is, rules)
       | in-Limit w ↦ search (w.set_limit-reply.ensures.turns, w.self-is, w.reply-is, rules)
       | in-Close w ↦ search (w.close-reply.ensures.turns, w.self-is, w.reply-is, rules)

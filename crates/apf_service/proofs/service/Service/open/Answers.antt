@@ -11,7 +11,7 @@ use Rattle.apf_service.proofs.service.Service.open.Goals as goal
 pub invariant_of-result : goal.invariant_of-result
 invariant_of-result c =
     let l : LocalView = c.in_ok-level.level in
-    let opened : IsOpened c.args.config.now c.args.slots l = c.in_ok-level.ensures.opened in
+    let opened : IsOpened c.args.config.now c.args.slots c.settling_of.result l = c.in_ok-level.ensures.opened in
     record {
       tallied = record {
         few = subst (λ (n : ℕ). n ≤ max_requests) (sym opened.count) opened.owner.few;

@@ -8,6 +8,7 @@ use Rattle.apf_local.specs.declared.answer.Place.TheVariants as places
 use Rattle.apf_gate.specs.StationCalls.{TriesToCancel}
 use Rattle.apf_local.specs.Owners.{Steps}
 use Rattle.apf_local.specs.Worlds.{IsDecidedIn}
+use Rattle.apf_simulation.specs.Logs.{noted_of}
 use Rattle.apf_simulation.specs.Operators.{Cancels}
 use Rattle.apf_simulation.specs.Slots.{Slots, slots_of, number_of}
 use Rattle.apf_simulation.specs.Ties.{AreTiedBut, Here, IsWaiting}
@@ -57,9 +58,9 @@ returns-then-eq-clause-same c = same_then c.args.self.now.level c.cancel.new.sel
 pub returns-then-eq-clause-logs : goal.returns-then-eq-clause-logs
 returns-then-eq-clause-logs c =
     let l = c.args.self.now.level in
-    let queues = c.args.self.now.notes.queues.items in
-    on_then c.args.trace.now l c.cancel.new.self c.read.new.self.level queues queues c.read.new.self.notes.queues.items
-    (on c.args.trace.now l c.cancel.new.self queues c.cancel.ensures.same c.cancel.ensures.history) c.read.ensures.logs
+    let notes = noted_of c.args.self.now.notes in
+    on_then c.args.trace.now l c.cancel.new.self c.read.new.self.level notes notes (noted_of c.read.new.self.notes)
+    (on c.args.trace.now l c.cancel.new.self notes c.cancel.ensures.same c.cancel.ensures.history) c.read.ensures.logs
 
 pub returns-then-eq-clause-cancels : goal.returns-then-eq-clause-cancels
 returns-then-eq-clause-cancels c =
@@ -83,4 +84,4 @@ pub returns-else-eq-clause-same : goal.returns-else-eq-clause-same
 returns-else-eq-clause-same c = same_as c.args.self.now.level
 
 pub returns-else-eq-clause-logs : goal.returns-else-eq-clause-logs
-returns-else-eq-clause-logs c = stays c.args.trace.now c.args.self.now.level c.args.self.now.notes.queues.items
+returns-else-eq-clause-logs c = stays c.args.trace.now c.args.self.now.level (noted_of c.args.self.now.notes)

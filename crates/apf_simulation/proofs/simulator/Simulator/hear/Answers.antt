@@ -3,6 +3,7 @@ use Rattle.std.proofs.Common.{rules, ◌≡◌, ℕ, List, Some, ap, ◌∙◌, 
 use Rattle.std.specs.Prelude.{slice_get}
 use Rattle.apf_local.specs.declared.answer.Place.{Place}
 use Rattle.apf_local.specs.declared.answer.Place.TheVariants as places
+use Rattle.apf_simulation.specs.Logs.{noted_of}
 use Rattle.apf_simulation.specs.Slots.{slots_of}
 use Rattle.apf_simulation.proofs.Logging.{same_as, stays}
 use Rattle.apf_simulation.proofs.Reading.{has_patience, is_waiting}
@@ -16,10 +17,10 @@ pub returns-in_default-clause-same : goal.returns-in_default-clause-same
 returns-in_default-clause-same c = same_as c.args.self.now.level
 
 pub returns-in_default-clause-logs : goal.returns-in_default-clause-logs
-returns-in_default-clause-logs c = stays c.args.trace.now c.args.self.now.level c.args.self.now.notes.queues.items
+returns-in_default-clause-logs c = stays c.args.trace.now c.args.self.now.level (noted_of c.args.self.now.notes)
 
 pub returns-else-request-slots-clause-logs : goal.returns-else-request-slots-clause-logs
-returns-else-request-slots-clause-logs c = stays c.args.trace.now c.args.self.now.level c.args.self.now.notes.queues.items
+returns-else-request-slots-clause-logs c = stays c.args.trace.now c.args.self.now.level (noted_of c.args.self.now.notes)
 
 pub read-requires-clause-others : goal.read-requires-clause-others
 read-requires-clause-others c =

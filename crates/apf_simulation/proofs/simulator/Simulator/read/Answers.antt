@@ -1,4 +1,5 @@
 -- The request is tied again.
+use Rattle.apf_simulation.specs.Logs.{noted_of}
 use Rattle.apf_simulation.proofs.Logging.{on, same_of}
 use Rattle.apf_simulation.proofs.Reading.{may_start, read_runs, read_waits, read_free}
 use Rattle.apf_simulation.proofs.Tying.{no_course}
@@ -14,7 +15,7 @@ returns-in-Waits-clause-still c = λ patient.
     read_waits c.args.trace.now c.args.request c.args.self.now.diary.calendar c.args.self.now.level c.place-place.new.self c.args.self.now.notes c.requires.others c.place-place.result c.requires.waits c.place-place.ensures.reads no_course c.in-Waits.is patient
 
 pub returns-in-Waits-clause-logs : goal.returns-in-Waits-clause-logs
-returns-in-Waits-clause-logs c = on c.args.trace.now c.args.self.now.level c.place-place.new.self c.args.self.now.notes.queues.items c.place-place.ensures.same c.place-place.ensures.history
+returns-in-Waits-clause-logs c = on c.args.trace.now c.args.self.now.level c.place-place.new.self (noted_of c.args.self.now.notes) c.place-place.ensures.same c.place-place.ensures.history
 
 pub returns-in-Runs-clause-tied : goal.returns-in-Runs-clause-tied
 returns-in-Runs-clause-tied c = λ ne.
@@ -25,7 +26,7 @@ returns-in-Runs-clause-still c = λ patient.
     read_runs c.args.trace.now c.args.request c.args.self.now.diary.calendar c.args.self.now.level c.place-place.new.self c.args.self.now.notes c.requires.others c.place-place.result c.requires.waits c.place-place.ensures.reads no_course c.start.new.self.calendar c.in-Runs.is c.start.ensures.step.2
 
 pub returns-in-Runs-clause-logs : goal.returns-in-Runs-clause-logs
-returns-in-Runs-clause-logs c = on c.args.trace.now c.args.self.now.level c.place-place.new.self c.args.self.now.notes.queues.items c.place-place.ensures.same c.place-place.ensures.history
+returns-in-Runs-clause-logs c = on c.args.trace.now c.args.self.now.level c.place-place.new.self (noted_of c.args.self.now.notes) c.place-place.ensures.same c.place-place.ensures.history
 
 pub returns-in-Free-clause-tied : goal.returns-in-Free-clause-tied
 returns-in-Free-clause-tied c = λ ne.
@@ -36,7 +37,7 @@ returns-in-Free-clause-still c = λ patient.
     read_free c.args.trace.now c.args.request c.args.self.now.diary.calendar c.args.self.now.level c.place-place.new.self c.args.self.now.notes c.requires.others c.place-place.result c.requires.waits c.place-place.ensures.reads no_course c.in-Free.is
 
 pub returns-in-Free-clause-logs : goal.returns-in-Free-clause-logs
-returns-in-Free-clause-logs c = on c.args.trace.now c.args.self.now.level c.place-place.new.self c.args.self.now.notes.queues.items c.place-place.ensures.same c.place-place.ensures.history
+returns-in-Free-clause-logs c = on c.args.trace.now c.args.self.now.level c.place-place.new.self (noted_of c.args.self.now.notes) c.place-place.ensures.same c.place-place.ensures.history
 
 pub returns-in-Waits-clause-same : goal.returns-in-Waits-clause-same
 returns-in-Waits-clause-same c = same_of c.args.self.now.level c.place-place.new.self c.place-place.ensures.same

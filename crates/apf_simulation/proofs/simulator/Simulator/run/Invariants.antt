@@ -1,7 +1,8 @@
 -- The requests are tied, the diary and the level go on, the operator cancels alone, and less is left with each step.
 use Rattle.apf_times.specs.Courses.{left}
+use Rattle.apf_simulation.specs.Charged.{ChargesOn, charged_in}
 use Rattle.apf_simulation.specs.Diaries.{GoesOn}
-use Rattle.apf_simulation.specs.Logs.{LogsOn}
+use Rattle.apf_simulation.specs.Logs.{LogsOn, noted_of}
 use Rattle.apf_simulation.specs.Operators.{CancelsAlone}
 use Rattle.apf_simulation.specs.Slots.{IsSame, slots_of}
 use Rattle.apf_simulation.specs.Ties.{AreTied}
@@ -12,7 +13,8 @@ invariant-loop l = record {
   tied : AreTied l.trace l.self.diary.calendar (slots_of l.self.level l.self.notes);
   goes_on : GoesOn l.initial.self.diary l.self.diary;
   same : IsSame l.initial.self.level l.self.level;
-  logs : LogsOn l.trace l.initial.self.level l.initial.self.notes.queues.items l.self.level l.self.notes.queues.items;
+  logs : LogsOn l.trace l.initial.self.level (noted_of l.initial.self.notes) l.self.level (noted_of l.self.notes);
+  charged : ChargesOn l.trace l.initial.self.diary (charged_in l.initial.self.charges l.initial.self.notes) l.self.diary (charged_in l.self.charges l.self.notes);
   cancels : CancelsAlone l.trace l.initial.self.diary l.self.diary l.initial.self.level.owner.stations l.self.level.owner.stations;
 }
 

@@ -4,9 +4,12 @@ use Rattle.apf_gate.specs.Tokens.{StationToken}
 use Rattle.apf_times.specs.declared.act.Act.TheVariants.{CarriedOut}
 use Rattle.apf_times.specs.Courses.{At, ComesFirst, IsDueBy}
 use Rattle.apf_times.specs.Runs.{IsStep}
+use Rattle.apf_simulation.specs.Charged.{charged_in}
+use Rattle.apf_simulation.specs.Logs.{noted_of}
 use Rattle.apf_simulation.specs.Operators.{CancelsOnly}
 use Rattle.apf_simulation.specs.Slots.{slots_of}
 use Rattle.apf_simulation.proofs.Calling.{call_due}
+use Rattle.apf_simulation.proofs.Charging.{nothing, one as one_charged}
 use Rattle.apf_simulation.proofs.Going.{goes_on}
 use Rattle.apf_simulation.proofs.Logging.{on_then, same_then, stays}
 use Rattle.apf_simulation.proofs.Operating.{one}
@@ -24,7 +27,21 @@ call-requires-clause-due c =
     call_due c.args.trace.now u v (slots_of c.args.self.now.level c.args.self.now.notes) d c.requires.tied step due turn low
 
 pub returns-in_default-clause-logs : goal.returns-in_default-clause-logs
-returns-in_default-clause-logs c = stays c.args.trace.now c.args.self.now.level c.args.self.now.notes.queues.items
+returns-in_default-clause-logs c = stays c.args.trace.now c.args.self.now.level (noted_of c.args.self.now.notes)
+
+pub returns-in_default-clause-charged : goal.returns-in_default-clause-charged
+returns-in_default-clause-charged c =
+    let old = c.args.self.now in
+    let same : c.next.new.self.carried ≡ old.diary.carried = search rules in
+    nothing c.args.trace.now old.diary c.next.new.self (charged_in old.charges old.notes) same
+
+pub returns-clause-charged : goal.returns-clause-charged
+returns-clause-charged c =
+    let old = c.args.self.now in
+    let new = c.follow.new.self in
+    let d = c.in-Some.due in
+    let more : c.next.new.self.carried ≡ old.diary.carried ++ (d ∷ []) = search rules in
+    one_charged c.args.trace.now old.diary new.diary d (charged_in old.charges old.notes) (charged_in new.charges new.notes) (c.follow.ensures.carried ∙ (c.call.ensures.carried ∙ more)) (c.follow.ensures.charged ∙ c.call.ensures.charged)
 
 pub returns-clause-goes_on : goal.returns-clause-goes_on
 returns-clause-goes_on c =
@@ -36,7 +53,7 @@ pub returns-clause-same : goal.returns-clause-same
 returns-clause-same c = same_then c.args.self.now.level c.call.new.self.level c.follow.new.self.level c.call.ensures.same c.follow.ensures.same
 
 pub returns-clause-logs : goal.returns-clause-logs
-returns-clause-logs c = on_then c.args.trace.now c.args.self.now.level c.call.new.self.level c.follow.new.self.level c.args.self.now.notes.queues.items c.call.new.self.notes.queues.items c.follow.new.self.notes.queues.items c.call.ensures.logs c.follow.ensures.logs
+returns-clause-logs c = on_then c.args.trace.now c.args.self.now.level c.call.new.self.level c.follow.new.self.level (noted_of c.args.self.now.notes) (noted_of c.call.new.self.notes) (noted_of c.follow.new.self.notes) c.call.ensures.logs c.follow.ensures.logs
 
 pub returns-clause-cancels : goal.returns-clause-cancels
 returns-clause-cancels c =

@@ -1,0 +1,153 @@
+"""What the requests of a trace are charged, by the program and by the independent computation: 2,000 drawn traces in which it matters, word for
+word. Then long traces: of a flow of which more than 256 requests finish, and of more flows than a set of the table has room for."""
+
+import json
+import os
+import random
+import sys
+
+sys.path.insert(0, os.path.join(os.path.dirname(os.path.abspath(__file__)), "lib"))
+import simulation
+from charges import NEWEST, SETS, WAYS
+from harness import Files, Tally, build, run
+from simulation import Run, words_of
+from trace import request_of
+
+tally = Tally()
+program = build()
+files = Files()
+# the same draws each time; APF_SEED draws others
+seed = int(os.environ.get("APF_SEED", "1042"))
+draw = random.Random(seed)
+TRACES = int(os.environ.get("APF_TRACES", "2000"))
+print(f"seed {seed}")
+
+
+def printed(command, config, objects, *how):
+    """What the program does by a command on a level and the requests of these objects."""
+    content = b"".join(json.dumps(it).encode() + b"\n" for it in objects)
+    return run(program, [command, files("config", json.dumps(config)), files("trace", content), *words_of(*how)])
+
+
+def told(lines):
+    return 0, "".join(f"{line}\n" for line in lines).encode(), b""
+
+
+def drawn_level():
+    queues = draw.choice([1, 2, 2, 3, 4, 8])
+    return {
+        "limit": draw.choice([1, 1, 2, 3, 5]),
+        "queues": queues,
+        "handSize": draw.randint(1, min(queues, 3)),
+        "queueLengthLimit": draw.choice([2, 10, 50]),
+        "limitResponse": "Queue",
+    }
+
+
+def drawn_objects():
+    """Few flows, of which each has runs of its own length, and comes again when it is known."""
+    kind = draw.random()
+    if kind < 0.1:
+        # more flows than a set of the table has room for
+        flows = [{"hash": SETS * it + 3} for it in range(WAYS + 3)]
+    else:
+        flows = [draw.choice([{"hash": draw.randrange(20)}, {"schema": "a", "distinguisher": draw.choice("abcdefgh")}]) for _ in range(draw.randint(2, 6))]
+    runs = [draw.choice([0, 1, 5, 20, 20, 100, 100, 1000, 20_000]) for _ in flows]
+    gaps = draw.choice([[0, 0, 1, 5], [0, 0, 0, 50], [0, 1, 20, 500]])
+    if kind > 0.9:
+        # runs of which no cost has all
+        runs[0], gaps = 10_000_000_000, [0, 0, 0, 20_000_000_000]
+    widths = draw.choice([[1], [1, 1, 2], [1, 3, 7]])
+    has_costs = draw.random() < 0.25
+    time, objects = 0, []
+    for _ in range(draw.choice([8, 20, 20, 30, 45])):
+        time += draw.choice(gaps)
+        flow = draw.randrange(len(flows))
+        each = {**flows[flow], "arrivesAt": time, "runsFor": draw.choice([runs[flow], runs[flow], runs[flow] // 2, draw.choice(runs)])}
+        if widths != [1]:
+            each["width"] = draw.choice(widths)
+        if has_costs and draw.random() < 0.3:
+            each["cost"] = draw.choice([1, 2, 30, 1000, 9_999, 10_001, 4_294_967_295])
+        objects.append(each)
+    if draw.random() < 0.3:
+        draw.shuffle(objects)
+    return objects
+
+
+# what happens in a drawn trace, and in how many of 2,000 at least
+MATTERS = "by time it is another run than by seats"
+SEEN = {
+    MATTERS: 500,
+    "a line has a cost, and by time it is another run than as usual": 30,
+    "two requests of a flow, of one width, wait and have unlike costs": 500,
+    "a request that gave up": 300,
+    "a full queue": 150,
+    "a cost of 10,000 a seat": 500,
+    "the largest cost, which no line has": 30,
+    "a cost of 1, which no line has": 30,
+    "a flow that was forgotten": 20,
+}
+
+
+def happenings(made, config, patience):
+    """Those of them that happen in this run by time."""
+    trace, asked = made.trace, made.asked
+    entered = [it for kind, it, _ in made.level.log if kind == "enter"]
+    own = [it for it in range(len(trace)) if trace[it]["cost"] is None]
+    costs = {}
+    for it in entered:
+        if it in own:
+            costs.setdefault((trace[it]["hash"], trace[it]["width"]), set()).add(asked[it]["cost"])
+    fates = simulation.fates(made)
+    known = sum(map(len, made.means.sets))
+    finished = {trace[it]["hash"] for it in made.started}
+    happens = {
+        MATTERS: fates != simulation.fates(Run(config, trace, patience, "seats")),
+        "a line has a cost, and by time it is another run than as usual": len(own) < len(trace) and fates != simulation.fates(Run(config, trace, patience)),
+        "two requests of a flow, of one width, wait and have unlike costs": any(len(it) > 1 for it in costs.values()),
+        "a request that gave up": "cancelled" in made.level.decided.values(),
+        "a full queue": "queue-full" in made.level.decided.values(),
+        "a cost of 10,000 a seat": any(asked[it]["cost"] == 10_000 * trace[it]["width"] for it in entered if it in own),
+        "the largest cost, which no line has": any(asked[it]["cost"] == 4_294_967_295 for it in entered if it in own),
+        "a cost of 1, which no line has": any(asked[it]["cost"] == 1 for it in entered if it in own),
+        "a flow that was forgotten": known < len(finished),
+    }
+    return [what for what, is_so in happens.items() if is_so]
+
+
+def check_drawn():
+    """Each trace by time: what became of each request, and now and then what the other commands print."""
+    seen = dict.fromkeys(SEEN, 0)
+    for number in range(TRACES):
+        config, objects, patience = drawn_level(), drawn_objects(), draw.choice([0, 0, 30, 200, 1000, 1_000_000_000])
+        made = Run(config, [request_of(it) for it in objects], patience, "time")
+        name = f"{number}: {config}, {objects}, patience {patience}"
+        tally.check(f"fates by time of {name}", printed("fates", config, objects, patience, "time"), told(simulation.fates(made)))
+        if number % 5 == 0:
+            command = ("simulate", "timeline")[number % 2]
+            tally.check(f"{command} by time of {name}", printed(command, config, objects, patience, "time"), told(getattr(simulation, command)(made)))
+        happened = happenings(made, config, patience)
+        if MATTERS in happened:
+            usual = Run(config, made.trace, patience)
+            tally.check(f"fates as usual of {name}", printed("fates", config, objects, patience), told(simulation.fates(usual)))
+        for what in happened:
+            seen[what] += 1
+    for what, count in seen.items():
+        tally.check(f"in many traces: {what}: {count}", count >= SEEN[what] * TRACES // 2000, True)
+
+
+def check_long():
+    """A flow of which more requests finish than its mean remembers, beside one that comes again; and many flows of one set."""
+    config = {"limit": 2, "queues": 4, "handSize": 2, "queueLengthLimit": 50, "limitResponse": "Queue"}
+    steady = [{"hash": 1, "arrivesAt": 40 * it, "runsFor": draw.choice([20, 30, 90])} for it in range(2 * NEWEST)]
+    now_and_then = [{"hash": 2, "arrivesAt": 400 * it, "runsFor": draw.choice([20, 60, 900])} for it in range(NEWEST // 5)]
+    one_set = [{"hash": SETS * draw.randrange(2 * WAYS) + 7, "arrivesAt": 13 * it, "runsFor": draw.choice([5, 50])} for it in range(NEWEST)]
+    for name, objects in (("a steady flow", steady + now_and_then), ("flows of one set", one_set + now_and_then)):
+        made = Run(config, [request_of(it) for it in objects], 2000, "time")
+        tally.check(f"{name}: some wait", made.level.count("dispatch") > 100, True)
+        tally.check(f"{name}: fates by time", printed("fates", config, objects, 2000, "time"), told(simulation.fates(made)))
+
+
+check_drawn()
+check_long()
+tally.end()

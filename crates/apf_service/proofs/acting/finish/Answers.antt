@@ -38,9 +38,9 @@ returns-clause-turns c =
       settles = c.release-answer.ensures.settles;
       told = search rules;
       after = state_by_parts c.release-answer.new.level c.learn.new.notes _ _ _ _ _
-      (c.learn.ensures.same.0 ∙ c.after_finish-notes.ensures ∙ ap (λ (n : ℕ). after_finish n answer c.args.notes.now.tally) width)
-      (c.learn.ensures.same.1 ∙ with_items_is c.args.notes.now.queues c.settle.new.queues (c.settle.auto.queues ∙ c.as_mut_slice.ensures.len) ∙ c.settle.ensures ∙ ap (queues_after answer c.args.ran c.width_of-width.result c.charge-charge.result) c.as_mut_slice.ensures.value ∙ ap (λ (n : ℕ). queues_after answer c.args.ran n c.charge-charge.result given) width ∙ ap (λ (o : Option Charge). queues_after answer c.args.ran (width_in (get_or (slots_of l) c.args.slot no_slot)) o given) charge)
-      c.learn.ensures.same.2 c.learn.ensures.charges c.learn.ensures.same.3;
+          (c.learn.ensures.same.0 ∙ c.after_finish-notes.ensures ∙ ap (λ (n : ℕ). after_finish n answer c.args.notes.now.tally) width)
+          (c.learn.ensures.same.1 ∙ with_items_is c.args.notes.now.queues c.settle.new.queues (c.settle.auto.queues ∙ c.as_mut_slice.ensures.len) ∙ c.settle.ensures ∙ ap (queues_after answer c.args.ran c.width_of-width.result c.charge-charge.result) c.as_mut_slice.ensures.value ∙ ap (λ (n : ℕ). queues_after answer c.args.ran n c.charge-charge.result given) width ∙ ap (λ (o : Option Charge). queues_after answer c.args.ran (width_in (get_or (slots_of l) c.args.slot no_slot)) o given) charge)
+          c.learn.ensures.same.2 c.learn.ensures.charges c.learn.ensures.same.3;
     }
 
 pub returns-clause-tallied : goal.returns-clause-tallied

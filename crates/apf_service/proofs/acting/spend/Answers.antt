@@ -33,7 +33,7 @@ returns-clause-turns c =
       };
       told = search rules;
       after = given_by (state_of l c.args.notes.now) c.spend-executes.new.self _ _
-      (with_items_is c.args.notes.now.queues c.spend_of.new.queues (c.spend_of.auto.queues ∙ c.as_mut_slice.ensures.len) ∙ c.spend_of.ensures ∙ ap (queues_spent executes c.seat_time-took.result c.charge-charge.result) c.as_mut_slice.ensures.value ∙ ap (λ (n : ℕ). queues_spent executes n c.charge-charge.result given) took ∙ ap (λ (o : Option Charge). queues_spent executes (seat_time_of (width_in (get_or (slots_of l) c.args.slot no_slot)) c.args.micros) o given) charge);
+          (with_items_is c.args.notes.now.queues c.spend_of.new.queues (c.spend_of.auto.queues ∙ c.as_mut_slice.ensures.len) ∙ c.spend_of.ensures ∙ ap (queues_spent executes c.seat_time-took.result c.charge-charge.result) c.as_mut_slice.ensures.value ∙ ap (λ (n : ℕ). queues_spent executes n c.charge-charge.result given) took ∙ ap (λ (o : Option Charge). queues_spent executes (seat_time_of (width_in (get_or (slots_of l) c.args.slot no_slot)) c.args.micros) o given) charge);
     }
 
 pub returns-clause-tallied : goal.returns-clause-tallied

@@ -8,7 +8,8 @@ use Rattle.apf_history.specs.declared.events.Event.TheVariants as events
 use Rattle.apf_model.specs.History.{has_arrived}
 use Rattle.apf_model.specs.Charged.{charge_of}
 use Rattle.apf_queue.specs.View.{queue_count, max_charge}
-use Rattle.apf_gate.specs.Records.{told_own, own_width}
+use Rattle.apf_model.specs.World.{width}
+use Rattle.apf_gate.specs.Records.{told_own}
 use Rattle.apf_gate.specs.Slots.{next_of}
 use Rattle.apf_gate.specs.Tokens.{PassToken, StationToken}
 use Rattle.apf_book.specs.declared.life_event.LifeEvent.{LifeEvent}
@@ -198,8 +199,8 @@ SpendsOn v b r m b' = ((c : Charge) × (charge_in b.queues r ≡ Some c) × (cha
 
 -- each log has that the slot's request took so long before anything else
 abbrev pub SettlesSlot : ℕ → ℕ → LocalView → LocalView → Type 0
-SettlesSlot slot micros l l' = IsSlotOf l.owner.passes slot (λ (t : PassToken). (v : LifeView) → IsLifeKept v l.owner.book → SettlesOn v l.owner.book t.pass.number (seat_time_of (own_width t.pass) micros) l'.owner.book)
+SettlesSlot slot micros l l' = IsSlotOf l.owner.passes slot (λ (t : PassToken). (v : LifeView) → IsLifeKept v l.owner.book → SettlesOn v l.owner.book t.pass.number (seat_time_of (width l.owner.gate.shape.widths t.pass.number) micros) l'.owner.book)
 
 -- each log has that the slot's request has taken so long, before anything else
 abbrev pub SpendsSlot : ℕ → ℕ → LocalView → LocalView → Type 0
-SpendsSlot slot micros l l' = IsSlotOf l.owner.passes slot (λ (t : PassToken). (v : LifeView) → IsLifeKept v l.owner.book → SpendsOn v l.owner.book t.pass.number (seat_time_of (own_width t.pass) micros) l'.owner.book)
+SpendsSlot slot micros l l' = IsSlotOf l.owner.passes slot (λ (t : PassToken). (v : LifeView) → IsLifeKept v l.owner.book → SpendsOn v l.owner.book t.pass.number (seat_time_of (width l.owner.gate.shape.widths t.pass.number) micros) l'.owner.book)

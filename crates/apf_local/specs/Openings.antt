@@ -1,5 +1,5 @@
 -- Why a level is not opened, and what one that was just opened is.
-use Rattle.std.specs.Prelude.{◌≡◌, ◌⊎◌, ◌≤◌, ◌<◌, ◌*◌, ℕ, [], length, slice_get, All, Some}
+use Rattle.std.specs.Prelude.{◌≡◌, ◌⊎◌, ◌≤◌, ◌<◌, ◌*◌, ℕ, [], length, replicate, slice_get, All, Some}
 use Rattle.apf_words.specs.Limits.{max_limit, max_requests}
 use Rattle.apf_flow.specs.Sizes.{IsDealable}
 use Rattle.apf_flow.specs.Fault.{fault_of}
@@ -9,8 +9,8 @@ use Rattle.apf_model.specs.declared.response.Response.TheVariants.{Queue, Reject
 use Rattle.apf_gate.specs.declared.fault.GateFault.{GateFault}
 use Rattle.apf_gate.specs.declared.fault.GateFault.TheVariants as gate
 use Rattle.apf_gate.specs.declared.record.State.TheVariants.{Fresh}
-use Rattle.apf_gate.specs.Gauges.{max_numbers}
-use Rattle.apf_gate.specs.Tokens.{PassToken, StationToken}
+use Rattle.apf_gate.specs.Gauges.{max_numbers, spread}
+use Rattle.apf_gate.specs.Tokens.{PassToken, StationToken, desk_gate}
 use Rattle.apf_queue.specs.View.{queue_count, IsQueueShape}
 use Rattle.apf_queue.specs.declared.fault.QueueFault.TheVariants.{BadShape}
 use Rattle.apf_line.specs.Levels.{LifeId}
@@ -90,6 +90,7 @@ pub record IsNewOwner (config : Config) (slots : ℕ) (settling : Settling) (o :
   pub limit : o.gate.shape.limit ≡ config.limit
   pub response : o.gate.shape.response ≡ config.limit_response
   pub slots_are : o.gate.shape.slots ≡ slots
+  pub desk : desk_gate o.book.desk ≡ o.gate
   pub one_station : o.gate.shape.stations ≡ 1
   pub new_station : All (λ (t : StationToken). t.station.knows.trace ≡ []) o.stations
   pub queue_limit : o.book.queues.queues.length_limit ≡ (line_of config).queue_length_limit
@@ -97,6 +98,8 @@ pub record IsNewOwner (config : Config) (slots : ℕ) (settling : Settling) (o :
   -- each Pass has the number of its slot, and all numbers are there for the requests that come
   pub numbered : (i : ℕ) (t : PassToken) → slice_get o.passes i ≡ Some t → t.pass.number ≡ i
   pub numbers : length o.gate.shape.widths ≡ max_numbers
+  -- each number that comes says its width
+  pub widths : o.gate.shape.widths ≡ spread (replicate slots 1) max_numbers
   pub blank : IsBlank o.book
   pub few : slots ≤ max_requests
   pub all_passes : length o.passes ≡ slots

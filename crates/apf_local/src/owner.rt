@@ -12,7 +12,7 @@ ghost use Rattle.apf_gate.specs.StationCalls.{TriesToCancel, ClosesTo};
 ghost use Rattle.apf_gate.specs.StationSteps.{StationLoadsLevel};
 ghost use Rattle.apf_book.specs.Life.{LifeView, IsAskedBy, charge_in, sizes_of};
 ghost use Rattle.apf_book.specs.LifeBook.{IsLifeKept, IsLived, ServesLife, StrikesLife, SettlesLife, SpendsLife};
-ghost use Rattle.apf_gate.specs.Records.{own_width};
+ghost use Rattle.apf_model.specs.World.{width};
 ghost use Rattle.apf_book.specs.LifeCalls.{IsAsk};
 ghost use Rattle.apf_line.specs.Tokens.{IsDone, IsInLine, IsRunning};
 ghost use Rattle.apf_queue.specs.View.{queue_count, max_charge};
@@ -310,7 +310,7 @@ impl Owner {
     /// How many seats the slot's newest request takes.
     pub fn width(&self, slot: usize) -> u32
         requires { slot < length self.now.passes }
-        ensures width { IsSlotOf self.now.passes slot (λ t. result ≡ own_width t.pass) }
+        ensures width { IsSlotOf self.now.passes slot (λ t. result ≡ width self.now.gate.shape.widths t.pass.number) }
         ensures small { result ≤ max_width }
     {
         self.passes[slot].width()

@@ -28,7 +28,8 @@ use Rattle.apf_times.specs.Courses.{At, CanStart, started_at, updated}
 use Rattle.apf_times.specs.Views.{CalendarView}
 use Rattle.apf_simulation.specs.declared.notes.Notes.{Notes}
 use Rattle.apf_simulation.specs.Logs.{LogsOn, noted_of, queue_in}
-use Rattle.apf_simulation.specs.Slots.{Held, Slots, slots_of, held_at, number_of, width_at, hash_at}
+use Rattle.apf_simulation.specs.Moves.{MovesOnce, terms_of}
+use Rattle.apf_simulation.specs.Slots.{Held, Slots, slots_of, held_at, number_of, width_at, hash_at, runs_at}
 use Rattle.apf_simulation.specs.Ties.{AreTied, AreTiedBut, Here, IsAway, IsPending, Owes}
 use Rattle.apf_simulation.proofs.Logging.{arrives}
 use Rattle.apf_simulation.proofs.Tying.{CallsOne, calls_one, tied_still, tied_started, runs_now, waits_on, is_over, refused, at_of, can_start}
@@ -38,6 +39,12 @@ pub asked_at : (trace : List TraceRequest) (r : ℕ) (t : TraceRequest) → r < 
 asked_at [] r t low is = absurd (omega arith)
 asked_at (x ∷ trace) zero t low is = (ap (λ (y : TraceRequest). y.width) (sym is), ap (λ (y : TraceRequest). y.hash) (sym is))
 asked_at (x ∷ trace) (suc r) t low is = asked_at trace r t (omega arith) is
+
+-- how long it runs
+pub ran_at : (trace : List TraceRequest) (r : ℕ) (t : TraceRequest) → r < length trace → t ≡ get_or trace r t → t.runs_for ≡ runs_at trace r
+ran_at [] r t low is = absurd (omega arith)
+ran_at (x ∷ trace) zero t low is = ap (λ (y : TraceRequest). y.runs_for) is
+ran_at (x ∷ trace) (suc r) t low is = ran_at trace r t (omega arith) is
 
 pub in_range : (trace : List TraceRequest) (r : ℕ) (t : TraceRequest) → All IsRequestInRange trace → r < length trace → t ≡ get_or trace r t → IsRequestInRange t
 in_range trace r t all low is = subst (λ (x : TraceRequest). IsRequestInRange x) (sym is) (all r t low)
@@ -166,10 +173,10 @@ module _ (trace : List TraceRequest) (r : ℕ) (u : CalendarView) (l l' : LocalV
           (λ c. is_over trace u.patience u.time r (get_or u.courses r c) (after d)
           (refused trace u.patience u.time r (get_or u.courses r c) (after d) (pending c) so.1 so.2) (moves.does.place_is ∙ so.0) (number_after c))
 
-      pub logs : Course → q ≡ queue_in event → SameLocal l l' → length l.places ≤ max_requests → 1 ≤ cost → LogsOn trace l (noted_of n) l' (record { queues = set n.queues.items r q; costs = set n.costs.items r cost })
+      pub logs : Course → q ≡ queue_in event → SameLocal l l' → length l.places ≤ max_requests → 1 ≤ cost → LogsOn (MovesOnce (terms_of l) trace kinds.Arrive r) trace l (noted_of n) l' (record { queues = set n.queues.items r q; costs = set n.costs.items r cost })
       logs c q_is same few some =
           let asks = asked_at trace r t low t_is in
-          subst (λ (x : Option ℕ). LogsOn trace l (noted_of n) l' (record { queues = set n.queues.items r x; costs = set n.costs.items r cost })) (sym q_is)
+          subst (λ (x : Option ℕ). LogsOn (MovesOnce (terms_of l) trace kinds.Arrive r) trace l (noted_of n) l' (record { queues = set n.queues.items r x; costs = set n.costs.items r cost })) (sym q_is)
           (arrives trace l l' (noted_of n) same r moves.after.pass.number (let m = but.count.queues in let k = but.count.places in omega (arith, m, k, few)) (let i = but.inside in let m = but.count.queues in omega (arith, i, m))
           (let i = but.inside in let m = but.count.costs in omega (arith, i, m)) (number_after c) (here c (new_held moves.before)).2.no_queue (here c (new_held moves.before)).2.no_cost (hand_of l.sizes t.hash) cost moves.does.admitted event
           (ap (λ (k : ℕ). hand_of l.sizes k) (sym asks.1)) some moves.does.history)

@@ -9,7 +9,9 @@ pub mod Summing
 pub mod Timely
 pub mod Ordered
 pub mod Tying
+pub mod Moving
 pub mod Logging
+pub mod Settling
 pub mod Charging
 pub mod Arriving
 pub mod Calling

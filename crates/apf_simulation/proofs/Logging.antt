@@ -22,8 +22,11 @@ use Rattle.apf_book.specs.Servings.{AreServings}
 use Rattle.apf_local.specs.declared.admitting.Admitted.{Admitted}
 use Rattle.apf_local.specs.Levels.{LocalView, SameLocal, GoesOn, LogsIn}
 use Rattle.apf_traces.specs.declared.request.TraceRequest.{TraceRequest}
+use Rattle.apf_times.specs.declared.due.Kind.TheVariants as kinds
 use Rattle.apf_simulation.specs.Logs.{IsLogged, LogsFrom, LogsOn, Noted, queue_in}
+use Rattle.apf_simulation.specs.Moves.{HasCome, MovesOnce, Serves, terms_of}
 use Rattle.apf_simulation.specs.Slots.{IsSame, number_of, hash_at, width_at}
+use Rattle.apf_simulation.proofs.Moving.{moves_at}
 
 -- Dispatches and Strikes say of nobody that it arrived or entered
 arrived_then : (events h : List Event) (n : ℕ) → AreServings events → has_arrived (events ++ h) n ≡ has_arrived h n
@@ -34,11 +37,11 @@ arrived_then (Dispatch m q ∷ events) h n are = arrived_then events h n are
 arrived_then (Strike m q ∷ events) h n are = arrived_then events h n are
 
 -- an element of a list is its first or one of the others
-first_or : (e x : Event) (h : List Event) → Contains (e ∷ h) x → (e ≡ x) ⊎ Contains h x
+pub first_or : (e x : Event) (h : List Event) → Contains (e ∷ h) x → (e ≡ x) ⊎ Contains h x
 first_or e x h (zero, low, at) = inl at
 first_or e x h (suc k, low, at) = inr (k, omega (arith, low), at)
 
-or_other : (e x : Event) (h : List Event) → Contains h x → Contains (e ∷ h) x
+pub or_other : (e x : Event) (h : List Event) → Contains h x → Contains (e ∷ h) x
 or_other e x h (k, low, at) = (suc k, omega (arith, low), at)
 
 entered_then : (events h : List Event) (n q : ℕ) → AreServings events → Contains (events ++ h) (Enter n q) → Contains h (Enter n q)
@@ -58,10 +61,10 @@ eq_self : (n : ℕ) → (n == n) ≡ true
 eq_self n = grind (arith, nat_tests)
 
 -- each request of the trace has a number of its own
-slot_next : (r k : ℕ) → slot_of (next_of r k) ≡ r % 16384
+pub slot_next : (r k : ℕ) → slot_of (next_of r k) ≡ r % 16384
 slot_next r k = omega arith
 
-own_slot : (r : ℕ) → r < 16384 → r % 16384 ≡ r
+pub own_slot : (r : ℕ) → r < 16384 → r % 16384 ≡ r
 own_slot r low = omega arith
 
 pub own_number : (trace : List TraceRequest) (i r : ℕ) → i < max_requests → r < max_requests → number_of trace i ≡ number_of trace r → i ≡ r
@@ -196,22 +199,30 @@ same_queues : (queues : List (Option ℕ)) (r : ℕ) → get_or queues r None �
 same_queues queues r none = ap (λ (o : Option ℕ). set queues r o) (sym none) ∙ set-get_or queues r None
 
 module _ (trace : List TraceRequest) (l l' : LocalView) (notes : Noted) (same : SameLocal l l') where
-  from_events : (v w : LifeView) (notes' : Noted) → w.limit ≡ v.limit → IsLogged trace l.sizes notes' w → GoesOn w l'.owner.book → LogsFrom trace v l' notes'
-  from_events v w notes' limit is on = record {
+  pub from_events : (Way : LifeView → LifeView → Type 0) (v w : LifeView) (notes' : Noted) → w.limit ≡ v.limit → IsLogged trace l.sizes notes' w → ((x : LifeView) → Serves w x → Way v x) → GoesOn w l'.owner.book → LogsFrom Way trace v l' notes'
+  from_events Way v w notes' limit is moves on = record {
     view = then_came_all on.events w;
     kept = on.kept;
     logged = subst (λ (x : Sizes). IsLogged trace x notes' (then_came_all on.events w)) (sym same.sizes) (serves trace l.sizes notes' w on.events on.servings is);
     limit = limit;
+    moved = moves (then_came_all on.events w) (record { events = on.events; servings = on.servings; came = refl });
   }
 
   -- nobody arrives
-  pub on : ((v : LifeView) → IsLifeKept v l.owner.book → GoesOn v l'.owner.book) → LogsOn trace l notes l' notes
+  pub on : ((v : LifeView) → IsLifeKept v l.owner.book → GoesOn v l'.owner.book) → LogsOn Serves trace l notes l' notes
   unfolding LogsOn
-  on goes v kept is = from_events v v notes refl is (goes v kept)
+  on goes v kept is = from_events Serves v v notes refl is (λ x served. served) (goes v kept)
 
   -- a request arrives
   module _ (r n : ℕ) (few : length notes.queues ≤ max_requests) (inside : r < length notes.queues) (noting : r < length notes.costs) (number : n ≡ number_of trace r) (none : get_or notes.queues r None ≡ None)
       (no_cost : get_or notes.costs r 0 ≡ 0) where
+    abbrev Way : LifeView → LifeView → Type 0
+    Way = MovesOnce (terms_of l) trace kinds.Arrive r
+
+    -- it moves the history so, and then what is served comes
+    came : (v w : LifeView) → HasCome n v w → (x : LifeView) → Serves w x → Way v x
+    came v w is x served = moves_at (terms_of l) trace kinds.Arrive r v w x (subst (λ (k : ℕ). HasCome k v w) number is) served
+
     abbrev after : (cost : ℕ) → Option ℕ → Noted
     after cost q = record { queues = set notes.queues r q; costs = set notes.costs r cost }
 
@@ -228,55 +239,44 @@ module _ (trace : List TraceRequest) (l l' : LocalView) (notes : Noted) (same : 
     first_full (x ∷ events) h e m k q names is = first_full events h e m k q names.1 is
 
     by_event : (hand : List ℕ) (cost : ℕ) (answer : Admitted) (event : Option LifeEvent) (v : LifeView) → hand ≡ hand_of l.sizes (hash_at trace r) → 1 ≤ cost
-        → IsLogged trace l.sizes notes v → LogsIn v n hand cost answer event l'.owner.book → LogsFrom trace v l' (after cost (queue_in event))
+        → IsLogged trace l.sizes notes v → LogsIn v n hand cost answer event l'.owner.book → LogsFrom Way trace v l' (after cost (queue_in event))
     by_event hand cost answer None v h some is logs =
-        subst (λ (x : Noted). LogsFrom trace v l' x) (sym (after_none cost))
-        (from_events v v (record { queues = notes.queues; costs = set notes.costs r cost }) refl (costs_one trace l.sizes notes.queues notes.costs v r cost inside no_cost is) logs.2)
+        subst (λ (x : Noted). LogsFrom Way trace v l' x) (sym (after_none cost))
+        (from_events Way v v (record { queues = notes.queues; costs = set notes.costs r cost }) refl (costs_one trace l.sizes notes.queues notes.costs v r cost inside no_cost is) (came v v (inl refl)) logs.2)
     by_event hand cost answer (Some (life.Enter t q)) v h some is logs =
         let on = logs.2 in
         let same_n : t.number ≡ n = logs.0.0 in
         let low : t.number < length (set v.costs n cost) = first_named on.events v.history (Enter t.number q) t.number _ q on.kept.of_life.names_requests refl in
         let there : n < length v.costs = (let w = length-set v.costs n cost in omega (arith, low, same_n, w)) in
-        from_events v (then_came (asked v n hand cost) (Enter t.number q)) (after cost (Some q)) refl
+        from_events Way v (then_came (asked v n hand cost) (Enter t.number q)) (after cost (Some q)) refl
         (subst (λ (k : ℕ). IsLogged trace l.sizes (after cost (Some q)) (then_came (asked v n hand cost) (Enter k q))) (sym same_n)
-        (when_enters trace l.sizes notes.queues notes.costs v r n cost hand few inside number h some noting there is q none)) on
+        (when_enters trace l.sizes notes.queues notes.costs v r n cost hand few inside number h some noting there is q none))
+        (came v (then_came (asked v n hand cost) (Enter t.number q)) (inr (hand, cost, q, inl (ap (λ (k : ℕ). then_came (asked v n hand cost) (Enter k q)) same_n)))) on
     by_event hand cost answer (Some (life.Full t q)) v h some is logs =
         let on = logs.2 in
         let same_n : t.number ≡ n = logs.0.0 in
         let low : t.number < length (set v.costs n cost) = first_full on.events v.history (Full t.number q) t.number _ q on.kept.of_life.names_requests refl in
         let there : n < length v.costs = (let w = length-set v.costs n cost in omega (arith, low, same_n, w)) in
         let noted : Noted = record { queues = notes.queues; costs = set notes.costs r cost } in
-        subst (λ (x : Noted). LogsFrom trace v l' x) (sym (after_none cost))
-        (from_events v (then_came (asked v n hand cost) (Full t.number q)) noted refl
+        subst (λ (x : Noted). LogsFrom Way trace v l' x) (sym (after_none cost))
+        (from_events Way v (then_came (asked v n hand cost) (Full t.number q)) noted refl
         (subst (λ (k : ℕ). IsLogged trace l.sizes noted (then_came (asked v n hand cost) (Full k q))) (sym same_n)
-        (when_full trace l.sizes notes.queues notes.costs v r n cost hand few inside number h some noting there is q)) on)
+        (when_full trace l.sizes notes.queues notes.costs v r n cost hand few inside number h some noting there is q))
+        (came v (then_came (asked v n hand cost) (Full t.number q)) (inr (hand, cost, q, inr (ap (λ (k : ℕ). then_came (asked v n hand cost) (Full k q)) same_n)))) on)
     by_event hand cost answer (Some (life.Dispatch t q)) v h some is logs = absurd logs.0
     by_event hand cost answer (Some (life.Strike t q)) v h some is logs = absurd logs.0
 
     pub arrives : (hand : List ℕ) (cost : ℕ) (answer : Admitted) (event : Option LifeEvent) → hand ≡ hand_of l.sizes (hash_at trace r) → 1 ≤ cost
-        → ((v : LifeView) → IsLifeKept v l.owner.book → LogsIn v n hand cost answer event l'.owner.book) → LogsOn trace l notes l' (after cost (queue_in event))
+        → ((v : LifeView) → IsLifeKept v l.owner.book → LogsIn v n hand cost answer event l'.owner.book) → LogsOn Way trace l notes l' (after cost (queue_in event))
     unfolding LogsOn
     arrives hand cost answer event h some goes v kept is = by_event hand cost answer event v h some is (goes v kept)
 
--- one stretch after another
-pub on_then : (trace : List TraceRequest) (a b c : LocalView) (qa qb qc : Noted) → LogsOn trace a qa b qb → LogsOn trace b qb c qc → LogsOn trace a qa c qc
-unfolding LogsOn
-on_then trace a b c qa qb qc first second v kept is =
-    let one = first v kept is in
-    let two = second one.view one.kept one.logged in
-    record { view = two.view; kept = two.kept; logged = two.logged; limit = two.limit ∙ one.limit }
-
--- nothing was done
-pub stays : (trace : List TraceRequest) (l : LocalView) (notes : Noted) → LogsOn trace l notes l notes
-unfolding LogsOn
-stays trace l notes v kept is = record { view = v; kept = kept; logged = is; limit = refl }
-
 -- the same level
 pub same_of : (a b : LocalView) → SameLocal a b → IsSame a b
-same_of a b same = record { gate = same.owner.gate; sizes = same.sizes; settles = ap (λ (n : ℕ). not (n == 0)) same.owner.book.places }
+same_of a b same = record { gate = same.owner.gate; sizes = same.sizes; places = same.owner.book.places }
 
 pub same_then : (a b c : LocalView) → IsSame a b → IsSame b c → IsSame a c
-same_then a b c first second = record { gate = second.gate ∙ first.gate; sizes = second.sizes ∙ first.sizes; settles = second.settles ∙ first.settles }
+same_then a b c first second = record { gate = second.gate ∙ first.gate; sizes = second.sizes ∙ first.sizes; places = second.places ∙ first.places }
 
 pub same_as : (a : LocalView) → IsSame a a
-same_as a = record { gate = refl; sizes = refl; settles = refl }
+same_as a = record { gate = refl; sizes = refl; places = refl }

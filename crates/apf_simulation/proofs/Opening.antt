@@ -14,7 +14,7 @@ use Rattle.apf_book.specs.LifeBook.{IsLifeKept}
 use Rattle.apf_local.specs.declared.answer.Place.{Place}
 use Rattle.apf_local.specs.declared.answer.Place.TheVariants as places
 use Rattle.apf_local.specs.Levels.{LocalView}
-use Rattle.apf_book.specs.declared.settling.Settling.TheVariants.{Never}
+use Rattle.apf_book.specs.declared.settling.Settling.{Settling}
 use Rattle.apf_local.specs.Openings.{IsOpened}
 use Rattle.apf_times.specs.declared.course.Course.{Course}
 use Rattle.apf_times.specs.declared.course.Times.{Times}
@@ -44,7 +44,7 @@ none_noted zero i q e = cc
 none_noted (suc n) zero q e = cc
 none_noted (suc n) (suc i) q e = none_noted n i q e
 
-module _ (config : Config) (n : ℕ) (l : LocalView) (notes : Notes) (opened : IsOpened config n Never l) (decisions : notes.decisions.items ≡ replicate n Execute) (queues : notes.queues.items ≡ replicate n None) (costs : notes.costs.items ≡ replicate n 0) where
+module _ (config : Config) (n : ℕ) (settling : Settling) (l : LocalView) (notes : Notes) (opened : IsOpened config n settling l) (decisions : notes.decisions.items ≡ replicate n Execute) (queues : notes.queues.items ≡ replicate n None) (costs : notes.costs.items ≡ replicate n 0) where
   pub tied_new : (trace : List TraceRequest) (v : CalendarView) → length v.courses ≡ n → length trace ≡ n → AreAwaited v → AreTied trace v (slots_of l notes)
   tied_new trace v many all awaited = record {
     all = many ∙ sym all;

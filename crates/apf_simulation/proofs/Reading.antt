@@ -97,6 +97,17 @@ module _ (trace : List TraceRequest) (r : ℕ) (u : CalendarView) (l l' : LocalV
         (gave_back trace u.patience u.time r (get_or u.courses r c) (new_slot m.after m.place' d) (here c h).0 (here c h).1 m.does.gives.told (here c h).3) m.does.place_is
         (m.does.gives.number ∙ (ap (λ (x : PassToken). x.pass.number) (sym (get_or_from_slice_get l.owner.passes r m.before m.before m.was)) ∙ (here c h).4)))
 
+    pub is_released : (c : Course) (answer : Answer) → IsFinish r l answer l' → answer ≡ answers.Released
+    is_released c answers.Run is = absurd is
+    is_released c (answers.Over d) is = absurd is
+    is_released c answers.Busy is = absurd is
+    is_released c answers.Waits is = absurd is
+    is_released c answers.Released is = refl
+    is_released c answers.Spent is = absurd is
+    is_released c answers.Wrong is =
+        let t = (let i = but.inside in let m = but.count.passes in some_at l.owner.passes r (omega (arith, i, m))).0 in
+        absurd (is.1 (slice_get-get_or l.places r places.Free there ∙ ap (λ (p : Place). Some p) (here c (new_held t)).2))
+
     pub released : (c : Course) (answer : Answer) → IsFinish r l answer l' → AreTied trace u (slots_of l' n)
     released c answers.Run is = absurd is
     released c (answers.Over d) is = absurd is

@@ -5,6 +5,8 @@ use Rattle.apf_charges.specs.declared.charges.Charges.{Charges}
 use Rattle.apf_charges.specs.declared.charges.ChargedBy.{ChargedBy}
 use Rattle.apf_charges.specs.declared.charges.ChargedBy.TheVariants.{Time, Seats}
 use Rattle.apf_charges.specs.Charging.{opening_charges, cost_for, charges_with}
+use Rattle.apf_book.specs.declared.settling.Settling.{Settling}
+use Rattle.apf_book.specs.declared.settling.Settling.TheVariants.{Told, Never}
 use Rattle.apf_times.specs.declared.due.Due.{Due}
 use Rattle.apf_times.specs.declared.due.Kind.{Kind}
 use Rattle.apf_times.specs.declared.due.Kind.TheVariants.{Finish, GiveUp, Arrive}
@@ -60,3 +62,8 @@ ChargesOn trace u c v d = (from : Charged) → c ≡ charged_by_all trace u.carr
 -- what a trace's requests are charged where nobody says it: time, or seats where a line says what its request is charged
 abbrev pub usual_charge : List TraceRequest → ChargedBy
 usual_charge trace = if list_any (λ t. is_some t.cost) trace then Seats else Time
+
+-- whether what requests take is settled, by what they are charged
+abbrev pub settling_by : ChargedBy → Settling
+settling_by Time = Told
+settling_by Seats = Never

@@ -13,5 +13,6 @@ pub mod Ties
 pub mod Slots
 pub mod Operators
 pub mod Logs
+pub mod Moves
 pub mod Charged
 pub mod Faults

@@ -38,13 +38,14 @@ pub record IsLogged (trace : List TraceRequest) (sizes : Sizes) (notes : Noted) 
   pub cost : (r : ℕ) → r < length notes.queues → has_arrived v.history (number_of trace r) ≡ true → width v.costs (number_of trace r) ≡ slice_index_or notes.costs r 0
   pub some_cost : (r : ℕ) → r < length notes.queues → has_arrived v.history (number_of trace r) ≡ true → 1 ≤ slice_index_or notes.costs r 0
 
--- the level has a history that is so, and that goes on from this one
-pub record LogsFrom (trace : List TraceRequest) (from : LifeView) (l : LocalView) (notes : Noted) : Type 0 where
+-- the level has a history that is so, and to which this one went on in this way
+pub record LogsFrom (Moves : LifeView → LifeView → Type 0) (trace : List TraceRequest) (from : LifeView) (l : LocalView) (notes : Noted) : Type 0 where
   pub view : LifeView
   pub kept : IsLifeKept view l.owner.book
   pub logged : IsLogged trace l.sizes notes view
   pub limit : view.limit ≡ from.limit
+  pub moved : Moves from view
 
--- each history of the first level that is so goes on to one of the second that is so
-unfoldable pub LogsOn : List TraceRequest → LocalView → Noted → LocalView → Noted → Type 0
-LogsOn trace l notes l' notes' = (v : LifeView) → IsLifeKept v l.owner.book → IsLogged trace l.sizes notes v → LogsFrom trace v l' notes'
+-- each history of the first level that is so goes on in this way to one of the second that is so
+unfoldable pub LogsOn : (Moves : LifeView → LifeView → Type 0) → List TraceRequest → LocalView → Noted → LocalView → Noted → Type 0
+LogsOn Moves trace l notes l' notes' = (v : LifeView) → IsLifeKept v l.owner.book → IsLogged trace l.sizes notes v → LogsFrom Moves trace v l' notes'

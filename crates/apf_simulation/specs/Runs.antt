@@ -9,7 +9,6 @@ use Rattle.apf_book.specs.LifeBook.{IsLifeKept, IsLived}
 use Rattle.apf_line.specs.declared.report.Report.{Report}
 use Rattle.apf_line.specs.Reports.{EndedAs}
 use Rattle.apf_local.specs.Levels.{LocalView, id_of}
-use Rattle.apf_book.specs.declared.settling.Settling.TheVariants.{Never}
 use Rattle.apf_local.specs.Openings.{IsOpened}
 use Rattle.apf_times.specs.declared.due.Due.{Due}
 use Rattle.apf_times.specs.Courses.{all_dues}
@@ -17,11 +16,12 @@ use Rattle.apf_flows.specs.Flows.{AreFlows, hashes_of, firsts_of}
 use Rattle.apf_traces.specs.declared.request.TraceRequest.{TraceRequest}
 use Rattle.apf_simulation.specs.declared.simulation.Simulation.{Simulation}
 use Rattle.apf_simulation.specs.Areas.{AreAreas}
-use Rattle.apf_simulation.specs.Charged.{costs_of}
+use Rattle.apf_simulation.specs.Charged.{costs_of, settling_by}
 use Rattle.apf_simulation.specs.Columns.{AddUp, AreSums}
 use Rattle.apf_simulation.specs.Diaries.{DiaryView, IsKeptBy}
 use Rattle.apf_simulation.specs.Ends.{ends_of}
 use Rattle.apf_simulation.specs.Logs.{IsLogged, Noted}
+use Rattle.apf_simulation.specs.Moves.{MovesInTurn, terms_of}
 use Rattle.apf_simulation.specs.Operators.{CancelsInTurn}
 use Rattle.apf_simulation.specs.Rows.{AreRows, IsWhole}
 use Rattle.apf_simulation.specs.Ties.{AreDecidedAs, AreTold, IsHonoured}
@@ -45,9 +45,10 @@ pub record IsMadeOf (limit : ℕ) (trace : List TraceRequest) (patience : ℕ) (
   pub sums : AreSums s.counts decisions
   pub columns : AddUp s.counts s.whole s.rows.items
 
--- The level has ended by this report, of a history that goes on from this one, and that has the requests of the trace. In that the queues and the costs are those that are told.
-pub record EndsBy (trace : List TraceRequest) (opened last : LocalView) (notes : Noted) (r : Report) (from : LifeView) : Type 0 where
+-- The level has ended by this report, of a history that goes on from this one by what was carried out, in turn, and that has the requests of the trace. In that the queues and the costs are those that are told.
+pub record EndsBy (trace : List TraceRequest) (opened last : LocalView) (carried : List Due) (notes : Noted) (r : Report) (from : LifeView) : Type 0 where
   pub history : LifeView
+  pub moved : MovesInTurn (terms_of opened) trace carried from history
   pub ended : EndedAs (id_of opened) history last.owner.passes last.owner.stations r
   pub logged : IsLogged trace opened.sizes notes history
 
@@ -56,15 +57,15 @@ pub record HasEndedBy (trace : List TraceRequest) (opened : LocalView) (carried 
   pub lived : IsLived opened.owner.book
   pub last : LocalView
   -- of each history that it was of as it was opened
-  pub report : (v : LifeView) → IsLifeKept v opened.owner.book → EndsBy trace opened last notes r v
+  pub report : (v : LifeView) → IsLifeKept v opened.owner.book → EndsBy trace opened last carried notes r v
   pub operator : CancelsInTurn trace carried opened.owner.stations last.owner.stations
   pub told : AreTold trace last.owner.passes decisions
   pub each : length last.owner.passes ≡ length trace
 
--- A level of this config, with a slot for each request of the trace, has ended so.
-pub record IsEndOf (config : Config) (trace : List TraceRequest) (carried : List Due) (decisions : List Decision) (notes : Noted) (r : Report) : Type 0 where
+-- A level of this config, with a slot for each request of the trace, has ended so. Where it charges time, it settles what requests take.
+pub record IsEndOf (config : Config) (trace : List TraceRequest) (by : ChargedBy) (carried : List Due) (decisions : List Decision) (notes : Noted) (r : Report) : Type 0 where
   pub opened : LocalView
-  pub is_opened : IsOpened config (length trace) Never opened
+  pub is_opened : IsOpened config (length trace) (settling_by by) opened
   pub ended : HasEndedBy trace opened carried decisions notes r
 
 -- what a simulation notes of each request for its level's history
@@ -73,12 +74,12 @@ noted_in s = record { queues = s.queues.items; costs = s.costs.items }
 
 -- The trace was run on a level of this config. The level has ended, and nothing is due. Each request was told its decision, which is what its
 -- course came to. The level's operator cancelled those whose patience ended and still waited, and did nothing else. Each request's cost is by
--- what was known as it arrived, of those that had finished.
+-- what was known as it arrived, of those that had finished. By time each is settled as it finishes.
 pub record IsSimulation (config : Config) (trace : List TraceRequest) (patience : ℕ) (by : ChargedBy) (s : Simulation) : Type 0 where
   pub diary : DiaryView
   pub run : HasRun trace patience diary
   pub decisions : List Decision
-  pub level : IsEndOf config trace diary.carried decisions (noted_in s) s.report
+  pub level : IsEndOf config trace by diary.carried decisions (noted_in s) s.report
   pub costs : s.costs.items ≡ costs_of by trace diary.carried
   pub decided : AreDecidedAs patience diary.calendar.courses decisions
   pub made : IsMadeOf config.limit trace patience diary decisions s

@@ -93,7 +93,7 @@ fn run_of(
     ensures goes_on { IfOk result (λ o. GoesOn diary o.0) }
     ensures decided { IfOk result (λ o. AreDecidedAs o.0.calendar.patience o.0.calendar.courses o.1.decisions.items) }
     ensures over { IfOk result (λ o. all_dues o.0.calendar.patience o.0.calendar.courses ≡ []) }
-    ensures ended { IfOk result (λ o. IsEndOf config.now trace.now o.0.carried o.1.decisions.items (noted_of o.1) o.2) }
+    ensures ended { IfOk result (λ o. IsEndOf config.now trace.now by o.0.carried o.1.decisions.items (noted_of o.1) o.2) }
     ensures charged { IfOk result (λ o. o.1.costs.items ≡ costs_of by trace.now o.0.carried) }
     ensures all_queues { IfOk result (λ o. length o.1.queues.items ≡ length trace.now) }
     ensures settings { OnOk result (CanOpen config.now (length trace.now)) }
@@ -178,7 +178,8 @@ fn simulation_of(
 /// is taken.
 ///
 /// A dispatch is charged the request's cost, which it is given as it arrives: its line's, or else its width times how long
-/// its flow's requests ran that finished until then, or by seats its width.
+/// its flow's requests ran that finished until then, or by seats its width. By time, that is settled as the request
+/// finishes: what it took is charged in its place, before its seats go to the next one.
 ///
 /// # Errors
 ///

@@ -3,9 +3,8 @@
 ghost use Rattle.std.specs.Prelude.{◌≡◌, ◌≢◌, ◌⊎◌, ◌<◌, ◌≤◌, false, true, [], List, length, slice_get, All, Any, Some, IfOk, IfErr, IsTrue, IsFalse, OnOk};
 ghost use Rattle.apf_words.specs.Limits.{max_requests};
 ghost use Rattle.apf_gate.specs.Gauges.{max_numbers};
-ghost use Rattle.apf_book.specs.Life.{LifeView};
 ghost use Rattle.apf_book.specs.LifeBook.{IsLifeKept, IsLived};
-ghost use Rattle.apf_book.specs.declared.settling.Settling.TheVariants.{Never};
+ghost use Rattle.apf_book.specs.Life.{LifeView};
 ghost use Rattle.apf_local.specs.Openings.{IsOpened, CanOpen, IsOpenFault};
 ghost use Rattle.apf_local.specs.Owners.{IsSlotOf};
 ghost use Rattle.apf_local.specs.Worlds.{IsDecidedIn};
@@ -14,18 +13,20 @@ ghost use Rattle.apf_times.specs.declared.due.Kind.TheVariants as kinds;
 ghost use Rattle.apf_times.specs.Courses.{all_dues, left};
 ghost use Rattle.apf_traces.specs.TraceValue.{IsRequestInRange};
 ghost use Rattle.apf_traces.specs.declared.request.TraceRequest.{TraceRequest};
-ghost use Rattle.apf_simulation.specs.Charged.{ChargesOn, arrived, charged_by, charged_in, finished, nothing_charged};
+ghost use Rattle.apf_simulation.specs.Charged.{ChargesOn, arrived, charged_by, charged_in, finished, nothing_charged, settling_by};
 ghost use Rattle.apf_simulation.specs.Diaries.{GoesOn};
 ghost use Rattle.apf_simulation.specs.Operators.{Cancels, CancelsAlone, CancelsOnly};
 ghost use Rattle.apf_simulation.specs.Slots.{slots_of, IsSame};
 ghost use Rattle.apf_simulation.specs.Ties.{AreAwaited, AreTied, AreTiedBut, HasPatience, Here, IsCallDue, IsWaiting, Owes};
 ghost use Rattle.apf_simulation.specs.Logs.{queue_in as the_queue_in, IsLogged, LogsOn, noted_of};
+ghost use Rattle.apf_simulation.specs.Moves.{LogsInTurn, MovesOnce, Serves, terms_of};
 
 use crate::diary::Diary;
 use crate::notes::Notes;
-use apf_book::LifeEvent;
+use apf_book::{LifeEvent, Settling};
 use apf_charges::{ChargedBy, Charges};
 use apf_gate::Ticket;
+use apf_history::{every_charge_is_of_one_that_executes, every_legal_history_is_in_order};
 use apf_local::{Answer, Ask, LocalLevel, OpenFault, Place};
 use apf_model::Config;
 use apf_times::{Due, Kind};
@@ -45,6 +46,7 @@ pub(crate) struct Simulator {
     seen: u64,
     ghost numbers: { length level.owner.gate.shape.widths ≡ max_numbers },
     ghost few: { length level.places ≤ max_requests },
+    ghost slots: { level.owner.book.desk.desk.knows.shape.slots ≡ length level.places },
 }
 
 // The queue that a request entered by this event, if it entered one.
@@ -54,6 +56,16 @@ fn queue_in(event: Option<LifeEvent>) -> Option<u32>
     match event {
         Some(LifeEvent::Enter(_, queue)) => Some(queue),
         _ => None,
+    }
+}
+
+// Whether what requests take is settled, by what they are charged.
+fn settling_of(by: ChargedBy) -> Settling
+    ensures { result ≡ settling_by by }
+{
+    match by {
+        ChargedBy::Time => Settling::Told,
+        ChargedBy::Seats => Settling::Never,
     }
 }
 
@@ -73,7 +85,7 @@ impl Simulator {
         requires one_course_each { length diary.calendar.courses ≡ requests }
         requires awaited { AreAwaited diary.calendar }
         ensures diary { IfOk result (λ s. s.diary ≡ diary) }
-        ensures opened { IfOk result (λ s. IsOpened config.now requests Never s.level) }
+        ensures opened { IfOk result (λ s. IsOpened config.now requests (settling_by by) s.level) }
         ensures tied { IfOk result (λ s. (trace : List TraceRequest) → length trace ≡ requests → AreTied trace s.diary.calendar (slots_of s.level s.notes)) }
         ensures logs { IfOk result (λ s. (trace : List TraceRequest) (v : LifeView) → IsLifeKept v s.level.owner.book → IsLogged trace s.level.sizes (noted_of s.notes) v) }
         ensures lived { IfOk result (λ s. IsLived s.level.owner.book) }
@@ -81,7 +93,7 @@ impl Simulator {
         ensures settings { OnOk result (CanOpen config.now requests) }
         ensures fault { IfErr result (IsOpenFault config.now requests) }
     {
-        let level = LocalLevel::open(alloc, config, requests)?;
+        let level = LocalLevel::open_settling(alloc, config, requests, settling_of(by))?;
         level.has_a_history();
         let notes = Notes::none(alloc, requests as usize)?;
         let charges = Charges::new(alloc, by)?;
@@ -109,7 +121,7 @@ impl Simulator {
         ensures carried { self.new.diary.carried ≡ self.old.diary.carried }
         ensures charged { charged_in self.new.charges self.new.notes ≡ arrived request (slice_get trace.now request) (charged_in self.old.charges self.old.notes) }
         ensures same { IsSame self.old.level self.new.level }
-        ensures logs { LogsOn trace.now self.old.level (noted_of self.old.notes) self.new.level (noted_of self.new.notes) }
+        ensures logs { LogsOn (MovesOnce (terms_of self.old.level) trace.now kinds.Arrive request) trace.now self.old.level (noted_of self.old.notes) self.new.level (noted_of self.new.notes) }
         ensures operator { self.new.level.owner.stations ≡ self.old.level.owner.stations }
     {
         let slot = request as usize;
@@ -144,7 +156,7 @@ impl Simulator {
         ensures carried { self.new.diary.carried ≡ self.old.diary.carried }
         ensures charged { charged_in self.new.charges self.new.notes ≡ charged_in self.old.charges self.old.notes }
         ensures same { IsSame self.old.level self.new.level }
-        ensures logs { LogsOn trace.now self.old.level (noted_of self.old.notes) self.new.level (noted_of self.new.notes) }
+        ensures logs { LogsOn Serves trace.now self.old.level (noted_of self.old.notes) self.new.level (noted_of self.new.notes) }
         ensures operator { self.new.level.owner.stations ≡ self.old.level.owner.stations }
     {
         let slot = request as usize;
@@ -167,7 +179,7 @@ impl Simulator {
         ensures carried { self.new.diary.carried ≡ self.old.diary.carried }
         ensures charged { charged_in self.new.charges self.new.notes ≡ charged_in self.old.charges self.old.notes }
         ensures same { IsSame self.old.level self.new.level }
-        ensures logs { LogsOn trace.now self.old.level (noted_of self.old.notes) self.new.level (noted_of self.new.notes) }
+        ensures logs { LogsOn Serves trace.now self.old.level (noted_of self.old.notes) self.new.level (noted_of self.new.notes) }
         ensures operator { self.new.level.owner.stations ≡ self.old.level.owner.stations }
     {
         let (LifeEvent::Dispatch(ticket, _) | LifeEvent::Strike(ticket, _)) = event else {
@@ -190,7 +202,7 @@ impl Simulator {
         ensures carried { self.new.diary.carried ≡ self.old.diary.carried }
         ensures charged { charged_in self.new.charges self.new.notes ≡ charged_in self.old.charges self.old.notes }
         ensures same { IsSame self.old.level self.new.level }
-        ensures logs { LogsOn trace.now self.old.level (noted_of self.old.notes) self.new.level (noted_of self.new.notes) }
+        ensures logs { LogsOn Serves trace.now self.old.level (noted_of self.old.notes) self.new.level (noted_of self.new.notes) }
         ensures operator { self.new.level.owner.stations ≡ self.old.level.owner.stations }
     {
         let room = self.room.as_mut_slice();
@@ -216,7 +228,7 @@ impl Simulator {
         ensures carried { self.new.diary.carried ≡ self.old.diary.carried }
         ensures charged { charged_in self.new.charges self.new.notes ≡ charged_in self.old.charges self.old.notes }
         ensures same { IsSame self.old.level self.new.level }
-        ensures logs { LogsOn trace.now self.old.level (noted_of self.old.notes) self.new.level (noted_of self.new.notes) }
+        ensures logs { LogsOn (MovesOnce (terms_of self.old.level) trace.now kinds.GiveUp request) trace.now self.old.level (noted_of self.old.notes) self.new.level (noted_of self.new.notes) }
         ensures cancels { (self.new.level.owner.stations ≡ self.old.level.owner.stations)
             ⊎ Cancels trace.now request self.old.level.owner.stations self.new.level.owner.stations }
     {
@@ -228,7 +240,7 @@ impl Simulator {
         }
     }
 
-    // The request gives its seats back, and its flow learns how long it ran.
+    // What the request took is settled, it gives its seats back, and its flow learns how long it ran.
     #[tactic(auto, using(crate::proofs::Going::stays))]
     fn finish(&mut self, trace: &[TraceRequest], request: u32)
         requires others { AreTiedBut trace.now request self.old.diary.calendar (slots_of self.old.level self.old.notes) }
@@ -239,12 +251,14 @@ impl Simulator {
         ensures carried { self.new.diary.carried ≡ self.old.diary.carried }
         ensures charged { charged_in self.new.charges self.new.notes ≡ finished (slice_get trace.now request) (charged_in self.old.charges self.old.notes) }
         ensures same { IsSame self.old.level self.new.level }
-        ensures logs { LogsOn trace.now self.old.level (noted_of self.old.notes) self.new.level (noted_of self.new.notes) }
+        ensures logs { LogsOn (MovesOnce (terms_of self.old.level) trace.now kinds.Finish request) trace.now self.old.level (noted_of self.old.notes) self.new.level (noted_of self.new.notes) }
         ensures operator { self.new.level.owner.stations ≡ self.old.level.owner.stations }
     {
         let slot = request as usize;
         let asked = &trace[slot];
-        self.level.finish(slot);
+        every_charge_is_of_one_that_executes();
+        every_legal_history_is_in_order();
+        self.level.finish_measured(slot, asked.runs_for);
         self.charges.learn(asked.hash, asked.runs_for);
     }
 
@@ -258,7 +272,7 @@ impl Simulator {
         ensures carried { self.new.diary.carried ≡ self.old.diary.carried }
         ensures charged { charged_in self.new.charges self.new.notes ≡ charged_by trace.now due (charged_in self.old.charges self.old.notes) }
         ensures same { IsSame self.old.level self.new.level }
-        ensures logs { LogsOn trace.now self.old.level (noted_of self.old.notes) self.new.level (noted_of self.new.notes) }
+        ensures logs { LogsOn (MovesOnce (terms_of self.old.level) trace.now due.kind due.request) trace.now self.old.level (noted_of self.old.notes) self.new.level (noted_of self.new.notes) }
         ensures cancels { CancelsOnly trace.now due self.old.level.owner.stations self.new.level.owner.stations }
     {
         match due.kind {
@@ -275,7 +289,7 @@ impl Simulator {
         ensures tied { OnOk result (AreTied trace.now self.new.diary.calendar (slots_of self.new.level self.new.notes)) }
         ensures goes_on { OnOk result (GoesOn self.old.diary self.new.diary) }
         ensures same { OnOk result (IsSame self.old.level self.new.level) }
-        ensures logs { OnOk result (LogsOn trace.now self.old.level (noted_of self.old.notes) self.new.level (noted_of self.new.notes)) }
+        ensures logs { OnOk result (LogsInTurn trace.now self.old.diary self.new.diary self.old.level (noted_of self.old.notes) self.new.level (noted_of self.new.notes)) }
         ensures charged { OnOk result (ChargesOn trace.now self.old.diary (charged_in self.old.charges self.old.notes) self.new.diary (charged_in self.new.charges self.new.notes)) }
         ensures cancels { OnOk result (CancelsAlone trace.now self.old.diary self.new.diary self.old.level.owner.stations self.new.level.owner.stations) }
         ensures fewer { IfOk result (λ more. more ≡ true → left self.new.diary.calendar.courses < left self.old.diary.calendar.courses) }
@@ -300,7 +314,7 @@ impl Simulator {
         ensures tied { OnOk result (AreTied trace.now self.new.diary.calendar (slots_of self.new.level self.new.notes)) }
         ensures goes_on { OnOk result (GoesOn self.old.diary self.new.diary) }
         ensures same { OnOk result (IsSame self.old.level self.new.level) }
-        ensures logs { OnOk result (LogsOn trace.now self.old.level (noted_of self.old.notes) self.new.level (noted_of self.new.notes)) }
+        ensures logs { OnOk result (LogsInTurn trace.now self.old.diary self.new.diary self.old.level (noted_of self.old.notes) self.new.level (noted_of self.new.notes)) }
         ensures charged { OnOk result (ChargesOn trace.now self.old.diary (charged_in self.old.charges self.old.notes) self.new.diary (charged_in self.new.charges self.new.notes)) }
         ensures cancels { OnOk result (CancelsAlone trace.now self.old.diary self.new.diary self.old.level.owner.stations self.new.level.owner.stations) }
         ensures over { OnOk result (all_dues self.new.diary.calendar.patience self.new.diary.calendar.courses ≡ []) }

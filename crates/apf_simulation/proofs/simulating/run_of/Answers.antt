@@ -20,6 +20,7 @@ use Rattle.apf_simulation.specs.Times.{times_of}
 use Rattle.apf_simulation.proofs.Charging.{all_charged}
 use Rattle.apf_simulation.proofs.Closing.{ends_by}
 use Rattle.apf_simulation.proofs.Honouring.{are_decided, are_free, are_told, endless}
+use Rattle.apf_simulation.proofs.Moving.{all_logs}
 use Rattle.apf_simulation.proofs.Operating.{all_in_turn}
 use Rattle.apf_simulation.proofs.Running.{patience_of}
 use Rattle.apf_simulation.proofs.simulating.run_of.Goals as goal
@@ -66,7 +67,7 @@ returns-clause-ended c =
     let ended : HasEndedBy trace sim.level now.diary.carried now.notes.decisions.items (noted_of now.notes) r = record {
       lived = c.in_ok-simulator.ensures.lived;
       last = now.level;
-      report = ends_by trace sim.level now.level (noted_of sim.notes) (noted_of now.notes) r c.in_ok-run.ensures.same c.in_ok-run.ensures.logs (c.in_ok-simulator.ensures.logs trace) ends;
+      report = ends_by trace sim.level now.level now.diary.carried (noted_of sim.notes) (noted_of now.notes) r c.in_ok-run.ensures.same (all_logs trace sim.diary now.diary sim.level now.level (noted_of sim.notes) (noted_of now.notes) empty c.in_ok-run.ensures.logs) (c.in_ok-simulator.ensures.logs trace) ends;
       operator = all_in_turn trace sim.diary now.diary sim.level.owner.stations now.level.owner.stations empty c.in_ok-run.ensures.cancels;
       told = are_told trace v s tied c.in_ok-judge.ensures.over c.in_ok-judge.ensures.nobody_waits;
       each = tied.count.passes ∙ tied.all;

@@ -30,9 +30,9 @@ returns-clause-simulation c =
     let queues = ap (λ v. v.items) (sym c.in_ok-simulation_of.ensures.queues) in
     let costs = ap (λ v. v.items) (sym c.in_ok-simulation_of.ensures.costs) in
     let noted : noted_of run.1 ≡ noted_in s = (λ i. record { queues = queues i; costs = costs i }) in
-    let level : IsEndOf c.args.config.now ts d.carried decisions (noted_in s) s.report =
-    subst (λ (r : Report). IsEndOf c.args.config.now ts d.carried decisions (noted_in s) r) (sym c.in_ok-simulation_of.ensures.report)
-    (subst (λ (x : Noted). IsEndOf c.args.config.now ts d.carried decisions x run.2) noted c.in_ok-run.ensures.ended) in
+    let level : IsEndOf c.args.config.now ts c.args.by d.carried decisions (noted_in s) s.report =
+    subst (λ (r : Report). IsEndOf c.args.config.now ts c.args.by d.carried decisions (noted_in s) r) (sym c.in_ok-simulation_of.ensures.report)
+    (subst (λ (x : Noted). IsEndOf c.args.config.now ts c.args.by d.carried decisions x run.2) noted c.in_ok-run.ensures.ended) in
     record {
       diary = d;
       run = has_run ts p c.in_ok-diary.diary d c.in_ok-diary.ensures.kept c.in_ok-run.ensures.goes_on c.in_ok-run.ensures.over;

@@ -2,7 +2,7 @@
 use Rattle.std.proofs.Common.{rules, ◌≡◌, ◌<◌, ℕ, length, get_or, Some, refl, sym, ap, ◌∙◌, subst}
 use Rattle.std.specs.Prelude.{slice_get}
 use Rattle.std.proofs.lemmas.Option.{slice_get-get_or}
-use Rattle.apf_gate.specs.Records.{own_width}
+use Rattle.apf_model.specs.World.{width}
 use Rattle.apf_book.specs.LifeBook.{IsLifeKept}
 use Rattle.apf_local.specs.declared.answer.Place.{Place}
 use Rattle.apf_local.specs.declared.answer.Place.TheVariants as places
@@ -42,7 +42,7 @@ pub returns-clause-spends : goal.returns-clause-spends
 returns-clause-spends c = λ executes t at v is.
     let here : slice_get c.self.inside.owner.passes c.args.slot ≡ Some t = subst (λ (x : LocalView). slice_get x.owner.passes c.args.slot ≡ Some t) (sym c.self.view_is) at in
     let kept : IsLifeKept v c.self.inside.owner.book = subst (λ (x : LocalView). IsLifeKept v x.owner.book) (sym c.self.view_is) is in
-    let amount : c.seat_time-amount.result ≡ seat_time_of (own_width t.pass) c.args.micros = c.seat_time-amount.ensures.value ∙ ap (λ (w : ℕ). seat_time_of w c.args.micros) (c.width.ensures.width t here) in
-    subst (λ (x : LocalView). SpendsOn v x.owner.book t.pass.number (seat_time_of (own_width t.pass) c.args.micros) c.dispatch.new.self.book) c.self.view_is
+    let amount : c.seat_time-amount.result ≡ seat_time_of (width c.self.inside.owner.gate.shape.widths t.pass.number) c.args.micros = c.seat_time-amount.ensures.value ∙ ap (λ (w : ℕ). seat_time_of w c.args.micros) (c.width.ensures.width t here) in
+    subst (λ (x : LocalView). SpendsOn v x.owner.book t.pass.number (seat_time_of (width x.owner.gate.shape.widths t.pass.number) c.args.micros) c.dispatch.new.self.book) c.self.view_is
     (subst (λ (m : ℕ). SpendsOn v c.self.inside.owner.book t.pass.number m c.dispatch.new.self.book) amount
     (spends_on v c.self.inside.owner.book c.spend.new.self.book c.spend.new.self.book c.dispatch.new.self.book t.pass.number c.seat_time-amount.result c.dispatch.result kept (λ w on. on) c.dispatch.ensures.served c.spend.result (c.spend.ensures.spends t here v kept)))

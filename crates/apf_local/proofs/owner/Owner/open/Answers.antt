@@ -1,5 +1,5 @@
 -- An owner of a gate that was just opened.
-use Rattle.std.proofs.Common.{rules, ◌≡◌, ◌≤◌, ◌<◌, ◌*◌, ℕ, zero, suc, List, [], ◌∷◌, length, get_or, Some, refl, sym, ap, ◌∙◌, subst, arith}
+use Rattle.std.proofs.Common.{replicate, rules, ◌≡◌, ◌≤◌, ◌<◌, ◌*◌, ℕ, zero, suc, List, [], ◌∷◌, length, get_or, Some, refl, sym, ap, ◌∙◌, subst, arith}
 use Rattle.std.specs.Prelude.{map, Option}
 use Rattle.std.proofs.lemmas.Option.{get_or_from_slice_get, slice_get_within}
 use Rattle.apf_words.specs.Limits.{max_requests}
@@ -109,6 +109,7 @@ returns-clause-opened c =
       limit = search rules;
       response = search rules;
       slots_are = search rules;
+      desk = ap desk_gate c.in_ok-book.ensures.desk ∙ ap desk_gate c.in_ok-gate.ensures.desk;
       one_station = search rules;
       new_station = λ k t at.
           let e = get_or_from_slice_get c.in_ok-gate.stations.items k _ t (c.in_ok-gate.ensures.each_station k (subst (λ (n : ℕ). k < n) c.in_ok-gate.ensures.counts.1 at)) in
@@ -120,6 +121,7 @@ returns-clause-opened c =
           let e = sym at ∙ c.in_ok-gate.ensures.each_pass k (subst (λ (n : ℕ). k < n) c.in_ok-gate.ensures.counts.0 low) in
           number_is t _ e;
       numbers = ap (λ (x : Shape). length x.widths) c.in_ok-gate.ensures.shape ∙ length_spread _ max_numbers;
+      widths = ap (λ (x : Shape). x.widths) c.in_ok-gate.ensures.shape ∙ ap (λ (ws : List ℕ). spread ws max_numbers) (let ones : c.as_slice.result.now ≡ replicate c.args.slots 1 = (search rules) in ones);
       blank = λ w of. blank c.in_ok-book.book c.in_ok-gate.desk w c.in_ok-book.ensures.desk desk of;
       few = subst (λ (n : ℕ). n ≤ max_requests) slots c.is_of_a_gate.ensures.shape.few_slots;
       all_passes = search rules;

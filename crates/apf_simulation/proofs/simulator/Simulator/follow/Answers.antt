@@ -6,10 +6,12 @@ use Rattle.apf_simulation.specs.declared.simulator.Simulator.{Simulator}
 use Rattle.apf_simulation.specs.Charged.{charged_in}
 use Rattle.apf_simulation.specs.Diaries.{GoesOn}
 use Rattle.apf_simulation.specs.Logs.{LogsOn, noted_of}
+use Rattle.apf_simulation.specs.Moves.{Serves}
 use Rattle.apf_simulation.specs.Slots.{IsSame, slots_of}
 use Rattle.apf_simulation.specs.Ties.{AreTied}
 use Rattle.apf_simulation.proofs.Going.{stays, goes_on}
-use Rattle.apf_simulation.proofs.Logging.{on_then, same_as, same_then, stays as no_log}
+use Rattle.apf_simulation.proofs.Logging.{same_as, same_then}
+use Rattle.apf_simulation.proofs.Moving.{served_then, stays as no_log}
 use Rattle.apf_simulation.proofs.simulator.Simulator.follow.Goals.{then-place-len, else-place-len}
 use Rattle.apf_simulation.proofs.simulator.Simulator.follow.Goals as goal
 
@@ -18,7 +20,7 @@ record Kept (trace : List TraceRequest) (old new : Simulator) : Type 0 where
   tied : AreTied trace new.diary.calendar (slots_of new.level new.notes)
   goes_on : GoesOn old.diary new.diary
   same : IsSame old.level new.level
-  logs : LogsOn trace old.level (noted_of old.notes) new.level (noted_of new.notes)
+  logs : LogsOn Serves trace old.level (noted_of old.notes) new.level (noted_of new.notes)
   operator : new.level.owner.stations ≡ old.level.owner.stations
   charged : charged_in new.charges new.notes ≡ charged_in old.charges old.notes
   carried : new.diary.carried ≡ old.diary.carried
@@ -47,7 +49,7 @@ loop-place-preserved c =
         tied = w.hear.ensures.tied;
         goes_on = goes_on old.diary s.diary w.hear.new.self.diary i.goes_on w.hear.ensures.goes_on;
         same = same_then old.level s.level w.hear.new.self.level i.same w.hear.ensures.same;
-        logs = on_then trace old.level s.level w.hear.new.self.level (noted_of old.notes) (noted_of s.notes) (noted_of w.hear.new.self.notes) i.logs w.hear.ensures.logs;
+        logs = served_then trace old.level s.level w.hear.new.self.level (noted_of old.notes) (noted_of s.notes) (noted_of w.hear.new.self.notes) i.logs w.hear.ensures.logs;
         operator = w.hear.ensures.operator ∙ i.operator;
         charged = w.hear.ensures.charged ∙ i.charged;
         carried = w.hear.ensures.carried ∙ i.carried;

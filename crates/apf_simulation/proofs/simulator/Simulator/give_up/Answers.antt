@@ -8,12 +8,15 @@ use Rattle.apf_local.specs.declared.answer.Place.TheVariants as places
 use Rattle.apf_gate.specs.StationCalls.{TriesToCancel}
 use Rattle.apf_local.specs.Owners.{Steps}
 use Rattle.apf_local.specs.Worlds.{IsDecidedIn}
+use Rattle.apf_times.specs.declared.due.Kind.TheVariants as kinds
 use Rattle.apf_simulation.specs.Logs.{noted_of}
+use Rattle.apf_simulation.specs.Moves.{MovesOnce, Serves, terms_of}
 use Rattle.apf_simulation.specs.Operators.{Cancels}
 use Rattle.apf_simulation.specs.Slots.{Slots, slots_of, number_of}
 use Rattle.apf_simulation.specs.Ties.{AreTiedBut, Here, IsWaiting}
 use Rattle.apf_simulation.proofs.Arriving.{new_held, some_at}
-use Rattle.apf_simulation.proofs.Logging.{on, on_then, same_as, same_of, same_then, stays}
+use Rattle.apf_simulation.proofs.Logging.{on, same_as, same_of, same_then}
+use Rattle.apf_simulation.proofs.Moving.{gives_up, logs_as, on_then, serves_none, stays}
 use Rattle.apf_simulation.proofs.Reading.{gives_up_still, gives_up_waiting, same_slots}
 use Rattle.apf_simulation.proofs.Tying.{no_course}
 use Rattle.apf_simulation.proofs.simulator.Simulator.give_up.Goals as goal
@@ -59,7 +62,8 @@ pub returns-then-eq-clause-logs : goal.returns-then-eq-clause-logs
 returns-then-eq-clause-logs c =
     let l = c.args.self.now.level in
     let notes = noted_of c.args.self.now.notes in
-    on_then c.args.trace.now l c.cancel.new.self c.read.new.self.level notes notes (noted_of c.read.new.self.notes)
+    on_then Serves Serves (MovesOnce (terms_of l) c.args.trace.now kinds.GiveUp c.args.request) c.args.trace.now l c.cancel.new.self c.read.new.self.level notes notes (noted_of c.read.new.self.notes)
+    (gives_up (terms_of l) c.args.trace.now c.args.request)
     (on c.args.trace.now l c.cancel.new.self notes c.cancel.ensures.same c.cancel.ensures.history) c.read.ensures.logs
 
 pub returns-then-eq-clause-cancels : goal.returns-then-eq-clause-cancels
@@ -84,4 +88,8 @@ pub returns-else-eq-clause-same : goal.returns-else-eq-clause-same
 returns-else-eq-clause-same c = same_as c.args.self.now.level
 
 pub returns-else-eq-clause-logs : goal.returns-else-eq-clause-logs
-returns-else-eq-clause-logs c = stays c.args.trace.now c.args.self.now.level (noted_of c.args.self.now.notes)
+returns-else-eq-clause-logs c =
+    let l = c.args.self.now.level in
+    let notes = noted_of c.args.self.now.notes in
+    logs_as Serves (MovesOnce (terms_of l) c.args.trace.now kinds.GiveUp c.args.request) c.args.trace.now l l notes notes
+    (λ v w served. gives_up (terms_of l) c.args.trace.now c.args.request v w w served (serves_none w)) (stays c.args.trace.now l notes)

@@ -5,7 +5,8 @@ use Rattle.apf_local.specs.declared.answer.Place.{Place}
 use Rattle.apf_local.specs.declared.answer.Place.TheVariants as places
 use Rattle.apf_simulation.specs.Logs.{noted_of}
 use Rattle.apf_simulation.specs.Slots.{slots_of}
-use Rattle.apf_simulation.proofs.Logging.{same_as, stays}
+use Rattle.apf_simulation.proofs.Logging.{same_as}
+use Rattle.apf_simulation.proofs.Moving.{stays}
 use Rattle.apf_simulation.proofs.Reading.{has_patience, is_waiting}
 use Rattle.apf_simulation.proofs.Tying.{but_of}
 use Rattle.apf_simulation.proofs.simulator.Simulator.hear.Goals as goal

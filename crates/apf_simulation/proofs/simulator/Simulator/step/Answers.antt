@@ -6,12 +6,14 @@ use Rattle.apf_times.specs.Courses.{At, ComesFirst, IsDueBy}
 use Rattle.apf_times.specs.Runs.{IsStep}
 use Rattle.apf_simulation.specs.Charged.{charged_in}
 use Rattle.apf_simulation.specs.Logs.{noted_of}
+use Rattle.apf_simulation.specs.Moves.{MovesOnce, Serves, terms_of}
 use Rattle.apf_simulation.specs.Operators.{CancelsOnly}
 use Rattle.apf_simulation.specs.Slots.{slots_of}
 use Rattle.apf_simulation.proofs.Calling.{call_due}
 use Rattle.apf_simulation.proofs.Charging.{nothing, one as one_charged}
 use Rattle.apf_simulation.proofs.Going.{goes_on}
-use Rattle.apf_simulation.proofs.Logging.{on_then, same_then, stays}
+use Rattle.apf_simulation.proofs.Logging.{same_then}
+use Rattle.apf_simulation.proofs.Moving.{nothing as no_log, once_then, one as one_log, on_then, stays}
 use Rattle.apf_simulation.proofs.Operating.{one}
 use Rattle.apf_simulation.proofs.simulator.Simulator.step.Goals as goal
 
@@ -27,7 +29,10 @@ call-requires-clause-due c =
     call_due c.args.trace.now u v (slots_of c.args.self.now.level c.args.self.now.notes) d c.requires.tied step due turn low
 
 pub returns-in_default-clause-logs : goal.returns-in_default-clause-logs
-returns-in_default-clause-logs c = stays c.args.trace.now c.args.self.now.level (noted_of c.args.self.now.notes)
+returns-in_default-clause-logs c =
+    let old = c.args.self.now in
+    let same : c.next.new.self.carried ≡ old.diary.carried = search rules in
+    no_log c.args.trace.now old.diary c.next.new.self old.level old.level (noted_of old.notes) (noted_of old.notes) same (stays c.args.trace.now old.level (noted_of old.notes))
 
 pub returns-in_default-clause-charged : goal.returns-in_default-clause-charged
 returns-in_default-clause-charged c =
@@ -53,7 +58,16 @@ pub returns-clause-same : goal.returns-clause-same
 returns-clause-same c = same_then c.args.self.now.level c.call.new.self.level c.follow.new.self.level c.call.ensures.same c.follow.ensures.same
 
 pub returns-clause-logs : goal.returns-clause-logs
-returns-clause-logs c = on_then c.args.trace.now c.args.self.now.level c.call.new.self.level c.follow.new.self.level (noted_of c.args.self.now.notes) (noted_of c.call.new.self.notes) (noted_of c.follow.new.self.notes) c.call.ensures.logs c.follow.ensures.logs
+returns-clause-logs c =
+    let old = c.args.self.now in
+    let called = c.call.new.self in
+    let new = c.follow.new.self in
+    let trace = c.args.trace.now in
+    let d = c.in-Some.due in
+    let more : c.next.new.self.carried ≡ old.diary.carried ++ (d ∷ []) = search rules in
+    one_log trace old.diary new.diary d old.level new.level (noted_of old.notes) (noted_of new.notes) (c.follow.ensures.carried ∙ (c.call.ensures.carried ∙ more))
+    (on_then (MovesOnce (terms_of old.level) trace d.kind d.request) Serves (MovesOnce (terms_of old.level) trace d.kind d.request) trace old.level called.level new.level (noted_of old.notes) (noted_of called.notes) (noted_of new.notes)
+    (once_then (terms_of old.level) trace d.kind d.request) c.call.ensures.logs c.follow.ensures.logs)
 
 pub returns-clause-cancels : goal.returns-clause-cancels
 returns-clause-cancels c =

@@ -1,13 +1,13 @@
 """What the commands print of requests with times: an independent computation, slow on purpose.
 
 A run looks at each step for what is due, and makes the calls of the independent level (level.py). A request is given its cost as it arrives, by the
-means of what finished until then (charges.py).
+means of what finished until then (charges.py). By time, what it took is charged in the place of its cost as it finishes.
 """
 
 import re
 from fractions import Fraction
 
-from charges import Means
+from charges import Means, taken
 from judge import Refused, config_of, dealer_fault
 from level import Level, hand_of
 from jsontext import json_text
@@ -82,7 +82,9 @@ class Run:
         if kind == ARRIVE:
             self.asked[request]["cost"] = self.cost(request)
         if kind == FINISH and self.means:
-            self.means.learn(self.trace[request]["hash"], self.trace[request]["runsFor"])
+            asked = self.trace[request]
+            self.level.settle(request, taken(asked["width"], asked["runsFor"]))
+            self.means.learn(asked["hash"], asked["runsFor"])
         getattr(self.level, WORDS[kind])(request)
         self.calls.append((time, kind, request))
         for other in self.level.running - before:

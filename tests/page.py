@@ -113,7 +113,7 @@ def check_begin():
     page.command("Page.setBypassCSP", enabled=False)
     begin()
     tally.check("nothing is refused", faults(), [])
-    tally.check("the status", page.text("#status"), "The noisy client: 703 requests, 398 executed, 76 rejected, 229 gave up. The longest wait is 7,999 ms.")
+    tally.check("the status", page.text("#status"), "The noisy client: 703 requests, 394 executed, 77 rejected, 232 gave up. The longest wait is 7,999 ms.")
 
 
 def check_colours(name, root, rows):
@@ -249,7 +249,7 @@ def check_settings():
     tally.check("the limit by its slider and a key", (page.run("return document.getElementById('limit').value"), shown()), ("11", want))
     tally.check("the rejected change", rejected() != before, True)
     counts = [want[-1][it] for it in (2, 3, 4)]
-    tally.check("what changed", page.text("#status").split(". Longest wait ")[0], "Limit 10 → 11: executed 398 → {}, rejected 76 → {}, gave up 229 → {}".format(*counts))
+    tally.check("what changed", page.text("#status").split(". Longest wait ")[0], "Limit 10 → 11: executed 394 → {}, rejected 77 → {}, gave up 232 → {}".format(*counts))
     left, top, width, height = page.run("const it = document.getElementById('limit-slider').getBoundingClientRect(); return [it.left, it.top, it.width, it.height]")
     page.click_at(int(left + width * 0.3), int(top + height / 2))
     rests()

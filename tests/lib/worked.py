@@ -460,8 +460,8 @@ LEARNED = (
 )
 # a name, the config, the trace, and what each command prints of them, with its patience, by what requests are charged, as usual where that is None
 CHARGED = [
-    # At 301 a request of flow 0 costs 100, and one of flow 1 costs 10. All four of flow 1 come first: the second queue ends at 10, 20, 30 and 40. That the
-    # first of them ran for 1000 changes nothing of those that wait.
+    # At 301 a request of flow 0 costs 100, and one of flow 1 costs 10. So the first of flow 1 comes first. It runs for 1000, and the second queue's next one
+    # ends at 1010 then. Both of flow 0 come before it: each runs for 5, so after the first of them the first queue's next one ends at 105.
     (
         "a flow whose requests run long comes behind",
         TWO_FLOWS,
@@ -473,17 +473,17 @@ CHARGED = [
                 None,
                 FATES
                 + "0 0000000000000000 0 - 0 100 execute\n1 0000000000000001 200 - 200 210 execute\n2 0000000000000002 300 - 300 1300 execute\n"
-                "3 0000000000000000 301 0 2330 2335 execute\n4 0000000000000000 301 0 2335 2340 execute\n5 0000000000000001 301 1 1300 2300 execute\n"
-                "6 0000000000000001 301 1 2300 2310 execute\n7 0000000000000001 301 1 2310 2320 execute\n8 0000000000000001 301 1 2320 2330 execute\n",
+                "3 0000000000000000 301 0 2300 2305 execute\n4 0000000000000000 301 0 2305 2310 execute\n5 0000000000000001 301 1 1300 2300 execute\n"
+                "6 0000000000000001 301 1 2310 2320 execute\n7 0000000000000001 301 1 2320 2330 execute\n8 0000000000000001 301 1 2330 2340 execute\n",
             ),
             (
                 simulate,
                 0,
                 "time",
-                "flow 0000000000000000 requests 3 executed 3 rejected 0 cancelled 0 seat-time 110 wait median 2029 p99 2034 longest 2034\n"
-                "flow 0000000000000001 requests 5 executed 5 rejected 0 cancelled 0 seat-time 1040 wait median 1999 p99 2019 longest 2019\n"
+                "flow 0000000000000000 requests 3 executed 3 rejected 0 cancelled 0 seat-time 110 wait median 1999 p99 2004 longest 2004\n"
+                "flow 0000000000000001 requests 5 executed 5 rejected 0 cancelled 0 seat-time 1040 wait median 2009 p99 2029 longest 2029\n"
                 "flow 0000000000000002 requests 1 executed 1 rejected 0 cancelled 0 seat-time 1000 wait median 0 p99 0 longest 0\n"
-                "end 2340 seat-time 2150 of 2340 waited 11089 patience 0\n"
+                "end 2340 seat-time 2150 of 2340 waited 11059 patience 0\n"
                 "level open seats 0 waiting 0\n"
                 "executed 9 rejected 0 cancelled 0 undecided 0\n"
                 "queue-full 0 closed 0 concurrency-limit 0\n"
@@ -520,15 +520,16 @@ CHARGED = [
             (timeline, 0, "time", "arrive 0\narrive 1\narrive 2\narrive 3\narrive 4\nfinish 0\nfinish 2\nfinish 3\nfinish 1\nfinish 4\n"),
         ],
     ),
-    # By time the first of flow 0 costs its 150, and the others 100: the queues end at 150 and 250, and at 100 and 200. Where it is not said, others cost a seat.
+    # By time the first of flow 0 costs its 150, and the others 100. So the first of flow 1 comes first, and runs for 100: the second queue's next one ends at
+    # 200 then, behind both of flow 0, the first of which runs for 10 alone. Where it is not said, others cost a seat.
     (
         "a cost that a line says goes before",
         TWO_FLOWS,
         '{"hash":0,"arrivesAt":0,"runsFor":100}\n{"hash":1,"arrivesAt":200,"runsFor":100}\n{"hash":0,"arrivesAt":201,"runsFor":10,"cost":150}\n'
-        + '{"hash":1,"arrivesAt":201,"runsFor":10}\n' * 2
+        + '{"hash":1,"arrivesAt":201,"runsFor":100}\n' * 2
         + '{"hash":0,"arrivesAt":201,"runsFor":10}\n',
         [
-            (timeline, 0, "time", "arrive 0\nfinish 0\narrive 1\narrive 2\narrive 3\narrive 4\narrive 5\nfinish 1\nfinish 3\nfinish 2\nfinish 4\nfinish 5\n"),
+            (timeline, 0, "time", "arrive 0\nfinish 0\narrive 1\narrive 2\narrive 3\narrive 4\narrive 5\nfinish 1\nfinish 3\nfinish 2\nfinish 5\nfinish 4\n"),
             (timeline, 0, None, "arrive 0\nfinish 0\narrive 1\narrive 2\narrive 3\narrive 4\narrive 5\nfinish 1\nfinish 3\nfinish 4\nfinish 2\nfinish 5\n"),
             (timeline, 0, "seats", "arrive 0\nfinish 0\narrive 1\narrive 2\narrive 3\narrive 4\narrive 5\nfinish 1\nfinish 3\nfinish 4\nfinish 2\nfinish 5\n"),
         ],

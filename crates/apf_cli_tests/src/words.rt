@@ -362,19 +362,34 @@ fn reads_the_words_of_simulations(rt: HostRuntime) -> Result<(), Fail> {
             }
         );
     }
-    let charged = read_words(alloc, &["apf", "simulate", "c", "t", "0", "--charge", "x"])?;
-    let Arguments::Simulation { charge, .. } = charged.arguments else {
-        unreachable!();
-    };
-    assert_eq!(rt; charge, Some("x"));
-    let charged = read_words(
-        alloc,
-        &["apf", "compare", "--charge", "seats", "c", "o", "t", "0"],
-    )?;
-    let Arguments::Comparison { charge, .. } = charged.arguments else {
-        unreachable!();
-    };
-    assert_eq!(rt; charge, Some("seats"));
+    assert_eq!(rt;
+        read_words(alloc, &["apf", "simulate", "c", "t", "0", "--charge", "x"])?,
+        Action {
+            command: "simulate",
+            arguments: Arguments::Simulation {
+                config: "c",
+                trace: "t",
+                patience: "0",
+                charge: Some("x")
+            }
+        }
+    );
+    assert_eq!(rt;
+        read_words(
+            alloc,
+            &["apf", "compare", "--charge", "seats", "c", "o", "t", "0"],
+        )?,
+        Action {
+            command: "compare",
+            arguments: Arguments::Comparison {
+                config: "c",
+                other: "o",
+                trace: "t",
+                patience: "0",
+                charge: Some("seats")
+            }
+        }
+    );
     Ok(())
 }
 

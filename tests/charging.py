@@ -1,6 +1,6 @@
 """Who is turned away, where requests are charged by time and where by seats: quiet flows of short requests beside five flows that ask for twice the
-level, with an `apf serve` in the middle. The client keeps the clock, and everything else is the program's. Who comes in the first third is not
-counted: nothing is known of any flow then.
+level. First with an `apf serve` in the middle: the client keeps the clock, and everything else is the program's. Then by `apf simulate`, on as many
+requests as a trace may have. Who comes in the first third is not counted with `serve`: nothing is known of any flow then.
 
 APF_SEED draws other arrivals, and APF_SECONDS says how long they come.
 """
@@ -29,13 +29,13 @@ SHORT, QUIET_FLOWS, LOUD_FLOWS = 10_000, 10, 5
 FINISH, GIVE_UP, ARRIVE = range(3)
 
 
-def arrivals_of(flows, name, runs_for, seats, draw):
-    """The arrivals of flows that ask for this many seats together, at times that know nothing of one another. Each runs up to a quarter longer or shorter."""
+def arrivals_of(flows, name, runs_for, seats, draw, seconds=SECONDS):
+    """The arrivals in so many seconds of flows that ask for this many seats together, at times that know nothing of one another. Each runs up to a quarter longer or shorter."""
     each = runs_for * len(flows) / seats
     arrivals = []
     for flow in flows:
         at = draw.expovariate(1 / each)
-        while at < SECONDS * SECOND:
+        while at < seconds * SECOND:
             arrivals.append((int(at), ARRIVE, f"{name}-{flow}", int(runs_for * draw.uniform(0.75, 1.25))))
             at += draw.expovariate(1 / each)
     return arrivals
@@ -124,9 +124,29 @@ def turned_away(runs_for, charge):
     return away / came
 
 
+def simulated(runs_for, charge):
+    """The same by one simulation."""
+    draw = random.Random(f"{seed} {runs_for}")
+    # as long as 9,500 requests come, of 10,000 that a trace may have
+    seconds = 9_500 / (4.9 / SHORT + 98 / runs_for) / SECOND
+    quiet = arrivals_of(range(QUIET_FLOWS), "quiet", SHORT, 4.9, draw, seconds)
+    loud = arrivals_of(range(LOUD_FLOWS), "loud", runs_for, 98, draw, seconds)
+    lines = [{"schema": "duel", "distinguisher": flow, "arrivesAt": at, "runsFor": ran} for at, _, flow, ran in sorted(quiet + loud)]
+    trace = files("duel.jsonl", "".join(json.dumps(it) + "\n" for it in lines))
+    done = subprocess.run([program, "simulate", LEVEL, trace, "15s", "--charge", charge], stdout=subprocess.PIPE, stderr=subprocess.PIPE)
+    rows = [line.split() for line in done.stdout.decode().split("\n") if line.startswith("flow ") and '"quiet-' in line]
+    came, executed = (sum(int(row[row.index(word) + 1]) for row in rows) for word in ("requests", "executed"))
+    tally.check(f"{runs_for} us by {charge}: each is simulated", (done.returncode, done.stderr, came), (0, b"", len(quiet)))
+    print(f"simulated, loud requests of {runs_for // 1000} ms, charged by {charge}: {came - executed} of {came} quiet requests turned away")
+    return (came - executed) / came
+
+
 for milliseconds in (30, 100, 300, 1_000, 10_000):
-    away = turned_away(milliseconds * 1000, "time")
-    tally.check(f"loud requests of {milliseconds} ms: at most 1 % of the quiet ones are turned away", away <= 0.01, True)
+    # in so few requests as a trace may have, those of 10 s have all seats from the first second on, and nothing of them ends for half of the time
+    for way, told in ((turned_away, "with serve"), (simulated, "by simulate"))[: 1 if milliseconds == 10_000 else 2]:
+        away = way(milliseconds * 1000, "time")
+        tally.check(f"{told}, loud requests of {milliseconds} ms: at most 1 % of the quiet ones are turned away", away <= 0.01, True)
 # the same where dispatches are charged their seats: the test can tell
 tally.check("charged by seats, a fifth and more of them are", turned_away(300_000, "seats") >= 0.2, True)
+tally.check("by simulate too", simulated(1_000_000, "seats") >= 0.2, True)
 tally.end()

@@ -1,20 +1,20 @@
 -- How a history goes on by what is carried out in turn.
-use Rattle.std.proofs.Common.{◌≡◌, ℕ, List, [], ◌∷◌, ◌++◌, append_assoc, append-nil, refl, sym, ap, ◌∙◌, subst, inl}
+use Rattle.std.proofs.Common.{◌≡◌, ℕ, List, [], ◌∷◌, ◌++◌, append_assoc, append-nil, refl, sym, ap, ◌∙◌, subst}
 use Rattle.apf_history.specs.declared.events.Event.{Event}
 use Rattle.apf_history.specs.declared.events.Event.TheVariants.{Enter, Full, Dispatch, Strike}
 use Rattle.apf_history.specs.declared.events.LogEntry.{LogEntry}
 use Rattle.apf_history.specs.declared.events.LogEntry.TheVariants.{Happens}
 use Rattle.apf_model.specs.Charged.{log_of}
 use Rattle.apf_book.specs.Life.{LifeView}
-use Rattle.apf_book.specs.LifeBook.{IsLifeKept, then_came_all}
+use Rattle.apf_book.specs.LifeBook.{then_came_all}
 use Rattle.apf_book.specs.Servings.{AreServings}
-use Rattle.apf_local.specs.Levels.{LocalView, GoesOn}
+use Rattle.apf_local.specs.Levels.{LocalView}
 use Rattle.apf_times.specs.declared.due.Due.{Due}
 use Rattle.apf_times.specs.declared.due.Kind.{Kind}
 use Rattle.apf_times.specs.declared.due.Kind.TheVariants as kinds
 use Rattle.apf_traces.specs.declared.request.TraceRequest.{TraceRequest}
 use Rattle.apf_simulation.specs.Diaries.{DiaryView}
-use Rattle.apf_simulation.specs.Logs.{LogsFrom, LogsOn, Noted}
+use Rattle.apf_simulation.specs.Logs.{LogsOn, Noted}
 use Rattle.apf_simulation.specs.Moves.{LogsInTurn, MovesFirst, MovesInTurn, MovesOnce, Serves, Terms, terms_of}
 use Rattle.apf_simulation.specs.Slots.{IsSame}
 

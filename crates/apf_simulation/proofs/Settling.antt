@@ -1,6 +1,6 @@
 -- What a request took that finished is settled, in each history.
-use Rattle.std.proofs.Common.{◌≡◌, ◌≢◌, ◌⊎◌, ◌==◌, ◌&&◌, ℕ, zero, suc, ◌%◌, ◌<◌, ◌≤◌, ◌^◌, true, false, List, [], ◌∷◌, length, get_or, Option, Some, None, refl, sym, ap, ◌∙◌, subst, inl, inr, arith, if◌then◌else◌}
-use Rattle.std.specs.Prelude.{Contains, Bool, nat_lt, slice_index, slice_index_or, slice_get}
+use Rattle.std.proofs.Common.{◌≡◌, ◌≢◌, ◌⊎◌, ◌==◌, ◌&&◌, ℕ, zero, suc, ◌<◌, ◌≤◌, ◌^◌, true, false, List, [], ◌∷◌, length, get_or, Option, Some, None, refl, sym, ap, ◌∙◌, subst, inl, inr, arith, if◌then◌else◌}
+use Rattle.std.specs.Prelude.{Contains, Bool, nat_lt, slice_index, slice_index_or}
 use Rattle.std.proofs.lemmas.Bool.{cases_eq, cases_lt, ne_eqb}
 use Rattle.std.proofs.lemmas.Bool.Decides.{nat_tests}
 use Rattle.apf_words.specs.Limits.{max_requests}
@@ -16,7 +16,7 @@ use Rattle.apf_model.specs.Charged.{Running, charge_of, charged_numbers, ended, 
 use Rattle.apf_gate.specs.Slots.{slot_of}
 use Rattle.apf_book.specs.Life.{LifeView, LifeState, IsLifeOf, CannotSettle, charge_in, holder_by, then_settled}
 use Rattle.apf_book.specs.LifeBook.{IsLifeKept}
-use Rattle.apf_local.specs.Levels.{LocalView, GoesOn, SameLocal, SettlesOn, seat_time_of}
+use Rattle.apf_local.specs.Levels.{LocalView, SameLocal, SettlesOn, seat_time_of}
 use Rattle.apf_times.specs.declared.due.Kind.TheVariants as kinds
 use Rattle.apf_traces.specs.declared.request.TraceRequest.{TraceRequest}
 use Rattle.apf_simulation.specs.Logs.{IsLogged, LogsFrom, LogsOn, Noted}

@@ -53,11 +53,11 @@ Example:
   $ sed -n 1p trace.jsonl
   {\"schema\": \"global-default\", \"distinguisher\": \"alice\", \"arrivesAt\": 168371, \"runsFor\": 84650}
   $ apf simulate config.json trace.jsonl 8s | tail -n 5
-  end 14043696 seat-time 123423463 of 140436960 waited 3211858671 patience 8000000
+  end 14043696 seat-time 120369358 of 140436960 waited 3188642653 patience 8000000
   level open seats 0 waiting 0
-  executed 398 rejected 76 cancelled 229 undecided 0
-  queue-full 76 closed 0 concurrency-limit 0
-  entered 600 dispatched 371 struck 229
+  executed 394 rejected 77 cancelled 232 undecided 0
+  queue-full 77 closed 0 concurrency-limit 0
+  entered 596 dispatched 364 struck 232
 
 Status: 0 done, 1 a file's fault or output that can't be written, 2 a command line's fault,
 3 no memory.",
@@ -110,11 +110,11 @@ Example, what happens to the longest waits; column -t lays out all columns:
   $ cd examples/noisy-client
   $ apf compare config.json ../global-default/config.json trace.jsonl 8s | awk '{ print $7, $8 }'
   longest longest-2
-  7998759 2187904
-  669814 64496
-  357446 44546
-  163755 40830
-  7998759 2187904
+  7999458 2239200
+  400822 51365
+  291295 44546
+  143754 31436
+  7999458 2239200
 
 Status: 0 done, 1 a file's fault or output that can't be written, 2 a command line's fault,
 3 no memory.",
@@ -138,14 +138,13 @@ for each request, in the order of their arrivals. Times are microseconds.
 It simulates this level by this project's rules, and not kube-apiserver. TRACE is JSON Lines, and
 PATIENCE is as 15s or in microseconds; apf simulate --help says what they and CONFIG hold.
 
-Example, who of the others than the crawler waited for more than 400 ms; column -t lays out all
+Example, who of the others than the crawler waited for more than 250 ms; column -t lays out all
 columns:
   $ cd examples/noisy-client
-  $ apf fates config.json trace.jsonl 8s | awk '$5 - $3 > 400000' | grep -v crawler
+  $ apf fates config.json trace.jsonl 8s | awk '$5 - $3 > 250000' | grep -v crawler
   40 6cc15f39b7bdc3b9 1094431 63 1495253 1611464 execute \"global-default\" \"bob\"
-  421 6cc15f39b7bdc3b9 2205104 63 2630560 2740258 execute \"global-default\" \"bob\"
-  495 6cc15f39b7bdc3b9 3219113 63 3650281 3774498 execute \"global-default\" \"bob\"
-  567 6cc15f39b7bdc3b9 4424285 63 5094099 5222721 execute \"global-default\" \"bob\"
+  127 f4de3bd42ccdf6b7 1348969 55 1640264 1711848 execute \"global-default\" \"alice\"
+  608 6cc15f39b7bdc3b9 5156196 63 5439281 5585384 execute \"global-default\" \"bob\"
 
 Status: 0 done, 1 a file's fault or output that can't be written, 2 a command line's fault,
 3 no memory.",

@@ -8,6 +8,7 @@ import sys
 
 sys.path.insert(0, os.path.join(os.path.dirname(os.path.abspath(__file__)), "lib"))
 import simulation
+from bound import sides
 from charges import NEWEST, SETS, WAYS
 from harness import Files, Tally, build, run
 from simulation import Run, words_of
@@ -76,6 +77,7 @@ def drawn_objects():
 
 # what happens in a drawn trace, and in how many of 2,000 at least
 MATTERS = "by time it is another run than by seats"
+BEYOND = "a queue's requests take more than twice the largest cost more than those of one that is never empty"
 SEEN = {
     MATTERS: 500,
     "a line has a cost, and by time it is another run than as usual": 30,
@@ -86,6 +88,8 @@ SEEN = {
     "the largest cost, which no line has": 30,
     "a cost of 1, which no line has": 30,
     "a flow that was forgotten": 20,
+    # the test of the bound can tell: with less it would fail
+    BEYOND: 300,
 }
 
 
@@ -117,7 +121,7 @@ def happenings(made, config, patience):
 
 def check_drawn():
     """Each trace by time: what became of each request, and now and then what the other commands print."""
-    seen = dict.fromkeys(SEEN, 0)
+    seen, nearest = dict.fromkeys(SEEN, 0), (-(10**30),)
     for number in range(TRACES):
         config, objects, patience = drawn_level(), drawn_objects(), draw.choice([0, 0, 30, 200, 1000, 1_000_000_000])
         made = Run(config, [request_of(it) for it in objects], patience, "time")
@@ -130,8 +134,12 @@ def check_drawn():
         if MATTERS in happened:
             usual = Run(config, made.trace, patience)
             tally.check(f"fates as usual of {name}", printed("fates", config, objects, patience), told(simulation.fates(usual)))
-        for what in happened:
+        worst, largest, slack = sides(made)
+        tally.check(f"the bound of {name}: {worst}, {largest}, {slack}", worst <= 2 * largest + 3 * slack, True)
+        nearest = max(nearest, (worst - 2 * largest - 2 * slack, worst, largest, slack))
+        for what in [*happened, *[BEYOND] * (worst > 2 * largest)]:
             seen[what] += 1
+    print("of the traces that came nearest: {1} more seat-time than a queue that is never empty, the largest cost {2}, and {3} misjudged at one moment".format(*nearest))
     for what, count in seen.items():
         tally.check(f"in many traces: {what}: {count}", count >= SEEN[what] * TRACES // 2000, True)
 

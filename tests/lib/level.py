@@ -34,6 +34,8 @@ class Level:
         self.arrived, self.running, self.decided = set(), set(), {}
         # of each request that was dispatched and is not settled: its queue, and what that is charged for it. Of each that is settled: what it took
         self.charged, self.settled = {}, {}
+        # each settlement: how many events there were before it, its request and its queue
+        self.settlements = []
         self.lines, self.log = [], []
 
     def width(self, request):
@@ -123,6 +125,7 @@ class Level:
             queue, amount = self.charged.pop(request)
             self.starts[queue] += took - amount
             self.settled[request] = took
+            self.settlements.append((len(self.log), request, queue))
 
     def spend(self, request, took):
         """What a request took so far is charged, if that is more than what was."""

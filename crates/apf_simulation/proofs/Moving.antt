@@ -49,24 +49,17 @@ serves_then u v w first second = record {
 -- one thing is carried out, and what is served comes after it
 module _ (terms : Terms) (trace : List TraceRequest) where
   pub moves_at : (kind : Kind) (r : ℕ) (v m w : LifeView) → MovesFirst terms trace kind r v m → Serves m w → MovesOnce terms trace kind r v w
-  moves_at kind r v m w moved served = record { before = v; after = m; served = serves_none v; moved = moved; then_served = served }
+  moves_at kind r v m w moved served = record { after = m; moved = moved; then_served = served }
 
   pub once_then : (kind : Kind) (r : ℕ) (u v w : LifeView) → MovesOnce terms trace kind r u v → Serves v w → MovesOnce terms trace kind r u w
-  once_then kind r u v w once served = record { before = once.before; after = once.after; served = once.served; moved = once.moved; then_served = serves_then once.after v w once.then_served served }
-
-  then_once : (kind : Kind) (r : ℕ) (u v w : LifeView) → Serves u v → MovesOnce terms trace kind r v w → MovesOnce terms trace kind r u w
-  then_once kind r u v w served once = record { before = once.before; after = once.after; served = serves_then u v once.before served once.served; moved = once.moved; then_served = once.then_served }
+  once_then kind r u v w once served = record { after = once.after; moved = once.moved; then_served = serves_then once.after v w once.then_served served }
 
   -- one that gives up leaves nothing
   pub gives_up : (r : ℕ) (u v w : LifeView) → Serves u v → Serves v w → MovesOnce terms trace kinds.GiveUp r u w
-  gives_up r u v w first second = record { before = v; after = v; served = first; moved = refl; then_served = second }
-
-  serves_first : (dues : List Due) (u v w : LifeView) → Serves u v → MovesInTurn terms trace dues v w → MovesInTurn terms trace dues u w
-  serves_first [] u v w served moves = serves_then u v w served moves
-  serves_first (due ∷ dues) u v w served moves = (moves.0, then_once due.kind due.request u v moves.0 served moves.1, moves.2)
+  gives_up r u v w first second = record { after = u; moved = refl; then_served = serves_then u v w first second }
 
   pub in_turn : (ds es : List Due) (u v w : LifeView) → MovesInTurn terms trace ds u v → MovesInTurn terms trace es v w → MovesInTurn terms trace (ds ++ es) u w
-  in_turn [] es u v w first second = serves_first es u v w first second
+  in_turn [] es u v w first second = subst (λ (x : LifeView). MovesInTurn terms trace es x w) first second
   in_turn (due ∷ ds) es u v w first second = (first.0, first.1, in_turn ds es first.0 v w first.2 second)
 
 -- in another way, if that follows
@@ -100,12 +93,13 @@ same_terms a b same = (λ i. record { kept = same.places i; widths = (same.gate 
 pub all_logs : (trace : List TraceRequest) (u v : DiaryView) (a b : LocalView) (qa qb : Noted) → u.carried ≡ [] → LogsInTurn trace u v a qa b qb → LogsOn (MovesInTurn (terms_of a) trace v.carried) trace a qa b qb
 all_logs trace u v a b qa qb empty logs = subst (λ (ds : List Due). LogsOn (MovesInTurn (terms_of a) trace ds) trace a qa b qb) (sym (logs.carried ∙ ap (λ (l : List Due). l ++ logs.dues) empty)) logs.in_turn
 
--- nothing was carried out
-pub nothing : (trace : List TraceRequest) (u v : DiaryView) (a b : LocalView) (qa qb : Noted) → v.carried ≡ u.carried → LogsOn Serves trace a qa b qb → LogsInTurn trace u v a qa b qb
-nothing trace u v a b qa qb carried served = record {
+-- nothing was carried out, and nothing was done
+pub nothing : (trace : List TraceRequest) (u v : DiaryView) (l : LocalView) (notes : Noted) → v.carried ≡ u.carried → LogsInTurn trace u v l notes l notes
+unfolding LogsOn
+nothing trace u v l notes carried = record {
   dues = [];
   carried = carried ∙ sym (append-nil u.carried);
-  in_turn = logs_as Serves (MovesInTurn (terms_of a) trace []) trace a b qa qb (λ x y moved. moved) served;
+  in_turn = λ w kept is. record { view = w; kept = kept; logged = is; limit = refl; moved = refl };
 }
 
 -- one thing was carried out
@@ -113,7 +107,7 @@ pub one : (trace : List TraceRequest) (u v : DiaryView) (d : Due) (a b : LocalVi
 one trace u v d a b qa qb carried once = record {
   dues = d ∷ [];
   carried = carried;
-  in_turn = logs_as (MovesOnce (terms_of a) trace d.kind d.request) (MovesInTurn (terms_of a) trace (d ∷ [])) trace a b qa qb (λ x y moved. (y, moved, serves_none y)) once;
+  in_turn = logs_as (MovesOnce (terms_of a) trace d.kind d.request) (MovesInTurn (terms_of a) trace (d ∷ [])) trace a b qa qb (λ x y moved. (y, moved, refl)) once;
 }
 
 -- one stretch after another

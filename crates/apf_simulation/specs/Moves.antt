@@ -55,17 +55,15 @@ MovesFirst terms trace Arrive r v w = HasCome (number_of trace r) v w
 MovesFirst terms trace Finish r v w = HasFinished terms (number_of trace r) (runs_at trace r) v w
 MovesFirst terms trace GiveUp r v w = w ≡ v
 
--- one thing was carried out, and before it and after it came Dispatches and Strikes alone
+-- one thing was carried out, before anything else, and after it came Dispatches and Strikes alone
 pub record MovesOnce (terms : Terms) (trace : List TraceRequest) (kind : Kind) (r : ℕ) (v w : LifeView) : Type 0 where
-  pub before : LifeView
   pub after : LifeView
-  pub served : Serves v before
-  pub moved : MovesFirst terms trace kind r before after
+  pub moved : MovesFirst terms trace kind r v after
   pub then_served : Serves after w
 
--- one thing after the other was carried out, and between them came Dispatches and Strikes alone
+-- one thing after the other was carried out so, and nothing else came
 abbrev pub MovesInTurn : Terms → List TraceRequest → List Due → LifeView → LifeView → Type 0
-MovesInTurn terms trace [] v w = Serves v w
+MovesInTurn terms trace [] v w = w ≡ v
 MovesInTurn terms trace (due ∷ dues) v w = (between : LifeView) × MovesOnce terms trace due.kind due.request v between × MovesInTurn terms trace dues between w
 
 -- what was carried out between the two diaries, and that each history of the first level goes on to one of the second by that, in turn

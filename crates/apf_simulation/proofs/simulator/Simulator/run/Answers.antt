@@ -5,7 +5,7 @@ use Rattle.apf_simulation.specs.Logs.{noted_of}
 use Rattle.apf_simulation.proofs.Charging.{nothing as nothing_charged, on as on_charged}
 use Rattle.apf_simulation.proofs.Going.{stays, goes_on}
 use Rattle.apf_simulation.proofs.Logging.{same_as, same_then}
-use Rattle.apf_simulation.proofs.Moving.{nothing as no_log, on as on_logs, stays as stays_log}
+use Rattle.apf_simulation.proofs.Moving.{nothing as no_log, on as on_logs}
 use Rattle.apf_simulation.proofs.Operating.{nothing, on}
 use Rattle.apf_simulation.proofs.simulator.Simulator.run.Goals as goal
 
@@ -14,7 +14,7 @@ loop-init c = record {
   tied = c.requires.tied;
   goes_on = stays c.args.self.now.diary;
   same = same_as c.args.self.now.level;
-  logs = no_log c.args.trace.now c.args.self.now.diary c.args.self.now.diary c.args.self.now.level c.args.self.now.level (noted_of c.args.self.now.notes) (noted_of c.args.self.now.notes) refl (stays_log c.args.trace.now c.args.self.now.level (noted_of c.args.self.now.notes));
+  logs = no_log c.args.trace.now c.args.self.now.diary c.args.self.now.diary c.args.self.now.level (noted_of c.args.self.now.notes) refl;
   charged = nothing_charged c.args.trace.now c.args.self.now.diary c.args.self.now.diary (charged_in c.args.self.now.charges c.args.self.now.notes) refl;
   cancels = nothing c.args.trace.now c.args.self.now.diary c.args.self.now.diary c.args.self.now.level.owner.stations c.args.self.now.level.owner.stations refl refl;
 }

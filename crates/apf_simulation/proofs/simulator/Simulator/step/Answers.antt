@@ -13,7 +13,7 @@ use Rattle.apf_simulation.proofs.Calling.{call_due}
 use Rattle.apf_simulation.proofs.Charging.{nothing, one as one_charged}
 use Rattle.apf_simulation.proofs.Going.{goes_on}
 use Rattle.apf_simulation.proofs.Logging.{same_then}
-use Rattle.apf_simulation.proofs.Moving.{nothing as no_log, once_then, one as one_log, on_then, stays}
+use Rattle.apf_simulation.proofs.Moving.{nothing as no_log, once_then, one as one_log, on_then}
 use Rattle.apf_simulation.proofs.Operating.{one}
 use Rattle.apf_simulation.proofs.simulator.Simulator.step.Goals as goal
 
@@ -32,7 +32,7 @@ pub returns-in_default-clause-logs : goal.returns-in_default-clause-logs
 returns-in_default-clause-logs c =
     let old = c.args.self.now in
     let same : c.next.new.self.carried ≡ old.diary.carried = search rules in
-    no_log c.args.trace.now old.diary c.next.new.self old.level old.level (noted_of old.notes) (noted_of old.notes) same (stays c.args.trace.now old.level (noted_of old.notes))
+    no_log c.args.trace.now old.diary c.next.new.self old.level (noted_of old.notes) same
 
 pub returns-in_default-clause-charged : goal.returns-in_default-clause-charged
 returns-in_default-clause-charged c =

@@ -8,6 +8,7 @@ pub mod Balance
 pub mod Waits
 pub mod Standing
 pub mod Settled
+pub mod SettledWaits
 pub mod SettledStanding
 pub mod SettledOnce
 pub mod Charges

@@ -9,25 +9,33 @@ use Rattle.apf_history.specs.Numbered.{width}
 use Rattle.apf_history.specs.Tally.{tally}
 use Rattle.apf_history.specs.History.{has_arrived, waiting, MayFollow, IsLegal}
 use Rattle.apf_history.specs.Fair.{IsFair, service, IsNeverEmpty, widest}
-use Rattle.apf_history.specs.Waits.{total_width, granted}
+use Rattle.apf_history.specs.Waits.{total_width, total_time, granted}
+use Rattle.apf_history.specs.declared.events.LogEntry.{LogEntry}
+use Rattle.apf_history.specs.declared.events.LogEntry.TheVariants.{Happens, Spends, Settles}
+use Rattle.apf_history.specs.Charged.{events, given, seat_time}
 use Rattle.apf_history.proofs.Lists.{without, Contains-none, Contains-cons_cases, Contains-without, first_split}
 use Rattle.apf_history.proofs.Waiting.{IsLegal-append, waiting_dispatch, waiting_strike, waiting_else, waiting_enter, without_front}
 use Rattle.apf_history.proofs.Balance.{IsFair-append, isolated}
 
--- the widths of those that stand before r, together
-abbrev ahead : List ℕ → ℕ → List ℕ → ℕ
-ahead widths r [] = 0
-ahead widths r (x ∷ xs) = cond (eqb x r) 0 (width widths x + ahead widths r xs)
+-- what those take that stand before r, together
+abbrev ahead : (ℕ → ℕ) → ℕ → List ℕ → ℕ
+ahead f r [] = 0
+ahead f r (x ∷ xs) = cond (eqb x r) 0 (f x + ahead f r xs)
 
-module _ (widths : List ℕ) (r : ℕ) where
-  ahead_here : (x : ℕ) (xs : List ℕ) → x ≡ r → ahead widths r (x ∷ xs) ≡ 0
-  ahead_here x xs same = ap (λ (b : Bool). cond b 0 (width widths x + ahead widths r xs)) (eq-eqb x r same)
+-- what those take that are dispatched from q in a stretch
+abbrev spent : (ℕ → ℕ) → List Event → ℕ → ℕ
+spent f [] q = 0
+spent f (e ∷ h) q = given f e q (spent f h q)
 
-  ahead_there : (x : ℕ) (xs : List ℕ) → x ≢ r → ahead widths r (x ∷ xs) ≡ width widths x + ahead widths r xs
-  ahead_there x xs other = ap (λ (b : Bool). cond b 0 (width widths x + ahead widths r xs)) (ne_eqb x r other)
+module _ (f : ℕ → ℕ) (r : ℕ) where
+  ahead_here : (x : ℕ) (xs : List ℕ) → x ≡ r → ahead f r (x ∷ xs) ≡ 0
+  ahead_here x xs same = ap (λ (b : Bool). cond b 0 (f x + ahead f r xs)) (eq-eqb x r same)
+
+  ahead_there : (x : ℕ) (xs : List ℕ) → x ≢ r → ahead f r (x ∷ xs) ≡ f x + ahead f r xs
+  ahead_there x xs other = ap (λ (b : Bool). cond b 0 (f x + ahead f r xs)) (ne_eqb x r other)
 
   -- one more behind r
-  ahead_push : (xs : List ℕ) (y : ℕ) → Contains xs r → ahead widths r (xs ++ y ∷ []) ≡ ahead widths r xs
+  ahead_push : (xs : List ℕ) (y : ℕ) → Contains xs r → ahead f r (xs ++ y ∷ []) ≡ ahead f r xs
   ahead_push [] y c = absurd (Contains-none r c)
   ahead_push (x ∷ xs) y c = elim (cases_eq x r) [
     | inl same ↦ ahead_here x (xs ++ y ∷ []) same ∙ sym (ahead_here x xs same)
@@ -38,16 +46,16 @@ module _ (widths : List ℕ) (r : ℕ) where
   ]
 
   -- another one fewer
-  ahead_without : (j : ℕ) (xs : List ℕ) → j ≢ r → ahead widths r (without j xs) ≤ ahead widths r xs
+  ahead_without : (j : ℕ) (xs : List ℕ) → j ≢ r → ahead f r (without j xs) ≤ ahead f r xs
   ahead_without j [] ne = omega arith
   ahead_without j (x ∷ xs) ne =
       let old = ahead_without j xs ne in
       elim (cases_eq j x) [
         | inl same ↦
-            (let is = ap (λ (b : Bool). ahead widths r (cond (not b) (x ∷ without j xs) (without j xs))) (eq-eqb j x same) in
+            (let is = ap (λ (b : Bool). ahead f r (cond (not b) (x ∷ without j xs) (without j xs))) (eq-eqb j x same) in
             let here = ahead_there x xs (λ e. ne (same ∙ e)) in omega arith)
         | inr other ↦
-            (let is = ap (λ (b : Bool). ahead widths r (cond (not b) (x ∷ without j xs) (without j xs))) (ne_eqb j x other) in
+            (let is = ap (λ (b : Bool). ahead f r (cond (not b) (x ∷ without j xs) (without j xs))) (ne_eqb j x other) in
             elim (cases_eq x r) [
               | inl e ↦ (let a = ahead_here x (without j xs) e in omega arith)
               | inr d ↦ (let a = ahead_there x (without j xs) d in let b = ahead_there x xs d in omega arith)
@@ -55,7 +63,7 @@ module _ (widths : List ℕ) (r : ℕ) where
       ]
 
   -- who stands before the last
-  ahead_last : (xs : List ℕ) → ahead widths r (xs ++ r ∷ []) ≤ total_width widths xs
+  ahead_last : (xs : List ℕ) → ahead f r (xs ++ r ∷ []) ≤ total_time f xs
   ahead_last [] = let a = ahead_here r [] refl in omega arith
   ahead_last (x ∷ xs) = elim (cases_eq x r) [
     | inl same ↦ (let a = ahead_here x (xs ++ r ∷ []) same in omega arith)
@@ -63,7 +71,7 @@ module _ (widths : List ℕ) (r : ℕ) where
   ]
 
 -- who arrived has arrived ever after
-arrived_later : (stretch h : List Event) (r : ℕ) → has_arrived h r ≡ true → has_arrived (stretch ++ h) r ≡ true
+pub arrived_later : (stretch h : List Event) (r : ℕ) → has_arrived h r ≡ true → has_arrived (stretch ++ h) r ≡ true
 arrived_later [] h r arrived = arrived
 arrived_later (Enter j q ∷ stretch) h r arrived = or_right (eqb j r) (has_arrived (stretch ++ h) r) (arrived_later stretch h r arrived)
 arrived_later (Full j q ∷ stretch) h r arrived = or_right (eqb j r) (has_arrived (stretch ++ h) r) (arrived_later stretch h r arrived)
@@ -79,7 +87,7 @@ is_left xs ys j r is c = (Contains-without j xs r (subst (λ (zs : List ℕ). Co
 
 module _ (hands : ℕ → List ℕ) (limit : ℕ) where
   -- who waits after an event, and had arrived, waited before it
-  waited : (h : List Event) → IsLegal hands limit h → (e : Event) → MayFollow hands limit h e → (q r : ℕ) → has_arrived h r ≡ true → Contains (waiting (e ∷ h) q) r → Contains (waiting h q) r
+  pub waited : (h : List Event) → IsLegal hands limit h → (e : Event) → MayFollow hands limit h e → (q r : ℕ) → has_arrived h r ≡ true → Contains (waiting (e ∷ h) q) r → Contains (waiting h q) r
   waited h l (Enter j p) m q r arrived c = elim (cases_eq p q) [
     | inl same ↦ elim (Contains-push_cases (waiting h p) j r (subst (λ (xs : List ℕ). Contains xs r) (waiting_enter hands limit h l j p m.0) (subst (λ (i : ℕ). Contains (waiting (Enter j p ∷ h) i) r) (sym same) c))) [
       | inl old ↦ subst (λ (i : ℕ). Contains (waiting h i) r) same old
@@ -97,58 +105,76 @@ module _ (hands : ℕ → List ℕ) (limit : ℕ) where
   never q r [] h l arrived c (suc k) low = absurd (omega arith)
   never q r (e ∷ stretch) h l arrived c (suc k) low = never q r stretch h l.1 arrived (waited (stretch ++ h) l.1 e l.0 q r (arrived_later stretch h r arrived) c) k (omega arith)
 
-  module _ (widths : List ℕ) (q r : ℕ) where
+  module _ (f : ℕ → ℕ) (q r : ℕ) where
     -- what one event serves of the queue comes out of those that stand before r
     served_by : (h : List Event) → IsLegal hands limit h → (e : Event) → MayFollow hands limit h e → Contains (waiting h q) r → Contains (waiting (e ∷ h) q) r
-        → service widths (e ∷ []) q + ahead widths r (waiting (e ∷ h) q) ≤ ahead widths r (waiting h q)
+        → spent f (e ∷ []) q + ahead f r (waiting (e ∷ h) q) ≤ ahead f r (waiting h q)
     served_by h l (Enter j p) m was c = elim (cases_eq p q) [
       | inl same ↦
-          (let is = ap (ahead widths r) (subst (λ (i : ℕ). waiting (Enter j p ∷ h) i ≡ waiting h i ++ j ∷ []) same (waiting_enter hands limit h l j p m.0)) in
-          let behind = ahead_push widths r (waiting h q) j was in omega arith)
-      | inr other ↦ (let is = ap (ahead widths r) (waiting_else h j p q other) in omega arith)
+          (let is = ap (ahead f r) (subst (λ (i : ℕ). waiting (Enter j p ∷ h) i ≡ waiting h i ++ j ∷ []) same (waiting_enter hands limit h l j p m.0)) in
+          let behind = ahead_push f r (waiting h q) j was in omega arith)
+      | inr other ↦ (let is = ap (ahead f r) (waiting_else h j p q other) in omega arith)
     ]
     served_by h l (Full j p) m was c = omega arith
     served_by h l (Strike j p) m was c =
-        let is = ap (ahead widths r) (waiting_strike h j p q) in
-        let fewer = ahead_without widths r j (waiting h q) (is_other (waiting h q) (waiting (Strike j p ∷ h) q) j r (waiting_strike h j p q) c) in omega arith
+        let is = ap (ahead f r) (waiting_strike h j p q) in
+        let fewer = ahead_without f r j (waiting h q) (is_other (waiting h q) (waiting (Strike j p ∷ h) q) j r (waiting_strike h j p q) c) in omega arith
     served_by h l (Dispatch j p) m was c =
         let other_request = is_other (waiting h q) (waiting (Dispatch j p ∷ h) q) j r (waiting_dispatch h j p q) c in
         elim (cases_eq p q) [
           | inl same ↦
               (let first = subst (λ (i : ℕ). slice_get (waiting h i) 0 ≡ Some j) same m in
-              let before = ap (ahead widths r) (first_split (waiting h q) j first) in
-              let head = ahead_there widths r j (drop 1 (waiting h q)) other_request in
-              let after = ap (ahead widths r) (waiting_dispatch h j p q ∙ without_front hands limit h l j q first) in
-              let s : service widths (Dispatch j p ∷ []) q ≡ 0 + width widths j = ap (λ (b : Bool). cond b (0 + width widths j) 0) (eq-eqb p q same) in omega arith)
+              let before = ap (ahead f r) (first_split (waiting h q) j first) in
+              let head = ahead_there f r j (drop 1 (waiting h q)) other_request in
+              let after = ap (ahead f r) (waiting_dispatch h j p q ∙ without_front hands limit h l j q first) in
+              let s : spent f (Dispatch j p ∷ []) q ≡ 0 + f j = ap (λ (b : Bool). cond b (0 + f j) 0) (eq-eqb p q same) in omega arith)
           | inr other ↦
-              (let is = ap (ahead widths r) (waiting_dispatch h j p q) in
-              let fewer = ahead_without widths r j (waiting h q) other_request in
-              let s : service widths (Dispatch j p ∷ []) q ≡ 0 = ap (λ (b : Bool). cond b (0 + width widths j) 0) (ne_eqb p q other) in omega arith)
+              (let is = ap (ahead f r) (waiting_dispatch h j p q) in
+              let fewer = ahead_without f r j (waiting h q) other_request in
+              let s : spent f (Dispatch j p ∷ []) q ≡ 0 = ap (λ (b : Bool). cond b (0 + f j) 0) (ne_eqb p q other) in omega arith)
         ]
 
-    -- an event's service stands in front of the earlier
-    service_more : (e : Event) (stretch : List Event) → service widths (e ∷ stretch) q ≡ service widths (e ∷ []) q + service widths stretch q
-    service_more (Enter j p) stretch = omega arith
-    service_more (Full j p) stretch = omega arith
-    service_more (Strike j p) stretch = omega arith
-    service_more (Dispatch j p) stretch = elim (cases_eq p q) [
+    -- what an event spends stands in front of the earlier
+    spent_more : (e : Event) (stretch : List Event) → spent f (e ∷ stretch) q ≡ spent f (e ∷ []) q + spent f stretch q
+    spent_more (Enter j p) stretch = omega arith
+    spent_more (Full j p) stretch = omega arith
+    spent_more (Strike j p) stretch = omega arith
+    spent_more (Dispatch j p) stretch = elim (cases_eq p q) [
       | inl same ↦
-          (let a : service widths (Dispatch j p ∷ stretch) q ≡ service widths stretch q + width widths j = ap (λ (b : Bool). cond b (service widths stretch q + width widths j) (service widths stretch q)) (eq-eqb p q same) in
-          let b : service widths (Dispatch j p ∷ []) q ≡ 0 + width widths j = ap (λ (b : Bool). cond b (0 + width widths j) 0) (eq-eqb p q same) in omega arith)
+          (let a : spent f (Dispatch j p ∷ stretch) q ≡ spent f stretch q + f j = ap (λ (b : Bool). cond b (spent f stretch q + f j) (spent f stretch q)) (eq-eqb p q same) in
+          let b : spent f (Dispatch j p ∷ []) q ≡ 0 + f j = ap (λ (b : Bool). cond b (0 + f j) 0) (eq-eqb p q same) in omega arith)
       | inr other ↦
-          (let a : service widths (Dispatch j p ∷ stretch) q ≡ service widths stretch q = ap (λ (b : Bool). cond b (service widths stretch q + width widths j) (service widths stretch q)) (ne_eqb p q other) in
-          let b : service widths (Dispatch j p ∷ []) q ≡ 0 = ap (λ (b : Bool). cond b (0 + width widths j) 0) (ne_eqb p q other) in omega arith)
+          (let a : spent f (Dispatch j p ∷ stretch) q ≡ spent f stretch q = ap (λ (b : Bool). cond b (spent f stretch q + f j) (spent f stretch q)) (ne_eqb p q other) in
+          let b : spent f (Dispatch j p ∷ []) q ≡ 0 = ap (λ (b : Bool). cond b (0 + f j) 0) (ne_eqb p q other) in omega arith)
     ]
 
     -- what the queue is served while r waits comes out of those that stood before r
     served : (stretch h : List Event) → IsLegal hands limit (stretch ++ h) → has_arrived h r ≡ true → Contains (waiting (stretch ++ h) q) r
-        → service widths stretch q + ahead widths r (waiting (stretch ++ h) q) ≤ ahead widths r (waiting h q)
+        → spent f stretch q + ahead f r (waiting (stretch ++ h) q) ≤ ahead f r (waiting h q)
     served [] h l arrived c = omega arith
     served (e ∷ stretch) h l arrived c =
         let was = waited (stretch ++ h) l.1 e l.0 q r (arrived_later stretch h r arrived) c in
         let old = served stretch h l.1 arrived was in
         let new = served_by (stretch ++ h) l.1 e l.0 was c in
-        let more = service_more e stretch in omega arith
+        let more = spent_more e stretch in omega arith
+
+-- a service is what is spent in widths, and a seat-time what is spent in measures
+service_is : (widths : List ℕ) (q : ℕ) (h : List Event) → service widths h q ≡ spent (width widths) h q
+service_is widths q [] = refl
+service_is widths q (Enter j p ∷ h) = service_is widths q h
+service_is widths q (Full j p ∷ h) = service_is widths q h
+service_is widths q (Strike j p ∷ h) = service_is widths q h
+service_is widths q (Dispatch j p ∷ h) = ap (λ (n : ℕ). given (width widths) (Dispatch j p) q n) (service_is widths q h)
+
+pub seat_time_is : (measure : ℕ → ℕ) (q : ℕ) (l : List LogEntry) → seat_time measure l q ≡ spent measure (events l) q
+seat_time_is measure q [] = refl
+seat_time_is measure q (Happens e ∷ l) = ap (λ (n : ℕ). given measure e q n) (seat_time_is measure q l)
+seat_time_is measure q (Spends j p old new ∷ l) = seat_time_is measure q l
+seat_time_is measure q (Settles j p old new ∷ l) = seat_time_is measure q l
+
+total_is : (widths xs : List ℕ) → total_width widths xs ≡ total_time (width widths) xs
+total_is widths [] = refl
+total_is widths (x ∷ xs) = ap (λ (n : ℕ). width widths x + n) (total_is widths xs)
 
 -- the seats of so many numbers, each at most b
 tally_most : (f : ℕ → ℕ) (n b : ℕ) → ((j : ℕ) → j < n → f j ≤ b) → tally f n ≤ n * b
@@ -169,6 +195,15 @@ tally_but_one f (suc n) q a b low one most = elim (cases_eq q (suc n)) [
       let times = suc-mul n b in omega arith)
 ]
 
+-- while a request waits, what its queue spends is at most what those take that stood before it
+pub own_of : (f : ℕ → ℕ) (hands : ℕ → List ℕ) (limit : ℕ) (stretch earlier : List Event) (q r : ℕ) → IsLegal hands limit (stretch ++ Enter r q ∷ earlier) → Contains (waiting (stretch ++ Enter r q ∷ earlier) q) r
+    → spent f stretch q ≤ total_time f (waiting earlier q)
+own_of f hands limit stretch earlier q r legal waits =
+    let entered : MayFollow hands limit earlier (Enter r q) × IsLegal hands limit earlier = IsLegal-append hands limit stretch (Enter r q ∷ earlier) legal in
+    let start = ap (ahead f r) (waiting_enter hands limit earlier entered.1 r q entered.0.0) in
+    let last = ahead_last f r (waiting earlier q) in
+    let all = served hands limit f q r stretch (Enter r q ∷ earlier) legal (or_left (eqb r r) (has_arrived earlier r) (eq-eqb r r refl)) waits in omega arith
+
 module _ (queues : ℕ) (widths : List ℕ) (hands : ℕ → List ℕ) (limit : ℕ) (later stretch earlier : List Event) (q r : ℕ)
     (fair : IsFair queues widths hands limit (later ++ (stretch ++ Enter r q ∷ earlier))) (waits : Contains (waiting (stretch ++ Enter r q ∷ earlier) q) r) where
   abbrev h : List Event
@@ -177,18 +212,15 @@ module _ (queues : ℕ) (widths : List ℕ) (hands : ℕ → List ℕ) (limit : 
   legal : IsLegal hands limit (stretch ++ h)
   legal = (IsFair-append queues widths hands limit later (stretch ++ h) fair).0
 
-  entered : MayFollow hands limit earlier (Enter r q) × IsLegal hands limit earlier
-  entered = IsLegal-append hands limit stretch h legal
-
   arrived : has_arrived h r ≡ true
   arrived = or_left (eqb r r) (has_arrived earlier r) (eq-eqb r r refl)
 
   -- its own queue is served at most those that stood before it
   pub own : service widths stretch q ≤ total_width widths (waiting earlier q)
   own =
-      let start = ap (ahead widths r) (waiting_enter hands limit earlier entered.1 r q entered.0.0) in
-      let last = ahead_last widths r (waiting earlier q) in
-      let all = served hands limit widths q r stretch h legal arrived waits in omega arith
+      let all = own_of (width widths) hands limit stretch earlier q r legal waits in
+      let is = service_is widths q stretch in
+      let most = total_is widths (waiting earlier q) in omega arith
 
   -- and no other is served more than they and twice the largest width
   pub others : q < queues → (other : ℕ) → other < queues → service widths stretch other ≤ total_width widths (waiting earlier q) + 2 * widest widths

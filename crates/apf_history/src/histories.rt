@@ -5,11 +5,12 @@ ghost use Rattle.apf_history.specs.declared.events.Event.{Event};
 ghost use Rattle.apf_history.specs.declared.events.Event.TheVariants.{Enter};
 ghost use Rattle.apf_history.specs.History.{waiting, MayFollow, IsLegal};
 ghost use Rattle.apf_history.specs.Fair.{IsFair, service, IsNeverEmpty, widest, DifferAtMost};
-ghost use Rattle.apf_history.specs.Waits.{total_width, granted};
+ghost use Rattle.apf_history.specs.Waits.{total_width, total_time, granted};
 ghost use Rattle.apf_history.specs.Numbered.{width};
 ghost use Rattle.apf_history.specs.Standing.{EachNames};
 ghost use Rattle.apf_history.specs.declared.events.Charge.{Charge};
 ghost use Rattle.apf_history.specs.declared.events.LogEntry.{LogEntry};
+ghost use Rattle.apf_history.specs.declared.events.LogEntry.TheVariants.{Happens};
 ghost use Rattle.apf_history.specs.Fair.{numbers};
 ghost use Rattle.apf_history.specs.Charged.{events, log_of, charged_numbers, true_next, runs, charge_of, charged, taken, seat_time, IsAmong, IsSettled, AreMeasures, AreJudged, IsNeverEmptyIn, HaveSeats, SpendsWithin, settles_in};
 ghost use Rattle.apf_history.specs.Order.{AreInOrder, AreStatuses, AreCounted, Follows};
@@ -156,6 +157,39 @@ pub fn every_settled_log_isolates()
         → q < queues → other < queues
         → IsNeverEmptyIn (stretch ++ earlier) (length stretch) q
         → seat_time measure stretch other ≤ seat_time measure stretch q + 2 * widest costs + 3 * (seats * longest) }
+{}
+
+/// In every settled log every wait is bounded, whatever was settled. Let a request have entered a queue after the
+/// earlier entries, and wait in it still after the stretch that followed. In that stretch the requests dispatched from
+/// its own queue take at most what those take that waited in it when the request entered. Those dispatched from any
+/// other queue take at most that, twice the largest cost, and three times what executing requests are misjudged by;
+/// which is at most the level's seats times the longest run.
+///
+/// What a request takes is its measure, in the unit of costs. It runs no code: the contract is the law.
+pub fn every_settled_wait_is_bounded()
+    ensures own { (queues : ℕ) (costs : List ℕ) (measure : ℕ → ℕ) (hands : ℕ → List ℕ) (limit : ℕ)
+        (stretch earlier : List LogEntry) (q r : ℕ)
+        → IsSettled queues costs hands limit (stretch ++ Happens (Enter r q) ∷ earlier)
+        → Contains (waiting (events (stretch ++ Happens (Enter r q) ∷ earlier)) q) r
+        → seat_time measure stretch q ≤ total_time measure (waiting (events earlier) q) }
+    ensures others { (slack queues : ℕ) (costs : List ℕ) (measure : ℕ → ℕ) (hands : ℕ → List ℕ) (limit : ℕ)
+        (stretch earlier : List LogEntry) (q r other : ℕ)
+        → IsSettled queues costs hands limit (stretch ++ Happens (Enter r q) ∷ earlier)
+        → AreMeasures measure (stretch ++ Happens (Enter r q) ∷ earlier)
+        → AreJudged slack costs measure (stretch ++ Happens (Enter r q) ∷ earlier)
+        → Contains (waiting (events (stretch ++ Happens (Enter r q) ∷ earlier)) q) r
+        → q < queues → other < queues
+        → seat_time measure stretch other ≤ total_time measure (waiting (events earlier) q) + 2 * widest costs + 3 * slack }
+    ensures by_seats { (seats longest queues : ℕ) (wide measure : ℕ → ℕ) (costs : List ℕ) (hands : ℕ → List ℕ) (limit : ℕ)
+        (stretch earlier : List LogEntry) (q r other : ℕ)
+        → ((i : ℕ) → width costs i ≤ wide i * longest) → ((i : ℕ) → measure i ≤ wide i * longest)
+        → IsSettled queues costs hands limit (stretch ++ Happens (Enter r q) ∷ earlier)
+        → AreMeasures measure (stretch ++ Happens (Enter r q) ∷ earlier)
+        → SpendsWithin longest wide (stretch ++ Happens (Enter r q) ∷ earlier)
+        → HaveSeats seats wide measure costs (stretch ++ Happens (Enter r q) ∷ earlier)
+        → Contains (waiting (events (stretch ++ Happens (Enter r q) ∷ earlier)) q) r
+        → q < queues → other < queues
+        → seat_time measure stretch other ≤ total_time measure (waiting (events earlier) q) + 2 * widest costs + 3 * (seats * longest) }
 {}
 
 /// A log in which nothing is settled is its history, and has its numbers; it is settled exactly if that is fair.

@@ -17,5 +17,5 @@ pub use histories::{
     every_charge_is_of_one_that_executes, every_fair_history_is_balanced,
     every_fair_history_isolates, every_fair_history_stands, every_legal_history_is_in_order,
     every_settled_log_balances, every_settled_log_isolates, every_settled_log_stands,
-    every_unsettled_log_is_fair, every_wait_is_bounded,
+    every_settled_wait_is_bounded, every_unsettled_log_is_fair, every_wait_is_bounded,
 };

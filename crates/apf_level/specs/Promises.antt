@@ -17,5 +17,4 @@ pub record KeepsPromises (k : LevelId) (level : Level) (h : List Event) (passes 
   -- the steps that all tokens made, which say the level word and the log
   pub made : IsMade k.gate h level passes stations
   pub promises : Promises (opening_of k.gate.shape) (length k.gate.shape.widths) (moves made.trace) k.opening.sizes.deck (width k.opening.costs) (log_of h) h
-      (λ r d. (r < length k.gate.shape.widths) × WasToldBy passes stations r d)
-      counts.executed (counts.queue_full + counts.closed + counts.concurrency_limit) counts.cancelled
+      (λ r d. (r < length k.gate.shape.widths) × WasToldBy passes stations r d) counts.executed (counts.queue_full + counts.closed + counts.concurrency_limit) counts.cancelled

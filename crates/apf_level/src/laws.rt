@@ -15,8 +15,8 @@ ghost use Rattle.apf_level.specs.Reports.{AreSums, Ended};
 use apf_book::every_dispatched_wait_is_bounded;
 use apf_history::{
     every_fair_history_isolates, every_fair_history_stands, every_legal_history_is_in_order,
-    every_settled_log_balances, every_settled_log_isolates, every_unsettled_log_is_fair,
-    every_wait_is_bounded,
+    every_settled_log_balances, every_settled_log_isolates, every_settled_wait_is_bounded,
+    every_unsettled_log_is_fair, every_wait_is_bounded,
 };
 use apf_model::every_schedule_is_safe;
 
@@ -52,4 +52,5 @@ pub fn every_report_keeps_the_promises()
     every_unsettled_log_is_fair();
     every_settled_log_balances();
     every_settled_log_isolates();
+    every_settled_wait_is_bounded();
 }

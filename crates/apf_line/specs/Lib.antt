@@ -4,3 +4,4 @@ pub mod Reports
 pub mod Stopped
 pub mod Laws
 pub mod Promises
+pub mod SeatTime

@@ -5,6 +5,7 @@ use Rattle.apf_words.specs.declared.decision.Decision.TheVariants.{Execute, Queu
 use Rattle.apf_history.specs.declared.events.Event.{Event}
 use Rattle.apf_history.specs.declared.events.Event.TheVariants.{Enter, Dispatch, Strike}
 use Rattle.apf_history.specs.declared.events.LogEntry.{LogEntry}
+use Rattle.apf_history.specs.declared.events.LogEntry.TheVariants.{Happens}
 use Rattle.apf_history.specs.Standing.{EachNames}
 use Rattle.apf_model.specs.declared.moves.Move.{Move}
 use Rattle.apf_model.specs.declared.moves.Move.TheVariants.{Close}
@@ -15,7 +16,7 @@ use Rattle.apf_model.specs.History.{entered, waiting}
 use Rattle.apf_model.specs.Order.{is_struck, dispatched_from, is_dispatch_of}
 use Rattle.apf_model.specs.Charged.{events, log_of, seat_time, AreMeasures, AreJudged, IsNeverEmptyIn}
 use Rattle.apf_model.specs.Fair.{service, widest, IsNeverEmpty}
-use Rattle.apf_model.specs.Waits.{total_width}
+use Rattle.apf_model.specs.Waits.{total_width, total_time}
 use Rattle.apf_gate.specs.declared.record.DeskRecord.{DeskRecord}
 use Rattle.apf_gate.specs.declared.record.Entry.{Entry}
 use Rattle.apf_gate.specs.Counted.{decided_so}
@@ -57,7 +58,6 @@ pub record AddsUp (numbers : ℕ) (w : World) (executed rejected cancelled : ℕ
   pub once : NoneTwice all
   pub no_others : All (λ (one : ℕ × Decision). w.decision one.0 ≡ Some one.1) all
   pub each : (r : ℕ) (decision : Decision) → r < numbers → w.decision r ≡ Some decision → Contains all (r, decision)
-  -- who is undecided never came
   pub undecided_never_came : (r : ℕ) → r < numbers → w.decision r ≡ None → w.stage r ≡ Away
   pub executed_are : executed ≡ decided_so Execute all
   pub rejected_are : rejected ≡ decided_so QueueFull all + decided_so Closed all + decided_so ConcurrencyLimit all
@@ -75,6 +75,9 @@ pub record NoQueueStarves (queues : ℕ) (costs : List ℕ) (log : List LogEntry
   -- whatever is settled: while a queue stays non-empty, the requests of each other queue take at most twice the largest cost, and three times what those that execute are misjudged by, more seat-time than its own
   pub in_seat_time : (measure : ℕ → ℕ) (slack : ℕ) (later stretch earlier : List LogEntry) (q other : ℕ) → log ≡ later ++ (stretch ++ earlier) → AreMeasures measure (stretch ++ earlier) → AreJudged slack costs measure (stretch ++ earlier)
       → IsNeverEmptyIn (stretch ++ earlier) (length stretch) q → q < queues → other < queues → seat_time measure stretch other ≤ seat_time measure stretch q + 2 * widest costs + 3 * slack
+  -- and while a request waits, those of each other queue take at most as much more seat-time than the requests ahead of it in its own queue
+  pub wait_in_seat_time : (measure : ℕ → ℕ) (slack : ℕ) (later stretch earlier : List LogEntry) (q r other : ℕ) → log ≡ later ++ (stretch ++ Happens (Enter r q) ∷ earlier) → AreMeasures measure (stretch ++ Happens (Enter r q) ∷ earlier) → AreJudged slack costs measure (stretch ++ Happens (Enter r q) ∷ earlier)
+      → Contains (waiting (events (stretch ++ Happens (Enter r q) ∷ earlier)) q) r → q < queues → other < queues → seat_time measure stretch other ≤ total_time measure (waiting (events earlier) q) + 2 * widest costs + 3 * slack
 
 -- No chosen request is forgotten: in the end nobody is left waiting
 abbrev pub NobodyIsLeft : List Event → Type 0
@@ -99,9 +102,8 @@ pub record KeepsPromises (k : LifeId) (v : LifeView) (slots : List PassToken) (s
   -- the history is what the Desk did, in its order. Each request has the hand of queues and the cost that it asked for when it came
   pub said : map saying v.history ≡ sayings desk.knows.trace
   pub asked : AreAsked k.sizes desk.knows.trace v.costs v.hands v.history
-  -- what was settled stands between its events
+  -- what was settled stands between its events. The level word is that of the end
   pub events_are : events v.log ≡ v.history
-  -- the level word at the end
   pub level : r.words.level ≡ level_of k.gate.shape.widths (world_of k.gate.shape trace)
   pub promises : Promises (opening_of k.gate.shape) (length k.gate.shape.widths) (moves trace) v.queues (width v.costs) v.log v.history (WasTold desk slots stations)
       r.words.counts.executed (r.words.counts.queue_full + r.words.counts.closed + r.words.counts.concurrency_limit) r.words.counts.cancelled

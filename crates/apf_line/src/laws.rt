@@ -4,12 +4,13 @@ ghost use Rattle.std.specs.Prelude.{◌≡◌, ◌+◌, ◌*◌, ◌<◌, ◌≤
 ghost use Rattle.apf_history.specs.declared.events.Event.{Event};
 ghost use Rattle.apf_history.specs.declared.events.Event.TheVariants.{Enter};
 ghost use Rattle.apf_history.specs.declared.events.LogEntry.{LogEntry};
+ghost use Rattle.apf_history.specs.declared.events.LogEntry.TheVariants.{Happens};
 ghost use Rattle.apf_history.specs.Standing.{EachNames};
-ghost use Rattle.apf_history.specs.Waits.{total_width};
+ghost use Rattle.apf_history.specs.Waits.{total_width, total_time};
 ghost use Rattle.apf_model.specs.World.{width};
 ghost use Rattle.apf_model.specs.History.{waiting};
 ghost use Rattle.apf_model.specs.Fair.{IsNeverEmpty, service, widest};
-ghost use Rattle.apf_model.specs.Charged.{log_of, seat_time, AreMeasures, AreJudged, IsNeverEmptyIn, SpendsWithin, HaveSeats};
+ghost use Rattle.apf_model.specs.Charged.{events, log_of, seat_time, AreMeasures, AreJudged, IsNeverEmptyIn, SpendsWithin, HaveSeats};
 ghost use Rattle.apf_book.specs.Life.{LifeView};
 ghost use Rattle.apf_flow.specs.Deal.{hand_of};
 ghost use Rattle.apf_gate.specs.declared.record.Asked.{Asked};
@@ -27,7 +28,7 @@ use apf_gate::no_dispatch_is_lost;
 use apf_history::{
     every_fair_history_isolates, every_fair_history_stands, every_legal_history_is_in_order,
     every_settled_log_balances, every_settled_log_isolates, every_settled_log_stands,
-    every_unsettled_log_is_fair, every_wait_is_bounded,
+    every_settled_wait_is_bounded, every_unsettled_log_is_fair, every_wait_is_bounded,
 };
 use apf_model::every_schedule_is_safe;
 
@@ -104,6 +105,46 @@ pub fn every_life_wait_is_bounded()
     every_wait_is_bounded();
 }
 
+/// Every wait on a level is bounded in measured seat-time, whatever was settled. Let a request have entered a queue after
+/// the earlier entries of its log, and wait in it still after the stretch that followed. In that stretch the requests
+/// dispatched from its own queue take at most what those take that waited in it when the request entered. Those
+/// dispatched from any other queue take at most that, twice the largest cost, and three times what executing requests are
+/// misjudged by; which is at most the level's seats times the longest run.
+///
+/// Measures and costs are as in `every_life_log_isolates`. It runs no code: the contract is the law.
+pub fn every_life_wait_is_bounded_in_seat_time()
+    ensures own { (k : LifeId) (trace : List Entry) (v : LifeView) (costs : List ℕ) (measure : ℕ → ℕ)
+        (later stretch earlier : List LogEntry) (q r : ℕ)
+        → IsHistoryOf k trace v → EachNames (λ i. width costs i ≡ width v.costs i) v.history
+        → v.log ≡ later ++ (stretch ++ Happens (Enter r q) ∷ earlier)
+        → Contains (waiting (events (stretch ++ Happens (Enter r q) ∷ earlier)) q) r
+        → seat_time measure stretch q ≤ total_time measure (waiting (events earlier) q) }
+    ensures others { (k : LifeId) (trace : List Entry) (v : LifeView) (costs : List ℕ) (measure : ℕ → ℕ) (slack : ℕ)
+        (later stretch earlier : List LogEntry) (q r other : ℕ)
+        → IsHistoryOf k trace v → EachNames (λ i. width costs i ≡ width v.costs i) v.history
+        → v.log ≡ later ++ (stretch ++ Happens (Enter r q) ∷ earlier)
+        → AreMeasures measure (stretch ++ Happens (Enter r q) ∷ earlier)
+        → AreJudged slack costs measure (stretch ++ Happens (Enter r q) ∷ earlier)
+        → Contains (waiting (events (stretch ++ Happens (Enter r q) ∷ earlier)) q) r
+        → q < v.queues → other < v.queues
+        → seat_time measure stretch other ≤ total_time measure (waiting (events earlier) q) + 2 * widest costs + 3 * slack }
+    ensures by_seats { (k : LifeId) (trace : List Entry) (v : LifeView) (costs : List ℕ) (wide measure : ℕ → ℕ)
+        (seats longest : ℕ) (later stretch earlier : List LogEntry) (q r other : ℕ)
+        → IsHistoryOf k trace v → EachNames (λ i. width costs i ≡ width v.costs i) v.history
+        → v.log ≡ later ++ (stretch ++ Happens (Enter r q) ∷ earlier)
+        → AreMeasures measure (stretch ++ Happens (Enter r q) ∷ earlier)
+        → ((i : ℕ) → width costs i ≤ wide i * longest) → ((i : ℕ) → measure i ≤ wide i * longest)
+        → SpendsWithin longest wide (stretch ++ Happens (Enter r q) ∷ earlier)
+        → HaveSeats seats wide measure costs (stretch ++ Happens (Enter r q) ∷ earlier)
+        → Contains (waiting (events (stretch ++ Happens (Enter r q) ∷ earlier)) q) r
+        → q < v.queues → other < v.queues
+        → seat_time measure stretch other ≤ total_time measure (waiting (events earlier) q) + 2 * widest costs + 3 * (seats * longest) }
+{
+    every_settled_log_stands();
+    every_settled_log_balances();
+    every_settled_wait_is_bounded();
+}
+
 /// No chosen request is forgotten: of every state of a gate whose Desk's book is at rest, as a level's is whenever its
 /// lock is free.
 ///
@@ -146,6 +187,7 @@ pub fn every_report_keeps_the_promises()
     every_life_history_isolates();
     every_life_log_isolates();
     every_life_wait_is_bounded();
+    every_life_wait_is_bounded_in_seat_time();
 }
 
 /// What a level's book is of is a history of the level. A book in which nothing happened yet is at rest, and so is one

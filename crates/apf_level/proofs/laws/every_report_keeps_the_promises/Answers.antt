@@ -1,7 +1,9 @@
 -- Each promise by the law that it is of.
-use Rattle.std.proofs.Common.{List, ◌++◌, subst}
+use Rattle.std.proofs.Common.{List, ◌∷◌, ◌++◌, subst}
 use Rattle.apf_history.specs.declared.events.Event.{Event}
+use Rattle.apf_history.specs.declared.events.Event.TheVariants.{Enter}
 use Rattle.apf_history.specs.declared.events.LogEntry.{LogEntry}
+use Rattle.apf_history.specs.declared.events.LogEntry.TheVariants.{Happens}
 use Rattle.apf_model.specs.Charged.{IsSettled}
 use Rattle.apf_model.specs.Fair.{IsFair}
 use Rattle.apf_gate.specs.Traces.{opening_of, moves}
@@ -36,6 +38,10 @@ returns c = λ k level decision h passes stations counts shape one_each e sums.
                       let settled = c.every_unsettled_log_is_fair.ensures.settled v.sizes.deck costs (hand_in v) v.limit h fair in
                       c.every_settled_log_isolates.ensures.isolated slack v.sizes.deck costs measure (hand_in v) v.limit stretch earlier q other
                       (c.every_settled_log_balances.ensures.beginnings v.sizes.deck costs (hand_in v) v.limit later (stretch ++ earlier) (subst (λ (l : List LogEntry). IsSettled v.sizes.deck costs (hand_in v) v.limit l) is settled)) measures judged low other_low never;
+                  wait_in_seat_time = λ measure slack later stretch earlier q i other is measures judged waits low other_low.
+                      let settled = c.every_unsettled_log_is_fair.ensures.settled v.sizes.deck costs (hand_in v) v.limit h fair in
+                      c.every_settled_wait_is_bounded.ensures.others slack v.sizes.deck costs measure (hand_in v) v.limit stretch earlier q i other
+                      (c.every_settled_log_balances.ensures.beginnings v.sizes.deck costs (hand_in v) v.limit later (stretch ++ Happens (Enter i q) ∷ earlier) (subst (λ (l : List LogEntry). IsSettled v.sizes.deck costs (hand_in v) v.limit l) is settled)) measures judged waits low other_low;
                 };
             no_chosen_request_is_forgotten = e.nobody_waits;
           };

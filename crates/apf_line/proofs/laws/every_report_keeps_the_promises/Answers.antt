@@ -27,6 +27,7 @@ returns c = λ k v slots stations r e.
               while_one_waits = λ later stretch earlier q i other unsettled is waits low other_low. c.every_life_wait_is_bounded.ensures.others k e.desk.knows.trace v costs later stretch earlier q i other e.of_level unsettled agree is waits low other_low;
               while_never_empty = λ later stretch earlier q other unsettled is never low other_low. c.every_life_history_isolates.ensures k e.desk.knows.trace v costs later stretch earlier q other e.of_level unsettled agree is low other_low never;
               in_seat_time = λ measure slack later stretch earlier q other is measures judged never low other_low. c.every_life_log_isolates.ensures.isolated k e.desk.knows.trace v costs measure slack later stretch earlier q other e.of_level agree is measures judged low other_low never;
+              wait_in_seat_time = λ measure slack later stretch earlier q i other is measures judged waits low other_low. c.every_life_wait_is_bounded_in_seat_time.ensures.others k e.desk.knows.trace v costs measure slack later stretch earlier q i other e.of_level agree is measures judged waits low other_low;
             };
             no_chosen_request_is_forgotten = e.nobody_waits;
           };

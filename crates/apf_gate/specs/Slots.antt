@@ -19,9 +19,13 @@ coded_width r = wide (mark_of r % 32768)
 abbrev pub round_of : ℕ → ℕ
 round_of r = mark_of r / 32768
 
+-- the request of this width that comes once its slot was given this often before
+abbrev pub number_of : (slot round k : ℕ) → ℕ
+number_of slot round k = (round * 32768 + k) * 16384 + slot
+
 -- the next request of the slot of r, of this width
 abbrev pub next_of : ℕ → ℕ → ℕ
-next_of r k = ((round_of r + 1) * 32768 + k) * 16384 + slot_of r
+next_of r k = number_of (slot_of r) (round_of r + 1) k
 
 -- a request of a gate of this shape
 pub record IsTicket (shape : Shape) (r : ℕ) : Type 0 where

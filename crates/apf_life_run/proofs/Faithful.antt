@@ -24,7 +24,7 @@ use Rattle.apf_gate.specs.StationCalls.{TriesToRead, TriesToCancel, ClosesTo}
 use Rattle.apf_gate.specs.Traces.{entry, NoneOf, Made, MadeFirstClose}
 use Rattle.apf_gate.specs.Tokens.{GateId, StationToken, station_gate}
 use Rattle.apf_gate.specs.Ends.{WroteCancelled, ClosedFirst}
-use Rattle.apf_gate.proofs.Traces.{made_own, close_own}
+use Rattle.apf_life_run.proofs.Makers.{made_own, close_own}
 use Rattle.apf_run.specs.Plans.{SomeCloses, SetTo}
 use Rattle.apf_life_run.specs.Plans.{IsNamedIn, IsFaithful}
 

@@ -4,10 +4,10 @@ use Rattle.std.proofs.Common.{◌≡◌, ◌≢◌, ℕ, ◌+◌, ◌<◌, ◌�
 use Rattle.std.proofs.lemmas.Bool.{cases_eq}
 use Rattle.apf_files.specs.declared.requests.Request.{Request}
 use Rattle.apf_gate.specs.Records.{told_of, KnowsMore}
-use Rattle.apf_gate.specs.Slots.{slot_of, round_of}
+use Rattle.apf_gate.specs.Slots.{slot_of, round_of, number_of}
 use Rattle.apf_gate.specs.Tokens.{PassToken, StationToken}
 use Rattle.apf_run.specs.Plans.{closes_at, closes_it}
-use Rattle.apf_life_run.specs.Plans.{number_in, number_of, width_it_asks}
+use Rattle.apf_life_run.specs.Plans.{number_in, width_it_asks}
 use Rattle.apf_life_run.specs.Workers.{KeepsKnowing, IsKnown}
 use Rattle.apf_life_run.proofs.Numbers.{slot_is, round_is}
 

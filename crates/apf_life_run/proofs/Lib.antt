@@ -1,3 +1,5 @@
+pub mod Makers
+pub mod Limits
 pub mod Numbers
 pub mod Counting
 pub mod Known

@@ -3,8 +3,7 @@ use Rattle.std.proofs.Common.{◌≡◌, ℕ, ◌+◌, ◌*◌, ◌/◌, ◌%◌
 use Rattle.std.proofs.Math.Nat.{div-add-mod}
 use Rattle.apf_gate.specs.declared.record.Shape.{Shape}
 use Rattle.apf_gate.specs.Gauges.{max_numbers}
-use Rattle.apf_gate.specs.Slots.{IsTicket, slot_of, round_of, next_of}
-use Rattle.apf_life_run.specs.Plans.{number_of}
+use Rattle.apf_gate.specs.Slots.{IsTicket, slot_of, round_of, next_of, number_of}
 
 pub slot_is : (slot round width : ℕ) → slot < 16384 → slot_of (number_of slot round width) ≡ slot
 slot_is slot round width low = omega arith
@@ -25,7 +24,7 @@ is_ticket shape slot round width numbers inside low narrow few = record {
 
 -- the next request of a slot is of its next round
 pub next_is : (r width round : ℕ) → round_of r + 1 ≡ round → next_of r width ≡ number_of (slot_of r) round width
-next_is r width round is = ap (λ (n : ℕ). (n * 32768 + width) * 16384 + slot_of r) is
+next_is r width round is = ap (λ (n : ℕ). number_of (slot_of r) n width) is
 
 -- a slot has more numbers than a run has rounds
 pub never_spent : (r width round : ℕ) → width < 32768 → round_of r + 1 ≡ round → round ≤ 1000000 → next_of r width < max_numbers

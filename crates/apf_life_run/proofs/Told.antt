@@ -21,7 +21,7 @@ use Rattle.apf_line.specs.Levels.{LifeId}
 use Rattle.apf_line.specs.declared.report.Report.{Report}
 use Rattle.apf_line.specs.Reports.{Ended}
 use Rattle.apf_run.specs.Plans.{SomeCloses, closes_it, closes_at}
-use Rattle.apf_run.proofs.Limits.{limit_stays, made_within}
+use Rattle.apf_life_run.proofs.Limits.{limit_stays, made_within}
 use Rattle.apf_life_run.specs.Plans.{number_in, width_it_asks, HasWidth, IsNamedIn, IsFaithful}
 use Rattle.apf_life_run.specs.Workers.{IsInRound}
 use Rattle.apf_life_run.specs.Runs.{Returned, SomeTold, IsKnownTo, AreFinished, IsLevelFor, HasRunRounds}

@@ -1,6 +1,6 @@
 -- What the book of a run in rounds says.
 use Rattle.apf_line.specs.declared.report.Report.{Report}
-use Rattle.apf_run.specs.declared.totals.Totals.{Totals}
+use Rattle.apf_texts.specs.declared.totals.Totals.{Totals}
 
 -- by its word, the numbers of the decisions of all requests, of whom nobody is undecided, and the numbers of all events
 abbrev pub book_of : Report → Totals

@@ -1,10 +1,10 @@
 -- What the requests of a run in rounds ask of the workers' Stations.
-use Rattle.std.specs.Prelude.{◌≡◌, ℕ, ◌+◌, ◌*◌, ◌≤◌, List, length, All, Option, Some, None, slice_get}
+use Rattle.std.specs.Prelude.{◌≡◌, ℕ, ◌≤◌, List, length, All, Option, Some, None, slice_get}
 use Rattle.apf_words.specs.Limits.{max_width, max_requests}
 use Rattle.apf_files.specs.declared.requests.Request.{Request}
 use Rattle.apf_gate.specs.declared.ticket.Ticket.{Ticket}
 use Rattle.apf_gate.specs.Gauges.{max_numbers}
-use Rattle.apf_gate.specs.Slots.{slot_of, round_of}
+use Rattle.apf_gate.specs.Slots.{slot_of, round_of, number_of}
 use Rattle.apf_gate.specs.Tokens.{GateId, StationToken, station_gate}
 use Rattle.apf_gate.specs.Ends.{WroteCancelled, ClosedFirst}
 use Rattle.apf_run.specs.Plans.{IsNamed, SomeCloses, SetTo}
@@ -12,10 +12,6 @@ use Rattle.apf_run.specs.Plans.{IsNamed, SomeCloses, SetTo}
 -- how many rounds a run may have
 abbrev pub max_rounds : ℕ
 max_rounds = 1000000
-
--- the number of a slot's request of this round, of this width
-abbrev pub number_of : ℕ → ℕ → ℕ → ℕ
-number_of slot round width = (round * 32768 + width) * 16384 + slot
 
 -- it is the ticket of a request of the slot, of this width, that comes in one of so many rounds
 pub record IsOfRounds (rounds slot width : ℕ) (ticket : Ticket) : Type 0 where

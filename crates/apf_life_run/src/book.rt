@@ -2,11 +2,12 @@
 
 ghost use Rattle.std.specs.Io.KnownBytes.{Appends};
 ghost use Rattle.std.specs.Prelude.{◌≡◌, OnOk};
-ghost use Rattle.apf_run.specs.Texts.{totals_text};
+ghost use Rattle.apf_texts.specs.Texts.{totals_text};
 ghost use Rattle.apf_life_run.specs.Books.{book_of};
 
 use apf_life::Report;
-use apf_run::{Totals, WriteFault};
+use apf_run::WriteFault;
+use apf_texts::Totals;
 use std::io::Write;
 
 // What the book says.

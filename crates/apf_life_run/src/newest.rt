@@ -72,8 +72,6 @@ impl<K: Plan> Newest<K> {
         if round == 0 {
             return None;
         }
-        Some(Ticket {
-            number: (u128::from(round) * 32768 + u128::from(width)) * 16384 + u128::from(slot),
-        })
+        Some(Ticket::of_round(slot, round, width))
     }
 }

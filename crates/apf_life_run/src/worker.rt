@@ -1,9 +1,9 @@
 //! A worker of a run in rounds: its Station, and its share of the slots.
 
 ghost use Rattle.std.specs.Prelude.{◌≡◌, ◌+◌, ◌<◌, ◌≤◌, [], ◌∷◌, ◌++◌, length, slice_get, true, Some, Contains, All, IfOk, IfSome, OnOk};
-ghost use Rattle.apf_gate.specs.Slots.{IsTicket, slot_of, round_of};
+ghost use Rattle.apf_gate.specs.Slots.{IsTicket, slot_of, round_of, number_of};
 ghost use Rattle.apf_gate.specs.Tokens.{pass_gate};
-ghost use Rattle.apf_life_run.specs.Plans.{number_of, HasWidth, IsNamedIn, AreOrders};
+ghost use Rattle.apf_life_run.specs.Plans.{HasWidth, IsNamedIn, AreOrders};
 ghost use Rattle.apf_life_run.specs.Workers.{IsInRound, IsFirstOf, KeepsKnowing, IsKnown, IsLoadOf, IsReady, IsThrough};
 
 use crate::newest::Newest;

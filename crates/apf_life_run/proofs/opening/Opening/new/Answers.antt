@@ -1,11 +1,9 @@
 use Rattle.std.proofs.Common.{rules, true, ◌∙◌, length, refl, All, sym, ap, subst}
 use Rattle.apf_gate.specs.Gauges.{max_numbers}
 use Rattle.apf_gate.specs.declared.record.Shape.{Shape}
-use Rattle.apf_gate.proofs.Spreading.{life_length}
 use Rattle.apf_session.specs.Openings.{IsNew}
-use Rattle.apf_session.proofs.Opened.{are_new}
 use Rattle.apf_life_run.specs.Workers.{IsFirstOf}
-use Rattle.apf_life_run.proofs.Opened.{are_first}
+use Rattle.apf_life_run.proofs.Opened.{are_first, all_numbers, are_new}
 use Rattle.apf_life_run.proofs.opening.Opening.new.Goals as goal
 
 pub invariant_of-result : goal.invariant_of-result
@@ -14,7 +12,7 @@ invariant_of-result c =
       desk_is = search rules;
       limit_is = search rules;
       response_is = search rules;
-      numbers_are = ap (λ (s : Shape). length s.widths) c.in_ok-gate.ensures.shape ∙ life_length true max_numbers c.as_slice.result.now refl;
+      numbers_are = ap (λ (s : Shape). length s.widths) c.in_ok-gate.ensures.shape ∙ all_numbers c.as_slice.result.now;
       passes_are = search rules;
       passes_first = subst (All (IsFirstOf c.in_ok-gate.gate)) (sym c.in_ok-gate.ensures.passes) (are_first c.in_ok-gate.gate (length c.as_slice.result.now) c.in_ok-gate.ensures.is_shape.few_slots);
       passes_count = search rules;

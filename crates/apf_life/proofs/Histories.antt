@@ -1,5 +1,5 @@
 -- What a history of a level's book is.
-use Rattle.std.proofs.Common.{◌≡◌, ℕ, ◌≤◌, ◌<◌, inl, inr, Bool, true, false, List, [], ◌++◌, length, refl, sym, ap, ◌∙◌, arith}
+use Rattle.std.proofs.Common.{◌≡◌, ℕ, ◌≤◌, ◌<◌, inl, inr, Bool, true, false, List, [], ◌++◌, length, refl, sym, ap, ◌∙◌, subst, arith}
 use Rattle.std.specs.Prelude.{◌==◌, not}
 use Rattle.std.proofs.lemmas.Bool.{cases_lt}
 use Rattle.std.proofs.lemmas.List.{append_assoc, get_or_past}
@@ -12,8 +12,8 @@ use Rattle.apf_gate.specs.declared.record.Entry.{Entry}
 use Rattle.apf_gate.specs.declared.record.Shape.{Shape}
 use Rattle.apf_gate.specs.Gauges.{IsShape}
 use Rattle.apf_gate.specs.Slots.{IsTicket}
-use Rattle.apf_book.specs.Life.{LifeView, IsOpening, asked, then_came}
-use Rattle.apf_book.specs.LifeBook.{LifeBookView, IsLifeKept, ServesLife, StrikesLife, then_came_all}
+use Rattle.apf_book.specs.Life.{LifeView, IsOpening, asked, then_came, then_settled}
+use Rattle.apf_book.specs.LifeBook.{LifeBookView, IsLifeKept, ServesLife, StrikesLife, SettlesLife, then_came_all}
 use Rattle.apf_book.specs.LifeCalls.{SameLifeBook}
 use Rattle.apf_line.specs.Laws.{HasHistories, LevelHistories}
 use Rattle.apf_line.specs.Levels.{LifeId, IsBookOf}
@@ -82,6 +82,10 @@ pub record GoesOn (v : LifeView) (b' : LifeBookView) : Type 0 where
 pub after_strike : (v : LifeView) (b b' : LifeBookView) (r : ℕ) (struck : Bool) → StrikesLife v b r struck b' → GoesOn v b'
 after_strike v b b' r true strikes = record { view = then_came v (Strike r strikes.0); kept = strikes.2; limit = refl }
 after_strike v b b' r false strikes = record { view = v; kept = strikes.0; limit = refl }
+
+pub after_settle : (v : LifeView) (b b' : LifeBookView) (r m : ℕ) (settled : Bool) → IsLifeKept v b → SettlesLife v b r m settled b' → GoesOn v b'
+after_settle v b b' r m true kept settles = record { view = then_settled v r settles.0.queue settles.0.amount m; kept = settles.3; limit = refl }
+after_settle v b b' r m false kept settles = record { view = v; kept = subst (λ (x : LifeBookView). IsLifeKept v x) (sym settles.0) kept; limit = refl }
 
 -- after serving the book is the level's still, and at rest
 pub record Rests (k : LifeId) (b' : LifeBookView) : Type 0 where

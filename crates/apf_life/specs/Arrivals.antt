@@ -17,7 +17,6 @@ use Rattle.apf_life.specs.declared.answers.Enqueued.TheVariants as enqueued
 use Rattle.apf_life.specs.declared.answers.Begin.{Begin}
 use Rattle.apf_life.specs.declared.answers.Begin.TheVariants as begun
 use Rattle.apf_line.specs.Levels.{LifeId, IsHistoryOf}
-use Rattle.apf_life.specs.Admission.{begun_pass}
 
 -- by steps that go on from what its Pass knew: the request, new to a history that the level may have had, asked for this hand and this cost; its event came, and then Dispatches and Strikes alone
 pub record Came (k : LifeId) (known : List Entry) (r : ℕ) (hand : List ℕ) (cost : ℕ) (event : Event) : Type 0 where
@@ -41,13 +40,15 @@ SaysFull (begun.Run token) = ⊥
 SaysFull (begun.Over token decision) = decision ≡ decisions.QueueFull
 SaysFull (begun.Waiting token) = ⊥
 
--- the Pass has that its request entered, or that it left the queue that it had entered
-abbrev pub HasEntered : PassRecord → Type 0
-HasEntered pass = (pass.entered ≡ true) ⊎ (pass.left ≡ true)
+-- the Pass has that its request entered, or, of one that is over, that it left the queue that it had entered
+abbrev pub HasEntered : Begin → Type 0
+HasEntered (begun.Run token) = token.pass.entered ≡ true
+HasEntered (begun.Over token decision) = (token.pass.entered ≡ true) ⊎ (token.pass.left ≡ true)
+HasEntered (begun.Waiting token) = token.pass.entered ≡ true
 
 -- the event is the request's: the Enter of one that entered, or the Full of one that is over since a queue was full
 abbrev pub IsEventOf : ℕ → Begin → Event → Type 0
-IsEventOf r answer (events.Enter r' q) = (r' ≡ r) × HasEntered (begun_pass answer).pass
+IsEventOf r answer (events.Enter r' q) = (r' ≡ r) × HasEntered answer
 IsEventOf r answer (events.Full r' q) = (r' ≡ r) × SaysFull answer
 IsEventOf r answer (events.Dispatch r' q) = ⊥
 IsEventOf r answer (events.Strike r' q) = ⊥

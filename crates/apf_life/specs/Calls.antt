@@ -1,5 +1,5 @@
 -- What the calls of a level ask and answer, where more than one call does.
-use Rattle.std.specs.Prelude.{◌≡◌, ◌≤◌, ◌<◌, ℕ, true, false, List, length, All, Some, Result, IfErr, OnOk}
+use Rattle.std.specs.Prelude.{◌≡◌, ◌≤◌, ◌<◌, ◌==◌, not, ℕ, Bool, true, false, List, length, All, Some, Result, IfErr, OnOk}
 use Rattle.apf_words.specs.Limits.{max_cost}
 use Rattle.apf_flow.specs.Fault.{fault_of}
 use Rattle.apf_flow.specs.Sizes.{IsDealable}
@@ -11,7 +11,8 @@ use Rattle.apf_queue.specs.declared.fault.QueueFault.TheVariants as queue
 use Rattle.apf_gate.specs.declared.record.State.TheVariants.{Fresh, InLine}
 use Rattle.apf_gate.specs.Records.{new_desk}
 use Rattle.apf_gate.specs.Tokens.{GateId, PassToken, DeskToken, StationToken, pass_gate, station_gate}
-use Rattle.apf_book.specs.Life.{IsAskedBy}
+use Rattle.apf_book.specs.declared.settling.Settling.{Settling}
+use Rattle.apf_book.specs.Life.{IsAskedBy, places_of}
 use Rattle.apf_book.specs.declared.fault.BookFault.{BookFault}
 use Rattle.apf_book.specs.declared.fault.BookFault.TheVariants.{Dealer, Queues, NoMemory}
 use Rattle.apf_life.specs.declared.answers.Begin.{Begin}
@@ -21,16 +22,19 @@ use Rattle.apf_line.specs.Tokens.{IsOf}
 use Rattle.apf_life.specs.Admission.{begun_pass, IsBegunTold, EnteredNow}
 use Rattle.apf_life.specs.Attempts.{IsAttemptedTold, FoundOpen, StaysOut}
 
+-- whether what requests take is settled, on a level of so many slots
+abbrev pub settles_by : Settling → ℕ → Bool
+settles_by settling slots = not (places_of settling slots == 0)
+
 -- the gate is the level's, as it was opened for life for these settings, with its Desk
-pub record IsGateFor (k : LifeId) (config : Config) (gate : GateId) (given : DeskToken) : Type 0 where
+pub record IsGateFor (k : LifeId) (config : Config) (settling : Settling) (gate : GateId) (given : DeskToken) : Type 0 where
   pub own : gate ≡ k.gate
   pub desk : given ≡ record { table = gate.table; desk = new_desk gate.shape }
   pub limit : gate.shape.limit ≡ config.limit
   pub response : gate.shape.response ≡ config.limit_response
   pub sizes : k.sizes ≡ record { deck = config.queues; hand = config.hand_size }
   pub queue_limit : k.queue_limit ≡ config.queue_length_limit
-  -- nothing is settled
-  pub settles : k.settles ≡ false
+  pub settles : k.settles ≡ settles_by settling gate.shape.slots
 
 -- the Passes are those of the gate's slots, which nobody held yet
 pub record AreFirst (gate : GateId) (passes : List PassToken) : Type 0 where

@@ -1,5 +1,5 @@
 -- What the calls of a Level answer where the slot's Pass stays in its place.
-use Rattle.std.specs.Prelude.{◌≡◌, ◌≢◌, Some}
+use Rattle.std.specs.Prelude.{◌≡◌, ◌≢◌, Bool, Some}
 use Rattle.apf_words.specs.declared.decision.Decision.TheVariants as decisions
 use Rattle.apf_gate.specs.Records.{told_own}
 use Rattle.apf_gate.specs.Tokens.{PassToken}
@@ -28,6 +28,12 @@ abbrev pub IsLeftBy : Begun → PassToken → Type 0
 IsLeftBy begins.Run token = IsRunning token
 IsLeftBy (begins.Over decision) token = IsDone token
 IsLeftBy begins.Waits token = IsInLine token
+
+-- the request that executes entered a queue, if this is true, and else took its seats on arrival
+abbrev pub HasEnteredIf : Begun → Bool → PassToken → Type 0
+HasEnteredIf begins.Run entered token = token.pass.entered ≡ entered
+HasEnteredIf (begins.Over decision) entered token = Unit {0}
+HasEnteredIf begins.Waits entered token = Unit {0}
 
 -- the decision that is answered is the one that the Pass was told, and the request does not wait
 abbrev pub IsDecided : Begun → PassToken → Type 0

@@ -2,6 +2,7 @@ pub mod Nobody
 pub mod Admission
 pub mod Attempts
 pub mod Arrivals
+pub mod Releases
 pub mod Sections
 pub mod Locked
 pub mod InPlace

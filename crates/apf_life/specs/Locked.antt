@@ -5,7 +5,7 @@ use Rattle.apf_book.specs.declared.life_event.LifeEvent.{LifeEvent}
 use Rattle.apf_book.specs.declared.life_stats.LifeStats.{LifeStats}
 use Rattle.apf_book.specs.declared.recent_events.Copied.{Copied}
 use Rattle.apf_book.specs.Life.{LifeView}
-use Rattle.apf_book.specs.LifeBook.{LifeBookView, IsLifeKept, ServesLife, StrikesLife}
+use Rattle.apf_book.specs.LifeBook.{LifeBookView, IsLifeKept, ServesLife, StrikesLife, SettlesLife}
 use Rattle.apf_book.specs.LifeCalls.{SameLifeBook}
 use Rattle.apf_book.specs.RecentEvents.{AreLifeStats, CopiesLate}
 use Rattle.apf_line.specs.Levels.{LifeId, IsBookOf}
@@ -29,6 +29,21 @@ pub record StrikesAndServes (book : LifeBookView) (r : ℕ) (struck : Bool) (boo
   pub strikes : (v : LifeView) → IsLifeKept v book → StrikesLife v book r struck between
   pub same_then : SameLifeBook between book'
   pub serves : (v : LifeView) → IsLifeKept v between → ServesLife v between count book'
+
+-- what a queue was charged for the request is settled with this, if that is kept, and then others were dispatched
+pub record SettlesAndServes (book : LifeBookView) (r : ℕ) (m : ℕ) (book' : LifeBookView) : Type 0 where
+  pub between : LifeBookView
+  pub settled : Bool
+  pub count : ℕ
+  pub same : SameLifeBook book between
+  pub settles : (v : LifeView) → IsLifeKept v book → SettlesLife v book r m settled between
+  pub same_then : SameLifeBook between book'
+  pub serves : (v : LifeView) → IsLifeKept v between → ServesLife v between count book'
+
+-- the same, of this very book. A level without queues has none
+abbrev pub SettlesUnder : Option LifeBookView → ℕ → ℕ → Option LifeBookView → Type 0
+SettlesUnder None r m under' = under' ≡ None
+SettlesUnder (Some book) r m under' = (book' : LifeBookView) × (under' ≡ Some book') × SettlesAndServes book r m book'
 
 -- whether the request was struck out of a queue of this very book
 abbrev pub StrikesUnder : Option LifeBookView → ℕ → Bool → Option LifeBookView → Type 0

@@ -10,6 +10,7 @@ ghost use Rattle.apf_line.specs.Tokens.{IsOf, IsRunning, IsDone};
 ghost use Rattle.apf_life.specs.Admission.{tried_pass, IsTriedTold, AsksAgain, TriesToAdmit, SaysOpen};
 ghost use Rattle.apf_life.specs.Attempts.{Attempts, TakesOrDecides, IsKeptBy};
 ghost use Rattle.apf_life.specs.Calls.{IsFreshPass, AfterAttempt};
+ghost use Rattle.apf_life.specs.Releases.{Executes, ReleasesMeasured};
 
 use crate::answers::{Tried, TryAdmit};
 use crate::level::Level;
@@ -18,6 +19,7 @@ use crate::shared::Shared;
 use crate::tokens::{Done, Pass, Running};
 use apf_gate::TryTake;
 use apf_words::Decision;
+use std::sync::Wait;
 
 impl<K: Naming> Level<K> {
     /// Admits the request, if nobody waits and it fits. It takes no lock.
@@ -39,7 +41,10 @@ impl<K: Naming> Level<K> {
             cost,
         } = pass;
         match self.attempt(&mut pass) {
-            Tried::Run => TryAdmit::Run(Running { pass }),
+            Tried::Run => TryAdmit::Run(Running {
+                pass,
+                entered: false,
+            }),
             Tried::Over(decision, waiting) => TryAdmit::Over(Done { pass }, decision, waiting),
             Tried::Blocked | Tried::Raced => TryAdmit::Busy(Pass { pass, hash, cost }),
         }
@@ -107,7 +112,10 @@ impl<K: Naming> Level<K> {
         ensures told { told_own result.0.pass ≡ Some Execute }
         ensures answer { (level : Word) × PassSubtractsLevel running.pass level result.0.pass × (result.1 ≡ not (level.waiters == 0)) }
     {
-        let Running { mut pass } = running;
+        let Running {
+            mut pass,
+            entered: _,
+        } = running;
         let waiting = self.give_back(&mut pass);
         (Done { pass }, waiting)
     }
@@ -124,5 +132,45 @@ impl<K: Naming> Level<K> {
         ensures answer { (level : Word) × PassSubtractsLevel pass.old.pass level pass.new.pass × (result ≡ not (level.waiters == 0)) }
     {
         self.gate.release(pass)
+    }
+
+    /// As `release`, of a request that ran so many microseconds. If it was dispatched from a queue, what it took is settled
+    /// before its seats go back, under the level's lock, and others are dispatched then: the caller owes no dispatch.
+    /// If it took its seats on arrival, it was never charged, and this is `release`, outside the lock.
+    ///
+    /// What it took is its width times this time, 1 to 2^46 microseconds of a seat: see `Locked::finish`. Only a level
+    /// that was opened by `open_settling` settles it.
+    pub fn release_measured<R: Wait>(&self, rt: &R, running: Running, micros: u64) -> (Done, bool)
+        requires own { pass_gate running ≡ K.level.gate }
+        ensures same { IsOf running result.0 }
+        ensures told { told_own result.0.pass ≡ Some Execute }
+        ensures answer { ReleasesMeasured running.pass result.1 result.0.pass }
+    {
+        let Running { mut pass, entered } = running;
+        let waiting = self.give_back_measured(rt, &mut pass, entered, micros);
+        (Done { pass }, waiting)
+    }
+
+    /// The same, of a request that entered a queue or not. The slot's Pass stays in its place, that of a request that is
+    /// over.
+    pub fn give_back_measured<R: Wait>(
+        &self,
+        rt: &R,
+        pass: &mut apf_gate::Pass,
+        entered: bool,
+        micros: u64,
+    ) -> bool
+        requires own { pass_gate pass.old ≡ K.level.gate }
+        requires runs { Executes entered pass.old }
+        ensures done { IsDone pass.new }
+        ensures same { IsOf pass.old pass.new }
+        ensures told { told_own pass.new.pass ≡ Some Execute }
+        ensures answer { ReleasesMeasured pass.old.pass result pass.new.pass }
+    {
+        if !entered {
+            return self.give_back(pass);
+        }
+        self.lock(rt).finish(rt, pass, micros);
+        false
     }
 }

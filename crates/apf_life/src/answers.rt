@@ -1,7 +1,7 @@
 //! What the calls of a request answer.
 
 ghost use Rattle.std.specs.Prelude.{◌≡◌};
-ghost use Rattle.apf_life.specs.InPlace.{begin_of, IsLeftBy};
+ghost use Rattle.apf_life.specs.InPlace.{begin_of, IsLeftBy, HasEnteredIf};
 
 use crate::tokens::{Done, Pass, Running, Waiting};
 use apf_words::Decision;
@@ -51,13 +51,14 @@ pub enum Begun {
 }
 
 impl Begun {
-    /// The same of an arrival, with its Pass.
-    pub(crate) fn with(self, pass: apf_gate::Pass) -> Begin
-        requires { IsLeftBy self pass }
+    /// The same of an arrival, with its Pass, whose request entered a queue or not.
+    pub(crate) fn with(self, pass: apf_gate::Pass, entered: bool) -> Begin
+        requires left { IsLeftBy self pass }
+        requires entered { HasEnteredIf self entered pass }
         ensures { result ≡ begin_of self pass }
     {
         match self {
-            Begun::Run => Begin::Run(Running { pass }),
+            Begun::Run => Begin::Run(Running { pass, entered }),
             Begun::Over(decision) => Begin::Over(Done { pass }, decision),
             Begun::Waits => Begin::Waiting(Waiting { pass }),
         }

@@ -8,7 +8,7 @@ ghost use Rattle.apf_model.specs.declared.response.Response.TheVariants.{Queue};
 ghost use Rattle.apf_gate.specs.Traces.{asked_in};
 ghost use Rattle.apf_gate.specs.Tokens.{pass_gate};
 ghost use Rattle.apf_line.specs.Tokens.{IsOf, IsInLine};
-ghost use Rattle.apf_life.specs.InPlace.{begin_of, poll_of, IsLeftBy, IsDecided};
+ghost use Rattle.apf_life.specs.InPlace.{begin_of, poll_of, IsLeftBy, IsDecided, HasEnteredIf};
 ghost use Rattle.apf_life.specs.Admission.{polled_pass, admitted_pass, IsAdmittedTold, SaysWaiting, Polls};
 ghost use Rattle.apf_life.specs.Arrivals.{Logs};
 ghost use Rattle.apf_life.specs.Calls.{IsFreshPass, AfterBegin};
@@ -57,7 +57,7 @@ impl<K: Naming> Level<K> {
             cost,
         } = pass;
         let (begun, event) = self.arrive(rt, &mut pass, hash, cost);
-        (begun.with(pass), event)
+        (begun.with(pass, event.is_some()), event)
     }
 
     /// Reads the decision of a request that waits, by one load. One that is cancelled leaves its queue, and then
@@ -69,7 +69,10 @@ impl<K: Naming> Level<K> {
     {
         let Waiting { mut pass } = waiting;
         match self.read_decision(rt, &mut pass) {
-            Begun::Run => Poll::Run(Running { pass }),
+            Begun::Run => Poll::Run(Running {
+                pass,
+                entered: true,
+            }),
             Begun::Over(decision) => Poll::Over(Done { pass }, decision),
             Begun::Waits => Poll::Still(Waiting { pass }),
         }
@@ -87,8 +90,9 @@ impl<K: Naming> Level<K> {
             hash,
             cost,
         } = pass;
-        match self.arrive_and_wait(rt, &mut pass, hash, cost) {
-            Begun::Run => Admit::Run(Running { pass }),
+        let (begun, entered) = self.arrive_and_wait(rt, &mut pass, hash, cost);
+        match begun {
+            Begun::Run => Admit::Run(Running { pass, entered }),
             Begun::Over(decision) => Admit::Over(Done { pass }, decision),
             Begun::Waits => unreachable!(),
         }
@@ -201,34 +205,35 @@ impl<K: Naming> Level<K> {
     }
 
     /// The request arrives, of a flow with this hash, and its dispatch is charged this cost. Its caller waits
-    /// until it is decided: it executes, or is over. After some readings the caller sleeps; a dispatch or a
-    /// cancel by any thread wakes it. The slot's Pass stays in its place.
+    /// until it is decided: it executes, or is over. Says also whether it entered a queue. After some readings the caller
+    /// sleeps; a dispatch or a cancel by any thread wakes it. The slot's Pass stays in its place.
     pub fn arrive_and_wait<R: Wait>(
         &self,
         rt: &R,
         pass: &mut apf_gate::Pass,
         hash: u64,
         cost: u32,
-    ) -> Begun
+    ) -> (Begun, bool)
         requires fresh { IsFreshPass K.level pass.old }
         requires some_cost { 1 ≤ cost }
         requires low_cost { cost ≤ max_cost }
         requires asked { asked_in pass.old.pass.knows.trace pass.old.pass.number ≡ Some (record { hash = hash; cost = cost }) }
-        ensures left { IsLeftBy result pass.new }
+        ensures left { IsLeftBy result.0 pass.new }
         ensures same { IsOf pass.old pass.new }
-        ensures told { IsDecided result pass.new }
+        ensures told { IsDecided result.0 pass.new }
+        ensures entered { HasEnteredIf result.0 result.1 pass.new }
     {
-        let (begun, _event) = self.arrive(rt, pass, hash, cost);
+        let (begun, event) = self.arrive(rt, pass, hash, cost);
         match begun {
-            Begun::Run => return Begun::Run,
-            Begun::Over(decision) => return Begun::Over(decision),
+            Begun::Run => return (Begun::Run, event.is_some()),
+            Begun::Over(decision) => return (Begun::Over(decision), event.is_some()),
             Begun::Waits => {}
         }
         let mut readings = 0;
         for _ in rt.forever() {
             match self.read_decision(rt, pass) {
-                Begun::Run => return Begun::Run,
-                Begun::Over(decision) => return Begun::Over(decision),
+                Begun::Run => return (Begun::Run, true),
+                Begun::Over(decision) => return (Begun::Over(decision), true),
                 Begun::Waits => {}
             }
             if readings < READINGS_AWAKE {

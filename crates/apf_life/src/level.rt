@@ -59,7 +59,8 @@ impl<K: Naming> Level<K> {
     /// Its slots are those of the gate, which nobody holds yet. All memory is taken here, that of the newest events
     /// too: two for each slot.
     ///
-    /// On a level whose response is Reject the settings of queues are not used.
+    /// On a level whose response is Reject the settings of queues are not used. A queue is charged the cost of each
+    /// request that is dispatched from it, and that stays: see `open_settling`.
     ///
     /// # Errors
     ///
@@ -73,7 +74,32 @@ impl<K: Naming> Level<K> {
         passes: Vec<Pass>,
         stations: Vec<Station>,
     ) -> Result<Opened<K>, LevelFault>
-        requires opening { IsGateFor K.level config.now gate desk }
+        requires opening { IsGateFor K.level config.now Settling.Never gate desk }
+        requires first { AreFirst gate passes.items }
+        ensures level { IfOk result (λ o. o.level ≡ gate) }
+        ensures slots { IfOk result (λ o. o.slots.items ≡ passes.items) }
+        ensures stations { IfOk result (λ o. o.stations.items ≡ stations.items) }
+        ensures judged { IsJudged config.now gate.shape.slots result }
+    {
+        Level::open_settling(alloc, config, Settling::Never, gate, desk, passes, stations)
+    }
+
+    /// The same, and says whether what requests take is settled. If so, `release_measured` does that; else it settles
+    /// nothing.
+    ///
+    /// # Errors
+    ///
+    /// As of `open_for_life`.
+    pub fn open_settling(
+        alloc: Global,
+        config: &Config,
+        settling: Settling,
+        gate: Gate<Global>,
+        desk: Desk,
+        passes: Vec<Pass>,
+        stations: Vec<Station>,
+    ) -> Result<Opened<K>, LevelFault>
+        requires opening { IsGateFor K.level config.now settling gate desk }
         requires first { AreFirst gate passes.items }
         ensures level { IfOk result (λ o. o.level ≡ gate) }
         ensures slots { IfOk result (λ o. o.slots.items ≡ passes.items) }
@@ -81,7 +107,7 @@ impl<K: Naming> Level<K> {
         ensures judged { IsJudged config.now gate.shape.slots result }
     {
         let shared = match config.limit_response {
-            Response::Queue => queued::<K>(alloc, config, passes.len() as u32, desk)?,
+            Response::Queue => queued::<K>(alloc, config, passes.len() as u32, settling, desk)?,
             Response::Reject => unqueued::<K>(desk),
         };
         let slots = unheld(alloc, passes)?;
@@ -110,9 +136,10 @@ fn queued<K: Naming>(
     alloc: Global,
     config: &Config,
     slots: u32,
+    settling: Settling,
     desk: Desk,
 ) -> Result<Shared<K>, LevelFault>
-    requires opening { IsGateFor K.level config.now K.level.gate desk }
+    requires opening { IsGateFor K.level config.now settling K.level.gate desk }
     requires slots { slots ≡ K.level.gate.shape.slots }
     requires has_queues { K.level.gate.shape.response ≡ Queue }
     ensures settings { OnOk result (AreSettings config.now slots) }
@@ -124,7 +151,7 @@ fn queued<K: Naming>(
         Ok(dealer) => dealer,
         Err(fault) => return Err(BookFault::Dealer(fault)),
     };
-    let book = LifeBook::new(alloc, config, slots, desk, Settling::Never)?;
+    let book = LifeBook::new(alloc, config, slots, desk, settling)?;
     let queued = Queued {
         book,
         sleepers: first_tickets(alloc, slots)?,

@@ -1,11 +1,16 @@
 //! The level's lock, and the calls that take it and own no Pass.
 
-ghost use Rattle.std.specs.Prelude.{◌≡◌, ◌≤◌};
+ghost use Rattle.std.specs.Prelude.{◌≡◌, ◌≤◌, Some};
 ghost use Rattle.apf_words.specs.Limits.{max_limit};
 ghost use Rattle.apf_gate.specs.Slots.{IsTicket};
-ghost use Rattle.apf_gate.specs.Tokens.{station_gate};
+ghost use Rattle.apf_words.specs.declared.decision.Decision.TheVariants.{Execute};
+ghost use Rattle.apf_gate.specs.Records.{told_own, own_width};
+ghost use Rattle.apf_gate.specs.Tokens.{pass_gate, station_gate};
+ghost use Rattle.apf_line.specs.SeatTime.{seat_time_of};
+ghost use Rattle.apf_line.specs.Tokens.{IsOf, IsRunning, IsDone};
+ghost use Rattle.apf_life.specs.Releases.{GivesBack};
 ghost use Rattle.apf_level.specs.Limits.{LastSet};
-ghost use Rattle.apf_life.specs.Locked.{DispatchesUnder, StrikesUnder, CopiesUnder, AreStatsUnder};
+ghost use Rattle.apf_life.specs.Locked.{DispatchesUnder, SettlesUnder, StrikesUnder, CopiesUnder, AreStatsUnder};
 ghost use Rattle.apf_life.specs.Sections.{IsCopied, AreStatsOf};
 
 use crate::level::Level;
@@ -13,8 +18,8 @@ use crate::naming::Naming;
 use crate::queued::Queued;
 use crate::shared::Shared;
 use apf_book::{Copied, LifeEvent, LifeStats};
-use apf_gate::{Gate, Station, Ticket, TrySetLimit};
-use apf_line::every_level_has_histories;
+use apf_gate::{Gate, Pass, Station, Ticket, TrySetLimit};
+use apf_line::{every_level_has_histories, seat_time};
 use std::alloc::Global;
 use std::marker::Model;
 use std::sync::{MutexGuard, Wait};
@@ -63,6 +68,29 @@ impl<'a, K: Naming> Locked<'a, K> {
         match &mut self.queued {
             Some(queued) => queued.strike(rt, self.gate, request),
             None => false,
+        }
+    }
+
+    /// A request that executes, and ran so many microseconds, gives its seats back, by one step. Before that, what it took
+    /// is settled, on a level that was opened so: if it was dispatched from a queue, that queue is charged its width times
+    /// this time, 1 to 2^46 microseconds of a seat, in place of what it was charged for it. After it, others are
+    /// dispatched. Says whether requests waited as the seats went back. The slot's Pass stays in its place, that of a
+    /// request that is over.
+    pub fn finish<R: Wait>(&mut self, rt: &R, pass: &mut Pass, micros: u64) -> bool
+        requires own_pass { pass_gate pass.old ≡ K.level.gate }
+        requires runs { IsRunning pass.old }
+        ensures done { IsDone pass.new }
+        ensures same { IsOf pass.old pass.new }
+        ensures told { told_own pass.new.pass ≡ Some Execute }
+        ensures answer { GivesBack pass.old.pass result pass.new.pass }
+        ensures settles { SettlesUnder self.old pass.old.pass.number (seat_time_of (own_width pass.old.pass) micros) self.new }
+    {
+        match &mut self.queued {
+            Some(queued) => {
+                let amount = seat_time(pass.width(), micros);
+                queued.finish(rt, self.gate, pass, amount)
+            }
+            None => self.gate.release(pass),
         }
     }
 

@@ -1,6 +1,6 @@
 //! What stands under the lock of a level with queues.
 
-ghost use Rattle.std.specs.Prelude.{◌≡◌, ◌≢◌, ◌*◌, ◌^◌, ◌<◌, All, length, true, Some, None};
+ghost use Rattle.std.specs.Prelude.{◌≡◌, ◌≢◌, ◌*◌, ◌^◌, ◌<◌, ◌≤◌, All, length, true, Some, None};
 ghost use Rattle.apf_words.specs.declared.decision.Decision.TheVariants.{Execute, Cancelled};
 ghost use Rattle.apf_model.specs.declared.response.Response.TheVariants.{Queue};
 ghost use Rattle.apf_gate.specs.declared.record.State.TheVariants.{InLine};
@@ -11,10 +11,12 @@ ghost use Rattle.apf_book.specs.Life.{LifeView};
 ghost use Rattle.apf_book.specs.LifeBook.{IsLifeKept, ServesLife};
 ghost use Rattle.apf_book.specs.LifeCalls.{SameLifeBook};
 ghost use Rattle.apf_line.specs.Levels.{IsBookOf};
-ghost use Rattle.apf_line.specs.Tokens.{IsOf};
+ghost use Rattle.apf_line.specs.Tokens.{IsOf, IsRunning, IsDone};
+ghost use Rattle.apf_queue.specs.View.{max_charge};
+ghost use Rattle.apf_life.specs.Releases.{GivesBack};
 ghost use Rattle.apf_life.specs.Arrivals.{EnqueuedAs};
 ghost use Rattle.apf_life.specs.Sections.{IsCopied, AreStatsOf, AreSleepers};
-ghost use Rattle.apf_life.specs.Locked.{StrikesAndServes};
+ghost use Rattle.apf_life.specs.Locked.{StrikesAndServes, SettlesAndServes};
 ghost use Rattle.apf_book.specs.RecentEvents.{AreLifeStats, CopiesLate};
 ghost use Rattle.apf_life.specs.Calls.{StandsInLine};
 ghost use Rattle.apf_line.specs.Stopped.{IsStopped};
@@ -142,6 +144,35 @@ impl<K: Naming> Queued<K> {
         self.book.has_a_history();
         let before = self.book.events();
         serve(rt, gate, &mut self.book, self.sleepers.as_slice(), before)
+    }
+
+    /// The Pass's request, which executes, took so much, in microseconds of a seat. If it was dispatched from a queue,
+    /// that queue is charged this in place of what it was charged for the request. Then it gives its seats back, and
+    /// others are dispatched while the chosen head fits. Says whether requests waited as the seats went back.
+    pub fn finish<R: Wait>(
+        &mut self,
+        rt: &R,
+        gate: &Gate<Global>,
+        pass: &mut Pass,
+        amount: u64,
+    ) -> bool
+        requires own { gate.now ≡ K.level.gate }
+        requires own_pass { pass_gate pass.old ≡ K.level.gate }
+        requires runs { IsRunning pass.old }
+        requires low { amount ≤ max_charge }
+        ensures done { IsDone pass.new }
+        ensures same { IsOf pass.old pass.new }
+        ensures told { told_own pass.new.pass ≡ Some Execute }
+        ensures answer { GivesBack pass.old.pass result pass.new.pass }
+        ensures finished { SettlesAndServes self.old.book pass.old.pass.number amount self.new.book }
+    {
+        every_level_has_histories();
+        self.book.has_a_history();
+        let before = self.book.events();
+        self.book.settle(pass, amount);
+        let waiting = gate.release(pass);
+        serve(rt, gate, &mut self.book, self.sleepers.as_slice(), before);
+        waiting
     }
 
     /// Strikes the request, if it waits and is cancelled, and dispatches while the chosen head fits. Says whether it

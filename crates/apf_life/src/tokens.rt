@@ -3,6 +3,7 @@
 ghost use Rattle.std.specs.Prelude.{◌≡◌};
 ghost use Rattle.apf_gate.specs.Slots.{IsTicket};
 ghost use Rattle.apf_line.specs.Tokens.{IsArriving, IsInLine, IsRunning, IsDone};
+ghost use Rattle.apf_life.specs.Releases.{Executes};
 
 use apf_gate::Ticket;
 use std::marker::Model;
@@ -44,17 +45,19 @@ impl Model for Waiting {
 /// A request that is decided execute, and whose seats stand. It must be spent.
 pub struct Running {
     pub(crate) pass: apf_gate::Pass,
+    // Whether it entered a queue, and was dispatched from it. Else it took its seats on arrival.
+    pub(crate) entered: bool,
 }
 
 impl Model for Running {
     ghost use Rattle.apf_gate.specs.Tokens.{PassToken};
-    ghost use Rattle.apf_line.specs.Tokens.{IsRunning};
+    ghost use Rattle.apf_life.specs.Releases.{Executes};
 
     ghost Value = { PassToken };
 
     ghost view = { λ r. r.pass };
 
-    ghost invariant = { λ r. IsRunning r.pass };
+    ghost invariant = { λ r. Executes r.entered r.pass };
 }
 
 /// A slot whose request is decided and holds no seats, or that nobody held yet: its next request may come.
@@ -117,12 +120,12 @@ impl Waiting {
 }
 
 impl Running {
-    /// That of a request that executes, of its Pass.
-    pub fn of(pass: apf_gate::Pass) -> Running
-        requires { IsRunning pass }
+    /// That of a request that executes, of its Pass, which entered a queue or not.
+    pub fn of(pass: apf_gate::Pass, entered: bool) -> Running
+        requires { Executes entered pass }
         ensures { result ≡ pass }
     {
-        Running { pass }
+        Running { pass, entered }
     }
 
     /// What names the request for ever.

@@ -1,5 +1,5 @@
 -- What a level is opened with, and why it is not opened.
-use Rattle.std.specs.Prelude.{◌≢◌, ◌⊎◌, ◌≤◌, ◌<◌, ℕ, false}
+use Rattle.std.specs.Prelude.{◌≢◌, ◌⊎◌, ◌≤◌, ◌<◌, ℕ}
 use Rattle.apf_words.specs.Limits.{max_limit, max_requests, max_stations}
 use Rattle.apf_gate.specs.declared.fault.GateFault.{GateFault}
 use Rattle.apf_gate.specs.declared.fault.GateFault.TheVariants as gate
@@ -8,13 +8,19 @@ use Rattle.apf_model.specs.declared.config.Config.{Config}
 use Rattle.apf_book.specs.declared.fault.BookFault.{BookFault}
 use Rattle.apf_book.specs.declared.fault.BookFault.TheVariants as book
 use Rattle.apf_line.specs.Levels.{LifeId}
-use Rattle.apf_life.specs.Calls.{FaultBy}
+use Rattle.apf_book.specs.declared.settling.Settling.{Settling}
+use Rattle.apf_book.specs.declared.settling.Settling.TheVariants.{Never}
+use Rattle.apf_life.specs.Calls.{FaultBy, settles_by}
 use Rattle.apf_life_session.specs.declared.fault.OpenFault.{OpenFault}
 use Rattle.apf_life_session.specs.declared.fault.OpenFault.TheVariants as faults
 
--- the level of this gate, opened with these settings
+-- the level of this gate, opened with these settings, where what requests take is settled so
+abbrev pub level_settling : GateId → Config → Settling → LifeId
+level_settling gate config settling = record { gate = gate; sizes = record { deck = config.queues; hand = config.hand_size }; queue_limit = config.queue_length_limit; settles = settles_by settling gate.shape.slots }
+
+-- the same, where nothing is settled
 abbrev pub level_of : GateId → Config → LifeId
-level_of gate config = record { gate = gate; sizes = record { deck = config.queues; hand = config.hand_size }; queue_limit = config.queue_length_limit; settles = false }
+level_of gate config = level_settling gate config Never
 
 -- a gate is opened for these settings: nothing of them is out of range
 pub record CanOpenGate (config : Config) (slots stations : ℕ) : Type 0 where

@@ -1,5 +1,5 @@
 -- What a slot of a level holds, and what the answer of a call says of its request.
-use Rattle.std.specs.Prelude.{◌≡◌, ◌≢◌, ◌⊎◌, ◌==◌, not, ℕ, List, length, slice_index_or, All, Option, Some, None}
+use Rattle.std.specs.Prelude.{◌≡◌, ◌≢◌, ◌⊎◌, ◌==◌, not, ℕ, Bool, List, length, slice_index_or, All, Option, Some, None}
 use Rattle.apf_words.specs.Level.{Level}
 use Rattle.apf_words.specs.declared.decision.Decision.{Decision}
 use Rattle.apf_words.specs.declared.decision.Decision.TheVariants.{Execute, QueueFull}
@@ -14,6 +14,7 @@ use Rattle.apf_book.specs.RecentEvents.{event_of}
 use Rattle.apf_life.specs.declared.answers.Tried.{Tried}
 use Rattle.apf_life.specs.declared.answers.Tried.TheVariants as tries
 use Rattle.apf_life.specs.Attempts.{Attempts}
+use Rattle.apf_life.specs.Releases.{ReleasesMeasured}
 use Rattle.apf_line.specs.Levels.{LifeId}
 use Rattle.apf_line.specs.Tokens.{IsInLine, IsRunning, IsDone}
 use Rattle.apf_flow.specs.Deal.{hand_of}
@@ -46,10 +47,11 @@ IsAt places.Free pass = IsDone pass
 IsAt places.Waits pass = IsInLine pass
 IsAt places.Runs pass = IsRunning pass
 
--- a slot of the level whose Pass stands at this place
-pub record IsPlacedOf (k : LifeId) (place : Place) (pass : PassToken) : Type 0 where
+-- a slot of the level whose Pass stands at this place. Of one that executes it is known whether it entered a queue
+pub record IsPlacedOf (k : LifeId) (place : Place) (entered : Bool) (pass : PassToken) : Type 0 where
   pub own : pass_gate pass ≡ k.gate
   pub at : IsAt place pass
+  pub entered_is : place ≡ places.Runs → pass.pass.entered ≡ entered
 
 -- where it is
 abbrev pub place_of : Token → Place
@@ -177,6 +179,14 @@ ReleasesAs (tokens.Waiting pass) answer token' = Unit {0}
 ReleasesAs (tokens.Running pass) answer token' = (done : PassToken) × (level : Level) × PassSubtractsLevel pass.pass level done.pass
     × (answer ≡ answers.Released (not (level.waiters == 0))) × (token' ≡ tokens.Free done)
 ReleasesAs tokens.Gone answer token' = Unit {0}
+
+-- what is answered where a request that executes gives its seats back, and tells how long it ran: what its one step found, if it took its seats on arrival
+abbrev pub FinishesAs : Token → Answer → Token → Type 0
+FinishesAs (tokens.Free pass) answer token' = Unit {0}
+FinishesAs (tokens.Waiting pass) answer token' = Unit {0}
+FinishesAs (tokens.Running pass) answer token' = (done : PassToken) × (owes : Bool) × ReleasesMeasured pass.pass owes done.pass
+    × (answer ≡ answers.Released owes) × (token' ≡ tokens.Free done)
+FinishesAs tokens.Gone answer token' = Unit {0}
 
 -- a call of one of these slots, which leaves the others as they are
 pub record CallsOne (calls : Token → Answer → Token → Type 0) (slot : ℕ) (old : List Token) (answer : Answer) (new : List Token) : Type 0 where

@@ -42,6 +42,7 @@ mod session;
 mod token;
 
 pub use answer::{Answer, Place};
+pub use apf_book::Settling;
 pub use fault::OpenFault;
 pub use opening::Opening;
 pub use operator::Operator;

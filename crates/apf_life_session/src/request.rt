@@ -9,7 +9,7 @@ ghost use Rattle.apf_gate.specs.Tokens.{pass_gate};
 ghost use Rattle.apf_life_session.specs.declared.answer.Answer.TheVariants as answers;
 ghost use Rattle.apf_life_session.specs.declared.answer.Place.TheVariants as places;
 ghost use Rattle.apf_life_session.specs.declared.token.Token.TheVariants as tokens;
-ghost use Rattle.apf_life_session.specs.Requests.{number_in, place_of, Answers, Arrives, Tries, TriesAs, Polls, LogsFor, ReleasesAs};
+ghost use Rattle.apf_life_session.specs.Requests.{number_in, place_of, Answers, Arrives, Tries, TriesAs, Polls, LogsFor, ReleasesAs, FinishesAs};
 
 use crate::answer::{Answer, Place};
 use apf_book::LifeEvent;
@@ -23,6 +23,8 @@ use std::sync::Wait;
 pub struct Request<K: Naming> {
     pass: apf_gate::Pass,
     place: Place,
+    // Of one that executes: whether it was dispatched from a queue. Else it took its seats on arrival.
+    entered: bool,
     of: PhantomData<K>,
 }
 
@@ -34,7 +36,7 @@ impl<K: Naming> Model for Request<K> {
 
     ghost view = { λ r. token_at r.place r.pass };
 
-    ghost invariant = { λ r. IsPlacedOf K.level r.place r.pass };
+    ghost invariant = { λ r. IsPlacedOf K.level r.place r.entered r.pass };
 }
 
 /// Gives the seats back, and dispatches if requests wait.
@@ -76,6 +78,7 @@ impl<K: Naming> Request<K> {
         Request {
             pass: slot.into_pass(),
             place: Place::Free,
+            entered: false,
             of: PhantomData,
         }
     }
@@ -134,6 +137,7 @@ impl<K: Naming> Request<K> {
             return (Answer::Spent, None);
         }
         let (begun, event) = level.arrive(rt, &mut self.pass, ask.hash, cost);
+        self.entered = event.is_some();
         match begun {
             Begun::Run => {
                 self.place = Place::Runs;
@@ -164,7 +168,9 @@ impl<K: Naming> Request<K> {
         if !level.renew_slot(&mut self.pass, ask, ask.width) {
             return Answer::Spent;
         }
-        match level.arrive_and_wait(rt, &mut self.pass, ask.hash, ask.width) {
+        let (begun, entered) = level.arrive_and_wait(rt, &mut self.pass, ask.hash, ask.width);
+        self.entered = entered;
+        match begun {
             Begun::Run => {
                 self.place = Place::Runs;
                 Answer::Run
@@ -191,6 +197,7 @@ impl<K: Naming> Request<K> {
         if !level.renew_slot(&mut self.pass, ask, ask.width) {
             return Answer::Spent;
         }
+        self.entered = false;
         match level.attempt(&mut self.pass) {
             Tried::Run => {
                 self.place = Place::Runs;
@@ -214,6 +221,7 @@ impl<K: Naming> Request<K> {
         }
         match level.read_decision(rt, &mut self.pass) {
             Begun::Run => {
+                self.entered = true;
                 self.place = Place::Runs;
                 Answer::Run
             }
@@ -250,17 +258,41 @@ impl<K: Naming> Request<K> {
         answer
     }
 
+    /// As `finish`, of a request that ran so many microseconds. If it was dispatched from a queue, what it took is settled
+    /// before its seats go back, on a level that was opened by `open_settling`: its queue is charged its width times this
+    /// time, 1 to 2^46 microseconds of a seat, in place of what it was charged for it. A request that took its seats on
+    /// arrival was never charged.
+    pub fn finish_measured<R: Wait>(&mut self, rt: &R, level: &Level<K>, micros: u64) -> Answer
+        ensures answers { Answers places.Runs self.old result self.new }
+        ensures steps { FinishesAs self.old result self.new }
+    {
+        if self.place != Place::Runs {
+            return Answer::Wrong;
+        }
+        let waiting = level.give_back_measured(rt, &mut self.pass, self.entered, micros);
+        self.place = Place::Free;
+        if waiting {
+            level.lock(rt).dispatch(rt);
+        }
+        Answer::Released(waiting)
+    }
+
     /// Brings its request to its end: its caller waits until it is decided, and it gives its seats back. Then requests
     /// that wait are dispatched.
     pub fn end<R: Wait>(self, rt: &R, level: &Level<K>) -> Done
         ensures own { pass_gate result ≡ K.level.gate }
         ensures number { result.pass.number ≡ number_in self }
     {
-        let Request { pass, place, of: _ } = self;
+        let Request {
+            pass,
+            place,
+            entered,
+            of: _,
+        } = self;
         match place {
             Place::Free => Done::of(pass),
             Place::Waits => wait(rt, level, Waiting::of(pass)),
-            Place::Runs => release(rt, level, Running::of(pass)),
+            Place::Runs => release(rt, level, Running::of(pass, entered)),
         }
     }
 }

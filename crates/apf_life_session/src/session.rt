@@ -9,8 +9,8 @@ ghost use Rattle.apf_level.specs.Limits.{LastSet};
 ghost use Rattle.apf_life.specs.Calls.{SettledBy};
 ghost use Rattle.apf_life_session.specs.declared.answer.Place.TheVariants as places;
 ghost use Rattle.apf_life_session.specs.declared.token.Token.{Token};
-ghost use Rattle.apf_life_session.specs.Openings.{level_of, IsOpenFault};
-ghost use Rattle.apf_life_session.specs.Requests.{number_in, Answers, Arrives, Tries, TriesAs, Polls, LogsFor, CallsOne, AreFree};
+ghost use Rattle.apf_life_session.specs.Openings.{level_of, level_settling, IsOpenFault};
+ghost use Rattle.apf_life_session.specs.Requests.{number_in, Answers, Arrives, Tries, TriesAs, Polls, LogsFor, FinishesAs, CallsOne, AreFree};
 ghost use Rattle.apf_life_session.specs.Ends.{CancelsThese, FirstCancels, StayButFirst, KeepsOrder, SessionEnds, waiting};
 
 use crate::answer::{Answer, Place};
@@ -18,7 +18,7 @@ use crate::fault::OpenFault;
 use crate::opening::Opening;
 use crate::operator::Operator;
 use crate::request::Request;
-use apf_book::LifeEvent;
+use apf_book::{LifeEvent, Settling};
 use apf_gate::{Cancel, Close, Station, Ticket};
 use apf_life::{Done, Level, Naming, Opened, Report};
 use apf_model::Ask;
@@ -171,6 +171,27 @@ impl<K: Naming> Session<K> {
         ensures settings { OnOk result (SettledBy opening.config.limit_response opening.config opening.gate.shape.slots) }
         ensures fault { IfErr result (IsOpenFault opening.config opening.gate.shape.slots opening.gate.shape.stations) }
     {
+        Session::open_settling(rt, alloc, opening, Settling::Never)
+    }
+
+    /// The same, and says whether what requests take is settled. If so, `finish_measured` does that; else it settles
+    /// nothing.
+    ///
+    /// # Errors
+    ///
+    /// As of `open_for_life`.
+    pub fn open_settling<R: Wait>(
+        rt: &R,
+        alloc: Global,
+        opening: Opening,
+        settling: Settling,
+    ) -> Result<Session<K>, OpenFault>
+        requires { K.level ≡ level_settling opening.gate opening.config settling }
+        ensures free { IfOk result (λ s. AreFree s.slots.items) }
+        ensures operators { IfOk result (λ s. s.operators.items ≡ opening.stations.items) }
+        ensures settings { OnOk result (SettledBy opening.config.limit_response opening.config opening.gate.shape.slots) }
+        ensures fault { IfErr result (IsOpenFault opening.config opening.gate.shape.slots opening.gate.shape.stations) }
+    {
         let Opening {
             config,
             gate,
@@ -182,7 +203,7 @@ impl<K: Naming> Session<K> {
             level,
             slots,
             stations,
-        } = Level::open_for_life(alloc, &config, gate, desk, passes, stations)?;
+        } = Level::open_settling(alloc, &config, settling, gate, desk, passes, stations)?;
         let operators = operators_of(alloc, stations)?;
         let slots = requests_of(rt, alloc, &level, slots)?;
         Ok(Session {
@@ -235,6 +256,17 @@ impl<K: Naming> Session<K> {
         ensures operators { self.new.operators.items ≡ self.old.operators.items }
     {
         self.slots[slot as usize].finish(rt, &self.level)
+    }
+
+    /// As `finish`, of a request that ran so many microseconds: what it took is settled before its seats go back, on a
+    /// level that was opened by `open_settling`. See `Request::finish_measured`.
+    pub fn finish_measured<R: Wait>(&mut self, rt: &R, slot: u32, micros: u64) -> Answer
+        requires is_slot { slot < K.level.gate.shape.slots }
+        ensures calls { CallsOne (Answers places.Runs) slot self.old.slots.items result self.new.slots.items }
+        ensures steps { (d : Token) → FinishesAs (slice_index_or self.old.slots.items slot d) result (slice_index_or self.new.slots.items slot d) }
+        ensures operators { self.new.operators.items ≡ self.old.operators.items }
+    {
+        self.slots[slot as usize].finish_measured(rt, &self.level, micros)
     }
 
     /// What names the slot's newest request for ever.

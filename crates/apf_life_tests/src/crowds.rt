@@ -278,12 +278,12 @@ fn all_alike<R: Abort>(rt: &R, board: &Board) -> (u64, u64) {
     (executed, cancelled)
 }
 
-// Each request has one decision, whoever was told it, early or late. Late cancels wrote nothing, and some were late.
-#[test]
-fn a_hundred_thousand_requests_over_eight_slots(rt: HostRuntime) {
-    let board = Board::new(&rt, rt.alloc());
-    let report = live(&rt, rt.alloc(), &board);
-    let (executed, cancelled) = all_alike(&rt, &board);
+// Each request has one decision, whoever was told it, early or late. Late cancels wrote nothing. Tells whether some were
+// late, some were cancelled, and some were dispatched: where no thread overlapped another, none is.
+fn one_decision_each<R: Threads + Wait + Abort + Sync>(rt: &R, alloc: Global) -> bool {
+    let board = Board::new(rt, alloc);
+    let report = live(rt, alloc, &board);
+    let (executed, cancelled) = all_alike(rt, &board);
     let counts = report.words.counts();
     assert_eq!(rt; executed.saturating_add(cancelled), 100_000);
     assert_eq!(rt; (counts.executed, counts.cancelled), (executed, cancelled));
@@ -298,9 +298,20 @@ fn a_hundred_thousand_requests_over_eight_slots(rt: HostRuntime) {
         stats.dispatched.saturating_add(stats.struck)
     );
     let late = board.late.load(Ordering::SeqCst);
-    assert!(rt;
-        late > 0 && cancelled > 0 && stats.dispatched > 0,
-        "{late} were late, {cancelled} were cancelled, {} were dispatched",
-        stats.dispatched
-    );
+    late > 0 && cancelled > 0 && stats.dispatched > 0
+}
+
+// Goes on until threads overlapped so.
+fn until_they_overlap<R: Threads + Wait + Abort + Sync>(rt: &R, alloc: Global) {
+    for _turn in 0..50 {
+        if one_decision_each(rt, alloc) {
+            return;
+        }
+    }
+    panic!(rt; "in no turn some were late, some cancelled and some dispatched")
+}
+
+#[test]
+fn a_hundred_thousand_requests_over_eight_slots(rt: HostRuntime) {
+    until_they_overlap(&rt, rt.alloc());
 }

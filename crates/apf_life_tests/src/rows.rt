@@ -1,12 +1,12 @@
 //! Worked calls over a few slots.
 
-ghost use Rattle.std.specs.Prelude.{◌≡◌, length};
-ghost use Rattle.apf_life_session.specs.Openings.{level_of};
+ghost use Rattle.std.specs.Prelude.{◌≡◌, ◌<◌, length};
+ghost use Rattle.apf_life_session.specs.Openings.{level_of, level_settling};
 
 use apf_book::LifeEvent;
 use apf_gate::{Cancel, Close, Ticket};
 use apf_life::{Naming, Report};
-use apf_life_session::{Answer, Opening, Place, Session};
+use apf_life_session::{Answer, Opening, Place, Session, Settling};
 use apf_model::{Ask, Config, Response};
 use apf_words::Decision;
 use std::alloc::Global;
@@ -206,6 +206,68 @@ fn tried<K: Naming, R: Wait + Abort>(rt: &R, alloc: Global, opening: Opening)
     assert_eq!(rt; counts.cancelled, 0);
 }
 
+// One seat and two queues, which two flows enter, two requests each, after one that takes the seat. Where what requests
+// take is settled, a long one of the first flow lets both of the other flow go before its flow's next one; else the flows
+// take turns. The one that took the seat on arrival is never charged.
+fn by_time<K: Naming, R: Wait + Abort>(
+    rt: &R,
+    alloc: Global,
+    opening: Opening,
+    settling: Settling,
+    third: u32,
+)
+    requires level { K.level ≡ level_settling opening.gate opening.config settling }
+    requires slots { opening.gate.shape.slots ≡ 5 }
+    requires stations { opening.gate.shape.stations ≡ 1 }
+    requires third { third < 5 }
+{
+    let Ok(mut session) = Session::<K>::open_settling(rt, alloc, opening, settling) else {
+        panic!(rt; "opens")
+    };
+    let one = Ask { width: 1, hash: 0 };
+    let other = Ask { width: 1, hash: 1 };
+    assert_eq!(rt; session.finish_measured(rt, 0, 1), Answer::Wrong);
+    assert_eq!(rt; session.arrive(rt, 0, one), (Answer::Run, None));
+    for (slot, ask, queue) in [(1, one, 0), (2, one, 0), (3, other, 1), (4, other, 1)] {
+        let (answer, event) = session.arrive(rt, slot, ask);
+        assert_eq!(rt; answer, Answer::Waits);
+        assert_eq!(rt; event, Some(LifeEvent::Enter(session.ticket(slot), queue)));
+    }
+    assert_eq!(rt; session.finish_measured(rt, 1, 1), Answer::Wrong);
+    assert_eq!(rt;
+        session.finish_measured(rt, 0, 1000),
+        Answer::Released(true)
+    );
+    assert_eq!(rt; session.poll(rt, 1), Answer::Run);
+    assert_eq!(rt;
+        session.finish_measured(rt, 1, 100),
+        Answer::Released(false)
+    );
+    assert_eq!(rt; session.poll(rt, 3), Answer::Run);
+    assert_eq!(rt; session.finish_measured(rt, 3, 3), Answer::Released(false));
+    assert_eq!(rt; session.poll(rt, third), Answer::Run);
+    let report = ended(rt, alloc, session);
+    assert_eq!(rt; report.words.counts().executed, 4);
+}
+
+// Opens a level of five slots for that.
+fn open_two_queues<R: Abort>(rt: &R, alloc: Global) -> Opening
+    ensures slots { result.gate.shape.slots ≡ 5 }
+    ensures stations { result.gate.shape.stations ≡ 1 }
+{
+    let config = Config {
+        limit: 1,
+        queues: 2,
+        hand_size: 1,
+        queue_length_limit: 10,
+        limit_response: Response::Queue,
+    };
+    let Ok(opening) = Opening::new(alloc, &config, 5, 1) else {
+        panic!(rt; "opens")
+    };
+    opening
+}
+
 // What a level answers to one call after another.
 #[derive(Clone, Copy)]
 enum Row {
@@ -214,6 +276,8 @@ enum Row {
     LateReader,
     Rejected,
     Tried,
+    ByTime,
+    ByCosts,
 }
 
 fn play<R: Wait + Abort>(rt: &R, alloc: Global, row: Row) {
@@ -238,6 +302,14 @@ fn play<R: Wait + Abort>(rt: &R, alloc: Global, row: Row) {
             let opening = open(rt, alloc, Response::Queue);
             tried::<Brand, R>(rt, alloc, opening)
         }
+        Row::ByTime => {
+            let opening = open_two_queues(rt, alloc);
+            by_time::<Brand, R>(rt, alloc, opening, Settling::Told, 4)
+        }
+        Row::ByCosts => {
+            let opening = open_two_queues(rt, alloc);
+            by_time::<Brand, R>(rt, alloc, opening, Settling::Never, 2)
+        }
     }
 }
 
@@ -254,6 +326,16 @@ fn the_struck_the_rejected_and_the_late_are_counted(rt: HostRuntime) {
 #[test]
 fn a_late_reader_is_told_what_it_missed(rt: HostRuntime) {
     play(&rt, rt.alloc(), Row::LateReader);
+}
+
+#[test]
+fn what_a_request_took_is_settled_with_its_queue(rt: HostRuntime) {
+    play(&rt, rt.alloc(), Row::ByTime);
+}
+
+#[test]
+fn and_is_not_where_nothing_is_settled(rt: HostRuntime) {
+    play(&rt, rt.alloc(), Row::ByCosts);
 }
 
 #[test]

@@ -1,5 +1,5 @@
 -- A level as a plain value, as contracts see it, and what its calls answer.
-use Rattle.std.specs.Prelude.{◌≡◌, ◌≢◌, ◌<◌, ◌⊎◌, ◌*◌, max, min, ℕ, Bool, false, List, length, slice_get, slice_set, Option, Some, None}
+use Rattle.std.specs.Prelude.{◌≡◌, ◌≢◌, ◌<◌, ◌⊎◌, ℕ, Bool, false, List, length, slice_get, slice_set, Option, Some, None}
 use Rattle.apf_words.specs.declared.decision.Decision.TheVariants.{Execute, QueueFull}
 use Rattle.apf_flow.specs.Sizes.{Sizes}
 use Rattle.apf_history.specs.declared.events.Charge.{Charge}
@@ -7,7 +7,7 @@ use Rattle.apf_history.specs.declared.events.Event.{Event}
 use Rattle.apf_history.specs.declared.events.Event.TheVariants as events
 use Rattle.apf_model.specs.History.{has_arrived}
 use Rattle.apf_model.specs.Charged.{charge_of}
-use Rattle.apf_queue.specs.View.{queue_count, max_charge}
+use Rattle.apf_queue.specs.View.{queue_count}
 use Rattle.apf_model.specs.World.{width}
 use Rattle.apf_gate.specs.Records.{told_own}
 use Rattle.apf_gate.specs.Slots.{next_of}
@@ -20,6 +20,7 @@ use Rattle.apf_book.specs.Servings.{AreServings}
 use Rattle.apf_line.specs.declared.report.Report.{Report}
 use Rattle.apf_line.specs.Levels.{LifeId}
 use Rattle.apf_line.specs.Reports.{EndedAs}
+use Rattle.apf_line.specs.SeatTime.{seat_time_of}
 use Rattle.apf_line.specs.Stopped.{IsStopped}
 use Rattle.apf_line.specs.Tokens.{IsDone, IsInLine, IsRunning}
 use Rattle.apf_local.specs.declared.answer.Ask.{Ask}
@@ -184,10 +185,6 @@ abbrev pub IsFinish : ℕ → LocalView → Answer → LocalView → Type 0
 IsFinish slot l answers.Wrong l' = (l' ≡ l) × (slice_get l.places slot ≢ Some places.Runs)
 IsFinish slot l answers.Released l' = SlotMoves slot l l' Finishes
 IsFinish slot l answer l' = ⊥
-
--- what a request of this width took that ran so many microseconds, in microseconds of a seat: at least 1, and at most 2^46
-abbrev pub seat_time_of : ℕ → ℕ → ℕ
-seat_time_of wide micros = max 1 (min max_charge (wide * micros))
 
 -- of this very log: what a queue was charged for r is settled with this, and then Dispatches and Strikes alone came; or those alone, since nothing is kept of r, or it can be settled no more
 abbrev pub SettlesOn : LifeView → LifeBookView → ℕ → ℕ → LifeBookView → Type 0

@@ -13,8 +13,7 @@ ghost use Rattle.apf_line.specs.Reports.{Ended, EndedAs};
 ghost use Rattle.apf_local.specs.declared.answer.Place.TheVariants as places;
 ghost use Rattle.apf_words.specs.declared.decision.Decision.{Decision};
 ghost use Rattle.apf_local.specs.Worlds.{IsDecidedIn};
-ghost use Rattle.apf_local.specs.Levels.{id_of, SameLocal, GoesOn, EndsFrom, IsArrival, IsFinish, SettlesSlot, SpendsSlot, seat_time_of};
-ghost use Rattle.apf_queue.specs.View.{max_charge};
+ghost use Rattle.apf_local.specs.Levels.{id_of, SameLocal, GoesOn, EndsFrom, IsArrival, IsFinish, SettlesSlot, SpendsSlot};
 ghost use Rattle.apf_local.specs.Owners.{IsSlotOf, Steps, Sets};
 ghost use Rattle.apf_local.specs.Tries.{IsTry, IsReading, SlotsStay};
 ghost use Rattle.apf_local.specs.Openings.{IsOpened, CanOpen, IsOpenFault};
@@ -27,7 +26,7 @@ use crate::reading::read_place;
 use apf_book::{Charge, Copied, LifeEvent, LifeStats, Settling};
 use apf_flow::Dealer;
 use apf_gate::{Cancel, Close, Ticket};
-use apf_line::{Report, every_level_has_histories};
+use apf_line::{Report, every_level_has_histories, seat_time};
 use apf_model::Config;
 use apf_words::LevelWord;
 use std::alloc::{AllocError, Global};
@@ -483,13 +482,4 @@ impl LocalLevel {
         } = self;
         owner.end(alloc, places.len())
     }
-}
-
-/// What a request of this width took that ran so many microseconds, in microseconds of a seat: 1 to 2^46.
-pub fn seat_time(width: u32, micros: u64) -> u64
-    ensures value { result ≡ seat_time_of width micros }
-    ensures low { result ≤ max_charge }
-{
-    let taken = u128::from(width) * u128::from(micros);
-    taken.clamp(1, 1 << 46) as u64
 }

@@ -18,4 +18,4 @@ mod taking;
 pub use answer::{Answer, Ask, Place};
 pub use apf_book::{Charge, Settling};
 pub use fault::OpenFault;
-pub use level::{LocalLevel, seat_time};
+pub use level::LocalLevel;

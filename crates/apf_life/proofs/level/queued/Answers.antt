@@ -3,6 +3,7 @@ use Rattle.std.proofs.Common.{◌*◌, ◌<◌, ◌∙◌, ℕ, refl, sym, ap, s
 use Rattle.std.specs.Prelude.{◌==◌, not, slice_index_or}
 use Rattle.apf_flow.specs.Sizes.{Sizes}
 use Rattle.apf_gate.specs.Gauges.{IsShape}
+use Rattle.apf_book.specs.Life.{places_of}
 use Rattle.apf_gate.specs.Tokens.{GateId, desk_gate}
 use Rattle.apf_life.proofs.Histories.{beginning, is_beginning, first_ticket, opened}
 use Rattle.apf_life.proofs.level.queued.Goals as goal
@@ -23,7 +24,7 @@ invariant_of-queued g c =
         queues = kept.of_life.deck ∙ sym (ap (λ (s : Sizes). s.deck) c.requires.opening.sizes);
         limit = kept.of_life.limit ∙ sym c.requires.opening.queue_limit;
         hand = made.hand ∙ sym (ap (λ (s : Sizes). s.hand) c.requires.opening.sizes);
-        settles = ap (λ (n : ℕ). not (n == 0)) made.places ∙ sym c.requires.opening.settles;
+        settles = ap (λ (n : ℕ). not (n == 0)) made.places ∙ ap (λ (n : ℕ). not (places_of c.args.settling n == 0)) c.requires.slots ∙ sym c.requires.opening.settles;
       };
       stopped = (opened c.every_level_has_histories.ensures).begins v c.in_ok-book.book refl kept;
       room = made.room ∙ ap (λ (n : ℕ). 2 * n) c.requires.slots;

@@ -1,5 +1,5 @@
 -- The gate that was opened is the level's.
-use Rattle.apf_life_session.specs.Openings.{level_of}
+use Rattle.apf_life_session.specs.Openings.{level_of, level_settling}
 use Rattle.apf_life_tests.proofs.rows.play.Given as goal
 
 abbrev pub ghosts-one_after_another : goal.ghosts-one_after_another
@@ -16,3 +16,6 @@ ghosts-rejected g a = record { level = level_of a.opening.gate a.opening.config 
 
 abbrev pub ghosts-tried : goal.ghosts-tried
 ghosts-tried g a = record { level = level_of a.opening.gate a.opening.config }
+
+abbrev pub ghosts-by_time : goal.ghosts-by_time
+ghosts-by_time g a = record { level = level_settling a.opening.gate a.opening.config a.settling }

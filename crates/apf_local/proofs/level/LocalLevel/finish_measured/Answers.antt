@@ -7,7 +7,8 @@ use Rattle.apf_gate.specs.Tokens.{PassToken}
 use Rattle.apf_book.specs.LifeBook.{IsLifeKept}
 use Rattle.apf_local.specs.declared.answer.Place.{Place}
 use Rattle.apf_local.specs.declared.answer.Place.TheVariants as places
-use Rattle.apf_local.specs.Levels.{LocalView, SameLocal, SlotMoves, Finishes, SettlesOn, seat_time_of}
+use Rattle.apf_local.specs.Levels.{LocalView, SameLocal, SlotMoves, Finishes, SettlesOn}
+use Rattle.apf_line.specs.SeatTime.{seat_time_of}
 use Rattle.apf_local.specs.Owners.{SameOwner}
 use Rattle.apf_local.proofs.Beginning.{opened}
 use Rattle.apf_local.proofs.Charged.{settles_on}

@@ -6,7 +6,8 @@ use Rattle.apf_model.specs.World.{width}
 use Rattle.apf_book.specs.LifeBook.{IsLifeKept}
 use Rattle.apf_local.specs.declared.answer.Place.{Place}
 use Rattle.apf_local.specs.declared.answer.Place.TheVariants as places
-use Rattle.apf_local.specs.Levels.{LocalView, SameLocal, SpendsOn, seat_time_of}
+use Rattle.apf_local.specs.Levels.{LocalView, SameLocal, SpendsOn}
+use Rattle.apf_line.specs.SeatTime.{seat_time_of}
 use Rattle.apf_local.proofs.Beginning.{opened}
 use Rattle.apf_local.proofs.Charged.{spends_on}
 use Rattle.apf_local.proofs.Slots.{owner_then, local_stays}

@@ -20,7 +20,7 @@ use Rattle.apf_gate.specs.StationCalls.{CancelsTo, ClosesTo}
 use Rattle.apf_gate.specs.Traces.{entry, NoneOf, Made, MadeFirstClose}
 use Rattle.apf_gate.specs.Tokens.{GateId, StationToken, station_gate}
 use Rattle.apf_gate.specs.Ends.{WroteCancelled, ClosedFirst}
-use Rattle.apf_gate.proofs.Traces.{made_own, close_own}
+use Rattle.apf_run.proofs.Makers.{made_own, close_own}
 use Rattle.apf_run.specs.Plans.{IsNamed, SomeCloses, SetTo, IsFaithful}
 
 -- the Station made one step more, which was this, after steps of others

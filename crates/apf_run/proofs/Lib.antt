@@ -1,3 +1,4 @@
+pub mod Makers
 pub mod Faithful
 pub mod Opened
 pub mod Crews

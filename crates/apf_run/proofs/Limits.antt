@@ -7,7 +7,7 @@ use Rattle.apf_gate.specs.declared.record.Actor.{Actor}
 use Rattle.apf_gate.specs.declared.record.Actor.TheVariants.{OfPass, OfDesk, OfStation}
 use Rattle.apf_gate.specs.declared.record.Entry.{Entry}
 use Rattle.apf_gate.specs.Traces.{entry, world_of, GoesOn, Made, IsToken, MayMake, AreMade}
-use Rattle.apf_gate.proofs.Traces.{made_own}
+use Rattle.apf_run.proofs.Makers.{made_own}
 
 -- a step leaves the limit, unless it is a Station's that sets one
 limit_step :

@@ -5,7 +5,7 @@ use Rattle.apf_book.specs.declared.stats.Stats.{Stats}
 use Rattle.apf_gate.specs.declared.counts.Counts.{Counts}
 use Rattle.apf_level.specs.declared.report.Counts.{Counts as BatchCounts}
 use Rattle.apf_level.specs.declared.report.Report.{Report}
-use Rattle.apf_run.specs.declared.totals.Totals.{Totals}
+use Rattle.apf_texts.specs.declared.totals.Totals.{Totals}
 
 -- the numbers of a batch's decisions, as those of a level for life
 abbrev pub wide_counts : BatchCounts → Counts

@@ -1,6 +1,5 @@
 pub use Rattle.apf_words.specs.Limits
 pub mod Asks
-pub mod Texts
 pub mod Services
 pub mod Plans
 pub mod Books

@@ -9,7 +9,7 @@ use Rattle.apf_model.specs.History.{request_of, queue_of, IsLegal}
 use Rattle.apf_model.specs.Order.{status}
 use Rattle.apf_book.specs.declared.overtaking.Wait.{Wait}
 use Rattle.apf_book.specs.Overtaken.{NeverEnters, IsWaitOf}
-use Rattle.apf_run.specs.Texts.{joined}
+use Rattle.apf_texts.specs.Texts.{joined}
 
 -- a log with its oldest event first, and the widths of its requests
 pub record Logged : Type 0 where

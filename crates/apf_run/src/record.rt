@@ -3,12 +3,12 @@
 ghost use Rattle.std.specs.Prelude.{◌≤◌, length};
 ghost use Rattle.apf_words.specs.Limits.{max_requests};
 
-use crate::line::Line;
 use crate::services::{Service, count_all, no_services};
 use apf_files::Request;
 use apf_level::{Counts, Level, Naming};
 use apf_model::Event;
 use apf_session::Follower;
+use apf_texts::Line;
 use apf_words::Decision;
 use std::alloc::{AllocError, Global};
 use std::sync::Wait;

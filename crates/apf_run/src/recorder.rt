@@ -7,15 +7,15 @@ ghost use Rattle.apf_files.specs.ScriptFile.{IsCommandInRange};
 ghost use Rattle.apf_session.specs.Openings.{level_of, CanOpen, IsOpenFault};
 ghost use Rattle.apf_session.specs.Requests.{AreNumbered};
 
-use crate::line::Line;
 use crate::record::Record;
-use crate::totals::Totals;
+use crate::totals::totals_of;
 use crate::waits::{Waits, waits_of};
 use apf_files::{Command, Request};
 use apf_gate::Close;
 use apf_level::Naming;
 use apf_model::{Event, Response};
 use apf_session::{Answer, OpenFault, Opening, Session};
+use apf_texts::{Line, Totals};
 use apf_words::{Decision, MAX_LIMIT};
 use std::alloc::{AllocError, Global};
 use std::sync::Wait;
@@ -188,7 +188,7 @@ impl<K: Naming> Recorder<K> {
     pub fn totals<R: Wait>(&mut self, rt: &R) -> Totals {
         let word = self.session.look();
         let stats = self.session.stats(rt);
-        Totals::new(word, self.record.counts(), self.record.undecided(), stats)
+        totals_of(word, self.record.counts(), self.record.undecided(), stats)
     }
 
     /// The log as it stands, and the widths of the requests.

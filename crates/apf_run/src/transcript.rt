@@ -2,14 +2,13 @@
 
 ghost use Rattle.std.specs.Prelude.{◌≡◌, ℕ, List, ◌++◌, OnOk};
 ghost use Rattle.std.specs.Io.KnownBytes.{Appends};
-ghost use Rattle.apf_run.specs.Texts.{lines_text, totals_text};
+ghost use Rattle.apf_texts.specs.Texts.{lines_text, totals_text};
 ghost use Rattle.apf_run.specs.Services.{services_text};
 ghost use Rattle.apf_run.specs.Waits.{IsWaitsText};
 
-use crate::line::{Line, write_lines};
 use crate::services::{Service, write_services};
-use crate::totals::Totals;
 use crate::waits::Waits;
+use apf_texts::{Line, Totals, write_lines};
 use std::io;
 use std::io::Write;
 use thiserror::Error;

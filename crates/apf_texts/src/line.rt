@@ -2,7 +2,7 @@
 
 ghost use Rattle.std.specs.Prelude.{◌≡◌, OnOk};
 ghost use Rattle.std.specs.Io.KnownBytes.{Appends};
-ghost use Rattle.apf_run.specs.Texts.{decision_name as name_of, line_text, lines_text};
+ghost use Rattle.apf_texts.specs.Texts.{decision_name as name_of, line_text, lines_text};
 
 use apf_words::Decision;
 use std::io;

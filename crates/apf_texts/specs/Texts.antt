@@ -1,12 +1,12 @@
--- The texts of a transcript, of the services and of a book.
+-- The texts of a transcript and of a book.
 use Rattle.std.specs.Prelude.{ℕ, ◌+◌, List, [], ◌∷◌, ◌++◌, Bool, if◌then◌else◌, codes}
 use Rattle.std.specs.List.{flat_map}
 use Rattle.std.specs.Fmt.{decimal}
 use Rattle.apf_words.specs.declared.decision.Decision.{Decision}
 use Rattle.apf_words.specs.declared.decision.Decision.TheVariants.{Execute, QueueFull, Closed, Cancelled, ConcurrencyLimit}
-use Rattle.apf_run.specs.declared.line.Line.{Line}
-use Rattle.apf_run.specs.declared.line.Line.TheVariants as lines
-use Rattle.apf_run.specs.declared.totals.Totals.{Totals}
+use Rattle.apf_texts.specs.declared.line.Line.{Line}
+use Rattle.apf_texts.specs.declared.line.Line.TheVariants as lines
+use Rattle.apf_texts.specs.declared.totals.Totals.{Totals}
 
 -- how a decision is written
 abbrev pub decision_name : Decision → List ℕ

@@ -1,8 +1,8 @@
 -- The text of the lines so far was written.
 use Rattle.std.proofs.Common.{take}
 use Rattle.std.specs.Io.KnownBytes.{Appends}
-use Rattle.apf_run.specs.Texts.{lines_text}
-use Rattle.apf_run.proofs.line.write_lines.Given as goal
+use Rattle.apf_texts.specs.Texts.{lines_text}
+use Rattle.apf_texts.proofs.line.write_lines.Given as goal
 
 abbrev pub invariant-loop-line : goal.invariant-loop-line
 invariant-loop-line g l = Appends (g.W.Write.contents l.initial.out) (g.W.Write.contents l.out) (lines_text (take l.line-index l.lines))

@@ -1,3 +1,4 @@
+pub mod Judged
 pub mod Naturals
 pub mod Taken
 pub mod Logs

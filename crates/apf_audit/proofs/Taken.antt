@@ -3,8 +3,8 @@ use Rattle.std.proofs.Common.{◌≡◌, List, [], ◌∷◌, ◌++◌, Option, 
 use Rattle.std.specs.Prelude.{Ok, option_map, option_to_list}
 use Rattle.std.proofs.lemmas.List.{map-append}
 use Rattle.std.proofs.lemmas.List.Elements.{All-push}
-use Rattle.apf_files.proofs.Judged.{with_front, with_front-before}
-use Rattle.apf_files.specs.FirstFault.{before}
+use Rattle.apf_files.specs.FirstFault.{with_front, before}
+use Rattle.apf_audit.proofs.Judged.{with_front-before}
 use Rattle.apf_audit.specs.Arrivals.{Entry, entry}
 use Rattle.apf_audit.specs.AuditEvent.{Event, event, IsTakenInRange, IsInRangeIfTaken}
 use Rattle.apf_audit.specs.AuditLog.{before_taken}

@@ -39,10 +39,13 @@ pub named : (is_known : List ℕ → Bool) (ms : Members) → all_known is_known
 named is_known no_members h = absurd cc
 named is_known (member k d ms) h = named_by (is_known k) is_known k d ms refl h (named is_known ms)
 
+pub unknown_named : (keys : Keys) (d : Data) (ms : Members) → as_object d ≡ Some ms → all_known (is_key_of keys) ms ≡ false → NamesUnknown keys d
+unknown_named keys d ms is all = (ms, is, named (is_key_of keys) ms all)
+
 known_some : {F C : Type 0} (keys : Keys) (d : Data) (unknown_key fault : F) (ms : Members) (b : Bool) → as_object d ≡ Some ms
     → all_known (is_key_of keys) ms ≡ b → (if b then Ok ms else Err unknown_key) ≡ Err fault → (NamesUnknown keys d → unknown_key ≡ fault → C) → C
 known_some keys d unknown_key fault ms true is all h unknown = absurd cc
-known_some keys d unknown_key fault ms false is all h unknown = unknown (ms, is, named (is_key_of keys) ms all) cc
+known_some keys d unknown_key fault ms false is all h unknown = unknown (unknown_named keys d ms is all) cc
 
 -- what is wrong where a value is no object of known keys
 pub known_by : {F C : Type 0} (keys : Keys) (d : Data) (not_object unknown_key fault : F) (o : Option Members) → as_object d ≡ o

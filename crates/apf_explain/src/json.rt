@@ -11,6 +11,7 @@ use crate::found::Found;
 use crate::place::Place;
 use crate::reason::{Strange, file_reason};
 use crate::wanted::Wanted;
+use apf_files::every_text_is_what_was_read;
 use serde_json::{Error, Value};
 use std::alloc::Global;
 use std::io;
@@ -64,6 +65,7 @@ pub(crate) fn explain_not_json<W: Write>(
     ensures line { OnOk result (IsNotJsonLine name.now bytes.now (W.contents out.old) (W.contents out.new)) }
     ensures memory { result ≡ Err ExplainFault.NoMemory → out.new ≡ out.old }
 {
+    every_text_is_what_was_read();
     match Value::from_slice(alloc, bytes) {
         Ok(_) => Ok(writeln!(out, "{name}: this is not JSON")?),
         Err(e) if e.is_memory() => Err(ExplainFault::NoMemory),

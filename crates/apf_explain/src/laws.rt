@@ -1,16 +1,22 @@
 //! What the readers' faults say of the values that the lines name. The functions run no code: each contract is a law.
 
-ghost use Rattle.std.specs.Prelude.{◌≡◌, ℕ, List, Err};
-ghost use Rattle.serde_json.specs.Data.{Data};
+ghost use Rattle.std.specs.Prelude.{◌≡◌, ℕ, false, List, Option, Some, None, Err};
+ghost use Rattle.serde_json.specs.Data.{Data, Members};
+ghost use Rattle.serde_json.specs.Find.{as_object};
 ghost use Rattle.apf_files.specs.ConfigFile.{config_of};
-ghost use Rattle.apf_files.specs.RequestsFile.{requests_of};
+ghost use Rattle.apf_files.specs.JsonFile.{all_known};
+ghost use Rattle.apf_files.specs.RequestsFile.{flow_of, requests_of};
 ghost use Rattle.apf_files.specs.ScriptFile.{script_of};
 ghost use Rattle.apf_files.specs.declared.config.ConfigFault.{ConfigFault};
 ghost use Rattle.apf_files.specs.declared.requests.RequestFault.{RequestFault};
 ghost use Rattle.apf_files.specs.declared.script.ScriptFault.{ScriptFault};
 ghost use Rattle.apf_traces.specs.TraceFile.{trace_of};
 ghost use Rattle.apf_traces.specs.declared.fault.TraceFault.{TraceFault};
-ghost use Rattle.apf_explain.specs.Shown.{IsConfigShown, IsRequestsShown, IsScriptShown};
+ghost use Rattle.apf_explain.specs.FlowFaults.{flow_fault_of};
+ghost use Rattle.apf_explain.specs.Keys.{is_key_of};
+ghost use Rattle.apf_explain.specs.Shown.{IsConfigShown, IsRequestsShown, IsScriptShown, NamesUnknown};
+ghost use Rattle.apf_explain.specs.declared.flow.FlowFault.{FlowFault};
+ghost use Rattle.apf_explain.specs.declared.keys.Keys.{Keys};
 ghost use Rattle.apf_explain.specs.TraceShown.{IsTraceShown};
 ghost use Rattle.apf_audit.specs.AuditLog.{log_of};
 ghost use Rattle.apf_audit.specs.declared.choice.Choice.{Choice};
@@ -45,4 +51,15 @@ pub fn every_trace_fault_is_shown()
 /// they were received; of a request that arrives too late that it is one of the chosen, and does.
 pub fn every_audit_fault_is_shown()
     ensures { (choice : Choice) (bytes : List ℕ) (fault : AuditFault) → log_of choice bytes ≡ Err fault → IsAuditShown choice bytes fault }
+{}
+
+/// The law of a flow's fault: where a flow can't be told from its three values, one of the faults of flows is told.
+pub fn every_flow_fault_is_told()
+    ensures { (hash schema distinguisher : Option Data) → flow_of hash schema distinguisher ≡ None → (f : FlowFault) × (flow_fault_of hash schema distinguisher ≡ Some f) }
+{}
+
+/// The law of an unknown key: where not each key of an object is known, the one that is named is unknown, and is a key of
+/// the object.
+pub fn every_unknown_key_is_named()
+    ensures { (keys : Keys) (d : Data) (ms : Members) → as_object d ≡ Some ms → all_known (is_key_of keys) ms ≡ false → NamesUnknown keys d }
 {}

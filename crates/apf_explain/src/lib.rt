@@ -53,8 +53,9 @@ pub use flow::write_bad_flow;
 pub use json::{value_at, write_unwanted};
 pub use keys::{Keys, is_arrival_key, write_unknown_key};
 pub use laws::{
-    every_audit_fault_is_shown, every_config_fault_is_shown, every_request_fault_is_shown,
-    every_script_fault_is_shown, every_trace_fault_is_shown,
+    every_audit_fault_is_shown, every_config_fault_is_shown, every_flow_fault_is_told,
+    every_request_fault_is_shown, every_script_fault_is_shown, every_trace_fault_is_shown,
+    every_unknown_key_is_named,
 };
 pub use likeness::begins_as_trace;
 pub use lines::write_column;

@@ -14,7 +14,7 @@ use crate::json::{value_at, write_unwanted};
 use crate::place::Place;
 use crate::reason::line_reason_in;
 use crate::wanted::Wanted;
-use apf_files::value_of;
+use apf_files::{every_text_is_what_was_read, value_of};
 use apf_traces::first_line;
 use serde_json::{Error, Value};
 use std::alloc::Global;
@@ -110,6 +110,7 @@ fn write_stop<W: Write>(
     ensures line { OnOk result (IsColumnLine (place_text place.entry.name.now place.entry.part) (Some bytes.now) (value_of_bytes bytes.now) (W.contents out.old) (W.contents out.new)) }
     ensures memory { result ≡ Err ExplainFault.NoMemory → out.new ≡ out.old }
 {
+    every_text_is_what_was_read();
     match Value::from_slice(alloc, bytes) {
         Ok(_) => Ok(writeln!(out, "{place}this is not JSON")?),
         Err(e) if e.is_memory() => Err(ExplainFault::NoMemory),

@@ -13,7 +13,7 @@ use crate::json::{items_of, value_at, write_unwanted};
 use crate::keys::{Keys, write_unknown_key};
 use crate::place::Place;
 use crate::wanted::Wanted;
-use apf_files::{MAX_WORK, RequestFault};
+use apf_files::{MAX_WORK, RequestFault, every_item_is_counted};
 use apf_words::MAX_WIDTH;
 use serde_json::Value;
 use std::io;
@@ -73,6 +73,7 @@ fn request_at(value: Option<&Value>, number: u32) -> Option<&Value>
 fn last_of(value: Option<&Value>) -> u64
     ensures { result ≡ last_number (option_map (λ whole. view whole.now) value.entry) }
 {
+    every_item_is_counted();
     match items_of(value) {
         Some(items) => (items.len() as u64).saturating_sub(1),
         None => 0,

@@ -11,7 +11,7 @@ use crate::json::{explain_not_json, items_of};
 use crate::members::write_request;
 use crate::place::{Part, Place};
 use crate::reason::Strange;
-use apf_files::{RequestFault, value_of};
+use apf_files::{RequestFault, every_item_is_counted, value_of};
 use apf_words::MAX_REQUESTS;
 use serde_json::Value;
 use std::alloc::Global;
@@ -28,6 +28,7 @@ const STRANGE: Strange = Strange {
 fn write_too_many<W: Write>(out: &mut W, place: Place<'_>, value: Option<&Value>) -> io::Result<()>
     ensures { OnOk result (Appends (W.contents out.old) (W.contents out.new) (too_many_text (place_text place.entry.name.now place.entry.part) (option_map (λ value. view value.now) value.entry))) }
 {
+    every_item_is_counted();
     match items_of(value) {
         Some(items) => {
             let count = items.len();

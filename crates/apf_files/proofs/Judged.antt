@@ -1,11 +1,6 @@
 -- A list judged from its front.
 use Rattle.std.proofs.Common.{◌≡◌, List, [], ◌∷◌, ◌++◌, append_assoc, refl, sym, ap, Result, Ok, Err}
-use Rattle.apf_files.specs.FirstFault.{before}
-
--- the values that were read, in front of what the rest is
-abbrev pub with_front : {A F : Type 0} → List A → Result (List A) F → Result (List A) F
-with_front xs (Ok others) = Ok (xs ++ others)
-with_front xs (Err fault) = Err fault
+use Rattle.apf_files.specs.FirstFault.{before, with_front}
 
 pub with_front-nil : {A F : Type 0} (rest : Result (List A) F) → with_front [] rest ≡ rest
 with_front-nil (Ok others) = refl

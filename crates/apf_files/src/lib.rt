@@ -11,12 +11,14 @@
 
 mod config;
 mod json;
+mod laws;
 mod requests;
 mod script;
 
 pub use apf_model::{Config, Response};
 pub use config::{ConfigFault, ConfigKey, MAX_HAND_SIZE, is_config_key, read_config};
 pub use json::{text_at, value_of};
+pub use laws::{every_item_is_counted, every_key_is_a_member, every_text_is_what_was_read};
 pub use requests::{
     MAX_WORK, Request, RequestFault, flow_of, is_request_key, number_or, read_requests,
 };

@@ -4,9 +4,9 @@ use Rattle.std.specs.Fmt.{decimal}
 use Rattle.apf_model.specs.declared.config.Config.{Config}
 use Rattle.apf_model.specs.declared.response.Response.{Response}
 use Rattle.apf_model.specs.declared.response.Response.TheVariants as responses
-use Rattle.apf_run.specs.Texts.{decision_name, line_text}
-use Rattle.apf_run.specs.declared.line.Line.{Line}
-use Rattle.apf_run.specs.declared.line.Line.TheVariants as lines
+use Rattle.apf_texts.specs.Texts.{decision_name, line_text}
+use Rattle.apf_texts.specs.declared.line.Line.{Line}
+use Rattle.apf_texts.specs.declared.line.Line.TheVariants as lines
 use Rattle.apf_protocol.specs.declared.answer.Answer.{Answer}
 use Rattle.apf_protocol.specs.declared.answer.Answer.TheVariants.{Arrives, Tries, Finishes, NotRunning, Spends, SpendsNothing, Cancels, Limits, ClosesFirst, ClosesAlready, Dispatches, Strikes, Queue, End}
 use Rattle.apf_protocol.specs.declared.answer.Arrived.{Arrived}

@@ -5,7 +5,7 @@ ghost use Rattle.std.specs.Io.KnownBytes.{Appends};
 ghost use Rattle.apf_protocol.specs.Texts.{answer_text, arrived_line, tried_name, queue_text, first_text};
 
 use apf_model::{Config, Response};
-use apf_run::{Line, decision_name, write_line};
+use apf_texts::{Line, decision_name, write_line};
 use apf_words::Decision;
 use std::io;
 use std::io::Write;

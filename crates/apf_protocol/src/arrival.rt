@@ -9,7 +9,7 @@ ghost use Rattle.apf_protocol.specs.Objects.{asked_of, arrival_in, IsArrivalInRa
 
 use crate::fault::{FaultKind, Found, LineFault};
 use apf_explain::{is_arrival_key, line_reason};
-use apf_files::{flow_of, number_or};
+use apf_files::{every_key_is_a_member, flow_of, number_or};
 use apf_model::Ask;
 use apf_words::{MAX_COST, MAX_WIDTH};
 use serde_json::{Error, Map, Value};
@@ -29,6 +29,7 @@ pub struct Arrival {
 fn has_arrival_keys(members: &Map<String, Value>) -> bool
     ensures { result ≡ all_known is_key (members_view members.now.entries) }
 {
+    every_key_is_a_member();
     members.keys().all(|name| is_arrival_key(name.as_str()))
 }
 

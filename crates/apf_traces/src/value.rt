@@ -7,7 +7,7 @@ ghost use Rattle.apf_traces.specs.TraceValue.{is_key, number_at as number_at_key
 
 use crate::fault::TraceFault;
 use crate::request::{FlowNames, TraceRequest};
-use apf_files::{flow_of, number_or, text_at};
+use apf_files::{every_key_is_a_member, flow_of, number_or, text_at};
 use apf_times::{MOST_ARRIVES_AT, MOST_RUNS_FOR};
 use apf_words::{MAX_COST, MAX_WIDTH};
 use serde_json::{Map, Value};
@@ -32,6 +32,7 @@ pub fn is_trace_key(name: &str) -> bool
 fn has_trace_keys(members: &Map<String, Value>) -> bool
     ensures { result ≡ all_known is_key (members_view members.now.entries) }
 {
+    every_key_is_a_member();
     members.keys().all(|name| is_trace_key(name.as_str()))
 }
 

@@ -1,6 +1,6 @@
 use Rattle.std.proofs.Common.{◌≡◌, ◌≤◌, ◌+◌, All, map, vec_len}
 use Rattle.std.specs.Vec.Iter.{into_iter_items, into_iter_len}
-use Rattle.apf_files.proofs.Judged.{with_front}
+use Rattle.apf_files.specs.FirstFault.{with_front}
 use Rattle.apf_audit.specs.AuditEvent.{event, IsTakenInRange}
 use Rattle.apf_audit.specs.Arrivals.{entry, entries_from, IsRequestInRange}
 use Rattle.apf_audit.specs.Runs.{run_in}

@@ -1,5 +1,5 @@
 use Rattle.std.proofs.Common.{◌∙◌, rules, arith}
-use Rattle.apf_files.proofs.Judged.{with_front-nil}
+use Rattle.apf_audit.proofs.Judged.{with_front-nil}
 use Rattle.apf_audit.specs.AuditLog.{events_of}
 use Rattle.apf_audit.proofs.Taken.{taken_more, kept}
 use Rattle.apf_audit.proofs.events.taken_events.Goals as goal

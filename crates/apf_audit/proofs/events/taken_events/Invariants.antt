@@ -1,5 +1,5 @@
 use Rattle.std.proofs.Common.{◌≡◌, ◌≤◌, ◌+◌, All, length, map}
-use Rattle.apf_files.proofs.Judged.{with_front}
+use Rattle.apf_files.specs.FirstFault.{with_front}
 use Rattle.apf_traces.specs.TraceFile.{lines_of}
 use Rattle.apf_audit.specs.AuditEvent.{event, IsTakenInRange}
 use Rattle.apf_audit.specs.AuditLog.{events_of, events_from}

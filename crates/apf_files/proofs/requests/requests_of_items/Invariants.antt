@@ -1,7 +1,7 @@
 use Rattle.std.proofs.Common.{◌≡◌, All, drop, vec_len}
 use Rattle.serde_json.specs.View.{items_view}
 use Rattle.apf_files.specs.RequestsFile.{requests_from, IsRequestInRange}
-use Rattle.apf_files.proofs.Judged.{with_front}
+use Rattle.apf_files.specs.FirstFault.{with_front}
 use Rattle.apf_files.proofs.requests.requests_of_items.Given as goal
 
 abbrev pub invariant-loop-i : goal.invariant-loop-i

@@ -1,7 +1,8 @@
 use Rattle.std.proofs.Common.{◌≡◌, ◌+◌, ◌<◌, [], ◌∷◌, ◌++◌, length, length-drop, vec_len, sym, ap, ◌∙◌, arith, rules, Err, lit≤}
 use Rattle.std.proofs.lemmas.List.Elements.{All-push}
 use Rattle.apf_files.specs.ScriptFile.{script_of, lines_from, IsCommandInRange}
-use Rattle.apf_files.proofs.Judged.{with_front, with_front-nil, with_front-before}
+use Rattle.apf_files.specs.FirstFault.{with_front}
+use Rattle.apf_files.proofs.Judged.{with_front-nil, with_front-before}
 use Rattle.apf_files.proofs.ScriptLines.{lines_from-too_long, lines_from-line, lines_from-truncated}
 use Rattle.apf_files.proofs.script.read_script.Goals as goal
 

@@ -1,6 +1,6 @@
 use Rattle.std.proofs.Common.{◌≡◌, ◌≤◌, ◌+◌, All, length, [], vec_len}
 use Rattle.apf_files.specs.ScriptFile.{script_of, lines_from, IsCommandInRange}
-use Rattle.apf_files.proofs.Judged.{with_front}
+use Rattle.apf_files.specs.FirstFault.{with_front}
 use Rattle.apf_files.proofs.script.read_script.Given as goal
 
 abbrev pub invariant-loop-rest : goal.invariant-loop-rest

@@ -1,5 +1,5 @@
 use Rattle.std.proofs.Common.{arith, rules, lit≤}
-use Rattle.apf_files.proofs.Judged.{with_front-nil}
+use Rattle.apf_traces.proofs.Judged.{with_front-nil}
 use Rattle.apf_traces.specs.TraceFile.{trace_of}
 use Rattle.apf_traces.proofs.trace.read_trace.Goals as goal
 

@@ -1,5 +1,5 @@
 use Rattle.std.proofs.Common.{◌≡◌, ◌≤◌, ◌+◌, All, length, map, vec_len}
-use Rattle.apf_files.proofs.Judged.{with_front}
+use Rattle.apf_files.specs.FirstFault.{with_front}
 use Rattle.apf_traces.specs.TraceValue.{entry, IsRequestInRange, IsNamed}
 use Rattle.apf_traces.specs.TraceFile.{trace_of, trace_from, lines_of, max_lines}
 use Rattle.apf_traces.proofs.trace.read_trace.Given as goal

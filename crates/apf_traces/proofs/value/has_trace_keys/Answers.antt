@@ -4,7 +4,6 @@ use Rattle.std.specs.Map.Iter.{TakesFirst, deref}
 use Rattle.std.proofs.lemmas.Iterator.Consumers.{YieldsList-from_shown}
 use Rattle.std.proofs.lemmas.Iterator.Search.{all_from_yields_List}
 use Rattle.apf_traces.specs.TraceValue.{is_key}
-use Rattle.apf_files.proofs.Keys.{list_all-keys_of}
 use Rattle.apf_traces.proofs.value.has_trace_keys.Goals as goal
 
 pub returns : goal.returns
@@ -12,4 +11,4 @@ returns c =
     all_from_yields_List (λ name. is_key (string_bytes name)) _ _ c.all.result c.all.ensures.ran
     (YieldsList-from_shown (TakesFirst deref) deref (λ s. s) (λ s t h. ap length h.0) (λ s x t h. h) c.keys.result)
     (λ x b q k. search (rules, tests))
-    ∙ ap (list_all (λ name. is_key (string_bytes name))) c.keys.ensures.rest ∙ list_all-keys_of is_key _
+    ∙ ap (list_all (λ name. is_key (string_bytes name))) c.keys.ensures.rest ∙ c.every_key_is_a_member.ensures is_key _

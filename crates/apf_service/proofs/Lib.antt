@@ -7,3 +7,4 @@ pub mod Obeying
 pub mod Parts
 pub mod Counting
 pub mod Faults
+mod Writing

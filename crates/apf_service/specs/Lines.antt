@@ -1,6 +1,7 @@
 -- What a live level does with one line.
-use Rattle.std.specs.Prelude.{◌≡◌, ◌≢◌, ◌⊎◌, ℕ, ◌-◌, ◌^◌, ◌<◌, List, [], ◌++◌, length, map, drop, reverse, max, nat_eq, if◌then◌else◌, Bool, false, Option, Some, None, IfSome, Result, Ok, Err}
+use Rattle.std.specs.Prelude.{◌≡◌, ◌≢◌, ◌⊎◌, ℕ, ◌-◌, ◌^◌, ◌<◌, List, [], ◌++◌, length, map, drop, reverse, max, nat_eq, if◌then◌else◌, Bool, false, Option, Some, None, IfSome, Result, Ok, Err, OnOk}
 use Rattle.std.specs.List.{flat_map}
+use Rattle.std.specs.Io.KnownBytes.{Appends}
 use Rattle.apf_words.specs.Level.{Level}
 use Rattle.apf_files.specs.FirstFault.{◌>>=◌}
 use Rattle.apf_gate.specs.StationSteps.{StationLoadsLevel}
@@ -10,8 +11,8 @@ use Rattle.apf_book.specs.Life.{LifeView}
 use Rattle.apf_book.specs.LifeBook.{IsLifeKept, IsLived}
 use Rattle.apf_book.specs.RecentEvents.{event_of, AreLifeStats}
 use Rattle.apf_local.specs.Levels.{LocalView}
-use Rattle.apf_run.specs.declared.totals.Totals.{Totals}
-use Rattle.apf_run.specs.Texts.{totals_text}
+use Rattle.apf_texts.specs.declared.totals.Totals.{Totals}
+use Rattle.apf_texts.specs.Texts.{totals_text}
 use Rattle.apf_protocol.specs.declared.answer.Answer.{Answer as Told}
 use Rattle.apf_protocol.specs.declared.answer.Answer.TheVariants.{End}
 use Rattle.apf_protocol.specs.declared.answer.Given.{Given}
@@ -31,6 +32,10 @@ use Rattle.apf_service.specs.Kept.{State, FollowsAll, is_there, slot_in}
 use Rattle.apf_service.specs.Replies.{reply_text, moves_text}
 use Rattle.apf_service.specs.Turns.{Turns, OperatorDoes}
 use Rattle.apf_service.specs.Metrics.{metrics_text}
+
+-- exactly this was written, if the call answered Ok; else nothing is known of how much
+abbrev pub WritesIfOk : {T E : Type 0} → Result T E → Option (List ℕ) → Option (List ℕ) → List ℕ → Type 0
+WritesIfOk result old new text = OnOk result (Appends old new text)
 
 -- a request is there under the number that a line names
 abbrev pub there_in : State → Option ℕ → Bool

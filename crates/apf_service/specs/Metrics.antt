@@ -1,7 +1,7 @@
 -- The numbers of a level in the text format of Prometheus, by the names of kube-apiserver.
 use Rattle.std.specs.Prelude.{ℕ, List, ◌++◌, codes, decimal}
 use Rattle.apf_words.specs.declared.decision.Decision.TheVariants.{QueueFull, ConcurrencyLimit, Closed, Cancelled}
-use Rattle.apf_run.specs.Texts.{decision_name}
+use Rattle.apf_texts.specs.Texts.{decision_name}
 use Rattle.apf_service.specs.declared.metrics.Family.{Family}
 use Rattle.apf_service.specs.declared.metrics.Family.TheVariants.{Waiting, Executing, Seats, Limit, Dispatched, Rejected}
 use Rattle.apf_service.specs.declared.tally.Tally.{Tally}

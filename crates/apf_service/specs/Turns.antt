@@ -13,7 +13,8 @@ use Rattle.apf_local.specs.declared.answer.Answer.{Answer}
 use Rattle.apf_local.specs.declared.answer.Answer.TheVariants as answers
 use Rattle.apf_local.specs.declared.answer.Ask.{Ask}
 use Rattle.apf_local.specs.declared.answer.Place.TheVariants.{Runs}
-use Rattle.apf_local.specs.Levels.{LocalView, SameLocal, GoesOn, IsArrival, IsFinish, SettlesSlot, SpendsSlot, seat_time_of}
+use Rattle.apf_local.specs.Levels.{LocalView, SameLocal, GoesOn, IsArrival, IsFinish, SettlesSlot, SpendsSlot}
+use Rattle.apf_line.specs.SeatTime.{seat_time_of}
 use Rattle.apf_local.specs.Owners.{Steps, Sets}
 use Rattle.apf_local.specs.Tries.{IsTry, SlotsStay}
 use Rattle.apf_protocol.specs.declared.answer.Answer.{Answer as Told}

@@ -14,7 +14,8 @@ use crate::queues::{recharge, width_of};
 use crate::replies::{Refusal, of_arrival, of_attempt, of_cancel, of_close, of_finish, of_spent};
 use crate::state::{Asked, ServiceState};
 use crate::tally::Tally;
-use apf_local::{Answer, Ask, Charge, LocalLevel, seat_time};
+use apf_line::seat_time;
+use apf_local::{Answer, Ask, Charge, LocalLevel};
 use apf_protocol::{Answer as Told, Arrival, Given};
 
 // Counts an arrival or an attempt that was answered so.

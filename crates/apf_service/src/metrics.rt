@@ -5,7 +5,7 @@ ghost use Rattle.std.specs.Io.KnownBytes.{Appends};
 ghost use Rattle.apf_service.specs.Metrics.{family_name, family_help, family_type, head_text, sample_text, family_text, rejected_text, gauges_text, rejections_text, end_text, metrics_text};
 
 use crate::tally::Tally;
-use apf_run::decision_name;
+use apf_texts::decision_name;
 use apf_words::Decision;
 use std::io;
 use std::io::Write;

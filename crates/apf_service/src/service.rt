@@ -11,7 +11,7 @@ ghost use Rattle.apf_protocol.specs.Texts.{answer_text};
 ghost use Rattle.apf_service.specs.Tallies.{slots_of, IsTallyOf, IsTallied, no_tally};
 ghost use Rattle.apf_service.specs.Kept.{state_of, slot_in, is_there as there, is_there_at as there_at, none_given, settling_by, queues_of, none_asked, FollowsAll};
 ghost use Rattle.apf_charges.specs.Charging.{opening_charges};
-ghost use Rattle.apf_service.specs.Lines.{there_in, words_in, command_in, IsFaultOf, AreNewEvents, Tells, TellsBook, TellsMetrics, Obeys, Serves, given_text};
+ghost use Rattle.apf_service.specs.Lines.{there_in, words_in, command_in, IsFaultOf, AreNewEvents, Tells, TellsBook, TellsMetrics, Obeys, Serves, WritesIfOk, given_text};
 
 use crate::acting::{arrive, attempt, cancel, close, finish, set_limit, spend};
 use crate::following::follow_all;
@@ -29,7 +29,7 @@ use apf_protocol::{
     Answer as Told, Command, FaultKind, FirstLine, Form, Given, Head, LineFault, read_command,
     read_form,
 };
-use apf_run::Totals;
+use apf_texts::Totals;
 use std::alloc::Global;
 use std::io;
 use std::io::Write;
@@ -216,7 +216,7 @@ impl Service {
         out: &mut W,
     ) -> io::Result<()>
         ensures same { (self.new.config ≡ self.old.config) × (self.new.name ≡ self.old.name) × (length self.new.level.places ≡ length self.old.level.places) }
-        ensures told { OnOk result (Tells line reply (state_of self.old.level self.old.notes) (Appends (W.contents out.old) (W.contents out.new)) (state_of self.new.level self.new.notes)) }
+        ensures told { Tells line reply (state_of self.old.level self.old.notes) (WritesIfOk result (W.contents out.old) (W.contents out.new)) (state_of self.new.level self.new.notes) }
     {
         let count = self.follow();
         write_told(out, line, reply, &self.room[..count])
@@ -229,7 +229,7 @@ impl Service {
     /// The writer's. Then nothing is known of how much was written.
     pub fn write_book<W: Write>(&mut self, out: &mut W) -> io::Result<()>
         ensures same { (self.new.config ≡ self.old.config) × (self.new.name ≡ self.old.name) × (length self.new.level.places ≡ length self.old.level.places) }
-        ensures told { OnOk result (TellsBook (state_of self.old.level self.old.notes) (Appends (W.contents out.old) (W.contents out.new)) (state_of self.new.level self.new.notes)) }
+        ensures told { TellsBook (state_of self.old.level self.old.notes) (WritesIfOk result (W.contents out.old) (W.contents out.new)) (state_of self.new.level self.new.notes) }
     {
         let word = self.level.look();
         self.level.has_a_history();
@@ -256,7 +256,7 @@ impl Service {
     // Writes the numbers for Prometheus.
     fn write_metrics<W: Write>(&mut self, out: &mut W) -> io::Result<()>
         ensures same { (self.new.config ≡ self.old.config) × (self.new.name ≡ self.old.name) × (length self.new.level.places ≡ length self.old.level.places) }
-        ensures told { OnOk result (TellsMetrics (string_bytes self.old.name) (state_of self.old.level self.old.notes) (Appends (W.contents out.old) (W.contents out.new)) (state_of self.new.level self.new.notes)) }
+        ensures told { TellsMetrics (string_bytes self.old.name) (state_of self.old.level self.old.notes) (WritesIfOk result (W.contents out.old) (W.contents out.new)) (state_of self.new.level self.new.notes) }
     {
         let word = self.level.look();
         write_metrics(out, self.name.as_str(), word.limit(), self.notes.tally)
@@ -266,7 +266,7 @@ impl Service {
     fn obey<W: Write>(&mut self, line: u64, command: Command, out: &mut W) -> io::Result<()>
         requires range { IsCommandInRange (length self.old.level.places) command }
         ensures same { (self.new.config ≡ self.old.config) × (self.new.name ≡ self.old.name) × (length self.new.level.places ≡ length self.old.level.places) }
-        ensures told { OnOk result (Obeys (string_bytes self.old.name) line command (state_of self.old.level self.old.notes) (Appends (W.contents out.old) (W.contents out.new)) (state_of self.new.level self.new.notes)) }
+        ensures told { Obeys (string_bytes self.old.name) line command (state_of self.old.level self.old.notes) (WritesIfOk result (W.contents out.old) (W.contents out.new)) (state_of self.new.level self.new.notes) }
     {
         let reply = match command {
             Command::Arrive(slot, arrival) => {
@@ -302,7 +302,7 @@ impl Service {
         out: &mut W,
     ) -> io::Result<()>
         ensures same { (self.new.config ≡ self.old.config) × (self.new.name ≡ self.old.name) × (length self.new.level.places ≡ length self.old.level.places) }
-        ensures served { OnOk result (Serves (string_bytes self.old.name) number line.now (state_of self.old.level self.old.notes) (Appends (W.contents out.old) (W.contents out.new)) (state_of self.new.level self.new.notes)) }
+        ensures served { Serves (string_bytes self.old.name) number line.now (state_of self.old.level self.old.notes) (WritesIfOk result (W.contents out.old) (W.contents out.new)) (state_of self.new.level self.new.notes) }
     {
         match self.read(alloc, line) {
             Ok(command) => self.obey(number, command, out),

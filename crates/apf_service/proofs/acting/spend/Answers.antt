@@ -4,7 +4,8 @@ use Rattle.std.proofs.lemmas.List.{with_items_is}
 use Rattle.apf_gate.specs.Slots.{coded_width}
 use Rattle.apf_history.specs.declared.events.Charge.{Charge}
 use Rattle.apf_book.specs.Life.{charge_in}
-use Rattle.apf_local.specs.Levels.{LocalView, seat_time_of}
+use Rattle.apf_local.specs.Levels.{LocalView}
+use Rattle.apf_line.specs.SeatTime.{seat_time_of}
 use Rattle.apf_service.specs.Tallies.{slots_of}
 use Rattle.apf_service.specs.Kept.{no_slot, width_in, state_of}
 use Rattle.apf_service.specs.Turns.{queues_spent}

@@ -1,9 +1,8 @@
 -- The command was carried out, and what it answered is told.
 use Rattle.std.proofs.Common.{rules}
-use Rattle.std.proofs.lemmas.Result.{IfOk-weaker}
 use Rattle.std.specs.Prelude.{string_bytes}
-use Rattle.std.specs.Io.KnownBytes.{Appends}
 use Rattle.apf_service.specs.Kept.{state_of}
+use Rattle.apf_service.specs.Lines.{WritesIfOk}
 use Rattle.apf_service.specs.Turns.{Turns}
 use Rattle.apf_service.proofs.Obeying.{changes}
 use Rattle.apf_service.proofs.service.Service.obey.Goals as goal
@@ -20,7 +19,5 @@ returns-clause-told g c =
       | in-Limit w ↦ search (w.set_limit-reply.ensures.turns, w.self-is, w.reply-is, rules)
       | in-Close w ↦ search (w.close-reply.ensures.turns, w.self-is, w.reply-is, rules)
     ] in
-    IfOk-weaker c.tell.result _ _
-    (λ done tells. changes (string_bytes c.args.self.now.name) c.args.line c.args.command (state_of c.args.self.now.level c.args.self.now.notes) (state_of c.match-command.self.level c.match-command.self.notes) (state_of c.tell.new.self.level c.tell.new.self.notes) c.match-command.reply
-    (Appends (g.W.Write.contents c.args.out.now) (g.W.Write.contents c.tell.new.out)) turns tells)
-    c.tell.ensures.told
+    changes (string_bytes c.args.self.now.name) c.args.line c.args.command (state_of c.args.self.now.level c.args.self.now.notes) (state_of c.match-command.self.level c.match-command.self.notes) (state_of c.tell.new.self.level c.tell.new.self.notes) c.match-command.reply
+    (WritesIfOk c.tell.result (g.W.Write.contents c.args.out.now) (g.W.Write.contents c.tell.new.out)) turns c.tell.ensures.told

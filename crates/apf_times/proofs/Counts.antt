@@ -6,6 +6,10 @@ use Rattle.std.proofs.lemmas.Bool.Decides.{nat_tests}
 use Rattle.std.proofs.lemmas.List.{take_all, length-take-le}
 use Rattle.std.proofs.lemmas.List.Sums.{count_by_more_yes, count_by_more_no, count_by-le-length, sum_by-take-le}
 
+-- one where a test is met
+abbrev pub one_if : Bool → ℕ
+one_if b = cond b 1 0
+
 -- the first n pass
 first_pass : (p : ℕ → Bool) (xs : List ℕ) (n : ℕ) → n ≤ length xs → ((k : ℕ) → k < n → p (slice_index_or xs k 0) ≡ true) → count_by p (take n xs) ≡ n
 first_pass p xs zero l pass = refl

@@ -6,3 +6,6 @@ pub mod Limits
 pub mod Percentiles
 pub mod Runs
 pub mod Views
+pub mod Waits
+pub mod WindowRuns
+pub mod Windows

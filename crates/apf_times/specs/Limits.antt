@@ -1,5 +1,5 @@
 -- The largest times, in microseconds, and the most requests of a calendar.
-use Rattle.std.specs.Prelude.{ℕ, ◌^◌}
+use Rattle.std.specs.Prelude.{ℕ, ◌*◌, ◌^◌}
 
 -- the latest arrival
 abbrev pub max_arrival : ℕ
@@ -16,3 +16,7 @@ max_patience = 10 ^ 9
 -- the most requests
 abbrev pub max_courses : ℕ
 max_courses = 10000
+
+-- the longest wait
+abbrev pub max_wait : ℕ
+max_wait = 2 * 10 ^ 14

@@ -3,7 +3,7 @@
 ghost use Rattle.std.specs.Prelude.{IsTrue};
 ghost use Rattle.apf_times.specs.Courses.{At, CanStart};
 
-use apf_times::{Agenda, Calendar, Due, MOST_PATIENCE, Times, are_in_range};
+use apf_times::{Agenda, Calendar, Due, MOST_PATIENCE, MOST_WAIT, Times, Waits, are_in_range};
 use std::alloc::{AllocError, Allocator};
 use std::process::Abort;
 
@@ -51,4 +51,20 @@ pub fn may_start<A: Allocator>(calendar: &Calendar<A>, request: u32) -> bool
 pub fn start<A: Allocator>(rt: &impl Abort, calendar: &mut Calendar<A>, request: u32) {
     assert!(rt; may_start(calendar, request));
     calendar.start(request);
+}
+
+// Adds a wait that is not too long.
+pub fn add_wait<A: Allocator + Copy>(
+    rt: &impl Abort,
+    waits: &mut Waits<A>,
+    wait: u64,
+) -> Result<(), AllocError> {
+    assert!(rt; wait <= MOST_WAIT);
+    assert!(rt; waits.len() < u64::MAX);
+    waits.add(wait)
+}
+
+// A percentile from 1 to 100.
+pub fn percentile_of<A: Allocator>(waits: &mut Waits<A>, percent: u32) -> u64 {
+    waits.percentile(percent.clamp(1, 100))
 }

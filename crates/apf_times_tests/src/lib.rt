@@ -3,6 +3,8 @@
 //! They stand in a crate of their own, as a crate with tests is proved twice.
 //!
 //! - `percentiles`: worked percentiles, and random ones beside a plain count.
+//! - `waits`: worked waits, random ones beside a sorted list, and allocations refused.
+//! - `window`: windows by hand, random ones beside a plain list, and allocations refused.
 //! - `agenda`: worked orders, and random calls beside a plain list.
 //! - `calendar`: worked calendars, and random ones beside a plain scan.
 //! - `memory`: allocations refused.
@@ -23,3 +25,7 @@ mod draws;
 mod memory;
 #[cfg(test)]
 mod percentiles;
+#[cfg(test)]
+mod waits;
+#[cfg(test)]
+mod window;

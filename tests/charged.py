@@ -24,10 +24,10 @@ TRACES = int(os.environ.get("APF_TRACES", "2000"))
 print(f"seed {seed}")
 
 
-def printed(command, config, objects, *how):
+def printed(command, config, objects, *how, more=()):
     """What the program does by a command on a level and the requests of these objects."""
     content = b"".join(json.dumps(it).encode() + b"\n" for it in objects)
-    return run(program, [command, files("config", json.dumps(config)), files("trace", content), *words_of(*how)])
+    return run(program, [command, files("config", json.dumps(config)), files("trace", content), *words_of(*how), *more])
 
 
 def told(lines):
@@ -78,6 +78,8 @@ def drawn_objects():
 # what happens in a drawn trace, and in how many of 2,000 at least
 MATTERS = "by time it is another run than by seats"
 BEYOND = "a queue's requests take more than twice the largest cost more than those of one that is never empty"
+NO_PAIR = "there is one queue alone, or no request waits"
+LATER = "the pair that came furthest apart is not that of the first two queues"
 SEEN = {
     MATTERS: 500,
     "a line has a cost, and by time it is another run than as usual": 30,
@@ -90,6 +92,8 @@ SEEN = {
     "a flow that was forgotten": 20,
     # the test of the bound can tell: with less it would fail
     BEYOND: 300,
+    NO_PAIR: 100,
+    LATER: 300,
 }
 
 
@@ -134,14 +138,48 @@ def check_drawn():
         if MATTERS in happened:
             usual = Run(config, made.trace, patience)
             tally.check(f"fates as usual of {name}", printed("fates", config, objects, patience), told(simulation.fates(usual)))
-        worst, largest, slack = sides(made)
-        tally.check(f"the bound of {name}: {worst}, {largest}, {slack}", worst <= 2 * largest + 3 * slack, True)
+        told_sides = sides(made)
+        _, worst, largest, slack = told_sides
+        tally.check(f"the bound of {name}: {told_sides.line()}", worst <= told_sides.limit(), True)
+        bounded = printed("simulate", config, objects, patience, "time", more=["--bound"])
+        tally.check(f"both sides of the bound of {name}", bounded, told([*simulation.simulate(made), told_sides.line()]))
         nearest = max(nearest, (worst - 2 * largest - 2 * slack, worst, largest, slack))
-        for what in [*happened, *[BEYOND] * (worst > 2 * largest)]:
+        happens = [*happened, *[BEYOND] * (worst > 2 * largest), *[NO_PAIR] * (told_sides.pair is None), *[LATER] * (told_sides.pair not in (None, (0, 1)))]
+        for what in happens:
             seen[what] += 1
     print("of the traces that came nearest: {1} more seat-time than a queue that is never empty, the largest cost {2}, and {3} misjudged at one moment".format(*nearest))
     for what, count in seen.items():
         tally.check(f"in many traces: {what}: {count}", count >= SEEN[what] * TRACES // 2000, True)
+
+
+def check_worked_bounds():
+    """Both sides of the bound, worked by hand. Two short requests of queue 1 are dispatched while a long one waits in queue 0, each charged what it takes.
+    Then two of a crawler are, at 10,000 each, while two of alice wait that are charged that a seat too and take 20 a seat."""
+    crawler, alice = {"schema": "batch", "distinguisher": "crawler"}, {"schema": "users", "distinguisher": "alice"}
+    short, long = {"hash": 1, "runsFor": 10}, {"hash": 0, "runsFor": 100}
+    learned = [{**long, "arrivesAt": 0}, {**short, "arrivesAt": 200}, {"hash": 2, "arrivesAt": 300, "runsFor": 1000}, {**long, "arrivesAt": 301}]
+    learned += [{**short, "arrivesAt": 302}] * 2
+    first = [{**crawler, "arrivesAt": 0, "runsFor": 100}] * 6 + [{**alice, "arrivesAt": 50, "runsFor": 20}, {**alice, "arrivesAt": 60, "runsFor": 20, "width": 2}]
+    for config, objects, line in (
+        ({"limit": 1, "queues": 2, "handSize": 1}, learned, "bound 0 1 20 cost 100 misjudged 0 limit 200"),
+        ({"limit": 2, "queues": 2, "handSize": 1, "queueLengthLimit": 2}, first, "bound 0 1 200 cost 20000 misjudged 19960 limit 99880"),
+    ):
+        status, out, err = printed("simulate", config, objects, 0, more=["--bound"])
+        tally.check(f"worked by hand: {line}", (status, out.splitlines()[-1:], err), (0, [line.encode()], b""))
+
+
+def check_bound_of_seats():
+    """Where requests are charged their seats there is no such line: by the command line, and by a line that has a cost."""
+    config = {"limit": 2, "queues": 4, "handSize": 2, "queueLengthLimit": 50, "limitResponse": "Queue"}
+    refused = 2, b"", b"apf: --bound is of measured time: requests must be charged time\n"
+    plain, costly = [{"hash": 1, "arrivesAt": 0, "runsFor": 1}], [{"hash": 1, "arrivesAt": 0, "runsFor": 1, "cost": 3}]
+    tally.check("no bound by seats", printed("simulate", config, plain, 0, "seats", more=["--bound"]), refused)
+    tally.check("no bound where a line has a cost", printed("simulate", config, costly, 0, more=["--bound"]), refused)
+    made = Run(config, [request_of(it) for it in plain], 0)
+    tally.check("none where nobody waits", printed("simulate", config, plain, 0, more=["--bound"]), told([*simulation.simulate(made), "bound none"]))
+    rejects = {**config, "limitResponse": "Reject"}
+    made = Run(rejects, [request_of(it) for it in plain], 0)
+    tally.check("none where there are no queues", printed("simulate", rejects, plain, 0, more=["--bound"]), told([*simulation.simulate(made), "bound none"]))
 
 
 def check_long():
@@ -154,8 +192,12 @@ def check_long():
         made = Run(config, [request_of(it) for it in objects], 2000, "time")
         tally.check(f"{name}: some wait", made.level.count("dispatch") > 100, True)
         tally.check(f"{name}: fates by time", printed("fates", config, objects, 2000, "time"), told(simulation.fates(made)))
+        bounded = printed("simulate", config, objects, 2000, "time", more=["--bound"])
+        tally.check(f"{name}: both sides of the bound", bounded, told([*simulation.simulate(made), sides(made).line()]))
 
 
 check_drawn()
 check_long()
+check_worked_bounds()
+check_bound_of_seats()
 tally.end()

@@ -70,7 +70,7 @@ for words, says in [
     (["help", "requests"], TIMES),
     (["help", "hands"], LEVEL + ["covered by"]),
     (["services", "--help"], SCRIPT + ["queue Q entered N service S", "apf replay --help"]),
-    (["simulate", "--help"], PATIENCE + TRACE + FLOW),
+    (["simulate", "--help"], PATIENCE + TRACE + FLOW + ["--bound", "bound A B D cost M misjudged E limit L", "bound none"]),
     (["timeline", "--help"], PATIENCE + ["apf replay", "script"]),
     (["compare", "--help"], PATIENCE + ["<OTHER>", "median", "p99", "longest", "rejected", "cancelled", "whole", "column -t"]),
     (["help", "compare"], PATIENCE + ["<OTHER>"]),

@@ -1,6 +1,28 @@
 """How far apart the seat-times of queues come while one of them is never empty, and how far they may: an independent computation, from a run's own log."""
 
+from typing import NamedTuple
+
 from charges import taken
+
+
+class Sides(NamedTuple):
+    """Both sides: the queue that was never empty, the other one, and by how much more that one's requests took, or no pair; and the two parts of what is
+    allowed. One is the largest cost. The other is by how much the requests that execute at one moment are misjudged, from one queue, or from one queue and
+    another way from a second one."""
+
+    pair: tuple | None
+    ahead: int
+    largest: int
+    slack: int
+
+    def limit(self):
+        return 2 * self.largest + 3 * self.slack
+
+    def line(self):
+        """What the program prints of it."""
+        if self.pair is None:
+            return "bound none"
+        return f"bound {self.pair[0]} {self.pair[1]} {self.ahead} cost {self.largest} misjudged {self.slack} limit {self.limit()}"
 
 
 def entries_of(level):
@@ -15,16 +37,14 @@ def entries_of(level):
 
 
 def sides(run):
-    """Of a run that is over: by how much more a queue's requests took than those of another one, which was never empty meanwhile, in the worst stretch; and
-    the two parts of what is allowed. One is the largest cost. The other is by how much the requests that execute at one moment are misjudged, from one
-    queue, or from one queue and another way from a second one."""
+    """Of a run that is over: the pair that came furthest apart, and of those that came equally far the first."""
     level = run.level
     took = {it: taken(asked["width"], asked["runsFor"]) for it, asked in enumerate(run.trace)}
     queues = range(len(level.queues))
     waiting, service, charged, misjudged = [0] * len(queues), [0] * len(queues), {}, [0] * len(queues)
-    worst, largest, slack = 0, 0, 0
-    # of each queue that is not empty: how far it was ahead of each other one at the least since then
-    least = {}
+    largest, slack = 0, 0
+    # of each queue that is not empty: how far each other one was ahead of it at the least since then; and how far it ever came from there
+    least, furthest = {}, {}
     for kind, request, queue in entries_of(level):
         if kind == "enter":
             largest = max(largest, run.asked[request]["cost"])
@@ -44,6 +64,11 @@ def sides(run):
                 continue
             ahead = [service[other] - service[one] for other in queues]
             before = least.setdefault(one, ahead)
-            worst = max([worst, *(now - was for now, was in zip(ahead, before))])
+            for other in queues:
+                if other != one:
+                    furthest[one, other] = max(furthest.get((one, other), 0), ahead[other] - before[other])
             least[one] = [min(pair) for pair in zip(ahead, before)]
-    return worst, largest, slack
+    if not furthest:
+        return Sides(None, 0, largest, slack)
+    ahead, busy, other = min((-ahead, *pair) for pair, ahead in furthest.items())
+    return Sides((busy, other), -ahead, largest, slack)

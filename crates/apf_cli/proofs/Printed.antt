@@ -2,7 +2,7 @@
 use Rattle.std.proofs.Common.{◌≡◌, ℕ, List, Option, Some, None, ◌∙◌}
 use Rattle.std.specs.Io.KnownBytes.{Appends, Keeps}
 use Rattle.apf_commands.specs.declared.words.Arguments.{Arguments}
-use Rattle.apf_commands.specs.declared.words.Arguments.TheVariants.{Flow, Deck, Script, Workers, Level, Simulation, Comparison, Trace, Flows, AuditLog, Objects, Match}
+use Rattle.apf_commands.specs.declared.words.Arguments.TheVariants.{Flow, Deck, Script, Workers, Level, Simulation, Bounded, Comparison, Trace, Flows, AuditLog, Objects, Match}
 use Rattle.apf_cli.specs.Runs.{PrintsOf}
 
 appends_kept : (old mid new : Option (List ℕ)) (text : List ℕ) → Appends old mid text → Keeps mid new → Appends old new text
@@ -22,6 +22,7 @@ prints_kept holds (Flow schema distinguisher) old mid new h k = tt
 prints_kept holds (Deck deck hand hash) old mid new h k = tt
 prints_kept holds (Script config requests script) old mid new h k = tt
 prints_kept holds (Simulation config trace patience charge) old mid new h k = tt
+prints_kept holds (Bounded config trace patience charge bound) old mid new h k = tt
 prints_kept holds (Comparison config other trace patience charge) old mid new h k = tt
 prints_kept holds (Trace trace) old mid new h k = tt
 prints_kept holds (Flows config trace flow) old mid new h k = tt

@@ -18,7 +18,7 @@ use Rattle.apf_commands.specs.declared.words.Arguments.TheVariants.{Workers}
 use Rattle.apf_run.specs.Books.{book_of}
 use Rattle.apf_run.specs.Faults.{CanRun}
 use Rattle.apf_run.specs.Runs.{HasRun}
-use Rattle.apf_run.specs.Texts.{totals_text}
+use Rattle.apf_texts.specs.Texts.{totals_text}
 
 -- the config and the requests of the files of these names, by what each file may hold
 pub record AreRead (holds : (name bytes : List ℕ) → Type 0) (config_name requests_name : List ℕ) (config : Config) (requests : List Request) : Type 0 where

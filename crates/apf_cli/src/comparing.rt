@@ -6,7 +6,7 @@ use crate::reading::config_of;
 use crate::traces::{
     Way, charge_of, charge_or_usual, patience_of, read_requests, simulated, simulated_on,
 };
-use apf_simulation::Comparison;
+use apf_simulation::{Comparison, Watch};
 use std::alloc::Global;
 use std::io::Write;
 
@@ -49,8 +49,24 @@ pub(crate) fn print_comparison<F: Files, O: Write>(
     let other = config_of(alloc, files, names.1)?;
     let trace = read_requests(alloc, files, names.2)?;
     let by = charge_or_usual(by, trace.as_slice());
-    let one = simulated_on(alloc, names.0, &config, trace.as_slice(), patience, by)?;
-    let two = simulated_on(alloc, names.1, &other, trace.as_slice(), patience, by)?;
+    let one = simulated_on(
+        alloc,
+        names.0,
+        &config,
+        trace.as_slice(),
+        patience,
+        by,
+        &mut Watch::off(),
+    )?;
+    let two = simulated_on(
+        alloc,
+        names.1,
+        &other,
+        trace.as_slice(),
+        patience,
+        by,
+        &mut Watch::off(),
+    )?;
     let comparison = Comparison::new(alloc, &one, &two)?;
     comparison
         .write(trace.as_slice(), out)

@@ -55,6 +55,8 @@ pub enum Fault {
     BadBy,
     /// What requests are charged is neither `time` nor `seats`.
     BadCharge,
+    /// Both sides of the bound are asked for where requests are charged their seats.
+    BoundOfSeats,
     /// The bound of the choice is no instant from 1970 on.
     BadInstant(Bound),
     /// The options say no request: a user and a verb are missing, or there is not one of a resource and a path.
@@ -96,6 +98,7 @@ impl Fault {
             | Fault::BadPatience
             | Fault::BadBy
             | Fault::BadCharge
+            | Fault::BoundOfSeats
             | Fault::NoRequest
             | Fault::RequestAndLog
             | Fault::BadInstant(_) => 2,
@@ -262,6 +265,9 @@ impl fmt::Display for Fault {
             ),
             Fault::BadBy => f.write_str("apf: --by must be user or namespace"),
             Fault::BadCharge => f.write_str("apf: --charge must be time or seats"),
+            Fault::BoundOfSeats => {
+                f.write_str("apf: --bound is of measured time: requests must be charged time")
+            }
             Fault::BadInstant(bound) => write!(
                 f,
                 "apf: {bound} must be an instant from 1970 on, as 2026-01-31T12:00:00Z"

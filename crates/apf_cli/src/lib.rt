@@ -5,7 +5,7 @@
 //! - `files`: where the files' bytes come from.
 //! - `reading`: reads and judges the files of a level, and says what is wrong with one. `explaining` prints that, and
 //!   `telling` says it of other files.
-//! - `traces`, `comparing`, `pictures`: do the commands on a trace. `audits`: does that on an audit log.
+//! - `traces`, `comparing`, `pictures`, `bounds`: do the commands on a trace. `audits`: does that on an audit log.
 //! - `running`: runs requests by workers. `serving`: serves a level over standard input.
 //! - `measuring`: how large an output will be, before its first byte. `notes`: the lines beside an output.
 //! - `program`: does the others, and answers the status.
@@ -13,6 +13,7 @@
 #![tactic(auto)]
 
 mod audits;
+mod bounds;
 mod clusters;
 mod comparing;
 mod explaining;

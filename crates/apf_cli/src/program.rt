@@ -8,6 +8,7 @@ ghost use Rattle.apf_commands.specs.Commands.{is_script_command, is_simulation_c
 ghost use Rattle.apf_commands.specs.Meaning.{IsInRange, words_fault};
 
 use crate::audits::print_trace;
+use crate::bounds::print_bounded;
 use crate::clusters::{print_cluster, print_matches};
 use crate::comparing::{print_comparison, print_fates};
 use crate::explaining::print_explanation;
@@ -18,7 +19,7 @@ use crate::pictures::print_picture;
 use crate::reading::{Explained, level_fault, read_level, script_in};
 use crate::running::print_run;
 use crate::serving::{Served, print_served};
-use crate::traces::{Way, print_hands, print_requests, print_simulation, print_timeline};
+use crate::traces::{Way, print_hands, print_requests, print_timeline};
 use apf_commands::{Action, Arguments, read_words};
 use apf_flow::{Dealer, flow_hash};
 use apf_flows::write_escaped;
@@ -112,9 +113,7 @@ fn print_simulated<F: Files, O: Write>(
 ) -> Result<(), Fault>
     requires { is_simulation_command command.now ≡ true }
 {
-    if command == "simulate" {
-        print_simulation(alloc, files, names, way, out)
-    } else if command == "timeline" {
+    if command == "timeline" {
         print_timeline(alloc, files, names, way, out)
     } else if command == "fates" {
         print_fates(alloc, files, names, way, out)
@@ -185,6 +184,18 @@ fn print_action<F: Files, O: Write, E: Write + IsTerminal, R: Wait + Threads + S
         } => {
             let way = Way { patience, charge };
             print_simulated(alloc, command, files, (config, trace), way, out)?;
+            note_patience(patience, err);
+            Ok(())
+        }
+        Arguments::Bounded {
+            config,
+            trace,
+            patience,
+            charge,
+            bound,
+        } => {
+            let way = Way { patience, charge };
+            print_bounded(alloc, files, (config, trace), way, bound, out)?;
             note_patience(patience, err);
             Ok(())
         }

@@ -16,8 +16,9 @@ use apf_charges::ChargedBy;
 use apf_commands::read_patience;
 use apf_flows::{HandsFault, write_hands, write_hands_of, write_requests};
 use apf_gate::Counts;
-use apf_run::{Config, Totals};
-use apf_simulation::{Simulation, simulate, usual_charge};
+use apf_run::Config;
+use apf_simulation::{Simulation, Watch, simulate, usual_charge};
+use apf_texts::Totals;
 use apf_traces::{TraceRequest, read_trace};
 use std::alloc::Global;
 use std::io::Write;
@@ -92,8 +93,8 @@ pub(crate) fn read_requests<F: Files>(
     }
 }
 
-// Reads the config and the trace of these names, the config judged before the trace is read.
-fn read_both<F: Files>(
+/// Reads the config and the trace of these names, the config judged before the trace is read.
+pub(crate) fn read_both<F: Files>(
     alloc: Global,
     files: &mut F,
     names: (&str, &str),
@@ -119,6 +120,7 @@ pub(crate) fn simulated_on(
     trace: &[TraceRequest],
     patience: u64,
     by: ChargedBy,
+    watch: &mut Watch,
 ) -> Result<Simulation, Fault>
     requires few { length trace.now ≤ max_lines }
     requires ranges { All IsRequestInRange trace.now }
@@ -126,7 +128,7 @@ pub(crate) fn simulated_on(
     ensures each { IfOk result (λ s. length s.ends.items ≡ length trace.now) }
     ensures all_queues { IfOk result (λ s. length s.queues.items ≡ length trace.now) }
 {
-    match simulate(alloc, config, trace, patience, by) {
+    match simulate(alloc, config, trace, patience, by, watch) {
         Ok(simulation) => Ok(simulation),
         Err(fault) => Err(level_fault(alloc, name, config, fault.into()).told(alloc, true)),
     }
@@ -155,7 +157,16 @@ pub(crate) fn simulated<F: Files>(
     let by = charge_of(way.charge)?;
     let (config, trace) = read_both(alloc, files, names)?;
     let by = charge_or_usual(by, trace.as_slice());
-    let simulation = simulated_on(alloc, names.0, &config, trace.as_slice(), patience, by)?;
+    let watch = &mut Watch::off();
+    let simulation = simulated_on(
+        alloc,
+        names.0,
+        &config,
+        trace.as_slice(),
+        patience,
+        by,
+        watch,
+    )?;
     Ok((config, trace, simulation))
 }
 
@@ -182,6 +193,20 @@ fn totals_of(simulation: &Simulation) -> Totals {
     }
 }
 
+/// Writes what the flows of a simulation met, and the book.
+pub(crate) fn write_simulation<O: Write>(
+    trace: &[TraceRequest],
+    simulation: &Simulation,
+    out: &mut O,
+) -> Result<(), Fault> {
+    simulation
+        .write(trace, out)
+        .map_err(|_| Fault::CannotWrite)?;
+    totals_of(simulation)
+        .write(out)
+        .map_err(|_| Fault::CannotWrite)
+}
+
 /// Simulates the trace on the level of the config, and prints what its flows met and the book.
 ///
 /// # Errors
@@ -196,12 +221,7 @@ pub(crate) fn print_simulation<F: Files, O: Write>(
     out: &mut O,
 ) -> Result<(), Fault> {
     let (_config, trace, simulation) = simulated(alloc, files, names, way)?;
-    simulation
-        .write(trace.as_slice(), out)
-        .map_err(|_| Fault::CannotWrite)?;
-    totals_of(&simulation)
-        .write(out)
-        .map_err(|_| Fault::CannotWrite)
+    write_simulation(trace.as_slice(), &simulation, out)
 }
 
 /// Simulates the trace on the level of the config, and prints the script of the simulation.

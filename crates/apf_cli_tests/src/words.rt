@@ -316,11 +316,12 @@ fn reads_the_words_of_simulations(rt: HostRuntime) -> Result<(), Fail> {
             read_words(alloc, &["apf", "simulate", "c", "t", patience])?,
             Action {
                 command: "simulate",
-                arguments: Arguments::Simulation {
+                arguments: Arguments::Bounded {
                     config: "c",
                     trace: "t",
                     patience,
-                    charge: None
+                    charge: None,
+                    bound: false
                 }
             }
         );
@@ -366,11 +367,25 @@ fn reads_the_words_of_simulations(rt: HostRuntime) -> Result<(), Fail> {
         read_words(alloc, &["apf", "simulate", "c", "t", "0", "--charge", "x"])?,
         Action {
             command: "simulate",
-            arguments: Arguments::Simulation {
+            arguments: Arguments::Bounded {
                 config: "c",
                 trace: "t",
                 patience: "0",
-                charge: Some("x")
+                charge: Some("x"),
+                bound: false
+            }
+        }
+    );
+    assert_eq!(rt;
+        read_words(alloc, &["apf", "simulate", "--bound", "c", "t", "0"])?,
+        Action {
+            command: "simulate",
+            arguments: Arguments::Bounded {
+                config: "c",
+                trace: "t",
+                patience: "0",
+                charge: None,
+                bound: true
             }
         }
     );

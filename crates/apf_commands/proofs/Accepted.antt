@@ -10,11 +10,11 @@ use Rattle.clap.specs.Faults.{entered_fault, fault_of, is_simple_and_free, level
 use Rattle.clap.proofs.OnLiterals.{clap_on_literals}
 use Rattle.apf_commands.specs.Commands.{Named, apf_app, command_shape, commands, kind_named, rules_of, shape_for}
 use Rattle.apf_commands.specs.declared.entries.Kind.{Kind}
-use Rattle.apf_commands.specs.declared.entries.Kind.TheVariants.{Flow, Deck, Script, Workers, Level, Simulation, Comparison, Trace, Flows, AuditLog, Objects, Match}
+use Rattle.apf_commands.specs.declared.entries.Kind.TheVariants.{Flow, Deck, Script, Workers, Level, Simulation, Bounded, Comparison, Trace, Flows, AuditLog, Objects, Match}
 use Rattle.apf_commands.specs.Arguments.{HasArguments, IsCommand}
 use Rattle.apf_commands.proofs.Taken.{Each, MayStop, OwnIds, found, is_plain_rule, walk_holds}
 use Rattle.apf_commands.proofs.Named.{each_own}
-use Rattle.apf_commands.proofs.Given.{IsPlainShape, all_given, all_met, level_parts, no_check, signed_reads, unsigned_reads}
+use Rattle.apf_commands.proofs.Given.{IsPlainShape, all_filled, all_given, all_met, bool_reads, level_parts, no_check, signed_reads, unsigned_reads}
 
 -- the program's commands have the form of which `clap` says what a parse gives, and when it fails
 pub apf_is_simple : is_simple apf_app ≡ true
@@ -40,7 +40,7 @@ IsFaultFree s words = level_fault s [] nothing_held words false [] ≡ []
 flow_given : (name : Text) (words : List Text) → IsFaultFree (of_kind name Flow) words → HasArguments Flow (rows_after (of_kind name Flow).rules [] words)
 unfolding apf_app
 flow_given name words e =
-    let given = all_given (of_kind name Flow) (record { rules = refl; own_ids = (refl, (refl, (refl, tt))); defaults = refl; negates = refl }) words e in
+    let given = all_given (of_kind name Flow) (record { rules = refl; own_ids = (refl, (refl, (refl, tt))); negates = refl }) words e in
     let schema = given.0 refl refl in
     let distinguisher = given.1.0 refl refl in
     record { schema = (schema.text, schema.first); distinguisher = (distinguisher.text, distinguisher.first) }
@@ -48,7 +48,7 @@ flow_given name words e =
 deck_given : (name : Text) (words : List Text) → IsFaultFree (of_kind name Deck) words → HasArguments Deck (rows_after (of_kind name Deck).rules [] words)
 unfolding apf_app
 deck_given name words e =
-    let given = all_given (of_kind name Deck) (record { rules = refl; own_ids = (refl, (refl, (refl, (refl, tt)))); defaults = refl; negates = refl }) words e in
+    let given = all_given (of_kind name Deck) (record { rules = refl; own_ids = (refl, (refl, (refl, (refl, tt)))); negates = refl }) words e in
     let deck = given.0 refl refl in
     let hand = given.1.0 refl refl in
     let hash = given.1.1.0 refl refl in
@@ -64,7 +64,7 @@ deck_given name words e =
 script_given : (name : Text) (words : List Text) → IsFaultFree (of_kind name Script) words → HasArguments Script (rows_after (of_kind name Script).rules [] words)
 unfolding apf_app
 script_given name words e =
-    let given = all_given (of_kind name Script) (record { rules = refl; own_ids = (refl, (refl, (refl, (refl, tt)))); defaults = refl; negates = refl }) words e in
+    let given = all_given (of_kind name Script) (record { rules = refl; own_ids = (refl, (refl, (refl, (refl, tt)))); negates = refl }) words e in
     let config = given.0 refl refl in
     let requests = given.1.0 refl refl in
     let script = given.1.1.0 refl refl in
@@ -73,7 +73,7 @@ script_given name words e =
 workers_given : (name : Text) (words : List Text) → IsFaultFree (of_kind name Workers) words → HasArguments Workers (rows_after (of_kind name Workers).rules [] words)
 unfolding apf_app
 workers_given name words e =
-    let plain : IsPlainShape (of_kind name Workers) = record { rules = refl; own_ids = (refl, (refl, (refl, (refl, (refl, tt))))); defaults = refl; negates = refl } in
+    let plain : IsPlainShape (of_kind name Workers) = record { rules = refl; own_ids = (refl, (refl, (refl, (refl, (refl, tt))))); negates = refl } in
     let given = all_given (of_kind name Workers) plain words e in
     let met = all_met (of_kind name Workers) plain words e in
     let config = given.0 refl refl in
@@ -95,7 +95,7 @@ workers_given name words e =
 level_given : (name : Text) (words : List Text) → IsFaultFree (of_kind name Level) words → HasArguments Level (rows_after (of_kind name Level).rules [] words)
 unfolding apf_app
 level_given name words e =
-    let plain : IsPlainShape (of_kind name Level) = record { rules = refl; own_ids = (refl, (refl, (refl, (refl, (refl, tt))))); defaults = refl; negates = refl } in
+    let plain : IsPlainShape (of_kind name Level) = record { rules = refl; own_ids = (refl, (refl, (refl, (refl, (refl, tt))))); negates = refl } in
     let given = all_given (of_kind name Level) plain words e in
     let met = all_met (of_kind name Level) plain words e in
     let config = given.0 refl refl in
@@ -112,16 +112,34 @@ level_given name words e =
 simulation_given : (name : Text) (words : List Text) → IsFaultFree (of_kind name Simulation) words → HasArguments Simulation (rows_after (of_kind name Simulation).rules [] words)
 unfolding apf_app
 simulation_given name words e =
-    let given = all_given (of_kind name Simulation) (record { rules = refl; own_ids = (refl, (refl, (refl, (refl, (refl, tt))))); defaults = refl; negates = refl }) words e in
+    let given = all_given (of_kind name Simulation) (record { rules = refl; own_ids = (refl, (refl, (refl, (refl, (refl, tt))))); negates = refl }) words e in
     let config = given.0 refl refl in
     let trace = given.1.0 refl refl in
     let patience = given.1.1.0 refl refl in
     record { config = (config.text, config.first); trace = (trace.text, trace.first); patience = (patience.text, patience.first) }
 
+bounded_given : (name : Text) (words : List Text) → IsFaultFree (of_kind name Bounded) words → HasArguments Bounded (rows_after (of_kind name Bounded).rules [] words)
+unfolding apf_app
+bounded_given name words e =
+    let plain : IsPlainShape (of_kind name Bounded) = record { rules = refl; own_ids = (refl, (refl, (refl, (refl, (refl, (refl, tt)))))); negates = refl } in
+    let given = all_given (of_kind name Bounded) plain words e in
+    let filled = all_filled (of_kind name Bounded) plain words e in
+    let config = given.0 refl refl in
+    let trace = given.1.0 refl refl in
+    let patience = given.1.1.0 refl refl in
+    let bound = filled.1.1.1.1.0 refl refl in
+    let reads = bool_reads bound.text bound.accepted in
+    record {
+      config = (config.text, config.first);
+      trace = (trace.text, trace.first);
+      patience = (patience.text, patience.first);
+      bound = (reads.0, bound.one ∙ ap (λ t. Some t) reads.1);
+    }
+
 comparison_given : (name : Text) (words : List Text) → IsFaultFree (of_kind name Comparison) words → HasArguments Comparison (rows_after (of_kind name Comparison).rules [] words)
 unfolding apf_app
 comparison_given name words e =
-    let given = all_given (of_kind name Comparison) (record { rules = refl; own_ids = (refl, (refl, (refl, (refl, (refl, (refl, tt)))))); defaults = refl; negates = refl }) words e in
+    let given = all_given (of_kind name Comparison) (record { rules = refl; own_ids = (refl, (refl, (refl, (refl, (refl, (refl, tt)))))); negates = refl }) words e in
     let config = given.0 refl refl in
     let other = given.1.0 refl refl in
     let trace = given.1.1.0 refl refl in
@@ -131,14 +149,14 @@ comparison_given name words e =
 trace_given : (name : Text) (words : List Text) → IsFaultFree (of_kind name Trace) words → HasArguments Trace (rows_after (of_kind name Trace).rules [] words)
 unfolding apf_app
 trace_given name words e =
-    let given = all_given (of_kind name Trace) (record { rules = refl; own_ids = (refl, (refl, tt)); defaults = refl; negates = refl }) words e in
+    let given = all_given (of_kind name Trace) (record { rules = refl; own_ids = (refl, (refl, tt)); negates = refl }) words e in
     let trace = given.0 refl refl in
     record { trace = (trace.text, trace.first) }
 
 flows_given : (name : Text) (words : List Text) → IsFaultFree (of_kind name Flows) words → HasArguments Flows (rows_after (of_kind name Flows).rules [] words)
 unfolding apf_app
 flows_given name words e =
-    let given = all_given (of_kind name Flows) (record { rules = refl; own_ids = (refl, (refl, (refl, (refl, tt)))); defaults = refl; negates = refl }) words e in
+    let given = all_given (of_kind name Flows) (record { rules = refl; own_ids = (refl, (refl, (refl, (refl, tt)))); negates = refl }) words e in
     let config = given.0 refl refl in
     let trace = given.1.0 refl refl in
     record { config = (config.text, config.first); trace = (trace.text, trace.first) }
@@ -146,7 +164,7 @@ flows_given name words e =
 audit_log_given : (name : Text) (words : List Text) → IsFaultFree (of_kind name AuditLog) words → HasArguments AuditLog (rows_after (of_kind name AuditLog).rules [] words)
 unfolding apf_app
 audit_log_given name words e =
-    let given = all_given (of_kind name AuditLog) (record { rules = refl; own_ids = (refl, (refl, (refl, (refl, (refl, (refl, (refl, tt))))))); defaults = refl; negates = refl }) words e in
+    let given = all_given (of_kind name AuditLog) (record { rules = refl; own_ids = (refl, (refl, (refl, (refl, (refl, (refl, (refl, tt))))))); negates = refl }) words e in
     let log = given.0 refl refl in
     let schema = given.1.0 refl refl in
     record { log = (log.text, log.first); schema = (schema.text, schema.first) }
@@ -154,7 +172,7 @@ audit_log_given name words e =
 objects_given : (name : Text) (words : List Text) → IsFaultFree (of_kind name Objects) words → HasArguments Objects (rows_after (of_kind name Objects).rules [] words)
 unfolding apf_app
 objects_given name words e =
-    let plain : IsPlainShape (of_kind name Objects) = record { rules = refl; own_ids = (refl, (refl, (refl, tt))); defaults = refl; negates = refl } in
+    let plain : IsPlainShape (of_kind name Objects) = record { rules = refl; own_ids = (refl, (refl, (refl, tt))); negates = refl } in
     let given = all_given (of_kind name Objects) plain words e in
     let met = all_met (of_kind name Objects) plain words e in
     let objects = given.0 refl refl in
@@ -171,7 +189,7 @@ objects_given name words e =
 match_given : (name : Text) (words : List Text) → IsFaultFree (of_kind name Match) words → HasArguments Match (rows_after (of_kind name Match).rules [] words)
 unfolding apf_app
 match_given name words e =
-    let given = all_given (of_kind name Match) (record { rules = refl; own_ids = (refl, (refl, (refl, (refl, (refl, (refl, (refl, (refl, (refl, (refl, tt)))))))))); defaults = refl; negates = refl }) words e in
+    let given = all_given (of_kind name Match) (record { rules = refl; own_ids = (refl, (refl, (refl, (refl, (refl, (refl, (refl, (refl, (refl, (refl, tt)))))))))); negates = refl }) words e in
     let objects = given.0 refl refl in
     record { objects = (objects.text, objects.first) }
 
@@ -183,6 +201,7 @@ arguments_given Script name words e = script_given name words e
 arguments_given Workers name words e = workers_given name words e
 arguments_given Level name words e = level_given name words e
 arguments_given Simulation name words e = simulation_given name words e
+arguments_given Bounded name words e = bounded_given name words e
 arguments_given Comparison name words e = comparison_given name words e
 arguments_given Trace name words e = trace_given name words e
 arguments_given Flows name words e = flows_given name words e

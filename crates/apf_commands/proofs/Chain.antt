@@ -5,9 +5,10 @@ use Rattle.clap.specs.declared.builder.value_parser.ValueParser.{ValueParser}
 use Rattle.clap.specs.Built.{AddsArg}
 use Rattle.apf_commands.specs.Commands.{IsMade, command_shape, rules_of, with_rules}
 use Rattle.apf_commands.specs.declared.entries.Kind.{Kind}
-use Rattle.apf_commands.specs.declared.entries.Kind.TheVariants.{Flow, Deck, Script, Workers, Level, Simulation, Comparison, Trace, Flows, AuditLog, Objects, Match}
+use Rattle.apf_commands.specs.declared.entries.Kind.TheVariants.{Flow, Deck, Script, Workers, Level, Simulation, Bounded, Comparison, Trace, Flows, AuditLog, Objects, Match}
 use Rattle.clap.specs.Simple.{App, app_of, app_of_fields, new_app, on_top, with_rule}
 use Rattle.clap.specs.Walk.{Rule, Text, rule_of}
+use Rattle.clap.specs.declared.builder.action.ArgAction.TheVariants.{SetTrue}
 use Rattle.clap.specs.declared.builder.arg.Arg.{Arg}
 use Rattle.clap.specs.declared.builder.command.Command.{Command}
 use Rattle.clap.specs.declared.builder.command.Command.TheOpen.{Command-F}
@@ -74,6 +75,17 @@ option_made new long named helped {name = name} rule_is local longs names helps 
   ap (λ a. a.global) helps ∙ (ap (λ a. a.global) names ∙ (ap (λ a. a.global) longs ∙ local)),
 )
 
+-- an option with no value, and its line of help
+pub flag_made : (new long set helped : Arg) {rule : Rule} {name line : Bor Text} → rule_of new ≡ rule → new.global ≡ false
+    → long ≡ record new { long = Some name } → set ≡ record long { action = Some SetTrue } → helped ≡ record set { help = Some line }
+    → (rule_of helped ≡ record rule { long = Some name.now; action = Some SetTrue }) × (helped.global ≡ false)
+flag_made new long set helped {name = name} rule_is local longs sets helps = (
+  ap rule_of helps
+      ∙ (ap rule_of sets
+      ∙ (ap (λ (a : Arg). record (rule_of a) { action = Some SetTrue }) longs ∙ ap (λ (r : Rule). record r { long = Some name.now; action = Some SetTrue }) rule_is)),
+  ap (λ a. a.global) helps ∙ (ap (λ a. a.global) sets ∙ (ap (λ a. a.global) longs ∙ local)),
+)
+
 -- the same with a parser
 pub number_made : (text number : Arg) {rule : Rule} (parser : ValueParser) → rule_of text ≡ rule → text.global ≡ false
     → number ≡ record text { value_parser = number.value_parser } → number.value_parser ≡ Some parser
@@ -91,6 +103,7 @@ shaped name Script = refl
 shaped name Workers = refl
 shaped name Level = refl
 shaped name Simulation = refl
+shaped name Bounded = refl
 shaped name Comparison = refl
 shaped name Trace = refl
 shaped name Flows = refl

@@ -1,5 +1,5 @@
 -- What the arguments of a command are, where its words have no fault.
-use Rattle.std.proofs.Common.{◌≡◌, ◌∙◌, ◌⊎◌, inl, inr, ◌<◌, ◌≤◌, ◌==◌, ◌&&◌, ◌||◌, ◌^◌, ℕ, Bool, cond, true, false, not, refl, sym, ap, subst, arith, List, [], ◌∷◌, drop, Option, Some, None, Ok, option_map, true≢false}
+use Rattle.std.proofs.Common.{◌≡◌, ◌∙◌, ◌⊎◌, inl, inr, ◌<◌, ◌≤◌, ◌==◌, ◌&&◌, ◌||◌, ◌^◌, ℕ, Bool, cond, true, false, not, refl, sym, ap, subst, arith, List, [], ◌∷◌, drop, length, ◌++◌, Option, Some, None, Ok, is_some, codes, option_map, true≢false}
 use Rattle.std.specs.Prelude.{pos, option_and_then, slice_get}
 use Rattle.std.specs.List.{find, fold, list_all, list_any}
 use Rattle.std.specs.Option.{option_map_or, unwrap_or}
@@ -11,17 +11,18 @@ use Rattle.std.proofs.lemmas.Slice.Eq.{bytes_eq-Decides}
 use Rattle.std.proofs.lemmas.Str.Parse.{digit_from_value}
 use Rattle.clap.specs.Facts.{explicit_source, parser_of_value}
 use Rattle.clap.specs.Lexer.{without_minus}
-use Rattle.clap.specs.Values.{Accepts, IsSignedIn, IsUnsignedIn, read_as, refused_kind}
+use Rattle.clap.specs.Values.{Accepts, bool_text, IsSignedIn, IsUnsignedIn, read_as, refused_kind}
 use Rattle.clap.specs.ValueTests.{accepts}
-use Rattle.clap.specs.Walk.{Names, Row, Rule, Text, arg_by_id, default_rows, finished, first_of, has_row, is_empty, nothing_held, one_of, reading_by, row_text, rows_after, settled, walk, walk_from, with_default}
+use Rattle.clap.specs.Walk.{Names, Row, Rule, Text, action_of, arg_by_id, default_rows, finished, first_of, has_row, is_empty, more_values, nothing_held, one_of, reading_by, row_text, rows_after, settled, walk, walk_from, with_default, with_values}
 use Rattle.clap.specs.Simple.{Shape}
 use Rattle.clap.specs.Takes.{is_given}
-use Rattle.clap.specs.Kinds.{Kinds, check_kinds, value_kinds}
-use Rattle.clap.specs.Faults.{check_fault, defaults_fault, level_fault, settle_fault, walk_fault}
-use Rattle.clap.proofs.SimpleLemmas.{is_nil}
+use Rattle.clap.specs.Kinds.{Kinds, check_kinds, request_kinds, value_kinds}
+use Rattle.clap.specs.declared.builder.value_parser.Reading.{Reading}
+use Rattle.clap.specs.declared.parser.matches.ValueSource.{ValueSource}
+use Rattle.clap.specs.declared.parser.matches.ValueSource.TheVariants.{DefaultValue}
+use Rattle.clap.specs.Faults.{check_fault, default_fault, defaults_fault, given_default_fault, values_fault, level_fault, settle_fault, walk_fault}
 use Rattle.clap.proofs.ValueTestLemmas.{accepts-Accepts}
-use Rattle.clap.proofs.WalkLemmas.{both}
-use Rattle.apf_commands.proofs.Taken.{Each, Each-weaker, IsTaken, IsTakenBy, OwnIds, found, is_plain_rule, no_fault, settled_taken, some_kind, walk_holds}
+use Rattle.apf_commands.proofs.Taken.{Each, Each-weaker, IsTaken, IsTakenBy, OwnIds, found, is_plain_rule, no_fault, put_taken, settled_taken, some_kind, walk_holds}
 
 -- ---- one level of the parse
 
@@ -30,6 +31,7 @@ pub record IsFaultless (s : Shape) (names : Names) (words : List Text) (has_subc
   pub walked : walk_fault s names (walk_from nothing_held) words ≡ []
   pub below : later ≡ []
   pub settle : settle_fault s.rules s.args_override_self (walk s.rules names nothing_held words).held ≡ []
+  pub defaults : defaults_fault (settled s.rules (walk s.rules names nothing_held words).held).rows s.rules ≡ []
   pub check : check_fault s (finished s.rules (walk s.rules names nothing_held words).held) has_subcommand ≡ []
 
 pub level_parts : (s : Shape) (names : Names) (words : List Text) (has_subcommand : Bool) (below : Kinds)
@@ -40,7 +42,7 @@ level_parts s names words has_subcommand below e =
     let entered = no_fault below _ walked.1 in
     let settle = no_fault (settle_fault s.rules s.args_override_self end) _ entered.1 in
     let defaults = no_fault (defaults_fault (settled s.rules end).rows s.rules) _ settle.1 in
-    record { walked = walked.0; below = entered.0; settle = settle.0; check = defaults.1 }
+    record { walked = walked.0; below = entered.0; settle = settle.0; defaults = defaults.0; check = defaults.1 }
 
 -- the checks found nothing missing
 pub no_check : (help subcommand argument : Bool) → check_kinds help subcommand argument ≡ [] → (subcommand ≡ false) × (argument ≡ false)
@@ -49,27 +51,92 @@ no_check false true argument e = absurd (some_kind e)
 no_check false false true e = absurd (some_kind e)
 no_check false false false e = (refl, refl)
 
-same_either : {X : Type 0} (b : Bool) (x : X) → cond b x x ≡ x
-same_either true x = refl
-same_either false x = refl
+-- ---- defaults
 
-no_default : (rows : List Row) (a : Rule) → a.defaults ≡ [] → with_default rows a ≡ rows
-no_default rows a none =
-    ap (λ values. cond (has_row a.id rows) rows (default_rows a.id (reading_by a) values rows)) none ∙ same_either (has_row a.id rows) rows
+-- an argument's default leaves rows that are taken
+default_taken : (c : List Rule) (a : Rule) (rows : List Row) → arg_by_id c a.id ≡ Some a → default_fault rows a ≡ [] → Each (IsTaken c) rows
+    → Each (IsTaken c) (with_default rows a)
+default_taken c a rows own e taken = go (has_row a.id rows) (is_empty a.defaults) a.defaults refl e
+  where
+    some : (v : Text) (vs : List Text) → is_empty (v ∷ vs) ≡ false
+    some v vs = ne_eqb (length (v ∷ vs)) 0 (λ e. omega arith)
 
-no_defaults : (xs : List Rule) (rows : List Row) → list_all (λ a. is_empty a.defaults) xs ≡ true → fold with_default rows xs ≡ rows
-no_defaults [] rows e = refl
-no_defaults (a ∷ xs) rows e =
-    let parts = both (is_empty a.defaults) (list_all (λ x. is_empty x.defaults) xs) e in
-    ap (λ r. fold with_default r xs) (no_default rows a (is_nil a.defaults parts.0)) ∙ no_defaults xs rows parts.1
+    go : (b d : Bool) (values : List Text) → is_empty values ≡ d → cond (b || d) [] (given_default_fault a values) ≡ []
+        → Each (IsTaken c) (cond b rows (default_rows a.id (reading_by a) values rows))
+    go true d values is e = taken
+    go false d [] is e = taken
+    go false true (v ∷ vs) is e = absurd (true≢false (sym is ∙ some v vs))
+    go false false (v ∷ vs) is e =
+        let passed = (no_fault (request_kinds (action_of a)) (values_fault a (v ∷ vs)) e).1 in
+        put_taken c a DefaultValue v vs rows own (no_fault (value_kinds a.ignore_case (parser_of_value a.parser) v) _ passed).0 taken
+
+defaults_taken : (c xs : List Rule) (rows : List Row) → Each (λ a. arg_by_id c a.id ≡ Some a) xs → defaults_fault rows xs ≡ [] → Each (IsTaken c) rows
+    → Each (IsTaken c) (fold with_default rows xs)
+unfolding defaults_fault
+defaults_taken c [] rows own e taken = taken
+defaults_taken c (a ∷ xs) rows own e taken =
+    let parts = no_fault (default_fault rows a) (defaults_fault (with_default rows a) xs) e in
+    defaults_taken c xs (with_default rows a) own.1 parts.1 (default_taken c a rows own.0 parts.0 taken)
+
+-- values leave each row, and one of the argument
+or_true : (b c : Bool) → c ≡ true → (b || c) ≡ true
+or_true true c e = refl
+or_true false c e = e
+
+keeps_row : (i id : Text) (how : Reading) (s : ValueSource) (values : List Text) (rows : List Row) → has_row i rows ≡ true
+    → has_row i (with_values id how s values rows) ≡ true
+keeps_row i id how s values [] e = cc
+keeps_row i id how s values (r ∷ rs) e = go (bytes_eq r.id id) (bytes_eq r.id i) e (keeps_row i id how s values rs) refl
+  where
+    go : (b d : Bool) → (d || has_row i rs) ≡ true → (has_row i rs ≡ true → has_row i (with_values id how s values rs) ≡ true)
+        → bytes_eq r.id i ≡ d → list_any (λ x. bytes_eq x.id i) (cond b (more_values s values r ++ rs) (r ∷ with_values id how s values rs)) ≡ true
+    go true d e later is = ap (λ b. b || has_row i rs) is ∙ e
+    go false true e later is = ap (λ b. b || has_row i (with_values id how s values rs)) is
+    go false false e later is = or_true (bytes_eq r.id i) _ (later e)
+
+puts_row : (id : Text) (how : Reading) (s : ValueSource) (values : List Text) (rows : List Row) → has_row id (with_values id how s values rows) ≡ true
+puts_row id how s values [] = ap (λ b. b || false) ((bytes_eq-Decides id id).1 refl)
+puts_row id how s values (r ∷ rs) = go (bytes_eq r.id id) refl (puts_row id how s values rs)
+  where
+    go : (b : Bool) → bytes_eq r.id id ≡ b → has_row id (with_values id how s values rs) ≡ true
+        → list_any (λ x. bytes_eq x.id id) (cond b (more_values s values r ++ rs) (r ∷ with_values id how s values rs)) ≡ true
+    go true is later = ap (λ b. b || has_row id rs) is
+    go false is later = or_true (bytes_eq r.id id) _ later
+
+default_keeps : (i : Text) (a : Rule) (rows : List Row) → has_row i rows ≡ true → has_row i (with_default rows a) ≡ true
+default_keeps i a rows e = go (has_row a.id rows) a.defaults
+  where
+    go : (b : Bool) (values : List Text) → has_row i (cond b rows (default_rows a.id (reading_by a) values rows)) ≡ true
+    go true values = e
+    go false [] = e
+    go false (v ∷ vs) = keeps_row i a.id (reading_by a) DefaultValue (v ∷ vs) rows e
+
+defaults_keep : (i : Text) (xs : List Rule) (rows : List Row) → has_row i rows ≡ true → has_row i (fold with_default rows xs) ≡ true
+defaults_keep i [] rows e = e
+defaults_keep i (a ∷ xs) rows e = defaults_keep i xs (with_default rows a) (default_keeps i a rows e)
+
+default_puts : (a : Rule) (rows : List Row) → is_empty a.defaults ≡ false → has_row a.id (with_default rows a) ≡ true
+default_puts a rows some = go (has_row a.id rows) a.defaults refl some
+  where
+    go : (b : Bool) (values : List Text) → has_row a.id rows ≡ b → is_empty values ≡ false → has_row a.id (cond b rows (default_rows a.id (reading_by a) values rows)) ≡ true
+    go true values is some = is
+    go false [] is some = cc
+    go false (v ∷ vs) is some = puts_row a.id (reading_by a) DefaultValue (v ∷ vs) rows
+
+-- an argument with a default has a row
+abbrev DefaultHasRow : List Row → Rule → Type 0
+DefaultHasRow rows a = is_empty a.defaults ≡ false → has_row a.id rows ≡ true
+
+defaults_put : (xs : List Rule) (rows : List Row) → Each (DefaultHasRow (fold with_default rows xs)) xs
+defaults_put [] rows = tt
+defaults_put (a ∷ xs) rows = ((λ some. defaults_keep a.id xs (with_default rows a) (default_puts a rows some)), defaults_put xs (with_default rows a))
 
 -- ---- the arguments of a command
 
--- a command of positionals and options with one value each, and the flag that asks for help
+-- a command of positionals and options with one value each, and of flags
 pub record IsPlainShape (s : Shape) : Type 0 where
   pub rules : list_all is_plain_rule s.rules ≡ true
   pub own_ids : OwnIds s.rules
-  pub defaults : list_all (λ a. is_empty a.defaults) s.rules ≡ true
   pub negates : s.subcommand_negates_reqs ≡ false
 
 -- the argument has a value that its parser accepts
@@ -156,7 +223,7 @@ all_taken s plain words e =
     let end = (walk s.rules [] nothing_held words).held in
     let walked = walk_holds s plain.rules plain.own_ids [] words (walk_from nothing_held) (record { rows = tt; stop = tt }) parts.walked in
     let held = settled_taken s.rules plain.rules plain.own_ids s.args_override_self end parts.settle walked.rows in
-    subst (Each (IsTaken s.rules)) (sym (no_defaults s.rules (settled s.rules end).rows plain.defaults)) held
+    defaults_taken s.rules s.rules (settled s.rules end).rows plain.own_ids parts.defaults held
 
 -- there each argument that must be given is
 pub all_given : (s : Shape) → IsPlainShape s → (words : List Text) → level_fault s [] nothing_held words false [] ≡ []
@@ -176,6 +243,44 @@ pub all_met : (s : Shape) → IsPlainShape s → (words : List Text) → level_f
 all_met s plain words e =
     let rows = rows_after s.rules [] words in
     Each-weaker (λ a. arg_by_id s.rules a.id ≡ Some a) (IsMet rows) (met_by s.rules rows (all_taken s plain words e)) s.rules plain.own_ids
+
+-- what passes a test is found by it
+found_where : (p : Row → Bool) (xs : List Row) → list_any p xs ≡ true → is_some (find p xs) ≡ true
+found_where p [] e = cc
+found_where p (x ∷ xs) e = go (p x) e (found_where p xs)
+  where
+    go : (b : Bool) → (b || list_any p xs) ≡ true → (list_any p xs ≡ true → is_some (find p xs) ≡ true) → is_some (cond b (Some x) (find p xs)) ≡ true
+    go true e later = refl
+    go false e later = later e
+
+-- an argument with a default has a value that its parser accepts
+abbrev pub DefaultIsGiven : List Rule → List Row → Rule → Type 0
+DefaultIsGiven c rows a = is_empty a.defaults ≡ false → arg_by_id c a.id ≡ Some a → IsGiven a rows
+
+default_given : (c : List Rule) (rows : List Row) → Each (IsTaken c) rows → (a : Rule) → DefaultHasRow rows a → DefaultIsGiven c rows a
+default_given c rows taken a has some own = go (find (λ r. bytes_eq r.id a.id) rows) refl (found_where (λ r. bytes_eq r.id a.id) rows (has some))
+  where
+    go : (o : Option Row) → find (λ r. bytes_eq r.id a.id) rows ≡ o → is_some o ≡ true → IsGiven a rows
+    go None is e = cc
+    go (Some r) is e = row_given c a rows r taken own is
+
+-- there each argument with a default has a value that its parser accepts
+pub all_filled : (s : Shape) → IsPlainShape s → (words : List Text) → level_fault s [] nothing_held words false [] ≡ []
+    → Each (DefaultIsGiven s.rules (rows_after s.rules [] words)) s.rules
+all_filled s plain words e =
+    let rows = rows_after s.rules [] words in
+    let settled_at = (settled s.rules (walk s.rules [] nothing_held words).held).rows in
+    Each-weaker (DefaultHasRow rows) (DefaultIsGiven s.rules rows) (default_given s.rules rows (all_taken s plain words e)) s.rules (defaults_put s.rules settled_at)
+
+-- ---- flags
+
+-- the text of a flag is `true` or `false`
+pub bool_reads : (t : Text) → (bytes_eq t (codes "true") || bytes_eq t (codes "false")) ≡ true → (b : Bool) × (t ≡ bool_text b)
+bool_reads t e = go (bytes_eq t (codes "true")) refl e
+  where
+    go : (b : Bool) → bytes_eq t (codes "true") ≡ b → (b || bytes_eq t (codes "false")) ≡ true → (b : Bool) × (t ≡ bool_text b)
+    go true is e = (true, (bytes_eq-Decides t (codes "true")).0 is)
+    go false is e = (false, (bytes_eq-Decides t (codes "false")).0 e)
 
 -- ---- numbers
 

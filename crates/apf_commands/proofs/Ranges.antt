@@ -13,7 +13,7 @@ use Rattle.apf_commands.specs.declared.entries.Kind.{Kind}
 use Rattle.apf_commands.specs.declared.entries.Kind.TheVariants as of_kind
 use Rattle.apf_commands.specs.declared.words.Action.{Action}
 use Rattle.apf_commands.specs.declared.words.Arguments.{Arguments}
-use Rattle.apf_commands.specs.declared.words.Arguments.TheVariants.{Flow, Deck, Script, Workers, Level, Simulation, Comparison, Trace, Flows, AuditLog, Objects, Match}
+use Rattle.apf_commands.specs.declared.words.Arguments.TheVariants.{Flow, Deck, Script, Workers, Level, Simulation, Bounded, Comparison, Trace, Flows, AuditLog, Objects, Match}
 use Rattle.apf_commands.proofs.Named.{kind_had}
 
 -- an action that words ask for is in its ranges, once its level's name is
@@ -32,6 +32,7 @@ in_range name rows action is named = go action.arguments known is.arguments name
     go (Deck deck hand hash) known read named = record { command = known; workers = tt; rounds = tt; slots = tt; seats = tt; name = tt }
     go (Script config requests script) known read named = record { command = known; workers = tt; rounds = tt; slots = tt; seats = tt; name = tt }
     go (Simulation config trace patience charge) known read named = record { command = known; workers = tt; rounds = tt; slots = tt; seats = tt; name = tt }
+    go (Bounded config trace patience charge bound) known read named = record { command = known; workers = tt; rounds = tt; slots = tt; seats = tt; name = tt }
     go (Comparison config other trace patience charge) known read named = record { command = known; workers = tt; rounds = tt; slots = tt; seats = tt; name = tt }
     go (Trace trace) known read named = record { command = known; workers = tt; rounds = tt; slots = tt; seats = tt; name = tt }
     go (Flows config trace flow) known read named = record { command = known; workers = tt; rounds = tt; slots = tt; seats = tt; name = tt }
@@ -60,6 +61,7 @@ no_name_fault name rows action is named = go action.arguments is.kind is.argumen
     go (Deck deck hand hash) kind read named = other_kind name rows _ kind refl
     go (Script config requests script) kind read named = other_kind name rows _ kind refl
     go (Simulation config trace patience charge) kind read named = other_kind name rows _ kind refl
+    go (Bounded config trace patience charge bound) kind read named = other_kind name rows _ kind refl
     go (Comparison config other trace patience charge) kind read named = other_kind name rows _ kind refl
     go (Trace trace) kind read named = other_kind name rows _ kind refl
     go (Flows config trace flow) kind read named = other_kind name rows _ kind refl
@@ -80,6 +82,7 @@ has_name_fault name rows action is named = go action.arguments is.kind is.argume
     go (Deck deck hand hash) kind read named = absurd named
     go (Script config requests script) kind read named = absurd named
     go (Simulation config trace patience charge) kind read named = absurd named
+    go (Bounded config trace patience charge bound) kind read named = absurd named
     go (Comparison config other trace patience charge) kind read named = absurd named
     go (Trace trace) kind read named = absurd named
     go (Flows config trace flow) kind read named = absurd named

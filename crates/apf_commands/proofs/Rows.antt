@@ -33,6 +33,10 @@ record HasFaults : Type 0 where
   no_instant : fault (codes "trace" ∷ codes "a" ∷ codes "b" ∷ codes "--since" ∷ []) ≡ kind.InvalidValue ∷ []
   two_users : fault (codes "trace" ∷ codes "a" ∷ codes "b" ∷ codes "--user=c" ∷ codes "--user=d" ∷ []) ≡ kind.ArgumentConflict ∷ []
   other_option : fault (codes "hands" ∷ codes "a" ∷ codes "b" ∷ codes "--user" ∷ codes "c" ∷ []) ≡ kind.UnknownArgument ∷ []
+  bound_with_value : fault (codes "simulate" ∷ codes "a" ∷ codes "b" ∷ codes "c" ∷ codes "--bound=true" ∷ []) ≡ kind.TooManyValues ∷ []
+  bound_twice : fault (codes "simulate" ∷ codes "--bound" ∷ codes "a" ∷ codes "b" ∷ codes "c" ∷ codes "--bound" ∷ []) ≡ kind.ArgumentConflict ∷ []
+  bound_as_charge : fault (codes "simulate" ∷ codes "a" ∷ codes "b" ∷ codes "c" ∷ codes "--charge" ∷ codes "--bound" ∷ []) ≡ kind.InvalidValue ∷ []
+  fates_bound : fault (codes "fates" ∷ codes "a" ∷ codes "b" ∷ codes "c" ∷ codes "--bound" ∷ []) ≡ kind.UnknownArgument ∷ []
   help : fault (codes "--help" ∷ []) ≡ kind.DisplayHelp ∷ []
   deal_help : fault (codes "deal" ∷ codes "--help" ∷ []) ≡ kind.DisplayHelp ∷ []
 
@@ -53,6 +57,10 @@ refused_rows = record {
   no_instant = refl;
   two_users = refl;
   other_option = refl;
+  bound_with_value = refl;
+  bound_twice = refl;
+  bound_as_charge = refl;
+  fates_bound = refl;
   help = refl;
   deal_help = refl;
 }
@@ -74,6 +82,10 @@ record IsAccepted : Type 0 where
   user : text (codes "trace" ∷ codes "a" ∷ codes "b" ∷ codes "--user=c*" ∷ []) (codes "user") ≡ Some (codes "trace", Some (codes "c*"))
   all_options : text (codes "trace" ∷ codes "a" ∷ codes "b" ∷ codes "--by" ∷ codes "user" ∷ codes "--user" ∷ codes "" ∷ codes "--since" ∷ codes "c" ∷ codes "--until" ∷ codes "d" ∷ [])
       (codes "until") ≡ Some (codes "trace", Some (codes "d"))
+  bound : number (codes "simulate" ∷ codes "a" ∷ codes "b" ∷ codes "c" ∷ codes "--bound" ∷ []) (codes "bound") ≡ Some (codes "simulate", Some (codes "true"))
+  bound_first : number (codes "simulate" ∷ codes "--bound" ∷ codes "a" ∷ codes "b" ∷ codes "c" ∷ []) (codes "bound") ≡ Some (codes "simulate", Some (codes "true"))
+  no_bound : number (codes "simulate" ∷ codes "a" ∷ codes "b" ∷ codes "c" ∷ []) (codes "bound") ≡ Some (codes "simulate", Some (codes "false"))
+  bound_behind_dashes : number (codes "simulate" ∷ codes "a" ∷ codes "b" ∷ codes "--" ∷ codes "--bound" ∷ []) (codes "bound") ≡ Some (codes "simulate", Some (codes "false"))
   hands_trace : text (codes "hands" ∷ codes "a" ∷ codes "b" ∷ []) (codes "TRACE") ≡ Some (codes "hands", Some (codes "b"))
 
 accepted_rows : IsAccepted
@@ -94,5 +106,9 @@ accepted_rows = record {
   flow = refl;
   user = refl;
   all_options = refl;
+  bound = refl;
+  bound_first = refl;
+  no_bound = refl;
+  bound_behind_dashes = refl;
   hands_trace = refl;
 }

@@ -8,7 +8,7 @@ use Rattle.std.proofs.lemmas.Bool.{eqb-true}
 use Rattle.std.proofs.lemmas.Slice.Eq.{bytes_eq-Decides}
 use Rattle.clap.specs.Facts.{parser_of_value, unwrap_or_range}
 use Rattle.clap.specs.Lexer.{long_of, short_of}
-use Rattle.clap.specs.Walk.{Held, Names, Outcome, Row, Rule, Step, Text, Waiting, Walk, action_of, after_flag, after_step, arg_by_id, arg_by_index, arg_by_long, arg_by_short, at_row, attached_value, bundle, bundle_met, bundle_step, done, has_long, has_short, idle, is_pending, long_or_other, flag_met, long_met, more_values, most_values, next, option, option_met, option_word, short_met, plain, plain_word, positional, reacted, reading_by, refused, settled, settled_rows, short_or_plain, subcommand, subcommand_met, subcommand_or_other, takes_several, takes_values, to_positional, trailing, used, used_by_id, value, values_or_missing, waits, walked, walked_from, with_values, without, word_met}
+use Rattle.clap.specs.Walk.{Held, Names, Outcome, Row, Rule, Step, Text, Waiting, Walk, action_of, after_flag, after_step, arg_by_id, arg_by_index, arg_by_long, arg_by_short, at_row, attached_value, bundle, bundle_met, bundle_step, done, has_long, has_short, idle, is_empty, is_pending, long_or_other, flag_met, long_met, more_values, most_values, next, option, option_met, option_word, short_met, plain, plain_word, positional, reacted, reading_by, refused, settled, settled_rows, short_or_plain, subcommand, subcommand_met, subcommand_or_other, takes_several, takes_values, to_positional, trailing, used, used_by_id, value, values_or_missing, waits, walked, walked_from, with_values, without, word_met}
 use Rattle.clap.specs.Simple.{Shape}
 use Rattle.clap.specs.Kinds.{Kinds, or_else, range_kinds, value_kinds}
 use Rattle.clap.specs.Faults.{bundle_fault, bundle_step_fault, flag_word_fault, flags_fault, long_fault, other_fault, positional_fault, option_fault, react_fault, set_fault, stray_fault, settle_fault, values_fault, short_fault, step_fault, turn_fault, use_fault, walk_fault, word_fault, action_fault}
@@ -69,6 +69,10 @@ abbrev is_set : ArgAction → Bool
 is_set Set = true
 is_set _ = false
 
+abbrev is_set_true : ArgAction → Bool
+is_set_true SetTrue = true
+is_set_true _ = false
+
 abbrev is_request : ArgAction → Bool
 is_request Help = true
 is_request Version = true
@@ -84,6 +88,17 @@ set_only Help e = cc
 set_only HelpShort e = cc
 set_only HelpLong e = cc
 set_only Version e = cc
+
+set_true_only : (x : ArgAction) → is_set_true x ≡ true → x ≡ SetTrue
+set_true_only SetTrue e = refl
+set_true_only Set e = cc
+set_true_only Append e = cc
+set_true_only SetFalse e = cc
+set_true_only Count e = cc
+set_true_only Help e = cc
+set_true_only HelpShort e = cc
+set_true_only HelpLong e = cc
+set_true_only Version e = cc
 
 -- no use of an argument that asks for help or the version passes
 request_fails : (x : ArgAction) (again : Bool) (a : Rule) (values : List Text) (rows : List Row) → is_request x ≡ true → action_fault x again a values rows ≡ [] → ⊥
@@ -101,13 +116,17 @@ request_fails HelpLong again a values rows e f = cc
 abbrev is_single : Rule → Bool
 is_single a = is_set (action_of a) && ((unwrap_or_range a.range).start_inclusive == 1 && most_values a == 1)
 
--- a flag that asks for help or the version
-abbrev is_request_flag : Rule → Bool
-is_request_flag a = is_request (action_of a) && not (takes_values a)
+-- what is given or not, and has a value that stands for its use
+abbrev is_switch : Rule → Bool
+is_switch a = is_set_true (action_of a) && not (is_empty a.missing)
 
--- each argument has one value, as a positional or an option, or is a flag that asks for help or the version
+-- a flag that asks for help or the version, or that is given or not
+abbrev is_flag : Rule → Bool
+is_flag a = not (takes_values a) && (is_request (action_of a) || is_switch a)
+
+-- each argument has one value, as a positional or an option, or is such a flag
 abbrev pub is_plain_rule : Rule → Bool
-is_plain_rule a = cond (is_some a.index) (is_single a) (is_single a || is_request_flag a)
+is_plain_rule a = cond (is_some a.index) (is_single a) (is_single a || is_flag a)
 
 -- each argument is the first of its id
 abbrev pub OwnIds : List Rule → Type 0
@@ -139,6 +158,19 @@ one_value [] e = absurd (omega arith)
 one_value (t ∷ []) e = (t, refl)
 one_value (t ∷ u ∷ rest) e = absurd (omega arith)
 
+-- a list of values, with a first one
+abbrev HasFirst : List Text → Type 0
+HasFirst values = (t : Text) × ((rest : List Text) × (values ≡ t ∷ rest))
+
+first_value : (values : List Text) → not (is_empty values) ≡ true → HasFirst values
+first_value [] e = cc
+first_value (t ∷ rest) e = (t, (rest, refl))
+
+-- a use has values, or those that stand for a use with none
+use_values : (a : Rule) (values : List Text) → not (is_empty a.missing) ≡ true → HasFirst (values_or_missing a values)
+use_values a [] e = first_value a.missing e
+use_values a (t ∷ rest) e = (t, (rest, refl))
+
 -- ---- rows
 
 rows_changed : (P : Row → Type 0) (id : Text) (change : Row → List Row) (missing rows : List Row)
@@ -160,23 +192,30 @@ more_taken c s values r h = (
   tt,
 )
 
-new_taken : (c : List Rule) (a : Rule) (t : Text) (r : Row) → arg_by_id c r.id ≡ Some a → r.values ≡ t ∷ [] → r.reading ≡ reading_by a
+new_taken : (c : List Rule) (a : Rule) (t : Text) (rest : List Text) (r : Row) → arg_by_id c r.id ≡ Some a → r.values ≡ t ∷ rest → r.reading ≡ reading_by a
     → value_kinds a.ignore_case (parser_of_value a.parser) t ≡ [] → IsTaken c r
-new_taken c a t r is values reading taken = record {
+new_taken c a t rest r is values reading taken = record {
   by = λ b found_b.
       let same : a ≡ b = cc in
       let P : Rule → Type 0 = λ z. IsTakenBy z r in
-      subst P same (record { text = t; rest = []; values = values; reading = reading; taken = taken });
+      subst P same (record { text = t; rest = rest; values = values; reading = reading; taken = taken });
 }
 
-with_taken : (c : List Rule) (a : Rule) (t : Text) (rows : List Row) → arg_by_id c a.id ≡ Some a
+-- an argument gets values, the first of which it takes
+pub put_taken : (c : List Rule) (a : Rule) (s : ValueSource) (t : Text) (rest : List Text) (rows : List Row) → arg_by_id c a.id ≡ Some a
     → value_kinds a.ignore_case (parser_of_value a.parser) t ≡ [] → Each (IsTaken c) rows
-    → Each (IsTaken c) (with_values a.id (reading_by a) CommandLine (t ∷ []) (without a.id rows))
-with_taken c a t rows is taken h =
-    let new : Row = record { id = a.id; values = t ∷ []; count = None; source = Some CommandLine; reading = reading_by a } in
-    let kept : Each (IsTaken c) (without a.id rows) = rows_changed (IsTaken c) a.id (λ _. []) [] rows (λ r e p. tt) tt h in
-    rows_changed (IsTaken c) a.id (more_values CommandLine (t ∷ [])) (new ∷ []) (without a.id rows)
-    (λ r e p. more_taken c CommandLine (t ∷ []) r p) (new_taken c a t new is refl refl taken, tt) kept
+    → Each (IsTaken c) (with_values a.id (reading_by a) s (t ∷ rest) rows)
+put_taken c a s t rest rows is taken h =
+    let new : Row = record { id = a.id; values = t ∷ rest; count = None; source = Some s; reading = reading_by a } in
+    rows_changed (IsTaken c) a.id (more_values s (t ∷ rest)) (new ∷ []) rows
+    (λ r e p. more_taken c s (t ∷ rest) r p) (new_taken c a t rest new is refl refl taken, tt) h
+
+-- they take the place of those that it had
+with_taken : (c : List Rule) (a : Rule) (t : Text) (rest : List Text) (rows : List Row) → arg_by_id c a.id ≡ Some a
+    → value_kinds a.ignore_case (parser_of_value a.parser) t ≡ [] → Each (IsTaken c) rows
+    → Each (IsTaken c) (with_values a.id (reading_by a) CommandLine (t ∷ rest) (without a.id rows))
+with_taken c a t rest rows is taken h =
+    put_taken c a CommandLine t rest (without a.id rows) is taken (rows_changed (IsTaken c) a.id (λ _. []) [] rows (λ r e p. tt) tt h)
 
 -- ---- one use of an argument
 
@@ -196,9 +235,9 @@ module _ (c : List Rule) (plain_rules : list_all is_plain_rule c ≡ true) (own_
   plain_found p a is = found (λ x. is_plain_rule x ≡ true) p c a (each_passes is_plain_rule c plain_rules) is
 
   -- no use of a flag that asks for help or the version passes
-  flag_fails : (again : Bool) (a : Rule) (values : List Text) (rows : List Row) → is_request_flag a ≡ true → use_fault again a values rows ≡ [] → ⊥
-  flag_fails again a values rows flag e =
-      request_fails (action_of a) again a (values_or_missing a values) rows (both _ _ flag).0
+  flag_fails : (again : Bool) (a : Rule) (values : List Text) (rows : List Row) → is_request (action_of a) ≡ true → use_fault again a values rows ≡ [] → ⊥
+  flag_fails again a values rows request e =
+      request_fails (action_of a) again a (values_or_missing a values) rows request
       (no_fault (range_kinds (unwrap_or_range a.range).start_inclusive (most_values a) (length values)) _ e).1
 
   single_value : (again : Bool) (a : Rule) (values : List Text) (rows : List Row) → is_single a ≡ true → use_fault again a values rows ≡ []
@@ -217,6 +256,19 @@ module _ (c : List Rule) (plain_rules : list_all is_plain_rule c ≡ true) (own_
       let first : values_fault a (one.0 ∷ []) ≡ [] = rw one.1 at passed in
       (one.0, one.1, (no_fault _ _ first).0)
 
+  -- a use of a flag that is given or not has values, the first of which it takes
+  switch_value : (again : Bool) (a : Rule) (values : List Text) (rows : List Row) → is_switch a ≡ true → use_fault again a values rows ≡ []
+      → (t : Text) × ((rest : List Text) × (values_or_missing a values ≡ t ∷ rest) × (value_kinds a.ignore_case (parser_of_value a.parser) t ≡ []))
+  switch_value again a values rows switch e =
+      let tests = both (is_set_true (action_of a)) (not (is_empty a.missing)) switch in
+      let action : action_of a ≡ SetTrue = set_true_only (action_of a) tests.0 in
+      let has = use_values a values tests.1 in
+      let parts = no_fault (range_kinds (unwrap_or_range a.range).start_inclusive (most_values a) (length values)) _ e in
+      let set : set_fault again a (values_or_missing a values) rows ≡ [] = rw action at parts.1 in
+      let passed : values_fault a (values_or_missing a values) ≡ [] = (no_fault _ _ set).1 in
+      let first : values_fault a (has.0 ∷ has.1.0) ≡ [] = subst (λ (vs : List Text). values_fault a vs ≡ []) has.1.1 passed in
+      (has.0, (has.1.0, has.1.1, (no_fault _ _ first).0))
+
   used_taken : (again : Bool) (a : Rule) (id : Text) (values : List Text) (rows : List Row) → arg_by_id c id ≡ Some a
       → use_fault again a values rows ≡ [] → Each (IsTaken c) rows → Each (IsTaken c) (used a values rows)
   used_taken again a id values rows is e h = go (is_some a.index) got.0
@@ -231,14 +283,28 @@ module _ (c : List Rule) (plain_rules : list_all is_plain_rule c ≡ true) (own_
       by_value single =
           let action : action_of a ≡ Set = set_only _ (both _ _ single).0 in
           let one = single_value again a values rows single e in
-          rw (action, one.1) (with_taken c a one.0 rows by_own_id one.2 h)
+          rw (action, one.1) (with_taken c a one.0 [] rows by_own_id one.2 h)
 
-      go : (b : Bool) → cond b (is_single a) (is_single a || is_request_flag a) ≡ true → Each (IsTaken c) (used a values rows)
+      by_switch : is_switch a ≡ true → Each (IsTaken c) (used a values rows)
+      by_switch switch =
+          let action : action_of a ≡ SetTrue = set_true_only (action_of a) (both (is_set_true (action_of a)) (not (is_empty a.missing)) switch).0 in
+          let has = switch_value again a values rows switch e in
+          let taken = with_taken c a has.0 has.1.0 rows by_own_id has.1.2 h in
+          rw action (subst (λ (vs : List Text). Each (IsTaken c) (with_values a.id (reading_by a) CommandLine vs (without a.id rows))) (sym has.1.1) taken)
+
+      by_flag : is_flag a ≡ true → Each (IsTaken c) (used a values rows)
+      by_flag flag =
+          elim (either_true (is_request (action_of a)) (is_switch a) (both (not (takes_values a)) (is_request (action_of a) || is_switch a) flag).1) [
+            | inl request ↦ absurd (flag_fails again a values rows request e)
+            | inr switch ↦ by_switch switch
+          ]
+
+      go : (b : Bool) → cond b (is_single a) (is_single a || is_flag a) ≡ true → Each (IsTaken c) (used a values rows)
       go true single = by_value single
       go false either =
-          elim (either_true (is_single a) (is_request_flag a) either) [
+          elim (either_true (is_single a) (is_flag a) either) [
             | inl single ↦ by_value single
-            | inr flag ↦ absurd (flag_fails again a values rows flag e)
+            | inr flag ↦ by_flag flag
           ]
 
   pub settled_taken : (again : Bool) (h : Held) → settle_fault c again h ≡ [] → Each (IsTaken c) h.rows → Each (IsTaken c) (settled c h).rows
@@ -256,21 +322,22 @@ module _ (c : List Rule) (plain_rules : list_all is_plain_rule c ≡ true) (own_
 
   -- ---- the walk
 
-  -- an option with its value, or one that waits for it, leaves rows that are taken
+  -- a use leaves rows that are taken
+  reacted_taken : (again : Bool) (a : Rule) (values : List Text) (h : Held) → arg_by_id c a.id ≡ Some a → react_fault c again a values h ≡ []
+      → Each (IsTaken c) h.rows → Each (IsTaken c) (reacted c a values h).rows
+  reacted_taken again a values h is e taken =
+      let parts = no_fault (settle_fault c again h) (use_fault again a values (settled c h).rows) e in
+      used_taken again a a.id values (settled c h).rows is parts.1 (settled_taken again h parts.0 taken)
+
+  -- an option with its value, or one that waits for it, does so too
   option_taken : (again : Bool) (a : Rule) (v : Option Text) (h : Held) → arg_by_id c a.id ≡ Some a → option_fault c again a v h ≡ []
       → Each (IsTaken c) h.rows → Each (IsTaken c) (option_met c a v h).0.rows
   option_taken again a None h is e taken = settled_taken again h e taken
-  option_taken again a (Some v) h is e taken =
-      let parts = no_fault (settle_fault c again h) (use_fault again a (v ∷ []) (settled c h).rows) e in
-      used_taken again a a.id (v ∷ []) (settled c h).rows is parts.1 (settled_taken again h parts.0 taken)
-
-  -- no use of a flag passes
-  flag_refused : (again : Bool) (a : Rule) (h : Held) → is_request_flag a ≡ true → react_fault c again a [] h ≡ [] → ⊥
-  flag_refused again a h flag e = flag_fails again a [] (settled c h).rows flag (no_fault (settle_fault c again h) _ e).1
+  option_taken again a (Some v) h is e taken = reacted_taken again a (v ∷ []) h is e taken
 
   -- what is found by a name is an option with one value, or a flag, and is the first of its id
   record IsNamed (a : Rule) : Type 0 where
-    kind : (is_single a || is_request_flag a) ≡ true
+    kind : (is_single a || is_flag a) ≡ true
     own : arg_by_id c a.id ≡ Some a
 
   named_found : (p : Rule → Bool) (a : Rule) → find (λ x. not (is_some x.index) && p x) c ≡ Some a → IsNamed a
@@ -279,16 +346,16 @@ module _ (c : List Rule) (plain_rules : list_all is_plain_rule c ≡ true) (own_
       got : (is_plain_rule a ≡ true) × ((not (is_some a.index) && p a) ≡ true)
       got = plain_found (λ x. not (is_some x.index) && p x) a is
 
-      go : (b : Bool) → cond b (is_single a) (is_single a || is_request_flag a) ≡ true → b ≡ false → (is_single a || is_request_flag a) ≡ true
+      go : (b : Bool) → cond b (is_single a) (is_single a || is_flag a) ≡ true → b ≡ false → (is_single a || is_flag a) ≡ true
       go true kind miss = absurd (true≢false miss)
       go false kind miss = kind
 
   long_named : (again : Bool) (a : Rule) (v : Option Text) (h : Held) → IsNamed a → long_fault c again (Some a) v h ≡ []
       → Each (IsTaken c) h.rows → Each (IsTaken c) (long_met c (Some a) v h).0.rows
   long_named again a v h named e taken =
-      elim (either_true (is_single a) (is_request_flag a) named.kind) [
+      elim (either_true (is_single a) (is_flag a) named.kind) [
         | inl single ↦ go (takes_values a) (single_takes a single) e
-        | inr flag ↦ absurd (flag_case (takes_values a) (is_false _ (both _ _ flag).1) v flag e)
+        | inr flag ↦ flag_case (takes_values a) (is_false _ (both _ _ flag).0) v e
       ]
     where
       go : (b : Bool) → b ≡ true
@@ -297,11 +364,12 @@ module _ (c : List Rule) (plain_rules : list_all is_plain_rule c ≡ true) (own_
       go true is e = option_taken again a v h named.own e taken
       go false is e = absurd (true≢false (sym is))
 
-      flag_case : (b : Bool) → b ≡ false → (v : Option Text) → is_request_flag a ≡ true
-          → cond b (option_fault c again a v h) (cond (is_some v) (kind.TooManyValues ∷ []) (react_fault c again a [] h)) ≡ [] → ⊥
-      flag_case true miss v flag e = true≢false miss
-      flag_case false miss (Some t) flag e = some_kind e
-      flag_case false miss None flag e = flag_refused again a h flag e
+      flag_case : (b : Bool) → b ≡ false → (v : Option Text)
+          → cond b (option_fault c again a v h) (cond (is_some v) (kind.TooManyValues ∷ []) (react_fault c again a [] h)) ≡ []
+          → Each (IsTaken c) (cond b (option_met c a v h) (flag_met c a v h)).0.rows
+      flag_case true miss v e = absurd (true≢false miss)
+      flag_case false miss (Some t) e = absurd (some_kind e)
+      flag_case false miss None e = reacted_taken again a [] h named.own e taken
 
   long_taken : (again : Bool) (name : Text) (v : Option Text) (h : Held) → long_fault c again (arg_by_long c name) v h ≡ []
       → Each (IsTaken c) h.rows → Each (IsTaken c) (long_met c (arg_by_long c name) v h).0.rows
@@ -311,13 +379,17 @@ module _ (c : List Rule) (plain_rules : list_all is_plain_rule c ≡ true) (own_
       go None is e = absurd (some_kind e)
       go (Some a) is e = long_named again a v h (named_found (λ x. has_long x name) a is) e taken
 
+  -- what comes later in a bundle leaves rows that are taken
+  abbrev LaterTaken : (Held → Kinds) → (Held → Held × Outcome) → Type 0
+  LaterTaken after later = (h : Held) → after h ≡ [] → Each (IsTaken c) h.rows → Each (IsTaken c) (later h).0.rows
+
   -- what a flag of a bundle leaves, where what comes after it does so too
-  short_named : (again : Bool) (a : Rule) (rest : Text) (h : Held) (after : Held → Kinds) (later : Held → Held × Outcome) → IsNamed a
+  short_named : (again : Bool) (a : Rule) (rest : Text) (h : Held) (after : Held → Kinds) (later : Held → Held × Outcome) → LaterTaken after later → IsNamed a
       → short_fault c again (Some a) rest h after ≡ [] → Each (IsTaken c) h.rows → Each (IsTaken c) (short_met c (Some a) rest h later).0.rows
-  short_named again a rest h after later named e taken =
-      elim (either_true (is_single a) (is_request_flag a) named.kind) [
+  short_named again a rest h after later passes named e taken =
+      elim (either_true (is_single a) (is_flag a) named.kind) [
         | inl single ↦ go (takes_values a) (single_takes a single) e
-        | inr flag ↦ absurd (flag_case (takes_values a) (is_false _ (both _ _ flag).1) flag e)
+        | inr flag ↦ flag_case (takes_values a) (is_false _ (both _ _ flag).0) e
       ]
     where
       go : (b : Bool) → b ≡ true
@@ -326,18 +398,21 @@ module _ (c : List Rule) (plain_rules : list_all is_plain_rule c ≡ true) (own_
       go true is e = option_taken again a (attached_value rest) h named.own e taken
       go false is e = absurd (true≢false (sym is))
 
-      flag_case : (b : Bool) → b ≡ false → is_request_flag a ≡ true
-          → cond b (option_fault c again a (attached_value rest) h) (or_else (react_fault c again a [] h) (after (reacted c a [] h))) ≡ [] → ⊥
-      flag_case true miss flag e = true≢false miss
-      flag_case false miss flag e = flag_refused again a h flag (no_fault (react_fault c again a [] h) _ e).0
+      flag_case : (b : Bool) → b ≡ false
+          → cond b (option_fault c again a (attached_value rest) h) (or_else (react_fault c again a [] h) (after (reacted c a [] h))) ≡ []
+          → Each (IsTaken c) (cond b (option_met c a (attached_value rest) h) (later (reacted c a [] h))).0.rows
+      flag_case true miss e = absurd (true≢false miss)
+      flag_case false miss e =
+          let parts = no_fault (react_fault c again a [] h) (after (reacted c a [] h)) e in
+          passes (reacted c a [] h) parts.1 (reacted_taken again a [] h named.own parts.0 taken)
 
-  short_taken : (again : Bool) (x : ℕ) (rest : Text) (h : Held) (after : Held → Kinds) (later : Held → Held × Outcome)
+  short_taken : (again : Bool) (x : ℕ) (rest : Text) (h : Held) (after : Held → Kinds) (later : Held → Held × Outcome) → LaterTaken after later
       → short_fault c again (arg_by_short c x) rest h after ≡ [] → Each (IsTaken c) h.rows → Each (IsTaken c) (short_met c (arg_by_short c x) rest h later).0.rows
-  short_taken again x rest h after later e taken = go (arg_by_short c x) refl e
+  short_taken again x rest h after later passes e taken = go (arg_by_short c x) refl e
     where
       go : (o : Option Rule) → arg_by_short c x ≡ o → short_fault c again o rest h after ≡ [] → Each (IsTaken c) (short_met c o rest h later).0.rows
       go None is e = absurd (some_kind e)
-      go (Some a) is e = short_named again a rest h after later (named_found (λ y. has_short y x) a is) e taken
+      go (Some a) is e = short_named again a rest h after later passes (named_found (λ y. has_short y x) a is) e taken
 
   -- the flags of a bundle leave rows that are taken
   bundle_taken : (again : Bool) (k : ℕ) (flags : Text) (skip : ℕ) (so_far : Outcome) (h : Held) → flags_fault c again k flags skip h ≡ []
@@ -353,7 +428,7 @@ module _ (c : List Rule) (plain_rules : list_all is_plain_rule c ≡ true) (own_
       go None skip e later = taken
       go (Some x) zero e later =
           let rest = drop (length (encode_utf8 x)) flags in
-          short_taken again x rest h (flags_fault c again k rest 0) (bundle_met c k rest 0 done) e taken
+          short_taken again x rest h (flags_fault c again k rest 0) (bundle_met c k rest 0 done) (later rest 0 done) e taken
       go (Some x) (suc skip) e later = later (drop (length (encode_utf8 x)) flags) skip so_far h e taken
 
 -- ---- what a word leaves

@@ -1,10 +1,10 @@
 -- The arguments that a command has once `clap` has accepted its words, which the readers require.
-use Rattle.std.specs.Prelude.{◌≡◌, ℕ, List, Some, codes}
+use Rattle.std.specs.Prelude.{◌≡◌, ℕ, Bool, List, Some, codes}
 use Rattle.clap.specs.Words.{Row, Text}
-use Rattle.apf_commands.specs.Meaning.{IsNumber, IsRoundCount, IsSeatCount, IsSlotCount, IsText, IsWorkerCount}
+use Rattle.apf_commands.specs.Meaning.{IsFlag, IsNumber, IsRoundCount, IsSeatCount, IsSlotCount, IsText, IsWorkerCount}
 use Rattle.apf_commands.specs.Commands.{kind_named}
 use Rattle.apf_commands.specs.declared.entries.Kind.{Kind}
-use Rattle.apf_commands.specs.declared.entries.Kind.TheVariants.{Flow, Deck, Script, Workers, Level, Simulation, Comparison, Trace, Flows, AuditLog, Objects, Match}
+use Rattle.apf_commands.specs.declared.entries.Kind.TheVariants.{Flow, Deck, Script, Workers, Level, Simulation, Bounded, Comparison, Trace, Flows, AuditLog, Objects, Match}
 
 -- the argument has a text
 abbrev pub HasText : List Row → Text → Type 0
@@ -13,6 +13,10 @@ HasText rows id = (t : Text) × IsText rows id t
 -- the argument has a number of k bits
 abbrev pub HasNumber : ℕ → List Row → Text → Type 0
 HasNumber k rows id = (n : ℕ) × IsNumber k rows id n
+
+-- the option with no value is given or not
+abbrev pub HasFlag : List Row → Text → Type 0
+HasFlag rows id = (b : Bool) × IsFlag rows id b
 
 -- the arguments of a flow
 pub record HasFlow (rows : List Row) : Type 0 where
@@ -48,6 +52,13 @@ pub record HasSimulation (rows : List Row) : Type 0 where
   pub config : HasText rows (codes "CONFIG")
   pub trace : HasText rows (codes "TRACE")
   pub patience : HasText rows (codes "PATIENCE")
+
+-- the arguments of a simulation of which both sides of the bound may be told
+pub record HasBounded (rows : List Row) : Type 0 where
+  pub config : HasText rows (codes "CONFIG")
+  pub trace : HasText rows (codes "TRACE")
+  pub patience : HasText rows (codes "PATIENCE")
+  pub bound : HasFlag rows (codes "bound")
 
 -- the arguments of a comparison
 pub record HasComparison (rows : List Row) : Type 0 where
@@ -87,6 +98,7 @@ HasArguments Script rows = HasScript rows
 HasArguments Workers rows = HasWorkersOf rows
 HasArguments Level rows = HasLevel rows
 HasArguments Simulation rows = HasSimulation rows
+HasArguments Bounded rows = HasBounded rows
 HasArguments Comparison rows = HasComparison rows
 HasArguments Trace rows = HasTrace rows
 HasArguments Flows rows = HasFlows rows

@@ -4,11 +4,12 @@ use Rattle.clap.specs.Words.{App, Rule, Shape, Text, app_of, new_app, new_rule}
 use Rattle.clap.specs.Simple.{with_rule, with_subcommand}
 use Rattle.clap.specs.declared.builder.command.Command.{Command}
 use Rattle.clap.specs.declared.builder.command.Command.TheViews.{out-Command}
+use Rattle.clap.specs.declared.builder.action.ArgAction.TheVariants.{SetTrue}
 use Rattle.clap.specs.declared.builder.value_parser.ValueParser.{ValueParser}
 use Rattle.clap.specs.declared.builder.value_parser.ValueParser.TheVariants.{Signed, Unsigned}
 use Rattle.apf_commands.specs.declared.entries.Entry.{Entry}
 use Rattle.apf_commands.specs.declared.entries.Kind.{Kind}
-use Rattle.apf_commands.specs.declared.entries.Kind.TheVariants.{Flow, Deck, Script, Workers, Level, Simulation, Comparison, Trace, Flows, AuditLog, Objects, Match}
+use Rattle.apf_commands.specs.declared.entries.Kind.TheVariants.{Flow, Deck, Script, Workers, Level, Simulation, Bounded, Comparison, Trace, Flows, AuditLog, Objects, Match}
 
 -- a command: its name, and the kind of its arguments
 abbrev pub Named : Type 0
@@ -23,7 +24,7 @@ level_commands =
 -- the commands on traces, on audit logs and on a cluster's objects
 abbrev pub trace_commands : List Named
 trace_commands =
-    (codes "simulate", Simulation) ∷ (codes "timeline", Simulation) ∷ (codes "compare", Comparison) ∷ (codes "fates", Simulation)
+    (codes "simulate", Bounded) ∷ (codes "timeline", Simulation) ∷ (codes "compare", Comparison) ∷ (codes "fates", Simulation)
     ∷ (codes "requests", Trace) ∷ (codes "picture", Simulation) ∷ (codes "hands", Flows) ∷ (codes "trace", AuditLog)
     ∷ (codes "objects", Objects) ∷ (codes "match", Match) ∷ []
 
@@ -52,6 +53,7 @@ is_same Script Script = true
 is_same Workers Workers = true
 is_same Level Level = true
 is_same Simulation Simulation = true
+is_same Bounded Bounded = true
 is_same Comparison Comparison = true
 is_same Trace Trace = true
 is_same Flows Flows = true
@@ -73,7 +75,7 @@ has_kind = has_kind_in (level_commands ++ trace_commands)
 abbrev pub is_script_command : Text → Bool
 is_script_command = has_kind Script
 
--- a command that simulates a trace on one level has this name
+-- a command that shows what a simulation of a trace on one level did has this name
 abbrev pub is_simulation_command : Text → Bool
 is_simulation_command = has_kind Simulation
 
@@ -97,6 +99,10 @@ option_rule name = record (new_rule name) { long = Some name; value_names = 1 }
 -- an option with a number, which may be left out
 abbrev pub number_option_rule : Text → ValueParser → Rule
 number_option_rule name parser = record (option_rule name) { parser = Some parser }
+
+-- an option with no value, which may be left out
+abbrev pub flag_rule : Text → Rule
+flag_rule name = record (new_rule name) { long = Some name; action = Some SetTrue }
 
 -- the whole numbers of 32 bits
 abbrev pub any_u32 : ValueParser
@@ -133,6 +139,8 @@ rules_of Workers =
 rules_of Level =
     text_rule (codes "CONFIG") ∷ number_option_rule (codes "slots") slot_count ∷ option_rule (codes "name") ∷ option_rule (codes "charge") ∷ []
 rules_of Simulation = text_rule (codes "CONFIG") ∷ text_rule (codes "TRACE") ∷ text_rule (codes "PATIENCE") ∷ option_rule (codes "charge") ∷ []
+rules_of Bounded =
+    text_rule (codes "CONFIG") ∷ text_rule (codes "TRACE") ∷ text_rule (codes "PATIENCE") ∷ option_rule (codes "charge") ∷ flag_rule (codes "bound") ∷ []
 rules_of Comparison =
     text_rule (codes "CONFIG") ∷ text_rule (codes "OTHER") ∷ text_rule (codes "TRACE") ∷ text_rule (codes "PATIENCE")
     ∷ option_rule (codes "charge") ∷ []

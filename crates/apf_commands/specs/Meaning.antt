@@ -1,9 +1,10 @@
 -- What a command line asks for, by what `clap` reads of its words.
-use Rattle.std.specs.Prelude.{◌≡◌, ◌<◌, ◌≤◌, ◌⊎◌, ◌&&◌, ℕ, List, [], ◌∷◌, Option, Some, None, Ok, true, false, not, if◌then◌else◌, codes, option_map, unwrap_or}
+use Rattle.std.specs.Prelude.{◌≡◌, ◌<◌, ◌≤◌, ◌⊎◌, ◌&&◌, ℕ, Bool, List, [], ◌∷◌, Option, Some, None, Ok, true, false, not, if◌then◌else◌, codes, option_map, unwrap_or}
 use Rattle.std.specs.Borrow.{Bor}
 use Rattle.std.specs.Str.Parse.{ParsesUnsigned}
 use Rattle.clap.specs.Words.{Kinds, Row, Text, fault_of, first_of, one_of, subcommand_of}
 use Rattle.clap.specs.Kinds.{or_else}
+use Rattle.clap.specs.Values.{bool_text}
 use Rattle.clap.specs.declared.error.kind.ErrorKind.TheVariants.{ValueValidation}
 use Rattle.apf_commands.specs.Commands.{apf_app, has_kind, is_open_level, kind_named}
 use Rattle.apf_commands.specs.LevelName.{is_level_name}
@@ -13,7 +14,7 @@ use Rattle.apf_commands.specs.declared.words.Action.{Action}
 use Rattle.apf_commands.specs.declared.words.Arguments.{Arguments}
 use Rattle.apf_commands.specs.declared.words.Asked.{Asked}
 use Rattle.apf_commands.specs.declared.words.Chosen.{Chosen}
-use Rattle.apf_commands.specs.declared.words.Arguments.TheVariants.{Flow, Deck, Script, Workers, Level, Simulation, Comparison, Trace, Flows, AuditLog, Objects, Match}
+use Rattle.apf_commands.specs.declared.words.Arguments.TheVariants.{Flow, Deck, Script, Workers, Level, Simulation, Bounded, Comparison, Trace, Flows, AuditLog, Objects, Match}
 
 -- the argument's text
 abbrev pub IsText : List Row → Text → Text → Type 0
@@ -26,6 +27,10 @@ IsOption rows id given = first_of id rows ≡ option_map (λ t. t.now) given
 -- the option's text, or this one where it is not given
 abbrev pub IsTextOr : Text → List Row → Text → Text → Type 0
 IsTextOr otherwise rows id t = unwrap_or (first_of id rows) otherwise ≡ t
+
+-- whether the option with no value is given: its text is `true` then, and `false` where it is not
+abbrev pub IsFlag : List Row → Text → Bool → Type 0
+IsFlag rows id is_given = one_of id rows ≡ Some (bool_text is_given)
 
 -- the texts of the options that choose requests
 pub record AreChosen (rows : List Row) (chosen : Chosen) : Type 0 where
@@ -92,6 +97,11 @@ AreArguments rows (Simulation config trace patience charge) = IsText rows (codes
     × IsText rows (codes "TRACE") trace.now
     × IsText rows (codes "PATIENCE") patience.now
     × IsOption rows (codes "charge") charge
+AreArguments rows (Bounded config trace patience charge bound) = IsText rows (codes "CONFIG") config.now
+    × IsText rows (codes "TRACE") trace.now
+    × IsText rows (codes "PATIENCE") patience.now
+    × IsOption rows (codes "charge") charge
+    × IsFlag rows (codes "bound") bound
 AreArguments rows (Comparison config other trace patience charge) = IsText rows (codes "CONFIG") config.now
     × IsText rows (codes "OTHER") other.now
     × IsText rows (codes "TRACE") trace.now
@@ -117,6 +127,7 @@ kind_of (Script a b c) = of_kind.Script
 kind_of (Workers a b c d) = of_kind.Workers
 kind_of (Level a b c d) = of_kind.Level
 kind_of (Simulation a b c d) = of_kind.Simulation
+kind_of (Bounded a b c d e) = of_kind.Bounded
 kind_of (Comparison a b c d e) = of_kind.Comparison
 kind_of (Trace a) = of_kind.Trace
 kind_of (Flows a b c) = of_kind.Flows

@@ -2,13 +2,13 @@
 ghost use Rattle.std.specs.Prelude.{◌≡◌, IfOk, false, map};
 ghost use Rattle.clap.specs.Words.{app_of, rule_of, shape_of};
 ghost use Rattle.clap.specs.declared.builder.command.Command.TheViews.{out-Command};
-ghost use Rattle.apf_commands.specs.Commands.{AddsRules, apf_app, listed, with_commands, rules_of, shape_for, text_rule, number_rule, option_rule, number_option_rule};
+ghost use Rattle.apf_commands.specs.Commands.{AddsRules, apf_app, listed, with_commands, rules_of, shape_for, flag_rule, text_rule, number_rule, option_rule, number_option_rule};
 ghost use Rattle.apf_commands.specs.declared.entries.Kind.TheVariants as of_kind;
 
 use crate::entries::{Entry, Kind};
 use crate::{level_commands, trace_commands};
 use clap::builder::ValueParser;
-use clap::{Arg, Command, value_parser};
+use clap::{Arg, ArgAction, Command, value_parser};
 use std::alloc::{AllocError, Global};
 
 /// What `--version` prints after the program's name.
@@ -30,6 +30,9 @@ const PATIENCE: &str =
 /// What help says of what a trace's requests are charged.
 const CHARGE: &str =
     "What a request is charged: time (the default if no line has a cost), or seats";
+
+/// What help says of the bound.
+const BOUND: &str = "Prints how far the seat-times of two queues came apart, and how far they may";
 
 /// What help says below the commands: the program's statuses, and how to begin.
 const HELP: &str = "\
@@ -87,6 +90,17 @@ fn number_option<'a>(
     ensures local { result.global ≡ false }
 {
     option(alloc, name, value, help).value_parser(parser)
+}
+
+// An option with no value, which may be left out.
+fn flag<'a>(alloc: Global, name: &'a str, help: &'a str) -> Arg<'a>
+    ensures rule { rule_of result ≡ flag_rule name.entry.now }
+    ensures local { result.global ≡ false }
+{
+    Arg::new(alloc, name)
+        .long(name)
+        .action(ArgAction::SetTrue)
+        .help(help)
 }
 
 // A flow, by its schema and its distinguisher.
@@ -193,6 +207,13 @@ fn with_simulation<'a>(alloc: Global, command: Command<'a>) -> Result<Command<'a
         .arg(text(alloc, "TRACE", TRACE))?
         .arg(text(alloc, "PATIENCE", PATIENCE))?
         .arg(option(alloc, "charge", "BY", CHARGE))
+}
+
+// A level, a trace, a patience, what requests are charged, and whether both sides of the bound are told.
+fn with_bounded<'a>(alloc: Global, command: Command<'a>) -> Result<Command<'a>, AllocError>
+    ensures { IfOk result (AddsRules (rules_of of_kind.Bounded) command.entry) }
+{
+    with_simulation(alloc, command)?.arg(flag(alloc, "bound", BOUND))
 }
 
 // Two levels, a trace, a patience, and what requests are charged.
@@ -334,6 +355,7 @@ fn with_arguments<'a>(
         Kind::Workers => with_workers(alloc, command),
         Kind::Level => with_level(alloc, command),
         Kind::Simulation => with_simulation(alloc, command),
+        Kind::Bounded => with_bounded(alloc, command),
         Kind::Comparison => with_comparison(alloc, command),
         Kind::Trace => with_trace(alloc, command),
         Kind::Flows => with_flows(alloc, command),

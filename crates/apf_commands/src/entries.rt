@@ -19,6 +19,8 @@ pub(crate) enum Kind {
     Level,
     /// `CONFIG TRACE PATIENCE [--charge BY]`
     Simulation,
+    /// `CONFIG TRACE PATIENCE [--charge BY] [--bound]`
+    Bounded,
     /// `CONFIG OTHER TRACE PATIENCE [--charge BY]`
     Comparison,
     /// `TRACE`

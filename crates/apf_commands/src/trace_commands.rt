@@ -46,6 +46,16 @@ book of apf replay:
   waited W     microseconds that all requests waited, those that gave up too
   patience P   PATIENCE in microseconds
 
+With --bound it prints one line more, of requests that were dispatched from queues: while queue A
+was never empty, those of B took D more seat-time than those of A, and no two queues came further
+apart. It is at most L. It is of measured time: a level that charges seats has no such line.
+  bound A B D cost M misjudged E limit L
+  bound none   where no request waited, or the level has one queue
+  cost M       the largest cost of a request that entered a queue
+  misjudged E  the most by which those of one queue that ran at one moment took more than they were
+               charged, and less, and those of two queues the one more and the other less
+  limit L      twice M, and three times E
+
 Example:
   $ cd examples/noisy-client
   $ cat config.json
@@ -61,7 +71,7 @@ Example:
 
 Status: 0 done, 1 a file's fault or output that can't be written, 2 a command line's fault,
 3 no memory.",
-        kind: Kind::Simulation,
+        kind: Kind::Bounded,
     },
     Entry {
         name: "timeline",

@@ -3,8 +3,8 @@ ghost use Rattle.std.specs.Prelude.{◌≡◌, ◌⊎◌, ℕ, IfErr, IfNone, If
 ghost use Rattle.clap.specs.Words.{FailsBy, found_of, kind_of, rows_of};
 ghost use Rattle.clap.specs.declared.error.kind.ErrorKind.TheVariants.{OutOfMemory, ValueValidation};
 ghost use Rattle.clap.specs.Walk.{texts};
-ghost use Rattle.apf_commands.specs.Meaning.{kind_of as kind_of_arguments, AreArguments, AreAsked, AreChosen, HasBadName, HasLevelName, IsActionOf, IsInRange, IsNumber, IsNumberOr, IsOption, IsText, IsTextOr, words_fault};
-ghost use Rattle.apf_commands.specs.Arguments.{HasArguments, HasText, HasNumber};
+ghost use Rattle.apf_commands.specs.Meaning.{kind_of as kind_of_arguments, AreArguments, AreAsked, AreChosen, HasBadName, HasLevelName, IsActionOf, IsFlag, IsInRange, IsNumber, IsNumberOr, IsOption, IsText, IsTextOr, words_fault};
+ghost use Rattle.apf_commands.specs.Arguments.{HasArguments, HasFlag, HasText, HasNumber};
 ghost use Rattle.apf_commands.specs.declared.entries.Kind.TheVariants as of_kind;
 
 use crate::commands::apf_command;
@@ -64,6 +64,14 @@ pub enum Arguments<'a> {
         trace: &'a str,
         patience: &'a str,
         charge: Option<&'a str>,
+    },
+    /// The same, and whether both sides of the bound are told.
+    Bounded {
+        config: &'a str,
+        trace: &'a str,
+        patience: &'a str,
+        charge: Option<&'a str>,
+        bound: bool,
     },
     /// The names of two configuration files and of a trace, a patience, and such a word.
     Comparison {
@@ -142,6 +150,14 @@ fn option_of<'a>(matches: &ArgMatches<'a>, id: &str) -> Option<&'a str>
     ensures { IsOption (rows_of (found_of matches.now)) id.now result }
 {
     matches.get_str(id)
+}
+
+// Whether an option with no value is given.
+fn flag_of(matches: &ArgMatches<'_>, id: &str) -> bool
+    requires { HasFlag (rows_of (found_of matches.now)) id.now }
+    ensures { IsFlag (rows_of (found_of matches.now)) id.now result }
+{
+    matches.get_flag(id)
 }
 
 // The number of an argument.
@@ -270,6 +286,20 @@ fn simulation_of<'a>(matches: &ArgMatches<'a>) -> Arguments<'a>
     }
 }
 
+fn bounded_of<'a>(matches: &ArgMatches<'a>) -> Arguments<'a>
+    requires { HasArguments of_kind.Bounded (rows_of (found_of matches.now)) }
+    ensures kind { kind_of_arguments result ≡ of_kind.Bounded }
+    ensures read { AreArguments (rows_of (found_of matches.now)) result }
+{
+    Arguments::Bounded {
+        config: text_of(matches, "CONFIG"),
+        trace: text_of(matches, "TRACE"),
+        patience: text_of(matches, "PATIENCE"),
+        charge: charge_of(matches),
+        bound: flag_of(matches, "bound"),
+    }
+}
+
 fn comparison_of<'a>(matches: &ArgMatches<'a>) -> Arguments<'a>
     requires { HasArguments of_kind.Comparison (rows_of (found_of matches.now)) }
     ensures kind { kind_of_arguments result ≡ of_kind.Comparison }
@@ -381,6 +411,7 @@ fn arguments_of<'a>(kind: Kind, matches: &ArgMatches<'a>) -> Arguments<'a>
         Kind::Workers => workers_of(matches),
         Kind::Level => level_of(matches),
         Kind::Simulation => simulation_of(matches),
+        Kind::Bounded => bounded_of(matches),
         Kind::Comparison => comparison_of(matches),
         Kind::Trace => trace_of(matches),
         Kind::Flows => flows_of(matches),

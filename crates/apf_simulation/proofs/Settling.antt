@@ -16,7 +16,8 @@ use Rattle.apf_model.specs.Charged.{Running, charge_of, charged_numbers, ended, 
 use Rattle.apf_gate.specs.Slots.{slot_of}
 use Rattle.apf_book.specs.Life.{LifeView, LifeState, IsLifeOf, CannotSettle, charge_in, holder_by, then_settled}
 use Rattle.apf_book.specs.LifeBook.{IsLifeKept}
-use Rattle.apf_local.specs.Levels.{LocalView, SameLocal, SettlesOn, seat_time_of}
+use Rattle.apf_local.specs.Levels.{LocalView, SameLocal, SettlesOn}
+use Rattle.apf_line.specs.SeatTime.{seat_time_of}
 use Rattle.apf_times.specs.declared.due.Kind.TheVariants as kinds
 use Rattle.apf_traces.specs.declared.request.TraceRequest.{TraceRequest}
 use Rattle.apf_simulation.specs.Logs.{IsLogged, LogsFrom, LogsOn, Noted}

@@ -9,7 +9,8 @@ use Rattle.apf_gate.specs.Slots.{slot_of}
 use Rattle.apf_book.specs.Life.{LifeView, asked, then_came, then_settled}
 use Rattle.apf_book.specs.LifeBook.{then_came_all}
 use Rattle.apf_book.specs.Servings.{AreServings}
-use Rattle.apf_local.specs.Levels.{LocalView, seat_time_of}
+use Rattle.apf_local.specs.Levels.{LocalView}
+use Rattle.apf_line.specs.SeatTime.{seat_time_of}
 use Rattle.apf_times.specs.declared.due.Due.{Due}
 use Rattle.apf_times.specs.declared.due.Kind.{Kind}
 use Rattle.apf_times.specs.declared.due.Kind.TheVariants.{Finish, GiveUp, Arrive}

@@ -100,6 +100,11 @@ impl Diary {
         self.calendar.wait(request)
     }
 
+    /// What was carried out last.
+    pub fn newest(&self) -> Option<&Due> {
+        self.carried.as_slice().last()
+    }
+
     /// What was carried out, the oldest first.
     pub fn into_carried(self) -> Vec<Due>
         ensures { result.items ≡ self.carried }

@@ -3,6 +3,7 @@
 //! - `diary`: what was carried out when.
 //! - `charge`: what a trace's requests are charged where nobody says it.
 //! - `notes`: what is noted of each request beside its slot. `simulator`: a level, a diary and the notes in one hand.
+//! - `watch`: follows the log of a level, for both sides of the bound.
 //! - `simulating`: runs a trace on a level. `fault`: why a trace is not simulated.
 //! - `end`: what became of one request. `ends`: what became of all.
 //! - `tally`: the numbers of one flow's requests. `row`, `rows`: the lines of the flows. `whole`: the line of the whole.
@@ -30,6 +31,7 @@ mod simulation;
 mod simulator;
 mod tally;
 mod timeline;
+mod watch;
 mod whole;
 
 pub use charge::usual_charge;
@@ -42,4 +44,5 @@ pub use row::Row;
 pub use simulating::simulate;
 pub use simulation::Simulation;
 pub use tally::Tally;
+pub use watch::Watch;
 pub use whole::Whole;

@@ -27,6 +27,7 @@ use crate::notes::Notes;
 use crate::rows::rows_of;
 use crate::simulation::Simulation;
 use crate::simulator::Simulator;
+use crate::watch::Watch;
 use crate::whole::Whole;
 use apf_charges::ChargedBy;
 use apf_flows::flows_of;
@@ -84,6 +85,7 @@ fn run_of(
     trace: &[TraceRequest],
     diary: Diary,
     by: ChargedBy,
+    watch: &mut Watch,
 ) -> Result<(Diary, Notes, Report), SimulationFault>
     requires few { length trace.now ≤ max_requests }
     requires ranges { All IsRequestInRange trace.now }
@@ -100,7 +102,7 @@ fn run_of(
     ensures fault { IfErr result (λ fault. (patience : ℕ) → IsKeptBy (times_of trace.now) patience diary → IsFault config.now (length trace.now) patience fault) }
 {
     let mut simulator = Simulator::open(alloc, config, trace.len() as u32, diary, by)?;
-    simulator.run(trace)?;
+    simulator.run(trace, watch)?;
     judge(&simulator)?;
     let (level, diary, notes) = simulator.into_parts();
     let report = level.end(alloc)?;
@@ -179,7 +181,7 @@ fn simulation_of(
 ///
 /// A dispatch is charged the request's cost, which it is given as it arrives: its line's, or else its width times how long
 /// its flow's requests ran that finished until then, or by seats its width. By time, that is settled as the request
-/// finishes: what it took is charged in its place, before its seats go to the next one.
+/// finishes: what it took is charged in its place, before its seats go to the next one. The watch follows the level's log.
 ///
 /// # Errors
 ///
@@ -191,6 +193,7 @@ pub fn simulate(
     trace: &[TraceRequest],
     patience: u64,
     by: ChargedBy,
+    watch: &mut Watch,
 ) -> Result<Simulation, SimulationFault>
     requires few { length trace.now ≤ max_requests }
     requires ranges { All IsRequestInRange trace.now }
@@ -202,6 +205,6 @@ pub fn simulate(
     ensures fault { IfErr result (IsFault config.now (length trace.now) patience) }
 {
     let diary = diary_of(alloc, trace, patience)?;
-    let run = run_of(alloc, config, trace, diary, by)?;
+    let run = run_of(alloc, config, trace, diary, by, watch)?;
     Ok(simulation_of(alloc, config.limit, trace, patience, run)?)
 }

@@ -23,6 +23,7 @@ ghost use Rattle.apf_simulation.specs.Moves.{LogsInTurn, MovesOnce, Serves, term
 
 use crate::diary::Diary;
 use crate::notes::Notes;
+use crate::watch::Watch;
 use apf_book::{LifeEvent, Settling};
 use apf_charges::{ChargedBy, Charges};
 use apf_gate::Ticket;
@@ -303,12 +304,12 @@ impl Simulator {
         Ok(true)
     }
 
-    /// Carries out all that is due, in its order, until nothing is.
+    /// Carries out all that is due, in its order, until nothing is. The watch follows the level's log.
     ///
     /// # Errors
     ///
     /// `AllocError` if memory was refused.
-    pub fn run(&mut self, trace: &[TraceRequest]) -> Result<(), AllocError>
+    pub fn run(&mut self, trace: &[TraceRequest], watch: &mut Watch) -> Result<(), AllocError>
         requires ranges { All IsRequestInRange trace.now }
         requires tied { AreTied trace.now self.old.diary.calendar (slots_of self.old.level self.old.notes) }
         ensures tied { OnOk result (AreTied trace.now self.new.diary.calendar (slots_of self.new.level self.new.notes)) }
@@ -319,7 +320,9 @@ impl Simulator {
         ensures cancels { OnOk result (CancelsAlone trace.now self.old.diary self.new.diary self.old.level.owner.stations self.new.level.owner.stations) }
         ensures over { OnOk result (all_dues self.new.diary.calendar.patience self.new.diary.calendar.courses ≡ []) }
     {
-        while self.step(trace)? {}
+        while self.step(trace)? {
+            watch.follow(&self.level, &self.notes, trace, self.diary.newest());
+        }
         Ok(())
     }
 

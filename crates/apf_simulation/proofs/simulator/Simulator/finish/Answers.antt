@@ -3,7 +3,8 @@ use Rattle.std.proofs.Common.{◌≡◌, ◌<◌, ℕ, length, sym, ap, ◌∙�
 use Rattle.std.proofs.lemmas.Option.{get_or_from_slice_get}
 use Rattle.apf_gate.specs.Tokens.{PassToken}
 use Rattle.apf_model.specs.World.{width}
-use Rattle.apf_local.specs.Levels.{SettlesOn, seat_time_of}
+use Rattle.apf_local.specs.Levels.{SettlesOn}
+use Rattle.apf_line.specs.SeatTime.{seat_time_of}
 use Rattle.apf_local.specs.declared.answer.Answer.TheVariants as answers
 use Rattle.apf_simulation.specs.Charged.{charged_in}
 use Rattle.apf_simulation.specs.Logs.{noted_of}

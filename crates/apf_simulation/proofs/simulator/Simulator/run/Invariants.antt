@@ -9,8 +9,8 @@ use Rattle.apf_simulation.specs.Slots.{IsSame, slots_of}
 use Rattle.apf_simulation.specs.Ties.{AreTied}
 use Rattle.apf_simulation.proofs.simulator.Simulator.run.Given as goal
 
-abbrev pub invariant-loop : goal.invariant-loop
-invariant-loop l = record {
+abbrev pub invariant-loop-watch : goal.invariant-loop-watch
+invariant-loop-watch l = record {
   tied : AreTied l.trace l.self.diary.calendar (slots_of l.self.level l.self.notes);
   goes_on : GoesOn l.initial.self.diary l.self.diary;
   same : IsSame l.initial.self.level l.self.level;
@@ -19,5 +19,5 @@ invariant-loop l = record {
   cancels : CancelsAlone l.trace l.initial.self.diary l.self.diary l.initial.self.level.owner.stations l.self.level.owner.stations;
 }
 
-abbrev pub decreases-loop : goal.decreases-loop
-decreases-loop l = left l.self.diary.calendar.courses
+abbrev pub decreases-loop-watch : goal.decreases-loop-watch
+decreases-loop-watch l = left l.self.diary.calendar.courses

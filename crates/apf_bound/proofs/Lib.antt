@@ -1,0 +1,9 @@
+mod Cells
+mod Steps
+mod Stretching
+mod Counting
+mod Following
+mod Judging
+mod Nearest
+mod Keeping
+mod Meeting

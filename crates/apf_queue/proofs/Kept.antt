@@ -6,7 +6,7 @@ use Rattle.std.proofs.lemmas.List.{get_or_past, length-replicate}
 use Rattle.apf_model.specs.World.{width}
 use Rattle.apf_model.specs.Fair.{Numbers, after_enter, after_dispatch, finish, steps_round, IsChoice}
 use Rattle.apf_model.specs.Charged.{after_charge}
-use Rattle.apf_queue.specs.Finishes.{no_finish, IsReachedBy, IsFirstLeastFrom}
+use Rattle.apf_least.specs.Least.{no_number, IsReachedBy, IsFirstLeastFrom}
 use Rattle.apf_queue.specs.RingsView.{RingsView, ring}
 use Rattle.apf_queue.specs.TimeView.{TimeView, numbers_of}
 use Rattle.apf_queue.specs.Consistent.{AreConsistent, finish_with, finish_at, AreFinishes, AreKept}
@@ -116,11 +116,11 @@ module _ (rings : RingsView) (time : TimeView) (finishes : List ℕ) (limit : �
   queue_finish : (q : ℕ) → q < length rings.queues → ring rings q ≢ [] → get_or finishes q 0 ≡ finish rings.costs (ring rings) (numbers_of time) q
   queue_finish q is_queue some = kept.finishes_are.each q (let a = kept.finishes_are.room in omega arith) ∙ finish_some rings.costs (get_or time.next q 0) (ring rings q) some
 
-  small_finish : (q : ℕ) → q < length rings.queues → ring rings q ≢ [] → get_or finishes q 0 < no_finish
+  small_finish : (q : ℕ) → q < length rings.queues → ring rings q ≢ [] → get_or finishes q 0 < no_number
   small_finish q is_queue some = let a = queue_finish q is_queue some in let b = small_sum rings time limit kept.consistent q (get_or (ring rings q) 0 0) in omega arith
 
   -- a queue with a finish is one in which someone waits
-  waited_in : (q : ℕ) → q < length finishes → get_or finishes q 0 < no_finish → ring rings q ≢ []
+  waited_in : (q : ℕ) → q < length finishes → get_or finishes q 0 < no_number → ring rings q ≢ []
   waited_in q below finish none =
       let a = kept.finishes_are.each q below in
       let b = ap (λ (xs : List ℕ). finish_with rings.costs (get_or time.next q 0) (slice_get xs 0)) none in
@@ -129,7 +129,7 @@ module _ (rings : RingsView) (time : TimeView) (finishes : List ℕ) (limit : �
   some_queue : (q : ℕ) → ring rings q ≢ [] → q < length rings.queues
   some_queue q some = elim (cases_lt q (length rings.queues)) [ inl l ↦ l | inr past ↦ absurd (some (get_or_past rings.queues q [] past)) ]
 
-  pub nothing_waits : ((q : ℕ) → q < length finishes → no_finish ≤ get_or finishes q 0) → (q : ℕ) → q < length rings.queues → ring rings q ≡ []
+  pub nothing_waits : ((q : ℕ) → q < length finishes → no_number ≤ get_or finishes q 0) → (q : ℕ) → q < length rings.queues → ring rings q ≡ []
   nothing_waits none q is_queue = elim (cases_empty (ring rings q)) [
     | inl e ↦ e
     | inr some ↦
@@ -143,7 +143,7 @@ module _ (rings : RingsView) (time : TimeView) (finishes : List ℕ) (limit : �
       → ((x p : ℕ) → x < length rings.queues → p < length rings.queues → IsReachedBy from x p → steps_round (length rings.queues) time.robin x ≤ steps_round (length rings.queues) time.robin p)
       → IsChoice (length rings.queues) rings.costs (ring rings) (numbers_of time) q
   first_is_choice from q first round =
-      let some = waited_in q first.is_queue first.is_finish in
+      let some = waited_in q first.is_place first.is_number in
       let is_queue = some_queue q some in
       let room = kept.finishes_are.room in
       let here = queue_finish q is_queue some in
@@ -157,7 +157,7 @@ module _ (rings : RingsView) (time : TimeView) (finishes : List ℕ) (limit : �
   -- what the search of the tree answers is the choice
   pub choice_found : (queues robin from : ℕ) (o : Option ℕ) → queues ≡ length rings.queues → robin ≡ time.robin
       → ((x p : ℕ) → x < queues → p < queues → IsReachedBy from x p → steps_round queues robin x ≤ steps_round queues robin p)
-      → IfNone o ((q : ℕ) → q < length finishes → no_finish ≤ get_or finishes q 0) → IfSome o (IsFirstLeastFrom finishes from)
+      → IfNone o ((q : ℕ) → q < length finishes → no_number ≤ get_or finishes q 0) → IfSome o (IsFirstLeastFrom finishes from)
       → MatchOption o ((q : ℕ) → q < length rings.queues → ring rings q ≡ []) (IsChoice (length rings.queues) rings.costs (ring rings) (numbers_of time))
   choice_found queues robin from None e f round none some = nothing_waits none
   choice_found queues robin from (Some q) e f round none some =
@@ -167,7 +167,7 @@ module _ (rings : RingsView) (time : TimeView) (finishes : List ℕ) (limit : �
 
 -- queues in which nothing ever was
 pub opening_finishes : (queues requests : ℕ) (costs : List ℕ) (time : TimeView) (finishes : List ℕ) → queues ≤ length finishes
-    → ((q : ℕ) → q < length finishes → get_or finishes q 0 ≡ no_finish)
+    → ((q : ℕ) → q < length finishes → get_or finishes q 0 ≡ no_number)
     → AreFinishes (record { queues = replicate queues []; costs = costs; requests = requests }) time finishes
 opening_finishes queues requests costs time finishes room empty =
     record {

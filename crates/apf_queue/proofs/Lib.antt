@@ -6,6 +6,5 @@ pub mod RingLists
 pub mod RingSteps
 pub mod RingsOpening
 pub mod Round
-pub mod Tree
 pub mod Consistency
 pub mod Kept

@@ -3,7 +3,7 @@ use Rattle.std.proofs.Common.{◌≡◌, ℕ, ◌+◌, ◌-◌, ◌%◌, ◌<◌
 use native.Mathlib.Nat.{mod-eq-sub-mod}
 use Rattle.std.proofs.lemmas.Bool.{cases_lt}
 use Rattle.apf_model.specs.Fair.{steps_round}
-use Rattle.apf_queue.specs.Finishes.{IsReachedBy}
+use Rattle.apf_least.specs.Least.{IsReachedBy}
 
 -- how far a queue is: past the robin, or past the last queue and then on
 steps_after : (queues robin q : ℕ) → robin < queues → q < queues

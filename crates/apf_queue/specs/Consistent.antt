@@ -2,7 +2,7 @@
 use Rattle.std.specs.Prelude.{◌≡◌, ℕ, ◌+◌, ◌<◌, ◌≤◌, List, length, slice_index, slice_get, Contains, Option, Some, None}
 use Rattle.apf_words.specs.Limits.{max_cost}
 use Rattle.apf_model.specs.World.{width}
-use Rattle.apf_queue.specs.Finishes.{no_finish}
+use Rattle.apf_least.specs.Least.{no_number}
 use Rattle.apf_queue.specs.RingsView.{RingsView, ring}
 use Rattle.apf_queue.specs.TimeView.{TimeView}
 use Rattle.apf_queue.specs.View.{IsQueueShape, latest_time, max_charge}
@@ -23,7 +23,7 @@ pub record AreConsistent (rings : RingsView) (time : TimeView) (length_limit : �
 
 -- the finish of a queue with this first request, if any
 abbrev pub finish_with : List ℕ → ℕ → Option ℕ → ℕ
-finish_with costs next None = no_finish
+finish_with costs next None = no_number
 finish_with costs next (Some r) = next + width costs r
 
 -- the finish of queue q, if anything waits there

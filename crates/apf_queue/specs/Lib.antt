@@ -1,5 +1,4 @@
 pub mod Faults
-pub mod Finishes
 pub mod Nodes
 pub mod RingsView
 pub mod TimeView

@@ -2,7 +2,7 @@
 
 ghost use Rattle.std.specs.Prelude.{ℕ, ◌<◌, ◌≤◌};
 ghost use Rattle.apf_model.specs.Fair.{steps_round};
-ghost use Rattle.apf_queue.specs.Finishes.{IsReachedBy};
+ghost use Rattle.apf_least.specs.Least.{IsReachedBy};
 
 /// What is dispatched next.
 #[derive(Clone, Copy, Debug, PartialEq, Eq)]

@@ -7,14 +7,12 @@
 //! - `nodes`: rings of nodes that are linked both ways, in one slice.
 //! - `rings`: one ring for each queue, in which a request can be taken out of any place.
 //! - `virtual_time`: what a request that enters or is dispatched does to the numbers.
-//! - `finishes`: the least of the virtual finishes, and where it stands first.
 //! - `choice`: the head that is dispatched from next.
 //! - `queues`: the queues themselves.
 #![tactic(auto)]
 
 mod choice;
 mod fault;
-mod finishes;
 mod nodes;
 mod queues;
 mod rings;

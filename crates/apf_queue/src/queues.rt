@@ -9,9 +9,9 @@ ghost use Rattle.apf_queue.specs.Consistent.{finish_at};
 
 use crate::choice::{Chosen, queue_after};
 use crate::fault::{Full, QueueFault};
-use crate::finishes::{Finishes, NO_FINISH};
 use crate::rings::Rings;
 use crate::virtual_time::VirtualTime;
+use apf_least::{LeastTree, NO_NUMBER};
 use apf_words::{MAX_QUEUE_LENGTH, MAX_QUEUES, MAX_REQUESTS};
 use std::alloc::Allocator;
 use std::marker::Model;
@@ -26,7 +26,7 @@ pub struct Queues<A: Allocator> {
     rings: Rings<A>,
     time: VirtualTime<A>,
     // The virtual finish of each queue, so that the least is found at once.
-    finishes: Finishes<A>,
+    finishes: LeastTree<A>,
 }
 
 // Clauses see the queues as lists of requests, with the numbers of virtual time.
@@ -57,7 +57,7 @@ fn is_shape(queues: u32, length_limit: u32, requests: u32) -> bool
         && requests <= MAX_REQUESTS
 }
 
-// The virtual finish of the queue, or `NO_FINISH` if it is empty.
+// The virtual finish of the queue, or `NO_NUMBER` if it is empty.
 fn finish_in<A: Allocator>(rings: &Rings<A>, time: &VirtualTime<A>, queue: u32) -> u128
     requires is_queue { queue < length rings.now.queues }
     requires one_next_each { length time.now.next ≡ length rings.now.queues }
@@ -65,7 +65,7 @@ fn finish_in<A: Allocator>(rings: &Rings<A>, time: &VirtualTime<A>, queue: u32) 
     ensures { result ≡ finish_at rings.now time.now queue }
 {
     match rings.first(queue) {
-        None => NO_FINISH,
+        None => NO_NUMBER,
         Some(request) => time.finish(queue, rings.cost(request)),
     }
 }
@@ -99,7 +99,7 @@ impl<A: Allocator + Copy> Queues<A> {
             length_limit,
             rings: Rings::new(alloc, queues, requests)?,
             time: VirtualTime::new(alloc, queues)?,
-            finishes: Finishes::new(alloc, queues)?,
+            finishes: LeastTree::new(alloc, queues)?,
         })
     }
 }

@@ -1,0 +1,5 @@
+pub mod Deeds
+pub mod Measures
+pub mod Runs
+pub mod States
+pub mod Ties

@@ -1,0 +1,64 @@
+-- What is done with requests, one deed after another.
+use Rattle.std.specs.Prelude.{◌≡◌, ℕ, List, [], ◌∷◌, ◌++◌}
+use Rattle.apf_stream.specs.declared.deed.Deed.{Deed}
+use Rattle.apf_stream.specs.declared.deed.Deed.TheVariants.{Arrive, Finish, GiveUp, Read}
+use Rattle.apf_stream.specs.declared.ended.Ended.{Ended}
+use Rattle.apf_stream.specs.declared.asked.Asked.{Asked}
+use Rattle.apf_local.specs.declared.answer.Place.{Place}
+use Rattle.apf_calendar.specs.declared.calendar.Carried.{Carried}
+use Rattle.apf_calendar.specs.declared.guest.Stay.{Stay}
+use Rattle.apf_calendar.specs.declared.guest.Stay.TheVariants.{Waits, Impatient, Holds}
+use Rattle.apf_stream.specs.Deeds.{IsDeed, Arrives, Cancels, Reads, Returns}
+use Rattle.apf_stream.specs.States.{State}
+
+-- these deeds, the first first, lead from a state to another, and this is told by them
+abbrev pub IsRun : List Deed → State → State → List Ended → Type 0
+IsRun [] s s' told = (s' ≡ s) × (told ≡ [])
+IsRun (deed ∷ deeds) s s' told =
+    (between : State) × (first : List Ended) × (rest : List Ended) × IsDeed deed s between first × IsRun deeds between s' rest × (told ≡ first ++ rest)
+
+-- who arrives by these deeds
+abbrev pub arrivals : List Deed → List Asked
+arrivals [] = []
+arrivals (Arrive slot a ∷ deeds) = a ∷ arrivals deeds
+arrivals (Finish c ∷ deeds) = arrivals deeds
+arrivals (GiveUp c ∷ deeds) = arrivals deeds
+arrivals (Read slot ∷ deeds) = arrivals deeds
+
+-- by deeds of which just these are arrivals it went from the first state to the second, and just what they tell was put behind what was told before
+pub record HasRun (came : List Asked) (s : State) (before : List Ended) (s' : State) (after : List Ended) : Type 0 where
+  pub deeds : List Deed
+  pub told : List Ended
+  pub run : IsRun deeds s s' told
+  pub came_are : arrivals deeds ≡ came
+  pub told_are : after ≡ before ++ told
+
+-- the request of the slot read its decision, and what is told by that was put behind what was told before
+pub record ReadsAs (slot : ℕ) (place : Place) (s : State) (before : List Ended) (s' : State) (after : List Ended) : Type 0 where
+  pub told : List Ended
+  pub reads : Reads slot place s s' told
+  pub told_are : after ≡ before ++ told
+
+-- the same of a cancel
+pub record CancelsAs (slot : ℕ) (s : State) (before : List Ended) (s' : State) (after : List Ended) : Type 0 where
+  pub told : List Ended
+  pub cancels : Cancels slot s s' told
+  pub told_are : after ≡ before ++ told
+
+-- the same of seats that are given back
+pub record ReturnsAs (c : Carried) (since : ℕ) (s : State) (before : List Ended) (s' : State) (after : List Ended) : Type 0 where
+  pub told : List Ended
+  pub returns : Returns c since s s' told
+  pub told_are : after ≡ before ++ told
+
+-- the same of an arrival
+pub record ArrivesAs (slot : ℕ) (a : Asked) (s : State) (before : List Ended) (s' : State) (after : List Ended) : Type 0 where
+  pub told : List Ended
+  pub arrives : Arrives slot a s s' told
+  pub told_are : after ≡ before ++ told
+
+-- the call for what was just carried out was made
+abbrev pub CallsAs : Carried → Stay → State → List Ended → State → List Ended → Type 0
+CallsAs c Waits s before s' after = CancelsAs c.slot s before s' after
+CallsAs c Impatient s before s' after = ⊥
+CallsAs c (Holds since) s before s' after = ReturnsAs c since s before s' after

@@ -1,0 +1,129 @@
+//! A level, a calendar of its slots, and what is noted of who is there.
+
+ghost use Rattle.std.specs.Prelude.{◌≡◌, ◌≤◌, ◌++◌, [], replicate, length, IfOk, IfErr, OnOk};
+ghost use Rattle.apf_words.specs.Limits.{max_requests};
+ghost use Rattle.apf_times.specs.Limits.{max_patience};
+ghost use Rattle.apf_charges.specs.Charging.{opening_charges};
+ghost use Rattle.apf_calendar.specs.Guests.{NothingBy};
+ghost use Rattle.apf_local.specs.Openings.{IsOpened, CanOpen, IsOpenFault};
+ghost use Rattle.apf_local.specs.Levels.{EndsFrom};
+ghost use Rattle.apf_stream.specs.States.{state_of, settling_by};
+ghost use Rattle.apf_stream.specs.Ties.{AreTied};
+
+use crate::asked::{Asked, Hold};
+use apf_book::LifeEvent;
+use apf_calendar::SlotCalendar;
+use apf_charges::{ChargedBy, Charges};
+use apf_gate::Ticket;
+use apf_line::Report;
+use apf_local::{LocalLevel, OpenFault, Settling};
+use apf_model::Config;
+use apf_times::Times;
+use std::alloc::{AllocError, Global};
+
+/// A level with a calendar of its slots. It is told each request as it arrives, and tells each one as it is over.
+#[derive(Drop)]
+pub struct Stream {
+    pub(crate) level: LocalLevel,
+    pub(crate) calendar: SlotCalendar<Global>,
+    // of who is in each slot, or was there last
+    pub(crate) holds: Vec<Hold>,
+    pub(crate) charges: Charges,
+    // the events that were read last, and up to which place they were read
+    pub(crate) room: Vec<LifeEvent>,
+    pub(crate) seen: u64,
+}
+
+// What is noted of a slot in which nobody was yet.
+const NOBODY: Hold = Hold {
+    asked: Asked {
+        line: 0,
+        times: Times {
+            arrives_at: 0,
+            runs_for: 0,
+        },
+        width: 1,
+        hash: 0,
+        cost: None,
+    },
+    cost: 1,
+    queue: None,
+};
+
+// Whether what requests take is settled, by what they are charged.
+fn settling_of(by: ChargedBy) -> Settling
+    ensures { result ≡ settling_by by }
+{
+    match by {
+        ChargedBy::Time => Settling::Told,
+        ChargedBy::Seats => Settling::Never,
+    }
+}
+
+impl Stream {
+    /// The level of this config with this many slots, at time 0, to which nobody came. A request that waits as long as
+    /// `patience` in microseconds gives up, or never at 0. All memory is taken here, but for what is told.
+    ///
+    /// # Errors
+    ///
+    /// The level's fault, or `NoMemory`. Then everything is given up.
+    pub fn open(
+        alloc: Global,
+        config: &Config,
+        slots: u32,
+        patience: u64,
+        by: ChargedBy,
+    ) -> Result<Stream, OpenFault>
+        requires some { 1 ≤ slots }
+        requires few { slots ≤ max_requests }
+        requires patience { patience ≤ max_patience }
+        ensures opened { IfOk result (λ s. IsOpened config.now slots (settling_by by) s.level) }
+        ensures calendar { IfOk result (λ s. s.calendar ≡ record { time = 0; patience = patience; slots = replicate slots None }) }
+        ensures charges { IfOk result (λ s. s.charges ≡ opening_charges by) }
+        ensures tied { IfOk result (λ s. AreTied (state_of s)) }
+        ensures settings { OnOk result (CanOpen config.now slots) }
+        ensures fault { IfErr result (IsOpenFault config.now slots) }
+    {
+        let level = LocalLevel::open_settling(alloc, config, slots, settling_of(by))?;
+        let calendar = SlotCalendar::new(alloc, slots, patience)?;
+        let holds = vec![in alloc; NOBODY; slots as usize]?;
+        let charges = Charges::new(alloc, by)?;
+        let no_event = LifeEvent::Enter(Ticket::of(0), 0);
+        let room = vec![in alloc; no_event; 2 * slots as usize]?;
+        Ok(Stream {
+            level,
+            calendar,
+            holds,
+            charges,
+            room,
+            seen: 0,
+        })
+    }
+
+    /// The time of what was carried out last, in microseconds.
+    pub fn time(&self) -> u64
+        ensures { result ≡ self.now.calendar.time }
+    {
+        self.calendar.time()
+    }
+
+    /// Ends the level, and tells what its words and its history say of all requests that ever came. Before that each request
+    /// that waits is cancelled, and then each that executes gives its seats back.
+    ///
+    /// # Errors
+    ///
+    /// `AllocError` if memory was refused. Then everything is given up.
+    pub fn end(self, alloc: Global) -> Result<Report, AllocError>
+        ensures { IfOk result (EndsFrom self.level) }
+    {
+        let Stream {
+            level,
+            calendar: _,
+            holds: _,
+            charges: _,
+            room: _,
+            seen: _,
+        } = self;
+        level.end(alloc)
+    }
+}

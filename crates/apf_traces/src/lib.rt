@@ -14,7 +14,7 @@ mod trace;
 mod value;
 
 pub use fault::TraceFault;
-pub use line::{MAX_BYTES, MAX_LINES};
+pub use line::{LineReader, MAX_BYTES, MAX_LINES};
 pub use request::{FlowNames, TraceRequest};
 pub use trace::{First, first_line, read_trace};
 pub use value::is_trace_key;

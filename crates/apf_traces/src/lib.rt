@@ -3,11 +3,13 @@
 //! - `fault`: why a trace is refused.
 //! - `request`: what one line asks for.
 //! - `value`: the request that a JSON value is.
+//! - `flat`: the JSON value that the bytes of a line are.
 //! - `line`: the request that the bytes of a line are.
 //! - `trace`: the requests of a whole trace.
 #![tactic(auto)]
 
 mod fault;
+mod flat;
 mod line;
 mod request;
 mod trace;

@@ -5,11 +5,13 @@ ghost use Rattle.apf_traces.specs.TraceValue.{entry, IsRequestInRange, IsNamed};
 ghost use Rattle.apf_traces.specs.TraceFile.{judged_within};
 
 use crate::fault::TraceFault;
+use crate::flat::line_value;
 use crate::request::TraceRequest;
 use crate::value::request_of_value;
-use apf_files::value_of;
 use apf_words::MAX_REQUESTS;
+use json::Scratch;
 use std::alloc::{AllocError, Global};
+use std::marker::Model;
 
 /// The most lines of a trace that is read as a whole, one for each request.
 pub const MAX_LINES: u32 = MAX_REQUESTS;
@@ -21,12 +23,25 @@ pub const MAX_BYTES: usize = 65_536;
 #[derive(Drop)]
 pub struct LineReader {
     alloc: Global,
+    scratch: Scratch,
+}
+
+impl Model for LineReader {
+    ghost use Rattle.std.specs.Prelude.{ℕ};
+
+    ghost Value = { ℕ };
+
+    // Nothing of it matters to whoever reads by it.
+    ghost view = { λ _. 0 };
 }
 
 impl LineReader {
     /// It takes no memory yet.
     pub fn new(alloc: Global) -> LineReader {
-        LineReader { alloc }
+        LineReader {
+            alloc,
+            scratch: Scratch::new(alloc),
+        }
     }
 
     /// The request of line `line`, whose bytes come without their LF. `is_ended` says whether an LF ends them.
@@ -59,7 +74,7 @@ impl LineReader {
         if bytes.len() > MAX_BYTES {
             return Err(TraceFault::TooLong(line));
         }
-        let value = match value_of(self.alloc, bytes) {
+        let value = match line_value(self.alloc, bytes, &mut self.scratch) {
             Ok(Some(value)) => value,
             Ok(None) => return Err(TraceFault::NotUtf8Json(line)),
             Err(AllocError) => return Err(TraceFault::NoMemory),

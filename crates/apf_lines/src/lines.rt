@@ -133,6 +133,21 @@ impl Lines {
         &self.bytes[self.from..self.to]
     }
 
+    /// The bytes that are kept behind the line that was cut off last: once all lines are cut off, the rest behind the last
+    /// LF, or of a rest that is too long the end.
+    pub fn kept(&self) -> &[u8]
+        ensures { result.now ≡ self.now.kept }
+    {
+        &self.bytes[self.start..self.end]
+    }
+
+    /// Whether bytes that stood in front of those that are kept, in the same line, were dropped. Then this line is too long.
+    pub fn is_skipped(&self) -> bool
+        ensures { result ≡ self.now.is_skipped }
+    {
+        self.is_skipped
+    }
+
     /// Whether bytes stand behind the last LF, once all lines are cut off.
     pub fn has_rest(&self) -> bool
         ensures { TellsRest self.now result }

@@ -1,7 +1,7 @@
 -- The faults of a trace: their numbers and lines.
 use Rattle.std.specs.Prelude.{ℕ, Option, Some, None}
 use Rattle.apf_traces.specs.declared.fault.TraceFault.{TraceFault}
-use Rattle.apf_traces.specs.declared.fault.TraceFault.TheVariants.{TooMany, TooLong, NotUtf8Json, NotObject, UnknownKey, BadArrival, BadRun, BadFlow, BadWidth, BadCost, Truncated, NoMemory}
+use Rattle.apf_traces.specs.declared.fault.TraceFault.TheVariants.{TooMany, TooLong, NotUtf8Json, NotObject, UnknownKey, BadArrival, BadRun, BadFlow, BadWidth, BadCost, Truncated, NoMemory, TooLate}
 
 -- the fault's number
 abbrev pub trace_fault_number : TraceFault → ℕ
@@ -17,6 +17,7 @@ trace_fault_number (BadWidth line) = 9
 trace_fault_number (BadCost line) = 10
 trace_fault_number (Truncated line) = 11
 trace_fault_number NoMemory = 12
+trace_fault_number (TooLate line) = 13
 
 -- the fault's line
 abbrev pub line_of : TraceFault → Option ℕ
@@ -32,3 +33,4 @@ line_of (BadWidth line) = Some line
 line_of (BadCost line) = Some line
 line_of (Truncated line) = Some line
 line_of NoMemory = None
+line_of (TooLate line) = Some line

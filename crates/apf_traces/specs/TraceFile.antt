@@ -37,15 +37,22 @@ abbrev pub demand : TraceFault → Bool → Result ⊤ TraceFault
 demand fault true = Ok tt
 demand fault false = Err fault
 
--- the request that the line of this number is, or its first fault
-unfoldable pub judged_line : ℕ → Line → Result Entry TraceFault
-judged_line number line = do
-  few ← demand (TooMany number) (nat_le number max_lines)
+-- the request that the line of this number is, or its first fault, whatever the number
+unfoldable pub judged_text : ℕ → Line → Result Entry TraceFault
+judged_text number line = do
   short ← demand (TooLong number) (nat_le (length line.bytes) max_bytes)
   value ← or_fault (NotUtf8Json number) (value_of line.bytes)
   entry ← entry_of number value
   ended ← demand (Truncated number) line.is_ended
   Ok entry
+
+-- the request that the line of this number is, or its first fault, where a trace has at most so many lines
+abbrev pub judged_within : ℕ → ℕ → Line → Result Entry TraceFault
+judged_within most number line = demand (TooMany number) (nat_le number most) >>= λ few. judged_text number line
+
+-- the request that the line of this number is, or its first fault
+unfoldable pub judged_line : ℕ → Line → Result Entry TraceFault
+judged_line number line = judged_within max_lines number line
 
 -- the requests of the lines, of which the first has this number, or the first fault
 abbrev pub trace_from : ℕ → List Line → Result (List Entry) TraceFault

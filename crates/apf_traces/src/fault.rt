@@ -10,46 +10,50 @@ use thiserror::Error;
 /// Lines are judged from the first to the last, each by the faults in the order of their numbers.
 #[derive(Clone, Copy, Debug, PartialEq, Eq, Error)]
 pub enum TraceFault {
-    /// 1: the line is number 10,001.
+    /// 1: the line's number is above the most lines of a trace: 10,001 for `read_trace`.
     #[error("too many lines")]
-    TooMany(u32),
+    TooMany(u64),
     /// 2: the line has more than 65,536 bytes. Its LF does not count.
     #[error("line too long")]
-    TooLong(u32),
+    TooLong(u64),
     /// 3: the line is no JSON text in UTF-8.
     #[error("not JSON")]
-    NotUtf8Json(u32),
+    NotUtf8Json(u64),
     /// 4: the value is no object.
     #[error("not an object")]
-    NotObject(u32),
+    NotObject(u64),
     /// 5: the object has a key that requests of a trace do not have.
     #[error("unknown key")]
-    UnknownKey(u32),
+    UnknownKey(u64),
     /// 6: `arrivesAt` is not a whole number from 0 to 1,000,000,000,000, or it is absent.
     #[error("bad arrivesAt")]
-    BadArrival(u32),
+    BadArrival(u64),
     /// 7: `runsFor` is not a whole number from 0 to 10,000,000,000, or it is absent.
     #[error("bad runsFor")]
-    BadRun(u32),
+    BadRun(u64),
     /// 8: there is neither `hash` alone, a number of 64 bits, nor both `schema` and `distinguisher` alone, two texts.
     #[error("bad flow")]
-    BadFlow(u32),
+    BadFlow(u64),
     /// 9: `width` is not a whole number from 1 to 20,000.
     #[error("bad width")]
-    BadWidth(u32),
+    BadWidth(u64),
     /// 10: `cost` is not a whole number from 1 to 4,294,967,295.
     #[error("bad cost")]
-    BadCost(u32),
+    BadCost(u64),
     /// 11: the line is not ended by LF.
     #[error("truncated")]
-    Truncated(u32),
+    Truncated(u64),
     /// 12: memory was refused.
     #[error("out of memory")]
     NoMemory,
+    /// 13: the line's request arrives before what was handed out: more than 131,072 requests of the lines before it
+    /// arrive later.
+    #[error("arrives more than 131072 requests late")]
+    TooLate(u64),
 }
 
 impl TraceFault {
-    /// The fault's number, 1 to 12.
+    /// The fault's number, 1 to 13.
     pub fn number(&self) -> u8
         ensures { result ≡ trace_fault_number self.now }
     {
@@ -66,11 +70,12 @@ impl TraceFault {
             TraceFault::BadCost(_) => 10,
             TraceFault::Truncated(_) => 11,
             TraceFault::NoMemory => 12,
+            TraceFault::TooLate(_) => 13,
         }
     }
 
     /// The line of the fault, counted from 1. Out of memory has none.
-    pub fn line(&self) -> Option<u32>
+    pub fn line(&self) -> Option<u64>
         ensures { result ≡ line_of self.now }
     {
         match *self {
@@ -84,7 +89,8 @@ impl TraceFault {
             | TraceFault::BadFlow(line)
             | TraceFault::BadWidth(line)
             | TraceFault::BadCost(line)
-            | TraceFault::Truncated(line) => Some(line),
+            | TraceFault::Truncated(line)
+            | TraceFault::TooLate(line) => Some(line),
             TraceFault::NoMemory => None,
         }
     }

@@ -3,18 +3,20 @@
 //! - `fault`: why a trace is refused.
 //! - `request`: what one line asks for.
 //! - `value`: the request that a JSON value is.
+//! - `flat`: the JSON value that the bytes of a line are.
 //! - `line`: the request that the bytes of a line are.
 //! - `trace`: the requests of a whole trace.
 #![tactic(auto)]
 
 mod fault;
+mod flat;
 mod line;
 mod request;
 mod trace;
 mod value;
 
 pub use fault::TraceFault;
-pub use line::{MAX_BYTES, MAX_LINES};
+pub use line::{LineReader, MAX_BYTES, MAX_LINES};
 pub use request::{FlowNames, TraceRequest};
 pub use trace::{First, first_line, read_trace};
 pub use value::is_trace_key;

@@ -1,51 +1,88 @@
 //! The request that the bytes of a line are.
 
-ghost use Rattle.std.specs.Prelude.{◌≡◌, ◌≢◌, ◌≤◌, IfOk, OnOk, IfErr, Ok, Err};
+ghost use Rattle.std.specs.Prelude.{◌≡◌, ◌≢◌, ◌<◌, ◌≤◌, true, length, IfOk, OnOk, IfErr, Ok, Err};
 ghost use Rattle.apf_traces.specs.TraceValue.{entry, IsRequestInRange, IsNamed};
-ghost use Rattle.apf_traces.specs.TraceFile.{judged_line, max_lines};
+ghost use Rattle.apf_traces.specs.TraceFile.{judged_within};
 
 use crate::fault::TraceFault;
+use crate::flat::line_value;
 use crate::request::TraceRequest;
 use crate::value::request_of_value;
-use apf_files::value_of;
 use apf_words::MAX_REQUESTS;
+use json::Scratch;
 use std::alloc::{AllocError, Global};
+use std::marker::Model;
 
-/// The most lines of a trace, one for each request.
+/// The most lines of a trace that is read as a whole, one for each request.
 pub const MAX_LINES: u32 = MAX_REQUESTS;
 
 /// The most bytes of one line, without its LF.
 pub const MAX_BYTES: usize = 65_536;
 
-/// The request of line `line`, whose bytes come without their LF. `is_ended` says whether an LF ends them.
-#[tactic(auto, unfolding(crate::specs::TraceFile::judged_line))]
-pub(crate) fn request_of_line(
+/// What reads one line after another. It keeps the room that it needed, and nothing of what it read.
+#[derive(Drop)]
+pub struct LineReader {
     alloc: Global,
-    bytes: &[u8],
-    is_ended: bool,
-    line: u32,
-) -> Result<TraceRequest, TraceFault>
-    ensures ok { IfOk result (λ request. judged_line line (record { bytes = bytes.now; is_ended = is_ended }) ≡ Ok (entry request)) }
-    ensures ranges { IfOk result IsRequestInRange }
-    ensures named { IfOk result IsNamed }
-    ensures few { OnOk result (line ≤ max_lines) }
-    ensures err { IfErr result (λ fault. fault ≢ TraceFault.NoMemory
-        → judged_line line (record { bytes = bytes.now; is_ended = is_ended }) ≡ Err fault) }
-{
-    if line > MAX_LINES {
-        return Err(TraceFault::TooMany(line));
+    scratch: Scratch,
+}
+
+impl Model for LineReader {
+    ghost use Rattle.std.specs.Prelude.{ℕ};
+
+    ghost Value = { ℕ };
+
+    // Nothing of it matters to whoever reads by it.
+    ghost view = { λ _. 0 };
+}
+
+impl LineReader {
+    /// It takes no memory yet.
+    pub fn new(alloc: Global) -> LineReader {
+        LineReader {
+            alloc,
+            scratch: Scratch::new(alloc),
+        }
     }
-    if bytes.len() > MAX_BYTES {
-        return Err(TraceFault::TooLong(line));
+
+    /// The request of line `line`, whose bytes come without their LF. `is_ended` says whether an LF ends them.
+    /// `most` is how many lines a trace may have.
+    ///
+    /// # Errors
+    ///
+    /// The line's first fault, in the order of `TraceFault`. `NoMemory` only where memory was refused, and never of
+    /// a line without bytes.
+    #[tactic(auto, unfolding(crate::specs::TraceFile::judged_text))]
+    pub fn read(
+        &mut self,
+        bytes: &[u8],
+        is_ended: bool,
+        line: u64,
+        most: u64,
+    ) -> Result<TraceRequest, TraceFault>
+        ensures ok { IfOk result (λ request. judged_within most line (record { bytes = bytes.now; is_ended = is_ended }) ≡ Ok (entry request)) }
+        ensures ranges { IfOk result IsRequestInRange }
+        ensures named { IfOk result IsNamed }
+        ensures few { OnOk result (line ≤ most) }
+        ensures ended { OnOk result (is_ended ≡ true) }
+        ensures err { IfErr result (λ fault. fault ≢ TraceFault.NoMemory
+            → judged_within most line (record { bytes = bytes.now; is_ended = is_ended }) ≡ Err fault) }
+        ensures memory { IfErr result (λ fault. fault ≡ TraceFault.NoMemory → 0 < length bytes.now) }
+    {
+        if line > most {
+            return Err(TraceFault::TooMany(line));
+        }
+        if bytes.len() > MAX_BYTES {
+            return Err(TraceFault::TooLong(line));
+        }
+        let value = match line_value(self.alloc, bytes, &mut self.scratch) {
+            Ok(Some(value)) => value,
+            Ok(None) => return Err(TraceFault::NotUtf8Json(line)),
+            Err(AllocError) => return Err(TraceFault::NoMemory),
+        };
+        let request = request_of_value(self.alloc, &value, line)?;
+        if !is_ended {
+            return Err(TraceFault::Truncated(line));
+        }
+        Ok(request)
     }
-    let value = match value_of(alloc, bytes) {
-        Ok(Some(value)) => value,
-        Ok(None) => return Err(TraceFault::NotUtf8Json(line)),
-        Err(AllocError) => return Err(TraceFault::NoMemory),
-    };
-    let request = request_of_value(alloc, &value, line)?;
-    if !is_ended {
-        return Err(TraceFault::Truncated(line));
-    }
-    Ok(request)
 }

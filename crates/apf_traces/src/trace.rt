@@ -5,10 +5,13 @@ ghost use Rattle.apf_traces.specs.TraceValue.{entry, IsRequestInRange, IsNamed};
 ghost use Rattle.apf_traces.specs.TraceFile.{trace_of, lines_of, max_lines};
 
 use crate::fault::TraceFault;
-use crate::line::request_of_line;
+use crate::line::{LineReader, MAX_LINES};
 use crate::request::TraceRequest;
 use apf_files::line_end;
 use std::alloc::Global;
+
+// The most lines of a trace that is read as a whole.
+const MOST_LINES: u64 = MAX_LINES as u64;
 
 /// The first line of what is left of a file, without its LF, and what is left after it.
 #[derive(Clone, Copy)]
@@ -56,6 +59,7 @@ pub fn first_line(bytes: &[u8]) -> First<'_>
 ///
 /// Lines are judged from the first to the last, each by the faults in the order of `TraceFault`. The first fault is
 /// answered. `NoMemory` only where memory was refused.
+#[tactic(auto, unfolding(crate::specs::TraceFile::judged_line))]
 pub fn read_trace(alloc: Global, bytes: &[u8]) -> Result<Vec<TraceRequest>, TraceFault>
     ensures ok { IfOk result (λ requests. trace_of bytes.now ≡ Ok (map entry requests.items)) }
     ensures ranges { IfOk result (λ requests. (vec_len requests ≤ max_lines)
@@ -65,11 +69,12 @@ pub fn read_trace(alloc: Global, bytes: &[u8]) -> Result<Vec<TraceRequest>, Trac
     ensures memory { IfErr result (λ fault. fault ≡ TraceFault.NoMemory → 0 < length bytes.now) }
 {
     let mut requests = Vec::new(alloc);
+    let mut reader = LineReader::new(alloc);
     let mut rest = bytes;
     let mut line = 1;
     while !rest.is_empty() {
         let first = first_line(rest);
-        let request = request_of_line(alloc, first.line, first.is_ended, line)?;
+        let request = reader.read(first.line, first.is_ended, line, MOST_LINES)?;
         if requests.push(request).is_err() {
             return Err(TraceFault::NoMemory);
         }

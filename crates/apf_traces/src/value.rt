@@ -66,7 +66,7 @@ fn names_of(alloc: Global, value: &Value) -> Result<Option<FlowNames>, AllocErro
 pub(crate) fn request_of_value(
     alloc: Global,
     value: &Value,
-    line: u32,
+    line: u64,
 ) -> Result<TraceRequest, TraceFault>
     ensures ok { IfOk result (λ request. entry_of line (view value.now) ≡ Ok (entry request)) }
     ensures ranges { IfOk result IsRequestInRange }

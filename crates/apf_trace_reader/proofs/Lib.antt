@@ -1,0 +1,10 @@
+mod Cutting
+mod Judging
+mod Placing
+mod Holding
+mod Windows
+mod Steps
+mod Ends
+mod Short
+mod Starts
+mod Turning

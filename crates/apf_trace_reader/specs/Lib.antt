@@ -1,0 +1,4 @@
+pub mod Timely
+pub mod Views
+pub mod Reading
+pub mod Turns

@@ -11,10 +11,10 @@ use Rattle.apf_files.specs.RequestsFile.{flow_of, number_or}
 use Rattle.apf_times.specs.Limits.{max_arrival, max_run}
 use Rattle.apf_traces.specs.TraceValue.{is_key, number_at, entry_of}
 use Rattle.apf_files.specs.JsonFile.{value_of}
-use Rattle.apf_traces.specs.TraceFile.{Line, lines_of, demand, judged_line, trace_from, trace_of, max_lines, max_bytes}
+use Rattle.apf_traces.specs.TraceFile.{Line, lines_of, demand, judged_line, judged_text, trace_from, trace_of, max_lines, max_bytes}
 use Rattle.apf_traces.specs.TraceFaults.{line_of}
 use Rattle.apf_traces.specs.declared.fault.TraceFault.{TraceFault}
-use Rattle.apf_traces.specs.declared.fault.TraceFault.TheVariants.{TooMany, TooLong, NotUtf8Json, NotObject, UnknownKey, BadArrival, BadRun, BadFlow, BadWidth, BadCost, Truncated, NoMemory}
+use Rattle.apf_traces.specs.declared.fault.TraceFault.TheVariants.{TooMany, TooLong, NotUtf8Json, NotObject, UnknownKey, BadArrival, BadRun, BadFlow, BadWidth, BadCost, Truncated, NoMemory, TooLate}
 use Rattle.apf_explain.specs.declared.keys.Keys.TheVariants.{OfTrace}
 use Rattle.apf_explain.specs.declared.wanted.Wanted.TheVariants.{Micros}
 use Rattle.apf_explain.specs.TraceLines.{nth_line}
@@ -87,6 +87,7 @@ of_value n line d (TooLong m) is h = absurd h.1
 of_value n line d (NotUtf8Json m) is h = absurd h.1
 of_value n line d (Truncated m) is h = absurd h.1
 of_value n line d NoMemory is h = absurd h.1
+of_value n line d (TooLate m) is h = absurd h.1
 
 demanded : {C : Type 0} (f fault : TraceFault) (b : Bool) → demand f b ≡ Err fault → (b ≡ false → f ≡ fault → C) → C
 demanded f fault true h c = absurd cc
@@ -106,7 +107,7 @@ stepped_by (Ok x) next fault h here later = later x refl h
 stepped_by (Err f) next fault h here later = let same : f ≡ fault = cc in here (rw same refl)
 
 line_shown : (n : ℕ) (line : Line) (fault : TraceFault) → judged_line n line ≡ Err fault → IsLineAt n line fault
-unfolding judged_line
+unfolding judged_line judged_text
 line_shown n line fault h =
     stepped (demand (TooMany n) (nat_le n max_lines)) _ fault h
     (λ e. demanded (TooMany n) fault _ e (λ no same. subst (λ (f : TraceFault). IsLineAt n line f) same (refl, above n max_lines no))) (λ _ h1.

@@ -63,5 +63,5 @@ pub use place::{Part, Place};
 pub use reason::line_reason;
 pub use requests::explain_requests;
 pub use script::explain_script;
-pub use traces::explain_trace;
+pub use traces::{explain_trace, explain_trace_line};
 pub use wanted::Wanted;

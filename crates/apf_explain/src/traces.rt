@@ -1,10 +1,13 @@
 //! The line of a trace's fault.
 
-ghost use Rattle.std.specs.Prelude.{◌≡◌, OnOk, IfErr, IfSome, Err, option_map};
+ghost use Rattle.std.specs.Prelude.{◌≡◌, OnOk, IfErr, IfSome, Err, Some, codes, option_map, option_and_then};
 ghost use Rattle.std.specs.Io.KnownBytes.{Appends};
 ghost use Rattle.serde_json.specs.View.{view};
+ghost use Rattle.apf_files.specs.JsonFile.{whole_of};
+ghost use Rattle.apf_traces.specs.TraceFaults.{line_of, trace_fault_number};
+ghost use Rattle.apf_explain.specs.declared.place.Part.TheVariants.{Fault};
 ghost use Rattle.apf_explain.specs.Lines.{place_text};
-ghost use Rattle.apf_explain.specs.TraceLines.{trace_value_text, IsTraceLineAt, IsTraceLine};
+ghost use Rattle.apf_explain.specs.TraceLines.{late_text, trace_value_text, IsPlacedLine, IsTraceLineAt, IsTraceLine};
 
 use crate::fault::ExplainFault;
 use crate::flow::write_bad_flow;
@@ -22,6 +25,23 @@ use serde_json::Value;
 use std::alloc::Global;
 use std::io;
 use std::io::Write;
+
+// Writes that a request comes too late, and when it arrives, if this is a number.
+fn write_late<W: Write>(out: &mut W, place: Place<'_>, arrives_at: Option<&Value>) -> io::Result<()>
+    ensures { OnOk result (Appends (W.contents out.old) (W.contents out.new)
+        (late_text (place_text place.entry.name.now place.entry.part) (option_and_then whole_of (option_map (λ value. view value.now) arrives_at.entry)))) }
+{
+    match arrives_at.and_then(Value::as_u64) {
+        Some(at) => writeln!(
+            out,
+            "{place}this request arrives at {at}, and more than 131072 requests of lines before it arrive later"
+        ),
+        None => writeln!(
+            out,
+            "{place}more than 131072 requests of lines before it arrive later"
+        ),
+    }
+}
 
 // Writes the fault of a request of a trace that is the value.
 fn write_value<W: Write>(
@@ -64,6 +84,7 @@ fn write_value<W: Write>(
             value_at(value, "cost"),
             Wanted::Whole(1, u64::from(MAX_COST)),
         ),
+        TraceFault::TooLate(_) => write_late(out, place, value_at(value, "arrivesAt")),
         _ => {
             let found = Found(value);
             writeln!(
@@ -114,10 +135,21 @@ fn write_line<W: Write>(
         | TraceFault::BadFlow(_)
         | TraceFault::BadWidth(_)
         | TraceFault::BadCost(_)
+        | TraceFault::TooLate(_)
         | TraceFault::NoMemory => {
             let value = line_value(alloc, line)?;
             Ok(write_value(out, place, value.as_ref(), fault)?)
         }
+    }
+}
+
+// Where the fault of the line of this number is.
+fn place_of(fault: TraceFault, number: u64) -> Place<'static>
+    ensures { place_text result.name.now result.part ≡ place_text (codes "apf: trace") (Fault (trace_fault_number fault) number) }
+{
+    Place {
+        name: "apf: trace",
+        part: Part::Fault(fault.number(), number),
     }
 }
 
@@ -145,12 +177,32 @@ pub fn explain_trace<W: Write>(
     let Some(number) = fault.line() else {
         return Err(ExplainFault::NoMemory);
     };
-    let part = Part::Fault(fault.number(), u64::from(number));
-    let place = Place {
-        name: "apf: trace",
-        part,
-    };
+    let place = place_of(fault, number);
     let file = strange(alloc, bytes, fault)?;
-    let line = numbered(bytes, u64::from(number));
+    let line = numbered(bytes, number);
     write_line(alloc, out, place, line, fault, file)
+}
+
+/// Writes the fault of a trace that is read in pieces as the one line of standard error.
+///
+/// `line` is the line that has the fault, without its LF.
+///
+/// # Errors
+///
+/// [`ExplainFault::NoMemory`] if memory was refused, here or, by the fault, to the reader, and then nothing is written.
+/// [`ExplainFault::CannotWrite`] if the writer failed.
+pub fn explain_trace_line<W: Write>(
+    alloc: Global,
+    line: &[u8],
+    fault: TraceFault,
+    out: &mut W,
+) -> Result<(), ExplainFault>
+    ensures line { OnOk result (IsPlacedLine (Some line.now) fault (line_of fault) (W.contents out.old) (W.contents out.new)) }
+    ensures refused { fault ≡ TraceFault.NoMemory → (result ≡ Err ExplainFault.NoMemory) × (out.new ≡ out.old) }
+    ensures memory { result ≡ Err ExplainFault.NoMemory → out.new ≡ out.old }
+{
+    let Some(number) = fault.line() else {
+        return Err(ExplainFault::NoMemory);
+    };
+    write_line(alloc, out, place_of(fault, number), Some(line), fault, "")
 }

@@ -5,6 +5,7 @@
 //!
 //! - `dealers`: the line of a config whose hands can't be dealt.
 //! - `audits`: an instant that no log can have.
+//! - `traces`: the line of one that comes too late, and of a line that was read in pieces.
 //! - `ends`: a writer without room, a call without memory, and faults that are not those of the bytes.
 #![tactic(auto)]
 
@@ -14,3 +15,5 @@ mod audits;
 mod dealers;
 #[cfg(test)]
 mod ends;
+#[cfg(test)]
+mod traces;

@@ -69,8 +69,8 @@ impl TraceFault {
             TraceFault::BadWidth(_) => 9,
             TraceFault::BadCost(_) => 10,
             TraceFault::Truncated(_) => 11,
-            TraceFault::NoMemory => 12,
             TraceFault::TooLate(_) => 13,
+            TraceFault::NoMemory => 12,
         }
     }
 

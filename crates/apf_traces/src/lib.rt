@@ -2,6 +2,7 @@
 //!
 //! - `fault`: why a trace is refused.
 //! - `request`: what one line asks for.
+//! - `newest`: the hashes of the newest flows.
 //! - `value`: the request that a JSON value is.
 //! - `flat`: the JSON value that the bytes of a line are.
 //! - `line`: the request that the bytes of a line are.
@@ -11,6 +12,7 @@
 mod fault;
 mod flat;
 mod line;
+mod newest;
 mod request;
 mod trace;
 mod value;

@@ -6,6 +6,7 @@ ghost use Rattle.apf_traces.specs.TraceFile.{judged_within};
 
 use crate::fault::TraceFault;
 use crate::flat::line_value;
+use crate::newest::Newest;
 use crate::request::TraceRequest;
 use crate::value::request_of_value;
 use apf_words::MAX_REQUESTS;
@@ -19,11 +20,13 @@ pub const MAX_LINES: u32 = MAX_REQUESTS;
 /// The most bytes of one line, without its LF.
 pub const MAX_BYTES: usize = 65_536;
 
-/// What reads one line after another. It keeps the room that it needed, and nothing of what it read.
+/// What reads one line after another. It keeps the room that it needed, and the hashes of the newest
+/// flows' names.
 #[derive(Drop)]
 pub struct LineReader {
     alloc: Global,
     scratch: Scratch,
+    newest: Newest,
 }
 
 impl Model for LineReader {
@@ -41,6 +44,7 @@ impl LineReader {
         LineReader {
             alloc,
             scratch: Scratch::new(alloc),
+            newest: Newest::new(alloc),
         }
     }
 
@@ -79,7 +83,7 @@ impl LineReader {
             Ok(None) => return Err(TraceFault::NotUtf8Json(line)),
             Err(AllocError) => return Err(TraceFault::NoMemory),
         };
-        let request = request_of_value(self.alloc, &value, line)?;
+        let request = request_of_value(self.alloc, &mut self.newest, &value, line)?;
         if !is_ended {
             return Err(TraceFault::Truncated(line));
         }

@@ -6,8 +6,9 @@ ghost use Rattle.apf_files.specs.JsonFile.{all_known};
 ghost use Rattle.apf_traces.specs.TraceValue.{is_key, number_at as number_at_key, names_of as names_of_value, entry_of, entry, texts, IsRequestInRange, IsNamed};
 
 use crate::fault::TraceFault;
+use crate::newest::Newest;
 use crate::request::{FlowNames, TraceRequest};
-use apf_files::{every_key_is_a_member, flow_of, number_or, text_at};
+use apf_files::{every_key_is_a_member, number_or, text_at};
 use apf_times::{MOST_ARRIVES_AT, MOST_RUNS_FOR};
 use apf_words::{MAX_COST, MAX_WIDTH};
 use serde_json::{Map, Value};
@@ -65,6 +66,7 @@ fn names_of(alloc: Global, value: &Value) -> Result<Option<FlowNames>, AllocErro
 #[tactic(auto, unfolding(crate::specs::TraceValue::entry_of))]
 pub(crate) fn request_of_value(
     alloc: Global,
+    newest: &mut Newest,
     value: &Value,
     line: u64,
 ) -> Result<TraceRequest, TraceFault>
@@ -84,7 +86,7 @@ pub(crate) fn request_of_value(
         line,
     ))?;
     let runs_for = number_at(value, "runsFor", MOST_RUNS_FOR).ok_or(TraceFault::BadRun(line))?;
-    let hash = flow_of(value).ok_or(TraceFault::BadFlow(line))?;
+    let hash = newest.flow_of(value).ok_or(TraceFault::BadFlow(line))?;
     let width = number_or(value, "width", 1, MAX_WIDTH, DEFAULT_WIDTH).ok_or(TraceFault::BadWidth(
         line,
     ))?;

@@ -8,3 +8,10 @@ pub mod Parts
 pub mod Counting
 pub mod Faults
 mod Writing
+mod Answering
+mod Stating
+mod Taking
+mod Rounds
+mod Ending
+mod First
+mod Whole

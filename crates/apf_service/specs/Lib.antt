@@ -7,3 +7,5 @@ pub mod Lines
 pub mod Widths
 pub mod Counted
 pub mod Faults
+pub mod Serving
+pub mod Rounds

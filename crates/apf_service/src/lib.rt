@@ -6,14 +6,13 @@
 //! - `replies`: what a command is answered. `moves`: the lines of those who left a queue.
 //! - `metrics`: the numbers for Prometheus.
 //! - `service`: a level with its slots, which takes one line after another.
-//! - `laws`: what the definitions say of widths, and of how many ever arrived.
-//! - `lines`: cuts what is read into lines. `serving`: reads lines to the end of the input, and answers them.
+//! - `laws`: what the definitions say of widths, of how many ever arrived, and of what is written.
+//! - `serving`: reads lines to the end of the input, and answers them.
 #![tactic(auto)]
 
 mod acting;
 mod following;
 mod laws;
-mod lines;
 mod metrics;
 mod moves;
 mod queues;
@@ -23,7 +22,7 @@ mod serving;
 mod state;
 mod tally;
 
-pub use laws::{every_request_is_counted, every_width_is_kept};
+pub use laws::{every_request_is_counted, every_text_is_written, every_width_is_kept};
 pub use service::Service;
 pub use serving::{ServeFault, serve};
 pub use tally::Tally;

@@ -170,6 +170,40 @@ for name, content, said in (
         tally.check(f"match of {name} as a log", run(program, ["match", cluster, "--log", path]), refused(f"apf: audit fault {said}"))
 tally.check("a log that is no event", run(program, ["trace", files("strange", "hello"), "users"]), refused("apf: audit fault 2 at line 1: this is not JSON at column 1"))
 
+# objects of a cluster that are no JSON: where they stop to be, and why
+cluster, log = os.path.join(TOP, "examples", "cluster", "objects.json"), os.path.join(TOP, "examples", "audit", "audit.log")
+AS_LIST = "objects are one JSON object, as kubectl prints a list"
+for name, content, explained in (
+    ("YAML of kubectl", "apiVersion: v1\nitems: []\nkind: List\n", ":1:1: this is not JSON: the bytes begin as YAML does: write them as JSON"),
+    ("gzip", gzip.compress(objects, mtime=0), ":1:2: this is not JSON: the bytes begin as gzip does: unpack them first"),
+    ("UTF-16", objects.decode().encode("utf-16"), ":1:1: this is not JSON: the bytes begin as UTF-16 does: they must be UTF-8"),
+    ("UTF-16 without its mark", LEVEL.encode("utf-16-le"), ":1:2: this is not JSON: the bytes begin as UTF-16 does: they must be UTF-8"),
+    ("a mark of byte order", b"\xef\xbb\xbf" + objects, ":1:1: this is not JSON: the bytes begin with a mark of byte order (BOM): take it away"),
+    ("a list that is cut", LEVEL[:-1], f":1:{len(LEVEL) - 1}: this is not JSON: the text ends too early"),
+    ("a trace of two lines", 2 * LINE, f":2:1: this is not JSON: the first line is a request of a trace: {AS_LIST}"),
+    ("an array with a comma too many", f"[{LEVEL},]", f":1:{len(LEVEL) + 3}: this is not JSON: an array begins here: {AS_LIST}"),
+    ("two objects", f"{LEVEL}{LEVEL}", f":1:{len(LEVEL) + 1}: this is not JSON"),
+):
+    path = files("strange", content)
+    for words in (["objects", path], ["match", path, "--user", "a", "--verb", "get", "--path", "/"], ["match", path, "--log", log]):
+        tally.check(f"{' '.join(words[:1] + words[2:3])} of {name} as objects", run(program, words), refused("apf: objects fault 1: this is not JSON", path + explained))
+done = subprocess.run([program, "objects", "-"], input=b"kind: List\n", stdout=subprocess.PIPE, stderr=subprocess.PIPE, timeout=60)
+told = "standard input:1:1: this is not JSON: the bytes begin as YAML does: write them as JSON"
+tally.check("objects from a pipe", (done.returncode, done.stdout, done.stderr), refused("apf: objects fault 1: this is not JSON", told))
+
+# a script that is packed, or in another code
+for name, content, said in (
+    ("gzip", gzip.compress(b"arrive 0\n", mtime=0), "the bytes begin as gzip does: unpack them first"),
+    ("UTF-16", "arrive 0\nclose\n".encode("utf-16"), "the bytes begin as UTF-16 does: they must be UTF-8"),
+    ("UTF-16 without a line", "close".encode("utf-16"), "the bytes begin as UTF-16 does: they must be UTF-8"),
+    ("a mark of byte order", b"\xef\xbb\xbfarrive 0\n", "the bytes begin with a mark of byte order (BOM): take it away"),
+):
+    path = files("strange", content)
+    fault = f"apf: script fault {'3' if b'%c' % 10 in content else '2'} at line 1: {'bad line' if b'%c' % 10 in content else 'truncated'}"
+    tally.check(f"{name} as a script", run(program, ["replay", good, requests, path]), refused(fault))
+    tally.check(f"{name} as a script at a terminal", at_terminal(["replay", good, requests, path]), refused(fault, f"{path}:1: this is no script: {said}"))
+    tally.check(f"{name} as a script explained", run(program, ["explain", good, requests, path]), (1, f"{path}:1: this is no script: {said}\n".encode(), f"{fault}\n".encode()))
+
 # a text whose escape is wrong at its end is no front of one that is right
 FORM = ": an object begins here: requests are one array of them"
 for content, why in (('{"schema":"\\u0"}', FORM), ('{"schema":"\\u00g', FORM), ('{"schema":"\\u0', ": the text ends too early"), ('{"schema":"\\\\u0"', ": the text ends too early"), ('{"schema":"\\u00e9\\u0"', FORM)):

@@ -9,6 +9,7 @@ import sys
 HERE = os.path.dirname(os.path.abspath(__file__))
 sys.path.insert(0, os.path.join(HERE, "lib"))
 from harness import TOP, Files, Tally, build, run
+from explain import NO_OBJECTS, TRACE_AS_OBJECTS, not_json
 from level import hand_of, hash_of
 
 tally = Tally()
@@ -542,8 +543,10 @@ judged("no items", {"kind": "List", "items": []})
 for value in (5, "x", None, [], {}, {"kind": "Pod"}, {"kind": 5}, {"kind": "List"}, {"kind": "List", "items": {}}):
     judged(f"{value}", value)
 for text in ("", "{", '{"kind":"List","items":[]', "\xff"):
-    path = files("objects.json", text.encode("latin-1"))
-    tally.check(f"{text!r}", run(program, ["objects", path]), (1, b"", b"apf: objects fault 1: this is not JSON\n"))
+    content = text.encode("latin-1")
+    path = files("objects.json", content)
+    stop = not_json(path, content, NO_OBJECTS, TRACE_AS_OBJECTS)
+    tally.check(f"{text!r}", run(program, ["objects", path]), (1, b"", f"apf: objects fault 1: this is not JSON\n{stop}\n".encode()))
 big = files("objects.json", b" " * 8388609)
 tally.check("more than 8 MiB", run(program, ["objects", big]), (1, b"", b"apf: objects too large: more than 8388608 bytes\n"))
 

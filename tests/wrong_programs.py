@@ -218,12 +218,12 @@ if words[:1] == ["fates"] and len(words) == 4:
     instead(*answer([*words, "--charge=seats"]))
 """), "charged.py", "FAILED fates as usual of"),
     ("milliseconds that are taken for microseconds", shell('case "$1:$4" in fates:*ms) exec %s fates "$2" "$3" "${4%%ms}" ;; esac' % program), "compare.py", "FAILED fates with the patience '500ms'"),
-    ("a patience that is judged after the config", python('''
-if words[:1] == ["fates"] and len(words) == 4 and answer(words)[2].startswith(b"apf: PATIENCE"):
-    early = answer([*words[:3], "0"])
-    if early[2].startswith((b"apf: cannot read config", b"apf: config fault")):
-        instead(*early)
-'''), "compare.py", "FAILED fates ["),
+    ("a patience that is judged after the config", shell("""if [ "$1" = fates ] && [ $# = 4 ]; then
+  case $(PROGRAM fates /dev/null /dev/null "$4" 2>&1) in "apf: PATIENCE"*)
+    early=$(PROGRAM fates "$2" "$3" 0 2>&1 >/dev/null)
+    case $early in "apf: cannot read config"* | "apf: config fault"*) echo "$early" >&2; exit 1 ;; esac ;;
+  esac
+fi""".replace("PROGRAM", program)), "compare.py", "FAILED fates ["),
     *((name, text, "serve.py", row) for name, text, row in (WRONG_LEVELS if serves and os.environ.get("APF_WRONG_LEVELS") else [])),
     ("a config's fault without what explains it", python('''
 if words[:1] == ["simulate"]:

@@ -281,13 +281,15 @@ MARKS = [
     *((begin, ": the bytes begin as UTF-16 does: they must be UTF-8") for begin in (b"[\0", b"{\0", b"\0[", b"\0{")),
     (b"\x1f\x8b", ": the bytes begin as gzip does: unpack them first"),
 ]
-# a config that begins as an array does, requests that begin as an object does, and a line that begins as an array does
+# a config that begins as an array does, requests that begin as an object does, objects that begin as an array does, and a line that does
 NO_CONFIG = (b"[", ": an array begins here: a config is one object")
 NO_REQUESTS = (b"{", ": an object begins here: requests are one array of them")
+NO_OBJECTS = (b"[", ": an array begins here: objects are one JSON object, as kubectl prints a list")
 NO_LINE = (b"[", ": an array begins here: write one object on each line")
 # what is said of a trace in the place of each
 TRACE_AS_CONFIG = ": the first line is a request of a trace: a config is one object"
 TRACE_AS_REQUESTS = ": the first line is a request of a trace: apf requests makes requests of it"
+TRACE_AS_OBJECTS = ": the first line is a request of a trace: objects are one JSON object, as kubectl prints a list"
 
 
 def mark_of(content, marks):
@@ -422,19 +424,21 @@ def bad_line(line):
 
 def script_line(name, content, count):
     lines = content.split(b"\n")
+    mark = mark_of(content, MARKS)
     for number, line in enumerate(lines, 1):
         is_last = number == len(lines)
+        no_script = f"this is no script{mark}" if mark and number == 1 else ""
         if number > 100_000 and not (is_last and not line):
             return f"{name}:{number}: there are more than 100000 lines"
         if is_last:
-            return f"{name}:{number}: the last line has no LF at its end"
+            return f"{name}:{number}: {no_script or 'the last line has no LF at its end'}"
         try:
             command_of(line, number, count)
         except Refused as fault:
             kind = str(fault).split()[3]
             given = number_of(line.split(b" ")[-1])
             said = {
-                "3": lambda: bad_line(line),
+                "3": lambda: no_script or bad_line(line),
                 "4": lambda: f"there is no request {given}: {known_requests(count)}",
                 "6": lambda: f"the limit is {given}: it must be from 1 to 10000",
             }[kind]()

@@ -1,32 +1,58 @@
 //! The commands on the objects of a cluster.
 
-ghost use Rattle.std.specs.Prelude.{◌≤◌, IfOk, vec_len};
+ghost use Rattle.std.specs.Prelude.{◌≡◌, ◌≤◌, IfOk, vec_len};
+ghost use Rattle.apf_files.specs.JsonFile.{value_in, value_of};
 ghost use Rattle.apf_matching.specs.Limits.{max_seats};
 ghost use Rattle.apf_objects.specs.Cluster.{HasCatchAll, most_levels};
 
 use crate::faults::Fault;
-use crate::files::{Files, Input, judge_names, read_input};
+use crate::files::{Files, Input, judge_names, read_input, shown};
 use crate::telling::{audit_fault, named};
 use apf_audit::AuditFault;
-use apf_cluster_text::{
-    LogFault, WriteFault, write_cluster, write_log, write_match, write_object_fault,
-};
+use apf_cluster_text::{LogFault, write_cluster, write_log, write_match, write_object_fault};
 use apf_commands::Asked;
+use apf_explain::explain_objects;
+use apf_files::{Parsed, parse};
 use apf_matching::{Request, Target};
-use apf_objects::{Cluster, ObjectFault, read_objects};
+use apf_objects::{Cluster, ObjectFault, judge_objects};
 use std::alloc::Global;
 use std::io::Write;
 
-// The fault of objects, with the line that says it.
-fn objects_fault(alloc: Global, bytes: &[u8], fault: &ObjectFault) -> Fault {
-    if *fault == ObjectFault::NoMemory {
+// Writes where the objects of this name, which were parsed as this, stop to be JSON, and why.
+fn write_stop(
+    alloc: Global,
+    name: &str,
+    bytes: &[u8],
+    parsed: &Parsed,
+    line: &mut Vec<u8>,
+) -> Result<(), Fault>
+    requires { value_in parsed.now ≡ value_of bytes.now }
+{
+    let name = shown(alloc, name)?;
+    explain_objects(alloc, name.as_str(), bytes, parsed, line).map_err(|_| Fault::NoMemory)
+}
+
+// The fault of the objects of this name, which were parsed as this, with the line that says it. Where they are no JSON, one more
+// says where they stop to be, and why.
+fn objects_fault(
+    alloc: Global,
+    name: &str,
+    bytes: &[u8],
+    parsed: &Parsed,
+    fault: &ObjectFault,
+) -> Fault
+    requires { value_in parsed.now ≡ value_of bytes.now }
+{
+    let mut line = Vec::new(alloc);
+    if *fault == ObjectFault::NoMemory || write_object_fault(&mut line, parsed, fault).is_err() {
         return Fault::NoMemory;
     }
-    let mut line = Vec::new(alloc);
-    match write_object_fault(alloc, bytes, fault, &mut line) {
-        Ok(()) => Fault::Told(line),
-        Err(WriteFault::NoMemory | WriteFault::CannotWrite) => Fault::NoMemory,
+    if *fault == ObjectFault::NotJson
+        && write_stop(alloc, name, bytes, parsed, &mut line).is_err()
+    {
+        return Fault::NoMemory;
     }
+    Fault::Told(line)
 }
 
 // Reads the objects.
@@ -38,9 +64,10 @@ fn read_cluster<F: Files>(alloc: Global, files: &mut F, name: &str) -> Result<Cl
         Ok(bytes) => bytes,
         Err(fault) => return Err(named(alloc, name, fault)),
     };
-    match read_objects(alloc, bytes.as_slice()) {
+    let parsed = parse(alloc, bytes.as_slice())?;
+    match judge_objects(alloc, &parsed) {
         Ok(cluster) => Ok(cluster),
-        Err(fault) => Err(objects_fault(alloc, bytes.as_slice(), &fault)),
+        Err(fault) => Err(objects_fault(alloc, name, bytes.as_slice(), &parsed, &fault)),
     }
 }
 

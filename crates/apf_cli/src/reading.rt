@@ -2,7 +2,9 @@
 
 ghost use Rattle.std.specs.Prelude.{◌≡◌, ◌≤◌, ◌<◌, All, IfOk, Ok, [], length, vec_len, true, false, ℕ, List};
 ghost use Rattle.apf_files.specs.ConfigFile.{IsConfigOf};
+ghost use Rattle.apf_files.specs.JsonFile.{value_in, value_of};
 ghost use Rattle.apf_files.specs.ScriptFile.{IsCommandInRange};
+ghost use Rattle.apf_files.specs.ScriptLine.{IsFoundAt};
 ghost use Rattle.apf_life_run.specs.Plans.{HasWidth};
 ghost use Rattle.apf_run.specs.Limits.{max_requests};
 ghost use Rattle.apf_cli.specs.Runs.{AreRead};
@@ -15,11 +17,9 @@ use crate::telling::named;
 use apf_explain::{
     ExplainFault, begins_as_trace, explain_config, explain_dealer, explain_requests, explain_script,
 };
+use apf_files::{Parsed, RefusedScript, judge_config, judge_requests, judge_script, parse};
 use apf_flow::DealerFault;
-use apf_run::{
-    Command, Config, ConfigFault, Request, RequestFault, ScriptFault, read_config, read_requests,
-    read_script,
-};
+use apf_run::{Command, Config, ConfigFault, Request, RequestFault};
 use std::alloc::Global;
 use std::io::Write;
 
@@ -59,13 +59,20 @@ impl Explained {
     }
 }
 
-// The fault of a config.
-fn config_fault(alloc: Global, name: &str, bytes: &[u8], fault: ConfigFault) -> Explained
+// The fault of a config, whose bytes were parsed as this.
+fn config_fault(
+    alloc: Global,
+    name: &str,
+    bytes: &[u8],
+    parsed: &Parsed,
+    fault: ConfigFault,
+) -> Explained
+    requires { value_in parsed.now ≡ value_of bytes.now }
     ensures { IsConfigExplained name.now bytes.now fault result }
 {
     let mut line = Vec::new(alloc);
     if let Ok(name) = shown(alloc, name)
-        && explain_config(alloc, name.as_str(), bytes, fault, &mut line).is_ok()
+        && explain_config(alloc, name.as_str(), bytes, parsed, fault, &mut line).is_ok()
     {
         let fault = Fault::Config(fault);
         return Explained { fault, line };
@@ -73,13 +80,20 @@ fn config_fault(alloc: Global, name: &str, bytes: &[u8], fault: ConfigFault) -> 
     Explained::no_memory(alloc)
 }
 
-// The fault of requests.
-fn requests_fault(alloc: Global, name: &str, bytes: &[u8], fault: RequestFault) -> Explained
+// The fault of requests, whose bytes were parsed as this.
+fn requests_fault(
+    alloc: Global,
+    name: &str,
+    bytes: &[u8],
+    parsed: &Parsed,
+    fault: RequestFault,
+) -> Explained
+    requires { value_in parsed.now ≡ value_of bytes.now }
     ensures { IsRequestsExplained name.now bytes.now fault result }
 {
     let mut line = Vec::new(alloc);
     if let Ok(name) = shown(alloc, name)
-        && explain_requests(alloc, name.as_str(), bytes, fault, &mut line).is_ok()
+        && explain_requests(alloc, name.as_str(), bytes, parsed, fault, &mut line).is_ok()
     {
         let fault = Fault::Requests(fault);
         return Explained { fault, line };
@@ -87,21 +101,22 @@ fn requests_fault(alloc: Global, name: &str, bytes: &[u8], fault: RequestFault) 
     Explained::no_memory(alloc)
 }
 
-// The fault of a script, of a level with so many requests.
+// The fault of a script, of a level with this many requests, and what stands there.
 fn script_fault(
     alloc: Global,
     name: &str,
     bytes: &[u8],
     requests: u32,
-    fault: ScriptFault,
+    refused: RefusedScript<'_>,
 ) -> Explained
-    ensures { IsScriptExplained name.now bytes.now requests fault result }
+    requires { IsFoundAt bytes.now refused.fault refused.found }
+    ensures { IsScriptExplained name.now bytes.now requests refused.entry.fault result }
 {
     let mut line = Vec::new(alloc);
     if let Ok(name) = shown(alloc, name)
-        && explain_script(name.as_str(), bytes, requests, fault, &mut line).is_ok()
+        && explain_script(name.as_str(), bytes, requests, refused, &mut line).is_ok()
     {
-        let fault = Fault::Script(fault);
+        let fault = Fault::Script(refused.fault);
         return Explained { fault, line };
     }
     Explained::no_memory(alloc)
@@ -195,9 +210,12 @@ pub(crate) fn config_in<F: Files>(
         Ok(bytes) => bytes,
         Err(fault) => return Err(unread_fault(alloc, name, fault)),
     };
-    match read_config(alloc, bytes.as_slice()) {
+    let Ok(parsed) = parse(alloc, bytes.as_slice()) else {
+        return Err(Explained::no_memory(alloc));
+    };
+    match judge_config(&parsed) {
         Ok(config) => Ok(config),
-        Err(fault) => Err(config_fault(alloc, name, bytes.as_slice(), fault)),
+        Err(fault) => Err(config_fault(alloc, name, bytes.as_slice(), &parsed, fault)),
     }
 }
 
@@ -236,9 +254,15 @@ pub(crate) fn read_level<F: Files>(
         Ok(bytes) => bytes,
         Err(fault) => return Err(unread_fault(alloc, requests, fault)),
     };
-    match read_requests(alloc, bytes.as_slice()) {
+    let Ok(parsed) = parse(alloc, bytes.as_slice()) else {
+        return Err(Explained::no_memory(alloc));
+    };
+    match judge_requests(alloc, &parsed) {
         Ok(requests) => Ok((config, requests)),
-        Err(fault) => Err(requests_fault(alloc, requests, bytes.as_slice(), fault)),
+        Err(fault) => {
+            let bytes = bytes.as_slice();
+            Err(requests_fault(alloc, requests, bytes, &parsed, fault))
+        }
     }
 }
 
@@ -255,8 +279,8 @@ pub(crate) fn script_in<F: Files>(
         Ok(bytes) => bytes,
         Err(fault) => return Err(unread_fault(alloc, name, fault)),
     };
-    match read_script(alloc, bytes.as_slice(), requests) {
+    match judge_script(alloc, bytes.as_slice(), requests) {
         Ok(commands) => Ok(commands),
-        Err(fault) => Err(script_fault(alloc, name, bytes.as_slice(), requests, fault)),
+        Err(refused) => Err(script_fault(alloc, name, bytes.as_slice(), requests, refused)),
     }
 }

@@ -2,22 +2,12 @@
 
 use crate::found::{found_at, object_at, write_found};
 use crate::path::{path_of, wanted_of};
-use apf_files::{text_at, value_of};
+use apf_files::{Parsed, text_at};
 use apf_flows::write_text;
 use apf_objects::{MAX_LEVELS, MAX_OBJECTS, ObjectFault, ObjectKey, Place};
 use serde_json::Value;
-use std::alloc::Global;
 use std::io;
 use std::io::Write;
-
-/// Why a line was not written.
-#[derive(Clone, Copy, Debug, PartialEq, Eq)]
-pub enum WriteFault {
-    /// Memory was refused.
-    NoMemory,
-    /// The output can't be written.
-    CannotWrite,
-}
 
 // Writes a key of an object by its path, with the numbers of the rule and of its member.
 fn write_path<W: Write>(out: &mut W, place: Place, key: ObjectKey) -> io::Result<()> {
@@ -102,8 +92,18 @@ fn write_reason<W: Write>(
     }
 }
 
-// Writes the line, where the text's value is known.
-fn write_line<W: Write>(out: &mut W, value: Option<&Value>, fault: &ObjectFault) -> io::Result<()> {
+/// Writes the line of a fault of a text that was parsed as this: its number, its object, its key, what stands there and what
+/// may.
+///
+/// # Errors
+///
+/// Those of the writer.
+pub fn write_object_fault<W: Write>(
+    out: &mut W,
+    parsed: &Parsed,
+    fault: &ObjectFault,
+) -> io::Result<()> {
+    let value = parsed.value();
     let number = fault.number();
     write!(out, "apf: objects fault {number}")?;
     let mut object = None;
@@ -113,21 +113,4 @@ fn write_line<W: Write>(out: &mut W, value: Option<&Value>, fault: &ObjectFault)
     }
     write_reason(out, value, object, fault)?;
     out.write_all(b"\n")
-}
-
-/// Writes the line of a fault of these bytes: its number, its object, its key, what stands there and what may.
-///
-/// # Errors
-///
-/// `NoMemory` if memory was refused, and `CannotWrite` if the line was not written.
-pub fn write_object_fault<W: Write>(
-    alloc: Global,
-    bytes: &[u8],
-    fault: &ObjectFault,
-    out: &mut W,
-) -> Result<(), WriteFault> {
-    let Ok(value) = value_of(alloc, bytes) else {
-        return Err(WriteFault::NoMemory);
-    };
-    write_line(out, value.as_ref(), fault).map_err(|_| WriteFault::CannotWrite)
 }

@@ -16,6 +16,6 @@ mod matching;
 mod path;
 
 pub use events::{LogFault, write_log};
-pub use faults::{WriteFault, write_object_fault};
+pub use faults::write_object_fault;
 pub use listing::write_cluster;
 pub use matching::write_match;

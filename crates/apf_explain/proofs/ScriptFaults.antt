@@ -10,12 +10,9 @@ use Rattle.apf_files.specs.declared.script.Command.{Command}
 use Rattle.apf_files.specs.declared.script.Command.TheVariants.{Arrive, Finish, Cancel, Close, Limit}
 use Rattle.apf_files.specs.declared.script.ScriptFault.{ScriptFault}
 use Rattle.apf_files.specs.declared.script.ScriptFault.TheVariants.{TooLong, Truncated, BadLine, UnknownRequest, NoMemory, BadLimit}
-use Rattle.apf_explain.specs.ScriptLine.{line_from, line_of_number, number_in}
+use Rattle.apf_files.specs.ScriptLine.{line_from, line_of_number, number_in}
 use Rattle.apf_explain.specs.Shown.{IsScriptShown}
 use Rattle.apf_explain.proofs.RequestFaults.{before_err}
-
-no_lf : (b : ℕ) → b ≢ 10 → nat_eq b 10 ≡ false
-no_lf b h = grind (arith, nat_tests)
 
 -- ---- the line of a number
 
@@ -23,36 +20,6 @@ no_lf b h = grind (arith, nat_tests)
 other_byte : (earlier : ℕ) (begun : List ℕ) (b : ℕ) (bs : List ℕ) → nat_eq b 10 ≡ false → line_from earlier begun (b ∷ bs) ≡ line_from earlier (begun ++ b ∷ []) bs
 other_byte zero begun b bs other = rw other refl
 other_byte (suc earlier) begun b bs other = rw other refl
-
--- past a line that ends at k
-pub line_from-past : (earlier : ℕ) (begun bs : List ℕ) (k : ℕ) → k < length bs → get_or bs k 0 ≡ 10 → ((j : ℕ) → j < k → get_or bs j 0 ≢ 10)
-    → line_from (suc earlier) begun bs ≡ line_from earlier [] (drop (k + 1) bs)
-line_from-past earlier begun [] k within is none = absurd (omega arith)
-line_from-past earlier begun (b ∷ bs) zero within is none =
-    let is_lf : nat_eq b 10 ≡ true = rw is refl in
-    rw is_lf refl
-line_from-past earlier begun (b ∷ bs) (suc k) within is none =
-    let not_lf : nat_eq b 10 ≡ false = no_lf b (none 0 (omega arith)) in
-    let next : suc k + 1 ≡ suc (k + 1) = omega arith in
-    rw (not_lf, next) (line_from-past earlier (begun ++ b ∷ []) bs k (omega arith) is (λ j h. none (suc j) (omega arith)))
-
--- a line that ends at k
-pub line_from-here : (begun bs : List ℕ) (k : ℕ) → k < length bs → get_or bs k 0 ≡ 10 → ((j : ℕ) → j < k → get_or bs j 0 ≢ 10)
-    → line_from zero begun bs ≡ Some (begun ++ take k bs)
-line_from-here begun [] k within is none = absurd (omega arith)
-line_from-here begun (b ∷ bs) zero within is none =
-    let is_lf : nat_eq b 10 ≡ true = rw is refl in
-    rw (is_lf, append-nil begun) refl
-line_from-here begun (b ∷ bs) (suc k) within is none =
-    let not_lf : nat_eq b 10 ≡ false = no_lf b (none 0 (omega arith)) in
-    rw not_lf (line_from-here (begun ++ b ∷ []) bs k (omega arith) is (λ j h. none (suc j) (omega arith)) ∙ ap Some (append_assoc begun (b ∷ []) (take k bs)))
-
--- bytes with no end of a line
-pub line_from-none : (earlier : ℕ) (begun bs : List ℕ) → ((j : ℕ) → j < length bs → get_or bs j 0 ≢ 10) → line_from earlier begun bs ≡ None
-line_from-none earlier begun [] none = refl
-line_from-none earlier begun (b ∷ bs) none =
-    let not_lf : nat_eq b 10 ≡ false = no_lf b (none 0 (omega arith)) in
-    other_byte earlier begun b bs not_lf ∙ line_from-none earlier (begun ++ b ∷ []) bs (λ j h. none (suc j) (omega arith))
 
 -- ---- the fault of a line
 

@@ -9,16 +9,13 @@ use Rattle.apf_files.specs.ScriptFile.{max_lines, command_of, line_of}
 use Rattle.apf_files.specs.declared.script.ScriptFault.{ScriptFault}
 use Rattle.apf_files.specs.declared.script.ScriptFault.TheVariants as script
 use Rattle.apf_explain.specs.declared.place.Part.TheVariants.{Line}
-use Rattle.apf_explain.specs.ScriptLine.{line_of_number, number_in}
+use Rattle.apf_files.specs.ScriptLine.{line_of_number, number_at}
 use Rattle.apf_explain.specs.Lines.{place_text}
+use Rattle.apf_explain.specs.Reasons.{mark_text}
 
 -- the text that a line is shown as: itself, if it is short and UTF-8
 unfoldable pub shown_of : List ℕ → Option (List ℕ)
 shown_of line = if nat_le (length line) 64 then (if is_utf8 line then Some line else None) else None
-
--- the number of a line's command, if it has one
-abbrev pub number_at : List ℕ → Option ℕ
-number_at line = option_and_then number_in (command_of line)
 
 -- which requests there are
 unfoldable pub known_text : ℕ → List ℕ
@@ -59,21 +56,31 @@ abbrev pub bad_line_text : List ℕ → Option (List ℕ) → Option (List ℕ)
 bad_line_text place None = no_command_text place None
 bad_line_text place (Some line) = line_fault_text place line
 
--- the fault of this line, of a script of so many requests
-abbrev pub line_text : List ℕ → Option (List ℕ) → ℕ → ScriptFault → Option (List ℕ)
-line_text place line requests (script.TooLong number) = Some (place ++ (codes "there are more than " ++ (decimal max_lines ++ codes " lines\n")))
-line_text place line requests (script.Truncated number) = Some (place ++ codes "the last line has no LF at its end\n")
-line_text place line requests (script.UnknownRequest number) =
-    Some (unknown_request_text place (option_and_then number_at line) requests)
-line_text place line requests (script.BadLimit number) = Some (bad_limit_text place (option_and_then number_at line))
-line_text place line requests (script.BadLine number) = bad_line_text place line
-line_text place line requests script.NoMemory = bad_line_text place line
+-- the fault of this line, whose command has this number, of a script of this many requests
+abbrev pub line_text : List ℕ → (line : Option (List ℕ)) → (number : Option ℕ) → ℕ → ScriptFault → Option (List ℕ)
+line_text place line number requests (script.TooLong n) = Some (place ++ (codes "there are more than " ++ (decimal max_lines ++ codes " lines\n")))
+line_text place line number requests (script.Truncated n) = Some (place ++ codes "the last line has no LF at its end\n")
+line_text place line number requests (script.UnknownRequest n) = Some (unknown_request_text place number requests)
+line_text place line number requests (script.BadLimit n) = Some (bad_limit_text place number)
+line_text place line number requests (script.BadLine n) = bad_line_text place line
+line_text place line number requests script.NoMemory = bad_line_text place line
+
+-- what is said of how a script begins, where its first line is no command, or has no end
+abbrev pub mark_of : (bytes : List ℕ) → ScriptFault → Option (List ℕ)
+mark_of bytes (script.Truncated (suc zero)) = mark_text bytes
+mark_of bytes (script.BadLine (suc zero)) = mark_text bytes
+mark_of bytes fault = None
+
+-- the fault of this line, where this is said of how the script begins
+abbrev pub marked_text : List ℕ → Option (List ℕ) → Option (List ℕ) → ℕ → ScriptFault → Option (List ℕ)
+marked_text place None line requests fault = line_text place line (option_and_then number_at line) requests fault
+marked_text place (Some why) line requests fault = Some (place ++ (codes "this is no script" ++ (why ++ codes "\n")))
 
 -- the line of the fault of this line of the script was written
 abbrev pub IsLineAt : (name bytes : List ℕ) → ℕ → ScriptFault → Option (List ℕ) → Option (List ℕ) → Option ℕ → Type 0
 IsLineAt name bytes requests fault before after None = ⊥
 IsLineAt name bytes requests fault before after (Some number) =
-    IfSome (line_text (place_text name (Line number)) (line_of_number number bytes) requests fault) (Appends before after)
+    IfSome (marked_text (place_text name (Line number)) (mark_of bytes fault) (line_of_number number bytes) requests fault) (Appends before after)
 
 -- the line of a script's fault was written
 abbrev pub IsScriptLine : (name bytes : List ℕ) → ℕ → ScriptFault → Option (List ℕ) → Option (List ℕ) → Type 0

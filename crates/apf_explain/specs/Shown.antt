@@ -22,7 +22,7 @@ use Rattle.apf_explain.specs.declared.flow.FlowFault.{FlowFault}
 use Rattle.apf_explain.specs.Keys.{is_key_of, unknown_in}
 use Rattle.apf_explain.specs.Wanted.{is_wanted, wanted_at, request_key_name, request_wanted}
 use Rattle.apf_explain.specs.FlowFaults.{flow_fault_of}
-use Rattle.apf_explain.specs.ScriptLine.{line_of_number, number_in}
+use Rattle.apf_files.specs.ScriptLine.{line_of_number, number_in}
 
 -- a value stands at the key, and is none that may stand there
 abbrev pub IsUnwanted : List ℕ → Wanted → Data → Type 0

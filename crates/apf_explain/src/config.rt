@@ -3,6 +3,7 @@
 ghost use Rattle.std.specs.Prelude.{◌≡◌, OnOk, IfSome, Err, option_map};
 ghost use Rattle.std.specs.Io.KnownBytes.{Appends};
 ghost use Rattle.serde_json.specs.View.{view};
+ghost use Rattle.apf_files.specs.JsonFile.{value_in, value_of};
 ghost use Rattle.apf_explain.specs.Wanted.{wanted_at};
 ghost use Rattle.apf_explain.specs.Lines.{missing_text, place_text, config_text, IsConfigLine};
 
@@ -13,7 +14,7 @@ use crate::keys::{Keys, write_unknown_key};
 use crate::place::{Part, Place};
 use crate::reason::Strange;
 use crate::wanted::Wanted;
-use apf_files::{ConfigFault, ConfigKey, MAX_HAND_SIZE, value_of};
+use apf_files::{ConfigFault, ConfigKey, MAX_HAND_SIZE, Parsed};
 use apf_words::{MAX_LIMIT, MAX_QUEUE_LENGTH, MAX_QUEUES};
 use serde_json::Value;
 use std::alloc::Global;
@@ -73,9 +74,9 @@ fn write_config<W: Write>(
     }
 }
 
-/// Writes the fault of a config file as one line for a person.
+/// Writes the fault of a config file, whose bytes were parsed as this, as one line for a person.
 ///
-/// `fault` is what `read_config` answers for these bytes. Where that is so, the line names the key and the value that
+/// `fault` is what `judge_config` answers for these. Where that is so, the line names the key and the value that
 /// it was answered for, and what has to stand there: see `every_config_fault_is_shown`.
 ///
 /// Of bytes that are no JSON the line has the place at which the reader stopped. Lines and columns count from 1, and
@@ -89,21 +90,22 @@ pub fn explain_config<W: Write>(
     alloc: Global,
     name: &str,
     bytes: &[u8],
+    parsed: &Parsed,
     fault: ConfigFault,
     out: &mut W,
 ) -> Result<(), ExplainFault>
+    requires { value_in parsed.now ≡ value_of bytes.now }
     ensures line { OnOk result (IsConfigLine name.now bytes.now fault (W.contents out.old) (W.contents out.new)) }
     ensures refused { fault ≡ ConfigFault.NoMemory → (result ≡ Err ExplainFault.NoMemory) × (out.new ≡ out.old) }
     ensures memory { result ≡ Err ExplainFault.NoMemory → out.new ≡ out.old }
 {
     match fault {
-        ConfigFault::NotJson => explain_not_json(alloc, name, bytes, STRANGE, out),
+        ConfigFault::NotJson => explain_not_json(alloc, name, bytes, parsed, STRANGE, out),
         ConfigFault::Missing => Ok(write_missing(out, name, MAX_LIMIT)?),
         ConfigFault::NoMemory => Err(ExplainFault::NoMemory),
         ConfigFault::NotObject | ConfigFault::UnknownKey | ConfigFault::BadValue(_) => {
-            let value = value_of(alloc, bytes)?;
             let part = Part::Whole;
-            Ok(write_config(out, Place { name, part }, value.as_ref(), fault)?)
+            Ok(write_config(out, Place { name, part }, parsed.value(), fault)?)
         }
     }
 }

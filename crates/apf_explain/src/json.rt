@@ -4,6 +4,7 @@ ghost use Rattle.std.specs.Prelude.{◌≡◌, ℕ, OnOk, IfSome, Err, option_ma
 ghost use Rattle.std.specs.Io.KnownBytes.{Appends};
 ghost use Rattle.serde_json.specs.Find.{get, as_array};
 ghost use Rattle.serde_json.specs.View.{view, items_view};
+ghost use Rattle.apf_files.specs.JsonFile.{value_in, value_of};
 ghost use Rattle.apf_explain.specs.Lines.{place_text, unwanted_text, stop_text, IsNotJsonLine};
 
 use crate::fault::ExplainFault;
@@ -11,7 +12,7 @@ use crate::found::Found;
 use crate::place::Place;
 use crate::reason::{Strange, file_reason};
 use crate::wanted::Wanted;
-use apf_files::every_text_is_what_was_read;
+use apf_files::Parsed;
 use serde_json::{Error, Value};
 use std::alloc::Global;
 use std::io;
@@ -54,24 +55,24 @@ fn write_stop<W: Write>(out: &mut W, name: &str, error: &Error, why: &str) -> io
     writeln!(out, "{name}:{line}:{column}: this is not JSON{why}")
 }
 
-/// Writes where bytes stop to be JSON.
+/// Writes where bytes stop to be JSON, which were parsed as this.
 pub(crate) fn explain_not_json<W: Write>(
     alloc: Global,
     name: &str,
     bytes: &[u8],
+    parsed: &Parsed,
     strange: Strange,
     out: &mut W,
 ) -> Result<(), ExplainFault>
+    requires { value_in parsed.now ≡ value_of bytes.now }
     ensures line { OnOk result (IsNotJsonLine name.now bytes.now (W.contents out.old) (W.contents out.new)) }
     ensures memory { result ≡ Err ExplainFault.NoMemory → out.new ≡ out.old }
 {
-    every_text_is_what_was_read();
-    match Value::from_slice(alloc, bytes) {
-        Ok(_) => Ok(writeln!(out, "{name}: this is not JSON")?),
-        Err(e) if e.is_memory() => Err(ExplainFault::NoMemory),
-        Err(e) => {
-            let why = file_reason(alloc, bytes, &e, strange)?;
-            Ok(write_stop(out, name, &e, why)?)
+    match parsed {
+        Parsed::Value(_) => Ok(writeln!(out, "{name}: this is not JSON")?),
+        Parsed::Stopped(error) => {
+            let why = file_reason(alloc, bytes, error, strange)?;
+            Ok(write_stop(out, name, error, why)?)
         }
     }
 }

@@ -12,7 +12,7 @@
 //! - `flow`: what is wrong with the flow of a request.
 //! - `members`: the line of one request.
 //! - `requests`: the line of a requests file.
-//! - `line`: one line of a script.
+//! - `objects`: the line of a cluster's objects that are no JSON.
 //! - `script`: the line of a script file.
 //! - `likeness`: which file the bytes are that stand in the place of another one.
 //! - `reason`: why bytes are no JSON.
@@ -35,9 +35,9 @@ mod json;
 mod keys;
 mod laws;
 mod likeness;
-mod line;
 mod lines;
 mod members;
+mod objects;
 mod place;
 mod reason;
 mod requests;
@@ -59,6 +59,7 @@ pub use laws::{
 };
 pub use likeness::begins_as_trace;
 pub use lines::write_column;
+pub use objects::explain_objects;
 pub use place::{Part, Place};
 pub use reason::line_reason;
 pub use requests::explain_requests;

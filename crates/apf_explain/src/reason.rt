@@ -125,8 +125,8 @@ fn begins_utf16(bytes: &[u8]) -> bool
         || bytes.starts_with(b"\0{")
 }
 
-// What is said of bytes that begin with a mark of byte order, as UTF-16 does or as gzip does.
-fn mark(bytes: &[u8]) -> Option<&'static str>
+/// What is said of bytes that begin with a mark of byte order, as UTF-16 does or as gzip does.
+pub(crate) fn mark(bytes: &[u8]) -> Option<&'static str>
     ensures { option_map (λ why. why.now) result ≡ mark_text bytes.now }
 {
     if bytes.starts_with(b"\xef\xbb\xbf") {

@@ -3,6 +3,7 @@
 ghost use Rattle.std.specs.Prelude.{◌≡◌, OnOk, IfSome, Err, option_map};
 ghost use Rattle.std.specs.Io.KnownBytes.{Appends};
 ghost use Rattle.serde_json.specs.View.{view};
+ghost use Rattle.apf_files.specs.JsonFile.{value_in, value_of};
 ghost use Rattle.apf_explain.specs.Lines.{place_text, too_many_text, requests_text, IsRequestsLine};
 
 use crate::fault::ExplainFault;
@@ -11,7 +12,7 @@ use crate::json::{explain_not_json, items_of};
 use crate::members::write_request;
 use crate::place::{Part, Place};
 use crate::reason::Strange;
-use apf_files::{RequestFault, every_item_is_counted, value_of};
+use apf_files::{Parsed, RequestFault, every_item_is_counted};
 use apf_words::MAX_REQUESTS;
 use serde_json::Value;
 use std::alloc::Global;
@@ -66,9 +67,9 @@ fn write_requests<W: Write>(
     writeln!(out, "{place}requests are a JSON array, but this is {found}")
 }
 
-/// Writes the fault of a requests file as one line for a person.
+/// Writes the fault of a requests file, whose bytes were parsed as this, as one line for a person.
 ///
-/// `fault` is what `read_requests` answers for these bytes. Where that is so, the line names the request, the key and
+/// `fault` is what `judge_requests` answers for these. Where that is so, the line names the request, the key and
 /// the value that it was answered for, and what has to stand there: see `every_request_fault_is_shown`.
 ///
 /// Of bytes that are no JSON the line has the place at which the reader stopped, as `explain_config` has it.
@@ -81,9 +82,11 @@ pub fn explain_requests<W: Write>(
     alloc: Global,
     name: &str,
     bytes: &[u8],
+    parsed: &Parsed,
     fault: RequestFault,
     out: &mut W,
 ) -> Result<(), ExplainFault>
+    requires { value_in parsed.now ≡ value_of bytes.now }
     ensures line { OnOk result (IsRequestsLine name.now bytes.now fault (W.contents out.old) (W.contents out.new)) }
     ensures refused { fault ≡ RequestFault.NoMemory → (result ≡ Err ExplainFault.NoMemory) × (out.new ≡ out.old) }
     ensures memory { result ≡ Err ExplainFault.NoMemory → out.new ≡ out.old }
@@ -92,8 +95,7 @@ pub fn explain_requests<W: Write>(
         return Err(ExplainFault::NoMemory);
     }
     if fault == RequestFault::NotJson {
-        return explain_not_json(alloc, name, bytes, STRANGE, out);
+        return explain_not_json(alloc, name, bytes, parsed, STRANGE, out);
     }
-    let value = value_of(alloc, bytes)?;
-    Ok(write_requests(out, name, value.as_ref(), fault)?)
+    Ok(write_requests(out, name, parsed.value(), fault)?)
 }

@@ -3,12 +3,13 @@
 ghost use Rattle.std.specs.Prelude.{◌≡◌, OnOk, IfSome, Err, option_map};
 ghost use Rattle.std.specs.Io.KnownBytes.{Appends};
 ghost use Rattle.apf_explain.specs.Lines.{place_text};
-ghost use Rattle.apf_explain.specs.ScriptTexts.{shown_of, unknown_request_text, bad_limit_text, no_command_text, line_fault_text, bad_line_text, line_text, IsScriptLine};
+ghost use Rattle.apf_files.specs.ScriptLine.{found_line, found_number, IsFoundAt};
+ghost use Rattle.apf_explain.specs.ScriptTexts.{mark_of as mark_of_text, shown_of, unknown_request_text, bad_limit_text, no_command_text, line_fault_text, bad_line_text, line_text, IsScriptLine};
 
 use crate::fault::ExplainFault;
-use crate::line::{line_at, number_of};
 use crate::place::{Part, Place};
-use apf_files::{MAX_LINES, ScriptFault};
+use crate::reason::mark;
+use apf_files::{InScript, MAX_LINES, RefusedScript, ScriptFault};
 use apf_words::MAX_LIMIT;
 use std::io::Write;
 use std::{fmt, io};
@@ -110,41 +111,61 @@ fn write_line_fault<W: Write>(out: &mut W, place: Place<'_>, line: &[u8]) -> io:
     write_no_command(out, place, shown(line))
 }
 
-// Writes that a line is no command.
-fn write_bad_line<W: Write>(out: &mut W, place: Place<'_>, line: Option<&[u8]>) -> io::Result<()>
-    ensures { OnOk result (IfSome (bad_line_text (place_text place.entry.name.now place.entry.part) (option_map (λ line. line.now) line.entry)) (Appends (W.contents out.old) (W.contents out.new))) }
+// Writes that a line is no command, and the line, if it was found.
+fn write_bad_line<W: Write>(out: &mut W, place: Place<'_>, found: InScript<'_>) -> io::Result<()>
+    ensures { OnOk result (IfSome (bad_line_text (place_text place.entry.name.now place.entry.part) (found_line found.entry)) (Appends (W.contents out.old) (W.contents out.new))) }
 {
-    match line {
-        Some(line) => write_line_fault(out, place, line),
-        None => write_no_command(out, place, None),
+    match found {
+        InScript::Line(line) => write_line_fault(out, place, line),
+        InScript::Nothing | InScript::Number(_) => write_no_command(out, place, None),
     }
 }
 
-// Writes what is wrong with this line.
+// The number that was found.
+fn number_of(found: InScript<'_>) -> Option<u32>
+    ensures { result ≡ found_number found.entry }
+{
+    match found {
+        InScript::Number(number) => Some(number),
+        InScript::Nothing | InScript::Line(_) => None,
+    }
+}
+
+// What is said of how a script begins, where its first line is no command, or has no end.
+fn mark_of(bytes: &[u8], fault: ScriptFault) -> Option<&'static str>
+    ensures { option_map (λ why. why.now) result ≡ mark_of_text bytes.now fault }
+{
+    match fault {
+        ScriptFault::Truncated(1) | ScriptFault::BadLine(1) => mark(bytes),
+        _ => None,
+    }
+}
+
+// Writes what is wrong with a line, by what was found there.
 fn write_line<W: Write>(
     out: &mut W,
     place: Place<'_>,
-    line: Option<&[u8]>,
+    found: InScript<'_>,
     requests: u32,
     fault: ScriptFault,
 ) -> io::Result<()>
-    ensures { OnOk result (IfSome (line_text (place_text place.entry.name.now place.entry.part) (option_map (λ line. line.now) line.entry) requests fault)
+    ensures { OnOk result (IfSome (line_text (place_text place.entry.name.now place.entry.part) (found_line found.entry) (found_number found.entry) requests fault)
         (Appends (W.contents out.old) (W.contents out.new))) }
 {
     match fault {
         ScriptFault::TooLong(_) => writeln!(out, "{place}there are more than {MAX_LINES} lines"),
         ScriptFault::Truncated(_) => writeln!(out, "{place}the last line has no LF at its end"),
         ScriptFault::UnknownRequest(_) => {
-            write_unknown_request(out, place, line.and_then(number_of), requests)
+            write_unknown_request(out, place, number_of(found), requests)
         }
-        ScriptFault::BadLimit(_) => write_bad_limit(out, place, line.and_then(number_of)),
-        ScriptFault::BadLine(_) | ScriptFault::NoMemory => write_bad_line(out, place, line),
+        ScriptFault::BadLimit(_) => write_bad_limit(out, place, number_of(found)),
+        ScriptFault::BadLine(_) | ScriptFault::NoMemory => write_bad_line(out, place, found),
     }
 }
 
 /// Writes the fault of a script file as one line for a person.
 ///
-/// `fault` is what `read_script` answers for these bytes and this number of requests. Where that is so, the line that
+/// `refused` is what `judge_script` answers for these bytes and this number of requests. Where that is so, the line that
 /// is shown is the one that it was answered for: see `every_script_fault_is_shown`. Lines count from 1.
 ///
 /// # Errors
@@ -155,13 +176,15 @@ pub fn explain_script<W: Write>(
     name: &str,
     bytes: &[u8],
     requests: u32,
-    fault: ScriptFault,
+    refused: RefusedScript<'_>,
     out: &mut W,
 ) -> Result<(), ExplainFault>
-    ensures line { OnOk result (IsScriptLine name.now bytes.now requests fault (W.contents out.old) (W.contents out.new)) }
-    ensures refused { fault ≡ ScriptFault.NoMemory → (result ≡ Err ExplainFault.NoMemory) × (out.new ≡ out.old) }
-    ensures memory { result ≡ Err ExplainFault.NoMemory → fault ≡ ScriptFault.NoMemory }
+    requires { IsFoundAt bytes.now refused.fault refused.found }
+    ensures line { OnOk result (IsScriptLine name.now bytes.now requests refused.entry.fault (W.contents out.old) (W.contents out.new)) }
+    ensures refused { refused.entry.fault ≡ ScriptFault.NoMemory → (result ≡ Err ExplainFault.NoMemory) × (out.new ≡ out.old) }
+    ensures memory { result ≡ Err ExplainFault.NoMemory → refused.entry.fault ≡ ScriptFault.NoMemory }
 {
+    let RefusedScript { fault, found } = refused;
     match fault {
         ScriptFault::NoMemory => Err(ExplainFault::NoMemory),
         ScriptFault::TooLong(number)
@@ -170,8 +193,11 @@ pub fn explain_script<W: Write>(
         | ScriptFault::UnknownRequest(number)
         | ScriptFault::BadLimit(number) => {
             let part = Part::Line(number);
-            let line = line_at(bytes, number);
-            Ok(write_line(out, Place { name, part }, line, requests, fault)?)
+            let place = Place { name, part };
+            if let Some(why) = mark_of(bytes, fault) {
+                return Ok(writeln!(out, "{place}this is no script{why}")?);
+            }
+            Ok(write_line(out, place, found, requests, fault)?)
         }
     }
 }

@@ -1,6 +1,15 @@
-use apf_explain::{ExplainFault, explain_config, explain_requests, explain_script};
-use apf_files::{ConfigFault, ConfigKey, RequestFault, ScriptFault};
+use apf_explain::{
+    ExplainFault, explain_config, explain_objects, explain_requests, explain_script,
+};
+use apf_files::{
+    ConfigFault, ConfigKey, InScript, RefusedScript, RequestFault, ScriptFault, judge_script, parse,
+};
 use std::test::Fail;
+
+// A fault of a script, and what stands there.
+fn refused(fault: ScriptFault, found: InScript<'_>) -> RefusedScript<'_> {
+    RefusedScript { fault, found }
+}
 
 #[test]
 fn texts_of_faults(rt: HostRuntime) -> Result<(), Fail> {
@@ -15,13 +24,17 @@ fn texts_of_faults(rt: HostRuntime) -> Result<(), Fail> {
 fn readers_without_memory(rt: HostRuntime) -> Result<(), Fail> {
     let alloc = rt.alloc();
     let mut out = Vec::new(alloc);
-    let refused = Err(ExplainFault::NoMemory);
-    let answer = explain_config(alloc, "x", b"{", ConfigFault::NoMemory, &mut out);
-    assert_eq!(rt; answer, refused);
-    let answer = explain_requests(alloc, "x", b"[", RequestFault::NoMemory, &mut out);
-    assert_eq!(rt; answer, refused);
-    let answer = explain_script("x", b"close\n", 1, ScriptFault::NoMemory, &mut out);
-    assert_eq!(rt; answer, refused);
+    let without = Err(ExplainFault::NoMemory);
+    let config = parse(alloc, b"{")?;
+    let answer = explain_config(alloc, "x", b"{", &config, ConfigFault::NoMemory, &mut out);
+    assert_eq!(rt; answer, without);
+    let requests = parse(alloc, b"[")?;
+    let fault = RequestFault::NoMemory;
+    let answer = explain_requests(alloc, "x", b"[", &requests, fault, &mut out);
+    assert_eq!(rt; answer, without);
+    let script = refused(ScriptFault::NoMemory, InScript::Nothing);
+    let answer = explain_script("x", b"close\n", 1, script, &mut out);
+    assert_eq!(rt; answer, without);
     assert!(rt; out.is_empty());
     Ok(())
 }
@@ -42,13 +55,14 @@ fn a_config_without_room(rt: HostRuntime) -> Result<(), Fail> {
         ),
     ] {
         let mut out = Vec::new(alloc);
-        explain_config(alloc, "x", bytes, fault, &mut out)?;
+        let parsed = parse(alloc, bytes)?;
+        explain_config(alloc, "x", bytes, &parsed, fault, &mut out)?;
         for count in 0..out.len() {
             let Some(mut short) = room.as_mut_slice().get_mut(..count) else {
                 assert!(rt; false);
                 return Ok(());
             };
-            let answer = explain_config(alloc, "x", bytes, fault, &mut short);
+            let answer = explain_config(alloc, "x", bytes, &parsed, fault, &mut short);
             assert_eq!(rt; answer, Err(ExplainFault::CannotWrite), "at {count}");
         }
     }
@@ -70,13 +84,14 @@ fn requests_without_room(rt: HostRuntime) -> Result<(), Fail> {
         (b"[{\"hash\":0,\"work\":-1}]", RequestFault::BadWork(0)),
     ] {
         let mut out = Vec::new(alloc);
-        explain_requests(alloc, "x", bytes, fault, &mut out)?;
+        let parsed = parse(alloc, bytes)?;
+        explain_requests(alloc, "x", bytes, &parsed, fault, &mut out)?;
         for count in 0..out.len() {
             let Some(mut short) = room.as_mut_slice().get_mut(..count) else {
                 assert!(rt; false);
                 return Ok(());
             };
-            let answer = explain_requests(alloc, "x", bytes, fault, &mut short);
+            let answer = explain_requests(alloc, "x", bytes, &parsed, fault, &mut short);
             assert_eq!(rt; answer, Err(ExplainFault::CannotWrite), "at {count}");
         }
     }
@@ -85,26 +100,51 @@ fn requests_without_room(rt: HostRuntime) -> Result<(), Fail> {
 
 #[test]
 fn a_script_without_room(rt: HostRuntime) -> Result<(), Fail> {
+    let alloc = rt.alloc();
     let mut room = [0u8; 300];
-    for (bytes, fault) in [
-        (b"x\n".as_slice(), ScriptFault::BadLine(1)),
-        (b"\n", ScriptFault::BadLine(1)),
-        (b"\r\n", ScriptFault::BadLine(1)),
-        (b"close", ScriptFault::Truncated(1)),
-        (b"", ScriptFault::TooLong(100_001)),
-        (b"arrive 9\n", ScriptFault::UnknownRequest(1)),
-        (b"limit 0\n", ScriptFault::BadLimit(1)),
+    for bytes in [
+        b"x\n".as_slice(),
+        b"\n",
+        b"\r\n",
+        b"close",
+        b"arrive 9\n",
+        b"limit 0\n",
+        b"\x1f\x8b",
     ] {
-        let mut out = Vec::new(rt.alloc());
-        explain_script("x", bytes, 3, fault, &mut out)?;
+        let Err(script) = judge_script(alloc, bytes, 3) else {
+            assert!(rt; false);
+            return Ok(());
+        };
+        let mut out = Vec::new(alloc);
+        explain_script("x", bytes, 3, script, &mut out)?;
         for count in 0..out.len() {
             let Some(mut short) = room.as_mut_slice().get_mut(..count) else {
                 assert!(rt; false);
                 return Ok(());
             };
-            let answer = explain_script("x", bytes, 3, fault, &mut short);
+            let answer = explain_script("x", bytes, 3, script, &mut short);
             assert_eq!(rt; answer, Err(ExplainFault::CannotWrite), "at {count}");
         }
+    }
+    Ok(())
+}
+
+#[test]
+fn objects_without_room(rt: HostRuntime) -> Result<(), Fail> {
+    let alloc = rt.alloc();
+    let mut room = [0u8; 200];
+    let parsed = parse(alloc, b"kind: List")?;
+    let mut out = Vec::new(alloc);
+    explain_objects(alloc, "x", b"kind: List", &parsed, &mut out)?;
+    let line = "x:1:1: this is not JSON: the bytes begin as YAML does: write them as JSON\n";
+    assert_eq!(rt; out.as_slice(), line.as_bytes());
+    for count in 0..out.len() {
+        let Some(mut short) = room.as_mut_slice().get_mut(..count) else {
+            assert!(rt; false);
+            return Ok(());
+        };
+        let answer = explain_objects(alloc, "x", b"kind: List", &parsed, &mut short);
+        assert_eq!(rt; answer, Err(ExplainFault::CannotWrite), "at {count}");
     }
     Ok(())
 }
@@ -136,7 +176,8 @@ fn faults_of_other_configs(rt: HostRuntime) -> Result<(), Fail> {
         ),
     ] {
         let mut out = Vec::new(alloc);
-        explain_config(alloc, "x", bytes, fault, &mut out)?;
+        let parsed = parse(alloc, bytes)?;
+        explain_config(alloc, "x", bytes, &parsed, fault, &mut out)?;
         assert_eq!(rt; out.as_slice(), line.as_bytes());
     }
     Ok(())
@@ -163,31 +204,22 @@ fn faults_of_other_requests(rt: HostRuntime) -> Result<(), Fail> {
         ),
     ] {
         let mut out = Vec::new(alloc);
-        explain_requests(alloc, "x", bytes, fault, &mut out)?;
+        let parsed = parse(alloc, bytes)?;
+        explain_requests(alloc, "x", bytes, &parsed, fault, &mut out)?;
         assert_eq!(rt; out.as_slice(), line.as_bytes());
     }
     Ok(())
 }
 
+// Where no reader found the number or the line: the fault of too many lines has neither.
 #[test]
-fn faults_of_other_scripts(rt: HostRuntime) -> Result<(), Fail> {
-    for (fault, line) in [
-        (
-            ScriptFault::UnknownRequest(9),
-            "x:9: there is no such request: the requests are 0 to 2\n",
-        ),
-        (
-            ScriptFault::BadLimit(0),
-            "x:0: the limit is bad: it must be from 1 to 10000\n",
-        ),
-        (
-            ScriptFault::BadLine(u32::MAX),
-            "x:4294967295: the line is no command: a line is arrive N, finish N, cancel N, close or limit N, with one blank before N, which has one to five digits and no zero in front\n",
-        ),
-    ] {
-        let mut out = Vec::new(rt.alloc());
-        explain_script("x", b"close\n", 3, fault, &mut out)?;
-        assert_eq!(rt; out.as_slice(), line.as_bytes());
-    }
+fn a_script_of_too_many_lines(rt: HostRuntime) -> Result<(), Fail> {
+    let mut out = Vec::new(rt.alloc());
+    let script = refused(ScriptFault::TooLong(100_001), InScript::Nothing);
+    explain_script("x", b"", 3, script, &mut out)?;
+    assert_eq!(rt;
+        out.as_slice(),
+        b"x:100001: there are more than 100000 lines\n".as_slice()
+    );
     Ok(())
 }

@@ -4,10 +4,18 @@ use Rattle.std.specs.Str.{is_utf8}
 use Rattle.serde_json.specs.Data.{Data, Members, no_members, member}
 use Rattle.serde_json.specs.Find.{get, as_number, as_str, as_u64}
 use Rattle.serde_json.specs.Read.{read}
+use Rattle.serde_json.specs.View.{view}
+use Rattle.apf_files.specs.declared.json.Parsed.{Parsed}
+use Rattle.apf_files.specs.declared.json.Parsed.TheVariants.{Value, Stopped}
 
 -- the value of a JSON text in UTF-8, or none where the bytes are no such text
 abbrev pub value_of : List ℕ → Option Data
 value_of bytes = if is_utf8 bytes then read bytes else None
+
+-- the value of what bytes were parsed as, or none where they are no JSON text in UTF-8
+abbrev pub value_in : Parsed → Option Data
+value_in (Value value) = Some (view value)
+value_in (Stopped error) = None
 
 -- the judgement of what was read, where a file that is no JSON has a fault of its own
 abbrev pub judged : {T F : Type 0} → F → (Data → Result T F) → Option Data → Result T F

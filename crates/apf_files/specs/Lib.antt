@@ -3,3 +3,4 @@ pub mod JsonFile
 pub mod ConfigFile
 pub mod ScriptFile
 pub mod RequestsFile
+pub mod ScriptLine

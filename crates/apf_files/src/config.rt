@@ -3,10 +3,10 @@
 ghost use Rattle.std.specs.Prelude.{◌≡◌, ◌≢◌, ◌<◌, ◌≤◌, IfOk, IfErr, IfSome, Ok, Err, Some, None, option_and_then, length};
 ghost use Rattle.serde_json.specs.Find.{as_str};
 ghost use Rattle.serde_json.specs.View.{view, members_view};
-ghost use Rattle.apf_files.specs.JsonFile.{all_known};
+ghost use Rattle.apf_files.specs.JsonFile.{all_known, judged, value_in};
 ghost use Rattle.apf_files.specs.ConfigFile.{config_of, number_at as number_at_key, response_at as response_at_key, is_key, name_of, config_fault_number, response_named, IsConfigOf, IsConfigInRange};
 
-use crate::json::{value_of, whole_number};
+use crate::json::{Parsed, parse, whole_number};
 use apf_model::{Config, Response};
 use apf_words::{MAX_LIMIT, MAX_QUEUE_LENGTH, MAX_QUEUES};
 use serde_json::{Map, Value};
@@ -190,23 +190,38 @@ fn config_of_value(value: &Value) -> Result<Config, ConfigFault>
     })
 }
 
-/// Reads a config file: one JSON object in UTF-8 with keys of `ConfigKey` alone.
+/// The config that a file is, which was parsed as this: one JSON object in UTF-8 with keys of `ConfigKey` alone.
 ///
 /// Numbers are whole numbers, without fraction or exponent. Of a repeated key the last value counts.
 ///
 /// # Errors
 ///
 /// The first fault, in the order of `ConfigFault`, and of bad values that of the first key, in the order of
-/// `ConfigKey`; an absent `limit` is told before any bad value. `NoMemory` only where memory was refused.
+/// `ConfigKey`; an absent `limit` is told before any bad value.
+pub fn judge_config(parsed: &Parsed) -> Result<Config, ConfigFault>
+    ensures value { result ≡ judged ConfigFault.NotJson config_of (value_in parsed.now) }
+    ensures ranges { IfOk result IsConfigInRange }
+    ensures memory { IfErr result (λ fault. fault ≡ ConfigFault.NoMemory → value_in parsed.now ≢ None) }
+{
+    match parsed {
+        Parsed::Value(value) => config_of_value(value),
+        Parsed::Stopped(_) => Err(ConfigFault::NotJson),
+    }
+}
+
+/// Reads a config file: parses it, and judges what it was parsed as.
+///
+/// # Errors
+///
+/// As for `judge_config`. `NoMemory` only where memory was refused.
 pub fn read_config(alloc: Global, bytes: &[u8]) -> Result<Config, ConfigFault>
     ensures ok { IfOk result (λ config. IsConfigOf bytes.now (Ok config)) }
     ensures ranges { IfOk result IsConfigInRange }
     ensures err { IfErr result (λ fault. fault ≢ ConfigFault.NoMemory → IsConfigOf bytes.now (Err fault)) }
     ensures memory { IfErr result (λ fault. fault ≡ ConfigFault.NoMemory → 0 < length bytes.now) }
 {
-    match value_of(alloc, bytes) {
-        Ok(Some(value)) => config_of_value(&value),
-        Ok(None) => Err(ConfigFault::NotJson),
+    match parse(alloc, bytes) {
+        Ok(parsed) => judge_config(&parsed),
         Err(AllocError) => Err(ConfigFault::NoMemory),
     }
 }

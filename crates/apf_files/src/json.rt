@@ -2,10 +2,48 @@
 
 ghost use Rattle.std.specs.Prelude.{◌≡◌, ◌<◌, ◌≤◌, IfOk, IfErr, IfSome, option_map, length};
 ghost use Rattle.serde_json.specs.View.{view};
-ghost use Rattle.apf_files.specs.JsonFile.{value_of as value_of_bytes, text_at as text_at_key, whole_in, whole_below};
+ghost use Rattle.apf_files.specs.JsonFile.{value_in, value_of as value_of_bytes, text_at as text_at_key, whole_in, whole_below};
 
-use serde_json::Value;
+use serde_json::{Error, Value};
 use std::alloc::{AllocError, Global};
+
+/// What the bytes of a file were parsed as.
+#[derive(Drop)]
+pub enum Parsed {
+    /// The value of a JSON text in UTF-8.
+    Value(Value),
+    /// They are no such text: where they stop to be one, and why.
+    Stopped(Error),
+}
+
+impl Parsed {
+    /// The value, if the bytes are a JSON text in UTF-8.
+    pub fn value(&self) -> Option<&Value>
+        ensures { option_map (λ value. view value.now) result ≡ value_in self.now }
+    {
+        match self {
+            Parsed::Value(value) => Some(value),
+            Parsed::Stopped(_) => None,
+        }
+    }
+}
+
+/// Parses bytes as a JSON text in UTF-8.
+///
+/// # Errors
+///
+/// Only where memory was refused.
+pub fn parse(alloc: Global, bytes: &[u8]) -> Result<Parsed, AllocError>
+    ensures value { IfOk result (λ parsed. value_in parsed ≡ value_of_bytes bytes.now) }
+    ensures some { IfOk result (λ parsed. IfSome (value_in parsed) (λ read. 0 < length bytes.now)) }
+    ensures memory { IfErr result (λ refused. 0 < length bytes.now) }
+{
+    match Value::from_slice(alloc, bytes) {
+        Ok(value) => Ok(Parsed::Value(value)),
+        Err(e) if e.is_memory() => Err(AllocError),
+        Err(e) => Ok(Parsed::Stopped(e)),
+    }
+}
 
 /// The value of a JSON text in UTF-8, or none where the bytes are no such text.
 ///
@@ -17,10 +55,9 @@ pub fn value_of(alloc: Global, bytes: &[u8]) -> Result<Option<Value>, AllocError
     ensures some { IfOk result (λ value. IfSome value (λ read. 0 < length bytes.now)) }
     ensures memory { IfErr result (λ refused. 0 < length bytes.now) }
 {
-    match Value::from_slice(alloc, bytes) {
-        Ok(value) => Ok(Some(value)),
-        Err(e) if e.is_memory() => Err(AllocError),
-        Err(_) => Ok(None),
+    match parse(alloc, bytes)? {
+        Parsed::Value(value) => Ok(Some(value)),
+        Parsed::Stopped(_) => Ok(None),
     }
 }
 

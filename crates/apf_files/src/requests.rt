@@ -3,11 +3,12 @@
 ghost use Rattle.std.specs.Prelude.{◌≡◌, ◌≢◌, ◌<◌, ◌≤◌, IfOk, IfErr, Ok, Err, All, length, vec_len};
 ghost use Rattle.serde_json.specs.View.{view, items_view};
 ghost use Rattle.apf_words.specs.Limits.{max_requests};
+ghost use Rattle.apf_files.specs.JsonFile.{judged, value_in};
 ghost use Rattle.apf_files.specs.RequestsFile.{requests_of, requests_from, request_fault_number, place_of, AreRequestsOf, IsRequestInRange};
 
 mod member;
 
-use crate::json::value_of;
+use crate::json::{Parsed, parse};
 use crate::requests::member::request_of_value;
 pub use crate::requests::member::{MAX_WORK, flow_of, is_request_key, number_or};
 use serde_json::Value;
@@ -146,7 +147,7 @@ fn requests_of_value(alloc: Global, value: &Value) -> Result<Vec<Request>, Reque
     requests_of_items(alloc, items.as_slice())
 }
 
-/// Reads a requests file: one JSON array in UTF-8 with at most 10,000 objects.
+/// The requests that a file is, which was parsed as this: one JSON array in UTF-8 with at most 10,000 objects.
 ///
 /// A request has either `hash`, a whole number of 64 bits, or both of the texts `schema` and `distinguisher`, whose
 /// `flow_hash` its hash is. It may have `width`, `work`, `cancels` and `closes`, and no other key. Numbers are whole
@@ -156,6 +157,25 @@ fn requests_of_value(alloc: Global, value: &Value) -> Result<Vec<Request>, Reque
 ///
 /// `NotJson`, `NotArray` and `TooMany` come first. Then the members are judged in order, each by the other faults in
 /// the order of `RequestFault`; the first one is answered. `NoMemory` only where memory was refused.
+pub fn judge_requests(alloc: Global, parsed: &Parsed) -> Result<Vec<Request>, RequestFault>
+    ensures ok { IfOk result (λ requests. judged RequestFault.NotJson requests_of (value_in parsed.now) ≡ Ok requests.items) }
+    ensures ranges { IfOk result (λ requests. (vec_len requests ≤ max_requests)
+        × All (IsRequestInRange (vec_len requests)) requests.items) }
+    ensures err { IfErr result (λ fault. fault ≢ RequestFault.NoMemory
+        → judged RequestFault.NotJson requests_of (value_in parsed.now) ≡ Err fault) }
+    ensures memory { IfErr result (λ fault. fault ≡ RequestFault.NoMemory → value_in parsed.now ≢ None) }
+{
+    match parsed {
+        Parsed::Value(value) => requests_of_value(alloc, value),
+        Parsed::Stopped(_) => Err(RequestFault::NotJson),
+    }
+}
+
+/// Reads a requests file: parses it, and judges what it was parsed as.
+///
+/// # Errors
+///
+/// As for `judge_requests`. `NoMemory` only where memory was refused.
 pub fn read_requests(alloc: Global, bytes: &[u8]) -> Result<Vec<Request>, RequestFault>
     ensures ok { IfOk result (λ requests. AreRequestsOf bytes.now (Ok requests.items)) }
     ensures ranges { IfOk result (λ requests. (vec_len requests ≤ max_requests)
@@ -164,9 +184,8 @@ pub fn read_requests(alloc: Global, bytes: &[u8]) -> Result<Vec<Request>, Reques
         → AreRequestsOf bytes.now (Err fault)) }
     ensures memory { IfErr result (λ fault. fault ≡ RequestFault.NoMemory → 0 < length bytes.now) }
 {
-    match value_of(alloc, bytes) {
-        Ok(Some(value)) => requests_of_value(alloc, &value),
-        Ok(None) => Err(RequestFault::NotJson),
+    match parse(alloc, bytes) {
+        Ok(parsed) => judge_requests(alloc, &parsed),
         Err(AllocError) => Err(RequestFault::NoMemory),
     }
 }

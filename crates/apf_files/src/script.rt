@@ -2,10 +2,11 @@
 
 ghost use Rattle.std.specs.Prelude.{◌≡◌, ◌≢◌, ◌+◌, ◌<◌, ◌≤◌, ◌^◌, ℕ, MatchOption, IfOk, IfErr, IfSome, OnOk, Ok, Err, All, length, vec_len, slice_index, drop};
 ghost use Rattle.apf_files.specs.ScriptFile.{script_of, max_lines, judged_line, in_range as in_range_of, of_request as of_request_of, script_fault_number, line_of, IsCommandInRange};
+ghost use Rattle.apf_files.specs.ScriptLine.{number_in, found_number, IsOfNumber, IsFoundIn, IsFoundAt};
 
 mod line;
 
-pub use crate::script::line::command_of_line;
+use crate::script::line::command_of_line;
 use apf_words::MAX_LIMIT;
 use std::alloc::Global;
 use thiserror::Error;
@@ -46,6 +47,24 @@ pub enum ScriptFault {
     /// 6: the limit is outside 1 to 10,000.
     #[error("bad limit")]
     BadLimit(u32),
+}
+
+/// What stands in the line of a script that has a fault, as far as the fault tells it.
+#[derive(Clone, Copy, Debug, PartialEq, Eq)]
+pub enum InScript<'a> {
+    /// Nothing that is told.
+    Nothing,
+    /// The bytes of a line that has none of the five forms, without its LF.
+    Line(&'a [u8]),
+    /// The number of a command: of a request that there is not, or a limit outside its range.
+    Number(u32),
+}
+
+/// Why a script file was refused, and what stands there.
+#[derive(Clone, Copy, Debug, PartialEq, Eq)]
+pub struct RefusedScript<'a> {
+    pub fault: ScriptFault,
+    pub found: InScript<'a>,
 }
 
 /// The most lines of a script.
@@ -90,6 +109,7 @@ fn of_request(
 ) -> Result<Command, ScriptFault>
     ensures value { result ≡ of_request_of requests line request command }
     ensures known { OnOk result (request < requests) }
+    ensures err { IfErr result (IsOfNumber line) }
 {
     if request < requests {
         Ok(command)
@@ -102,6 +122,7 @@ fn of_request(
 fn in_range(command: Command, requests: u32, line: u32) -> Result<Command, ScriptFault>
     ensures value { result ≡ in_range_of requests line command }
     ensures ranges { IfOk result (IsCommandInRange requests) }
+    ensures err { IfErr result (IsOfNumber line) }
 {
     match command {
         Command::Arrive(n) | Command::Finish(n) | Command::Cancel(n) => {
@@ -113,13 +134,49 @@ fn in_range(command: Command, requests: u32, line: u32) -> Result<Command, Scrip
     }
 }
 
-#[tactic(auto, unfolding(crate::specs::ScriptFile::judged_line))]
-fn judge(bytes: &[u8], line: u32, requests: u32) -> Result<Command, ScriptFault>
-    ensures value { result ≡ judged_line requests line bytes.now }
-    ensures ranges { IfOk result (IsCommandInRange requests) }
+// The number that a command has.
+fn number_of(command: Command) -> InScript<'static>
+    ensures { found_number result ≡ number_in command }
 {
-    let command = command_of_line(bytes).ok_or(ScriptFault::BadLine(line))?;
-    in_range(command, requests, line)
+    match command {
+        Command::Arrive(n) | Command::Finish(n) | Command::Cancel(n) | Command::Limit(n) => {
+            InScript::Number(n)
+        }
+        Command::Close => InScript::Nothing,
+    }
+}
+
+#[tactic(auto, unfolding(crate::specs::ScriptFile::judged_line))]
+fn judge(bytes: &[u8], line: u32, requests: u32) -> Result<Command, RefusedScript<'_>>
+    ensures ok { IfOk result (λ command. judged_line requests line bytes.now ≡ Ok command) }
+    ensures ranges { IfOk result (IsCommandInRange requests) }
+    ensures err { IfErr result (λ refused. judged_line requests line bytes.now ≡ Err refused.fault) }
+    ensures place { IfErr result (λ refused. line_of refused.fault ≡ Some line) }
+    ensures found { IfErr result (λ refused. IsFoundIn (Some bytes.now) refused.fault refused.found) }
+{
+    let Some(command) = command_of_line(bytes) else {
+        return Err(RefusedScript {
+            fault: ScriptFault::BadLine(line),
+            found: InScript::Line(bytes),
+        });
+    };
+    match in_range(command, requests, line) {
+        Ok(command) => Ok(command),
+        Err(fault) => Err(RefusedScript {
+            fault,
+            found: number_of(command),
+        }),
+    }
+}
+
+// A fault of which nothing is told but itself.
+fn refused(fault: ScriptFault) -> RefusedScript<'static>
+    ensures { result.fault ≡ fault }
+{
+    RefusedScript {
+        fault,
+        found: InScript::Nothing,
+    }
 }
 
 /// The place of the first LF, where there is one.
@@ -140,7 +197,7 @@ fn after(bytes: &[u8], at: usize) -> &[u8]
     &bytes[at..]
 }
 
-/// Reads a script file: lines that each end in one LF, at most 100,000.
+/// The commands of a script file: lines that each end in one LF, at most 100,000.
 ///
 /// A line is `arrive N`, `finish N`, `cancel N`, `close` or `limit N`, with one space before N and nothing else.
 /// N has one to five decimal digits and no zero before another digit. The empty file is the empty script.
@@ -149,7 +206,45 @@ fn after(bytes: &[u8], at: usize) -> &[u8]
 /// # Errors
 ///
 /// Lines are judged from the first to the last, each by `TooLong`, `Truncated`, `BadLine`, `UnknownRequest` and
-/// `BadLimit` in this order; the first fault is answered. `NoMemory` only where memory was refused.
+/// `BadLimit` in this order; the first fault is answered, with what stands there. `NoMemory` only where memory was refused.
+pub fn judge_script(
+    alloc: Global,
+    bytes: &[u8],
+    requests: u32,
+) -> Result<Vec<Command>, RefusedScript<'_>>
+    ensures ok { IfOk result (λ commands. script_of requests bytes.now ≡ Ok commands.items) }
+    ensures ranges { IfOk result (λ commands. (vec_len commands ≤ max_lines)
+        × All (IsCommandInRange requests) commands.items) }
+    ensures err { IfErr result (λ refused. refused.fault ≢ ScriptFault.NoMemory
+        → script_of requests bytes.now ≡ Err refused.fault) }
+    ensures found { IfErr result (λ refused. IsFoundAt bytes.now refused.fault refused.found) }
+    ensures memory { IfErr result (λ refused. refused.fault ≡ ScriptFault.NoMemory → 0 < length bytes.now) }
+{
+    let mut commands = Vec::new(alloc);
+    let mut rest = bytes;
+    let mut line = 1;
+    while !rest.is_empty() {
+        if line > MAX_LINES {
+            return Err(refused(ScriptFault::TooLong(line)));
+        }
+        let Some(end) = line_end(rest) else {
+            return Err(refused(ScriptFault::Truncated(line)));
+        };
+        let command = judge(&rest[..end], line, requests)?;
+        if commands.push(command).is_err() {
+            return Err(refused(ScriptFault::NoMemory));
+        }
+        rest = after(rest, end + 1);
+        line += 1;
+    }
+    Ok(commands)
+}
+
+/// Reads a script file.
+///
+/// # Errors
+///
+/// The fault alone of `judge_script`.
 pub fn read_script(alloc: Global, bytes: &[u8], requests: u32) -> Result<Vec<Command>, ScriptFault>
     ensures ok { IfOk result (λ commands. script_of requests bytes.now ≡ Ok commands.items) }
     ensures ranges { IfOk result (λ commands. (vec_len commands ≤ max_lines)
@@ -158,22 +253,8 @@ pub fn read_script(alloc: Global, bytes: &[u8], requests: u32) -> Result<Vec<Com
         → script_of requests bytes.now ≡ Err fault) }
     ensures memory { IfErr result (λ fault. fault ≡ ScriptFault.NoMemory → 0 < length bytes.now) }
 {
-    let mut commands = Vec::new(alloc);
-    let mut rest = bytes;
-    let mut line = 1;
-    while !rest.is_empty() {
-        if line > MAX_LINES {
-            return Err(ScriptFault::TooLong(line));
-        }
-        let Some(end) = line_end(rest) else {
-            return Err(ScriptFault::Truncated(line));
-        };
-        let command = judge(&rest[..end], line, requests)?;
-        if commands.push(command).is_err() {
-            return Err(ScriptFault::NoMemory);
-        }
-        rest = after(rest, end + 1);
-        line += 1;
+    match judge_script(alloc, bytes, requests) {
+        Ok(commands) => Ok(commands),
+        Err(refused) => Err(refused.fault),
     }
-    Ok(commands)
 }

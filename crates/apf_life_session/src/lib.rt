@@ -16,7 +16,7 @@
 //! ```
 //!
 //! ```
-//! let mut session = Session::<K>::open_for_life(alloc, opening)?;
+//! let mut session = Session::<K>::open_for_life(rt, alloc, opening)?;
 //! let ask = Ask { width: 1, hash: 7 };
 //! session.arrive(rt, 0, ask);
 //! session.arrive(rt, 1, ask);

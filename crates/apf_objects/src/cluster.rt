@@ -2,6 +2,7 @@
 
 ghost use Rattle.std.specs.Prelude.{◌≡◌, ◌≢◌, ◌≤◌, ◌+◌, IfOk, IfErr, OnOk, Ok, Err, true, map, vec_len, codes};
 ghost use Rattle.serde_json.specs.View.{view, items_view};
+ghost use Rattle.apf_files.specs.JsonFile.{judged, value_in};
 ghost use Rattle.apf_objects.specs.Cluster as spec;
 ghost use Rattle.apf_objects.specs.Levels.{level_view};
 ghost use Rattle.apf_objects.specs.Objects.{objects_view, max_levels, has_schema as has_schema_named};
@@ -18,7 +19,7 @@ use crate::order::insert;
 use crate::own::{catch_all_level, catch_all_schema, exempt_level, exempt_schema};
 use crate::schema::Schema;
 use crate::value::at;
-use apf_files::value_of;
+use apf_files::{Parsed, parse};
 use serde_json::Value;
 use std::alloc::{AllocError, Global};
 
@@ -200,7 +201,7 @@ fn cluster_in(alloc: Global, value: &Value) -> Result<Cluster, ObjectFault>
     }
 }
 
-/// Reads the FlowSchemas and PriorityLevelConfigurations of a cluster: one JSON text in UTF-8, as
+/// The FlowSchemas and PriorityLevelConfigurations of a cluster, of a text that was parsed as this: one JSON text in UTF-8, as
 /// `kubectl get flowschemas,prioritylevelconfigurations -o json` prints it. It is a `List`, a `FlowSchemaList` or a
 /// `PriorityLevelConfigurationList` of at most 1,000 objects, 64 of them levels, or one object. The objects are of
 /// `flowcontrol.apiserver.k8s.io/v1`, `v1beta3` or `v1beta2`. In the two lists of one kind an item may leave out its
@@ -216,15 +217,32 @@ fn cluster_in(alloc: Global, value: &Value) -> Result<Cluster, ObjectFault>
 ///
 /// `NotJson`, `NoObjects`, `BadItems` and `TooMany` come first. Then the items are judged in their order, each by the
 /// keys in the order of `ObjectKey`; the first fault is answered. `NoMemory` only where memory was refused.
+pub fn judge_objects(alloc: Global, parsed: &Parsed) -> Result<Cluster, ObjectFault>
+    ensures ok { IfOk result (λ cluster. judged ObjectFault.NotJson spec.cluster_in (value_in parsed.now) ≡ Ok (spec.cluster_view cluster)) }
+    ensures catch_all { IfOk result spec.HasCatchAll }
+    ensures few { IfOk result (λ cluster. vec_len cluster.levels ≤ spec.most_levels) }
+    ensures err { IfErr result (λ fault. fault ≢ ObjectFault.NoMemory
+        → judged ObjectFault.NotJson spec.cluster_in (value_in parsed.now) ≡ Err fault) }
+{
+    match parsed {
+        Parsed::Value(value) => cluster_in(alloc, value),
+        Parsed::Stopped(_) => Err(ObjectFault::NotJson),
+    }
+}
+
+/// Reads the objects of a cluster: parses the text, and judges what it was parsed as.
+///
+/// # Errors
+///
+/// As for `judge_objects`. `NoMemory` only where memory was refused.
 pub fn read_objects(alloc: Global, bytes: &[u8]) -> Result<Cluster, ObjectFault>
     ensures ok { IfOk result (λ cluster. spec.IsClusterOf bytes.now (Ok (spec.cluster_view cluster))) }
     ensures catch_all { IfOk result spec.HasCatchAll }
     ensures few { IfOk result (λ cluster. vec_len cluster.levels ≤ spec.most_levels) }
     ensures err { IfErr result (λ fault. fault ≢ ObjectFault.NoMemory → spec.IsClusterOf bytes.now (Err fault)) }
 {
-    match value_of(alloc, bytes) {
-        Ok(Some(value)) => cluster_in(alloc, &value),
-        Ok(None) => Err(ObjectFault::NotJson),
+    match parse(alloc, bytes) {
+        Ok(parsed) => judge_objects(alloc, &parsed),
         Err(AllocError) => Err(ObjectFault::NoMemory),
     }
 }

@@ -12,7 +12,7 @@ mod rule;
 mod schema;
 mod value;
 
-pub use cluster::{Cluster, read_objects};
+pub use cluster::{Cluster, judge_objects, read_objects};
 pub use fault::{ObjectFault, Place};
 pub use key::ObjectKey;
 pub use level::{Level, LevelSettings, MAX_SHARES, Queuing, Version};

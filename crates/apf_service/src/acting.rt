@@ -10,7 +10,7 @@ ghost use Rattle.apf_charges.specs.Charging.{cost_for};
 ghost use Rattle.apf_service.specs.Kept.{state_of, asked_at};
 ghost use Rattle.apf_service.specs.Turns.{ArrivesAt, TriesAt, FinishesAt, SettlesBy, charges_after, queues_after, queues_spent, SpendsAt, CancelsAt, LimitsTo, Closes};
 
-use crate::queues::{recharge, width_of};
+use crate::queues::recharge;
 use crate::replies::{Refusal, of_arrival, of_attempt, of_cancel, of_close, of_finish, of_spent};
 use crate::state::{Asked, ServiceState};
 use crate::tally::Tally;
@@ -191,7 +191,7 @@ pub fn finish(
     ensures tallied { IsTallied level.new notes.new.tally }
     ensures count { length level.new.places ≡ length level.old.places }
 {
-    let width = width_of(level.ticket(slot as usize));
+    let width = level.ticket(slot as usize).width();
     let charge = level.charge(slot as usize);
     let answer = release(level, slot, ran);
     notes.tally = after_finish(notes.tally, width, answer);
@@ -229,7 +229,7 @@ pub fn spend(
     ensures tallied { IsTallied level.new notes.new.tally }
     ensures count { length level.new.places ≡ length level.old.places }
 {
-    let took = seat_time(width_of(level.ticket(slot as usize)), micros);
+    let took = seat_time(level.ticket(slot as usize).width(), micros);
     let charge = level.charge(slot as usize);
     let executes = level.spend(slot as usize, micros);
     spend_of(notes.queues.as_mut_slice(), executes, charge, took);

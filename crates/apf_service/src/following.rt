@@ -5,7 +5,7 @@ ghost use Rattle.apf_local.specs.declared.answer.Place.TheVariants as places;
 ghost use Rattle.apf_service.specs.Tallies.{IsTallied, decided_in, after_poll as after_place};
 ghost use Rattle.apf_service.specs.Kept.{state_of, charged_by, Leaves, Follows, FollowsAll};
 
-use crate::queues::{count, width_of};
+use crate::queues::count;
 use crate::state::ServiceState;
 use crate::tally::Tally;
 use apf_book::LifeEvent;
@@ -41,7 +41,7 @@ fn leave(level: &mut LocalLevel, notes: &mut ServiceState, slot: u32)
     if level.held(slot as usize) != Place::Waits {
         return;
     }
-    let width = width_of(level.ticket(slot as usize));
+    let width = level.ticket(slot as usize).width();
     let place = level.place(slot as usize);
     notes.tally = after_poll(notes.tally, width, place);
 }
@@ -57,7 +57,7 @@ fn charge(notes: &ServiceState, event: LifeEvent) -> u32
         Some(asked) => asked.cost,
         None => 0,
     };
-    notes.charges.charge_of(width_of(request), cost)
+    notes.charges.charge_of(request.width(), cost)
 }
 
 // What follows of one event.

@@ -1,11 +1,9 @@
 //! What each queue was given.
 
 ghost use Rattle.std.specs.Prelude.{◌≡◌, IfOk};
-ghost use Rattle.apf_gate.specs.Slots.{coded_width};
 ghost use Rattle.apf_service.specs.Kept.{none_given, recharged, with_event};
 
 use apf_book::{Charge, LifeEvent};
-use apf_gate::Ticket;
 use apf_protocol::Given;
 use std::alloc::{AllocError, Global};
 
@@ -25,14 +23,6 @@ pub fn no_queues(alloc: Global, queues: u32) -> Result<Vec<Given>, AllocError>
             service: 0,
         })
         .collect(alloc)
-}
-
-/// The width of the request that the ticket names.
-pub fn width_of(request: Ticket) -> u32
-    ensures { result ≡ coded_width request.number }
-{
-    let code = (request.number / 16384 % 32768) as u32;
-    code.clamp(1, 20000)
 }
 
 /// A queue is charged this for a request in place of what it was charged for it.

@@ -49,7 +49,7 @@ fn numeral(bytes: &[u8]) -> Option<u32>
 /// The command that a line of a script writes, which comes without its LF. None for a line of no form. Which requests
 /// there are, and which limits a level may have, is not asked.
 #[tactic(auto, unfolding(crate::specs::ScriptFile::command_of))]
-pub fn command_of_line(line: &[u8]) -> Option<Command>
+pub(crate) fn command_of_line(line: &[u8]) -> Option<Command>
     ensures { result ≡ command_of line.now }
 {
     if let Some(digits) = line.strip_prefix(b"arrive ".as_slice()) {

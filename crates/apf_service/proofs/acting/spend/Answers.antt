@@ -19,7 +19,7 @@ returns-clause-turns c =
     let l : LocalView = c.args.level.now in
     let executes = c.spend-executes.result in
     let given = c.args.notes.now.queues.items in
-    let width : c.width_of.result ≡ width_in (get_or (slots_of l) c.args.slot no_slot) = c.width_of.ensures ∙ ap coded_width (number_of l c.args.slot c.ticket.result.number c.requires.tallied.each_its_pass c.requires.is_slot c.ticket.ensures.number) in
+    let width : c.width.result ≡ width_in (get_or (slots_of l) c.args.slot no_slot) = c.width.ensures ∙ ap coded_width (number_of l c.args.slot c.ticket.result.number c.requires.tallied.each_its_pass c.requires.is_slot c.ticket.ensures.number) in
     let took : c.seat_time-took.result ≡ seat_time_of (width_in (get_or (slots_of l) c.args.slot no_slot)) c.args.micros = c.seat_time-took.ensures.value ∙ ap (λ (w : ℕ). seat_time_of w c.args.micros) width in
     let charge : c.charge-charge.result ≡ charge_in l.owner.book.queues (get_or (slots_of l) c.args.slot no_slot).number = slot_so l c.args.slot (λ (n : ℕ). c.charge-charge.result ≡ charge_in l.owner.book.queues n) c.requires.tallied.each_its_pass c.requires.is_slot c.charge-charge.ensures in
     record {

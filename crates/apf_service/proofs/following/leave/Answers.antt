@@ -18,7 +18,7 @@ pub after_poll-notes-requires-clause-running : goal.after_poll-notes-requires-cl
 after_poll-notes-requires-clause-running c = omega (arith, running_few c.args.level.now c.args.notes.now.tally c.requires.tallied)
 
 pub after_poll-notes-requires-clause-seats : goal.after_poll-notes-requires-clause-seats
-after_poll-notes-requires-clause-seats c = omega (arith, seats_few c.args.level.now c.args.notes.now.tally c.requires.tallied, coded_small c.ticket.result.number, c.width_of-width.ensures)
+after_poll-notes-requires-clause-seats c = omega (arith, seats_few c.args.level.now c.args.notes.now.tally c.requires.tallied, coded_small c.ticket.result.number, c.width-width.ensures)
 
 pub returns-then-slot-slots-clause-leaves : goal.returns-then-slot-slots-clause-leaves
 returns-then-slot-slots-clause-leaves c =
@@ -46,7 +46,7 @@ returns-clause-tallied c =
     let l : LocalView = c.args.level.now in
     let waits : c.held.result ≡ places.Waits = (search rules) in
     let inside : c.args.slot < length l.places = (search rules) in
-    let width : c.width_of-width.result ≡ width_in (get_or (slots_of l) c.args.slot no_slot) = c.width_of-width.ensures ∙ ap coded_width (number_of l c.args.slot c.ticket.result.number c.requires.tallied.each_its_pass inside c.ticket.ensures.number) in
+    let width : c.width-width.result ≡ width_in (get_or (slots_of l) c.args.slot no_slot) = c.width-width.ensures ∙ ap coded_width (number_of l c.args.slot c.ticket.result.number c.requires.tallied.each_its_pass inside c.ticket.ensures.number) in
     subst (λ (t : Tally). IsTallied c.place-place.new.self t)
     (sym (c.after_poll-notes.ensures ∙ ap (λ (n : ℕ). after_poll n c.place-place.result c.args.notes.now.tally) width))
     (poll_keeps c.args.slot l c.place-place.new.self c.place-place.ensures.same c.args.notes.now.tally c.requires.tallied c.place-place.result
@@ -57,7 +57,7 @@ returns-clause-leaves c =
     let l : LocalView = c.args.level.now in
     let waits : c.held.result ≡ places.Waits = (search rules) in
     let inside : c.args.slot < length l.places = (search rules) in
-    let width : c.width_of-width.result ≡ width_in (get_or (slots_of l) c.args.slot no_slot) = c.width_of-width.ensures ∙ ap coded_width (number_of l c.args.slot c.ticket.result.number c.requires.tallied.each_its_pass inside c.ticket.ensures.number) in
+    let width : c.width-width.result ≡ width_in (get_or (slots_of l) c.args.slot no_slot) = c.width-width.ensures ∙ ap coded_width (number_of l c.args.slot c.ticket.result.number c.requires.tallied.each_its_pass inside c.ticket.ensures.number) in
     let at = held_place l.places l.owner.passes c.args.slot c.held.result c.requires.tallied.each_its_pass c.held.ensures ∙ waits in (
       λ is. record {
         place = c.place-place.result;

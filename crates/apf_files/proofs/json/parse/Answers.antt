@@ -1,7 +1,7 @@
 use Rattle.std.proofs.Common.{sym, rules}
 use Rattle.serde_json.specs.View.{view}
 use Rattle.apf_files.proofs.Values.{value_of-read, value_of-none, some_bytes}
-use Rattle.apf_files.proofs.json.value_of.Goals as goal
+use Rattle.apf_files.proofs.json.parse.Goals as goal
 
 pub returns-in-Ok-clause-value : goal.returns-in-Ok-clause-value
 returns-in-Ok-clause-value c =

@@ -4,4 +4,5 @@ pub mod Chains
 pub mod Lefts
 pub mod Places
 pub mod Readings
+pub mod Telling
 pub mod Tying

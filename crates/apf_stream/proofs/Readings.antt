@@ -48,7 +48,7 @@ module _ (s : State) (slot : ℕ) (w : WaitsAt s slot) (l' : LocalView) (place :
       let h = some_at s.holds slot low in
       record {
         told = told;
-        reads = record { reads = reads; serves = serves; hold = h.0; noted = h.1; follows = follows h.0 h.1; holds = refl; charges = refl };
+        reads = record { waited = w.place; reads = reads; serves = serves; hold = h.0; noted = h.1; follows = follows h.0 h.1; holds = refl; charges = refl };
         told_are = refl;
       }
 

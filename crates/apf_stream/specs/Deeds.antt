@@ -65,6 +65,7 @@ pub record Serves (l l' : LocalView) : Type 0 where
 
 -- the request of the slot, which waited, read its decision, and is where that says
 pub record Reads (slot : ℕ) (place : Place) (s s' : State) (told : List Ended) : Type 0 where
+  pub waited : slice_get s.level.places slot ≡ Some places.Waits
   pub reads : IsReading slot s.level place s'.level
   pub serves : Serves s.level s'.level
   pub hold : Hold

@@ -1,11 +1,12 @@
 -- What is done with requests, one deed after another.
-use Rattle.std.specs.Prelude.{◌≡◌, ℕ, List, [], ◌∷◌, ◌++◌}
+use Rattle.std.specs.Prelude.{◌≡◌, ℕ, ◌+◌, ◌==◌, cond, List, [], ◌∷◌, ◌++◌, Option, Some, None}
 use Rattle.apf_stream.specs.declared.deed.Deed.{Deed}
 use Rattle.apf_stream.specs.declared.deed.Deed.TheVariants.{Arrive, Finish, GiveUp, Read}
 use Rattle.apf_stream.specs.declared.ended.Ended.{Ended}
 use Rattle.apf_stream.specs.declared.asked.Asked.{Asked}
 use Rattle.apf_local.specs.declared.answer.Place.{Place}
 use Rattle.apf_calendar.specs.declared.calendar.Carried.{Carried}
+use Rattle.apf_calendar.specs.declared.guest.Guest.{Guest}
 use Rattle.apf_calendar.specs.declared.guest.Stay.{Stay}
 use Rattle.apf_calendar.specs.declared.guest.Stay.TheVariants.{Waits, Impatient, Holds}
 use Rattle.apf_stream.specs.Deeds.{IsDeed, Arrives, Cancels, Reads, Returns}
@@ -32,6 +33,30 @@ pub record HasRun (came : List Asked) (s : State) (before : List Ended) (s' : St
   pub run : IsRun deeds s s' told
   pub came_are : arrivals deeds ≡ came
   pub told_are : after ≡ before ++ told
+
+-- one, if it is this line
+abbrev pub is_line : ℕ → ℕ → ℕ
+is_line line other = cond (other == line) 1 0
+
+-- how many of these that were told are of this line
+abbrev pub told_of : ℕ → List Ended → ℕ
+told_of line [] = 0
+told_of line (e ∷ told) = is_line line e.hold.asked.line + told_of line told
+
+-- how many of these that arrive are of this line
+abbrev pub came_of : ℕ → List Asked → ℕ
+came_of line [] = 0
+came_of line (a ∷ came) = is_line line a.line + came_of line came
+
+-- one, if the guest is of this line
+abbrev pub is_guest : ℕ → Option Guest → ℕ
+is_guest line None = 0
+is_guest line (Some g) = is_line line g.line
+
+-- how many of those who are there are of this line
+abbrev pub there_of : ℕ → List (Option Guest) → ℕ
+there_of line [] = 0
+there_of line (x ∷ slots) = is_guest line x + there_of line slots
 
 -- the request of the slot read its decision, and what is told by that was put behind what was told before
 pub record ReadsAs (slot : ℕ) (place : Place) (s : State) (before : List Ended) (s' : State) (after : List Ended) : Type 0 where

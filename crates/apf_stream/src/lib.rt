@@ -6,6 +6,7 @@
 //! - `deed`: what is done with a request.
 //! - `stream`: a level, a calendar of its slots, and what is noted of who is there. `fault`: why a stream does not go on.
 //! - `reading`: what a request that waits reads. `acting`: the calls of the level, and what follows of them.
+//! - `laws`: what is true of every run.
 #![tactic(auto)]
 
 mod acting;
@@ -13,6 +14,7 @@ mod asked;
 mod deed;
 mod ended;
 mod fault;
+mod laws;
 mod reading;
 mod stream;
 
@@ -20,4 +22,5 @@ pub use asked::{Asked, Hold};
 pub use deed::Deed;
 pub use ended::Ended;
 pub use fault::StreamFault;
+pub use laws::every_request_is_told_once;
 pub use stream::Stream;

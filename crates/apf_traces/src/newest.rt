@@ -11,7 +11,7 @@ use serde_json::Value;
 use std::alloc::{AllocError, Global};
 
 // How many hashes are kept at most.
-const PLACES: u32 = 1_024;
+const PLACES: u32 = 4_096;
 
 // The names of a flow, and their hash.
 #[derive(Drop)]
@@ -29,15 +29,15 @@ pub(crate) struct Newest {
     known: Vec<Option<Known>>,
 }
 
-// Where the hash of a flow of this distinguisher stands.
+// Where the hash of a flow of this distinguisher stands, by the hash FNV-1a of its bytes.
 fn place_of(distinguisher: &str) -> usize
-    ensures { result < 1024 }
+    ensures { result < 4096 }
 {
-    let mut sum = 0u32;
+    let mut sum = 2_166_136_261u32;
     for byte in distinguisher.as_bytes() {
-        sum = sum.wrapping_mul(31).wrapping_add(u32::from(*byte));
+        sum = (sum ^ u32::from(*byte)).wrapping_mul(16_777_619);
     }
-    (sum % PLACES) as usize
+    (sum / 65_536 % PLACES) as usize
 }
 
 impl Newest {
@@ -71,7 +71,7 @@ impl Newest {
         distinguisher: &str,
         hash: u64,
     ) -> Result<(), AllocError>
-        requires place { place < 1024 }
+        requires place { place < 4096 }
         requires hash { hash ≡ flow_hash_of schema.now distinguisher.now }
     {
         let known = Known {

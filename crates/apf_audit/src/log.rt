@@ -68,8 +68,8 @@ fn put_in_order(requests: &mut Vec<AuditRequest>)
 /// line has at most 8,388,608 bytes.
 ///
 /// An event is an object with the texts `stage` and `verb`. It is taken where `stage` is `ResponseComplete`, `verb`
-/// is not `watch`, and `objectRef.subresource` is none of `exec`, `attach`, `portforward`, `proxy` and `log`. Of an
-/// event that is not taken nothing else is judged.
+/// is not `watch`, and `objectRef.subresource` is none of `exec`, `attach`, `portforward`, `proxy` and `log`. The other
+/// fields of an event that is left out are not checked.
 ///
 /// The user is `user.username`, or `impersonatedUser.username` where there is such a user. The distinguisher is the
 /// user's name, or where `choice` asks for it `objectRef.namespace`, and the empty text without one. Of an event that is

@@ -6,11 +6,6 @@ use apf_files::{
 };
 use std::test::Fail;
 
-// A fault of a script, and what stands there.
-fn refused(fault: ScriptFault, found: InScript<'_>) -> RefusedScript<'_> {
-    RefusedScript { fault, found }
-}
-
 #[test]
 fn texts_of_faults(rt: HostRuntime) -> Result<(), Fail> {
     let said = ExplainFault::NoMemory.to_string(rt.alloc())?;
@@ -32,7 +27,10 @@ fn readers_without_memory(rt: HostRuntime) -> Result<(), Fail> {
     let fault = RequestFault::NoMemory;
     let answer = explain_requests(alloc, "x", b"[", &requests, fault, &mut out);
     assert_eq!(rt; answer, without);
-    let script = refused(ScriptFault::NoMemory, InScript::Nothing);
+    let script = RefusedScript {
+        fault: ScriptFault::NoMemory,
+        found: InScript::Nothing,
+    };
     let answer = explain_script("x", b"close\n", 1, script, &mut out);
     assert_eq!(rt; answer, without);
     assert!(rt; out.is_empty());
@@ -215,7 +213,10 @@ fn faults_of_other_requests(rt: HostRuntime) -> Result<(), Fail> {
 #[test]
 fn a_script_of_too_many_lines(rt: HostRuntime) -> Result<(), Fail> {
     let mut out = Vec::new(rt.alloc());
-    let script = refused(ScriptFault::TooLong(100_001), InScript::Nothing);
+    let script = RefusedScript {
+        fault: ScriptFault::TooLong(100_001),
+        found: InScript::Nothing,
+    };
     explain_script("x", b"", 3, script, &mut out)?;
     assert_eq!(rt;
         out.as_slice(),

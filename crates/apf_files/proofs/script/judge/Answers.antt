@@ -1,4 +1,4 @@
-use Rattle.std.proofs.Common.{sym, rules}
+use Rattle.std.proofs.Common.{rules}
 use Rattle.apf_files.proofs.ScriptLines.{number_placed, number_found}
 use Rattle.apf_files.proofs.script.judge.Goals as goal
 

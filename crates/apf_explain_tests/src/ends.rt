@@ -89,7 +89,8 @@ fn requests_without_room(rt: HostRuntime) -> Result<(), Fail> {
                 assert!(rt; false);
                 return Ok(());
             };
-            let answer = explain_requests(alloc, "x", bytes, &parsed, fault, &mut short);
+            let again = parse(alloc, bytes)?;
+            let answer = explain_requests(alloc, "x", bytes, &again, fault, &mut short);
             assert_eq!(rt; answer, Err(ExplainFault::CannotWrite), "at {count}");
         }
     }

@@ -60,7 +60,8 @@ fn a_config_without_room(rt: HostRuntime) -> Result<(), Fail> {
                 assert!(rt; false);
                 return Ok(());
             };
-            let answer = explain_config(alloc, "x", bytes, &parsed, fault, &mut short);
+            let again = parse(alloc, bytes)?;
+            let answer = explain_config(alloc, "x", bytes, &again, fault, &mut short);
             assert_eq!(rt; answer, Err(ExplainFault::CannotWrite), "at {count}");
         }
     }
@@ -142,7 +143,8 @@ fn objects_without_room(rt: HostRuntime) -> Result<(), Fail> {
             assert!(rt; false);
             return Ok(());
         };
-        let answer = explain_objects(alloc, "x", b"kind: List", &parsed, &mut short);
+        let again = parse(alloc, b"kind: List")?;
+        let answer = explain_objects(alloc, "x", b"kind: List", &again, &mut short);
         assert_eq!(rt; answer, Err(ExplainFault::CannotWrite), "at {count}");
     }
     Ok(())

@@ -3,7 +3,7 @@
 const $ = id => document.getElementById(id)
 const UNITS = [[1e4, 1, '\u00b5s', 0], [1e6, 1e3, 'ms', 1], [1e9, 1e3, 'ms', 0], [Infinity, 1e6, 's', 0]]
 const DECISIONS = { execute: 'executed', 'queue-full': 'rejected: queue full', 'concurrency-limit': 'rejected: no seat', cancelled: 'gave up' }
-// so many requests are shown at first
+// this many requests are shown at first
 const SOME = 500
 
 /** A number with a comma behind each third digit. */

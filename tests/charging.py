@@ -30,7 +30,7 @@ FINISH, GIVE_UP, ARRIVE = range(3)
 
 
 def arrivals_of(flows, name, runs_for, seats, draw, seconds=SECONDS):
-    """The arrivals in so many seconds of flows that ask for this many seats together, at times that know nothing of one another. Each runs up to a quarter longer or shorter."""
+    """The arrivals in this many seconds of flows that ask for this many seats together, at times that know nothing of one another. Each runs up to a quarter longer or shorter."""
     each = runs_for * len(flows) / seats
     arrivals = []
     for flow in flows:

@@ -9,7 +9,7 @@ from harness import TOP, Tally
 
 
 def cited_of_others(crate):
-    """The lemmas of other crates' proofs that a crate's sources, definitions and proofs name, and how often it names its own."""
+    """The lemmas of other crates' proofs that a crate's sources, definitions and proofs name, and how many times it names its own."""
     cited, own = set(), 0
     for folder, inside, names in os.walk(os.path.join(TOP, "crates", crate)):
         inside[:] = [it for it in inside if it not in ("out", "must-fail")]

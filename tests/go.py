@@ -94,7 +94,7 @@ class Backend:
         self.at_once, self.works = at_once, works
         # the paths whose answer is sent at once and not ended, and what comes behind their requests
         self.begins, self.behind = set(), {}
-        # those beside so many wait in the order in which they came
+        # those beside this many wait in the order in which they came
         self.workers = concurrent.futures.ThreadPoolExecutor(workers) if workers else None
         # what came, by path and in order, with the fields and bodies, and how many were in work at once at most
         self.came, self.fields, self.bodies, self.raw, self.open, self.ended, self.answered, self.broken, self.kept = [], {}, {}, {}, {}, [], [], [], []
@@ -242,7 +242,7 @@ class Gateway:
             return [json.loads(it) for it in lines.read().split("\n")[:-1]]
 
     def written(self, count):
-        """The entries, once there are so many. The last one is written when its client has its answer already."""
+        """The entries, once there are this many. The last one is written when its client has its answer already."""
         self.until(lambda: len(self.entries()) >= count)
         return self.entries()
 
@@ -354,7 +354,7 @@ def readable(asked):
 
 
 def read(connection, size):
-    """So many bytes of a connection, or those before its end."""
+    """This many bytes of a connection, or those before its end."""
     found = b""
     while len(found) < size and (part := connection.recv(size - len(found))):
         found += part
@@ -650,7 +650,7 @@ def test_clients_that_hang_up_while_the_backend_works():
     gateway = Gateway(backend, "--patience", "600s", limit=3)
 
     def hang_up(number, most):
-        """A client that leaves once its request is at the backend, or after so many seconds."""
+        """A client that leaves once its request is at the backend, or after this many seconds."""
         it = gateway.ask(f"/{number}", user=f"user {number % 5}")
         came = backend.wait(lambda came: f"/{number}" in came, most)
         it.close()

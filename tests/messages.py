@@ -119,7 +119,7 @@ for path, name, why in ((missing, missing, "there is no such file"), (files.fold
     for command, words in OLD.items():
         tally.check(f"{command} of {path}, as ever", run(program, words(path)), refused("apf: cannot read config"))
         tally.check(f"{command} of {path} at a terminal", at_terminal(words(path)), refused("apf: cannot read config", f"{name}: can't be read: {why}"))
-MORE = "more than 65536 bytes: a config has at most so many"
+MORE = "more than 65536 bytes: a config has at most this many"
 for path, behind in ((files("blank", " " * 65_537), ""), (files("long.jsonl", LINE + 1000 * LINE), ", and the first line is a request of a trace")):
     for command, words in NEW.items():
         tally.check(f"{command} of a large config", run(program, words(path)), refused("apf: config too large: more than 65536 bytes", f"{path}: {MORE}{behind}"))

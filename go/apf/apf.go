@@ -186,7 +186,7 @@ func (l *Level) Metrics(ctx context.Context) (string, error) {
 	return l.ask(ctx, "metrics", "# EOF", nil)
 }
 
-// SetLimit gives the level so many seats, 1 to 10,000, and answers how many it had. No seats are taken back. A level
+// SetLimit gives the level this many seats, 1 to 10,000, and answers how many it had. No seats are taken back. A level
 // that is started again has the limit that was set last.
 func (l *Level) SetLimit(ctx context.Context, seats int) (was int, err error) {
 	if seats < 1 || seats > maxLimit {
@@ -208,7 +208,7 @@ func (l *Level) CloseLevel(ctx context.Context) (first bool, err error) {
 	return err == nil && !had, err
 }
 
-// Restarts is how often the level was started again.
+// Restarts is how many times the level was started again.
 func (l *Level) Restarts() int { return int(l.restarts.Load()) }
 
 // Handler calls next for a request once it has its seats, and gives them back when next has returned. The function says

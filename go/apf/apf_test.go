@@ -19,7 +19,7 @@ import (
 // most is longer than anything here takes.
 const most = 20 * time.Second
 
-// opened is a level of so many slots, which is ended with the test.
+// opened is a level of this many slots, which is ended with the test.
 func opened(t *testing.T, options Options) *Level {
 	t.Helper()
 	if options.Config == "" {

@@ -68,7 +68,7 @@ tally.check("the level is refused at its opening and at its end", (set(places), 
 
 
 def after(rounds):
-    """What a run of so many rounds says, and the most memory that it had, in KiB."""
+    """What a run of this many rounds says, and the most memory that it had, in KiB."""
     with subprocess.Popen([program, "rounds", str(rounds)], stdout=subprocess.PIPE) as process:
         said = process.stdout.read()
         _, status, used = os.wait4(process.pid, 0)

@@ -125,7 +125,7 @@ for what, how_many in met.items():
 
 
 def long_trace(requests, flows=200):
-    """Pieces of a trace of so many requests, of which about nine in ten seats are taken."""
+    """Pieces of a trace of this many requests, of which about nine in ten seats are taken."""
     stream, lines = random.Random(7), []
     for number in range(requests):
         lines.append('{"hash":%d,"arrivesAt":%d,"runsFor":%d}\n' % (stream.randrange(flows), 100 * number, stream.randrange(1, 9_000)))

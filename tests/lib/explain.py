@@ -457,7 +457,7 @@ def dealer_line(name, queues, hand_size):
 
 
 def too_large(name, kind):
-    plural = {"config": "a config has at most so many", "requests": "requests have at most so many", "script": "a script has at most so many"}[kind]
+    plural = {"config": "a config has at most this many", "requests": "requests have at most this many", "script": "a script has at most this many"}[kind]
     return f"{name}: more than {MOST[kind]} bytes: {plural}"
 
 

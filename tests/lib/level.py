@@ -181,7 +181,7 @@ class Level:
         return "".join(lines)
 
     def waits(self):
-        """Of each request that entered: the seats before it, and what was granted from then to its end, by walks over the whole log."""
+        """For each request that entered: the seats before it, and what was granted from then to its end, by walks over the whole log."""
         lines = []
         for request in range(len(self.requests)):
             entries = [place for place, event in enumerate(self.log) if event[:2] == ("enter", request)]

@@ -73,7 +73,7 @@ def names_of(line):
 
 
 def rounded(number, size, digits):
-    """A number in units of this size, with so many digits behind the point."""
+    """A number in units of this size, with this many digits behind the point."""
     units = (number * 10**digits * 2 + size) // (2 * size)
     return f"{units // 10**digits:,}" + (f".{units % 10**digits:0{digits}d}" if digits else "")
 

@@ -88,7 +88,7 @@ class History:
         # virtual time: where each queue's next service starts, how far the level is, and who was served last
         self.starts, self.time, self.last = [0] * self.count, 0, self.count - 1
         self.arrived = set()
-        # the seats that each queue was given, and of each two queues that are not empty the least and the most
+        # the seats that each queue was given, and for each two queues that are not empty the least and the most
         # by which the first was given more, since both are not empty
         self.given, self.ahead = [0] * self.count, {}
         self.widest = max((width for width, *_ in report.requests), default=0)

@@ -5,7 +5,7 @@ use Rattle.std.specs.Int.{w128}
 use Rattle.std.proofs.lemmas.Int.{to_z-of_z}
 use mir.Val.{to_z, of_z}
 
--- so many nanoseconds have so many microseconds
+-- this many nanoseconds have this many microseconds
 pub nanos_of : (micros : ℕ) (z nanos : ℤ) → micros < 2 ^ 64 → z ≡ pos micros
     → nanos ≡ to_z w128 (of_z w128 (to_z w128 (of_z w128 z) *ℤ pos 1000)) → nanos ≡ pos (micros * 1000)
 nanos_of micros z nanos small is read =

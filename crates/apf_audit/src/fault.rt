@@ -39,7 +39,7 @@ pub enum AuditFault {
     /// 8: the run is below 0, or above 10,000,000,000 microseconds.
     #[error("bad run")]
     BadRun(usize),
-    /// 9: so many requests are chosen, more than 10,000. They were received from the first of these instants to the last,
+    /// 9: this many requests are chosen, more than 10,000. They were received from the first of these instants to the last,
     /// both in microseconds from 1970 on.
     #[error("too many requests: {count}")]
     TooMany { count: usize, first: u64, last: u64 },

@@ -9,7 +9,7 @@ use jiff_fmt::temporal::DateTimePrinter;
 use std::io;
 use std::io::Write;
 
-/// Writes the instant that is so many microseconds from 1970 on, in UTC, as RFC 3339 has instants. Of one after the year
+/// Writes the instant that is this many microseconds from 1970 on, in UTC, as RFC 3339 has instants. Of one after the year
 /// 9999 it writes the number.
 ///
 /// # Errors

@@ -194,7 +194,7 @@ fn virtual_time(rt: HostRuntime) -> Result<(), Fail> {
     Ok(())
 }
 
-// What the two queues were served in so many last events, if neither was empty in them.
+// What the two queues were served in this many last events, if neither was empty in them.
 fn services(
     rt: &impl Abort,
     alloc: Global,

@@ -19,7 +19,7 @@ const CLOSED: u64 = 1 << 63;
 
 const LIMIT: u64 = 10_000;
 
-// Serves the request whose decision stands in this word, if there is room, in at most so many turns.
+// Serves the request whose decision stands in this word, if there is room, in at most this many turns.
 fn serve(course: &Course, level: &AtomicU64, decision: &AtomicU64) {
     for _turn in 0..1_000_000u32 {
         if decision.load(Ordering::SeqCst) != 0 {

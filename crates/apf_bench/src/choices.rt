@@ -24,7 +24,7 @@ impl Shape {
         (request % self.busy().max(1)).wrapping_mul(self.stride)
     }
 
-    // So many dispatches that most busy queues keep a request to the end.
+    // This many dispatches that most busy queues keep a request to the end.
     fn dispatches(self) -> u32 {
         REQUESTS.saturating_sub(self.busy().wrapping_mul(2))
     }
@@ -42,7 +42,7 @@ pub struct Run {
     pub answers: u64,
 }
 
-// How long one of so many took since the start.
+// How long one of this many took since the start.
 pub fn picos_each<R: Clock>(rt: &R, start: Instant, count: u32) -> Option<u64> {
     let taken = u64::try_from(start.elapsed(rt).ok()?.as_nanos()).ok()?;
     Some(taken.saturating_mul(1_000) / u64::from(count.max(1)))

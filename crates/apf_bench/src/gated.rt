@@ -24,7 +24,7 @@ pub enum Beside {
     Renewal,
 }
 
-// Serves a request for which there is room, in at most so many turns.
+// Serves a request for which there is room, in at most this many turns.
 fn serve(course: &Course, gate: &Gate<Global>, pass: &mut Pass, beside: Beside)
     requires own { pass_gate pass.old ≡ gate.now }
     requires fresh { pass.old.pass.state ≡ Fresh }

@@ -9,7 +9,7 @@ use std::thread;
 use std::thread::Threads;
 use std::time::Clock;
 
-// Serves a request for which there is room, in at most so many turns.
+// Serves a request for which there is room, in at most this many turns.
 fn serve<K: Naming>(course: &Course, level: &Level<K>, request: &mut Request<K>) {
     for _turn in 0..1_000_000u32 {
         if request.try_admit(level) != Answer::Busy {

@@ -81,7 +81,7 @@ impl State {
     }
 }
 
-// Serves a request for which there is room, in at most so many turns.
+// Serves a request for which there is room, in at most this many turns.
 fn serve<R: Wait>(rt: &R, state: &Mutex<State>, request: usize) {
     for _turn in 0..1_000_000u32 {
         // the guard is gone before the next lock

@@ -104,7 +104,7 @@ struct Medians {
     after: u64,
 }
 
-// The medians of so many rounds, each of one run before and one after, or `None` where answers differ.
+// The medians of this many rounds, each of one run before and one after, or `None` where answers differ.
 fn measured(rt: &HostRuntime, shape: Shape, rounds: u32) -> Option<Medians> {
     let mut befores = Vec::new(rt.alloc());
     let mut afters = Vec::new(rt.alloc());

@@ -106,7 +106,7 @@ pub fn tell_on_one_thread(
     )
 }
 
-/// The medians of so many rounds by these callers, or `None` where a run fails.
+/// The medians of this many rounds by these callers, or `None` where a run fails.
 pub fn measured_admission<R: Threads + Clock + Wait + Sync>(
     rt: &R,
     alloc: Global,
@@ -145,7 +145,7 @@ pub fn measured_admission<R: Threads + Clock + Wait + Sync>(
     })
 }
 
-/// The medians of so many rounds, or `None` where a run fails.
+/// The medians of this many rounds, or `None` where a run fails.
 pub fn measured_line<R: Threads + Clock + Wait + Sync>(
     rt: &R,
     alloc: Global,
@@ -163,7 +163,7 @@ pub fn measured_line<R: Threads + Clock + Wait + Sync>(
     })
 }
 
-/// The medians of so many rounds over these queues, or `None` where a run fails.
+/// The medians of this many rounds over these queues, or `None` where a run fails.
 pub fn measured_life<R: Clock + Wait>(
     rt: &R,
     alloc: Global,

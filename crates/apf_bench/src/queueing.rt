@@ -7,7 +7,7 @@ use std::alloc::Global;
 
 /// Queues that share seats fairly. Of them each answers the same.
 pub trait Queueing: Drop {
-    /// So many queues, all empty, or `None` if there was no memory.
+    /// This many queues, all empty, or `None` if there was no memory.
     fn new(alloc: Global, queues: u32) -> Option<Self>;
 
     /// How many wait in the queue.

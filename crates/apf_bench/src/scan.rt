@@ -47,7 +47,7 @@ fn count_up(alloc: Global, count: u32) -> Result<Vec<u32>, AllocError> {
 }
 
 impl Scan {
-    // So many queues, all empty, for so many requests.
+    // This many queues, all empty, for this many requests.
     pub fn new(alloc: Global, queues: u32, requests: u32) -> Result<Scan, AllocError> {
         let nodes = requests.saturating_add(queues);
         let row = Row {

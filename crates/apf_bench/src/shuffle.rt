@@ -5,7 +5,7 @@ ghost use Rattle.std.specs.Prelude.{◌≡◌};
 use apf_model::{Ask, Config, Response};
 use std::fmt;
 
-/// So many queues, of which each request is dealt so many.
+/// This many queues, of which each request is dealt this many.
 #[derive(Clone, Copy)]
 pub struct Shuffle {
     pub queues: u32,

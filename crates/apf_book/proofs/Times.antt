@@ -139,7 +139,7 @@ module _ (laws : Laws) (v : LedgerView) (s : QueuesView) (marks : List Bool) (ca
   times : AreWithin (count_by is_dispatch v.history * widest v.costs) (numbers v.sizes.deck v.costs v.history)
   times = numbers_within v.sizes.deck v.costs (widest v.costs) (cost_within v.costs) v.history
 
-  -- at most so many were dispatched
+  -- at most this many were dispatched
   few_times : (n m : ℕ) → n ≤ m → n * widest v.costs ≤ m * widest v.costs
   few_times n m l = times_le n m (widest v.costs) l
 

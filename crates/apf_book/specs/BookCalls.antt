@@ -51,7 +51,7 @@ pub record AnswersArrival (book : BookView) (token : PassToken) (answer : Arrive
   pub told : IsTold answer token'.pass book.desk.desk.knows book'.desk.desk.knows
   pub again : (answer ≡ arrived.Again) ↔ (has_arrived book.ledger.history token.pass.number ≡ true)
 
--- so many were dispatched, and on return nothing waits or the chosen head did not fit
+-- this many were dispatched, and on return nothing waits or the chosen head did not fit
 pub record Dispatches (book : BookView) (count : ℕ) (book' : BookView) : Type 0 where
   pub log : Serves book.ledger book'.ledger count
   pub stops : Stops book'.ledger book.desk.desk.knows book'.desk.desk.knows

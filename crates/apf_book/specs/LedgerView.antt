@@ -30,7 +30,7 @@ hand_in v r = hand_of v.sizes (slice_index v.hashes r)
 abbrev pub HasFairLog : LedgerView → Type 0
 HasFairLog v = IsFair v.sizes.deck v.costs (hand_in v) v.limit v.history
 
--- the log is fair, names requests and queues of the level, and there are at most so many requests, of costs in their range
+-- the log is fair, names requests and queues of the level, and there are at most this many requests, of costs in their range
 pub record IsLogOf (v : LedgerView) : Type 0 where
   pub fair : HasFairLog v
   pub names_requests : NamesRequests (length v.costs) v.history

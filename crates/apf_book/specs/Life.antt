@@ -44,7 +44,7 @@ pub record LifeState : Type 0 where
   -- of each slot: what a queue is charged for the request that holds it, while that executes and was dispatched from the queue. Of no slot, where nothing is settled
   pub running : List (Option Charge)
 
--- of how many of so many slots it is kept what a queue is charged
+-- of how many of this many slots it is kept what a queue is charged
 abbrev pub places_of : Settling → ℕ → ℕ
 places_of Never slots = 0
 places_of Told slots = slots
@@ -162,7 +162,7 @@ pub record IsNextIn (v : LifeView) (s : LifeState) (c : Chosen) : Type 0 where
   pub is_first : slice_get (waiting v.history c.queue) 0 ≡ Some (slice_index s.holders c.request)
   pub cost_is : c.cost ≡ width v.costs (slice_index s.holders c.request)
 
--- nothing happened yet: so many queues, each with this length limit
+-- nothing happened yet: this many queues, each with this length limit
 pub record IsOpening (v : LifeView) (queues limit : ℕ) : Type 0 where
   pub nothing : v.history ≡ []
   pub no_log : v.log ≡ []

@@ -87,7 +87,7 @@ TurnsLife (Some served.Struck) v b b' = (r q : ℕ) × IsLifeKept (then_came v (
 TurnsLife (Some served.NoRoom) v b b' = IsLifeKept v b' × NextMisses v b.desk.desk.knows b'.desk.desk.knows
 TurnsLife (Some served.Raced) v b b' = IsLifeKept v b'
 
--- of a history that the book is of: Dispatches and Strikes alone came, so many of them Dispatches, of fewer than 2^64 events that there ever were, and on return nothing waits or who is dispatched next did not fit
+-- of a history that the book is of: Dispatches and Strikes alone came, this many of them Dispatches, of fewer than 2^64 events that there ever were, and on return nothing waits or who is dispatched next did not fit
 pub record ServesLife (v : LifeView) (b : LifeBookView) (count : ℕ) (b' : LifeBookView) : Type 0 where
   pub events : List Event
   pub kept : IsLifeKept (then_came_all events v) b'

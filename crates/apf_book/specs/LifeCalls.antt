@@ -22,7 +22,7 @@ use Rattle.apf_book.specs.declared.settling.Settling.{Settling}
 use Rattle.apf_book.specs.Life.{LifeView, IsOpening, places_of}
 use Rattle.apf_book.specs.LifeBook.{LifeBookView, IsLifeKept, arrived_in}
 
--- the Desk made no step yet, and is of a gate with so many slots
+-- the Desk made no step yet, and is of a gate with this many slots
 pub record IsLifeDeskFor (slots : ℕ) (desk : DeskToken) : Type 0 where
   pub fresh : desk.desk ≡ new_desk desk.desk.knows.shape
   pub slots_are : desk.desk.knows.shape.slots ≡ slots

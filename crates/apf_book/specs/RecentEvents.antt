@@ -38,7 +38,7 @@ pub record AreLifeStats (s : LifeStats) (h : List Event) : Type 0 where
   pub struck : s.struck ≡ count_by is_strike h
   pub full : s.full ≡ count_by is_full h
 
--- of a history of which so many of the newest events are kept, events were copied from this place on or, where that is no longer kept, from the oldest that is; as many as there are, or as there is room for. The rest of the room is as it was
+-- of a history of which this many of the newest events are kept, events were copied from this place on or, where that is no longer kept, from the oldest that is; as many as there are, or as there is room for. The rest of the room is as it was
 pub record CopiesLate (capacity : ℕ) (h : List Event) (from : ℕ) (into : List LifeEvent) (answer : Copied) (into' : List LifeEvent) : Type 0 where
   pub start : answer.from ≡ max from (length h - capacity)
   pub count_is : answer.count ≡ min (length h - answer.from) (length into)

@@ -54,7 +54,7 @@ AreServings (Full r q ∷ events) = ⊥
 AreServings (Dispatch r q ∷ events) = AreServings events
 AreServings (Strike r q ∷ events) = AreServings events
 
--- Dispatches and Strikes alone were appended, so many of them Dispatches
+-- Dispatches and Strikes alone were appended, this many of them Dispatches
 pub record Serves (v v' : LedgerView) (count : ℕ) : Type 0 where
   pub events : List Event
   pub log : v' ≡ with events v

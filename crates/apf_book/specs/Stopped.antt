@@ -16,7 +16,7 @@ use Rattle.apf_gate.specs.Owing.{NoneMakesRoom, DeskLoads, EachFindsWaiters}
 use Rattle.apf_book.specs.LedgerView.{LedgerView, NothingWaits, IsNext}
 use Rattle.apf_book.specs.BookView.{IsKept}
 
--- since this was known the Desk made so many steps, each a load of a decision word
+-- since this was known the Desk made this many steps, each a load of a decision word
 abbrev pub LoadedDecisions : ℕ → Knowledge → Knowledge → Type 0
 LoadedDecisions zero known known' = known' ≡ known
 LoadedDecisions (suc n) known known' = (between : Knowledge) × LoadedDecisions n known between × ((r : ℕ) × ((found : Option Decision) × SawDecision OfDesk between r found found None known'))

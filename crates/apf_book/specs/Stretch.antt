@@ -35,7 +35,7 @@ WaitsFrom log from to r q = (from < to) × (to ≤ length log) × (slice_get log
 abbrev pub seats_before : List ℕ → List Event → ℕ → ℕ → ℕ
 seats_before widths log from q = total_width widths (waiting (history_at log from) q)
 
--- the services of so many queues in the stretch, together
+-- the services of this many queues in the stretch, together
 abbrev pub granted_in : ℕ → List ℕ → List Event → ℕ → ℕ → ℕ
 granted_in queues widths log from to = granted queues widths (reverse (drop from (take to log)))
 

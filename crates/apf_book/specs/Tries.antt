@@ -48,7 +48,7 @@ pub record LosesGrant (book book' : LifeBookView) : Type 0 where
   pub more : KnowsMore book.desk.desk.knows before.knows
   pub raced : TriesToGrant before request granted.Raced book'.desk.desk
 
--- of a history that the book is of: Dispatches and Strikes alone came, so many of them Dispatches, of fewer than 2^64 events that there ever were
+-- of a history that the book is of: Dispatches and Strikes alone came, this many of them Dispatches, of fewer than 2^64 events that there ever were
 pub record ServesSome (v : LifeView) (count : ℕ) (b' : LifeBookView) : Type 0 where
   pub events : List Event
   pub kept : IsLifeKept (then_came_all events v) b'

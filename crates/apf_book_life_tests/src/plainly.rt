@@ -45,7 +45,7 @@ pub struct Plain {
 }
 
 impl Plain {
-    /// So many empty queues, and the costs of all requests that come.
+    /// This many empty queues, and the costs of all requests that come.
     pub fn new(alloc: Global, queues: u32, costs: &[u32]) -> Result<Plain, AllocError> {
         let mut lines = Vec::new(alloc);
         for _ in 0..queues {

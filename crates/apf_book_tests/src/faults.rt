@@ -26,7 +26,7 @@ fn fault_of<R: Wait + Abort>(rt: &R, alloc: Global, config: Config) -> Option<Fa
     run(rt, alloc, &row).err()
 }
 
-// A level of so many queues, with hands of so many, whose queues have room for so many requests.
+// A level of this many queues, with hands of this many, whose queues have room for this many requests.
 fn shaped(queues: u32, hand_size: u32, queue_length_limit: u32) -> Config {
     Config {
         hand_size,

@@ -145,7 +145,7 @@ fn dispatch_beside_cancels<K: Mark + Send + Sync, R: Threads + Wait + Sync>(
     );
 }
 
-// One round, judged. Tells the numbers of its log, and how often a Station saw that a grant was lost.
+// One round, judged. Tells the numbers of its log, and how many times a Station saw that a grant was lost.
 fn round<K: Mark + Send + Sync, R: Threads + Wait + Abort + Sync>(
     rt: &R,
     alloc: Global,

@@ -44,7 +44,7 @@ impl From<AllocError> for Fault {
     }
 }
 
-/// A request that takes so many seats, of a flow with this hash.
+/// A request that takes this many seats, of a flow with this hash.
 pub fn ask(width: u32, hash: u64) -> Ask {
     Ask { width, hash }
 }

@@ -85,7 +85,7 @@ pub struct Round<K: Mark> {
 }
 
 impl<K: Mark> Round<K> {
-    /// A round of so many threads.
+    /// A round of this many threads.
     pub fn new(number: u32, threads: u64, book: Book<Global>) -> Round<K>
         requires { desk_gate book.desk ≡ K.gate }
     {

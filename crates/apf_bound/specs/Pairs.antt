@@ -1,7 +1,7 @@
 -- A number for each ordered pair of queues.
 use Rattle.std.specs.Prelude.{ℕ, ◌+◌, ◌*◌, List, slice_index}
 
--- so many queues, and the numbers of the pairs of the first one, then those of the second
+-- this many queues, and the numbers of the pairs of the first one, then those of the second
 pub record PairsView : Type 0 where
   pub queues : ℕ
   pub numbers : List ℕ

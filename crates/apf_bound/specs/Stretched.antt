@@ -82,10 +82,10 @@ pub record IsPair (s : StretchesView) (a b : ℕ) : Type 0 where
   pub two : a ≢ b
   pub waited : slice_index_or s.waited a false ≡ true
 
--- those of the first so many queues
+-- those of the first this many queues
 abbrev pub IsPairBelow : StretchesView → ℕ → ℕ → ℕ → Type 0
 IsPairBelow s low a b = IsPair s a b × (a < low)
 
--- and those of the next one with the first so many queues
+-- and those of the next one with the first this many queues
 abbrev pub IsPairUntil : StretchesView → (low until : ℕ) → ℕ → ℕ → Type 0
 IsPairUntil s low until a b = IsPair s a b × (a ≤ low) × (a ≡ low → b < until)

@@ -17,7 +17,7 @@ pub struct Checked {
 }
 
 impl Checked {
-    /// Queues, all empty, for so many requests.
+    /// Queues, all empty, for this many requests.
     ///
     /// # Errors
     ///

@@ -29,7 +29,7 @@ pub record AreRead (holds : (name bytes : List ℕ) → Type 0) (config_name req
   pub config_is : IsConfigOf config_bytes (Ok config)
   pub requests_are : AreRequestsOf requests_bytes (Ok requests)
 
--- a run of all these requests on such a level, by so many workers, reports this
+-- a run of all these requests on such a level, by this many workers, reports this
 pub record IsRunOf (holds : (name bytes : List ℕ) → Type 0) (config_name requests_name : List ℕ) (workers : ℕ) (report : Report) : Type 0 where
   pub config : Config
   pub requests : List Request
@@ -43,7 +43,7 @@ pub record PrintsRun (holds : (name bytes : List ℕ) → Type 0) (config_name r
   pub run : IsRunOf holds config_name requests_name workers report
   pub written : Appends before after (totals_text (book_of report))
 
--- a run of all these requests at a level for life of such settings, by so many workers in so many rounds, reports this
+-- a run of all these requests at a level for life of such settings, by this many workers in this many rounds, reports this
 pub record IsRunInRounds (holds : (name bytes : List ℕ) → Type 0) (config_name requests_name : List ℕ) (workers rounds : ℕ) (report : LifeReport) : Type 0 where
   pub config : Config
   pub requests : List Request

@@ -71,7 +71,7 @@ fn read_cluster<F: Files>(alloc: Global, files: &mut F, name: &str) -> Result<Cl
     }
 }
 
-/// Prints the levels and schemas of the objects of this name, where the server has so many seats.
+/// Prints the levels and schemas of the objects of this name, where the server has this many seats.
 pub(crate) fn print_cluster<F: Files, O: Write>(
     alloc: Global,
     files: &mut F,

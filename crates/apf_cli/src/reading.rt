@@ -150,12 +150,12 @@ pub(crate) fn level_fault(alloc: Global, name: &str, config: &Config, fault: Fau
 // How many bytes a file of this kind has at most, in words.
 fn at_most(input: Input) -> &'static str {
     match input {
-        Input::Config => "a config has at most so many",
-        Input::Requests => "requests have at most so many",
-        Input::Script => "a script has at most so many",
-        Input::Trace => "a trace has at most so many",
-        Input::AuditLog => "an audit log has at most so many",
-        Input::Objects => "objects have at most so many",
+        Input::Config => "a config has at most this many",
+        Input::Requests => "requests have at most this many",
+        Input::Script => "a script has at most this many",
+        Input::Trace => "a trace has at most this many",
+        Input::AuditLog => "an audit log has at most this many",
+        Input::Objects => "objects have at most this many",
     }
 }
 
@@ -266,7 +266,7 @@ pub(crate) fn read_level<F: Files>(
     }
 }
 
-/// Reads the script of this name, of a level with so many requests.
+/// Reads the script of this name, of a level with this many requests.
 pub(crate) fn script_in<F: Files>(
     alloc: Global,
     files: &mut F,

@@ -47,7 +47,7 @@ impl apf_life_run::Work for Turns {
     }
 }
 
-// Reads the two files, and brings the requests to their ends by so many workers.
+// Reads the two files, and brings the requests to their ends by this many workers.
 fn ran<F: Files, R: Wait + Threads + Sync>(
     rt: &R,
     alloc: Global,
@@ -65,7 +65,7 @@ fn ran<F: Files, R: Wait + Threads + Sync>(
     }
 }
 
-// Reads the two files, and brings so many requests in the place of each one to their ends, by so many workers.
+// Reads the two files, and brings this many requests in the place of each one to their ends, by this many workers.
 fn ran_in_rounds<F: Files, R: Wait + Threads + Sync>(
     rt: &R,
     alloc: Global,
@@ -136,7 +136,7 @@ fn print_rounds<F: Files, O: Write, R: Wait + Threads + Sync>(
     Ok(apf_life_run::write_book(&report, out)?)
 }
 
-/// Reads the two files, lets so many workers go so often through the requests, and prints the book. A single round is
+/// Reads the two files, lets this many workers go this many times through the requests, and prints the book. A single round is
 /// run as a batch. `is_whole` says whether the line of a fault has the one behind it that says it to a person.
 #[tactic(auto, using(crate::proofs::Paces::batch_prints, crate::proofs::Paces::rounds_print))]
 pub(crate) fn print_run<F: Files, O: Write, R: Wait + Threads + Sync>(

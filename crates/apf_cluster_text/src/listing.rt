@@ -32,7 +32,7 @@ fn write_level<W: Write>(out: &mut W, level: &Level, limits: LevelLimits) -> io:
     }
 }
 
-// Writes the lines of the levels of a server with so many seats, where all levels have so many shares.
+// Writes the lines of the levels of a server with this many seats, where all levels have this many shares.
 fn write_levels<W: Write>(out: &mut W, levels: &[Level], seats: u32, all: u64) -> io::Result<()>
     requires few { seats ≤ max_seats }
     requires most { all ≤ 4294967295000 }
@@ -67,7 +67,7 @@ fn write_schema<W: Write>(out: &mut W, schema: &Schema, end: &str) -> io::Result
     writeln!(out, " by {by}{end}")
 }
 
-/// Writes a line for each level of a cluster whose server has so many seats, 1 to 1,000,000, and one for each schema.
+/// Writes a line for each level of a cluster whose server has this many seats, 1 to 1,000,000, and one for each schema.
 ///
 /// # Errors
 ///

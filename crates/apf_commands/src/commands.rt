@@ -166,7 +166,7 @@ fn with_workers<'a>(alloc: Global, command: Command<'a>) -> Result<Command<'a>, 
             "rounds",
             rounds,
             "N",
-            "How often each worker goes through its requests, 1 (the default) to 1000000",
+            "How many times each worker goes through its requests, 1 (the default) to 1000000",
         ))
 }
 

@@ -35,7 +35,7 @@ impl Unit {
         }
     }
 
-    // So many of it, in microseconds.
+    // This many of it, in microseconds.
     fn times(self, count: u32) -> u64
         ensures { result ≡ count * microseconds_of self }
     {

@@ -92,7 +92,7 @@ IsAuditLineAt place line (audit.NotUtf8Json n) before after = IsColumnLine place
 IsAuditLineAt place line (audit.TooLong n) before after = Appends before after (too_long_text place max_line line)
 IsAuditLineAt place line fault before after = IfSome (event_text place (option_and_then value_of line) fault) (Appends before after)
 
--- so many requests are too many, which were received from one instant to another
+-- this many requests are too many, which were received from one instant to another
 abbrev pub many_events : ℕ → List ℕ
 many_events count = codes "apf: audit fault 9: there are " ++ (decimal count ++ codes " requests, received from ")
 

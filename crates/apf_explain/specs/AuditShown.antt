@@ -67,7 +67,7 @@ IsOneOf event (other ∷ events) = (event ≡ other) ⊎ IsOneOf event events
 abbrev pub IsLateShown : ℕ → List Event → Type 0
 IsLateShown n events = (event : Event) × IsOneOf event events × (event.line ≡ n) × (max_arrival < event.received - earliest events)
 
--- so many events are chosen, which are too many, and were received from the one instant to the other
+-- this many events are chosen, which are too many, and were received from the one instant to the other
 pub record AreManyShown (events : List Event) (count first last : ℕ) : Type 0 where
   pub are : count ≡ length events
   pub many : max_requests < length events

@@ -8,6 +8,6 @@ use Rattle.apf_explain.specs.TraceLines.{numbered_line}
 abbrev pub begins_as_trace : List ℕ → Bool
 begins_as_trace bytes = is_some (option_and_then (get (codes "arrivesAt")) (option_and_then value_of (numbered_line 1 bytes)))
 
--- at most so many bytes, which are an object that has `limit`
+-- at most this many bytes, which are an object that has `limit`
 abbrev pub is_config : List ℕ → Bool
 is_config bytes = if nat_le (length bytes) 65536 then is_some (option_and_then (get (codes "limit")) (value_of bytes)) else false

@@ -123,7 +123,7 @@ abbrev pub request_text : List ℕ → Option Data → ℕ → RequestFault → 
 request_text place whole number fault =
     keyed_text place (last_number whole) (option_and_then (at number) whole) fault (key_of_fault fault)
 
--- there are too many requests, and so many if they are an array
+-- there are too many requests, and this many if they are an array
 abbrev pub too_many_items : List ℕ → Option Items → List ℕ
 too_many_items place None = place ++ (codes "there are too many requests: at most " ++ (decimal max_requests ++ codes " may be there\n"))
 too_many_items place (Some ds) =

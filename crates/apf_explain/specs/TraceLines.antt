@@ -19,7 +19,7 @@ use Rattle.apf_explain.specs.Wanted.{wanted_text}
 use Rattle.apf_explain.specs.Reasons.{IsSaidOfLine}
 use Rattle.apf_explain.specs.Lines.{place_text, unwanted_text, misplaced_text, unknown_text, bad_flow_text}
 
--- the line that has so many before it, if there is one
+-- the line that has this many before it, if there is one
 abbrev pub nth_line : ℕ → List Line → Option Line
 nth_line n [] = None
 nth_line zero (line ∷ lines) = Some line
@@ -61,7 +61,7 @@ trace_value_text place o (trace.TooLate n) =
     Some (late_text place (option_and_then whole_of (option_and_then (get (codes "arrivesAt")) o)))
 trace_value_text place o fault = misplaced_text place (codes "a request is a JSON object, but this is ") o
 
--- so many bytes are too many, where at most this many may be there
+-- this many bytes are too many, where at most this many may be there
 abbrev pub too_long_text : List ℕ → ℕ → Option (List ℕ) → List ℕ
 too_long_text place most None = place ++ (codes "the line has more than " ++ (decimal most ++ codes " bytes\n"))
 too_long_text place most (Some line) =

@@ -66,7 +66,7 @@ pub(crate) fn write_required<W: Write>(
     }
 }
 
-/// Writes that a line has more bytes than so many.
+/// Writes that a line has more bytes than this many.
 pub(crate) fn write_too_long<W: Write>(
     out: &mut W,
     place: Place<'_>,

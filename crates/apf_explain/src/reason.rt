@@ -9,7 +9,7 @@ use apf_traces::first_line;
 use serde_json::{Error, Value};
 use std::alloc::Global;
 
-// So many arrays and objects may stand in one another.
+// This many arrays and objects may stand in one another.
 const DEEPEST: u32 = 127;
 
 // Where the first array or object stands that is too deep: its line and column, both from 1.

@@ -15,7 +15,7 @@ pub enum Wanted {
     Response,
     /// A text.
     Text,
-    /// A text of at most so many bytes.
+    /// A text of at most this many bytes.
     Name(u64),
     /// The text of an instant.
     Instant,

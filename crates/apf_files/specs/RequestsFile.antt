@@ -69,7 +69,7 @@ abbrev pub number_or : ℕ → ℕ → ℕ → Option Data → Option ℕ
 number_or low high default (Some d) = whole_in low high d
 number_or low high default None = Some default
 
--- the request that is cancelled, one of so many, or none where none is named
+-- the request that is cancelled, one of this many, or none where none is named
 abbrev pub cancels_of : ℕ → Option Data → Option (Option ℕ)
 cancels_of count (Some d) = option_map Some (whole_below count d)
 cancels_of count None = Some None
@@ -79,7 +79,7 @@ abbrev pub closes_of : Option Data → Option Bool
 closes_of (Some d) = as_bool d
 closes_of None = Some false
 
--- the request that member i of so many is, or its first fault: an object, of known keys alone, and then each key in order
+-- the request that member i of this many is, or its first fault: an object, of known keys alone, and then each key in order
 unfoldable pub request_of : ℕ → ℕ → Data → Result Request RequestFault
 request_of count i d = do
   known ← known_object is_key (NotObject i) (UnknownKey i) (as_object d)
@@ -95,7 +95,7 @@ abbrev pub items_count : Items → ℕ
 items_count no_items = 0
 items_count (item d ds) = items_count ds + 1
 
--- the requests that the items are, of which the first is member i of so many, or the first fault
+-- the requests that the items are, of which the first is member i of this many, or the first fault
 abbrev pub requests_from : ℕ → ℕ → Items → Result (List Request) RequestFault
 requests_from count i no_items = Ok []
 requests_from count i (item d ds) = before (request_of count i d) (requests_from count (i + 1) ds)
@@ -113,7 +113,7 @@ requests_of d = of_array (as_array d)
 abbrev pub AreRequestsOf : List ℕ → Result (List Request) RequestFault → Type 0
 AreRequestsOf bytes answer = IsJudgementOf NotJson requests_of bytes answer
 
--- each number is in its range, where there are so many requests
+-- each number is in its range, where there are this many requests
 abbrev pub IsRequestInRange : ℕ → Request → Type 0
 IsRequestInRange count request =
     (1 ≤ request.width) × (request.width ≤ max_width) × (request.work ≤ max_work) × IfSome request.cancels (λ n. n < count)

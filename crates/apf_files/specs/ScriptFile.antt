@@ -90,7 +90,7 @@ lines_from requests line begun (b ∷ bytes) =
 unfoldable pub script_of : ℕ → List ℕ → Result (List Command) ScriptFault
 script_of requests bytes = lines_from requests 1 [] bytes
 
--- the command's number is in its range, where there are so many requests
+-- the command's number is in its range, where there are this many requests
 abbrev pub IsCommandInRange : ℕ → Command → Type 0
 IsCommandInRange requests (Arrive n) = n < requests
 IsCommandInRange requests (Finish n) = n < requests

@@ -8,7 +8,7 @@ use Rattle.apf_files.specs.declared.script.InScript.TheVariants as found
 use Rattle.apf_files.specs.declared.script.ScriptFault.{ScriptFault}
 use Rattle.apf_files.specs.declared.script.ScriptFault.TheVariants as script
 
--- the line that comes after so many others, without its LF, where these bytes of the first one were read
+-- the line that comes after this many others, without its LF, where these bytes of the first one were read
 abbrev pub line_from : ℕ → List ℕ → List ℕ → Option (List ℕ)
 line_from earlier begun [] = None
 line_from zero begun (b ∷ bytes) = if nat_eq b lf then Some begun else line_from zero (begun ++ b ∷ []) bytes

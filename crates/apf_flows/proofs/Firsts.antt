@@ -14,7 +14,7 @@ range_more : (a n : ℕ) → range_with_len a (suc n) ≡ range_with_len a n ++ 
 range_more a zero = let e : a + 0 ≡ a = omega arith in rw e refl
 range_more a (suc n) = let e : a + suc n ≡ (a + 1) + n = omega arith in rw e (ap (λ (xs : List ℕ). a ∷ xs) (range_more (a + 1) n))
 
--- the first requests among so many
+-- the first requests among this many
 abbrev pub firsts_below : List ℕ → ℕ → List ℕ
 firsts_below hashes n = filter (is_first hashes) (range_with_len 0 n)
 

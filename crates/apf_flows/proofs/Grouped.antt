@@ -7,7 +7,7 @@ use Rattle.apf_flows.specs.Flows.{AreFlows}
 use Rattle.apf_flows.proofs.Firsts.{firsts_below, firsts_new, firsts_known}
 use Rattle.apf_flows.specs.Known.{FindsFlow, FindsFlowBy}
 
--- `AreFlows`, of the first so many requests
+-- `AreFlows`, of the first this many requests
 pub record AreFlowsOf (hashes : List ℕ) (count : ℕ) (firsts flows : List ℕ) : Type 0 where
   pub each : length flows ≡ count
   pub few : length firsts ≤ count

@@ -128,7 +128,7 @@ all_sharers_text flows hand = flat_map (sharers_text flows) hand
 abbrev pub covering : Flow → List Flow → List ℕ
 covering flow flows = map (λ other. other.hash) (filter (covers flow) flows)
 
--- so many flows that cover a hand are named
+-- this many flows that cover a hand are named
 abbrev pub most_named : ℕ
 most_named = 10
 

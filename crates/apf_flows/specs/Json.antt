@@ -56,7 +56,7 @@ abbrev pub more_of : Option (ℕ × ℕ) → ℕ
 more_of (Some obeyed) = obeyed.1
 more_of None = 0
 
--- what stands between the quotes for a text, of which so many bytes are passed over
+-- what stands between the quotes for a text, of which this many bytes are passed over
 abbrev pub escapes_from : ℕ → List ℕ → List ℕ
 escapes_from passed [] = []
 escapes_from (suc passed) (byte ∷ bytes) = escapes_from passed bytes

@@ -15,7 +15,7 @@ use std::alloc::AllocError;
 use std::io;
 use std::io::Write;
 
-/// So many flows that cover a hand are named.
+/// This many flows that cover a hand are named.
 const MOST_NAMED: usize = 10;
 
 // Writes the line of a queue that others hold too.

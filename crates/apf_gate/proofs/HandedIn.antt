@@ -65,7 +65,7 @@ module _ (g : GateId) (d : DeskRecord) (ps : List PassToken) (ts : List StationT
   pub slots_apart : AreNumbered (λ (t : PassToken). slot_of t.pass.number) ps
   slots_apart = (numbered_passes ps (Desk d ∷ []) (numbered_stations ts (passes_before ps (Desk d ∷ [])) e.apart).1).0
 
-  -- of each slot the Pass was handed in
+  -- for each slot the Pass was handed in
   pub slot_there : (i : ℕ) → i < g.shape.slots → AnyOf (λ t. slot_of t.pass.number ≡ i) ps
   slot_there = all_there (λ (t : PassToken). slot_of t.pass.number) g.shape.slots ps e.all_passes
       (every_map IsPassHere (λ (t : PassToken). slot_of t.pass.number < g.shape.slots) ps (λ t k. e.slots.inside t.pass.number k.0 k.2) passes_here) slots_apart

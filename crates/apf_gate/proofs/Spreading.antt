@@ -42,7 +42,7 @@ wide_in_range code = by (nat_le code 20000) refl
 pub wide_is : (k : ℕ) → 1 ≤ k → k ≤ 20000 → wide k ≡ k
 wide_is k some few = ap (λ b. if b then max k 1 else 20000) (le-leb k 20000 few) ∙ (let e : max k 1 ≡ k = omega arith in e)
 
--- slots that are used again, with so many numbers
+-- slots that are used again, with this many numbers
 pub life_is_shape : (n limit : ℕ) (p : Response) (ws : List ℕ) (k : ℕ) → IsShape (shape_of limit p ws k) → length ws ≤ n → n ≤ 2 ^ 75 → IsShape (shape_in true n limit p ws k)
 life_is_shape n limit p ws k shape some many = let h = length_spread ws n in record {
   some_limit = shape.some_limit;

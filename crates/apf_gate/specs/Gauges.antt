@@ -23,7 +23,7 @@ spread widths (suc n) = spread widths n ++ slice_index_or widths n (coded_width 
 abbrev pub max_numbers : ℕ
 max_numbers = 37778931862957161709568
 
--- the shape of a gate: a batch, or slots that are used again, with so many numbers of requests
+-- the shape of a gate: a batch, or slots that are used again, with this many numbers of requests
 abbrev pub all_widths : Bool → ℕ → List ℕ → List ℕ
 all_widths false numbers widths = widths
 all_widths true numbers widths = spread widths numbers

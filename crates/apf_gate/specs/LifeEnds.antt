@@ -20,7 +20,7 @@ use Rattle.apf_gate.specs.Counted.{AreCounts}
 use Rattle.apf_gate.specs.Tokens.{GateId, PassToken, StationToken}
 use Rattle.apf_gate.specs.Ends.{IsEnded, WasTold, IsLongest, IsBack, WroteCancelled, ClosedFirst, AtMostOne}
 
--- what the words of such a gate say that ended: of each slot the decision of the request that holds it, and how many of all that ever held one were decided so
+-- what the words of such a gate say that ended: for each slot the decision of the request that holds it, and how many of all that ever held one were decided so
 pub record LifeView : Type 0 where
   pub level : Level
   pub decisions : List (Option Decision)

@@ -24,7 +24,7 @@ use Rattle.apf_gate.specs.StationCalls.{ClosesTo, TriesToCancel, TriesToSet}
 use Rattle.apf_gate.specs.Tokens.{GateId, PassToken, StationToken}
 use Rattle.apf_gate.specs.Ends.{IsEnded}
 
--- none of these tokens saw more steps than so many
+-- none of these tokens saw more steps than this many
 abbrev pub PassesSawAtMost : ℕ → List PassToken → Type 0
 PassesSawAtMost most passes = All (λ (t : PassToken). length t.pass.knows.trace ≤ most) passes
 

@@ -46,7 +46,7 @@ pub record IsOwed (shape : Shape) (later saw : List Entry) : Type 0 where
   -- whoever made room was told that requests wait, and so owes a dispatch
   pub owes : EachFindsWaiters shape later saw
 
--- of each account under the rule in whose Desk's record a request waits: the steps since any place of the trace after which the Desk only loaded
+-- for each account under the rule in whose Desk's record a request waits: the steps since any place of the trace after which the Desk only loaded
 abbrev pub NoDispatchIsLost : Type 0
 NoDispatchIsLost = (shape : Shape) (account : Account) → IsSound shape account
     → (r : ℕ) → r < length shape.widths → service account.desk r ≡ Waiting

@@ -8,14 +8,14 @@ slot_of r = r % 16384
 abbrev pub mark_of : ℕ → ℕ
 mark_of r = r / 16384
 
--- the mark of a request says how often its slot was given before, and its width
+-- the mark of a request says how many times its slot was given before, and its width
 abbrev pub wide : ℕ → ℕ
 wide code = if nat_le code 20000 then max code 1 else 20000
 
 abbrev pub coded_width : ℕ → ℕ
 coded_width r = wide (mark_of r % 32768)
 
--- how often its slot was given before
+-- how many times its slot was given before
 abbrev pub round_of : ℕ → ℕ
 round_of r = mark_of r / 32768
 

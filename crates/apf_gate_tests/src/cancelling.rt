@@ -117,7 +117,7 @@ fn settle(gate: &Gate<Global>, desk: &mut Keeper) -> Served
     }
 }
 
-// How often each order of the threads came.
+// How many times each order of the threads came.
 #[derive(Drop)]
 struct Orders {
     executed: u64,
@@ -157,7 +157,7 @@ impl Orders {
     }
 }
 
-// Asserts that so many came, which is enough.
+// Asserts that this many came, which is enough.
 fn is_enough<R: Abort>(rt: &R, count: u64, what: &str) {
     assert!(rt; count >= ENOUGH, "{count} {what}");
 }

@@ -48,7 +48,7 @@ pub enum StationWork<'a> {
 pub enum DeskWork<'a> {
     /// It serves the first request, which waits.
     Serve(&'a Round),
-    /// It lets so many others sleep, and grants the first request.
+    /// It lets this many others sleep, and grants the first request.
     GrantLater(&'a Sleeps, u64),
 }
 

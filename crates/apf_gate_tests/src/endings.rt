@@ -7,7 +7,7 @@ use apf_words::{Decision, LevelWord};
 use std::alloc::Global;
 use std::process::Abort;
 
-/// The words of a gate that ended, which had so many requests.
+/// The words of a gate that ended, which had this many requests.
 #[derive(Drop)]
 pub struct Ended {
     words: Words<Global>,
@@ -44,12 +44,12 @@ impl Ended {
         assert_eq!(rt; self.words.level().closed(), closed);
     }
 
-    /// Asserts that so many seats are taken.
+    /// Asserts that this many seats are taken.
     pub fn seats<R: Abort>(&self, rt: &R, seats: u32) {
         assert_eq!(rt; self.words.level().seats(), seats);
     }
 
-    /// Asserts that so many seats are taken, and that so many requests wait.
+    /// Asserts that this many seats are taken, and that this many requests wait.
     pub fn has<R: Abort>(&self, rt: &R, seats: u32, waiters: u32) {
         self.seats(rt, seats);
         assert_eq!(rt; self.words.level().waiters(), waiters);

@@ -26,7 +26,7 @@ const ROUNDS: u64 = 125_000;
 struct Board {
     // How manieth request holds each slot.
     present: Vec<AtomicU64>,
-    // Of each request the decisions that were told of it, a bit for each: those that its Pass was told, and
+    // For each request the decisions that were told of it, a bit for each: those that its Pass was told, and
     // eight places higher those that Stations were told.
     told: Vec<AtomicU64>,
     // The cancels that found another request.
@@ -35,7 +35,7 @@ struct Board {
     ended: AtomicU64,
 }
 
-// So many numbers, each 0.
+// This many numbers, each 0.
 fn zeros<R: Abort>(rt: &R, alloc: Global, count: u64) -> Vec<AtomicU64> {
     let mut numbers = Vec::new(alloc);
     for _ in 0..count {
@@ -93,7 +93,7 @@ fn bit(decision: Decision, to_station: bool) -> u64 {
     if to_station { own * 256 } else { own }
 }
 
-// Takes the request's seats, in at most so many turns.
+// Takes the request's seats, in at most this many turns.
 fn take(gate: &Gate<Global>, request: &mut Request)
     requires { pass_gate request.old.pass ≡ gate.now }
     ensures { pass_gate request.new.pass ≡ gate.now }

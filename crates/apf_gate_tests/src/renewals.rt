@@ -65,7 +65,7 @@ impl Slot {
         assert_eq!(rt; self.gate.read(&mut self.station, ticket), answer);
     }
 
-    // So many seats are taken.
+    // This many seats are taken.
     fn has<R: Abort>(&mut self, rt: &R, seats: u32)
         ensures { self.new.gate ≡ self.old.gate }
     {

@@ -108,7 +108,7 @@ fn run(gate: &Gate<Global>, counts: &Counts, request: &mut Request)
     request.release(gate);
 }
 
-/// Takes the request's seats, executes it and gives them back, in at most so many turns.
+/// Takes the request's seats, executes it and gives them back, in at most this many turns.
 pub fn serve(gate: &Gate<Global>, counts: &Counts, request: &mut Request)
     requires { pass_gate request.old.pass ≡ gate.now }
     ensures { pass_gate request.new.pass ≡ gate.now }
@@ -125,7 +125,7 @@ pub fn serve(gate: &Gate<Global>, counts: &Counts, request: &mut Request)
     }
 }
 
-/// Sets limits of 1 to 8 seats a hundred times over, each in at most so many turns.
+/// Sets limits of 1 to 8 seats a hundred times over, each in at most this many turns.
 pub fn set_limits(gate: &Gate<Global>, counts: &Counts, station: &mut Station)
     requires { station_gate station.old ≡ gate.now }
     ensures { station_gate station.new ≡ gate.now }
@@ -150,7 +150,7 @@ fn set_limit(gate: &Gate<Global>, counts: &Counts, station: &mut Station, limit:
     }
 }
 
-// Opens a level of two seats with 4,000 requests of one seat, lets them and so many Stations do this, and ends it.
+// Opens a level of two seats with 4,000 requests of one seat, lets them and this many Stations do this, and ends it.
 fn serve_beside<R: Threads + Wait + Abort + Sync>(
     rt: &R,
     alloc: Global,

@@ -27,7 +27,7 @@ use std::thread::{Threads, join_mut};
 pub struct Sleeps {
     // How many began to sleep.
     begun: AtomicU64,
-    // How often one of them slept.
+    // How many times one of them slept.
     slept: AtomicU64,
     // How many woke to an executed request.
     executed: AtomicU64,
@@ -69,7 +69,7 @@ impl Sleeps {
         told.is_some()
     }
 
-    // Lets so many others begin to sleep, and gives them time for it.
+    // Lets this many others begin to sleep, and gives them time for it.
     fn let_sleep(&self, others: u64) {
         for _turn in 0..MOST_TURNS {
             if self.begun.load(Ordering::SeqCst) >= others {
@@ -82,7 +82,7 @@ impl Sleeps {
         }
     }
 
-    // Waits until one woke to a cancelled request, in at most so many turns. Says whether one did.
+    // Waits until one woke to a cancelled request, in at most this many turns. Says whether one did.
     fn wait_for_waking(&self) -> bool {
         for _turn in 0..MOST_TURNS / 10 {
             if self.cancelled.load(Ordering::SeqCst) > 0 {
@@ -94,7 +94,7 @@ impl Sleeps {
     }
 }
 
-/// Sleeps until the request is told its decision, in at most so many turns.
+/// Sleeps until the request is told its decision, in at most this many turns.
 pub fn sleep<R: Wait>(rt: &R, gate: &Gate<Global>, sleeps: &Sleeps, request: &mut Request)
     requires { pass_gate request.old.pass ≡ gate.now }
     ensures { pass_gate request.new.pass ≡ gate.now }
@@ -109,7 +109,7 @@ pub fn sleep<R: Wait>(rt: &R, gate: &Gate<Global>, sleeps: &Sleeps, request: &mu
     }
 }
 
-/// Sleeps until the Station reads that the first request is decided, in at most so many turns.
+/// Sleeps until the Station reads that the first request is decided, in at most this many turns.
 pub fn sleep_beside<R: Wait>(rt: &R, gate: &Gate<Global>, sleeps: &Sleeps, station: &mut Station)
     requires some { IsNamed gate.now.shape 0 }
     requires own { station_gate station.old ≡ gate.now }
@@ -134,7 +134,7 @@ pub fn cancel_later(gate: &Gate<Global>, sleeps: &Sleeps, station: &mut Station)
     stations::cancel(gate, station, 0);
 }
 
-/// Lets so many others sleep, grants the first request, which waits, settles it and wakes who sleeps. Gives
+/// Lets this many others sleep, grants the first request, which waits, settles it and wakes who sleeps. Gives
 /// its seats back if it was decided otherwise.
 pub fn grant_later(gate: &Gate<Global>, sleeps: &Sleeps, others: u64, desk: &mut Keeper) -> Served
     requires some { IsNamed gate.now.shape 0 }

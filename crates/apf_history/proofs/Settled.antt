@@ -492,7 +492,7 @@ module _ (slack queues : ℕ) (costs : List ℕ) (measure : ℕ → ℕ) where
           ])
     ]
 
--- the last so many entries
+-- the last this many entries
 pub IsSettled-append : (queues : ℕ) (costs : List ℕ) (hands : ℕ → List ℕ) (limit : ℕ) (later earlier : List LogEntry) → IsSettled queues costs hands limit (later ++ earlier) → IsSettled queues costs hands limit earlier
 IsSettled-append queues costs hands limit [] earlier s = s
 IsSettled-append queues costs hands limit (Happens e ∷ later) earlier s = IsSettled-append queues costs hands limit later earlier (s.0.1, s.1.1)

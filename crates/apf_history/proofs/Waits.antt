@@ -176,7 +176,7 @@ total_is : (widths xs : List ℕ) → total_width widths xs ≡ total_time (widt
 total_is widths [] = refl
 total_is widths (x ∷ xs) = ap (λ (n : ℕ). width widths x + n) (total_is widths xs)
 
--- the seats of so many numbers, each at most b
+-- the seats of this many numbers, each at most b
 tally_most : (f : ℕ → ℕ) (n b : ℕ) → ((j : ℕ) → j < n → f j ≤ b) → tally f n ≤ n * b
 tally_most f zero b most = omega arith
 tally_most f (suc n) b most =

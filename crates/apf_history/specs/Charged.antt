@@ -173,7 +173,7 @@ SpendsWithin longest wide (_ ∷ l) = SpendsWithin longest wide l
 abbrev pub one_if_is : ℕ → ℕ → ℕ
 one_if_is r j = if j == r then 1 else 0
 
--- how often r was dispatched from q, and how often it was settled
+-- how many times r was dispatched from q, and how many times it was settled
 abbrev pub dispatched_in : ℕ → ℕ → Event → ℕ → ℕ
 dispatched_in r q (Dispatch j p) n = if p == q then one_if_is r j + n else n
 dispatched_in r q _ n = n

@@ -15,6 +15,6 @@ abbrev pub total_time : (ℕ → ℕ) → List ℕ → ℕ
 total_time measure [] = 0
 total_time measure (r ∷ rs) = measure r + total_time measure rs
 
--- the seats that were granted out of so many queues in a stretch: their services together
+-- the seats that were granted out of this many queues in a stretch: their services together
 abbrev pub granted : ℕ → List ℕ → List Event → ℕ
 granted queues widths stretch = tally (service widths stretch) queues

@@ -17,7 +17,7 @@ pub record IsFirstLeastFrom (numbers : List ℕ) (from q : ℕ) : Type 0 where
   pub least : (p : ℕ) → p < length numbers → slice_index numbers q ≤ slice_index numbers p
   pub first : (p : ℕ) → p < length numbers → slice_index numbers p ≡ slice_index numbers q → IsReachedBy from q p
 
--- the tree over so many leaves: node 1 is the root, nodes 2i and 2i + 1 stand under node i, and node leaves + q is leaf q
+-- the tree over this many leaves: node 1 is the root, nodes 2i and 2i + 1 stand under node i, and node leaves + q is leaf q
 pub record AreLeast (leaves : ℕ) (least : List ℕ) : Type 0 where
   pub is_power : IsPowerOfTwo leaves
   pub few : leaves < 2 ^ 32

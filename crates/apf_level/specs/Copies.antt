@@ -4,7 +4,7 @@ use Rattle.apf_history.specs.declared.events.Event.{Event}
 use Rattle.apf_book.specs.LedgerView.{IsLogOf}
 use Rattle.apf_level.specs.Levels.{LevelId, logged_as}
 
--- so many events there are from this place on, of which so many fit
+-- this many events there are from this place on, of which this many fit
 abbrev pub fitting : ℕ → ℕ → ℕ → ℕ
 fitting events from room = if nat_le (events - from) room then events - from else room
 

@@ -18,7 +18,7 @@ abbrev pub log_under : Option BookView → List Event
 log_under None = []
 log_under (Some book) = book.ledger.history
 
--- so many were dispatched from the queues of this very book
+-- this many were dispatched from the queues of this very book
 abbrev pub DispatchesUnder : Option BookView → ℕ → Option BookView → Type 0
 DispatchesUnder None count under' = (count ≡ 0) × (under' ≡ None)
 DispatchesUnder (Some book) count under' = (book' : BookView) × (under' ≡ Some book') × SameBook book book' × Dispatches book count book'

@@ -32,7 +32,7 @@ fn two_queues(limit: u32) -> Config {
     }
 }
 
-// One seat, so many queues, and room for so many requests in each.
+// One seat, this many queues, and room for this many requests in each.
 fn shaped(queues: u32, queue_length_limit: u32) -> Config {
     Config {
         queues,
@@ -41,7 +41,7 @@ fn shaped(queues: u32, queue_length_limit: u32) -> Config {
     }
 }
 
-// A request that takes so many seats, of the flow of this queue.
+// A request that takes this many seats, of the flow of this queue.
 fn ask(width: u32, queue: u64) -> Ask {
     Ask { width, hash: queue }
 }
@@ -106,7 +106,7 @@ fn play<R: Wait + Abort>(
     play_named::<Brand, R>(rt, alloc, opening, costs, steps)
 }
 
-// The first request runs at once and the others wait, so many in all.
+// The first request runs at once and the others wait, this many in all.
 fn arrivals(alloc: Global, requests: u32) -> Result<Vec<Step>, AllocError> {
     let mut steps = Vec::new(alloc);
     steps.push(Begin(0, Run))?;

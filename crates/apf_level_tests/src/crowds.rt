@@ -27,7 +27,7 @@ impl Crowd {
         self.most.load(Ordering::SeqCst)
     }
 
-    /// A request runs until so many ran at once, in at most so many turns. Says whether they did.
+    /// A request runs until this many ran at once, in at most this many turns. Says whether they did.
     pub fn run(&self, together: u64) -> bool {
         let others = self.now.fetch_add(1, Ordering::SeqCst);
         self.most
@@ -38,7 +38,7 @@ impl Crowd {
         met
     }
 
-    // Waits until so many ran at once, in at most so many turns.
+    // Waits until this many ran at once, in at most this many turns.
     fn wait_for(&self, together: u64) -> bool {
         for _turn in 0..MOST_TURNS {
             if self.most() >= together {

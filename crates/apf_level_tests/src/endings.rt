@@ -33,7 +33,7 @@ impl Ended {
         assert_eq!(rt; self.report.counts, ending.counts);
     }
 
-    /// Asserts that the level ended open, that its requests, so many, were executed, and that those that entered
+    /// Asserts that the level ended open, that its requests, this many, were executed, and that those that entered
     /// a queue were dispatched.
     pub fn executed<R: Abort>(&self, rt: &R, count: u32) {
         self.is_idle(rt, false);

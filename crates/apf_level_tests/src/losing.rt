@@ -22,19 +22,19 @@ use std::thread;
 use std::thread::Threads;
 use std::time::{Clock, Duration};
 
-// So many requests take the seat in one thread, one after another, and so many come in the other one.
+// This many requests take the seat in one thread, one after another, and this many come in the other one.
 const HALF: usize = 5000;
 
-// How often the seat is seen taken by the same request before another one comes.
+// How many times the seat is seen taken by the same request before another one comes.
 const A_WHILE: u32 = 10;
 
 // How many rounds are made at most, each on a level of its own.
 const ROUNDS: u32 = 600;
 
-// Once so many lost their decisions, the rounds end.
+// Once this many lost their decisions, the rounds end.
 const LOST: u64 = 3;
 
-// Once so many were cancelled, one of them lost its decision.
+// Once this many were cancelled, one of them lost its decision.
 const CANCELS: u64 = 2000;
 
 // How a taker arrives.
@@ -101,7 +101,7 @@ impl Losers {
         };
     }
 
-    // Waits until nobody comes to wait, in at most so many turns.
+    // Waits until nobody comes to wait, in at most this many turns.
     fn wait_for_comer<C: Clock>(&self, clock: &C) {
         for turn in 0..MOST_TURNS {
             if self.coming.load(Ordering::SeqCst) == 0 {
@@ -141,7 +141,7 @@ fn rest<C: Clock>(clock: &C, turn: u32) {
     }
 }
 
-// Waits until the request is decided, if it waits, in at most so many turns, and gives its seat back.
+// Waits until the request is decided, if it waits, in at most this many turns, and gives its seat back.
 fn end<K: Naming, R: Wait + Clock>(
     rt: &R,
     level: &Level<K>,

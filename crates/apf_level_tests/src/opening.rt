@@ -14,7 +14,7 @@ pub fn settings(limit: u32) -> Config {
     }
 }
 
-/// A request that takes so many seats, of the one flow.
+/// A request that takes this many seats, of the one flow.
 pub fn ask(width: u32) -> Ask {
     Ask { width, hash: 7 }
 }

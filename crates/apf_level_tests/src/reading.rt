@@ -104,7 +104,7 @@ fn read_often<K: Naming, R: Wait + Abort>(
     }
 }
 
-// The request arrives, and reads its decision until it does not wait any more, in at most so many turns.
+// The request arrives, and reads its decision until it does not wait any more, in at most this many turns.
 fn arrive<K: Naming, R: Wait>(rt: &R, level: &Level<K>, request: &mut Request<K>) -> Answer {
     let mut answer = request.begin(rt, level);
     for _turn in 0..MOST_TURNS {

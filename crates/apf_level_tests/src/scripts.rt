@@ -29,7 +29,7 @@ pub enum Step {
     Admit(u32, Answer),
     /// The request gives its seats back.
     Release(u32, Answer),
-    /// The heads that fit are dispatched, so many.
+    /// The heads that fit are dispatched, this many.
     Dispatch(u32),
     /// The request is struck, or not.
     Strike(u32, bool),
@@ -45,7 +45,7 @@ pub enum Step {
     Look(bool, [u32; 3]),
     /// Reads the statistics.
     Read(Stats),
-    /// Copies the log from this place on into room for so many events, at most four. Tells how many were copied.
+    /// Copies the log from this place on into room for this many events, at most four. Tells how many were copied.
     Copy(u32, usize, usize),
 }
 

@@ -74,7 +74,7 @@ impl Sleepers {
         };
     }
 
-    // Waits until all sleepers woke, in at most so many turns. Says whether they did.
+    // Waits until all sleepers woke, in at most this many turns. Says whether they did.
     fn wait_for_waking(&self) -> bool {
         for _turn in 0..MOST_TURNS / 10 {
             if self.woken.load(Ordering::SeqCst) >= u64::from(self.count) {
@@ -86,7 +86,7 @@ impl Sleepers {
     }
 }
 
-// Lets so many requests sleep: waits until they stand in queues, in at most so many turns, and gives them time.
+// Lets this many requests sleep: waits until they stand in queues, in at most this many turns, and gives them time.
 fn let_sleep<K: Naming>(level: &Level<K>, operator: &mut Operator<K>, count: u32) {
     for _turn in 0..MOST_TURNS {
         if operator.look(level).waiters() == count {

@@ -18,7 +18,7 @@ pub struct Takers {
     // How many are to run at once before one of them gives its seats back.
     together: u64,
     crowd: Crowd,
-    // The requests beside which so many ran.
+    // The requests beside which this many ran.
     met: AtomicU64,
     // The requests that gave their seats back while nobody waited.
     released: AtomicU64,
@@ -53,7 +53,7 @@ fn work<K: Naming>(level: &Level<K>, takers: &Takers, request: &mut Request<K>) 
     }
 }
 
-// The request tries to be admitted until it runs, in at most so many turns.
+// The request tries to be admitted until it runs, in at most this many turns.
 fn serve<K: Naming>(level: &Level<K>, takers: &Takers, request: &mut Request<K>) {
     for _turn in 0..MOST_TURNS {
         match request.try_admit(level) {

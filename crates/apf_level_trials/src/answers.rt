@@ -23,7 +23,7 @@ pub enum Answer {
     Released(bool),
     /// The request's token is not for this call.
     Wrong,
-    /// So many were dispatched.
+    /// This many were dispatched.
     Dispatched(u32),
     /// The request was struck, or not.
     Struck(bool),
@@ -31,7 +31,7 @@ pub enum Answer {
     Word(LevelWord),
     /// The numbers of the log.
     Numbers(Stats),
-    /// So many events of the log were copied into this room.
+    /// This many events of the log were copied into this room.
     Copied(u32, [Event; 4]),
     /// What the close found.
     Closed(Close),

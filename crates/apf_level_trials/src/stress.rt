@@ -61,7 +61,7 @@ fn asked_for(seed: Option<u64>, requests: Option<u32>) -> Asked {
     }
 }
 
-/// Runs the level of this seed with so many requests, and answers the program's status.
+/// Runs the level of this seed with this many requests, and answers the program's status.
 ///
 /// # Errors
 ///

@@ -22,7 +22,7 @@ use Rattle.apf_line.specs.Tokens.{IsOf}
 use Rattle.apf_life.specs.Admission.{begun_pass, IsBegunTold, EnteredNow}
 use Rattle.apf_life.specs.Attempts.{IsAttemptedTold, FoundOpen, StaysOut}
 
--- whether what requests take is settled, on a level of so many slots
+-- whether what requests take is settled, on a level of this many slots
 abbrev pub settles_by : Settling → ℕ → Bool
 settles_by settling slots = not (places_of settling slots == 0)
 

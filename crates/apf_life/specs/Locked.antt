@@ -16,7 +16,7 @@ abbrev pub IsUnder : LifeId → Option LifeBookView → Type 0
 IsUnder k None = k.gate.shape.response ≡ Reject
 IsUnder k (Some book) = (k.gate.shape.response ≡ Queue) × IsBookOf k book × (book.notes.capacity ≡ 2 * k.gate.shape.slots) × IsStopped book
 
--- so many were dispatched from the queues of this very book, whichever history it is of
+-- this many were dispatched from the queues of this very book, whichever history it is of
 abbrev pub DispatchesUnder : Option LifeBookView → ℕ → Option LifeBookView → Type 0
 DispatchesUnder None count under' = (count ≡ 0) × (under' ≡ None)
 DispatchesUnder (Some book) count under' = (book' : LifeBookView) × (under' ≡ Some book') × SameLifeBook book book' × ((v : LifeView) → IsLifeKept v book → ServesLife v book count book')

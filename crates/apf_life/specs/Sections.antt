@@ -24,7 +24,7 @@ pub record AreStatsOf (k : LifeId) (stats : LifeStats) : Type 0 where
   pub of_level : IsHistoryOf k trace view
   pub stats_are : length view.history < 2 ^ 64 → AreLifeStats stats view.history
 
--- of each slot the ticket of a request that somebody sleeps for, or slept for
+-- for each slot the ticket of a request that somebody sleeps for, or slept for
 pub record AreSleepers (k : LifeId) (sleepers : List Ticket) : Type 0 where
   pub count : length sleepers ≡ k.gate.shape.slots
   pub tickets : All (λ (t : Ticket). IsTicket k.gate.shape t.number) sleepers

@@ -134,7 +134,7 @@ impl<K: Naming> Level<K> {
         self.gate.release(pass)
     }
 
-    /// As `release`, of a request that ran so many microseconds. If it was dispatched from a queue, what it took is settled
+    /// As `release`, of a request that ran this many microseconds. If it was dispatched from a queue, what it took is settled
     /// before its seats go back, under the level's lock, and others are dispatched then: the caller owes no dispatch.
     /// If it took its seats on arrival, it was never charged, and this is `release`, outside the lock.
     ///

@@ -24,7 +24,7 @@ use apf_words::Decision;
 use std::hint;
 use std::sync::Wait;
 
-// How often a decision is read before its reader sleeps.
+// How many times a decision is read before its reader sleeps.
 const READINGS_AWAKE: u32 = 100;
 
 impl<K: Naming> Level<K> {

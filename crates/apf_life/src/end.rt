@@ -50,7 +50,7 @@ fn passes_of(alloc: Global, slots: Vec<Done>) -> Result<Vec<Pass>, AllocError>
     Ok(passes)
 }
 
-// The Desk, and the newest events, of so many slots.
+// The Desk, and the newest events, of this many slots.
 fn close<K: Naming>(alloc: Global, shared: Shared<K>, slots: usize) -> Result<Closing, AllocError>
     requires { slots ≡ K.level.gate.shape.slots }
     ensures { IfOk result (Closes K.level) }

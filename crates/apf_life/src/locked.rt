@@ -71,7 +71,7 @@ impl<'a, K: Naming> Locked<'a, K> {
         }
     }
 
-    /// A request that executes, and ran so many microseconds, gives its seats back, by one step. Before that, what it took
+    /// A request that executes, and ran this many microseconds, gives its seats back, by one step. Before that, what it took
     /// is settled, on a level that was opened so: if it was dispatched from a queue, that queue is charged its width times
     /// this time, 1 to 2^46 microseconds of a seat, in place of what it was charged for it. After it, others are
     /// dispatched. Says whether requests waited as the seats went back. The slot's Pass stays in its place, that of a

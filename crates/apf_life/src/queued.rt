@@ -38,7 +38,7 @@ use std::sync::{Mutex, Wait};
 #[derive(Drop)]
 pub struct Queued<K: Naming> {
     pub book: LifeBook<Global>,
-    // Of each slot the ticket of the request that somebody slept for last. At first it is that of the slot's first
+    // For each slot the ticket of the request that somebody slept for last. At first it is that of the slot's first
     // request.
     pub sleepers: Vec<Ticket>,
     pub of: PhantomData<K>,
@@ -58,7 +58,7 @@ pub struct QueuedLock<K: Naming> {
     ghost sizes: { dealer ≡ K.level.sizes },
 }
 
-// Wakes those who may sleep until a request is decided that was dispatched since there were so many events.
+// Wakes those who may sleep until a request is decided that was dispatched since there were this many events.
 fn wake(gate: &Gate<Global>, book: &LifeBook<Global>, sleepers: &[Ticket], before: u64)
     requires tickets { All (λ t. IsTicket gate.now.shape t.number) sleepers.now }
 {
@@ -82,7 +82,7 @@ fn wake_one(gate: &Gate<Global>, sleepers: &[Ticket], ticket: Ticket)
     }
 }
 
-// Dispatches while the chosen head fits, and wakes whoever was dispatched since there were so many events. Tells how
+// Dispatches while the chosen head fits, and wakes whoever was dispatched since there were this many events. Tells how
 // many were dispatched now.
 fn serve<R: Wait>(
     rt: &R,

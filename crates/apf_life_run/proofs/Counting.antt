@@ -1,4 +1,4 @@
--- Of so many numbers, no two of them one, each stands in a list: then the list is as long at least.
+-- Of this many numbers, no two of them one, each stands in a list: then the list is as long at least.
 use Rattle.std.proofs.Common.{◌≡◌, ◌≢◌, ◌⊎◌, ℕ, zero, suc, ◌+◌, ◌<◌, ◌≤◌, List, [], ◌∷◌, length, sym, ap, ◌∙◌, inl, inr, arith}
 use Rattle.std.specs.Prelude.{slice_index_or, Contains}
 use Rattle.apf_words.specs.declared.decision.Decision.{Decision}

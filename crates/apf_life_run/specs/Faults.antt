@@ -8,7 +8,7 @@ use Rattle.apf_life_session.specs.Openings.{CanOpenGate, IsGateFault, IsLevelFau
 use Rattle.apf_life_run.specs.declared.fault.RoundsFault.{RoundsFault}
 use Rattle.apf_life_run.specs.declared.fault.RoundsFault.TheVariants as faults
 
--- a gate and a level are opened for these settings, with so many slots and Stations: nothing of them is out of range
+-- a gate and a level are opened for these settings, with this many slots and Stations: nothing of them is out of range
 pub record CanRunRounds (config : Config) (slots stations : ℕ) : Type 0 where
   pub gate : CanOpenGate config slots stations
   pub level : SettledBy config.limit_response config slots

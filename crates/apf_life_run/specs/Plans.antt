@@ -13,7 +13,7 @@ use Rattle.apf_run.specs.Plans.{IsNamed, SomeCloses, SetTo}
 abbrev pub max_rounds : ℕ
 max_rounds = 1000000
 
--- it is the ticket of a request of the slot, of this width, that comes in one of so many rounds
+-- it is the ticket of a request of the slot, of this width, that comes in one of this many rounds
 pub record IsOfRounds (rounds slot width : ℕ) (ticket : Ticket) : Type 0 where
   pub round : ℕ
   pub came : 1 ≤ round
@@ -33,7 +33,7 @@ width_it_asks None = 0
 abbrev pub number_in : List Request → ℕ → ℕ → ℕ
 number_in requests slot round = number_of slot round (width_it_asks (slice_get requests slot))
 
--- the request came in one of so many rounds, and some request names its slot to be cancelled
+-- the request came in one of this many rounds, and some request names its slot to be cancelled
 pub record IsNamedIn (requests : List Request) (rounds : ℕ) (r : ℕ) : Type 0 where
   pub named : IsNamed requests (slot_of r)
   pub came : 1 ≤ round_of r

@@ -37,7 +37,7 @@ pub record AreFinished (gate : GateId) (requests : List Request) (rounds : ℕ) 
   pub faithful : All (IsFaithful gate requests rounds) r.stations
   pub known : All (IsKnownTo requests r.stations) r.dones
 
--- a level of these settings, with so many slots
+-- a level of these settings, with this many slots
 pub record IsLevelFor (config : Config) (count : ℕ) (k : LifeId) : Type 0 where
   pub limit : k.gate.shape.limit ≡ config.limit
   pub response : k.gate.shape.response ≡ config.limit_response
@@ -45,7 +45,7 @@ pub record IsLevelFor (config : Config) (count : ℕ) (k : LifeId) : Type 0 wher
   pub sizes : k.sizes ≡ record { deck = config.queues; hand = config.hand_size }
   pub queue_limit : k.queue_limit ≡ config.queue_length_limit
 
--- what a run of these requests tells, so many rounds, at a level of these settings
+-- what a run of these requests tells, this many rounds, at a level of these settings
 pub record HasRunRounds (config : Config) (requests : List Request) (rounds : ℕ) (r : Report) : Type 0 where
   -- a level of these settings ended so, with a slot for each request: drained; by a history that is legal and fair, and in which nobody waits; and with the counts of all requests that were ever decided
   pub level : LifeId

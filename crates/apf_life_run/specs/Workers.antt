@@ -13,7 +13,7 @@ pub record Load : Type 0 where
   pub slots : List PassToken
   pub over : List PassToken
 
--- so many requests of the slot came
+-- this many requests of the slot came
 abbrev pub IsInRound : ℕ → PassToken → Type 0
 IsInRound n t = round_of t.pass.number ≡ n
 
@@ -47,7 +47,7 @@ IsIdle load = (load.slots ≡ []) × (load.over ≡ [])
 abbrev pub IsReady : Load → Type 0
 IsReady load = All (IsInRound 0) load.slots × (load.over ≡ [])
 
--- it went through so many rounds with so many slots
+-- it went through this many rounds with this many slots
 abbrev pub IsThrough : ℕ → ℕ → Load → Type 0
 IsThrough rounds count load = (length load.slots ≡ count) × All (IsInRound rounds) load.slots
 

@@ -34,7 +34,7 @@ impl<K: Plan> Promise<Result<Worker<K>, AllocError>> for Share {
 
 type Handle<K> = PromisedHandle<Result<Worker<K>, AllocError>, Share>;
 
-// A worker for each Station, with memory for its share of so many slots.
+// A worker for each Station, with memory for its share of this many slots.
 fn idle<K: Plan>(
     alloc: Global,
     slots: usize,
@@ -153,7 +153,7 @@ fn join_all<K: Plan, R: Threads>(
     Ok(finished)
 }
 
-/// Lets each worker go so many rounds through its slots, in a thread of its own, and adds what they give back.
+/// Lets each worker go this many rounds through its slots, in a thread of its own, and adds what they give back.
 ///
 /// # Errors
 ///

@@ -30,7 +30,7 @@ impl<K: Plan> Model for Finished<K> {
 }
 
 impl<K: Plan> Finished<K> {
-    /// Nothing yet, with memory for so many slots and Stations.
+    /// Nothing yet, with memory for this many slots and Stations.
     ///
     /// # Errors
     ///

@@ -38,7 +38,7 @@ impl<K: Plan> Model for Newest<K> {
 }
 
 impl<K: Plan> Newest<K> {
-    /// So many slots of which no request came.
+    /// This many slots of which no request came.
     ///
     /// # Errors
     ///

@@ -21,10 +21,10 @@ use std::marker::Brand;
 use std::sync::Wait;
 use std::thread::Threads;
 
-/// Opens a level for life with a slot for each request, brings so many requests of each slot to their ends, one after
-/// another, by so many workers, 1 to 64, each in a thread of its own, and ends the level.
+/// Opens a level for life with a slot for each request, brings this many requests of each slot to their ends, one after
+/// another, by this many workers, 1 to 64, each in a thread of its own, and ends the level.
 ///
-/// Worker k of m has the slots whose numbers leave k when divided by m, and goes so often through them, in their order.
+/// Worker k of m has the slots whose numbers leave k when divided by m, and goes this many times through them, in their order.
 /// Each time the slot is given anew, to a request that asks for what the slot's request in the list asks. The worker
 /// closes the level if that says so, and waits until the new one is decided. If it executes, the worker does its work,
 /// cancels and strikes the request that holds the slot that it names then (one that is not there, or of which no

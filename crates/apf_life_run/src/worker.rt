@@ -20,7 +20,7 @@ use std::sync::Wait;
 
 /// What the requests of a run do while they execute. All workers share it.
 pub trait Work: Sync {
-    /// Does so many units of work for the request that executes. It is lent what says so: its seats stand.
+    /// Does this many units of work for the request that executes. It is lent what says so: its seats stand.
     fn work(&self, running: &Running, units: u32);
 }
 
@@ -199,7 +199,7 @@ fn handle<K: Plan, W: Work, R: Wait>(
 }
 
 impl<K: Plan> Worker<K> {
-    /// A worker with this Station, and memory for so many slots.
+    /// A worker with this Station, and memory for this many slots.
     ///
     /// # Errors
     ///
@@ -228,7 +228,7 @@ impl<K: Plan> Worker<K> {
         Ok(())
     }
 
-    // Goes through its slots once more, which it did so often before.
+    // Goes through its slots once more, which it did this many times before.
     fn go_round<W: Work, R: Wait>(
         self,
         rt: &R,
@@ -259,7 +259,7 @@ impl<K: Plan> Worker<K> {
         })
     }
 
-    /// Goes through its slots so often, in their order each time.
+    /// Goes through its slots this many times, in their order each time.
     ///
     /// # Errors
     ///

@@ -37,7 +37,7 @@ const REQUEST: Request = Request {
     closes: false,
 };
 
-// What two rounds of three requests by so many workers answer.
+// What two rounds of three requests by this many workers answer.
 fn ran<R: Wait + Threads + Sync>(rt: &R, alloc: Global, config: &Config, workers: u32) -> Told
     requires { 0 < workers }
 {
@@ -96,7 +96,7 @@ fn the_first_fault_is_told(rt: HostRuntime) {
     assert_eq!(rt; ran(&rt, alloc, &no_queues, 1), Told::Executed(6));
 }
 
-// So many requests, all alike.
+// This many requests, all alike.
 fn copies(alloc: Global, count: usize) -> Result<Vec<Request>, AllocError>
     ensures { IfOk result (λ v. All HasWidth v.items) }
 {

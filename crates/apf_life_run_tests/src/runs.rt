@@ -43,7 +43,7 @@ impl Work for Nothing {
     fn work(&self, _running: &Running, _units: u32) {}
 }
 
-/// How many workers go how often through their slots.
+/// How many workers go how many times through their slots.
 #[derive(Clone, Copy)]
 pub struct Pace {
     pub workers: u32,

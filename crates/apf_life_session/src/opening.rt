@@ -31,7 +31,7 @@ pub struct Opening {
 }
 
 impl Opening {
-    /// The gate of a level with so many slots, at most 10,000, and so many Stations, at most 64. Each slot is for one
+    /// The gate of a level with this many slots, at most 10,000, and this many Stations, at most 64. Each slot is for one
     /// request after another.
     ///
     /// # Errors

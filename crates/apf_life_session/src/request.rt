@@ -258,7 +258,7 @@ impl<K: Naming> Request<K> {
         answer
     }
 
-    /// As `finish`, of a request that ran so many microseconds. If it was dispatched from a queue, what it took is settled
+    /// As `finish`, of a request that ran this many microseconds. If it was dispatched from a queue, what it took is settled
     /// before its seats go back, on a level that was opened by `open_settling`: its queue is charged its width times this
     /// time, 1 to 2^46 microseconds of a seat, in place of what it was charged for it. A request that took its seats on
     /// arrival was never charged.

@@ -258,7 +258,7 @@ impl<K: Naming> Session<K> {
         self.slots[slot as usize].finish(rt, &self.level)
     }
 
-    /// As `finish`, of a request that ran so many microseconds: what it took is settled before its seats go back, on a
+    /// As `finish`, of a request that ran this many microseconds: what it took is settled before its seats go back, on a
     /// level that was opened by `open_settling`. See `Request::finish_measured`.
     pub fn finish_measured<R: Wait>(&mut self, rt: &R, slot: u32, micros: u64) -> Answer
         requires is_slot { slot < K.level.gate.shape.slots }

@@ -27,14 +27,14 @@ const ROUNDS: u64 = 12_500;
 struct Board {
     // How manieth request holds each slot.
     present: Vec<AtomicU64>,
-    // Of each request the decisions that were told of it, a bit for each: those that its caller was told, and eight
+    // For each request the decisions that were told of it, a bit for each: those that its caller was told, and eight
     // places higher those that operators were told.
     told: Vec<AtomicU64>,
     // The cancels that found another request.
     late: AtomicU64,
 }
 
-// So many numbers, each 0.
+// This many numbers, each 0.
 fn zeros<R: Abort>(rt: &R, alloc: Global, count: u64) -> Vec<AtomicU64> {
     let mut numbers = Vec::new(alloc);
     for _ in 0..count {

@@ -87,7 +87,7 @@ fn open<R: Wait>(rt: &R, alloc: Global, rounds: u64) -> Result<Counts, OpenFault
     run_named::<Brand, R>(rt, alloc, opening, rounds)
 }
 
-/// Makes so many rounds, writes the counts of all requests, and answers the program's status.
+/// Makes this many rounds, writes the counts of all requests, and answers the program's status.
 ///
 /// # Errors
 ///

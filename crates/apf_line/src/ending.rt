@@ -15,7 +15,7 @@ use apf_gate::{Desk, Gate, Pass, Station, Ticket, every_end_for_life_agrees};
 use apf_model::every_legal_history_is_in_order;
 use std::alloc::{AllocError, Global};
 
-/// The Desk of a book that nobody will serve any more, with the newest events, of so many slots.
+/// The Desk of a book that nobody will serve any more, with the newest events, of this many slots.
 ///
 /// # Errors
 ///

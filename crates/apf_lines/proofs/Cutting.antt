@@ -12,7 +12,7 @@ use Rattle.apf_lines.specs.Buffer.{between, IsFirstLf}
 few : (start end : ℕ) (bytes : List ℕ) (count : ℕ) → count < length (between start end bytes) → count < end - start
 few start end bytes count within = omega (arith, length-take (end - start) (drop start bytes), within)
 
--- a line of so many bytes in front of what is kept
+-- a line of this many bytes in front of what is kept
 pub front : (start end count : ℕ) (bytes : List ℕ) → count < length (between start end bytes)
     → between start (start + count) bytes ≡ take count (between start end bytes)
 front start end count bytes within =

@@ -17,13 +17,13 @@ pub record IsBuffer (longest from to start end : ℕ) (bytes : List ℕ) : Type 
   pub in_order : start ≤ end
   pub inside : end ≤ length bytes
 
--- so many bytes stand before the first LF
+-- this many bytes stand before the first LF
 pub record IsFirstLf (bytes : List ℕ) (count : ℕ) : Type 0 where
   pub inside : count < length bytes
   pub whole : HasNoLf (take count bytes)
   pub parts : bytes ≡ take count bytes ++ (lf ∷ drop (count + 1) bytes)
 
--- the reader gave so many bytes, which stand behind the first ones; none only at its end
+-- the reader gave this many bytes, which stand behind the first ones; none only at its end
 pub record GivesBehind (was left : Option (List ℕ)) (first : ℕ) (bytes : List ℕ) (count : ℕ) : Type 0 where
   pub inside : first + count ≤ length bytes
   pub given : Consumes was left (take count (drop first bytes))

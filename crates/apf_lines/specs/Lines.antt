@@ -67,7 +67,7 @@ pub record CutsOff (old : LinesView) (cut : Cut) (new : LinesView) : Type 0 wher
   pub shorter : cut ≢ Nothing → length new.kept < length old.kept
   pub longest : new.longest ≡ old.longest
 
--- so many bytes came behind whatever was read and not yet cut off: those that the reader gave, none only at its end
+-- this many bytes came behind whatever was read and not yet cut off: those that the reader gave, none only at its end
 pub record Gains (was left : Option (List ℕ)) (count : ℕ) (old new : LinesView) : Type 0 where
   pub bytes : List ℕ
   pub count_is : length bytes ≡ count

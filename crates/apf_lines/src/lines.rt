@@ -56,21 +56,21 @@ fn before_lf(bytes: &[u8]) -> Option<usize>
     memchr(b'\n', bytes)
 }
 
-// Whether a line is too long of which so many bytes are kept: by these, or since its beginning was dropped.
+// Whether a line is too long of which this many bytes are kept: by these, or since its beginning was dropped.
 fn is_too_long(is_skipped: bool, kept: usize, longest: usize) -> bool
     ensures { result ≡ (is_skipped || nat_lt longest kept) }
 {
     is_skipped || kept > longest
 }
 
-// How many of so many bytes are kept further.
+// How many of this many bytes are kept further.
 fn kept_further(is_skipped: bool, kept: usize) -> usize
     ensures { result ≡ (if is_skipped then 0 else kept) }
 {
     if is_skipped { 0 } else { kept }
 }
 
-// Moves so many bytes from a place on to the front.
+// Moves this many bytes from a place on to the front.
 fn move_to_front(bytes: &mut [u8], from: usize, count: usize)
     requires { from + count ≤ length bytes.old }
     ensures moved { take count bytes.new ≡ take count (drop from bytes.old) }

@@ -57,7 +57,7 @@ abbrev pub HasQueues : Response → Config → ℕ → Type 0
 HasQueues Queue c slots = IsDealable c.queues c.hand_size × IsQueueShape c.queues c.queue_length_limit slots
 HasQueues Reject c slots = Unit {0}
 
--- a level is opened for these settings and so many slots: nothing of them is out of range
+-- a level is opened for these settings and this many slots: nothing of them is out of range
 abbrev pub CanOpen : Config → ℕ → Type 0
 CanOpen config slots = IsLimit config × (slots ≤ max_requests) × HasQueues config.limit_response config slots
 
@@ -85,7 +85,7 @@ IsOpenFault config slots faults.NoMemory = Unit {0}
 abbrev pub IsBlank : LifeBookView → Type 0
 IsBlank b = (v : LifeView) → IsLifeKept v b → v.history ≡ []
 
--- the gate has this limit and response, so many slots and one Station, and no Pass made a step, nor the Station
+-- the gate has this limit and response, this many slots and one Station, and no Pass made a step, nor the Station
 pub record IsNewOwner (config : Config) (slots : ℕ) (settling : Settling) (o : OwnerView) : Type 0 where
   pub limit : o.gate.shape.limit ≡ config.limit
   pub response : o.gate.shape.response ≡ config.limit_response
@@ -109,7 +109,7 @@ pub record IsNewOwner (config : Config) (slots : ℕ) (settling : Settling) (o :
   -- where it is settled, it is kept of each slot what a queue is charged for its request
   pub places : length o.book.queues.running ≡ places_of settling slots
 
--- a level of this config with so many slots, all of them free, to which nothing happened yet
+-- a level of this config with this many slots, all of them free, to which nothing happened yet
 pub record IsOpened (config : Config) (slots : ℕ) (settling : Settling) (l : LocalView) : Type 0 where
   pub owner : IsNewOwner config slots settling l.owner
   pub count : length l.places ≡ slots

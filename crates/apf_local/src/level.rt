@@ -166,7 +166,7 @@ impl LocalLevel {
         self.owner.charge(slot)
     }
 
-    /// As `finish`, of a request that ran so many microseconds. Before it gives its seats back, what it took is settled: if
+    /// As `finish`, of a request that ran this many microseconds. Before it gives its seats back, what it took is settled: if
     /// it was dispatched from a queue, that queue is charged its width times this time, 1 to 2^46 microseconds of a seat,
     /// in place of what it was charged for it. A request that took its seats on arrival was never charged.
     pub fn finish_measured(&mut self, slot: usize, micros: u64) -> Answer
@@ -192,7 +192,7 @@ impl LocalLevel {
         Answer::Released
     }
 
-    /// The slot's request, which executes still, has run so many microseconds. If it was dispatched from a queue, and that
+    /// The slot's request, which executes still, has run this many microseconds. If it was dispatched from a queue, and that
     /// queue was charged less for it than its width times this time, the queue is charged that from now on. Then requests
     /// that wait are dispatched. Says whether the slot's request executes: if not, nothing was done.
     pub fn spend(&mut self, slot: usize, micros: u64) -> bool

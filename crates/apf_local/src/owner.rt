@@ -101,7 +101,7 @@ fn gather(
 }
 
 impl Owner {
-    /// A gate of so many slots and one Station, a book in which nothing happened yet, and the dealer of its queues. All
+    /// A gate of this many slots and one Station, a book in which nothing happened yet, and the dealer of its queues. All
     /// memory is taken here.
     ///
     /// # Errors

@@ -6,7 +6,7 @@ use apf_local::{Answer, Ask, LocalLevel, Place};
 /// What is done with a slot of a level, or with the level.
 #[derive(Clone, Copy, Debug)]
 pub enum Step {
-    /// Its next request arrives, of so many seats.
+    /// Its next request arrives, of this many seats.
     Arrive(usize, u32),
     /// The same, but it never enters a queue.
     Try(usize, u32),

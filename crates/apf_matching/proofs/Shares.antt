@@ -54,7 +54,7 @@ some_level : (n : ℕ) (levels : List LevelSaid) → sum_of_shares levels ≡ su
 some_level n [] e = absurd (omega (arith, e))
 some_level n (level ∷ levels) e = omega arith
 
--- so many parts are from the seats on
+-- this many parts are from the seats on
 bounds : (seats n k all : ℕ) → 0 < k → seats * suc n ≤ all * suc n → all * suc n ≤ seats * suc n + k * n → (seats ≤ all) × (all < seats + k)
 bounds seats n k all some low high =
     let wide : (seats + k) * suc n ≡ seats * suc n + k * suc n = add-mul seats k (suc n) in

@@ -18,7 +18,7 @@ abbrev pub nominal_of : (seats shares all : ℕ) → ℕ
 nominal_of seats shares zero = 0
 nominal_of seats shares (suc n) = (seats * shares + n) / suc n
 
--- so many per cent of a number, halves rounded up
+-- this many per cent of a number, halves rounded up
 abbrev pub percent_of : (number percent : ℕ) → ℕ
 percent_of number percent = (number * percent + 50) / 100
 
@@ -27,7 +27,7 @@ abbrev pub borrowing_of : (seats nominal : ℕ) → Option ℕ → ℕ
 borrowing_of seats nominal (Some percent) = percent_of nominal percent
 borrowing_of seats nominal None = seats
 
--- the limits of a level of a server with so many seats, where all levels have so many shares
+-- the limits of a level of a server with this many seats, where all levels have this many shares
 abbrev pub limits_of : LevelSettings → (seats all : ℕ) → LevelLimits
 limits_of settings seats all = record {
   nominal = nominal_of seats settings.shares all;
@@ -35,7 +35,7 @@ limits_of settings seats all = record {
   borrowing = borrowing_of seats (nominal_of seats settings.shares all) settings.borrowing_percent;
 }
 
--- the nominal limits of these levels together, where all levels have so many shares
+-- the nominal limits of these levels together, where all levels have this many shares
 abbrev pub sum_of_parts : (seats all : ℕ) → List LevelSaid → ℕ
 sum_of_parts seats all [] = 0
 sum_of_parts seats all (level ∷ levels) = nominal_of seats level.settings.shares all + sum_of_parts seats all levels

@@ -35,7 +35,7 @@ pub fn sum_of_shares(levels: &[Level]) -> u64
     sum
 }
 
-// The level's share of the server's seats, rounded up, where all levels have so many shares together.
+// The level's share of the server's seats, rounded up, where all levels have this many shares together.
 #[tactic(auto, using(crate::proofs::Shares::not_above))]
 fn nominal_of(seats: u32, shares: u32, all: u64) -> u64
     requires part { shares ≤ all }
@@ -50,7 +50,7 @@ fn nominal_of(seats: u32, shares: u32, all: u64) -> u64
     (u64::from(seats) * u64::from(shares) + (all - 1)) / all
 }
 
-// So many per cent of a number, halves rounded up.
+// This many per cent of a number, halves rounded up.
 fn percent_of(number: u64, percent: u32) -> u64
     requires { number ≤ 4294967295 }
     ensures { result ≡ spec.percent_of number percent }
@@ -58,7 +58,7 @@ fn percent_of(number: u64, percent: u32) -> u64
     (number * u64::from(percent) + 50) / 100
 }
 
-/// The limits of a level of a server with so many seats, where all levels have so many shares together.
+/// The limits of a level of a server with this many seats, where all levels have this many shares together.
 pub fn limits_of(settings: &LevelSettings, seats: u32, all: u64) -> LevelLimits
     requires part { settings.now.shares ≤ all }
     requires most { all ≤ 4294967295000 }

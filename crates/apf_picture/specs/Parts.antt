@@ -8,7 +8,7 @@ use Rattle.apf_picture.specs.Scales.{scaled_of, unit_by, unit_length, unit_name}
 use Rattle.apf_picture.specs.Columns.{tops_in}
 use Rattle.apf_picture.specs.Words.{joined, tenths_text, two_text}
 
--- the axis: where a mark stands that is so many steps from the beginning
+-- the axis: where a mark stands that is this many steps from the beginning
 abbrev pub mark_place : (end step mark : ℕ) → ℕ
 mark_place end step mark = scaled_of (mark * step) end 880
 
@@ -68,7 +68,7 @@ axis_text end step depth = lines_text end step depth ++ labels_text end step 118
 abbrev pub changes : List ℕ → ℕ → Bool
 changes values column = column == 0 || not (slice_index values (column - 1) == slice_index values column)
 
--- how far from above the top of so many seats is, where the most are 130 high
+-- how far from above the top of this many seats is, where the most are 130 high
 abbrev pub top_place : (seats most : ℕ) → ℕ
 top_place seats most = 140 - scaled_of seats most 130
 
@@ -127,6 +127,6 @@ unfoldable pub seats_head : (used limit : ℕ) → List ℕ
 seats_head used limit =
     codes "<g transform=\"translate(48 124)\">\n" ++ seats_heading used limit ++ codes "<rect class=\"plot\" width=\"880\" height=\"140\"/>\n"
 
--- the part of the seats, of which so many were used at most
+-- the part of the seats, of which this many were used at most
 unfoldable pub seats_text : List Area → (used limit : ℕ) → List ℕ
 seats_text areas used limit = seats_head used limit ++ areas_text areas (max used limit) ++ seats_scale used limit ++ codes "</g>\n"

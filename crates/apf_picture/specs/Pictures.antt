@@ -28,7 +28,7 @@ flows_in scene = length scene.flows.now.firsts.items
 abbrev pub lives_of : Scene → (own : List ℕ) → List Life
 lives_of scene own = lives_by scene.trace.now scene.outcomes.now scene.flows.now.of.items (rows_of own (flows_in scene))
 
--- so many rows: those of their own, and the one that the others share
+-- this many rows: those of their own, and the one that the others share
 abbrev pub rows_in : Scene → ℕ
 rows_in scene = min (flows_in scene) (own_rows + 1)
 

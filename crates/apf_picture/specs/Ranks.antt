@@ -4,7 +4,7 @@ use Rattle.std.specs.List.{range_with_len}
 use Rattle.apf_picture.specs.declared.rank.Standing.{Standing}
 use Rattle.apf_picture.specs.declared.scene.Outcome.{Outcome}
 
--- so many flows have a row of their own
+-- this many flows have a row of their own
 abbrev pub own_rows : ℕ
 own_rows = 12
 

@@ -51,7 +51,7 @@ members_of lives row = filter (λ life. life.row == row) lives
 abbrev pub lives_in : Row → List Life
 lives_in row = row.lives.items
 
--- how high the bars of so many requests are together: at most 6 pixels each, and by their share of all requests
+-- how high the bars of this many requests are together: at most 6 pixels each, and by their share of all requests
 abbrev pub tall_of : (members requests : ℕ) → ℕ
 tall_of members requests = min (6 * members) (30 + scaled_of members requests 240)
 
@@ -67,7 +67,7 @@ number_in row = row.number
 abbrev pub label_in : Row → Called
 label_in row = called row.label
 
--- so many rows, from the first on, with these labels
+-- this many rows, from the first on, with these labels
 pub record AreRows (lives : List Life) (label : ℕ → Called) (count : ℕ) (rows : List Row) : Type 0 where
   pub numbers : map number_in rows ≡ range_with_len 0 count
   pub labels : map label_in rows ≡ map label (range_with_len 0 count)

@@ -42,11 +42,11 @@ unfoldable pub shade_text : List Strip → (longest shade : ℕ) → List ℕ
 shade_text strips longest shade =
     joined (codes "<path class=\"shade\" stroke-opacity=\"." ∷ decimal (12 * shade) ∷ codes "\" d=\"" ∷ []) ++ all_runs strips longest shade ++ codes "\"/>\n"
 
--- the shades from 1 on, so many of them
+-- the shades from 1 on, this many of them
 abbrev pub shades_text : List Strip → (longest shades : ℕ) → List ℕ
 shades_text strips longest shades = flat_map (λ place. shade_text strips longest (place + 1)) (range_with_len 0 shades)
 
--- how high so many strips are together
+-- how high this many strips are together
 abbrev pub high_of : (strips : ℕ) → ℕ
 high_of strips = min (12 * strips) 240
 
@@ -58,7 +58,7 @@ queue_number y queue = joined (codes "<text class=\"small\" x=\"-6\" y=\"" ∷ d
 abbrev pub middle_of : (strips place : ℕ) → ℕ
 middle_of strips place = scaled_of (2 * place + 1) (2 * strips) (high_of strips)
 
--- the number of the queue at a place, if the place is one of each so many
+-- the number of the queue at a place, if the place is one of each this many
 abbrev pub queue_label : (queues : List ℕ) (each place : ℕ) → List ℕ
 queue_label queues each place = if place % each == 0 then queue_number (middle_of (length queues) place + 4) (slice_index queues place) else []
 
@@ -107,7 +107,7 @@ unfoldable pub strips_text : List Strip → (longest : ℕ) → List ℕ
 strips_text strips longest =
     shades_head (high_of (length strips)) (10 * length strips) ++ shades_text strips longest 8 ++ codes "</svg>\n"
 
--- the part of the queues, of which the longest had so many requests at most
+-- the part of the queues, of which the longest had this many requests at most
 unfoldable pub queues_text : List Strip → (longest : ℕ) → List ℕ
 queues_text strips longest =
     queues_above (length strips) longest ++ strips_text strips longest ++ queue_labels (map queue_in strips) (each_of (length strips)) ++ codes "</g>\n"

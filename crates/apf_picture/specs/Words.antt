@@ -21,7 +21,7 @@ unfoldable pub two_text : ℕ → List ℕ → ℕ → List ℕ → List ℕ
 two_text whole name rest smaller =
     joined (decimal whole ∷ codes " " ∷ name ∷ codes " " ∷ decimal rest ∷ codes " " ∷ smaller ∷ [])
 
--- a time of so many microseconds
+-- a time of this many microseconds
 abbrev pub time_text : ℕ → List ℕ
 time_text time =
     if nat_lt time 1000 then decimal time ++ codes " &#181;s"

@@ -152,7 +152,7 @@ fn write_labels<W: Write>(out: &mut W, end: u64, step: u64, y: u64) -> io::Resul
     out.write_all(b"</g>\n")
 }
 
-/// Writes the axis of a run of this length, with lines so many pixels long.
+/// Writes the axis of a run of this length, with lines this many pixels long.
 #[tactic(auto, unfolding(crate::specs::Parts::axis_text))]
 pub(crate) fn write_axis<W: Write>(out: &mut W, end: u64, step: u64, depth: u64) -> io::Result<()>
     requires step { 0 < step }

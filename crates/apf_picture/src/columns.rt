@@ -110,7 +110,7 @@ pub(crate) fn most_seats(alloc: Global, lives: &[Life]) -> Result<u64, AllocErro
     Ok(Timeline::of(alloc, spans)?.most())
 }
 
-/// The areas of so many rows, from the last to the first.
+/// The areas of this many rows, from the last to the first.
 pub(crate) fn areas(
     alloc: Global,
     lives: &[Life],

@@ -12,7 +12,7 @@ use apf_model::{Config, Response};
 use std::io;
 use std::io::Write;
 
-/// So many columns of a schema are shown in the title.
+/// This many columns of a schema are shown in the title.
 const TITLE: usize = 28;
 
 /// This many of what all names begin with.

@@ -19,7 +19,7 @@ pub(crate) enum Label {
     },
     /// The hash of its flow.
     Hash(u64),
-    /// So many flows that share the row.
+    /// This many flows that share the row.
     Others(u32),
 }
 

@@ -12,10 +12,10 @@ use apf_flows::write_hash;
 use std::io;
 use std::io::Write;
 
-/// So many columns are shown of a distinguisher that stands alone.
+/// This many columns are shown of a distinguisher that stands alone.
 pub(crate) const ALONE: usize = 36;
 
-/// So many of a schema, and of the distinguisher beside it.
+/// This many of a schema, and of the distinguisher beside it.
 pub(crate) const SCHEMA: usize = 14;
 
 pub(crate) const DISTINGUISHER: usize = 20;

@@ -234,7 +234,7 @@ impl Picture {
         }
     }
 
-    // Writes the parts, of which that of the requests begins at this height, and the axis so many pixels long.
+    // Writes the parts, of which that of the requests begins at this height, and the axis this many pixels long.
     #[tactic(auto, unfolding(crate::specs::Pictures::parts_text))]
     fn write_parts<W: Write>(&self, out: &mut W, below: u64, depth: u64) -> io::Result<()>
         requires below { below < 2 ^ 40 }

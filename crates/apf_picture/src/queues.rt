@@ -11,7 +11,7 @@ use crate::words::write_counted;
 use std::io;
 use std::io::Write;
 
-/// So many strengths of shade.
+/// This many strengths of shade.
 const SHADES: u64 = 8;
 
 // The beginning of the scale, and what is behind its shades.
@@ -133,7 +133,7 @@ fn write_shade<W: Write>(out: &mut W, strips: &[Strip], longest: u64, shade: u64
     out.write_all(b"\"/>\n")
 }
 
-// Writes the runs of so many shades.
+// Writes the runs of this many shades.
 fn write_shades<W: Write>(
     out: &mut W,
     strips: &[Strip],
@@ -168,7 +168,7 @@ fn queue_at(strips: &[Strip], place: usize) -> u32
     strips[place].queue
 }
 
-// Writes the number of a queue beside the middle of its strip, if the place is one of each so many.
+// Writes the number of a queue beside the middle of its strip, if the place is one of each this many.
 fn write_label<W: Write>(out: &mut W, strips: &[Strip], each: usize, place: usize) -> io::Result<()>
     requires few { length strips.now < 2 ^ 31 }
     requires each { 0 < each }
@@ -182,7 +182,7 @@ fn write_label<W: Write>(out: &mut W, strips: &[Strip], each: usize, place: usiz
     write_number(out, middle + 4, queue_at(strips, place))
 }
 
-// Writes the numbers of the queues, one of each so many.
+// Writes the numbers of the queues, one of each this many.
 fn write_labels<W: Write>(out: &mut W, strips: &[Strip], each: usize) -> io::Result<()>
     requires few { length strips.now < 2 ^ 31 }
     requires each { 0 < each }
@@ -291,7 +291,7 @@ fn write_strips<W: Write>(out: &mut W, strips: &[Strip], longest: u64) -> io::Re
     out.write_all(b"</svg>\n")
 }
 
-// The numbers have room for twenty queues: so many strips have one number.
+// The numbers have room for twenty queues: this many strips have one number.
 fn each(strips: &[Strip]) -> usize
     ensures each { result ≡ each_of (length strips.now) }
     ensures some { 0 < result }
@@ -308,7 +308,7 @@ fn write_above<W: Write>(out: &mut W, queues: u64, longest: u64) -> io::Result<(
     write_scale(out, longest)
 }
 
-/// Writes the part of the queues, of which the longest had so many requests at most.
+/// Writes the part of the queues, of which the longest had this many requests at most.
 #[tactic(auto, unfolding(crate::specs::Strips::queues_text))]
 pub(crate) fn write_queues<W: Write>(out: &mut W, strips: &[Strip], longest: u64) -> io::Result<()>
     requires { length strips.now < 2 ^ 31 }

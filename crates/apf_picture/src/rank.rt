@@ -7,7 +7,7 @@ use crate::scene::Outcome;
 use std::alloc::{AllocError, Global};
 use std::cmp::Reverse;
 
-/// So many flows have a row of their own. The others share the row of this number.
+/// This many flows have a row of their own. The others share the row of this number.
 pub(crate) const OWN_ROWS: u32 = 12;
 
 /// What the place of a flow among the flows depends on.
@@ -34,7 +34,7 @@ fn no_standings(alloc: Global, flows: u32) -> Result<Vec<Standing>, AllocError>
     Ok(standings)
 }
 
-// Counts one request more, which is of this flow, if there is one of this number. So many were counted before.
+// Counts one request more, which is of this flow, if there is one of this number. This many were counted before.
 fn count(standings: &mut Vec<Standing>, outcome: &Outcome, flow: u32, counted: usize)
     requires few { counted < 2 ^ 32 - 1 }
     requires before { All (IsOfSome counted) standings.old.items }

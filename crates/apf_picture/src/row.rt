@@ -96,7 +96,7 @@ fn members(alloc: Global, lives: &[Life], row: u32) -> Result<Vec<Life>, AllocEr
     Ok(members)
 }
 
-// How high the bars of so many requests are together: at most 6 pixels each, and by their share of all requests.
+// How high the bars of this many requests are together: at most 6 pixels each, and by their share of all requests.
 fn tall(members: u64, requests: u64) -> u32
     requires { members < 2 ^ 31 }
     ensures { result ≡ tall_of members requests }

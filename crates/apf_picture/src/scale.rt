@@ -3,7 +3,7 @@
 ghost use Rattle.std.specs.Prelude.{◌≡◌, ◌<◌, ◌≤◌, ◌+◌, ◌*◌};
 ghost use Rattle.apf_picture.specs.Scales.{scaled_of, IsStep};
 
-/// How wide the plots are: so many columns, of one pixel each.
+/// How wide the plots are: this many columns, of one pixel each.
 pub(crate) const COLUMNS: u64 = 880;
 
 /// Where a value lies on a scale of this size, on which the whole is at the end. What is more than the whole is there, too.

@@ -157,7 +157,7 @@ fn write_head<W: Write>(out: &mut W, used: u64, limit: u64) -> io::Result<()>
     out.write_all(b"<rect class=\"plot\" width=\"880\" height=\"140\"/>\n")
 }
 
-/// Writes the part of the seats, of which so many were used at most.
+/// Writes the part of the seats, of which this many were used at most.
 #[tactic(auto, unfolding(crate::specs::Parts::seats_text))]
 pub(crate) fn write_seats<W: Write>(
     out: &mut W,

@@ -48,7 +48,7 @@ pub(crate) fn write_two<W: Write>(
     write!(out, "{whole} {name} {rest} {smaller}")
 }
 
-/// Writes a time of so many microseconds: with one digit after the point, or in two units.
+/// Writes a time of this many microseconds: with one digit after the point, or in two units.
 pub(crate) fn write_time<W: Write>(out: &mut W, time: u64) -> io::Result<()>
     ensures { OnOk result (Appends (W.contents out.old) (W.contents out.new) (time_text time)) }
 {

@@ -72,7 +72,7 @@ pub(crate) fn drawn<R: Abort>(
     Ok(out)
 }
 
-// How often a part stands in a text.
+// How many times a part stands in a text.
 pub(crate) fn times(text: &[u8], part: &str) -> usize {
     let mut count = 0usize;
     for window in text.windows(part.len().max(1)) {

@@ -47,7 +47,7 @@ word_of word =
     else (if bytes_eq word (codes "queues") then Some Queues
     else (if bytes_eq word (codes "metrics") then Some Metrics else None)))
 
--- the number, if it is one of so many
+-- the number, if it is one of this many
 abbrev pub one_of : ℕ → ℕ → Result ℕ FaultKind
 one_of slots n = if nat_lt n slots then Ok n else Err BadNumber
 

@@ -178,7 +178,7 @@ fn behind_word<'a>(word: &[u8], rest: &'a [u8], slots: u32) -> Result<Form<'a>, 
     Err(FaultKind::BadLine)
 }
 
-/// Reads the words of a line, whose bytes come without its LF, on a level with so many slots.
+/// Reads the words of a line, whose bytes come without its LF, on a level with this many slots.
 ///
 /// A line is `arrive N OBJECT`, `try N OBJECT`, `finish N`, `finish N T`, `spent N T`, `cancel N`, `limit L`, `close`, `book`, `queues` or
 /// `metrics`, with one blank between its words and nothing else. N, T and L are decimal digits with no zero before another.

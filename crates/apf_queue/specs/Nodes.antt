@@ -30,7 +30,7 @@ costs_of nodes = map (λ (n : Node). n.cost) nodes
 abbrev pub alone_node : ℕ → Node
 alone_node number = record { next = number; previous = number; queue = no_queue; cost = 0 }
 
--- so many nodes, each alone and in no queue
+-- this many nodes, each alone and in no queue
 abbrev pub alone_nodes : ℕ → List Node
 alone_nodes count = map alone_node (range_with_len 0 count)
 

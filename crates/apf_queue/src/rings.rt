@@ -35,7 +35,7 @@ impl<A: Allocator> Model for Rings<A> {
         (ring_at s.requests (next_nodes s.nodes.items) s.lengths.items) };
 }
 
-// So many nodes, each alone and in no queue.
+// This many nodes, each alone and in no queue.
 fn nodes_alone<A: Allocator>(alloc: A, count: u32) -> Result<Vec<Node, A>, AllocError>
     ensures { IfOk result (λ v. v.items ≡ alone_nodes count) }
 {

@@ -7,10 +7,10 @@ use std::alloc::Global;
 use std::process::Abort;
 use std::test::Fail;
 
-// How often the two requests are pushed.
+// How many times the two requests are pushed.
 const ROUNDS: u32 = 1_000_000;
 
-// The cost of a request in a round: 1 to 20,000, and another one in each of so many rounds.
+// The cost of a request in a round: 1 to 20,000, and another one in each of this many rounds.
 fn cost_in(round: u32) -> u32 {
     1 + round.wrapping_mul(7) % 20_000
 }

@@ -1,4 +1,4 @@
-//! Many random calls, whose answers are those of plain lists, and each so many choices those of the plain
+//! Many random calls, whose answers are those of plain lists, and each this many choices those of the plain
 //! program, which computes them of the history so far.
 //!
 //! The calls are made on one level after another, so that the histories stay short enough for the plain
@@ -41,7 +41,7 @@ fn call(
     }
 }
 
-// As many calls as are made, on levels of so many queues.
+// As many calls as are made, on levels of this many queues.
 fn agree(rt: &impl Abort, alloc: Global, queues: u32) -> Result<Seen, Fail> {
     let mut random = Xorshift::new(88_172_645_463_325_252);
     let mut seen = Seen::default();

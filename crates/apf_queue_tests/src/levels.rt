@@ -24,7 +24,7 @@ pub enum Place {
     End,
 }
 
-// How often each kind of answer came.
+// How many times each kind of answer came.
 #[derive(Default, Drop)]
 pub struct Seen {
     pub pushed: u32,

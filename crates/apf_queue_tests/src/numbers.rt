@@ -134,7 +134,7 @@ impl Row<'_> {
         Ok(history)
     }
 
-    // So many new queues on which the calls so far are made, each of which answers what happened.
+    // This many new queues on which the calls so far are made, each of which answers what happened.
     fn queues(
         &self,
         rt: &impl Abort,

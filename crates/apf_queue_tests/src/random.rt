@@ -15,7 +15,7 @@ const LENGTH_LIMIT: u32 = 5;
 // So few that each is pushed again and again, with another cost.
 const REQUESTS: u32 = 64;
 
-// How often each kind of answer came.
+// How many times each kind of answer came.
 #[derive(Default, Drop)]
 struct Seen {
     pushed: u32,
@@ -44,7 +44,7 @@ impl Seen {
     }
 }
 
-// The queues, plain lists beside them, and how often each kind of answer came.
+// The queues, plain lists beside them, and how many times each kind of answer came.
 #[derive(Drop)]
 struct Both {
     queues: Checked,

@@ -12,7 +12,7 @@ pub const MOST_ROUNDS: u32 = 2_000;
 /// The same, where each is made on a level of its own.
 pub const MOST_LEVELS: u32 = 50;
 
-/// How often each order has to come before the rounds end.
+/// How many times each order has to come before the rounds end.
 pub const ENOUGH: u64 = 10;
 
 /// How many turns a loop is made that waits for what another thread is to do.
@@ -49,7 +49,7 @@ impl Start {
         }
     }
 
-    /// Waits until so many threads are ready, in at most so many turns.
+    /// Waits until this many threads are ready, in at most this many turns.
     pub fn wait_for(&self, all: u64) {
         self.ready.fetch_add(1, Ordering::SeqCst);
         for _turn in 0..1_000_000u32 {

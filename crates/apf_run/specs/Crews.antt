@@ -10,7 +10,7 @@ abbrev pub expected : {T : Type 0} → List (PromisedHandle T Share) → ℕ
 expected {T} [] = 0
 expected {T} (h ∷ hs) = h.promise.count + expected hs
 
--- what keeps so many workers from their ends: one of them could not be started, or memory was refused
+-- what keeps this many workers from their ends: one of them could not be started, or memory was refused
 abbrev pub IsCrewFault : ℕ → RunFault → Type 0
 IsCrewFault workers (Worker k) = k < workers
 IsCrewFault workers NoMemory = Unit {0}

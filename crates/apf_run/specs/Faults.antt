@@ -9,7 +9,7 @@ use Rattle.apf_run.specs.declared.fault.RunFault.{RunFault}
 use Rattle.apf_run.specs.declared.fault.RunFault.TheVariants as run
 use Rattle.apf_run.specs.Asks.{asks_of}
 
--- a gate and a level are opened for these settings and requests, with so many Stations: nothing of them is out of range
+-- a gate and a level are opened for these settings and requests, with this many Stations: nothing of them is out of range
 abbrev pub CanRun : Config → List Request → ℕ → Type 0
 CanRun config requests stations = CanOpen config (asks_of requests) stations
 

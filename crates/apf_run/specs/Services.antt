@@ -11,7 +11,7 @@ use Rattle.apf_run.specs.declared.services.Service.{Service}
 abbrev pub given_none : ℕ → Service
 given_none queue = record { queue = queue; entered = 0; service = 0 }
 
--- so many queues, in the order of their numbers, which were given nothing
+-- this many queues, in the order of their numbers, which were given nothing
 abbrev pub none_given : ℕ → List Service
 none_given queues = map given_none (range_with_len 0 queues)
 

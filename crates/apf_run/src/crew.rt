@@ -32,7 +32,7 @@ impl<K: Plan> Promise<Result<Worker<K>, AllocError>> for Share {
 
 type Handle<K> = PromisedHandle<Result<Worker<K>, AllocError>, Share>;
 
-// A worker for each Station, with memory for its share of so many requests.
+// A worker for each Station, with memory for its share of this many requests.
 fn idle<K: Plan>(
     alloc: Global,
     requests: usize,

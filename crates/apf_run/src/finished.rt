@@ -29,7 +29,7 @@ impl<K: Plan> Model for Finished<K> {
 }
 
 impl<K: Plan> Finished<K> {
-    /// Nothing yet, with memory for so many requests and Stations.
+    /// Nothing yet, with memory for this many requests and Stations.
     ///
     /// # Errors
     ///

@@ -24,7 +24,7 @@ pub struct Record {
 }
 
 impl Record {
-    /// A record of so many requests, commands and queues, all of whose memory is taken here. A request has at most one
+    /// A record of this many requests, commands and queues, all of whose memory is taken here. A request has at most one
     /// line beside those of the commands.
     ///
     /// # Errors

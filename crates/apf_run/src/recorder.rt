@@ -38,7 +38,7 @@ fn decision_of(answer: Answer) -> Option<Decision> {
 }
 
 impl<K: Naming> Recorder<K> {
-    /// The level of this opening, with memory for a script of so many commands.
+    /// The level of this opening, with memory for a script of this many commands.
     ///
     /// # Errors
     ///

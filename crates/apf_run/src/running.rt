@@ -20,7 +20,7 @@ use std::marker::Brand;
 use std::sync::Wait;
 use std::thread::Threads;
 
-/// Opens a level, brings all requests to their ends by so many workers, 1 to 64, each in a thread of its own,
+/// Opens a level, brings all requests to their ends by this many workers, 1 to 64, each in a thread of its own,
 /// and ends the level.
 ///
 /// Worker k of m handles, in their order, the requests whose numbers leave k when divided by m. Of each it

@@ -21,7 +21,7 @@ pub struct Service {
     pub service: u64,
 }
 
-/// So many queues, which were given nothing.
+/// This many queues, which were given nothing.
 ///
 /// # Errors
 ///

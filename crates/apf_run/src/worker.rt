@@ -17,7 +17,7 @@ use std::sync::Wait;
 
 /// What the requests of a run do while they execute. All workers share it.
 pub trait Work: Sync {
-    /// Does so many units of work for the request that executes. It is lent what says so: its seats stand.
+    /// Does this many units of work for the request that executes. It is lent what says so: its seats stand.
     fn work(&self, running: &Running, units: u32);
 }
 
@@ -117,7 +117,7 @@ fn handle<K: Plan, W: Work, R: Wait>(
 }
 
 impl<K: Plan> Worker<K> {
-    /// A worker with this Station, and memory for so many requests.
+    /// A worker with this Station, and memory for this many requests.
     ///
     /// # Errors
     ///

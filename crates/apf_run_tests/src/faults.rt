@@ -100,7 +100,7 @@ fn texts_of_faults(rt: HostRuntime) -> Result<(), Fail> {
     Ok(())
 }
 
-// What a run of no requests by so many workers comes to.
+// What a run of no requests by this many workers comes to.
 fn fault_of<R: Wait + Threads + Sync>(rt: &R, alloc: Global, workers: u32) -> Option<Fault>
     requires { 0 < workers }
 {

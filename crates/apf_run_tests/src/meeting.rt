@@ -10,7 +10,7 @@ use std::sync::Wait;
 use std::sync::atomic::{AtomicU64, Ordering};
 use std::thread::Threads;
 
-// So many turns a request waits for the others.
+// This many turns a request waits for the others.
 const TURNS: u32 = 100_000_000;
 
 /// Work in which a request waits until as many of its round began as there are workers.
@@ -19,7 +19,7 @@ struct Meeting {
     workers: u32,
     // How many of each round began.
     began: Vec<AtomicU64>,
-    // How often each request's work was called.
+    // How many times each request's work was called.
     calls: Vec<AtomicU64>,
     // The last request of each worker.
     last: Vec<AtomicU64>,

@@ -14,10 +14,10 @@ use std::sync::atomic::{AtomicU64, Ordering};
 use std::thread;
 use std::thread::Threads;
 
-// So many turns a thread waits for others.
+// This many turns a thread waits for others.
 const TURNS: u32 = 10_000_000;
 
-// How often requests have to enter in time. A worker that does not strike is overtaken, now and then, by the worker
+// How many times requests have to enter in time. A worker that does not strike is overtaken, now and then, by the worker
 // of the request that it cancelled, which it wakes, and which strikes its request itself.
 const ENOUGH: u32 = 5;
 
@@ -37,7 +37,7 @@ struct Patient {
     over: AtomicU64,
 }
 
-// Waits until the count is so high, in at most so many turns.
+// Waits until the count is so high, in at most this many turns.
 fn wait_for(count: &AtomicU64, least: u64) {
     for _turn in 0..TURNS {
         if count.load(Ordering::SeqCst) >= least {

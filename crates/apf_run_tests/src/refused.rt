@@ -43,7 +43,7 @@ fn told_of(fault: RunFault) -> Told {
     }
 }
 
-// What a run by so many workers answers.
+// What a run by this many workers answers.
 fn ran<R: Wait + Threads + Sync>(
     rt: &R,
     alloc: Global,

@@ -77,7 +77,7 @@ poll_adds places.Runs t width some = record { waiting = omega (arith, some); arr
 poll_adds places.Free t width some = record { waiting = omega (arith, some); arrived = omega (arith, some) }
 poll_adds places.Waits t width some = record { waiting = omega arith; arrived = omega arith }
 
--- who waits is who is counted as waiting, and so many more ever arrived
+-- who waits is who is counted as waiting, and this many more ever arrived
 record Grows (s s' : State) (n : ℕ) : Type 0 where
   waiting : s'.tally.waiting ≡ sum_by waits_in (slots_of s'.level)
   arrived : arrived_in s'.tally ≡ arrived_in s.tally + n

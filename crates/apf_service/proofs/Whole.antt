@@ -21,7 +21,7 @@ answered_from setup name input old new held holds view next same opening a whole
   answered = subst (λ (n : List ℕ). AnswersAll n 1 a.lines a.answers old new) same a.answered;
 }
 
--- so many lines, and the number of the next
+-- this many lines, and the number of the next
 told_next : (next count : ℕ) → next ≡ told (1 + count) → next ≡ told (count + 1)
 told_next next count is = is ∙ ap told (omega arith)
 

@@ -20,7 +20,7 @@ IsPipeFault CannotWrite = ⊤
 IsPipeFault NoMemory = ⊥
 IsPipeFault (Open fault) = ⊥
 
--- the first fault of the opening of a level with these settings and so many slots; or what may come at any time
+-- the first fault of the opening of a level with these settings and this many slots; or what may come at any time
 abbrev pub IsServeFault : Config → ℕ → ServeFault → Type 0
 IsServeFault config slots (Open fault) = (fault ≢ opens.NoMemory) × IsOpenFault config slots fault
 IsServeFault config slots CannotRead = ⊤

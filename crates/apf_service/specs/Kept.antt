@@ -65,7 +65,7 @@ is_there held = is_there_at held.place
 abbrev pub given_none : ℕ → Given
 given_none queue = record { queue = queue; waiting = 0; entered = 0; service = 0 }
 
--- so many queues, in the order of their numbers, which were given nothing
+-- this many queues, in the order of their numbers, which were given nothing
 abbrev pub none_given : ℕ → List Given
 none_given queues = map given_none (range_with_len 0 queues)
 

@@ -88,7 +88,7 @@ pub record AreEventsFrom (from : ℕ) (kept : ℕ) (v : LifeView) (log : List Li
   pub events : map event_of log ≡ drop (max from (length v.history - kept)) (reverse v.history)
   pub next_is : next ≡ max from (length v.history)
 
--- of each history that the level is of, of fewer than 2^64 events, these are the new events, as far as they are kept; and there is one (`lived`)
+-- for each history that the level is of, of fewer than 2^64 events, these are the new events, as far as they are kept; and there is one (`lived`)
 pub record AreNewEvents (l : LocalView) (from : ℕ) (log : List LifeEvent) (next : ℕ) : Type 0 where
   pub lived : IsLived l.owner.book
   pub of_each : (v : LifeView) → IsLifeKept v l.owner.book → length v.history < 2 ^ 64 → AreEventsFrom from l.owner.book.notes.capacity v log next

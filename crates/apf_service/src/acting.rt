@@ -92,7 +92,7 @@ pub fn arrive(
 {
     level.has_a_history();
     let asked = asked_by(notes, arrival);
-    // its number says how often the slot was given, which is less than 2^46 times
+    // its number says how many times the slot was given, which is less than 2^46
     let _request = level.ticket(slot as usize);
     let (answer, event) = level.arrive(slot as usize, ask_for(arrival, asked));
     notes.tally = after_arrival(notes.tally, arrival.ask.width, answer);

@@ -7,7 +7,7 @@ use apf_book::{Charge, LifeEvent};
 use apf_protocol::Given;
 use std::alloc::{AllocError, Global};
 
-/// So many queues, which were given nothing.
+/// This many queues, which were given nothing.
 ///
 /// # Errors
 ///

@@ -88,7 +88,7 @@ fn has_request(place: Place) -> bool
 }
 
 impl Service {
-    /// A level with these settings and so many slots, at most 10,000, under a name that its metrics have, and charged so.
+    /// A level with these settings and this many slots, at most 10,000, under a name that its metrics have, and charged so.
     /// All memory of the level is taken here.
     ///
     /// # Errors

@@ -87,7 +87,7 @@ fn flush<O: Write>(out: &mut O) -> Result<(), ServeFault>
     written(out.flush())
 }
 
-/// Opens a level with so many slots, 1 to 10,000, whose requests are charged so, and carries out the lines of the input, in one thread, to its end. At
+/// Opens a level with this many slots, 1 to 10,000, whose requests are charged so, and carries out the lines of the input, in one thread, to its end. At
 /// the end the book is written, and the level is given up with all who are there still. What was answered is handed to the
 /// system before the input is read again.
 ///

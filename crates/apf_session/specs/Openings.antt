@@ -29,7 +29,7 @@ level_with gate cell config asks costs = record { gate = gate; opening = opening
 abbrev pub IsNew : GateId → StationToken → Type 0
 IsNew gate s = (station_gate s ≡ gate) × (s.station.knows.trace ≡ [])
 
--- the shape of a gate for these settings and requests, with so many Stations
+-- the shape of a gate for these settings and requests, with this many Stations
 abbrev pub shape_for : Config → List Ask → ℕ → Shape
 shape_for config asks stations = shape_of config.limit config.limit_response (map (λ (a : Ask). a.width) asks) stations
 

@@ -29,7 +29,7 @@ impl Model for Follower {
 }
 
 impl Follower {
-    /// Of the log of a level with so many requests, of which nothing was read. A log has at most two events a request.
+    /// Of the log of a level with this many requests, of which nothing was read. A log has at most two events a request.
     ///
     /// # Errors
     ///

@@ -49,7 +49,7 @@ pub struct Opening<'a> {
 }
 
 impl<'a> Opening<'a> {
-    /// The gate of a level of these requests, 10,000 at most, with so many Stations, 64 at most.
+    /// The gate of a level of these requests, 10,000 at most, with this many Stations, 64 at most.
     ///
     /// # Errors
     ///

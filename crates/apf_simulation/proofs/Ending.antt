@@ -1,4 +1,4 @@
--- What became of the first so many requests, and of one more.
+-- What became of the first this many requests, and of one more.
 use Rattle.std.proofs.Common.{◌≡◌, false, ℕ, zero, suc, ◌<◌, List, [], ◌∷◌, ◌++◌, length, take, get_or, add-one, refl, sym, ap, ◌∙◌, subst, ◌+◌, arith}
 use Rattle.std.specs.List.{AllByRecursion}
 use Rattle.apf_words.specs.declared.decision.Decision.{Decision}

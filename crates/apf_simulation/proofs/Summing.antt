@@ -107,7 +107,7 @@ flows_below n patience (f ∷ fs) (d ∷ ds) (t ∷ ts) (c ∷ cs) h =
     let is = flow_of patience f d t c.seats in
     (omega arith, flows_below n patience fs ds ts cs (λ i b. h (suc i) (omega arith)))
 
--- the sum over so many flows, from this one on
+-- the sum over this many flows, from this one on
 abbrev flows_sum : (End → ℕ) → ℕ → ℕ → List End → ℕ
 flows_sum of f zero es = 0
 flows_sum of f (suc n) es = in_flow of f es + flows_sum of (suc f) n es

@@ -4,7 +4,7 @@ use Rattle.apf_traces.specs.declared.request.TraceRequest.{TraceRequest}
 use Rattle.apf_simulation.specs.declared.end.End.{End}
 use Rattle.apf_simulation.specs.declared.whole.Whole.{Whole}
 
--- so many, from a time on, for so long
+-- this many, from a time on, for so long
 pub record Span : Type 0 where
   pub from : ℕ
   pub length : ℕ

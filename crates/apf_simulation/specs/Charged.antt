@@ -22,7 +22,7 @@ pub record Charged : Type 0 where
 abbrev pub charged_in : Charges → Notes → Charged
 charged_in charges notes = record { costs = notes.costs.items; charges = charges }
 
--- no request arrived, of so many
+-- no request arrived, of this many
 abbrev pub nothing_charged : ChargedBy → ℕ → Charged
 nothing_charged by requests = record { costs = replicate requests 0; charges = opening_charges by }
 

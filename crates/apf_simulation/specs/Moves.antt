@@ -42,7 +42,7 @@ pub record Terms : Type 0 where
 abbrev pub terms_of : LocalView → Terms
 terms_of l = record { kept = length l.owner.book.queues.running; widths = l.owner.gate.shape.widths }
 
--- what is kept of a slot, where it is one of so many
+-- what is kept of a slot, where it is one of this many
 abbrev pub kept_of : (kept slot : ℕ) → Option Charge → Option Charge
 kept_of kept slot charge = if nat_lt slot kept then charge else None
 

@@ -18,7 +18,7 @@ pub struct Notes {
 }
 
 impl Notes {
-    /// Of so many requests, of which nothing is noted.
+    /// Of this many requests, of which nothing is noted.
     ///
     /// # Errors
     ///

@@ -88,7 +88,7 @@ impl Watch {
         Watch { followed: None }
     }
 
-    /// It follows a level with this many queues, of so many requests, to which nothing happened yet. Its memory is taken here.
+    /// It follows a level with this many queues, of this many requests, to which nothing happened yet. Its memory is taken here.
     ///
     /// # Errors
     ///

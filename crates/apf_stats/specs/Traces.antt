@@ -30,7 +30,7 @@ GoesOn trace who saw = (later : List Entry) × (later ++ saw ≡ trace) × NoneO
 abbrev pub IsNext : ℕ → Option (List ℕ) → List Entry → List Entry → Type 0
 IsNext who published saw trace = (later : List Entry) × (trace ≡ entry who published ∷ (later ++ saw)) × NoneOf who later
 
--- each step is of one of so many passes; the first of them alone publishes; and no number goes down
+-- each step is of one of this many passes; the first of them alone publishes; and no number goes down
 abbrev pub AreMade : ℕ → List Entry → Type 0
 AreMade count [] = Unit {0}
 AreMade count (newest ∷ trace) = (newest.by < count) × (newest.published ≢ None → newest.by ≡ 0)

@@ -9,7 +9,7 @@ use apf_stats::{Board, Stats, StatsPass, Window, open};
 use std::sync::Wait;
 use std::thread::{Threads, join_mut};
 
-// How often the numbers are published and read.
+// How many times the numbers are published and read.
 const TIMES: u32 = 10_000;
 
 #[test]
@@ -55,7 +55,7 @@ fn what_was_published(rt: HostRuntime) {
     assert_eq!(rt; window.stats(&rt, &mut pass), stats(2, 1, 1, 3, 0));
 }
 
-// The numbers after so many requests, each of which entered and was struck at once.
+// The numbers after this many requests, each of which entered and was struck at once.
 fn all_struck(requests: u32) -> Stats
     ensures entered { result.entered ≡ requests }
     ensures dispatched { result.dispatched ≡ 0 }

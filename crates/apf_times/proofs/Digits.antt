@@ -7,7 +7,7 @@ use Rattle.std.proofs.lemmas.Nat.{leading_length, pow_pos, pow-add, shr_split, m
 use Rattle.apf_times.specs.Limits.{max_wait}
 use Rattle.apf_times.specs.Waits.{digits_behind, shortened, place_of, max_places}
 
--- These are its first digits, with so many behind them. They are eight, or fewer with none behind them.
+-- These are its first digits, with this many behind them. They are eight, or fewer with none behind them.
 pub record HasDigits (n behind first : ℕ) : Type 0 where
   pub low : first * 2 ^ behind ≤ n
   pub high : n < first * 2 ^ behind + 2 ^ behind

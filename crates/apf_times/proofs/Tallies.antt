@@ -161,7 +161,7 @@ module _ (percent : ℕ) (ws : List ℕ) (v : TallyView) (counted : AreCounted w
       let lower = no_lower has.0 has.1 low in
       let early = place_early has.0 (wait_in_range percent ws counted.in_range has.0 has.1) in omega arith
 
--- so many percent of one or more are one or more
+-- this many percent of one or more are one or more
 pub some_rank : (percent total rank : ℕ) → 1 ≤ percent → total ≢ 0 → rank ≡ div_ceil (percent * total) 100 → 0 < rank
 some_rank percent total rank some full is = let one = mul-le-mul_right total some in omega arith
 

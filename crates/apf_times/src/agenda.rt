@@ -32,7 +32,7 @@ impl<A: Allocator> Model for Agenda<A> {
 }
 
 impl<A: Allocator> Agenda<A> {
-    /// Nothing is due, and it is time 0. There is room for so many at once.
+    /// Nothing is due, and it is time 0. There is room for this many at once.
     ///
     /// # Errors
     ///

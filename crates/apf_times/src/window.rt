@@ -42,7 +42,7 @@ impl From<AllocError> for WindowError {
     }
 }
 
-/// What came, until so many more came. It hands out the first of them once it holds more than its size, so
+/// What came, until this many more came. It hands out the first of them once it holds more than its size, so
 /// what comes may be late by as many places. It takes memory for what it holds, and for no more.
 #[derive(Drop)]
 pub struct Window<T: Drop, A: Allocator> {

@@ -123,7 +123,7 @@ fn agree(
     Ok(())
 }
 
-// A wait of up to so many binary digits.
+// A wait of up to this many binary digits.
 fn draw(random: &mut Xorshift, digits: u32) -> u64 {
     let length = random.below(digits.saturating_add(1)).min(63);
     (random.next() % (1u64 << length)).min(MOST_WAIT)

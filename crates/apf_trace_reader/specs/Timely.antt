@@ -20,7 +20,7 @@ place_of number e = record { arrives_at = e.arrives_at; line = number }
 abbrev pub number_after : Place → List Place → ℕ
 number_after place places = count_by (λ other. precedes place other) places
 
--- the request, unless its place is before more than so many of these
+-- the request, unless its place is before more than this many of these
 abbrev pub in_time : ℕ → List Place → ℕ → Entry → Result Entry TraceFault
 in_time size earlier number e = demand (TooLate number) (nat_le (number_after (place_of number e) earlier) size) >>= λ timely. Ok e
 
@@ -34,6 +34,6 @@ requests_from size earlier number [] = Ok []
 requests_from size earlier number (line ∷ lines) =
     judged_after size earlier number line >>= λ e. with_front (e ∷ []) (requests_from size (earlier ++ place_of number e ∷ []) (number + 1) lines)
 
--- the requests of a trace of which a line may come so many places late, or its first fault
+-- the requests of a trace of which a line may come this many places late, or its first fault
 unfoldable pub requests_of : ℕ → List ℕ → Result (List Entry) TraceFault
 requests_of size bytes = requests_from size [] 1 (lines_of bytes)

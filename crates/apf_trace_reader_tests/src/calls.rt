@@ -32,7 +32,7 @@ pub fn next<R: Read>(reader: &mut TraceReader, input: &mut R) -> Told {
     }
 }
 
-/// All that is answered of this input, where lines may come so many places late, up to the end or a fault.
+/// All that is answered of this input, where lines may come this many places late, up to the end or a fault.
 pub fn told_of<R: Read>(alloc: Global, size: usize, input: &mut R) -> Result<Vec<Told>, Fail> {
     let mut reader = TraceReader::new(alloc, size)?;
     let mut all = Vec::new(alloc);

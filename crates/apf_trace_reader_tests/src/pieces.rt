@@ -3,7 +3,7 @@
 use std::io;
 use std::io::{ErrorKind, Read};
 
-/// It gives at most so many bytes at a time. One read fails.
+/// It gives at most this many bytes at a time. One read fails.
 #[derive(Drop)]
 pub struct Pieces<'a> {
     left: &'a [u8],
@@ -14,7 +14,7 @@ pub struct Pieces<'a> {
 }
 
 impl<'a> Pieces<'a> {
-    /// It gives these bytes, at most so many at a time.
+    /// It gives these bytes, at most this many at a time.
     pub fn new(bytes: &'a [u8], each: usize) -> Pieces<'a> {
         Pieces::failing(bytes, each, 0, ErrorKind::Other)
     }

@@ -46,7 +46,7 @@ judged_text number line = do
   ended ← demand (Truncated number) line.is_ended
   Ok entry
 
--- the request that the line of this number is, or its first fault, where a trace has at most so many lines
+-- the request that the line of this number is, or its first fault, where a trace has at most this many lines
 abbrev pub judged_within : ℕ → ℕ → Line → Result Entry TraceFault
 judged_within most number line = demand (TooMany number) (nat_le number most) >>= λ few. judged_text number line
 

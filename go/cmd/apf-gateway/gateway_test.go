@@ -147,7 +147,7 @@ func soon[T any](t *testing.T, from <-chan T) (it T) {
 	return it
 }
 
-// counts waits until the gateway has counted so many requests with this status.
+// counts waits until the gateway has counted this many requests with this status.
 func counts(t *testing.T, g *gateway, code string, count int) {
 	t.Helper()
 	want := fmt.Sprintf("apf_gateway_requests_total{code=%q} %d\n", code, count)

@@ -53,7 +53,7 @@ func main() {
 	flags.StringVar(&o.trust, "trust", "127.0.0.1", "the `addresses` whose flow header and X-Seats are believed")
 	flags.DurationVar(&o.patience, "patience", 15*time.Second, "how long a request may wait for its seats")
 	flags.DurationVar(&o.runLimit, "run-limit", time.Minute, "how long a request may run, and its body may take to come")
-	flags.Func("body-buffer", "so many `bytes` of a body are read before it asks for seats (1MiB)", o.setBodyBuffer)
+	flags.Func("body-buffer", "this many `bytes` of a body are read before it asks for seats (1MiB)", o.setBodyBuffer)
 	flags.DurationVar(&o.drain, "drain", 30*time.Second, "how long what runs may take to end once the gateway is stopped")
 	flags.StringVar(&o.cert, "cert", "", "the `file` of the certificate, for HTTPS and HTTP/2")
 	flags.StringVar(&o.key, "key", "", "the `file` of the certificate's key")

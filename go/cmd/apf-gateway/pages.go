@@ -118,7 +118,7 @@ func (j *journal) metrics(level string, restarts int) string {
 	for code, count := range j.codes {
 		fmt.Fprintf(&text, "apf_gateway_requests_total{code=\"%d\"} %d\n", code, count)
 	}
-	fmt.Fprintf(&text, head, "apf_gateway_level_restarts_total", "counter", "How often the level was started again.")
+	fmt.Fprintf(&text, head, "apf_gateway_level_restarts_total", "counter", "How many times the level was started again.")
 	fmt.Fprintf(&text, "apf_gateway_level_restarts_total %d\n", restarts)
 	return text.String()
 }

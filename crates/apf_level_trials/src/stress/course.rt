@@ -114,7 +114,7 @@ fn run_named<K: Naming, R: Threads + Wait + Sync>(
     })
 }
 
-/// Opens the level of a seed with so many requests, brings them to their ends in eight threads, and ends it.
+/// Opens the level of a seed with this many requests, brings them to their ends in eight threads, and ends it.
 ///
 /// # Errors
 ///

@@ -132,7 +132,7 @@ impl<K: Naming> Gathered<K> {
     }
 }
 
-/// What is left of the threads of so many requests.
+/// What is left of the threads of this many requests.
 ///
 /// # Errors
 ///

@@ -39,7 +39,7 @@ fn hands_of(alloc: Global, dealer: &Dealer, asks: &[Ask]) -> Result<Vec<u32>, Al
     Ok(hands)
 }
 
-// The oldest events of the log, so many at most, as a history: the newest first.
+// The oldest events of the log, this many at most, as a history: the newest first.
 fn oldest(alloc: Global, log: &[Event], most: usize) -> Result<Vec<Event>, AllocError> {
     let count = log.len().min(most);
     let mut history = log[..count].to_vec(alloc)?;
@@ -140,7 +140,7 @@ fn adds_up(alloc: Global, report: &Report, requests: usize) -> Result<bool, Allo
     Ok(sum == requests as u64)
 }
 
-/// What the plain program says of the level, by so many of its oldest events, or `None` if it can't judge them.
+/// What the plain program says of the level, by this many of its oldest events, or `None` if it can't judge them.
 ///
 /// # Errors
 ///

@@ -34,7 +34,7 @@ impl Random {
         self.next() % end
     }
 
-    /// True once in so many times.
+    /// True once in this many times.
     pub fn is_one_in(&mut self, times: u64) -> bool
         requires { 0 < times }
     {

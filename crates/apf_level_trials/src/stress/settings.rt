@@ -53,7 +53,7 @@ fn hash(seed: u64, random: &mut Random) -> u64 {
     Random::new(seed, FLOWS_PART + flow).next()
 }
 
-/// What so many requests ask.
+/// What this many requests ask.
 ///
 /// # Errors
 ///

@@ -32,7 +32,7 @@ pub struct Stage<'a, K: Naming> {
 }
 
 impl<'a, K: Naming> Stage<'a, K> {
-    /// The level with its requests, which is closed once so many of them arrived, if it is. Nobody is ready yet.
+    /// The level with its requests, which is closed once this many of them arrived, if it is. Nobody is ready yet.
     pub fn new(
         alloc: Global,
         level: &'a Level<K>,
@@ -61,7 +61,7 @@ impl<'a, K: Naming> Stage<'a, K> {
         }
     }
 
-    /// A request near those that arrived last, if there is any: 128 numbers before them, and so many after that.
+    /// A request near those that arrived last, if there is any: 128 numbers before them, and this many after that.
     pub fn pick(&self, later: u64) -> Option<u32>
         ensures { IfSome result (λ r. r < length K.level.gate.shape.widths) }
     {
@@ -93,7 +93,7 @@ impl<'a, K: Naming> Stage<'a, K> {
         self.closed.load(Ordering::SeqCst) == 1
     }
 
-    /// Waits until all threads are ready, in at most so many turns.
+    /// Waits until all threads are ready, in at most this many turns.
     pub fn wait_for_all(&self) {
         self.ready.fetch_add(1, Ordering::SeqCst);
         for _turn in 0..1_000_000u32 {

@@ -238,7 +238,7 @@ impl<K: Naming> Worker<K> {
         let _ = self.dones.push(request.end(rt, stage.level));
     }
 
-    // Whether its next request arrives now, beside so many: by turns many are on their way at once, or one after a
+    // Whether its next request arrives now, beside this many: by turns many are on their way at once, or one after a
     // while.
     fn is_ready(&mut self, beside: usize) -> bool {
         if self.passes.len() / TURN % 4 == 0 {

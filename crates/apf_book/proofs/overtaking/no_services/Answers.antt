@@ -1,4 +1,4 @@
--- Each of so many zeros is 0, and past the end there is none.
+-- Each of this many zeros is 0, and past the end there is none.
 use Rattle.std.proofs.Common.{◌≡◌, ℕ, inl, inr, length, slice_index, arith}
 use Rattle.std.proofs.Math.ListN.{replicate, get_or-eq_default}
 use Rattle.std.proofs.lemmas.Bool.{cases_lt}

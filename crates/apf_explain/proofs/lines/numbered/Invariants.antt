@@ -1,4 +1,4 @@
--- So many lines are before the one that is sought.
+-- This many lines are before the one that is sought.
 use Rattle.std.proofs.Common.{◌≡◌, ◌-◌, length}
 use Rattle.apf_traces.specs.TraceFile.{lines_of}
 use Rattle.apf_explain.specs.TraceLines.{nth_line}

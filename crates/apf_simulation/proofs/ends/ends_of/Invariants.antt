@@ -1,4 +1,4 @@
--- What became of the first so many requests.
+-- What became of the first this many requests.
 use Rattle.std.proofs.Common.{◌≡◌, take}
 use Rattle.std.specs.List.{AllByRecursion}
 use Rattle.apf_simulation.specs.Ends.{IsSmall, ends_of}

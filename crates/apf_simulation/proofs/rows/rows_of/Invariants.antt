@@ -1,4 +1,4 @@
--- The rows of the first so many flows.
+-- The rows of the first this many flows.
 use Rattle.std.proofs.Common.{take}
 use Rattle.apf_simulation.specs.Rows.{AreRows}
 use Rattle.apf_simulation.proofs.rows.rows_of.Given as goal

@@ -1,4 +1,4 @@
--- Each of so many zeros is 0, and past the end there is none.
+-- Each of this many zeros is 0, and past the end there is none.
 use Rattle.std.proofs.Common.{ap, ◌∙◌, List, ℕ}
 use Rattle.std.specs.Prelude.{slice_index, ◌*◌, ◌+◌}
 use Rattle.apf_bound.specs.Pairs.{cell}

@@ -1,0 +1,1 @@
+-- Which flows have a row.

@@ -141,7 +141,7 @@ fn explains(rt: HostRuntime) {
             alloc: rt.alloc(),
             config: "{\"limit\":0}",
             requests: "",
-            script: \"\",
+            script: "",
             rest: &[],
         };
         check(&rt, files, words, is_terminal, 1, "", err);

@@ -1,2 +1,4 @@
-pub mod Sums
+pub mod Summing
 pub mod Keeping
+pub mod Meeting
+pub mod Flows

@@ -53,7 +53,7 @@ pub record AreRows (told : List Ended) (v : RowsView) : Type 0 where
 -- the row has the first line of its flow, and its names
 pub record IsNamed (came : List (Arrival TraceRequest)) (r : Row) : Type 0 where
   pub first : Arrival TraceRequest
-  pub came : Contains came first
+  pub among : Contains came first
   pub flow : first.item.hash ≡ r.hash
   pub line : first.place.line ≡ r.first
   pub names : names_text r.names ≡ names_text first.item.names
@@ -80,3 +80,5 @@ pub record AreRowsKept (v : RowsView) : Type 0 where
   pub few : length v.flows ≤ max_flows
   pub distinct : IsDistinct nat_eq v.flows
   pub full : length v.flows < max_flows → v.others.sums.requests ≡ 0
+  pub below : All (λ (r : Row). r.account.sums.requests ≤ v.all.sums.requests) v.rows
+  pub below_others : v.others.sums.requests ≤ v.all.sums.requests

@@ -1,8 +1,10 @@
 //! What requests came to, with how long those that were executed waited.
 
-ghost use Rattle.std.specs.Prelude.{◌≡◌, ◌+◌, ◌-◌, ◌^◌, ◌<◌, [], ◌∷◌, ◌++◌, List, OnOk, OnErr};
+ghost use Rattle.std.specs.Prelude.{◌≡◌, ℕ, ◌+◌, ◌-◌, ◌^◌, ◌<◌, ◌≤◌, [], ◌∷◌, ◌++◌, List, OnOk, OnErr};
+ghost use Rattle.apf_times.specs.Limits.{max_wait};
+ghost use Rattle.apf_times.specs.Waits.{AreKept, number};
 ghost use Rattle.apf_stream.specs.declared.ended.Ended.{Ended as EndedOf};
-ghost use Rattle.apf_rows.specs.Accounts.{AreFigures, IsAccount, IsInReach};
+ghost use Rattle.apf_rows.specs.Accounts.{AreFigures, IsAccount, IsInReach, before, executed_wait};
 
 use crate::sums::{Sums, wait};
 use apf_stream::Ended;
@@ -40,6 +42,23 @@ pub struct Figures {
     pub is_exact: bool,
 }
 
+// Adds the wait of a request that was decided so, if it was executed.
+fn note(waits: &mut Waits<Global>, decision: Decision, wait: u64) -> Result<(), AllocError>
+    requires in_range { wait ≤ max_wait }
+    requires room { number waits.old < 2 ^ 64 - 1 }
+    ensures kept { OnOk result ((others : List ℕ) → AreKept others waits.old → AreKept (before (executed_wait decision wait) others) waits.new) }
+    ensures unchanged { OnErr result (waits.new ≡ waits.old) }
+{
+    match decision {
+        Decision::Execute => {
+            waits.add(wait)?;
+            Ok(())
+        }
+        Decision::QueueFull | Decision::Closed | Decision::Cancelled | Decision::ConcurrencyLimit =>
+            Ok(()),
+    }
+}
+
 impl Account {
     /// Of no requests. No memory is taken.
     pub fn new(alloc: Global) -> Account
@@ -70,9 +89,7 @@ impl Account {
         ensures requests { OnOk result (self.new.sums.requests ≡ self.old.sums.requests + 1) }
         ensures unchanged { OnErr result (self.new ≡ self.old) }
     {
-        if ended.decision == Decision::Execute {
-            self.waits.add(wait(ended))?;
-        }
+        note(&mut self.waits, ended.decision, wait(ended))?;
         self.sums = self.sums.with(ended);
         Ok(())
     }

@@ -7,11 +7,13 @@
 #![tactic(auto)]
 
 mod account;
+mod laws;
 mod row;
 mod rows;
 mod sums;
 
 pub use account::{Account, Figures};
+pub use laws::every_flow_is_met;
 pub use row::Row;
 pub use rows::{MOST_FLOWS, Rows};
 pub use sums::Sums;

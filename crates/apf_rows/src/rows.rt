@@ -65,12 +65,8 @@ impl Rows {
     {
         self.rows.reserve(1)?;
         let row = Row::of(self.alloc, came)?;
-        if self.flows.insert(came.item.hash).is_err() {
-            return Err(AllocError);
-        }
-        if self.rows.push(row).is_err() {
-            unreachable!()
-        }
+        self.flows.insert(came.item.hash)?;
+        self.rows.push(row)?;
         Ok(())
     }
 
@@ -85,13 +81,14 @@ impl Rows {
         ensures rows { (told : List EndedOf) → AreRows told self.old → AreRows told self.new }
         ensures all { self.new.all ≡ self.old.all }
     {
-        if let Some(place) = self.flows.get_index_of(&came.item.hash) {
-            return self.rows[place].meet(came);
+        match self.flows.get_index_of(&came.item.hash) {
+            Some(place) => {
+                self.rows[place].meet(came)?;
+                Ok(())
+            }
+            None if self.flows.len() < MOST_FLOWS => self.begin(came),
+            None => Ok(()),
         }
-        if self.flows.len() < MOST_FLOWS {
-            return self.begin(came);
-        }
-        Ok(())
     }
 
     /// A request was told, whose flow came. There are at most 2^64 - 1.
@@ -109,8 +106,9 @@ impl Rows {
     {
         self.all.add(ended)?;
         match self.flows.get_index_of(&ended.hold.asked.hash) {
-            Some(place) => self.rows[place].account.add(ended),
-            None => self.others.add(ended),
+            Some(place) => self.rows[place].account.add(ended)?,
+            None => self.others.add(ended)?,
         }
+        Ok(())
     }
 }

@@ -3,6 +3,7 @@ use Rattle.std.proofs.Common.{◌≡◌, ◌≢◌, ℕ, ◌<◌, inl, inr, List
 use Rattle.std.specs.Prelude.{slice_get}
 use Rattle.std.specs.List.{AllByRecursion}
 use Rattle.std.proofs.lemmas.Bool.{cases_eq}
+use Rattle.std.proofs.lemmas.Option.{slice_get_within}
 use Rattle.std.proofs.lemmas.List.{append-nil}
 use Rattle.std.proofs.lemmas.List.Elements.{Contains-append_left, Contains-append_right}
 use Rattle.apf_words.specs.declared.decision.Decision.{Decision}
@@ -138,7 +139,7 @@ more_come : (came more : List Asked) (s : State) (told : List Ended) → Come ca
 more_come came more s told c = record { there = more_of came more s c.there; asked = more_asked came more told c.asked }
 
 last : (came : List Asked) (a : Asked) → Contains (came ++ a ∷ []) a
-last came a = Contains-append_right came (a ∷ []) a (inl refl)
+last came a = Contains-append_right came (a ∷ []) a (0, omega arith, refl)
 
 deed_come : (came : List Asked) (d : Deed) (s s' : State) (told : List Ended) → IsDeed d s s' told → AreTied s → AreOf came s → Come (came ++ arrivals (d ∷ [])) s' told
 deed_come came (Arrive slot a) s s' told r tied all = by_answer (came ++ a ∷ []) slot a s s' told r tied (more_of came (a ∷ []) s all) (last came a) r.answer r.follows

@@ -30,5 +30,5 @@ mod telling;
 mod traces;
 
 pub use apf_commands::{Action, Arguments, Chosen, read_patience, read_words};
-pub use files::{Cause, FileFault, Files};
+pub use files::{Cause, FileFault, Files, cause_of};
 pub use program::act;

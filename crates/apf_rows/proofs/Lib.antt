@@ -1,0 +1,4 @@
+pub mod Summing
+pub mod Keeping
+pub mod Meeting
+pub mod Flows

@@ -71,7 +71,7 @@ away_more events e v away are = record {
     go flow (Some runs) is kept = (ap (is_among flow) own ∙ kept.0, subst (λ rs. AreKept rs runs) (sym (same (Some flow))) kept.1)
 
 module _ (events : List Event) (e : Event) (old new : EstimatesView) (here : e.turned_away ≡ false) (short : length events < 2 ^ 64 - 1) (are : AreEstimates events old)
-  (all : KeepsMore e.runs_for old.all new.all) (keeps : KeepsOwn e.flow e.runs_for old.of_flow new.of_flow) where
+    (all : KeepsMore e.runs_for old.all new.all) (keeps : KeepsOwn e.flow e.runs_for old.of_flow new.of_flow) where
   abbrev flows_before : List (List ℕ)
   flows_before = own_from [] events
 

@@ -17,7 +17,7 @@ pub fn arrives_at(received: u64, line: u64, start: u64) -> Result<u64, AuditFaul
 {
     let arrives_at = received.saturating_sub(start);
     if arrives_at > MOST_ARRIVES_AT {
-        return Err(AuditFault::BadArrival(line));
+        return Err(AuditFault::BadArrival(line, arrives_at));
     }
     Ok(arrives_at)
 }

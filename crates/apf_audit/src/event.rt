@@ -259,9 +259,7 @@ fn taken_of(
     if !choice.has(user, received) {
         return Ok(Outcome::LeftOut);
     }
-    Ok(Outcome::Chosen(ran_at(
-        alloc, value, line, received, flow,
-    )?))
+    Ok(Outcome::Chosen(ran_at(alloc, value, line, received, flow)?))
 }
 
 /// What the value of line `line` gives.

@@ -40,9 +40,9 @@ pub enum AuditFault {
     /// 8: the run is below 0, or above 10,000,000,000 microseconds.
     #[error("bad run")]
     BadRun(u64),
-    /// 10: the request arrives more than 1,000,000,000,000 microseconds after the first one.
+    /// 10: the line's request arrives this many microseconds after the first one, more than 1,000,000,000,000.
     #[error("arrives too late")]
-    BadArrival(u64),
+    BadArrival(u64, u64),
     /// 11: memory was refused.
     #[error("out of memory")]
     NoMemory,
@@ -66,7 +66,7 @@ impl AuditFault {
             AuditFault::BadStage(_) => 6,
             AuditFault::BadWait(_) => 7,
             AuditFault::BadRun(_) => 8,
-            AuditFault::BadArrival(_) => 10,
+            AuditFault::BadArrival(_, _) => 10,
             AuditFault::BadNamespace(_) => 12,
             AuditFault::NoMemory => 11,
             AuditFault::TooLate(_) => 13,
@@ -87,7 +87,7 @@ impl AuditFault {
             | AuditFault::BadStage(line)
             | AuditFault::BadWait(line)
             | AuditFault::BadRun(line)
-            | AuditFault::BadArrival(line)
+            | AuditFault::BadArrival(line, _)
             | AuditFault::TooLate(line) => Some(line),
             AuditFault::NoMemory => None,
         }

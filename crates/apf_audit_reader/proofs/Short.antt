@@ -40,14 +40,16 @@ module _ (choice : Choice) (size : ℕ) where
   -- where the lines are few
   alike : (so_far : List Event) (number : ℕ) (lines : List Line) → length so_far + length lines ≤ size → read_from choice size so_far number lines ≡ with_front so_far (events_from choice number lines)
   alike so_far number [] few = ap Ok (sym (append-nil so_far))
-  alike so_far number (line ∷ lines) few = go (judged_line choice number line)
+  alike so_far number (line ∷ lines) few =
+      go (judged_line choice number line) (λ given. alike (so_far ++ option_to_list given) (number + 1) lines (let more = longer so_far given in omega (arith, more, few)))
     where
       go : (r : Result (Option Event) AuditFault)
+          → ((given : Option Event) → read_from choice size (so_far ++ option_to_list given) (number + 1) lines ≡ with_front (so_far ++ option_to_list given) (events_from choice (number + 1) lines))
           → ((r >>= in_time size so_far) >>= λ given. read_from choice size (so_far ++ option_to_list given) (number + 1) lines) ≡ with_front so_far (before_taken r (events_from choice (number + 1) lines))
-      go (Err fault) = refl
-      go (Ok given) =
+      go (Err fault) rest = refl
+      go (Ok given) rest =
           ap (λ (r : Result (Option Event) AuditFault). r >>= λ x. read_from choice size (so_far ++ option_to_list x) (number + 1) lines) (timely size so_far given (omega arith))
-          ∙ alike (so_far ++ option_to_list given) (number + 1) lines (let more = longer so_far given in omega (arith, more, few))
+          ∙ rest given
           ∙ with_more so_far given (events_from choice (number + 1) lines)
 
   -- where the requests are few, and differs line has a fault
@@ -60,16 +62,20 @@ module _ (choice : Choice) (size : ℕ) where
   alike_good so_far number [] es is few =
       let none : es ≡ [] = cc in
       ap Ok (sym (append-nil so_far) ∙ ap (λ (l : List Event). so_far ++ l) (sym none))
-  alike_good so_far number (line ∷ lines) es is few = go (judged_line choice number line) is
+  alike_good so_far number (line ∷ lines) es is few =
+      go (judged_line choice number line) (λ given others. alike_good (so_far ++ option_to_list given) (number + 1) lines others) is
     where
-      go : (r : Result (Option Event) AuditFault) → before_taken r (events_from choice (number + 1) lines) ≡ Ok es
+      go : (r : Result (Option Event) AuditFault)
+          → ((given : Option Event) (others : List Event) → events_from choice (number + 1) lines ≡ Ok others → length (so_far ++ option_to_list given) + length others ≤ size
+          → read_from choice size (so_far ++ option_to_list given) (number + 1) lines ≡ Ok ((so_far ++ option_to_list given) ++ others))
+          → before_taken r (events_from choice (number + 1) lines) ≡ Ok es
           → ((r >>= in_time size so_far) >>= λ given. read_from choice size (so_far ++ option_to_list given) (number + 1) lines) ≡ Ok (so_far ++ es)
-      go (Err fault) differs = absurd cc
-      go (Ok given) yes =
-          let rest = rest_of given (events_from choice (number + 1) lines) es yes in
+      go (Err fault) later differs = absurd cc
+      go (Ok given) later all =
+          let rest = rest_of given (events_from choice (number + 1) lines) es all in
           let whole = ap length rest.2 in
           ap (λ (r : Result (Option Event) AuditFault). r >>= λ x. read_from choice size (so_far ++ option_to_list x) (number + 1) lines) (timely size so_far given (omega arith))
-          ∙ alike_good (so_far ++ option_to_list given) (number + 1) lines rest.0 rest.1 (omega (arith, few, whole, length-append (option_to_list given) rest.0, length-append so_far (option_to_list given)))
+          ∙ later given rest.0 rest.1 (omega (arith, few, whole, length-append (option_to_list given) rest.0, length-append so_far (option_to_list given)))
           ∙ ap Ok (append_assoc so_far (option_to_list given) rest.0 ∙ ap (λ (l : List Event). so_far ++ l) (sym rest.2))
 
 with_nothing : (r : Result (List Event) AuditFault) → with_front [] r ≡ r
@@ -78,11 +84,11 @@ with_nothing (Err fault) = refl
 
 pub lines_alike : (choice : Choice) (size : ℕ) (bytes : List ℕ) → length (lines_of bytes) ≤ size → requests_of choice size bytes ≡ events_of choice bytes
 unfolding requests_of events_of
-lines_alike choice size bytes few = alike choice size [] 1 (lines_of bytes) few ∙ with_nothing (events_from choice 1 (lines_of bytes))
+lines_alike choice size bytes few = alike choice size [] 1 (lines_of bytes) (omega (arith, few)) ∙ with_nothing (events_from choice 1 (lines_of bytes))
 
 pub read_alike : (choice : Choice) (size : ℕ) (bytes : List ℕ) (events : List Event) → length events ≤ size → events_of choice bytes ≡ Ok events → requests_of choice size bytes ≡ Ok events
 unfolding requests_of events_of
-read_alike choice size bytes events few is = alike_good choice size [] 1 (lines_of bytes) events is few
+read_alike choice size bytes events few is = alike_good choice size [] 1 (lines_of bytes) events is (omega (arith, few))
 
 -- what short estimates are known to be
 abbrev pub AreExact : Type 0

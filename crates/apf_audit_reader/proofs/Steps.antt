@@ -1,5 +1,5 @@
 -- What was taken, step by step.
-use Rattle.std.proofs.Common.{◌≡◌, ◌≢◌, ℕ, ◌+◌, ◌-◌, ◌^◌, ◌<◌, ◌≤◌, List, [], ◌∷◌, ◌++◌, All, length, map, take, Bool, true, false, cond, Option, Some, None, Result, Ok, Err, IsPermutation, refl, sym, ap, ◌∙◌, subst, append_assoc, append-nil, arith}
+use Rattle.std.proofs.Common.{◌≡◌, ◌≢◌, ℕ, ◌+◌, ◌-◌, ◌^◌, ◌<◌, ◌≤◌, List, [], ◌∷◌, ◌++◌, All, length, map, take, Bool, true, false, cond, Option, Some, None, Result, Ok, Err, IsPermutation, refl, sym, ap, ◌∙◌, subst, inl, inr, append_assoc, append-nil, arith}
 use Rattle.std.specs.Prelude.{◌||◌, count_by, ◌⊎◌}
 use Rattle.std.specs.List.{list_any}
 use Rattle.std.specs.Option.{option_to_list}
@@ -13,7 +13,7 @@ use Rattle.apf_times.specs.declared.window.Place.{Place}
 use Rattle.apf_times.specs.Windows.{HandsOut, WindowView, IsPushed, is_late}
 use Rattle.apf_times.specs.WindowRuns.{AllPushed, AreInPlace, Call, HaveOwnLines, IsWindowRun, all_came, all_out, number_behind}
 use Rattle.apf_traces.specs.TraceFile.{Line}
-use Rattle.apf_audit.specs.AuditEvent.{Event, event, event_in, IsOfLine, IsInRangeIfChosen}
+use Rattle.apf_audit.specs.AuditEvent.{Event, event, event_in, IsOfLine, IsInRangeIfChosen, IsTakenInRange}
 use Rattle.apf_audit.specs.AuditLog.{is_cut_line, is_nameless_line, judged_line}
 use Rattle.apf_audit.specs.Estimates.{AreEstimates, EstimatesView, run_read}
 use Rattle.apf_audit.specs.declared.choice.Choice.{Choice}
@@ -50,11 +50,14 @@ TellsLate = (size : ℕ) (calls : List (Call Taken)) (v : WindowView Taken) (pla
 
 -- ---- the counts once one more line was taken
 
+abbrev as_one : Bool → ℕ
+as_one b = cond b 1 0
+
 pub counted_more : (lines : List Line) (line : Line) (b : Bool) (n : ℕ) → is_nameless_line line.bytes ≡ b → n ≡ count_by (λ l. is_nameless_line l.bytes) lines
     → n + cond b 1 0 ≡ count_by (λ l. is_nameless_line l.bytes) (lines ++ line ∷ [])
 counted_more lines line b n is so_far =
     let sums = sum_by_push (λ l. cond (is_nameless_line l.bytes) 1 0) lines line in
-    let one : cond (is_nameless_line line.bytes) 1 0 ≡ cond b 1 0 = ap (λ t. cond t 1 0) is in
+    let one : as_one (is_nameless_line line.bytes) ≡ as_one b = ap as_one is in
     omega (arith, sums, one, so_far)
 
 pub cut_more : (lines : List Line) (line : Line) (b c : Bool) → is_cut_line line ≡ b → c ≡ list_any is_cut_line lines → (c || b) ≡ list_any is_cut_line (lines ++ line ∷ [])
@@ -68,7 +71,7 @@ cut_more lines line b c is so_far =
 -- ---- a line is taken
 
 module _ (all : HandsAll) (few : HoldsFew) (hands : HandsInTime) (tells : TellsLate) (choice : Choice) (lines : List Line) (told : List Event) (v : ReaderView) (h : HasTaken choice lines told v) (reading : v.stage ≡ Reading)
-  (short : v.number < 2 ^ 64 - 1) where
+    (short : v.number < 2 ^ 64 - 1) where
   abbrev es : List Event
   es = map event h.taken
 
@@ -141,7 +144,7 @@ module _ (all : HandsAll) (few : HoldsFew) (hands : HandsInTime) (tells : TellsL
       omega (arith, full, length-append told (event first ∷ []), length-append h.taken (t ∷ []), sums, count_told, count_outs)
 
   module _ (line : Line) (w : WindowView Taken) (known : EstimatesView) (unnamed : ℕ) (cut : Bool)
-    (unnamed_is : unnamed ≡ count_by (λ l. is_nameless_line l.bytes) (lines ++ line ∷ [])) (cut_is : cut ≡ list_any is_cut_line (lines ++ line ∷ [])) where
+      (unnamed_is : unnamed ≡ count_by (λ l. is_nameless_line l.bytes) (lines ++ line ∷ [])) (cut_is : cut ≡ list_any is_cut_line (lines ++ line ∷ [])) where
     abbrev after : ReaderView
     after = record { lines = v.lines; window = w; estimates = known; number = v.number + 1; unnamed = unnamed; is_cut = cut; stage = v.stage }
 
@@ -163,7 +166,7 @@ module _ (all : HandsAll) (few : HoldsFew) (hands : HandsInTime) (tells : TellsL
               subst (λ s. (later : List Line) → read_from choice s [] 1 ((lines ++ line ∷ []) ++ later) ≡ read_from choice s (map event (h.taken ++ t ∷ [])) (v.number + 1 + 1) later) (sym put.size)
               (subst (λ (xs : List Event). (later : List Line) → read_from choice v.window.size [] 1 ((lines ++ line ∷ []) ++ later) ≡ read_from choice v.window.size xs (v.number + 1 + 1) later) (sym more)
               (read_more choice v.window.size lines es (v.number + 1) line (Some (event t)) h.judged judged_too));
-          ranges = All-push _ h.taken t h.ranges range;
+          ranges = All-push IsTakenInRange h.taken t h.ranges range;
           few = omega (arith, h.few, length-append h.taken (t ∷ []));
           below = below_more v.number h.taken t h.below line_is;
           own = own_more v.number h.taken t h.below line_is h.own;
@@ -229,15 +232,17 @@ module _ (all : HandsAll) (few : HoldsFew) (hands : HandsInTime) (tells : TellsL
   pub line_refused : (line : Line) (fault : AuditFault) → IsRefusal choice (v.number + 1) line v.window fault → (later : List Line) → read_from choice v.window.size [] 1 (lines ++ line ∷ later) ≡ Err fault
   line_refused line fault refusal =
       read_fault choice v.window.size lines es (v.number + 1) line fault h.judged (
-        elim refusal [
-          | inl e ↦ judged_fault choice v.window.size es (v.number + 1) line fault e
-          | inr l ↦
-              let place = place_of (event l.taken) in
-              let many = tells v.window.size h.calls v.window place h.run pushed l.late in
-              judged_too_late choice v.window.size es (v.number + 1) line (event l.taken) l.judged (omega (arith, many, behind place)) ∙ ap Err (sym l.is)
-        ]
+      elim refusal [
+        | inl e ↦ judged_fault choice v.window.size es (v.number + 1) line fault e
+        | inr l ↦
+            let place = place_of (event l.taken) in
+            let many = tells v.window.size h.calls v.window place h.run pushed l.late in
+            judged_too_late choice v.window.size es (v.number + 1) line (event l.taken) l.judged (omega (arith, many, behind place)) ∙ ap Err (sym l.is)
+      ]
       )
 
-  -- a line that is too long
-  pub long_refused : (line : Line) (fault : AuditFault) → judged_line choice (v.number + 1) line ≡ Err fault → (later : List Line) → read_from choice v.window.size [] 1 (lines ++ line ∷ later) ≡ Err fault
-  long_refused line fault judged = read_fault choice v.window.size lines es (v.number + 1) line fault h.judged (judged_fault choice v.window.size es (v.number + 1) line fault judged)
+-- a line that is too long
+pub long_refused : (choice : Choice) (lines : List Line) (told : List Event) (v : ReaderView) → HasTaken choice lines told v → (line : Line) (fault : AuditFault) → judged_line choice (v.number + 1) line ≡ Err fault
+    → (later : List Line) → read_from choice v.window.size [] 1 (lines ++ line ∷ later) ≡ Err fault
+long_refused choice lines told v h line fault judged =
+    read_fault choice v.window.size lines (map event h.taken) (v.number + 1) line fault h.judged (judged_fault choice v.window.size (map event h.taken) (v.number + 1) line fault judged)

@@ -31,7 +31,7 @@ abbrev pub at_lines : ReaderView → LinesView → Stage → ReaderView
 at_lines v ls s = record { lines = ls; window = v.window; estimates = v.estimates; number = v.number; unnamed = v.unnamed; is_cut = v.is_cut; stage = s }
 
 pub taken_at : (choice : Choice) (lines : List Line) (told : List Event) (v : ReaderView) (ls : LinesView) (s : Stage) → (s ≢ Ended → v.stage ≢ Ended) → HasTaken choice lines told v → HasTaken choice lines told (at_lines v ls s)
-taken_at choice lines told v ls s open h = record {
+taken_at choice lines told v ls s before h = record {
   taken = h.taken;
   judged = h.judged;
   ranges = h.ranges;
@@ -43,11 +43,11 @@ taken_at choice lines told v ls s open h = record {
   came = h.came;
   out = h.out;
   known = h.known;
-  ahead = λ other. h.ahead (open other);
+  ahead = λ other. h.ahead (before other);
   number = h.number;
   unnamed = h.unnamed;
   is_cut = h.is_cut;
-  pushed = λ other. h.pushed (open other);
+  pushed = λ other. h.pushed (before other);
 }
 
 pub still_open : (v : ReaderView) → v.stage ≡ Reading → v.stage ≢ Ended
@@ -86,10 +86,10 @@ module _ (choice : Choice) (bytes : List ℕ) (told : List Event) (left : Option
 
   -- the line that was cut off was taken, or it has a fault
   pub line_went : (ls : LinesView) (result : Result (Option Taken) ReadFault) (w : ReaderView) → CutsOff v.lines cuts.Line ls
-      → ((lines : List Line) (told' : List Event) → HasTaken choice lines told' (at_lines v ls Reading) → Took choice lines told' (record { bytes = ls.line; is_ended = true }) result w)
+      → ((lines : List Line) (told' : List Event) → HasTaken choice lines told' (at_lines v ls v.stage) → Took choice lines told' (record { bytes = ls.line; is_ended = true }) result w)
       → w.lines ≡ ls → ((first : Option Taken) → result ≡ Ok first → w.stage ≡ Reading) → Goes choice bytes told left result w
   line_went ls result w off takes same stage =
-      go result refl (takes h.lines told (taken_at choice h.lines told v ls Reading (λ _. still_open v reading) h.has_taken))
+      go result refl (takes h.lines told (taken_at choice h.lines told v ls v.stage (λ other. other) h.has_taken))
     where
       parts : CutsLine uncut.0 ls.line ls
       parts = (off.of_each uncut.0 uncut.1).1
@@ -99,11 +99,11 @@ module _ (choice : Choice) (bytes : List ℕ) (told : List Event) (left : Option
 
       go : (r : Result (Option Taken) ReadFault) → result ≡ r → Took choice h.lines told (ended ls.line) r w → Goes choice bytes told left r w
       go (Ok first) is took =
-          let open : w.stage ≡ Reading = stage first is in
+          let reads : w.stage ≡ Reading = stage first is in
           record {
             lines = h.lines ++ ended ls.line ∷ [];
             cut =
-                subst (λ s. AreCut s bytes (h.lines ++ ended ls.line ∷ []) w.lines) (sym open)
+                subst (λ s. AreCut s bytes (h.lines ++ ended ls.line ∷ []) w.lines) (sym reads)
                 (subst (AreCut Reading bytes (h.lines ++ ended ls.line ∷ [])) (sym same) (parts.later, parts.left, λ more. are more ∙ sym (append_assoc h.lines (ended ls.line ∷ []) (lines_of (parts.later ++ more)))));
             has_taken = took;
             end = λ e. absurd cc;
@@ -132,7 +132,7 @@ module _ (choice : Choice) (bytes : List ℕ) (told : List Event) (left : Option
       }
 
   -- differs whole line is there
-  pub nothing_cut : (ls : LinesView) → CutsOff v.lines cuts.Nothing ls → IsBetween choice bytes told (at_lines v ls Reading)
+  pub nothing_cut : (ls : LinesView) → CutsOff v.lines cuts.Nothing ls → IsBetween choice bytes told (at_lines v ls v.stage)
   nothing_cut ls off =
       let none = off.of_each uncut.0 uncut.1 in
       record {
@@ -141,7 +141,7 @@ module _ (choice : Choice) (bytes : List ℕ) (told : List Event) (left : Option
         uncut = subst (AreUncut uncut.0) (sym none.1) uncut.1;
         cut = uncut.2;
         whole = none.0;
-        has_taken = taken_at choice h.lines told v ls Reading (λ _. still_open v reading) h.has_taken;
+        has_taken = taken_at choice h.lines told v ls v.stage (λ other. other) h.has_taken;
       }
 
 -- ---- more is read, or the input is at its end
@@ -151,23 +151,27 @@ module _ (choice : Choice) (bytes : List ℕ) (told : List Event) (v : ReaderVie
   more_lines more later =
       ap lines_of (append_assoc bytes more later) ∙ h.cut (more ++ later) ∙ ap (λ (b : List ℕ). h.lines ++ lines_of b) (sym (append_assoc h.rest more later))
 
-  pub more_read : (ls : LinesView) (more : List ℕ) (left : Option (List ℕ)) → ((rest : List ℕ) → AreUncut rest v.lines → AreUncut (rest ++ more) ls) → HasRead choice (bytes ++ more) told left (at_lines v ls Reading)
+  pub more_read : (ls : LinesView) (more : List ℕ) (left : Option (List ℕ)) → ((rest : List ℕ) → AreUncut rest v.lines → AreUncut (rest ++ more) ls) → HasRead choice (bytes ++ more) told left (at_lines v ls v.stage)
   more_read ls more left gains = record {
     lines = h.lines;
-    cut = (h.rest ++ more, gains h.rest h.uncut, more_lines more);
-    has_taken = taken_at choice h.lines told v ls Reading (λ _. still_open v reading) h.has_taken;
+    cut = subst (λ s. AreCut s (bytes ++ more) h.lines ls) (sym reading) (h.rest ++ more, gains h.rest h.uncut, more_lines more);
+    has_taken = taken_at choice h.lines told v ls v.stage (λ other. other) h.has_taken;
     end = λ e. absurd cc;
   }
 
+  -- nothing was read
+  pub still_read : (ls : LinesView) (left : Option (List ℕ)) → ((rest : List ℕ) → AreUncut rest v.lines → AreUncut rest ls) → HasRead choice (bytes ++ []) told left (at_lines v ls v.stage)
+  still_read ls left stays = more_read ls [] left (λ rest uncut_rest. subst (λ (r : List ℕ). AreUncut r ls) (sym (append-nil rest)) (stays rest uncut_rest))
+
   -- nothing more was there
-  pub end_read : (ls : LinesView) (more : List ℕ) → more ≡ [] → ((rest : List ℕ) → AreUncut rest v.lines → AreUncut (rest ++ more) ls) → IsBetween choice (bytes ++ more) told (at_lines v ls Reading)
+  pub end_read : (ls : LinesView) (more : List ℕ) → more ≡ [] → ((rest : List ℕ) → AreUncut rest v.lines → AreUncut (rest ++ more) ls) → IsBetween choice (bytes ++ more) told (at_lines v ls v.stage)
   end_read ls more none gains = record {
     lines = h.lines;
     rest = h.rest ++ more;
     uncut = gains h.rest h.uncut;
     cut = more_lines more;
     whole = subst HasNoLf (sym (append-nil h.rest) ∙ ap (λ (b : List ℕ). h.rest ++ b) (sym none)) h.whole;
-    has_taken = taken_at choice h.lines told v ls Reading (λ _. still_open v reading) h.has_taken;
+    has_taken = taken_at choice h.lines told v ls v.stage (λ other. other) h.has_taken;
   }
 
   -- the whole lines of the bytes, and the rest

@@ -28,7 +28,7 @@ abbrev pub Hands : Option (Arrival Taken) → EstimatesView → Option Taken →
 Hands out old first new = (events : List Event) → AreEstimates events old → AreHanded events out first × AreEstimates events new
 
 -- a request was not late, and was put into the window; its own run counts for what is handed out
-record IsPut (taken : Taken) (old : WindowView Taken) (known : EstimatesView) (first : Option Taken) (new : WindowView Taken) (more : EstimatesView) : Type 0 where
+pub record IsPut (taken : Taken) (old : WindowView Taken) (known : EstimatesView) (first : Option Taken) (new : WindowView Taken) (more : EstimatesView) : Type 0 where
   pub timely : is_late (place_of (event taken)) old.last ≡ false
   pub out : Option (Arrival Taken)
   pub pushed : IsPushed (placed taken) old out new
@@ -37,14 +37,14 @@ record IsPut (taken : Taken) (old : WindowView Taken) (known : EstimatesView) (f
       → AreHanded (events ++ event taken ∷ []) out first × AreEstimates (events ++ event taken ∷ []) more
 
 -- a request goes into the window, and else nothing changes
-abbrev Moves : Outcome → WindowView Taken → EstimatesView → Option Taken → WindowView Taken → EstimatesView → Type 0
+abbrev pub Moves : Outcome → WindowView Taken → EstimatesView → Option Taken → WindowView Taken → EstimatesView → Type 0
 Moves (Chosen taken) old known first new more = IsPut taken old known first new more
 Moves Unnamed old known first new more = (first ≡ None) × (new ≡ old) × (more ≡ known)
 Moves LeftOut old known first new more = (first ≡ None) × (new ≡ old) × (more ≡ known)
 Moves Unfinished old known first new more = (first ≡ None) × (new ≡ old) × (more ≡ known)
 
 -- what the line of this number gives
-record Gives (choice : Choice) (number : ℕ) (line : Line) (old : WindowView Taken) (known : EstimatesView) (given : Given) (new : WindowView Taken) (more : EstimatesView) : Type 0 where
+pub record Gives (choice : Choice) (number : ℕ) (line : Line) (old : WindowView Taken) (known : EstimatesView) (given : Given) (new : WindowView Taken) (more : EstimatesView) : Type 0 where
   pub outcome : Outcome
   pub judged : judged_line choice number line ≡ Ok (event_in outcome)
   pub of_line : IsOfLine number outcome
@@ -54,12 +54,12 @@ record Gives (choice : Choice) (number : ℕ) (line : Line) (old : WindowView Ta
   pub unfinished : is_cut_line line ≡ given.is_unfinished
 
 -- the request of a line comes too late
-record IsLateLine (choice : Choice) (number : ℕ) (line : Line) (old : WindowView Taken) (fault : AuditFault) : Type 0 where
+pub record IsLateLine (choice : Choice) (number : ℕ) (line : Line) (old : WindowView Taken) (fault : AuditFault) : Type 0 where
   pub taken : Taken
   pub judged : judged_line choice number line ≡ Ok (Some (event taken))
   pub late : is_late (place_of (event taken)) old.last ≡ true
   pub is : fault ≡ TooLate taken.line
 
 -- the line of this number has this fault, or comes too late
-abbrev IsRefusal : Choice → ℕ → Line → WindowView Taken → AuditFault → Type 0
+abbrev pub IsRefusal : Choice → ℕ → Line → WindowView Taken → AuditFault → Type 0
 IsRefusal choice number line old fault = (judged_line choice number line ≡ Err fault) ⊎ IsLateLine choice number line old fault

@@ -1,11 +1,10 @@
 //! What a line gives.
 
-ghost use Rattle.std.specs.Prelude.{◌≡◌, ◌≢◌, ◌≤◌, IfOk, IfErr, length};
-ghost use Rattle.apf_times.specs.Limits.{max_run};
-ghost use Rattle.apf_times.specs.Windows.{IsPushed, is_late};
+ghost use Rattle.std.specs.Prelude.{◌≡◌, ◌≢◌, None, true, IfOk, IfErr};
+ghost use Rattle.apf_times.specs.Windows.{is_late};
 ghost use Rattle.apf_audit.specs.AuditEvent.{event, IsTakenInRange};
 ghost use Rattle.apf_audit_reader.specs.Giving.{Gives, Hands, IsPut, IsRefusal};
-ghost use Rattle.apf_audit_reader.specs.Places.{place_of, placed};
+ghost use Rattle.apf_audit_reader.specs.Places.{place_of};
 
 use apf_audit::{AuditFault, Choice, Estimates, Outcome, Taken, read_line};
 use apf_times::{Arrival, Place, Window, WindowError};
@@ -41,10 +40,11 @@ fn put(
     ensures ok { IfOk result (λ first. IsPut taken window.old estimates.old first window.new estimates.new) }
     ensures err { IfErr result (λ fault. fault ≢ AuditFault.NoMemory
         → (fault ≡ AuditFault.TooLate taken.line) × (is_late (place_of (event taken)) window.old.last ≡ true)) }
+    ensures size { window.new.size ≡ window.old.size }
 {
-    if estimates.add(&taken).is_err() {
+    let Ok(()) = estimates.add(&taken) else {
         return Err(AuditFault::NoMemory);
-    }
+    };
     let line = taken.line;
     let place = Place {
         arrives_at: taken.received,
@@ -90,13 +90,17 @@ pub(crate) fn take_line(
       bytes = line.now;
       is_ended = is_ended;
     }) window.old fault) }
+    ensures size { window.new.size ≡ window.old.size }
 {
     match read_line(alloc, choice, line, is_ended, number)? {
-        Outcome::Chosen(taken) => Ok(Given {
-            first: put(estimates, window, taken)?,
-            is_unnamed: false,
-            is_unfinished: false,
-        }),
+        Outcome::Chosen(taken) => match put(estimates, window, taken) {
+            Ok(first) => Ok(Given {
+                first,
+                is_unnamed: false,
+                is_unfinished: false,
+            }),
+            Err(fault) => Err(fault),
+        },
         Outcome::Unnamed => Ok(without(true, false)),
         Outcome::LeftOut => Ok(without(false, false)),
         Outcome::Unfinished => Ok(without(false, true)),

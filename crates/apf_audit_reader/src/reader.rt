@@ -1,6 +1,6 @@
 //! The reader of an audit log in pieces.
 
-ghost use Rattle.std.specs.Prelude.{◌≡◌, ◌≢◌, ◌<◌, ◌-◌, ◌^◌, ℕ, List, [], length, true, false, Option, None, Ok, Err, IfOk, OnOk};
+ghost use Rattle.std.specs.Prelude.{◌≡◌, ◌≢◌, ◌<◌, ◌≤◌, ◌-◌, ◌^◌, ◌||◌, if◌then◌else◌, ℕ, List, [], length, Option, Err, IfOk, OnOk};
 ghost use Rattle.apf_lines.specs.Lines.{HasNoLf};
 ghost use Rattle.apf_traces.specs.TraceFile.{Line};
 ghost use Rattle.apf_audit.specs.AuditLog.{judged_line, max_line};
@@ -72,6 +72,21 @@ fn line_of(lines: &Lines, is_ended: bool) -> &[u8]
     ensures { result.now ≡ line_held is_ended lines.now }
 {
     if is_ended { lines.line() } else { lines.kept() }
+}
+
+// 1 if it holds, and else 0.
+fn one_if(holds: bool) -> u64
+    ensures value { result ≡ (if holds then 1 else 0) }
+    ensures most { result ≤ 1 }
+{
+    if holds { 1 } else { 0 }
+}
+
+// Whether one of the two holds.
+fn either(one: bool, other: bool) -> bool
+    ensures { result ≡ (one || other) }
+{
+    one || other
 }
 
 impl AuditReader {
@@ -151,8 +166,10 @@ impl AuditReader {
         ) {
             Ok(given) => {
                 self.number = number;
-                self.unnamed += u64::from(given.is_unnamed);
-                self.is_cut = self.is_cut || given.is_unfinished;
+                let unnamed = self.unnamed + one_if(given.is_unnamed);
+                let is_cut = either(self.is_cut, given.is_unfinished);
+                self.unnamed = unnamed;
+                self.is_cut = is_cut;
                 Ok(given.first)
             }
             Err(fault) => Err(self.refuse(fault)),

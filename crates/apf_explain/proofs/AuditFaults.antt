@@ -164,7 +164,7 @@ of_value n line d (BadWait m) is h = (h.0, (d, is, h.1))
 of_value n line d (BadRun m) is h = (h.0, (d, is, h.1))
 of_value n line d (TooLong m) is h = absurd h.1
 of_value n line d (NotUtf8Json m) is h = absurd h.1
-of_value n line d (BadArrival m) is h = absurd h.1
+of_value n line d (BadArrival m after) is h = absurd h.1
 of_value n line d NoMemory is h = absurd h.1
 of_value n line d (TooLate m) is h = absurd h.1
 
@@ -186,4 +186,3 @@ line_shown choice n line fault h = go (nat_le (length line.bytes) max_line) refl
     go false long h =
         let same : TooLong n ≡ fault = cc in
         subst (λ (g : AuditFault). IsAuditShown n line g) same (refl, above (length line.bytes) max_line long)
-

@@ -66,11 +66,11 @@ bad_run_text place o =
     ++? Some (codes " and apf-queue-wait is ") ++? value_text (wait_found o)
     ++? Some (codes ": the run, which is the first less the others, must be from 0 to ") ++? Some (decimal max_run) ++? Some (codes " microseconds\n")
 
--- a request that arrives too late
-abbrev pub late_text : List ℕ → Option Data → Option (List ℕ)
-late_text place o =
-    Some place ++? Some (codes "requestReceivedTimestamp is ") ++? value_text (found_at (codes "requestReceivedTimestamp") o)
-    ++? Some (codes ": it must be at most ") ++? Some (decimal max_arrival) ++? Some (codes " microseconds after the earliest one\n")
+-- a request that arrives too late, this many microseconds after the first one
+abbrev pub late_text : List ℕ → ℕ → List ℕ
+late_text place after =
+    place ++ (codes "this request arrives " ++ (decimal after
+    ++ (codes " microseconds after the first one: at most " ++ (decimal max_arrival ++ codes " may be between them\n"))))
 
 -- a request that was received before requests that were handed out
 abbrev pub behind_text : List ℕ → Option Data → Option (List ℕ)
@@ -87,7 +87,7 @@ event_text place o (audit.BadReceived n) =
 event_text place o (audit.BadStage n) = required_text place (codes "stageTimestamp") (found_at (codes "stageTimestamp") o) Instant
 event_text place o (audit.BadWait n) = unwanted_text place (codes "apf-queue-wait") (wait_found o) Wait
 event_text place o (audit.BadRun n) = bad_run_text place o
-event_text place o (audit.BadArrival n) = late_text place o
+event_text place o (audit.BadArrival n after) = Some (late_text place after)
 event_text place o (audit.TooLate n) = behind_text place o
 event_text place o fault = not_event_text place o
 
@@ -111,3 +111,8 @@ IsNumberedEvent bytes fault (Some number) before after = IsPlacedEvent (numbered
 -- the line of an audit log's fault was written
 abbrev pub IsAuditLine : List ℕ → AuditFault → Option (List ℕ) → Option (List ℕ) → Type 0
 IsAuditLine bytes fault before after = IsNumberedEvent bytes fault (line_of fault) before after
+
+-- the line of a log that is read in pieces, unless it is too long, so that it was not kept whole
+abbrev pub known_line : AuditFault → List ℕ → Option (List ℕ)
+known_line (audit.TooLong n) line = None
+known_line fault line = Some line

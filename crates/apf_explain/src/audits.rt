@@ -6,7 +6,7 @@ ghost use Rattle.serde_json.specs.View.{view};
 ghost use Rattle.apf_audit.specs.AuditFaults.{audit_fault_number, line_of};
 ghost use Rattle.apf_explain.specs.declared.place.Part.TheVariants.{Fault};
 ghost use Rattle.apf_explain.specs.Lines.{place_text};
-ghost use Rattle.apf_explain.specs.AuditLines.{found_at, is_text_at, is_object, not_event_text, user_text, wait_found, bad_run_text, late_text, behind_text, event_text, namespace_found, IsAuditLineAt, IsAuditLine, IsPlacedEvent};
+ghost use Rattle.apf_explain.specs.AuditLines.{found_at, is_text_at, is_object, not_event_text, user_text, wait_found, bad_run_text, late_text, behind_text, event_text, namespace_found, IsAuditLineAt, known_line, IsAuditLine, IsPlacedEvent};
 
 use crate::fault::ExplainFault;
 use crate::found::Found;
@@ -139,15 +139,13 @@ fn write_run<W: Write>(out: &mut W, place: Place<'_>, value: Option<&Value>) -> 
     )
 }
 
-// Writes that a request arrives too late.
-fn write_late<W: Write>(out: &mut W, place: Place<'_>, value: Option<&Value>) -> io::Result<()>
-    ensures { OnOk result (IfSome (late_text (place_text place.entry.name.now place.entry.part) (option_map (λ value. view value.now) value.entry))
-        (Appends (W.contents out.old) (W.contents out.new))) }
+// Writes that a request arrives this many microseconds after the first one, which is too late.
+fn write_late<W: Write>(out: &mut W, place: Place<'_>, after: u64) -> io::Result<()>
+    ensures { OnOk result (Appends (W.contents out.old) (W.contents out.new) (late_text (place_text place.entry.name.now place.entry.part) after)) }
 {
-    let received = Perhaps(value_at(value, "requestReceivedTimestamp"));
     writeln!(
         out,
-        "{place}requestReceivedTimestamp is {received}: it must be at most {MOST_ARRIVES_AT} microseconds after the earliest one"
+        "{place}this request arrives {after} microseconds after the first one: at most {MOST_ARRIVES_AT} may be between them"
     )
 }
 
@@ -200,7 +198,7 @@ fn write_event<W: Write>(
             write_unwanted(out, place, "apf-queue-wait", wait_of(value), Wanted::Wait)
         }
         AuditFault::BadRun(_) => write_run(out, place, value),
-        AuditFault::BadArrival(_) => write_late(out, place, value),
+        AuditFault::BadArrival(_, after) => write_late(out, place, after),
         AuditFault::TooLate(_) => write_behind(out, place, value),
         AuditFault::TooLong(_)
         | AuditFault::NotUtf8Json(_)
@@ -231,7 +229,7 @@ fn write_line<W: Write>(
         | AuditFault::BadStage(_)
         | AuditFault::BadWait(_)
         | AuditFault::BadRun(_)
-        | AuditFault::BadArrival(_)
+        | AuditFault::BadArrival(_, _)
         | AuditFault::TooLate(_)
         | AuditFault::NoMemory => {
             let value = line_value(alloc, line)?;
@@ -279,9 +277,20 @@ pub fn explain_audit_log<W: Write>(
     write_line(alloc, out, place, line, fault)
 }
 
+// The line, unless it is too long, so that it was not kept whole.
+fn known_line(fault: AuditFault, line: &[u8]) -> Option<&[u8]>
+    ensures { option_map (λ known. known.now) result ≡ known_line fault line.entry.now }
+{
+    match fault {
+        AuditFault::TooLong(_) => None,
+        _ => Some(line),
+    }
+}
+
 /// Writes the fault of an audit log that is read in pieces as the one line of standard error.
 ///
-/// `line` is the line that has the fault, without its LF.
+/// `line` is the line that has the fault, without its LF. Of one that is too long it need not be whole, and its length is
+/// not told.
 ///
 /// # Errors
 ///
@@ -293,12 +302,13 @@ pub fn explain_audit_line<W: Write>(
     fault: AuditFault,
     out: &mut W,
 ) -> Result<(), ExplainFault>
-    ensures line { OnOk result (IsPlacedEvent (Some line.now) fault (line_of fault) (W.contents out.old) (W.contents out.new)) }
+    ensures line { OnOk result (IsPlacedEvent (known_line fault line.now) fault (line_of fault) (W.contents out.old) (W.contents out.new)) }
     ensures refused { fault ≡ AuditFault.NoMemory → (result ≡ Err ExplainFault.NoMemory) × (out.new ≡ out.old) }
     ensures memory { result ≡ Err ExplainFault.NoMemory → out.new ≡ out.old }
 {
     let Some(number) = fault.line() else {
         return Err(ExplainFault::NoMemory);
     };
-    write_line(alloc, out, place_of(fault, number), Some(line), fault)
+    let line = known_line(fault, line);
+    write_line(alloc, out, place_of(fault, number), line, fault)
 }

@@ -140,6 +140,10 @@ event_shown : (choice : Choice) (n : ℕ) (d : Data) (fault : AuditFault) → ev
 unfolding event_of is_taken
 event_shown choice n d fault h = go (taken_by (text_at (codes "stage") d) (text_at (codes "verb") d) (text_within (codes "objectRef") (codes "subresource") d)) refl h
   where
+    named : (b : Bool) → is_unnamed d ≡ b → cond b (Ok None) (taken_of choice n d) ≡ Err fault → IsEventAt n d fault
+    named true is h = absurd cc
+    named false is h = taken_shown choice n d fault is h
+
     go : (o : Option Bool) → taken_by (text_at (codes "stage") d) (text_at (codes "verb") d) (text_within (codes "objectRef") (codes "subresource") d) ≡ o
         → event_by choice n d o ≡ Err fault → IsEventAt n d fault
     go None is h =
@@ -147,10 +151,6 @@ event_shown choice n d fault h = go (taken_by (text_at (codes "stage") d) (text_
         subst (λ (g : AuditFault). IsEventAt n d g) same (refl, no_event _ _ _ is)
     go (Some false) is h = absurd cc
     go (Some true) is h = named (is_unnamed d) refl h
-
-    named : (b : Bool) → is_unnamed d ≡ b → cond b (Ok None) (taken_of choice n d) ≡ Err fault → IsEventAt n d fault
-    named true is h = absurd cc
-    named false is h = taken_shown choice n d fault is h
 
 -- ---- one line
 

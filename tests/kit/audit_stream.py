@@ -21,7 +21,7 @@ seed = int(os.environ.get("APF_SEED", "2044"))
 draw = random.Random(seed)
 logs = Logs(draw)
 LOGS = int(os.environ.get("APF_LOGS", "1000"))
-MANY = int(os.environ.get("APF_EVENTS", "300000"))
+MANY = int(os.environ.get("APF_EVENTS", "450000"))
 print(f"seed {seed}")
 
 

@@ -1,14 +1,16 @@
 //! All flows, each request in one row.
 
-ghost use Rattle.std.specs.Prelude.{◌≡◌, ◌+◌, ◌-◌, ◌^◌, ◌<◌, [], ◌∷◌, ◌++◌, List, OnOk, false, length};
+ghost use Rattle.std.specs.Prelude.{◌≡◌, ◌+◌, ◌-◌, ◌^◌, ◌<◌, [], ◌∷◌, ◌++◌, List, IfOk, OnOk, false, length};
 ghost use Rattle.apf_times.specs.declared.window.Arrival.{Arrival as ArrivalOf};
 ghost use Rattle.apf_traces.specs.declared.request.TraceRequest.{TraceRequest as RequestOf};
 ghost use Rattle.apf_stream.specs.declared.ended.Ended.{Ended as EndedOf};
 ghost use Rattle.apf_rows.specs.Accounts.{IsInReach};
+ghost use Rattle.apf_rows.specs.Tables.{IsTable};
 ghost use Rattle.apf_rows.specs.Rows.{AreRows, HaveMet, IsMet, is_among, max_flows};
 
 use crate::account::Account;
 use crate::row::Row;
+use crate::table::Table;
 use apf_stream::Ended;
 use apf_times::Arrival;
 use apf_traces::TraceRequest;
@@ -110,5 +112,25 @@ impl Rows {
             None => self.others.add(ended)?,
         }
         Ok(())
+    }
+
+    /// What all flows came to, in numbers.
+    ///
+    /// # Errors
+    ///
+    /// `AllocError` if memory was refused.
+    pub fn close(self) -> Result<Table, AllocError>
+        ensures { IfOk result (λ t. (came : List (ArrivalOf RequestOf)) (told : List EndedOf) → HaveMet came self → AreRows told self → IsTable came told t) }
+    {
+        let Rows {
+            alloc,
+            flows: _,
+            rows,
+            mut others,
+            mut all,
+        } = self;
+        let others = others.figures();
+        let all = all.figures();
+        Ok(Table::of(alloc, rows, others, all)?)
     }
 }

@@ -10,6 +10,7 @@ ghost use Rattle.apf_rows.specs.Rows.{AreRows, HaveMet, IsMet, is_among, max_flo
 
 use crate::account::Account;
 use crate::row::Row;
+use crate::sums::Sums;
 use crate::table::Table;
 use apf_stream::Ended;
 use apf_times::Arrival;
@@ -55,6 +56,13 @@ impl Rows {
             others: Account::new(alloc),
             all: Account::new(alloc),
         }
+    }
+
+    /// The counts and sums of all requests that were told.
+    pub fn sums(&self) -> Sums
+        ensures { result ≡ self.now.all.sums }
+    {
+        self.all.sums()
     }
 
     // The first request of a flow came, which has no row, where there is room for one.
@@ -104,6 +112,7 @@ impl Rows {
         requires room { self.old.all.sums.requests < 2 ^ 64 - 1 }
         ensures added { OnOk result ((told : List EndedOf) → AreRows told self.old → AreRows (told ++ ended.now ∷ []) self.new) }
         ensures met { (came : List (ArrivalOf RequestOf)) → HaveMet came self.old → HaveMet came self.new }
+        ensures flows { self.new.flows ≡ self.old.flows }
         ensures all { OnOk result (self.new.all.sums.requests ≡ self.old.all.sums.requests + 1) }
     {
         self.all.add(ended)?;

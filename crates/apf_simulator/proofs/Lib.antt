@@ -1,0 +1,3 @@
+pub mod Asking
+pub mod Countable
+pub mod Running

@@ -1,3 +1,4 @@
 pub mod Asking
 pub mod Countable
 pub mod Running
+pub mod Turns

@@ -1,11 +1,11 @@
 //! Lines on standard error that say of a file what is wrong with it.
 
-ghost use Rattle.apf_cli.specs.Told.{IsTraceTold, IsAuditTold};
+ghost use Rattle.apf_cli.specs.Told.{IsTraceTold, IsAuditTold, IsAuditLineTold};
 
 use crate::faults::Fault;
 use crate::files::shown;
 use apf_audit::AuditFault;
-use apf_explain::{explain_audit_log, explain_trace, explain_trace_line};
+use apf_explain::{explain_audit_line, explain_audit_log, explain_trace, explain_trace_line};
 use apf_trace_reader::TraceReader;
 use apf_traces::TraceFault;
 use std::alloc::{AllocError, Global};
@@ -69,6 +69,17 @@ pub(crate) fn audit_fault(alloc: Global, bytes: &[u8], fault: AuditFault) -> Fau
 {
     let mut line = Vec::new(alloc);
     match explain_audit_log(alloc, bytes, fault, &mut line) {
+        Ok(()) => Fault::Told(line),
+        Err(_) => Fault::NoMemory,
+    }
+}
+
+/// The fault of an audit log that is read in pieces, whose line has these bytes, with such a line.
+pub(crate) fn audit_line_fault(alloc: Global, bytes: &[u8], fault: AuditFault) -> Fault
+    ensures { IsAuditLineTold bytes.now fault result }
+{
+    let mut line = Vec::new(alloc);
+    match explain_audit_line(alloc, bytes, fault, &mut line) {
         Ok(()) => Fault::Told(line),
         Err(_) => Fault::NoMemory,
     }

@@ -1,5 +1,5 @@
 #!/usr/bin/env python3
-"""How often is one quiet flow covered by noisy ones?
+"""How likely is it that noisy flows cover one quiet flow?
 
 Each flow is dealt a hand of queues. If each queue of a quiet flow's hand is in the hand of some noisy
 flow too, the quiet flow is squeezed out with them. The Kubernetes documentation of API Priority and

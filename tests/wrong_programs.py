@@ -1,8 +1,8 @@
 """The tests themselves: programs that are wrong in one thing, each of which a script here must fail, at the row that is named.
 
-Each wrong program stands in front of the built one. APF_PROGRAM names it to the script; APF_SPOILED leaves out random files, APF_ROUNDS runs of many requests and
-those whose requests work long, APF_TRACES most of the drawn traces, APF_SESSIONS most of the drawn sessions of a live level, and APF_REQUESTS most of the requests that pass through it.
-APF_STOPS_AT ends a script at the row, which has failed then.
+Each wrong program stands in front of the built one. APF_PROGRAM names it to the script; APF_SPOILED leaves out random files, APF_ROUNDS runs of many
+requests and those whose requests work long, APF_TRACES most of the drawn traces, APF_SESSIONS most of the drawn sessions of a live level, and
+APF_REQUESTS most of the requests that pass through it. APF_STOPS_AT ends a script at the row, which has failed then.
 """
 
 import os

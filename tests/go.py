@@ -281,8 +281,10 @@ class Gateway:
 
         def holds():
             nonlocal got
-            numbers = self.numbers()
-            got = {name: numbers.get(name) for name in wanted}
+            # on a machine that is busy a page may come too late: then it is asked for again
+            with contextlib.suppress(OSError, http.client.HTTPException):
+                numbers = self.numbers()
+                got = {name: numbers.get(name) for name in wanted}
             return got == wanted
 
         self.until(holds, most)

@@ -64,15 +64,7 @@ pub(crate) fn print_simulation<F: Files, O: Write>(
         Err(fault) => return Err(named(alloc, names.1, fault)),
     };
     let mut reader = TraceReader::new(alloc, WINDOW)?;
-    match simulate(
-        alloc,
-        &config,
-        patience,
-        by,
-        &mut reader,
-        &mut input,
-        out,
-    ) {
+    match simulate(alloc, &config, patience, by, &mut reader, &mut input, out) {
         Ok(()) => Ok(()),
         Err(fault) => Err(fault_of(alloc, names, &config, &reader, &mut input, fault)),
     }

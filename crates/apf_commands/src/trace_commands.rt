@@ -291,7 +291,9 @@ Then a line for each schema, in the order in which they are tried:
   dangling     stands at the end of a schema whose level is not there: it is never tried
 
 Example:
-  $ apf objects examples/cluster/objects.json --seats 600
+  $ apf objects examples/cluster/objects.json --seats 600 | grep global-default
+  level global-default nominal 49 limits 24..649 queues 128 hand 6 length 50
+  schema global-default precedence 9900 level global-default by user
 
 Status: 0 done, 1 a file's fault or output that can't be written, 2 a command line's fault,
 3 no memory.",
@@ -325,8 +327,11 @@ exactly if objectRef is there; else its path is requestURI before ?.
 
 Examples:
   $ apf match examples/cluster/objects.json --user alice --groups system:authenticated \\
-      --verb list --resource pods --namespace shop
-  $ apf match examples/cluster/objects.json --log examples/audit/audit.log
+  >   --verb list --resource pods --namespace shop | grep -o 'hash.*'
+  hash f4de3bd42ccdf6b7 of \"alice\" hand 55 62 126 125 105 1
+  $ apf match examples/cluster/objects.json --log examples/audit/audit.log | sed -n 1,2p
+  2 global-default global-default \"kubernetes-admin\"
+  3 kube-system-service-accounts workload-high \"default\"
 
 Status: 0 done, 1 a file's fault or output that can't be written, 2 a command line's fault,
 3 no memory.",

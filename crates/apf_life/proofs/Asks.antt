@@ -10,11 +10,16 @@ use Rattle.apf_gate.specs.declared.record.Knowledge.{Knowledge}
 use Rattle.apf_gate.specs.Records.{KnowsMore}
 use Rattle.apf_gate.specs.Traces.{ask_by, first_ask, asked_in}
 use Rattle.apf_book.specs.declared.life_event.LifeEvent.{LifeEvent}
+use Rattle.apf_book.specs.declared.life_event.LifeEvent.TheVariants as life
+use Rattle.apf_history.specs.declared.events.Event.TheVariants.{Enter}
+use Rattle.apf_gate.specs.Tokens.{PassToken}
+use Rattle.apf_life.specs.declared.answers.Begin.TheVariants as begun
 use Rattle.apf_book.specs.RecentEvents.{event_of}
 use Rattle.apf_book.specs.Life.{IsAskedBy}
 use Rattle.apf_life.specs.declared.answers.Begin.{Begin}
 use Rattle.apf_line.specs.Levels.{LifeId}
-use Rattle.apf_life.specs.Arrivals.{Came, Logs}
+use Rattle.apf_life.specs.Admission.{begun_pass}
+use Rattle.apf_life.specs.Arrivals.{Came, HasEntered, Logs, TraceGoesOn}
 
 ask_stays : (newer older : List Entry) (r : ℕ) (ask : Asked) → asked_in older r ≡ Some ask → asked_in (newer ++ older) r ≡ Some ask
 ask_stays [] older r ask is = is
@@ -23,22 +28,49 @@ ask_stays (e ∷ newer) older r ask is = ap (λ (x : Option Asked). first_ask x 
 pub asked_more : (known known' : Knowledge) (r r' : ℕ) (ask : Asked) → KnowsMore known known' → r' ≡ r → asked_in known.trace r ≡ Some ask → asked_in known'.trace r' ≡ Some ask
 asked_more known known' r r' ask more same is = ap (asked_in known'.trace) same ∙ (ap (λ (es : List Entry). asked_in es r) more.trace.1 ∙ ask_stays more.trace.0 known.trace r ask is)
 
-pub came_more : (k : LifeId) (known known' : Knowledge) (r : ℕ) (hand : List ℕ) (cost : ℕ) (e : Event) → KnowsMore known known' → Came k known'.trace r hand cost e → Came k known.trace r hand cost e
-came_more k known known' r hand cost e more came = record {
+pub came_more : (k : LifeId) (known known' : Knowledge) (r : ℕ) (hand : List ℕ) (cost : ℕ) (e : Event) (last : List Entry) → KnowsMore known known' → Came k known'.trace r hand cost e last → Came k known.trace r hand cost e last
+came_more k known known' r hand cost e last more came = record {
   older = came.older;
-  newer = came.newer;
   trace = came.trace;
   goes_on = (came.goes_on.0 ++ more.trace.0, append_assoc came.goes_on.0 more.trace.0 known.trace ∙ (ap (λ (es : List Entry). came.goes_on.0 ++ es) (sym more.trace.1) ∙ came.goes_on.1));
+  heard = came.heard;
   of_level = came.of_level;
+  says = came.says;
   is_new = came.is_new;
-  servings = came.servings;
 }
+
+-- its Pass knows of more steps since
+pub came_since : (k : LifeId) (known : List Entry) (r : ℕ) (hand : List ℕ) (cost : ℕ) (e : Event) (last last' : List Entry) → (later : List Entry) × (later ++ last ≡ last') → Came k known r hand cost e last → Came k known r hand cost e last'
+came_since k known r hand cost e last last' on came = record {
+  older = came.older;
+  trace = came.trace;
+  goes_on = came.goes_on;
+  heard = (on.0 ++ came.heard.0, append_assoc on.0 came.heard.0 came.trace ∙ (ap (λ (es : List Entry). on.0 ++ es) came.heard.1 ∙ on.1));
+  of_level = came.of_level;
+  says = came.says;
+  is_new = came.is_new;
+}
+
+-- first these steps, and then those
+pub on_then : (a b c : List Entry) → (later : List Entry) × (later ++ a ≡ b) → (newer : List Entry) × (newer ++ b ≡ c) → (later : List Entry) × (later ++ a ≡ c)
+on_then a b c first then = (then.0 ++ first.0, append_assoc then.0 first.0 a ∙ (ap (λ (es : List Entry). then.0 ++ es) first.1 ∙ then.1))
+
+pub on_of : (known known' : Knowledge) → KnowsMore known known' → (later : List Entry) × (later ++ known.trace ≡ known'.trace)
+on_of known known' more = (more.trace.0, sym more.trace.1)
+
+-- a request that waited has its event still, once it is told where it is
+pub logs_since : (k : LifeId) (known : List Entry) (r : ℕ) (hand : List ℕ) (cost : ℕ) (old : PassToken) (answer : Begin) (event : Option LifeEvent) → TraceGoesOn old (begun_pass answer) → HasEntered answer → Logs k known r hand cost (begun.Waiting old) event → Logs k known r hand cost answer event
+logs_since k known r hand cost old answer None on entered logs = absurd logs
+logs_since k known r hand cost old answer (Some (life.Enter t q)) on entered logs = ((logs.0.0, entered), came_since k known r hand cost (Enter t.number q) old.pass.knows.trace (begun_pass answer).pass.knows.trace on logs.1)
+logs_since k known r hand cost old answer (Some (life.Full t q)) on entered logs = absurd logs.0.1
+logs_since k known r hand cost old answer (Some (life.Dispatch t q)) on entered logs = absurd logs.0
+logs_since k known r hand cost old answer (Some (life.Strike t q)) on entered logs = absurd logs.0
 
 pub logs_more : (k : LifeId) (known known' : Knowledge) (r r' : ℕ) (hand : List ℕ) (cost : ℕ) (answer : Begin) (event : Option LifeEvent) → KnowsMore known known' → r' ≡ r → Logs k known'.trace r' hand cost answer event → Logs k known.trace r hand cost answer event
 logs_more k known known' r r' hand cost answer None more same logs = logs
 logs_more k known known' r r' hand cost answer (Some event) more same logs =
     let here = subst (λ (i : ℕ). Logs k known'.trace i hand cost answer (Some event)) same logs in
-    (here.0, came_more k known known' r hand cost (event_of event) more here.1)
+    (here.0, came_more k known known' r hand cost (event_of event) (begun_pass answer).pass.knows.trace more here.1)
 
 -- the hand and the cost are those that the request asked for
 pub is_asked : (sizes : Sizes) (trace : List Entry) (r hash cost : ℕ) → asked_in trace r ≡ Some (record { hash = hash; cost = cost }) → IsAskedBy sizes trace (hand_of sizes hash) cost r

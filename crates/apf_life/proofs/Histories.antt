@@ -35,15 +35,16 @@ still_own k b b' v v' own same kept kept' limit = record {
   settles = ap (λ (n : ℕ). not (n == 0)) same.places ∙ own.settles;
 }
 
-pub came : (laws : HasHistories) (k : LifeId) (known : List Entry) (v : LifeView) (b b' : LifeBookView) (r : ℕ) (hand : List ℕ) (cost : ℕ) (e : Event) (count : ℕ) → IsBookOf k b' → has_arrived v.history r ≡ false → (later : List Entry) × (later ++ known ≡ b.desk.desk.knows.trace) → SameLifeBook b b' → ServesLife (then_came (asked v r hand cost) e) b count b' → Came k known r hand cost e
-came laws k known v b b' r hand cost e count own new heard same served = record {
-  trace = b'.desk.desk.knows.trace;
-  goes_on = (same.more.trace.0 ++ heard.0, append_assoc same.more.trace.0 heard.0 known ∙ (ap (λ (es : List Entry). same.more.trace.0 ++ es) heard.1 ∙ sym same.more.trace.1));
+-- the event of an arrival was the newest of the history of this book, and the Pass knew then what its Desk did
+pub came : (laws : HasHistories) (k : LifeId) (known known' : List Entry) (v : LifeView) (b : LifeBookView) (r : ℕ) (hand : List ℕ) (cost : ℕ) (e : Event) → IsBookOf k b → has_arrived v.history r ≡ false → (later : List Entry) × (later ++ known ≡ b.desk.desk.knows.trace) → known' ≡ b.desk.desk.knows.trace → IsLifeKept (then_came (asked v r hand cost) e) b → Came k known r hand cost e known'
+came laws k known known' v b r hand cost e own new heard follows kept = record {
   older = v;
-  newer = served.events;
-  of_level = laws.of_level k _ b' own served.kept;
+  trace = b.desk.desk.knows.trace;
+  goes_on = heard;
+  heard = ([], sym follows);
+  of_level = laws.of_level k (then_came (asked v r hand cost) e) b own kept;
+  says = kept.agrees.said;
   is_new = new;
-  servings = served.servings;
 }
 
 -- a history in which nothing happened yet, of a gate of this shape

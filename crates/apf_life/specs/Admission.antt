@@ -1,11 +1,13 @@
 -- What the calls of a request answer, by the steps that they make in its Pass's record.
-use Rattle.std.specs.Prelude.{◌≡◌, ◌≢◌, ◌⊎◌, ◌==◌, ℕ, not, true, false, Option, Some, None}
+use Rattle.std.specs.Prelude.{◌≡◌, ◌≢◌, ◌⊎◌, ◌==◌, ℕ, not, Bool, true, false, Option, Some, None}
 use Rattle.apf_words.specs.Level.{Level}
 use Rattle.apf_words.specs.declared.decision.Decision.{Decision}
 use Rattle.apf_words.specs.declared.decision.Decision.TheVariants as decisions
 use Rattle.apf_gate.specs.declared.record.PassRecord.{PassRecord}
 use Rattle.apf_gate.specs.declared.record.State.TheVariants.{Fresh}
 use Rattle.apf_gate.specs.Records.{told_own, own_width}
+use Rattle.apf_gate.specs.declared.answers.TrySetLimit.{TrySetLimit}
+use Rattle.apf_gate.specs.declared.answers.TrySetLimit.TheVariants as setting
 use Rattle.apf_gate.specs.Slots.{next_of}
 use Rattle.apf_gate.specs.Tokens.{PassToken, pass_gate}
 use Rattle.apf_gate.specs.PassSteps.{PassLoadsDecision, PassRenews}
@@ -41,6 +43,11 @@ polled_pass (polled.Still token) = token
 abbrev pub admitted_pass : Admit → PassToken
 admitted_pass (admitted.Run token) = token
 admitted_pass (admitted.Over token decision) = token
+
+-- the same answer of an arrival, in the end
+abbrev pub begun_of : Admit → Begin
+begun_of (admitted.Run token) = begun.Run token
+begun_of (admitted.Over token decision) = begun.Over token decision
 
 -- the slot's numbers are used up, and its Pass is as it was; or the next request of the slot is there, new and undecided, with this width, this hash and this cost
 abbrev pub Renews : PassToken → ℕ → ℕ → ℕ → Renewed → Type 0
@@ -101,6 +108,16 @@ TriesToAdmit pass (tried.Over token decision waiters) =
     ⊎ (((waiters ≡ false) × FindsNoRoom pass decision token.pass)
     ⊎ ((level : Level) × (waiters ≡ not (level.waiters == 0)) × TakesAndLoses pass decision level token.pass)))
 TriesToAdmit pass (tried.Busy a) = FindsBusy pass a.token.pass
+
+-- whether requests waited when seats were given back, or the limit was set: then a dispatch is owed
+abbrev pub owed_by_try : TryAdmit → Bool
+owed_by_try (tried.Run token) = false
+owed_by_try (tried.Over token decision waiters) = waiters
+owed_by_try (tried.Busy a) = false
+
+abbrev pub owed_by_setting : TrySetLimit → Bool
+owed_by_setting (setting.Set old waiters) = waiters
+owed_by_setting setting.Raced = false
 
 -- the answer says that the level was open
 abbrev pub SaysOpen : TryAdmit → Type 0

@@ -1,5 +1,5 @@
 -- What an arrival is, and what the history got by it.
-use Rattle.std.specs.Prelude.{◌≡◌, ◌≢◌, ◌⊎◌, ℕ, true, false, List, ◌++◌, Option, Some, None}
+use Rattle.std.specs.Prelude.{◌≡◌, ◌≢◌, ◌⊎◌, ℕ, true, false, List, ◌∷◌, ◌++◌, map, Option, Some, None}
 use Rattle.apf_words.specs.declared.decision.Decision.TheVariants as decisions
 use Rattle.apf_history.specs.declared.events.Event.{Event}
 use Rattle.apf_history.specs.declared.events.Event.TheVariants as events
@@ -7,31 +7,36 @@ use Rattle.apf_model.specs.History.{has_arrived}
 use Rattle.apf_gate.specs.declared.record.Entry.{Entry}
 use Rattle.apf_gate.specs.declared.record.PassRecord.{PassRecord}
 use Rattle.apf_gate.specs.Records.{told_own}
+use Rattle.apf_gate.specs.Tokens.{PassToken}
 use Rattle.apf_book.specs.declared.life_event.LifeEvent.{LifeEvent}
 use Rattle.apf_book.specs.Life.{LifeView, asked, then_came}
-use Rattle.apf_book.specs.LifeBook.{then_came_all}
 use Rattle.apf_book.specs.RecentEvents.{event_of}
-use Rattle.apf_book.specs.Servings.{AreServings}
+use Rattle.apf_book.specs.Said.{saying, sayings}
 use Rattle.apf_life.specs.declared.answers.Enqueued.{Enqueued}
 use Rattle.apf_life.specs.declared.answers.Enqueued.TheVariants as enqueued
 use Rattle.apf_life.specs.declared.answers.Begin.{Begin}
 use Rattle.apf_life.specs.declared.answers.Begin.TheVariants as begun
+use Rattle.apf_life.specs.Admission.{begun_pass}
 use Rattle.apf_line.specs.Levels.{LifeId, IsHistoryOf}
 
--- by steps that go on from what its Pass knew: the request, new to a history that the level may have had, asked for this hand and this cost; its event came, and then Dispatches and Strikes alone
-pub record Came (k : LifeId) (known : List Entry) (r : ℕ) (hand : List ℕ) (cost : ℕ) (event : Event) : Type 0 where
+-- all steps that the Pass knew of it knows of still, and of later ones
+abbrev pub TraceGoesOn : PassToken → PassToken → Type 0
+TraceGoesOn token token' = (later : List Entry) × (later ++ token.pass.knows.trace ≡ token'.pass.knows.trace)
+
+-- the request's event came, and was then the newest of the level's history. That history is what the Desk's steps say in their order, among all steps at the gate up to then. Those go on from what its Pass had known, and its Pass knows of them. The request is new to the history, and asked for this hand and this cost
+pub record Came (k : LifeId) (known : List Entry) (r : ℕ) (hand : List ℕ) (cost : ℕ) (event : Event) (known' : List Entry) : Type 0 where
   pub older : LifeView
-  pub newer : List Event
   pub trace : List Entry
   pub goes_on : (later : List Entry) × (later ++ known ≡ trace)
-  pub of_level : IsHistoryOf k trace (then_came_all newer (then_came (asked older r hand cost) event))
+  pub heard : (later : List Entry) × (later ++ trace ≡ known')
+  pub of_level : IsHistoryOf k trace (then_came (asked older r hand cost) event)
+  pub says : map saying (event ∷ older.history) ≡ sayings trace
   pub is_new : has_arrived older.history r ≡ false
-  pub servings : AreServings newer
 
 -- what is told of a request that arrived under the lock, with its event: it entered a queue, or found one full; and else it has no event
 abbrev pub EnqueuedAs : LifeId → List Entry → List ℕ → ℕ → PassRecord → Enqueued → Type 0
-EnqueuedAs k known hand cost pass (enqueued.Entered q) = (pass.entered ≡ true) × Came k known pass.number hand cost (events.Enter pass.number q)
-EnqueuedAs k known hand cost pass (enqueued.Full q) = (told_own pass ≡ Some decisions.QueueFull) × (pass.entered ≡ false) × Came k known pass.number hand cost (events.Full pass.number q)
+EnqueuedAs k known hand cost pass (enqueued.Entered q) = (pass.entered ≡ true) × Came k known pass.number hand cost (events.Enter pass.number q) pass.knows.trace
+EnqueuedAs k known hand cost pass (enqueued.Full q) = (told_own pass ≡ Some decisions.QueueFull) × (pass.entered ≡ false) × Came k known pass.number hand cost (events.Full pass.number q) pass.knows.trace
 EnqueuedAs k known hand cost pass (enqueued.Over decision) = (told_own pass ≡ Some decision) × (decision ≢ decisions.Execute) × (decision ≢ decisions.QueueFull) × (pass.entered ≡ false)
 
 -- the answer says that a queue was full
@@ -59,7 +64,7 @@ NeedsNoEvent (begun.Run token) = token.pass.entered ≡ false
 NeedsNoEvent (begun.Over token decision) = (token.pass.entered ≡ false) × (decision ≢ decisions.QueueFull)
 NeedsNoEvent (begun.Waiting token) = ⊥
 
--- the event, if there is one, is the request's, and a history that the level may have had got it, with this hand and this cost
+-- the event, if there is one, is the request's, and the level's history got it, with this hand and this cost
 abbrev pub Logs : LifeId → List Entry → ℕ → List ℕ → ℕ → Begin → Option LifeEvent → Type 0
 Logs k known r hand cost answer None = NeedsNoEvent answer
-Logs k known r hand cost answer (Some event) = IsEventOf r answer (event_of event) × Came k known r hand cost (event_of event)
+Logs k known r hand cost answer (Some event) = IsEventOf r answer (event_of event) × Came k known r hand cost (event_of event) (begun_pass answer).pass.knows.trace

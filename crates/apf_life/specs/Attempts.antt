@@ -1,5 +1,5 @@
 -- One attempt of a request to be admitted, which says why it is busy, and leaves the Pass in its place.
-use Rattle.std.specs.Prelude.{◌≡◌, ◌≢◌, ◌⊎◌, ◌==◌, not, false, Some, None}
+use Rattle.std.specs.Prelude.{◌≡◌, ◌≢◌, ◌⊎◌, ◌==◌, not, Bool, false, Some, None}
 use Rattle.apf_words.specs.Level.{Level}
 use Rattle.apf_words.specs.declared.decision.Decision.TheVariants as decisions
 use Rattle.apf_gate.specs.declared.record.PassRecord.{PassRecord}
@@ -25,6 +25,13 @@ IsAttemptedTold tries.Run token = told_own token.pass ≡ Some decisions.Execute
 IsAttemptedTold (tries.Over decision waiters) token = (told_own token.pass ≡ Some decision) × (decision ≢ decisions.Execute)
 IsAttemptedTold tries.Blocked token = token.pass.state ≡ Fresh
 IsAttemptedTold tries.Raced token = token.pass.state ≡ Fresh
+
+-- whether requests waited when it gave its seats back: then a dispatch is owed
+abbrev pub owed_by : Tried → Bool
+owed_by tries.Run = false
+owed_by (tries.Over decision waiters) = waiters
+owed_by tries.Blocked = false
+owed_by tries.Raced = false
 
 -- its steps
 abbrev pub Attempts : PassRecord → Tried → PassToken → Type 0

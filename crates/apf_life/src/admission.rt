@@ -7,14 +7,16 @@ ghost use Rattle.apf_gate.specs.Records.{told_own, KnowsMore};
 ghost use Rattle.apf_gate.specs.PassSteps.{PassSubtractsLevel};
 ghost use Rattle.apf_gate.specs.Tokens.{pass_gate};
 ghost use Rattle.apf_line.specs.Tokens.{IsOf, IsRunning, IsDone};
-ghost use Rattle.apf_life.specs.Admission.{tried_pass, IsTriedTold, AsksAgain, TriesToAdmit, SaysOpen};
-ghost use Rattle.apf_life.specs.Attempts.{Attempts, TakesOrDecides, IsKeptBy};
+ghost use Rattle.apf_life.specs.Admission.{tried_pass, IsTriedTold, AsksAgain, TriesToAdmit, SaysOpen, owed_by_try};
+ghost use Rattle.apf_life.specs.Attempts.{Attempts, TakesOrDecides, IsKeptBy, owed_by};
+ghost use Rattle.apf_life.specs.Arrivals.{TraceGoesOn};
 ghost use Rattle.apf_life.specs.Calls.{IsFreshPass, AfterAttempt};
 ghost use Rattle.apf_life.specs.Releases.{Executes, ReleasesMeasured};
 
 use crate::answers::{Tried, TryAdmit};
 use crate::level::Level;
 use crate::naming::Naming;
+use crate::owing::Owes;
 use crate::shared::Shared;
 use crate::tokens::{Done, Pass, Running};
 use apf_gate::TryTake;
@@ -26,27 +28,34 @@ impl<K: Naming> Level<K> {
     ///
     /// It reads the decision, and where that is not written makes a load of the level word; where that
     /// showed room an exchange; and an exchange of the decision word, unless it answers busy. Seats that were
-    /// taken while the request was cancelled are given back.
-    pub fn try_admit(&self, pass: Pass) -> TryAdmit
+    /// taken while the request was cancelled are given back. Where requests waited then, a dispatch is owed.
+    pub fn try_admit(&self, pass: Pass) -> (TryAdmit, Owes<K>)
         requires own { pass_gate pass.token ≡ K.level.gate }
-        ensures same { IsOf pass.token (tried_pass result) }
-        ensures told { IsTriedTold result }
-        ensures again { AsksAgain pass result }
-        ensures steps { TriesToAdmit pass.token.pass result }
-        ensures stays_closed { pass.token.pass.knows.saw_closed ≡ true → ¬ SaysOpen result }
+        ensures same { IsOf pass.token (tried_pass result.0) }
+        ensures told { IsTriedTold result.0 }
+        ensures again { AsksAgain pass result.0 }
+        ensures steps { TriesToAdmit pass.token.pass result.0 }
+        ensures stays_closed { pass.token.pass.knows.saw_closed ≡ true → ¬ SaysOpen result.0 }
+        ensures owes { result.1 ≡ owed_by_try result.0 }
     {
         let Pass {
             mut pass,
             hash,
             cost,
         } = pass;
-        match self.attempt(&mut pass) {
-            Tried::Run => TryAdmit::Run(Running {
-                pass,
-                entered: false,
-            }),
-            Tried::Over(decision, waiting) => TryAdmit::Over(Done { pass }, decision, waiting),
-            Tried::Blocked | Tried::Raced => TryAdmit::Busy(Pass { pass, hash, cost }),
+        let (tried, owes) = self.attempt(&mut pass);
+        match tried {
+            Tried::Run => {
+                let running = Running {
+                    pass,
+                    entered: false,
+                };
+                (TryAdmit::Run(running), owes)
+            }
+            Tried::Over(decision, waiting) => {
+                (TryAdmit::Over(Done { pass }, decision, waiting), owes)
+            }
+            Tried::Blocked | Tried::Raced => (TryAdmit::Busy(Pass { pass, hash, cost }), owes),
         }
     }
 
@@ -54,25 +63,39 @@ impl<K: Naming> Level<K> {
     /// in its place: it is then that of a request that executes, is over, or is fresh as before, by the answer.
     ///
     /// It takes no lock, and makes the steps of `try_admit`. Where requests waited when its seats were given
-    /// back, the caller owes a dispatch.
-    pub fn attempt(&self, pass: &mut apf_gate::Pass) -> Tried
+    /// back, a dispatch is owed.
+    pub fn attempt(&self, pass: &mut apf_gate::Pass) -> (Tried, Owes<K>)
         requires fresh { IsFreshPass K.level pass.old }
-        ensures kept { IsKeptBy result pass.new }
-        ensures after { AfterAttempt pass.old result pass.new }
+        ensures kept { IsKeptBy result.0 pass.new }
+        ensures after { AfterAttempt pass.old result.0 pass.new }
         ensures more { KnowsMore pass.old.pass.knows pass.new.pass.knows }
-        ensures steps { Attempts pass.old.pass result pass.new }
+        ensures steps { Attempts pass.old.pass result.0 pass.new }
         ensures never_entered { pass.old.pass.entered ≡ false }
+        ensures owes { result.1 ≡ owed_by result.0 }
     {
         let _number = pass.number();
         if let Some(decision) = self.gate.told(pass) {
-            return Tried::Over(decision, false);
+            return (Tried::Over(decision, false), Owes::nothing());
         }
         self.take(pass)
     }
 
     // Takes the seats, if nobody waits and they fit, and decides: what `attempt` does once it read that
     // nothing is decided.
-    pub(crate) fn take(&self, pass: &mut apf_gate::Pass) -> Tried
+    pub(crate) fn take(&self, pass: &mut apf_gate::Pass) -> (Tried, Owes<K>)
+        requires fresh { IsFreshPass K.level pass.old }
+        ensures kept { IsKeptBy result.0 pass.new }
+        ensures after { AfterAttempt pass.old result.0 pass.new }
+        ensures more { KnowsMore pass.old.pass.knows pass.new.pass.knows }
+        ensures steps { TakesOrDecides pass.old.pass result.0 pass.new }
+        ensures owes { result.1 ≡ owed_by result.0 }
+    {
+        let tried = self.take_or_decide(pass);
+        (tried, owes_of(tried))
+    }
+
+    // The same, with whether a dispatch is owed in the answer alone.
+    fn take_or_decide(&self, pass: &mut apf_gate::Pass) -> Tried
         requires fresh { IsFreshPass K.level pass.old }
         ensures kept { IsKeptBy result pass.new }
         ensures after { AfterAttempt pass.old result pass.new }
@@ -104,11 +127,12 @@ impl<K: Naming> Level<K> {
         }
     }
 
-    /// Gives the request's seats back, by one step on the level word. Where requests waited then, the
-    /// caller owes a dispatch.
-    pub fn release(&self, running: Running) -> (Done, bool)
+    /// Gives the request's seats back, by one step on the level word. Where requests waited then, a dispatch is
+    /// owed.
+    pub fn release(&self, running: Running) -> (Done, Owes<K>)
         requires own { pass_gate running ≡ K.level.gate }
         ensures same { IsOf running result.0 }
+        ensures goes_on { TraceGoesOn running result.0 }
         ensures told { told_own result.0.pass ≡ Some Execute }
         ensures answer { (level : Word) × PassSubtractsLevel running.pass level result.0.pass × (result.1 ≡ not (level.waiters == 0)) }
     {
@@ -116,39 +140,44 @@ impl<K: Naming> Level<K> {
             mut pass,
             entered: _,
         } = running;
-        let waiting = self.give_back(&mut pass);
-        (Done { pass }, waiting)
+        let owes = self.give_back(&mut pass);
+        (Done { pass }, owes)
     }
 
-    /// Gives the seats of a request that executes back, by one step on the level word. Answers whether
-    /// requests waited then: if so, the caller owes a dispatch. The slot's Pass stays in its place, that of a
-    /// request that is over.
-    pub fn give_back(&self, pass: &mut apf_gate::Pass) -> bool
+    /// Gives the seats of a request that executes back, by one step on the level word. Where requests waited
+    /// then, a dispatch is owed. The slot's Pass stays in its place, that of a request that is over.
+    pub fn give_back(&self, pass: &mut apf_gate::Pass) -> Owes<K>
         requires own { pass_gate pass.old ≡ K.level.gate }
         requires runs { IsRunning pass.old }
         ensures done { IsDone pass.new }
         ensures same { IsOf pass.old pass.new }
+        ensures goes_on { TraceGoesOn pass.old pass.new }
         ensures told { told_own pass.new.pass ≡ Some Execute }
         ensures answer { (level : Word) × PassSubtractsLevel pass.old.pass level pass.new.pass × (result ≡ not (level.waiters == 0)) }
     {
-        self.gate.release(pass)
+        Owes::of(self.gate.release(pass))
     }
 
     /// As `release`, of a request that ran this many microseconds. If it was dispatched from a queue, what it took is settled
-    /// before its seats go back, under the level's lock, and others are dispatched then: the caller owes no dispatch.
+    /// before its seats go back, under the level's lock, and others are dispatched then: no dispatch is owed.
     /// If it took its seats on arrival, it was never charged, and this is `release`, outside the lock.
     ///
     /// What it took is its width times this time, 1 to 2^46 microseconds of a seat: see `Locked::finish`. Only a level
     /// that was opened by `open_settling` settles it.
-    pub fn release_measured<R: Wait>(&self, rt: &R, running: Running, micros: u64) -> (Done, bool)
+    pub fn release_measured<R: Wait>(
+        &self,
+        rt: &R,
+        running: Running,
+        micros: u64,
+    ) -> (Done, Owes<K>)
         requires own { pass_gate running ≡ K.level.gate }
         ensures same { IsOf running result.0 }
         ensures told { told_own result.0.pass ≡ Some Execute }
         ensures answer { ReleasesMeasured running.pass result.1 result.0.pass }
     {
         let Running { mut pass, entered } = running;
-        let waiting = self.give_back_measured(rt, &mut pass, entered, micros);
-        (Done { pass }, waiting)
+        let owes = self.give_back_measured(rt, &mut pass, entered, micros);
+        (Done { pass }, owes)
     }
 
     /// The same, of a request that entered a queue or not. The slot's Pass stays in its place, that of a request that is
@@ -159,7 +188,7 @@ impl<K: Naming> Level<K> {
         pass: &mut apf_gate::Pass,
         entered: bool,
         micros: u64,
-    ) -> bool
+    ) -> Owes<K>
         requires own { pass_gate pass.old ≡ K.level.gate }
         requires runs { Executes entered pass.old }
         ensures done { IsDone pass.new }
@@ -171,6 +200,16 @@ impl<K: Naming> Level<K> {
             return self.give_back(pass);
         }
         self.lock(rt).finish(rt, pass, micros);
-        false
+        Owes::nothing()
+    }
+}
+
+// What is owed after an attempt that came to this.
+fn owes_of<K: Naming>(tried: Tried) -> Owes<K>
+    ensures { result ≡ owed_by tried }
+{
+    match tried {
+        Tried::Over(_decision, waiting) => Owes::of(waiting),
+        Tried::Run | Tried::Blocked | Tried::Raced => Owes::nothing(),
     }
 }

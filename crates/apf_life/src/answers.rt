@@ -18,8 +18,8 @@ pub enum Renewed {
 pub enum TryAdmit {
     /// It executes.
     Run(Running),
-    /// It is decided so. Where the bool is true requests waited when its seats were given back, and the
-    /// caller owes a dispatch.
+    /// It is decided so. Where the bool is true requests waited when its seats were given back, and a dispatch is
+    /// owed.
     Over(Done, Decision, bool),
     /// Requests wait, it does not fit, or the level word changed in between. On a level without queues,
     /// the last alone.

@@ -9,8 +9,8 @@ ghost use Rattle.apf_gate.specs.Traces.{asked_in};
 ghost use Rattle.apf_gate.specs.Tokens.{pass_gate};
 ghost use Rattle.apf_line.specs.Tokens.{IsOf, IsInLine};
 ghost use Rattle.apf_life.specs.InPlace.{begin_of, poll_of, IsLeftBy, IsDecided, HasEnteredIf};
-ghost use Rattle.apf_life.specs.Admission.{polled_pass, admitted_pass, IsAdmittedTold, SaysWaiting, Polls};
-ghost use Rattle.apf_life.specs.Arrivals.{Logs};
+ghost use Rattle.apf_life.specs.Admission.{polled_pass, admitted_pass, begun_of, IsAdmittedTold, SaysWaiting, Polls};
+ghost use Rattle.apf_life.specs.Arrivals.{Logs, TraceGoesOn};
 ghost use Rattle.apf_life.specs.Calls.{IsFreshPass, AfterBegin};
 
 use crate::answers::{Admit, Begin, Begun, Enqueued, Poll, Tried};
@@ -83,7 +83,9 @@ impl<K: Naming> Level<K> {
     pub fn admit<R: Wait>(&self, rt: &R, pass: Pass) -> Admit
         requires own { pass_gate pass.token ≡ K.level.gate }
         ensures same { IsOf pass.token (admitted_pass result) }
+        ensures goes_on { TraceGoesOn pass.token (admitted_pass result) }
         ensures told { IsAdmittedTold result }
+        ensures logs { (event : Option LifeEvent) × Logs K.level pass.token.pass.knows.trace pass.token.pass.number (hand_of K.level.sizes pass.hash) pass.cost (begun_of result) event }
     {
         let Pass {
             mut pass,
@@ -118,20 +120,17 @@ impl<K: Naming> Level<K> {
         requires low_cost { cost ≤ max_cost }
         requires asked { asked_in pass.old.pass.knows.trace pass.old.pass.number ≡ Some (record { hash = hash; cost = cost }) }
         ensures left { IsLeftBy result.0 pass.new }
+        ensures goes_on { TraceGoesOn pass.old pass.new }
         ensures after { AfterBegin pass.old (begin_of result.0 pass.new) }
         ensures queues { SaysWaiting (begin_of result.0 pass.new) → self.now.shape.response ≡ Queue }
         ensures logs { Logs K.level pass.old.pass.knows.trace pass.old.pass.number (hand_of K.level.sizes hash) cost (begin_of result.0 pass.new) result.1 }
     {
-        let mut tried = self.attempt(pass);
+        let (mut tried, owes) = self.attempt(pass);
+        self.dispatch_if_owed(rt, owes);
         for _ in rt.forever() {
             match tried {
                 Tried::Run => return (Begun::Run, None),
-                Tried::Over(decision, waiting) => {
-                    if waiting {
-                        self.lock(rt).dispatch(rt);
-                    }
-                    return (Begun::Over(decision), None);
-                }
+                Tried::Over(decision, _waiting) => return (Begun::Over(decision), None),
                 Tried::Blocked => match &self.shared {
                     Shared::Queued(queued) => {
                         return self.enqueue(rt, queued, pass, hash, cost);
@@ -141,7 +140,9 @@ impl<K: Naming> Level<K> {
                 },
                 Tried::Raced => {}
             }
-            tried = self.take(pass);
+            let (again, owes) = self.take(pass);
+            self.dispatch_if_owed(rt, owes);
+            tried = again;
         }
         unreachable!()
     }
@@ -160,6 +161,7 @@ impl<K: Naming> Level<K> {
         requires low_cost { cost ≤ max_cost }
         requires asked { asked_in pass.old.pass.knows.trace pass.old.pass.number ≡ Some (record { hash = hash; cost = cost }) }
         ensures left { IsLeftBy result.0 pass.new }
+        ensures goes_on { TraceGoesOn pass.old pass.new }
         ensures after { AfterBegin pass.old (begin_of result.0 pass.new) }
         ensures logs { Logs K.level pass.old.pass.knows.trace pass.old.pass.number (hand_of K.level.sizes hash) cost (begin_of result.0 pass.new) result.1 }
         ensures queues { self.now.shape.response ≡ Queue }
@@ -192,6 +194,7 @@ impl<K: Naming> Level<K> {
         requires waits { IsInLine pass.old }
         ensures left { IsLeftBy result pass.new }
         ensures same { IsOf pass.old pass.new }
+        ensures goes_on { TraceGoesOn pass.old pass.new }
         ensures answer { Polls pass.old.pass (poll_of result pass.new) }
     {
         match self.gate.told(pass) {
@@ -220,8 +223,10 @@ impl<K: Naming> Level<K> {
         requires asked { asked_in pass.old.pass.knows.trace pass.old.pass.number ≡ Some (record { hash = hash; cost = cost }) }
         ensures left { IsLeftBy result.0 pass.new }
         ensures same { IsOf pass.old pass.new }
+        ensures goes_on { TraceGoesOn pass.old pass.new }
         ensures told { IsDecided result.0 pass.new }
         ensures entered { HasEnteredIf result.0 result.1 pass.new }
+        ensures logs { (event : Option LifeEvent) × Logs K.level pass.old.pass.knows.trace pass.old.pass.number (hand_of K.level.sizes hash) cost (begin_of result.0 pass.new) event }
     {
         let (begun, event) = self.arrive(rt, pass, hash, cost);
         match begun {

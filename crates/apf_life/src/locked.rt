@@ -15,6 +15,7 @@ ghost use Rattle.apf_life.specs.Sections.{IsCopied, AreStatsOf};
 
 use crate::level::Level;
 use crate::naming::Naming;
+use crate::owing::Owes;
 use crate::queued::Queued;
 use crate::shared::Shared;
 use apf_book::{Copied, LifeEvent, LifeStats};
@@ -143,7 +144,15 @@ impl<K: Naming> Level<K> {
         }
     }
 
-    /// Sets the limit, in seats, and then dispatches. Answers the old limit. A lost exchange is tried again.
+    /// Dispatches, if that is owed. It takes the lock only then.
+    pub fn dispatch_if_owed<R: Wait>(&self, rt: &R, owes: Owes<K>) {
+        if let Some(owed) = owes.left() {
+            owed.dispatch(rt, &mut self.lock(rt));
+        }
+    }
+
+    /// Sets the limit, in seats, and then dispatches, if requests wait. Answers the old limit. A lost exchange is tried
+    /// again.
     pub fn set_limit<R: Wait>(&self, rt: &R, station: &mut Station, limit: u32) -> u32
         requires own { station_gate station.old ≡ K.level.gate }
         requires some_limit { 1 ≤ limit }
@@ -152,8 +161,9 @@ impl<K: Naming> Level<K> {
         ensures answer { LastSet station.old.station limit result station.new.station }
     {
         for _ in rt.forever() {
-            if let TrySetLimit::Set(old, _waiting) = self.gate.try_set_limit(station, limit) {
-                self.lock(rt).dispatch(rt);
+            let (tried, owes) = self.try_set_limit(station, limit);
+            self.dispatch_if_owed(rt, owes);
+            if let TrySetLimit::Set(old, _waiting) = tried {
                 return old;
             }
         }

@@ -14,7 +14,7 @@ ghost use Rattle.apf_line.specs.Levels.{IsBookOf};
 ghost use Rattle.apf_line.specs.Tokens.{IsOf, IsRunning, IsDone};
 ghost use Rattle.apf_queue.specs.View.{max_charge};
 ghost use Rattle.apf_life.specs.Releases.{GivesBack};
-ghost use Rattle.apf_life.specs.Arrivals.{EnqueuedAs};
+ghost use Rattle.apf_life.specs.Arrivals.{EnqueuedAs, TraceGoesOn};
 ghost use Rattle.apf_life.specs.Sections.{IsCopied, AreStatsOf, AreSleepers};
 ghost use Rattle.apf_life.specs.Locked.{StrikesAndServes, SettlesAndServes};
 ghost use Rattle.apf_book.specs.RecentEvents.{AreLifeStats, CopiesLate};
@@ -117,6 +117,7 @@ impl<K: Naming> Queued<K> {
         requires own { gate.now ≡ K.level.gate }
         requires stands { StandsInLine K.level pass.old dealt.now cost }
         ensures same { IsOf pass.old pass.new }
+        ensures goes_on { TraceGoesOn pass.old pass.new }
         ensures in_line { pass.new.pass.state ≡ InLine }
         ensures stands { EnqueuedAs K.level pass.old.pass.knows.trace dealt.now cost pass.new.pass result }
     {
@@ -124,6 +125,8 @@ impl<K: Naming> Queued<K> {
         self.book.has_a_history();
         let before = self.book.events();
         let arrived = self.book.arrive(rt, gate, pass, dealt, cost);
+        // its Pass knows then what the Desk does, so that the answer can be said of the history as it stands here
+        self.book.hear(gate, pass);
         serve(rt, gate, &mut self.book, self.sleepers.as_slice(), before);
         match arrived {
             Arrived::Queued(queue) => Enqueued::Entered(queue),
@@ -203,6 +206,7 @@ impl<K: Naming> Queued<K> {
         ensures state { pass.new.pass.state ≡ pass.old.pass.state }
         ensures told { told_own pass.new.pass ≡ told_own pass.old.pass }
         ensures cancelled { told_own pass.new.pass ≡ Some Cancelled }
+        ensures goes_on { TraceGoesOn pass.old pass.new }
     {
         every_level_has_histories();
         self.book.has_a_history();

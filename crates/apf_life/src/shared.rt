@@ -6,6 +6,7 @@ ghost use Rattle.apf_gate.specs.Records.{told_own};
 ghost use Rattle.apf_gate.specs.Slots.{IsTicket};
 ghost use Rattle.apf_gate.specs.Tokens.{pass_gate};
 ghost use Rattle.apf_line.specs.Tokens.{IsOf, IsInLine};
+ghost use Rattle.apf_life.specs.Arrivals.{TraceGoesOn};
 
 use crate::naming::Naming;
 use crate::queued::QueuedLock;
@@ -34,6 +35,7 @@ impl<K: Naming> Shared<K> {
         ensures state { pass.new.pass.state ≡ pass.old.pass.state }
         ensures told { told_own pass.new.pass ≡ told_own pass.old.pass }
         ensures cancelled { told_own pass.new.pass ≡ Some Cancelled }
+        ensures goes_on { TraceGoesOn pass.old pass.new }
     {
         match self {
             Shared::Queued(queued) => queued.lock.lock(rt).withdraw(rt, gate, pass),

@@ -7,9 +7,11 @@ ghost use Rattle.apf_gate.specs.StationSteps.{StationLoadsLevel};
 ghost use Rattle.apf_gate.specs.StationCalls.{TriesToRead, TriesToCancel, ClosesTo, TriesToSet};
 ghost use Rattle.apf_gate.specs.StationResults.{SameStation, AfterLook, AfterTryRead, AfterTryCancel, AfterClose};
 ghost use Rattle.apf_gate.specs.Tokens.{station_gate};
+ghost use Rattle.apf_life.specs.Admission.{owed_by_setting};
 
 use crate::level::Level;
 use crate::naming::Naming;
+use crate::owing::Owes;
 use apf_gate::{Cancel, Close, Read, Station, Ticket, TrySetLimit};
 use apf_words::LevelWord;
 
@@ -67,15 +69,21 @@ impl<K: Naming> Level<K> {
         self.gate.look(station)
     }
 
-    /// Sets the limit, in seats: one load of the level word, and one exchange. Where requests waited then,
-    /// the caller owes a dispatch.
-    pub fn try_set_limit(&self, station: &mut Station, limit: u32) -> TrySetLimit
+    /// Sets the limit, in seats: one load of the level word, and one exchange. Where requests waited then, a
+    /// dispatch is owed.
+    pub fn try_set_limit(&self, station: &mut Station, limit: u32) -> (TrySetLimit, Owes<K>)
         requires own { station_gate station.old ≡ K.level.gate }
         requires some_limit { 1 ≤ limit }
         requires small_limit { limit ≤ max_limit }
         ensures same { SameStation station.old station.new }
-        ensures answer { TriesToSet station.old.station limit result station.new.station }
+        ensures answer { TriesToSet station.old.station limit result.0 station.new.station }
+        ensures owes { result.1 ≡ owed_by_setting result.0 }
     {
-        self.gate.try_set_limit(station, limit)
+        let tried = self.gate.try_set_limit(station, limit);
+        let waiting = match tried {
+            TrySetLimit::Set(_old, waiting) => waiting,
+            TrySetLimit::Raced => false,
+        };
+        (tried, Owes::of(waiting))
     }
 }

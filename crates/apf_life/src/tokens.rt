@@ -120,14 +120,6 @@ impl Waiting {
 }
 
 impl Running {
-    /// That of a request that executes, of its Pass, which entered a queue or not.
-    pub fn of(pass: apf_gate::Pass, entered: bool) -> Running
-        requires { Executes entered pass }
-        ensures { result ≡ pass }
-    {
-        Running { pass, entered }
-    }
-
     /// What names the request for ever.
     pub fn ticket(&self) -> Ticket
         ensures number { result.number ≡ self.now.pass.number }

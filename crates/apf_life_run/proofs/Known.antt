@@ -1,14 +1,17 @@
 -- What a Station knows of the slots of its worker.
 use Rattle.std.specs.Prelude.{Some, slice_get}
-use Rattle.std.proofs.Common.{◌≡◌, ◌≢◌, ℕ, ◌+◌, ◌<◌, ◌≤◌, true, List, All, None, sym, ap, ◌∙◌, subst, arith, inl, inr}
+use Rattle.std.proofs.Common.{◌≡◌, ◌≢◌, ℕ, ◌+◌, ◌<◌, ◌≤◌, true, List, [], ◌∷◌, ◌++◌, All, Option, None, sym, ap, ◌∙◌, subst, arith, inl, inr}
 use Rattle.std.proofs.lemmas.Bool.{cases_eq}
 use Rattle.apf_files.specs.declared.requests.Request.{Request}
 use Rattle.apf_gate.specs.Records.{told_of, KnowsMore}
 use Rattle.apf_gate.specs.Slots.{slot_of, round_of, number_of}
+use Rattle.apf_gate.specs.declared.record.Asked.{Asked}
+use Rattle.apf_gate.specs.declared.record.Entry.{Entry}
+use Rattle.apf_gate.specs.Traces.{asked_in, first_ask, ask_by}
 use Rattle.apf_gate.specs.Tokens.{PassToken, StationToken}
 use Rattle.apf_run.specs.Plans.{closes_at, closes_it}
-use Rattle.apf_life_run.specs.Plans.{number_in, width_it_asks}
-use Rattle.apf_life_run.specs.Workers.{KeepsKnowing, IsKnown}
+use Rattle.apf_life_run.specs.Plans.{number_in, width_it_asks, ask_it_asks}
+use Rattle.apf_life_run.specs.Workers.{KeepsKnowing, IsKnown, HasAsked}
 use Rattle.apf_life_run.proofs.Numbers.{slot_is, round_is}
 
 -- who knows more keeps knowing
@@ -73,3 +76,35 @@ handled requests s closed done s' t t' request round at narrow before first clos
     one_more_known requests s s' t t' (keeps_on s closed s' first (keeps_on closed done s' then last)) known same (next ∙ sym before)
     (λ closing. last.closed (then.closed (closes (sym (ap closes_it at) ∙ closing))))
     (subst (λ (r : ℕ). told_of s'.station.knows.told r ≢ None) is told)
+
+ask_stays : (newer older : List Entry) (r : ℕ) (ask : Asked) → asked_in older r ≡ Some ask → asked_in (newer ++ older) r ≡ Some ask
+ask_stays [] older r ask is = is
+ask_stays (e ∷ newer) older r ask is = ap (λ (x : Option Asked). first_ask x (ask_by e.by e.ask r)) (ask_stays newer older r ask is)
+
+-- what a request asked for stays, as its steps go on
+pub asked_still : (before after : List Entry) (r : ℕ) (ask : Asked) → (later : List Entry) × (later ++ before ≡ after) → asked_in before r ≡ Some ask → asked_in after r ≡ Some ask
+asked_still before after r ask on is = ap (λ (es : List Entry). asked_in es r) (sym on.1) ∙ ask_stays on.0 before r ask is
+
+-- no request of the slot came: nothing was asked
+pub first_asked : (requests : List Request) (t : PassToken) → round_of t.pass.number ≡ 0 → HasAsked requests t
+first_asked requests t first = λ round came below. absurd (omega (arith, came, below, first))
+
+-- the slot had one more request, which asked for what its line says
+pub one_more_asked : (requests : List Request) (t t' : PassToken) (request : Request) (round : ℕ)
+    → slice_get requests (slot_of t.pass.number) ≡ Some request → request.width ≤ 20000 → round_of t.pass.number + 1 ≡ round
+    → t'.pass.number ≡ number_of (slot_of t.pass.number) round request.width
+    → (later : List Entry) × (later ++ t.pass.knows.trace ≡ t'.pass.knows.trace)
+    → asked_in t'.pass.knows.trace t'.pass.number ≡ Some (record { hash = request.hash; cost = request.width }) → HasAsked requests t → HasAsked requests t'
+one_more_asked requests t t' request round at narrow before number on new asked =
+    let slot : ℕ = slot_of t.pass.number in
+    let low : slot < 16384 = omega arith in
+    let same : slot_of t'.pass.number ≡ slot = ap slot_of number ∙ slot_is slot round request.width low in
+    let next : round_of t'.pass.number ≡ round = ap round_of number ∙ round_is slot round request.width low (omega (arith, narrow)) in
+    let is : t'.pass.number ≡ number_in requests slot round = number ∙ ap (λ (w : ℕ). number_of slot round w) (sym (ap width_it_asks at)) in
+    let here : asked_in t'.pass.knows.trace (number_in requests slot round) ≡ Some (ask_it_asks (slice_get requests slot)) =
+    ap (asked_in t'.pass.knows.trace) (sym is) ∙ (new ∙ ap (λ (o : Option Request). Some (ask_it_asks o)) (sym at)) in
+    λ j came below. subst (λ (i : ℕ). asked_in t'.pass.knows.trace (number_in requests i j) ≡ Some (ask_it_asks (slice_get requests i))) (sym same)
+    (elim (cases_eq j round) [
+      | inl is_new ↦ subst (λ (i : ℕ). asked_in t'.pass.knows.trace (number_in requests slot i) ≡ Some (ask_it_asks (slice_get requests slot))) (sym is_new) here
+      | inr differs ↦ asked_still t.pass.knows.trace t'.pass.knows.trace (number_in requests slot j) (ask_it_asks (slice_get requests slot)) on (asked j came (omega (arith, below, next, differs, before)))
+    ])

@@ -9,7 +9,7 @@ use Rattle.apf_gate.specs.Records.{told_of}
 use Rattle.apf_gate.specs.Slots.{slot_of}
 use Rattle.apf_gate.specs.Tokens.{GateId, PassToken, StationToken, pass_gate}
 use Rattle.apf_life_run.specs.Plans.{number_in, IsFaithful}
-use Rattle.apf_life_run.specs.Workers.{Load, IsInRound, IsKnown, IsLoadOf}
+use Rattle.apf_life_run.specs.Workers.{Load, IsInRound, IsKnown, HasAsked, IsLoadOf}
 use Rattle.apf_life_run.specs.Runs.{Returned, IsKnownTo, AreFinished}
 
 all_as : {A : Type 0} (P Q : A → Type 0) (xs : List A) → ((x : A) → P x → Q x) → All P xs → All Q xs
@@ -47,4 +47,5 @@ one_more gate requests rounds r w had is through =
       known = All-append (IsKnownTo requests stations) r.dones w.slots
           (all_as (IsKnownTo requests r.stations) (IsKnownTo requests stations) r.dones (known_more requests r.stations w.station) had.known)
           (all_as (IsKnown requests w.station) (IsKnownTo requests stations) w.slots (known_by requests r.stations w.station) is.known_slots);
+      asked = All-append (HasAsked requests) r.dones w.slots had.asked is.asked_slots;
     }

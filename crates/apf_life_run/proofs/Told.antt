@@ -14,7 +14,8 @@ use Rattle.apf_gate.specs.Counted.{total}
 use Rattle.apf_gate.specs.Gauges.{max_numbers}
 use Rattle.apf_gate.specs.Records.{told_of}
 use Rattle.apf_gate.specs.Slots.{slot_of, round_of}
-use Rattle.apf_gate.specs.Traces.{Made, world_of}
+use Rattle.apf_gate.specs.declared.record.Entry.{Entry}
+use Rattle.apf_gate.specs.Traces.{Made, world_of, asked_in}
 use Rattle.apf_gate.specs.Tokens.{PassToken, StationToken}
 use Rattle.apf_gate.specs.Ends.{WroteCancelled, ClosedFirst}
 use Rattle.apf_line.specs.Levels.{LifeId}
@@ -22,9 +23,10 @@ use Rattle.apf_line.specs.declared.report.Report.{Report}
 use Rattle.apf_line.specs.Reports.{Ended}
 use Rattle.apf_run.specs.Plans.{SomeCloses, closes_it, closes_at}
 use Rattle.apf_life_run.proofs.Limits.{limit_stays, made_within}
-use Rattle.apf_life_run.specs.Plans.{number_in, width_it_asks, HasWidth, IsNamedIn, IsFaithful}
+use Rattle.apf_life_run.specs.Plans.{number_in, width_it_asks, ask_it_asks, HasWidth, IsNamedIn, IsFaithful}
 use Rattle.apf_life_run.specs.Workers.{IsInRound}
 use Rattle.apf_life_run.specs.Runs.{Returned, SomeTold, IsKnownTo, AreFinished, IsLevelFor, HasRunRounds}
+use Rattle.apf_life_run.proofs.Known.{asked_still}
 use Rattle.apf_life_run.proofs.Numbers.{slot_is, round_is, is_number, same_place}
 use Rattle.apf_life_run.proofs.Counting.{as_many, contained}
 
@@ -139,6 +141,19 @@ module _ (k : LifeId) (config : Config) (requests : List Request) (rounds : ℕ)
           has_some zero below = absurd (omega arith)
           has_some (suc n) below = omega arith
 
+  -- each slot was handed in, and its Pass knew what its requests asked for
+  asked : (slot round : ℕ) → slot < length requests → 1 ≤ round → round ≤ rounds → asked_in ended.ended_as.words_agree.trace (number_in requests slot round) ≡ Some (ask_it_asks (slice_get requests slot))
+  asked slot round low came within =
+      let all : List Entry = ended.ended_as.words_agree.trace in
+      let any = ended.ended_as.words_agree.each_slot slot (omega (arith, low, settings.slots)) in
+      let t : PassToken = slice_index_or r.dones any.0 any.1 in
+      let here : slot_of t.pass.number ≡ slot = ap (λ (x : PassToken). slot_of x.pass.number) any.3 ∙ any.4 in
+      let through : IsInRound rounds t = finished.through any.0 any.1 any.2 in
+      let on = ended.ended_as.words_agree.longest.from_passes any.0 any.1 any.2 in
+      let own = finished.asked any.0 any.1 any.2 round came (omega (arith, within, through)) in
+      asked_still t.pass.knows.trace all (number_in requests slot round) (ask_it_asks (slice_get requests slot)) (on.0, on.1)
+      (subst (λ (i : ℕ). asked_in t.pass.knows.trace (number_in requests i round) ≡ Some (ask_it_asks (slice_get requests i))) here own)
+
   pub told : HasRunRounds config requests rounds report
   told = record {
     level = k;
@@ -150,6 +165,7 @@ module _ (k : LifeId) (config : Config) (requests : List Request) (rounds : ℕ)
     through = finished.through;
     each_decided = each_decided;
     sums = sums;
+    asked = asked;
     limit = limit_is;
     cancelled_is_named = named;
     closed_is_said = said;

@@ -2,6 +2,7 @@
 use Rattle.std.specs.Prelude.{◌≡◌, ℕ, ◌≤◌, List, length, All, Option, Some, None, slice_get}
 use Rattle.apf_words.specs.Limits.{max_width, max_requests}
 use Rattle.apf_files.specs.declared.requests.Request.{Request}
+use Rattle.apf_gate.specs.declared.record.Asked.{Asked}
 use Rattle.apf_gate.specs.declared.ticket.Ticket.{Ticket}
 use Rattle.apf_gate.specs.Gauges.{max_numbers}
 use Rattle.apf_gate.specs.Slots.{slot_of, round_of, number_of}
@@ -28,6 +29,11 @@ HasWidth request = (1 ≤ request.width) × (request.width ≤ max_width)
 abbrev pub width_it_asks : Option Request → ℕ
 width_it_asks (Some request) = request.width
 width_it_asks None = 0
+
+-- what a slot's requests ask for beside their width: the hash of their flow, and their width as their cost
+abbrev pub ask_it_asks : Option Request → Asked
+ask_it_asks (Some request) = record { hash = request.hash; cost = request.width }
+ask_it_asks None = record { hash = 0; cost = 0 }
 
 -- the number of a slot's request of this round
 abbrev pub number_in : List Request → ℕ → ℕ → ℕ

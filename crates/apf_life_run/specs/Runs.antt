@@ -1,20 +1,20 @@
 -- What the workers of a run in rounds give back, and what such a run tells.
-use Rattle.std.specs.Prelude.{◌≡◌, ◌≢◌, ℕ, ◌*◌, ◌<◌, ◌≤◌, true, List, length, All, Any, Some, None}
+use Rattle.std.specs.Prelude.{◌≡◌, ◌≢◌, ℕ, ◌*◌, ◌<◌, ◌≤◌, true, List, length, slice_get, All, Any, Some, None}
 use Rattle.apf_words.specs.declared.decision.Decision.TheVariants.{Cancelled}
 use Rattle.apf_model.specs.declared.config.Config.{Config}
 use Rattle.apf_files.specs.declared.requests.Request.{Request}
 use Rattle.apf_gate.specs.Counted.{total}
 use Rattle.apf_gate.specs.Records.{told_of}
 use Rattle.apf_gate.specs.Slots.{slot_of, round_of}
-use Rattle.apf_gate.specs.Traces.{world_of}
+use Rattle.apf_gate.specs.Traces.{world_of, asked_in}
 use Rattle.apf_gate.specs.Tokens.{GateId, PassToken, StationToken, pass_gate}
 use Rattle.apf_line.specs.Levels.{LifeId}
 use Rattle.apf_line.specs.declared.report.Report.{Report}
 use Rattle.apf_line.specs.Reports.{Ended}
 use Rattle.apf_run.specs.Plans.{SomeCloses, closes_at}
 use Rattle.apf_run.specs.Runs.{SeenClosed}
-use Rattle.apf_life_run.specs.Plans.{number_in, IsNamedIn, IsFaithful}
-use Rattle.apf_life_run.specs.Workers.{IsInRound}
+use Rattle.apf_life_run.specs.Plans.{number_in, ask_it_asks, IsNamedIn, IsFaithful}
+use Rattle.apf_life_run.specs.Workers.{IsInRound, HasAsked}
 
 -- the slots and the Stations that came back
 pub record Returned : Type 0 where
@@ -36,6 +36,7 @@ pub record AreFinished (gate : GateId) (requests : List Request) (rounds : ℕ) 
   pub through : All (IsInRound rounds) r.dones
   pub faithful : All (IsFaithful gate requests rounds) r.stations
   pub known : All (IsKnownTo requests r.stations) r.dones
+  pub asked : All (HasAsked requests) r.dones
 
 -- a level of these settings, with this many slots
 pub record IsLevelFor (config : Config) (count : ℕ) (k : LifeId) : Type 0 where
@@ -53,12 +54,14 @@ pub record HasRunRounds (config : Config) (requests : List Request) (rounds : �
   pub slots : List PassToken
   pub stations : List StationToken
   pub ended : Ended level slots stations r
-  -- of each slot as many requests came as there are rounds
+  -- for each slot as many requests came as there are rounds
   pub count : length slots ≡ length requests
   pub through : All (IsInRound rounds) slots
   -- each of them is decided, and the counts are of no fewer: the executed, the rejected and the cancelled sum to rounds times the requests at least
   pub each_decided : (slot round : ℕ) → slot < length requests → 1 ≤ round → round ≤ rounds → (world_of level.gate.shape ended.ended_as.words_agree.trace).decision (number_in requests slot round) ≢ None
   pub sums : rounds * length requests ≤ total r.words.counts
+  -- each of them asked for what its slot's line says, by the steps of all tokens: so the hand of queues and the cost that the level's history has of it are those of its line
+  pub asked : (slot round : ℕ) → slot < length requests → 1 ≤ round → round ≤ rounds → asked_in ended.ended_as.words_agree.trace (number_in requests slot round) ≡ Some (ask_it_asks (slice_get requests slot))
   -- the limit is that of the settings
   pub limit : r.words.level.limit ≡ config.limit
   -- each cancelled request came in one of the rounds, and some request names its slot

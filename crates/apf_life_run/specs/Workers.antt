@@ -1,11 +1,12 @@
 -- What a worker has, and what all have together.
-use Rattle.std.specs.Prelude.{◌≡◌, ◌≢◌, ℕ, ◌+◌, ◌≤◌, true, List, [], ◌∷◌, length, All, None}
+use Rattle.std.specs.Prelude.{◌≡◌, ◌≢◌, ℕ, ◌+◌, ◌≤◌, true, List, [], ◌∷◌, length, slice_get, All, Some, None}
 use Rattle.apf_files.specs.declared.requests.Request.{Request}
 use Rattle.apf_gate.specs.Records.{told_of}
 use Rattle.apf_gate.specs.Slots.{slot_of, round_of}
+use Rattle.apf_gate.specs.Traces.{asked_in}
 use Rattle.apf_gate.specs.Tokens.{GateId, PassToken, StationToken, pass_gate}
 use Rattle.apf_run.specs.Plans.{closes_at}
-use Rattle.apf_life_run.specs.Plans.{number_in, IsFaithful}
+use Rattle.apf_life_run.specs.Plans.{number_in, ask_it_asks, IsFaithful}
 
 -- its Station, the slots whose turn is yet to come in a round, and those whose turn was
 pub record Load : Type 0 where
@@ -31,6 +32,11 @@ pub record IsKnown (requests : List Request) (s : StationToken) (t : PassToken) 
   pub closed : 1 ≤ round_of t.pass.number → closes_at requests (slot_of t.pass.number) ≡ true → s.station.knows.saw_closed ≡ true
   pub told : (round : ℕ) → 1 ≤ round → round ≤ round_of t.pass.number → told_of s.station.knows.told (number_in requests (slot_of t.pass.number) round) ≢ None
 
+-- each request of the slot that came asked for what the slot's line of the requests says, by the steps that its Pass knows of
+abbrev pub HasAsked : List Request → PassToken → Type 0
+HasAsked requests t = (round : ℕ) → 1 ≤ round → round ≤ round_of t.pass.number
+    → asked_in t.pass.knows.trace (number_in requests (slot_of t.pass.number) round) ≡ Some (ask_it_asks (slice_get requests (slot_of t.pass.number)))
+
 -- all of it is of this gate, its Station is faithful, and knows its slots
 pub record IsLoadOf (gate : GateId) (requests : List Request) (rounds : ℕ) (load : Load) : Type 0 where
   pub faithful : IsFaithful gate requests rounds load.station
@@ -38,6 +44,8 @@ pub record IsLoadOf (gate : GateId) (requests : List Request) (rounds : ℕ) (lo
   pub own_over : All (λ (t : PassToken). pass_gate t ≡ gate) load.over
   pub known_slots : All (IsKnown requests load.station) load.slots
   pub known_over : All (IsKnown requests load.station) load.over
+  pub asked_slots : All (HasAsked requests) load.slots
+  pub asked_over : All (HasAsked requests) load.over
 
 -- it has no slot
 abbrev pub IsIdle : Load → Type 0

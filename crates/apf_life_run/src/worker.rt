@@ -3,8 +3,10 @@
 ghost use Rattle.std.specs.Prelude.{◌≡◌, ◌+◌, ◌<◌, ◌≤◌, [], ◌∷◌, ◌++◌, length, slice_get, true, Some, Contains, All, IfOk, IfSome, OnOk};
 ghost use Rattle.apf_gate.specs.Slots.{IsTicket, slot_of, round_of, number_of};
 ghost use Rattle.apf_gate.specs.Tokens.{pass_gate};
+ghost use Rattle.apf_gate.specs.Traces.{asked_in};
+ghost use Rattle.apf_life.specs.Arrivals.{TraceGoesOn};
 ghost use Rattle.apf_life_run.specs.Plans.{HasWidth, IsNamedIn, AreOrders};
-ghost use Rattle.apf_life_run.specs.Workers.{IsInRound, IsFirstOf, KeepsKnowing, IsKnown, IsLoadOf, IsReady, IsThrough};
+ghost use Rattle.apf_life_run.specs.Workers.{IsInRound, IsFirstOf, KeepsKnowing, IsKnown, HasAsked, IsLoadOf, IsReady, IsThrough};
 
 use crate::newest::Newest;
 use crate::operator::Operator;
@@ -116,6 +118,8 @@ impl<'a, K: Plan, W: Work> Job<'a, K, W> {
         ensures own { pass_gate result.token ≡ K.level.gate }
         ensures number { result.token.pass.number ≡ number_of (slot_of slot.pass.number) round request.width }
         ensures asks { (result.hash ≡ request.hash) × (result.cost ≡ request.width) }
+        ensures asked { asked_in result.token.pass.knows.trace result.token.pass.number ≡ Some (record { hash = request.hash; cost = request.width }) }
+        ensures goes_on { TraceGoesOn slot result.token }
     {
         let ask = Ask {
             width: request.width,
@@ -156,6 +160,7 @@ fn finish<K: Plan, W: Work, R: Wait>(
     requires planned { Contains K.requests request }
     ensures own { pass_gate result ≡ K.level.gate }
     ensures same { result.pass.number ≡ pass.token.pass.number }
+    ensures goes_on { TraceGoesOn pass.token result }
     ensures knows { KeepsKnowing operator.old operator.new }
 {
     match job.level.admit(rt, pass) {
@@ -184,9 +189,11 @@ fn handle<K: Plan, W: Work, R: Wait>(
     requires before { round_of slot.pass.number + 1 ≡ round }
     requires in_rounds { round ≤ K.rounds }
     requires known { IsKnown K.requests operator.old slot }
+    requires asked { HasAsked K.requests slot }
     ensures own { pass_gate result ≡ K.level.gate }
     ensures round { round_of result.pass.number ≡ round }
     ensures known { IsKnown K.requests operator.new result }
+    ensures asked { HasAsked K.requests result }
     ensures knows { KeepsKnowing operator.old operator.new }
 {
     let request = job.asked(slot.ticket().slot());

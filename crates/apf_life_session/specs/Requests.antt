@@ -1,5 +1,5 @@
 -- What a slot of a level holds, and what the answer of a call says of its request.
-use Rattle.std.specs.Prelude.{◌≡◌, ◌≢◌, ◌⊎◌, ◌==◌, not, ℕ, Bool, List, length, slice_index_or, All, Option, Some, None}
+use Rattle.std.specs.Prelude.{◌≡◌, ◌≢◌, ◌⊎◌, ◌≤◌, ◌==◌, not, ℕ, Bool, true, false, List, [], length, slice_index_or, All, Option, Some, None}
 use Rattle.apf_words.specs.Level.{Level}
 use Rattle.apf_words.specs.declared.decision.Decision.{Decision}
 use Rattle.apf_words.specs.declared.decision.Decision.TheVariants.{Execute, QueueFull}
@@ -14,6 +14,10 @@ use Rattle.apf_book.specs.RecentEvents.{event_of}
 use Rattle.apf_life.specs.declared.answers.Tried.{Tried}
 use Rattle.apf_life.specs.declared.answers.Tried.TheVariants as tries
 use Rattle.apf_life.specs.Attempts.{Attempts}
+use Rattle.apf_life.specs.declared.answers.Begun.{Begun}
+use Rattle.apf_life.specs.declared.answers.Begun.TheVariants as begins
+use Rattle.apf_life.specs.Admission.{Polls as Reads}
+use Rattle.apf_life.specs.InPlace.{poll_of}
 use Rattle.apf_life.specs.Releases.{ReleasesMeasured}
 use Rattle.apf_line.specs.Levels.{LifeId}
 use Rattle.apf_line.specs.Tokens.{IsInLine, IsRunning, IsDone}
@@ -96,20 +100,66 @@ SaysWhere (answers.Released waiting) = ⊥
 SaysWhere answers.Spent = ⊥
 SaysWhere answers.Wrong = ⊥
 
--- the next request of a free slot came, of this width, and where it is now is what is answered; or the slot's numbers are used up, and nothing changed. In a slot that is not free nothing is done
-abbrev pub Arrives : ℕ → Token → Answer → Token → Type 0
-Arrives width (tokens.Free pass) answer token' = ((answer ≡ answers.Spent) × (token' ≡ tokens.Free pass))
-    ⊎ (SaysWhere answer × Says answer token' × (number_in token' ≡ next_of pass.pass.number width))
-Arrives width (tokens.Waiting pass) answer token' = (answer ≡ answers.Wrong) × (token' ≡ tokens.Waiting pass)
-Arrives width (tokens.Running pass) answer token' = (answer ≡ answers.Wrong) × (token' ≡ tokens.Running pass)
-Arrives width tokens.Gone answer token' = ⊥
+-- the slot has no number left for a next request of this width
+abbrev pub IsUsedUp : LifeId → ℕ → PassToken → Type 0
+IsUsedUp k width pass = length k.gate.shape.widths ≤ next_of pass.pass.number width
+
+-- the next request of a free slot came, of this width, and where it is now is what is answered; or, exactly if the slot's numbers are used up, it is spent, and nothing changed. In a slot that is not free nothing is done
+abbrev pub Arrives : LifeId → ℕ → Token → Answer → Token → Type 0
+Arrives k width (tokens.Free pass) answer token' = (IsUsedUp k width pass × (answer ≡ answers.Spent) × (token' ≡ tokens.Free pass))
+    ⊎ ((¬ IsUsedUp k width pass) × SaysWhere answer × Says answer token' × (number_in token' ≡ next_of pass.pass.number width))
+Arrives k width (tokens.Waiting pass) answer token' = (answer ≡ answers.Wrong) × (token' ≡ tokens.Waiting pass)
+Arrives k width (tokens.Running pass) answer token' = (answer ≡ answers.Wrong) × (token' ≡ tokens.Running pass)
+Arrives k width tokens.Gone answer token' = ⊥
+
+-- what the Pass in a slot knows of: all steps at the gate up to its own last one
+abbrev pub trace_in : Token → List Entry
+trace_in (tokens.Free pass) = pass.pass.knows.trace
+trace_in (tokens.Waiting pass) = pass.pass.knows.trace
+trace_in (tokens.Running pass) = pass.pass.knows.trace
+trace_in tokens.Gone = []
+
+-- whether the Pass has that its request entered a queue, and that it left it without executing
+abbrev pub entered_in : Token → Bool
+entered_in (tokens.Free pass) = pass.pass.entered
+entered_in (tokens.Waiting pass) = pass.pass.entered
+entered_in (tokens.Running pass) = pass.pass.entered
+entered_in tokens.Gone = false
+
+abbrev pub left_in : Token → Bool
+left_in (tokens.Free pass) = pass.pass.left
+left_in (tokens.Waiting pass) = pass.pass.left
+left_in (tokens.Running pass) = pass.pass.left
+left_in tokens.Gone = false
+
+-- the request entered a queue, and one that is over may have left it
+abbrev pub HasEntered : Answer → Token → Type 0
+HasEntered answers.Run token = entered_in token ≡ true
+HasEntered (answers.Over decision) token = (entered_in token ≡ true) ⊎ (left_in token ≡ true)
+HasEntered answers.Waits token = entered_in token ≡ true
+HasEntered (answers.Tried decision waiting) token = ⊥
+HasEntered answers.Busy token = ⊥
+HasEntered (answers.Released waiting) token = ⊥
+HasEntered answers.Spent token = ⊥
+HasEntered answers.Wrong token = ⊥
 
 -- the event is the request's: its Enter, or its Full where the queue was full
-abbrev pub IsEventOf : ℕ → Answer → Event → Type 0
-IsEventOf r answer (events.Enter r' q) = r' ≡ r
-IsEventOf r answer (events.Full r' q) = (r' ≡ r) × (answer ≡ answers.Over QueueFull)
-IsEventOf r answer (events.Dispatch r' q) = ⊥
-IsEventOf r answer (events.Strike r' q) = ⊥
+abbrev pub IsEventOf : ℕ → Answer → Token → Event → Type 0
+IsEventOf r answer token (events.Enter r' q) = (r' ≡ r) × HasEntered answer token
+IsEventOf r answer token (events.Full r' q) = (r' ≡ r) × (answer ≡ answers.Over QueueFull)
+IsEventOf r answer token (events.Dispatch r' q) = ⊥
+IsEventOf r answer token (events.Strike r' q) = ⊥
+
+-- what is answered where the history got no event: the request did not enter, and no queue was full
+abbrev pub NeedsNoEvent : Answer → Token → Type 0
+NeedsNoEvent answers.Run token = entered_in token ≡ false
+NeedsNoEvent (answers.Over decision) token = (entered_in token ≡ false) × (decision ≢ QueueFull)
+NeedsNoEvent answers.Waits token = ⊥
+NeedsNoEvent (answers.Tried decision waiting) token = Unit {0}
+NeedsNoEvent answers.Busy token = Unit {0}
+NeedsNoEvent (answers.Released waiting) token = Unit {0}
+NeedsNoEvent answers.Spent token = Unit {0}
+NeedsNoEvent answers.Wrong token = Unit {0}
 
 -- the answer says what became of an attempt
 abbrev pub SaysTried : Answer → Type 0
@@ -122,13 +172,13 @@ SaysTried (answers.Released waiting) = ⊥
 SaysTried answers.Spent = ⊥
 SaysTried answers.Wrong = ⊥
 
--- the next request of a free slot tried, of this width, and what became of it is what is answered; or the slot's numbers are used up, and nothing changed. In a slot that is not free nothing is done
-abbrev pub Tries : ℕ → Token → Answer → Token → Type 0
-Tries width (tokens.Free pass) answer token' = ((answer ≡ answers.Spent) × (token' ≡ tokens.Free pass))
-    ⊎ (SaysTried answer × Says answer token' × (number_in token' ≡ next_of pass.pass.number width))
-Tries width (tokens.Waiting pass) answer token' = (answer ≡ answers.Wrong) × (token' ≡ tokens.Waiting pass)
-Tries width (tokens.Running pass) answer token' = (answer ≡ answers.Wrong) × (token' ≡ tokens.Running pass)
-Tries width tokens.Gone answer token' = ⊥
+-- the next request of a free slot tried, of this width, and what became of it is what is answered; or, exactly if the slot's numbers are used up, it is spent, and nothing changed. In a slot that is not free nothing is done
+abbrev pub Tries : LifeId → ℕ → Token → Answer → Token → Type 0
+Tries k width (tokens.Free pass) answer token' = (IsUsedUp k width pass × (answer ≡ answers.Spent) × (token' ≡ tokens.Free pass))
+    ⊎ ((¬ IsUsedUp k width pass) × SaysTried answer × Says answer token' × (number_in token' ≡ next_of pass.pass.number width))
+Tries k width (tokens.Waiting pass) answer token' = (answer ≡ answers.Wrong) × (token' ≡ tokens.Waiting pass)
+Tries k width (tokens.Running pass) answer token' = (answer ≡ answers.Wrong) × (token' ≡ tokens.Running pass)
+Tries k width tokens.Gone answer token' = ⊥
 
 -- what is answered of an attempt, and the token that is kept of the Pass that it left. The slot of a request that is busy is free
 abbrev pub KeepsTried : Tried → PassToken → Answer → Token → Type 0
@@ -154,11 +204,11 @@ TriesAs width hash (tokens.Waiting pass) answer token' = Unit {0}
 TriesAs width hash (tokens.Running pass) answer token' = Unit {0}
 TriesAs width hash tokens.Gone answer token' = Unit {0}
 
--- what the history got by the arrival of the request of this number, of a flow with this hash and with this cost, that is answered so: its Enter, or its Full if a queue was full, of a request that came with the hand of that flow, by steps that begin it with what it asked for; and no event only if it does not wait, and no queue was full
-abbrev pub LogsFor : LifeId → ℕ → ℕ → ℕ → Answer → Option LifeEvent → Type 0
-LogsFor k r hash cost answer None = (answer ≢ answers.Waits) × (answer ≢ answers.Over QueueFull)
-LogsFor k r hash cost answer (Some event) = SaysWhere answer × IsEventOf r answer (event_of event)
-    × ((known : List Entry) × (asked_in known r ≡ Some (record { hash = hash; cost = cost })) × Came k known r (hand_of k.sizes hash) cost (event_of event))
+-- what the history got by the arrival of the slot's request, of a flow with this hash and with this cost, that is answered so: its Enter, or its Full if a queue was full, of a request that came with the hand of that flow, by steps that begin it with what it asked for. It is the newest event of the level's history at that time, by all steps, which its Pass knows of. And no event only if it did not enter, and no queue was full
+abbrev pub LogsFor : LifeId → Token → ℕ → ℕ → Answer → Option LifeEvent → Type 0
+LogsFor k token hash cost answer None = NeedsNoEvent answer token
+LogsFor k token hash cost answer (Some event) = SaysWhere answer × IsEventOf (number_in token) answer token (event_of event)
+    × ((known : List Entry) × (asked_in known (number_in token) ≡ Some (record { hash = hash; cost = cost })) × Came k known (number_in token) (hand_of k.sizes hash) cost (event_of event) (trace_in token))
 
 -- a call of a slot whose request is at this place, and else answers that it is wrong here and changes nothing
 pub record Answers (place : Place) (old : Token) (answer : Answer) (new : Token) : Type 0 where
@@ -167,10 +217,35 @@ pub record Answers (place : Place) (old : Token) (answer : Answer) (new : Token)
   pub right : place_of old ≡ place → answer ≢ answers.Wrong
   pub wrong : place_of old ≢ place → (answer ≡ answers.Wrong) × (new ≡ old)
 
--- a request that waits reads its decision: it executes, is over, or still waits
+-- what is answered of a reading, and the token that is kept of the Pass that it left
+abbrev pub KeepsRead : Begun → PassToken → Answer → Token → Type 0
+KeepsRead begins.Run pass answer token = (answer ≡ answers.Run) × (token ≡ tokens.Running pass)
+KeepsRead (begins.Over decision) pass answer token = (answer ≡ answers.Over decision) × (token ≡ tokens.Free pass)
+KeepsRead begins.Waits pass answer token = (answer ≡ answers.Waits) × (token ≡ tokens.Waiting pass)
+
+-- what is answered of a request that waits is what one load of its decision found
+abbrev pub ReadsAs : Token → Answer → Token → Type 0
+ReadsAs (tokens.Free pass) answer token' = Unit {0}
+ReadsAs (tokens.Waiting pass) answer token' = (read : Begun) × (left : PassToken) × Reads pass.pass (poll_of read left) × KeepsRead read left answer token'
+ReadsAs (tokens.Running pass) answer token' = Unit {0}
+ReadsAs tokens.Gone answer token' = Unit {0}
+
+-- a request that waits reads its decision, by one load: it executes, is over, or still waits
 pub record Polls (old : Token) (answer : Answer) (new : Token) : Type 0 where
   pub answers : Answers places.Waits old answer new
   pub place : place_of old ≡ places.Waits → SaysWhere answer
+  pub reads : ReadsAs old answer new
+
+-- whether requests waited when seats were given back: then a dispatch is owed
+abbrev pub owed_by : Answer → Bool
+owed_by answers.Run = false
+owed_by (answers.Over decision) = false
+owed_by (answers.Tried decision waiting) = waiting
+owed_by answers.Busy = false
+owed_by answers.Waits = false
+owed_by (answers.Released waiting) = waiting
+owed_by answers.Spent = false
+owed_by answers.Wrong = false
 
 -- what is answered where a request that executes gives its seats back is what its one step found: whether requests waited then
 abbrev pub ReleasesAs : Token → Answer → Token → Type 0
@@ -193,6 +268,10 @@ pub record CallsOne (calls : Token → Answer → Token → Type 0) (slot : ℕ)
   pub count : length new ≡ length old
   pub one : (d : Token) → calls (slice_index_or old slot d) answer (slice_index_or new slot d)
   pub others : (i : ℕ) (d : Token) → i ≢ slot → slice_index_or new i d ≡ slice_index_or old i d
+
+-- a free slot with this Pass
+abbrev pub free_slot : PassToken → Token
+free_slot pass = tokens.Free pass
 
 -- all slots are free
 abbrev pub AreFree : List Token → Type 0

@@ -9,14 +9,13 @@ pub enum Answer {
     Run,
     /// It is decided so, and was not executed.
     Over(Decision),
-    /// As `Over`, by `try_arrive`: where the bool is true, requests waited when its seats were given back, and the
-    /// caller owes a dispatch.
+    /// As `Over`, by `try_arrive`: where the bool is true, requests waited when its seats were given back.
     Tried(Decision, bool),
     /// It could not be admitted now. It did not arrive, and its slot is free.
     Busy,
     /// It waits.
     Waits,
-    /// It gave its seats back. Where the bool is true, requests waited then, and the caller owes a dispatch.
+    /// It gave its seats back. Where the bool is true, requests waited then.
     Released(bool),
     /// The slot's numbers are used up: a slot is given 2^46 times. Nothing was done.
     Spent,

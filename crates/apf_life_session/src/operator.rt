@@ -8,9 +8,10 @@ ghost use Rattle.apf_gate.specs.StationCalls.{TriesToRead, TriesToCancel, Closes
 ghost use Rattle.apf_gate.specs.StationResults.{AfterTryRead, AfterTryCancel};
 ghost use Rattle.apf_gate.specs.Tokens.{station_gate};
 ghost use Rattle.apf_level.specs.Limits.{LastSet};
+ghost use Rattle.apf_life.specs.Admission.{owed_by_setting};
 
 use apf_gate::{Cancel, Close, Read, Station, Ticket, TrySetLimit};
-use apf_life::{Level, Naming};
+use apf_life::{Level, Naming, Owes};
 use apf_words::LevelWord;
 use std::marker::{Model, PhantomData};
 use std::sync::Wait;
@@ -82,11 +83,12 @@ impl<K: Naming> Operator<K> {
         level.look(&mut self.station)
     }
 
-    /// Tries to set the limit, 1 to 10,000 seats. After `Set(_, true)` the caller owes a dispatch.
-    pub fn try_set_limit(&mut self, level: &Level<K>, limit: u32) -> TrySetLimit
+    /// Tries to set the limit, 1 to 10,000 seats. Where requests waited then, a dispatch is owed.
+    pub fn try_set_limit(&mut self, level: &Level<K>, limit: u32) -> (TrySetLimit, Owes<K>)
         requires some { 1 ≤ limit }
         requires small { limit ≤ max_limit }
-        ensures { TriesToSet self.old.station limit result self.new.station }
+        ensures answer { TriesToSet self.old.station limit result.0 self.new.station }
+        ensures owes { result.1 ≡ owed_by_setting result.0 }
     {
         level.try_set_limit(&mut self.station, limit)
     }

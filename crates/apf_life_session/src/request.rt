@@ -1,20 +1,22 @@
 //! A slot of a level, whose requests come one after another.
 
-ghost use Rattle.std.specs.Prelude.{◌≡◌, ◌≢◌, ◌≤◌, Some};
+ghost use Rattle.std.specs.Prelude.{◌≡◌, ◌≢◌, ◌≤◌, Option, Some};
+ghost use Rattle.apf_book.specs.declared.life_event.LifeEvent.{LifeEvent};
 ghost use Rattle.apf_words.specs.Limits.{max_cost, max_width};
 ghost use Rattle.apf_words.specs.declared.decision.Decision.TheVariants.{Execute};
 ghost use Rattle.apf_gate.specs.Records.{told_own};
 ghost use Rattle.apf_gate.specs.Slots.{IsTicket};
 ghost use Rattle.apf_gate.specs.Tokens.{pass_gate};
+ghost use Rattle.apf_life.specs.Arrivals.{TraceGoesOn};
 ghost use Rattle.apf_life_session.specs.declared.answer.Answer.TheVariants as answers;
 ghost use Rattle.apf_life_session.specs.declared.answer.Place.TheVariants as places;
 ghost use Rattle.apf_life_session.specs.declared.token.Token.TheVariants as tokens;
-ghost use Rattle.apf_life_session.specs.Requests.{number_in, place_of, Answers, Arrives, Tries, TriesAs, Polls, LogsFor, ReleasesAs, FinishesAs};
+ghost use Rattle.apf_life_session.specs.Requests.{number_in, place_of, Answers, Arrives, Tries, TriesAs, Polls, LogsFor, ReleasesAs, FinishesAs, owed_by};
 
 use crate::answer::{Answer, Place};
 use apf_book::LifeEvent;
 use apf_gate::Ticket;
-use apf_life::{Begun, Done, Level, Naming, Poll, Running, Tried, Waiting};
+use apf_life::{Begun, Done, Level, Naming, Owes, Poll, Running, Tried, Waiting};
 use apf_model::Ask;
 use std::marker::{Model, PhantomData};
 use std::sync::Wait;
@@ -44,12 +46,11 @@ pub fn release<K: Naming, R: Wait>(rt: &R, level: &Level<K>, running: Running) -
     requires { pass_gate running ≡ K.level.gate }
     ensures own { pass_gate result ≡ K.level.gate }
     ensures same { result.pass.number ≡ running.pass.number }
+    ensures goes_on { TraceGoesOn running result }
     ensures told { told_own result.pass ≡ Some Execute }
 {
-    let (done, waiting) = level.release(running);
-    if waiting {
-        level.lock(rt).dispatch(rt);
-    }
+    let (done, owes) = level.release(running);
+    level.dispatch_if_owed(rt, owes);
     done
 }
 
@@ -109,8 +110,8 @@ impl<K: Naming> Request<K> {
     ) -> (Answer, Option<LifeEvent>)
         requires some_width { 1 ≤ ask.width }
         requires narrow { ask.width ≤ max_width }
-        ensures arrives { Arrives ask.width self.old result.0 self.new }
-        ensures logs { LogsFor K.level (number_in self.new) ask.hash ask.width result.0 result.1 }
+        ensures arrives { Arrives K.level ask.width self.old result.0 self.new }
+        ensures logs { LogsFor K.level self.new ask.hash ask.width result.0 result.1 }
     {
         self.arrive_with_cost(rt, level, ask, ask.width)
     }
@@ -127,8 +128,8 @@ impl<K: Naming> Request<K> {
         requires narrow { ask.width ≤ max_width }
         requires some_cost { 1 ≤ cost }
         requires low_cost { cost ≤ max_cost }
-        ensures arrives { Arrives ask.width self.old result.0 self.new }
-        ensures logs { LogsFor K.level (number_in self.new) ask.hash cost result.0 result.1 }
+        ensures arrives { Arrives K.level ask.width self.old result.0 self.new }
+        ensures logs { LogsFor K.level self.new ask.hash cost result.0 result.1 }
     {
         if self.place != Place::Free {
             return (Answer::Wrong, None);
@@ -159,7 +160,8 @@ impl<K: Naming> Request<K> {
     pub fn admit<R: Wait>(&mut self, rt: &R, level: &Level<K>, ask: Ask) -> Answer
         requires some_width { 1 ≤ ask.width }
         requires narrow { ask.width ≤ max_width }
-        ensures arrives { Arrives ask.width self.old result self.new }
+        ensures arrives { Arrives K.level ask.width self.old result self.new }
+        ensures logs { (event : Option LifeEvent) × LogsFor K.level self.new ask.hash ask.width result event }
         ensures decided { result ≢ answers.Waits }
     {
         if self.place != Place::Free {
@@ -184,30 +186,33 @@ impl<K: Naming> Request<K> {
     }
 
     /// The next request of a free slot, which asks for this, is admitted, if nobody waits and it fits. It takes no lock,
-    /// and never enters a queue. Answers `Run`, `Tried` or `Busy`, or `Spent`.
-    pub fn try_arrive(&mut self, level: &Level<K>, ask: Ask) -> Answer
+    /// and never enters a queue. Answers `Run`, `Tried` or `Busy`, or `Spent`. Where requests waited when its seats were
+    /// given back, a dispatch is owed.
+    pub fn try_arrive(&mut self, level: &Level<K>, ask: Ask) -> (Answer, Owes<K>)
         requires some_width { 1 ≤ ask.width }
         requires narrow { ask.width ≤ max_width }
-        ensures tries { Tries ask.width self.old result self.new }
-        ensures steps { TriesAs ask.width ask.hash self.old result self.new }
+        ensures tries { Tries K.level ask.width self.old result.0 self.new }
+        ensures steps { TriesAs ask.width ask.hash self.old result.0 self.new }
+        ensures owes { result.1 ≡ owed_by result.0 }
     {
         if self.place != Place::Free {
-            return Answer::Wrong;
+            return (Answer::Wrong, Owes::nothing());
         }
         if !level.renew_slot(&mut self.pass, ask, ask.width) {
-            return Answer::Spent;
+            return (Answer::Spent, Owes::nothing());
         }
         self.entered = false;
-        match level.attempt(&mut self.pass) {
+        let (tried, owes) = level.attempt(&mut self.pass);
+        match tried {
             Tried::Run => {
                 self.place = Place::Runs;
-                Answer::Run
+                (Answer::Run, owes)
             }
             Tried::Over(decision, waiting) => {
                 self.place = Place::Free;
-                Answer::Tried(decision, waiting)
+                (Answer::Tried(decision, waiting), owes)
             }
-            Tried::Blocked | Tried::Raced => Answer::Busy,
+            Tried::Blocked | Tried::Raced => (Answer::Busy, owes),
         }
     }
 
@@ -233,17 +238,19 @@ impl<K: Naming> Request<K> {
         }
     }
 
-    /// A request that executes gives its seats back, by one step. Answers `Released`.
-    pub fn release(&mut self, level: &Level<K>) -> Answer
-        ensures answers { Answers places.Runs self.old result self.new }
-        ensures steps { ReleasesAs self.old result self.new }
+    /// A request that executes gives its seats back, by one step. Answers `Released`. Where requests waited then, a
+    /// dispatch is owed.
+    pub fn release(&mut self, level: &Level<K>) -> (Answer, Owes<K>)
+        ensures answers { Answers places.Runs self.old result.0 self.new }
+        ensures steps { ReleasesAs self.old result.0 self.new }
+        ensures owes { result.1 ≡ owed_by result.0 }
     {
         if self.place != Place::Runs {
-            return Answer::Wrong;
+            return (Answer::Wrong, Owes::nothing());
         }
-        let waiting = level.give_back(&mut self.pass);
+        let owes = level.give_back(&mut self.pass);
         self.place = Place::Free;
-        Answer::Released(waiting)
+        (Answer::Released(owes.waits()), owes)
     }
 
     /// A request that executes gives its seats back. Then requests that wait are dispatched. Answers `Released`.
@@ -251,10 +258,8 @@ impl<K: Naming> Request<K> {
         ensures answers { Answers places.Runs self.old result self.new }
         ensures steps { ReleasesAs self.old result self.new }
     {
-        let answer = self.release(level);
-        if answer == Answer::Released(true) {
-            level.lock(rt).dispatch(rt);
-        }
+        let (answer, owes) = self.release(level);
+        level.dispatch_if_owed(rt, owes);
         answer
     }
 
@@ -269,11 +274,10 @@ impl<K: Naming> Request<K> {
         if self.place != Place::Runs {
             return Answer::Wrong;
         }
-        let waiting = level.give_back_measured(rt, &mut self.pass, self.entered, micros);
+        let owes = level.give_back_measured(rt, &mut self.pass, self.entered, micros);
+        let waiting = owes.waits();
         self.place = Place::Free;
-        if waiting {
-            level.lock(rt).dispatch(rt);
-        }
+        level.dispatch_if_owed(rt, owes);
         Answer::Released(waiting)
     }
 
@@ -284,15 +288,19 @@ impl<K: Naming> Request<K> {
         ensures number { result.pass.number ≡ number_in self }
     {
         let Request {
-            pass,
+            mut pass,
             place,
-            entered,
+            entered: _,
             of: _,
         } = self;
         match place {
             Place::Free => Done::of(pass),
             Place::Waits => wait(rt, level, Waiting::of(pass)),
-            Place::Runs => release(rt, level, Running::of(pass, entered)),
+            Place::Runs => {
+                let owes = level.give_back(&mut pass);
+                level.dispatch_if_owed(rt, owes);
+                Done::of(pass)
+            }
         }
     }
 }

@@ -1,6 +1,6 @@
 //! A level with its slots and its operators.
 
-ghost use Rattle.std.specs.Prelude.{◌≡◌, ◌<◌, ◌≤◌, [], ◌∷◌, length, slice_index_or, All, IfOk, IfErr, OnOk};
+ghost use Rattle.std.specs.Prelude.{◌≡◌, ◌<◌, ◌≤◌, [], ◌∷◌, length, map, slice_index_or, All, IfOk, IfErr, OnOk};
 ghost use Rattle.apf_words.specs.Limits.{max_width, max_limit};
 ghost use Rattle.apf_gate.specs.StationCalls.{TriesToCancel, ClosesTo};
 ghost use Rattle.apf_gate.specs.Slots.{IsTicket};
@@ -10,7 +10,7 @@ ghost use Rattle.apf_life.specs.Calls.{SettledBy};
 ghost use Rattle.apf_life_session.specs.declared.answer.Place.TheVariants as places;
 ghost use Rattle.apf_life_session.specs.declared.token.Token.{Token};
 ghost use Rattle.apf_life_session.specs.Openings.{level_of, level_settling, IsOpenFault};
-ghost use Rattle.apf_life_session.specs.Requests.{number_in, Answers, Arrives, Tries, TriesAs, Polls, LogsFor, FinishesAs, CallsOne, AreFree};
+ghost use Rattle.apf_life_session.specs.Requests.{number_in, Answers, Arrives, Tries, TriesAs, Polls, LogsFor, ReleasesAs, FinishesAs, CallsOne, AreFree, free_slot};
 ghost use Rattle.apf_life_session.specs.Ends.{CancelsThese, FirstCancels, StayButFirst, KeepsOrder, SessionEnds, waiting};
 
 use crate::answer::{Answer, Place};
@@ -42,21 +42,20 @@ fn requests_of<K: Naming, R: Wait>(
     rt: &R,
     alloc: Global,
     level: &Level<K>,
-    mut dones: Vec<Done>,
+    dones: Vec<Done>,
 ) -> Result<Vec<Request<K>>, AllocError>
     requires own { All (λ t. pass_gate t ≡ K.level.gate) dones.items }
-    ensures count { IfOk result (λ v. length v.items ≡ length dones.items) }
+    ensures slots { IfOk result (λ v. v.items ≡ map free_slot dones.items) }
     ensures free { IfOk result (λ v. AreFree v.items) }
 {
     let mut requests = Vec::with_capacity(alloc, dones.len())?;
-    while let Some(done) = dones.pop() {
+    for done in dones {
         if let Err(refused) = requests.push(Request::new(done)) {
             refused.value.end(rt, level);
             give_up(rt, level, requests);
             return Err(AllocError);
         }
     }
-    requests.reverse();
     Ok(requests)
 }
 
@@ -166,6 +165,7 @@ impl<K: Naming> Session<K> {
         opening: Opening,
     ) -> Result<Session<K>, OpenFault>
         requires { K.level ≡ level_of opening.gate opening.config }
+        ensures slots { IfOk result (λ s. s.slots.items ≡ map free_slot opening.passes.items) }
         ensures free { IfOk result (λ s. AreFree s.slots.items) }
         ensures operators { IfOk result (λ s. s.operators.items ≡ opening.stations.items) }
         ensures settings { OnOk result (SettledBy opening.config.limit_response opening.config opening.gate.shape.slots) }
@@ -187,6 +187,7 @@ impl<K: Naming> Session<K> {
         settling: Settling,
     ) -> Result<Session<K>, OpenFault>
         requires { K.level ≡ level_settling opening.gate opening.config settling }
+        ensures slots { IfOk result (λ s. s.slots.items ≡ map free_slot opening.passes.items) }
         ensures free { IfOk result (λ s. AreFree s.slots.items) }
         ensures operators { IfOk result (λ s. s.operators.items ≡ opening.stations.items) }
         ensures settings { OnOk result (SettledBy opening.config.limit_response opening.config opening.gate.shape.slots) }
@@ -220,24 +221,26 @@ impl<K: Naming> Session<K> {
         requires is_slot { slot < K.level.gate.shape.slots }
         requires some_width { 1 ≤ ask.width }
         requires narrow { ask.width ≤ max_width }
-        ensures calls { CallsOne (Arrives ask.width) slot self.old.slots.items result.0 self.new.slots.items }
+        ensures calls { CallsOne (Arrives K.level ask.width) slot self.old.slots.items result.0 self.new.slots.items }
         ensures operators { self.new.operators.items ≡ self.old.operators.items }
-        ensures logs { (d : Token) → LogsFor K.level (number_in (slice_index_or self.new.slots.items slot d)) ask.hash ask.width result.0 result.1 }
+        ensures logs { (d : Token) → LogsFor K.level (slice_index_or self.new.slots.items slot d) ask.hash ask.width result.0 result.1 }
     {
         self.slots[slot as usize].arrive(rt, &self.level, ask)
     }
 
     /// The next request of a free slot is admitted, if nobody waits and it fits. It never enters a queue. Answers `Run`,
-    /// `Tried` or `Busy`, or `Spent`.
-    pub fn try_arrive(&mut self, slot: u32, ask: Ask) -> Answer
+    /// `Tried` or `Busy`, or `Spent`. Where requests waited when its seats were given back, they are dispatched.
+    pub fn try_arrive<R: Wait>(&mut self, rt: &R, slot: u32, ask: Ask) -> Answer
         requires is_slot { slot < K.level.gate.shape.slots }
         requires some_width { 1 ≤ ask.width }
         requires narrow { ask.width ≤ max_width }
-        ensures calls { CallsOne (Tries ask.width) slot self.old.slots.items result self.new.slots.items }
+        ensures calls { CallsOne (Tries K.level ask.width) slot self.old.slots.items result self.new.slots.items }
         ensures steps { (d : Token) → TriesAs ask.width ask.hash (slice_index_or self.old.slots.items slot d) result (slice_index_or self.new.slots.items slot d) }
         ensures operators { self.new.operators.items ≡ self.old.operators.items }
     {
-        self.slots[slot as usize].try_arrive(&self.level, ask)
+        let (answer, owes) = self.slots[slot as usize].try_arrive(&self.level, ask);
+        self.level.dispatch_if_owed(rt, owes);
+        answer
     }
 
     /// Reads the decision of a request that waits. Answers `Run`, `Waits` or `Over`.
@@ -253,6 +256,7 @@ impl<K: Naming> Session<K> {
     pub fn finish<R: Wait>(&mut self, rt: &R, slot: u32) -> Answer
         requires is_slot { slot < K.level.gate.shape.slots }
         ensures calls { CallsOne (Answers places.Runs) slot self.old.slots.items result self.new.slots.items }
+        ensures steps { (d : Token) → ReleasesAs (slice_index_or self.old.slots.items slot d) result (slice_index_or self.new.slots.items slot d) }
         ensures operators { self.new.operators.items ≡ self.old.operators.items }
     {
         self.slots[slot as usize].finish(rt, &self.level)

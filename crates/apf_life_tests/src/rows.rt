@@ -192,14 +192,14 @@ fn tried<K: Naming, R: Wait + Abort>(rt: &R, alloc: Global, opening: Opening)
     let Ok(mut session) = Session::<K>::open_for_life(rt, alloc, opening) else {
         panic!(rt; "opens")
     };
-    assert_eq!(rt; session.try_arrive(0, ONE), Answer::Run);
-    assert_eq!(rt; session.try_arrive(1, ONE), Answer::Busy);
+    assert_eq!(rt; session.try_arrive(rt, 0, ONE), Answer::Run);
+    assert_eq!(rt; session.try_arrive(rt, 1, ONE), Answer::Busy);
     assert!(rt; session.slots[1].place() == Place::Free);
-    assert_eq!(rt; session.try_arrive(0, ONE), Answer::Wrong);
+    assert_eq!(rt; session.try_arrive(rt, 0, ONE), Answer::Wrong);
     session.finish(rt, 0);
     assert_eq!(rt; session.close(), Close::First);
     let closed = Answer::Tried(Decision::Closed, false);
-    assert_eq!(rt; session.try_arrive(1, ONE), closed);
+    assert_eq!(rt; session.try_arrive(rt, 1, ONE), closed);
     let report = ended(rt, alloc, session);
     let counts = report.words.counts();
     assert_eq!(rt; (counts.executed, counts.closed), (1, 1));

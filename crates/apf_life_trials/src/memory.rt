@@ -73,7 +73,7 @@ fn make<K: Naming, R: Wait>(rt: &R, session: &mut Session<K>) -> [Told; CALLS]
 {
     let first = session.ticket(1);
     [
-        Told::Is(session.try_arrive(0, Ask { width: 1, hash: 7 })),
+        Told::Is(session.try_arrive(rt, 0, Ask { width: 1, hash: 7 })),
         came(rt, session, 1),
         came(rt, session, 2),
         came(rt, session, 2),

@@ -2,3 +2,4 @@ pub mod Summing
 pub mod Keeping
 pub mod Meeting
 pub mod Flows
+pub mod Tabling

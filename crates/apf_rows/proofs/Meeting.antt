@@ -143,8 +143,8 @@ named_still came x r other n = record {
   first = n.first;
   among = Contains-append_left came (x ∷ []) n.first n.among;
   flow = n.flow;
-  line = n.line;
-  names = n.names;
+  is_line = n.is_line;
+  named = n.named;
   least = λ y has own. elim (Contains-append_cases came (x ∷ []) y has) [
     | inl h ↦ n.least y h own
     | inr h ↦ let e = only x y h in absurd (not_both (nat_eq x.item.hash r.hash) (eq-eqb x.item.hash r.hash (ap (λ (z : Came). z.item.hash) (sym e) ∙ own)) other)
@@ -158,8 +158,8 @@ named_own came x old new own same names n = elim names [
     first = x;
     among = Contains-append_right came (x ∷ []) x (0, omega arith, refl);
     flow = eqb-true x.item.hash old.hash own ∙ sym same;
-    line = sym w.1;
-    names = w.2;
+    is_line = sym w.1;
+    named = w.2;
     least = λ y has is. elim (Contains-append_cases came (x ∷ []) y has) [
       | inl h ↦ let l = n.least y h (is ∙ same) in let a = w.0 in let b = w.1 in omega arith
       | inr h ↦ let e = ap (λ (z : Came). z.place.line) (only x y h) in let b = w.1 in omega arith
@@ -169,8 +169,8 @@ named_own came x old new own same names n = elim names [
     first = n.first;
     among = Contains-append_left came (x ∷ []) n.first n.among;
     flow = n.flow ∙ sym same;
-    line = n.line ∙ sym w.1;
-    names = ap names_text w.2 ∙ n.names;
+    is_line = n.is_line ∙ sym w.1;
+    named = ap names_text w.2 ∙ n.named;
     least = λ y has is. elim (Contains-append_cases came (x ∷ []) y has) [
       | inl h ↦ let l = n.least y h (is ∙ same) in let b = w.1 in omega arith
       | inr h ↦ let e = ap (λ (z : Came). z.place.line) (only x y h) in let a = w.0 in let b = w.1 in omega arith
@@ -236,8 +236,8 @@ begun_met came x v row kept none room hash first names met = record {
       first = x;
       among = Contains-append_right came (x ∷ []) x (0, omega arith, refl);
       flow = sym hash;
-      line = sym first;
-      names = names;
+      is_line = sym first;
+      named = names;
       least = λ y has is. elim (Contains-append_cases came (x ∷ []) y has) [
         | inl h ↦ absurd (absent y h is)
         | inr h ↦ let e = ap (λ (z : Came). z.place.line) (only x y h) in omega arith

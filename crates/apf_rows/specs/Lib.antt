@@ -1,2 +1,4 @@
 pub mod Accounts
 pub mod Rows
+pub mod Tables
+pub mod Texts

@@ -1,7 +1,8 @@
 -- Requests that were told, by their flows.
-use Rattle.std.specs.Prelude.{◌≡◌, ℕ, ◌<◌, ◌≤◌, ◌⊎◌, Bool, true, nat_eq, nat_lt, cond, map, List, [], ◌∷◌, ◌++◌, fold, length, All, Contains, if◌then◌else◌}
+use Rattle.std.specs.Prelude.{◌≡◌, ℕ, ◌<◌, ◌≤◌, ◌⊎◌, Bool, true, nat_eq, nat_lt, cond, map, List, [], ◌∷◌, ◌++◌, fold, length, All, Contains, Option, if◌then◌else◌}
 use Rattle.std.specs.List.{list_any, IsDistinct}
 use Rattle.apf_times.specs.declared.window.Arrival.{Arrival}
+use Rattle.apf_traces.specs.declared.request.FlowNames.{FlowNames}
 use Rattle.apf_traces.specs.declared.request.TraceRequest.{TraceRequest}
 use Rattle.apf_flows.specs.Names.{names_text}
 use Rattle.apf_stream.specs.declared.ended.Ended.{Ended}
@@ -50,14 +51,18 @@ pub record AreRows (told : List Ended) (v : RowsView) : Type 0 where
   pub others : IsAccount (of_others v.flows told) v.others
   pub all : IsAccount told v.all
 
--- the row has the first line of its flow, and its names
-pub record IsNamed (came : List (Arrival TraceRequest)) (r : Row) : Type 0 where
+-- this is the first line of this flow, with its names
+pub record IsFirst (came : List (Arrival TraceRequest)) (hash line : ℕ) (names : Option FlowNames) : Type 0 where
   pub first : Arrival TraceRequest
   pub among : Contains came first
-  pub flow : first.item.hash ≡ r.hash
-  pub line : first.place.line ≡ r.first
-  pub names : names_text r.names ≡ names_text first.item.names
-  pub least : (x : Arrival TraceRequest) → Contains came x → x.item.hash ≡ r.hash → r.first ≤ x.place.line
+  pub flow : first.item.hash ≡ hash
+  pub is_line : first.place.line ≡ line
+  pub named : names_text names ≡ names_text first.item.names
+  pub least : (x : Arrival TraceRequest) → Contains came x → x.item.hash ≡ hash → line ≤ x.place.line
+
+-- the row has the first line of its flow, and its names
+abbrev pub IsNamed : List (Arrival TraceRequest) → Row → Type 0
+IsNamed came r = IsFirst came r.hash r.first r.names
 
 -- these came: their flows have rows, as far as there is room, under the names of their first lines
 pub record HaveMet (came : List (Arrival TraceRequest)) (v : RowsView) : Type 0 where

@@ -11,9 +11,11 @@ mod laws;
 mod row;
 mod rows;
 mod sums;
+mod table;
 
 pub use account::{Account, Figures};
 pub use laws::every_flow_is_met;
 pub use row::Row;
 pub use rows::{MOST_FLOWS, Rows};
 pub use sums::Sums;
+pub use table::{Line, Table};

@@ -1,14 +1,17 @@
 //! All flows, each request in one row.
 
-ghost use Rattle.std.specs.Prelude.{◌≡◌, ◌+◌, ◌-◌, ◌^◌, ◌<◌, [], ◌∷◌, ◌++◌, List, OnOk, false, length};
+ghost use Rattle.std.specs.Prelude.{◌≡◌, ◌+◌, ◌-◌, ◌^◌, ◌<◌, [], ◌∷◌, ◌++◌, List, IfOk, OnOk, false, length};
 ghost use Rattle.apf_times.specs.declared.window.Arrival.{Arrival as ArrivalOf};
 ghost use Rattle.apf_traces.specs.declared.request.TraceRequest.{TraceRequest as RequestOf};
 ghost use Rattle.apf_stream.specs.declared.ended.Ended.{Ended as EndedOf};
 ghost use Rattle.apf_rows.specs.Accounts.{IsInReach};
+ghost use Rattle.apf_rows.specs.Tables.{IsTable};
 ghost use Rattle.apf_rows.specs.Rows.{AreRows, HaveMet, IsMet, is_among, max_flows};
 
 use crate::account::Account;
 use crate::row::Row;
+use crate::sums::Sums;
+use crate::table::Table;
 use apf_stream::Ended;
 use apf_times::Arrival;
 use apf_traces::TraceRequest;
@@ -53,6 +56,13 @@ impl Rows {
             others: Account::new(alloc),
             all: Account::new(alloc),
         }
+    }
+
+    /// The counts and sums of all requests that were told.
+    pub fn sums(&self) -> Sums
+        ensures { result ≡ self.now.all.sums }
+    {
+        self.all.sums()
     }
 
     // The first request of a flow came, which has no row, where there is room for one.
@@ -102,6 +112,7 @@ impl Rows {
         requires room { self.old.all.sums.requests < 2 ^ 64 - 1 }
         ensures added { OnOk result ((told : List EndedOf) → AreRows told self.old → AreRows (told ++ ended.now ∷ []) self.new) }
         ensures met { (came : List (ArrivalOf RequestOf)) → HaveMet came self.old → HaveMet came self.new }
+        ensures flows { self.new.flows ≡ self.old.flows }
         ensures all { OnOk result (self.new.all.sums.requests ≡ self.old.all.sums.requests + 1) }
     {
         self.all.add(ended)?;
@@ -110,5 +121,25 @@ impl Rows {
             None => self.others.add(ended)?,
         }
         Ok(())
+    }
+
+    /// What all flows came to, in numbers.
+    ///
+    /// # Errors
+    ///
+    /// `AllocError` if memory was refused.
+    pub fn close(self) -> Result<Table, AllocError>
+        ensures { IfOk result (λ t. (came : List (ArrivalOf RequestOf)) (told : List EndedOf) → HaveMet came self → AreRows told self → IsTable came told t) }
+    {
+        let Rows {
+            alloc,
+            flows: _,
+            rows,
+            mut others,
+            mut all,
+        } = self;
+        let others = others.figures();
+        let all = all.figures();
+        Ok(Table::of(alloc, rows, others, all)?)
     }
 }

@@ -69,7 +69,7 @@ impl Record {
 
     /// Reads what the level's log gained.
     pub fn follow<K: Naming, R: Wait>(&mut self, rt: &R, level: &Level<K>) {
-        self.log.follow(rt, level);
+        self.log.follow(&level.lock(rt));
     }
 
     /// The event at this place of the log, if it was read.

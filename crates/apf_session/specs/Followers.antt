@@ -1,8 +1,6 @@
 -- What a reader of a level's log has read.
-use Rattle.std.specs.Prelude.{◌≡◌, ℕ, ◌-◌, ◌++◌, List, length, take, drop, reverse}
+use Rattle.std.specs.Prelude.{◌≡◌, ℕ, ◌-◌, ◌++◌, List, length, take, drop}
 use Rattle.apf_history.specs.declared.events.Event.{Event}
-use Rattle.apf_book.specs.LedgerView.{IsLogOf}
-use Rattle.apf_level.specs.Levels.{LevelId, logged_as}
 use Rattle.apf_level.specs.Copies.{fitting}
 
 -- the events that were read, the oldest first, and how many there is room for in all
@@ -10,9 +8,7 @@ pub record FollowerView : Type 0 where
   pub events : List Event
   pub room : ℕ
 
--- of a log that the level may have had, those from the first that was not read on were read, as many as there is room for
-pub record Gains (k : LevelId) (before after : FollowerView) : Type 0 where
-  pub log : List Event
-  pub of_log : IsLogOf (logged_as k (reverse log))
+-- of this log those from the first that was not read on were read, as many as there is room for
+pub record Gains (log : List Event) (before after : FollowerView) : Type 0 where
   pub gained : after.events ≡ before.events ++ take (fitting (length log) (length before.events) (before.room - length before.events)) (drop (length before.events) log)
   pub room : after.room ≡ before.room

@@ -1,5 +1,5 @@
 -- What a request of a level holds, and what the answer of a call says of it.
-use Rattle.std.specs.Prelude.{◌≡◌, ◌≢◌, ◌==◌, not, ℕ, ◌-◌, ◌<◌, List, length, slice_index_or, All, Option, Some, None}
+use Rattle.std.specs.Prelude.{◌≡◌, ◌≢◌, ◌==◌, not, ℕ, ◌-◌, ◌<◌, Bool, true, false, List, length, slice_index_or, All, Option, Some, None}
 use Rattle.apf_words.specs.Level.{Level}
 use Rattle.apf_words.specs.declared.decision.Decision.{Decision}
 use Rattle.apf_words.specs.declared.decision.Decision.TheVariants.{Execute, QueueFull}
@@ -11,7 +11,10 @@ use Rattle.apf_gate.specs.Tokens.{PassToken, pass_gate}
 use Rattle.apf_gate.specs.PassSteps.{PassSubtractsLevel}
 use Rattle.apf_level.specs.declared.answers.TryAdmit.{TryAdmit}
 use Rattle.apf_level.specs.declared.answers.TryAdmit.TheVariants as tried
-use Rattle.apf_level.specs.Admission.{TriesToAdmit}
+use Rattle.apf_level.specs.Admission.{TriesToAdmit, Polls}
+use Rattle.apf_level.specs.InPlace.{poll_of}
+use Rattle.apf_level.specs.declared.answers.Begun.{Begun}
+use Rattle.apf_level.specs.declared.answers.Begun.TheVariants as begins
 use Rattle.apf_level.specs.Levels.{LevelId}
 use Rattle.apf_level.specs.Tokens.{IsInLine, IsRunning, IsDone}
 use Rattle.apf_words.specs.Limits.{max_requests}
@@ -153,13 +156,45 @@ abbrev pub AreLeftOf : List RequestView → List PassToken → Type 0
 AreLeftOf requests passes = (i : ℕ) (d : RequestView) (e : PassToken) → i < length requests
     → IsLeftOf (slice_index_or requests i d) (slice_index_or passes (length requests - 1 - i) e)
 
--- what the log got by the arrival of a request of this number that is answered so: its Enter; its Full, if a queue was full; and no event only if it does not wait, and no queue was full
-abbrev pub LogsFor : LevelId → ℕ → Answer → Option Event → Type 0
-LogsFor k r answer (Some (events.Enter r' q)) = (r' ≡ r) × Appended k (events.Enter r q)
-LogsFor k r answer (Some (events.Full r' q)) = (r' ≡ r) × (answer ≡ answers.Over QueueFull) × Appended k (events.Full r q)
-LogsFor k r answer (Some (events.Dispatch r' q)) = ⊥
-LogsFor k r answer (Some (events.Strike r' q)) = ⊥
-LogsFor k r answer None = (answer ≢ answers.Waits) × (answer ≢ answers.Over QueueFull)
+-- whether the Pass of the request has that it entered a queue
+abbrev pub entered_in : Token → Bool
+entered_in (tokens.Fresh pass) = pass.pass.entered
+entered_in (tokens.Waiting pass) = pass.pass.entered
+entered_in (tokens.Running pass) = pass.pass.entered
+entered_in (tokens.Done pass) = pass.pass.entered
+entered_in tokens.Gone = false
+
+-- what is answered where the log got no event: the request did not enter, and no queue was full
+abbrev pub NeedsNoEvent : Answer → Token → Type 0
+NeedsNoEvent answers.Run token = entered_in token ≡ false
+NeedsNoEvent (answers.Over decision) token = (entered_in token ≡ false) × (decision ≢ QueueFull)
+NeedsNoEvent answers.Waits token = ⊥
+NeedsNoEvent (answers.Tried decision waiting) token = Unit {0}
+NeedsNoEvent answers.Busy token = Unit {0}
+NeedsNoEvent (answers.Released waiting) token = Unit {0}
+NeedsNoEvent answers.Wrong token = Unit {0}
+
+-- what the log got by the arrival of a request of this number that is answered so: its Enter, if it entered; its Full, if a queue was full; and no event only if it did neither
+abbrev pub LogsFor : LevelId → ℕ → Answer → Token → Option Event → Type 0
+LogsFor k r answer token (Some (events.Enter r' q)) = (r' ≡ r) × (entered_in token ≡ true) × Appended k (events.Enter r q)
+LogsFor k r answer token (Some (events.Full r' q)) = (r' ≡ r) × (answer ≡ answers.Over QueueFull) × Appended k (events.Full r q)
+LogsFor k r answer token (Some (events.Dispatch r' q)) = ⊥
+LogsFor k r answer token (Some (events.Strike r' q)) = ⊥
+LogsFor k r answer token None = NeedsNoEvent answer token
+
+-- what is answered of a reading, and the token that is kept of the Pass that it left
+abbrev pub KeepsRead : Begun → PassToken → Answer → Token → Type 0
+KeepsRead begins.Run pass answer token = (answer ≡ answers.Run) × (token ≡ tokens.Running pass)
+KeepsRead (begins.Over decision) pass answer token = (answer ≡ answers.Over decision) × (token ≡ tokens.Done pass)
+KeepsRead begins.Waits pass answer token = (answer ≡ answers.Waits) × (token ≡ tokens.Waiting pass)
+
+-- what is answered of a request that waits is what one load of its decision found
+abbrev pub ReadsAs : Token → Answer → Token → Type 0
+ReadsAs (tokens.Fresh pass) answer token' = Unit {0}
+ReadsAs (tokens.Waiting pass) answer token' = (read : Begun) × (left : PassToken) × Polls pass.pass (poll_of read left) × KeepsRead read left answer token'
+ReadsAs (tokens.Running pass) answer token' = Unit {0}
+ReadsAs (tokens.Done pass) answer token' = Unit {0}
+ReadsAs tokens.Gone answer token' = Unit {0}
 
 -- a call of one of these requests, which leaves the others as they are
 pub record CallsOne (place : Place) (request : ℕ) (old : List RequestView) (answer : Answer) (new : List RequestView) : Type 0 where

@@ -1,14 +1,14 @@
 //! One reader of a level's log.
 
-ghost use Rattle.std.specs.Prelude.{◌≡◌, ◌*◌, ◌≤◌, [], length, slice_get, IfOk};
+ghost use Rattle.std.specs.Prelude.{◌≡◌, ◌*◌, ◌≤◌, [], length, reverse, slice_get, IfOk};
 ghost use Rattle.apf_words.specs.Limits.{max_requests};
+ghost use Rattle.apf_level.specs.Locked.{log_under};
 ghost use Rattle.apf_session.specs.Followers.{Gains};
 
-use apf_level::{Level, Naming};
+use apf_level::{Locked, Naming};
 use apf_model::Event;
 use std::alloc::{AllocError, Global};
 use std::marker::Model;
-use std::sync::Wait;
 
 /// The log of a level as far as one reader has read it, the oldest event first. All its memory is taken when it is made.
 #[derive(Drop)]
@@ -45,14 +45,12 @@ impl Follower {
         })
     }
 
-    /// Reads what the level's log gained since it was read last.
-    pub fn follow<K: Naming, R: Wait>(&mut self, rt: &R, level: &Level<K>)
-        ensures gained { Gains K.level self.old self.new }
+    /// Reads what the log gained since it was read last that stands under this lock, which is held.
+    pub fn follow<K: Naming>(&mut self, locked: &Locked<'_, K>)
+        ensures gained { Gains (reverse (log_under locked.now)) self.old self.new }
     {
         let from = self.read;
-        let count = level
-            .lock(rt)
-            .copy_events(from as u32, &mut self.log[from..]);
+        let count = locked.copy_events(from as u32, &mut self.log[from..]);
         self.read = from + count as usize;
     }
 

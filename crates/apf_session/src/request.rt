@@ -7,7 +7,7 @@ ghost use Rattle.apf_gate.specs.declared.record.State.TheVariants as states;
 ghost use Rattle.apf_gate.specs.Records.{told_own};
 ghost use Rattle.apf_gate.specs.Tokens.{pass_gate};
 ghost use Rattle.apf_session.specs.declared.answer.Place.TheVariants as places;
-ghost use Rattle.apf_session.specs.Requests.{place_of, told_by, Answers, LogsFor, SaysWhere, TriesAs, ReleasesAs};
+ghost use Rattle.apf_session.specs.Requests.{place_of, told_by, Answers, LogsFor, SaysWhere, TriesAs, ReadsAs, ReleasesAs};
 
 use crate::answer::{Answer, Place};
 use apf_gate::Pass;
@@ -145,7 +145,7 @@ impl<K: Naming> Request<K> {
     pub fn begin_with_event<R: Wait>(&mut self, rt: &R, level: &Level<K>) -> (Answer, Option<Event>)
         ensures answers { Answers places.Away self.old result.0 self.new }
         ensures kind { SaysWhere result.0 }
-        ensures logs { LogsFor K.level self.old.number result.0 result.1 }
+        ensures logs { LogsFor K.level self.old.number result.0 self.new.token result.1 }
     {
         if self.place != Place::Away {
             return (Answer::Wrong, None);
@@ -193,6 +193,7 @@ impl<K: Naming> Request<K> {
     pub fn poll<R: Wait>(&mut self, rt: &R, level: &Level<K>) -> Answer
         ensures answers { Answers places.Waits self.old result self.new }
         ensures kind { SaysWhere result }
+        ensures reads { ReadsAs self.old.token result self.new.token }
     {
         if self.place != Place::Waits {
             return Answer::Wrong;

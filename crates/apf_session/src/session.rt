@@ -13,7 +13,7 @@ ghost use Rattle.apf_level.specs.Limits.{LastSet};
 ghost use Rattle.apf_level.specs.Opening.{SettledBy};
 ghost use Rattle.apf_session.specs.declared.answer.Place.TheVariants as places;
 ghost use Rattle.apf_session.specs.Openings.{level_of, level_with, IsNew, IsOpenFault};
-ghost use Rattle.apf_session.specs.Requests.{RequestView, AreNumbered, ArePassesNumbered, AreAway, CallsOne, LogsFor, SaysWhere, AreLeftOf, ReleasesAs, StaysTold, StayTold};
+ghost use Rattle.apf_session.specs.Requests.{RequestView, AreNumbered, ArePassesNumbered, AreAway, CallsOne, LogsFor, SaysWhere, ReadsAs, AreLeftOf, ReleasesAs, StaysTold, StayTold};
 ghost use Rattle.apf_session.specs.Ends.{CancelsThese, FirstCancels, KeepsOrder, SessionEnds, undecided};
 
 use crate::answer::{Answer, Place};
@@ -333,7 +333,7 @@ impl<K: Naming> Session<K> {
         ensures calls { CallsOne places.Away request self.old.requests.items result.0 self.new.requests.items }
         ensures kind { SaysWhere result.0 }
         ensures operators { self.new.operators.items ≡ self.old.operators.items }
-        ensures logs { (d : RequestView) → LogsFor K.level (slice_index_or self.old.requests.items request d).number result.0 result.1 }
+        ensures logs { (d : RequestView) → LogsFor K.level (slice_index_or self.old.requests.items request d).number result.0 (slice_index_or self.new.requests.items request d).token result.1 }
     {
         self.requests[request as usize].begin_with_event(rt, &self.level)
     }
@@ -343,6 +343,7 @@ impl<K: Naming> Session<K> {
         requires { request < length K.level.gate.shape.widths }
         ensures calls { CallsOne places.Waits request self.old.requests.items result self.new.requests.items }
         ensures kind { SaysWhere result }
+        ensures reads { (d : RequestView) → ReadsAs (slice_index_or self.old.requests.items request d).token result (slice_index_or self.new.requests.items request d).token }
         ensures operators { self.new.operators.items ≡ self.old.operators.items }
     {
         self.requests[request as usize].poll(rt, &self.level)

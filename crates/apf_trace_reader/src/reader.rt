@@ -145,6 +145,11 @@ impl TraceReader {
         }
     }
 
+    /// What was read behind that line, and is no part of a line yet that was taken.
+    pub fn behind(&self) -> &[u8] {
+        self.lines.kept()
+    }
+
     /// Whether a line that was taken says what its request is charged.
     pub fn has_cost(&self) -> bool
         ensures { result ≡ self.now.has_cost }

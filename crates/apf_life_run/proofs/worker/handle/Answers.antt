@@ -1,10 +1,13 @@
 -- The Station knows the slot, of which it closed the level and heard the decision.
-use Rattle.std.proofs.Common.{◌≡◌, ◌≢◌, ◌∙◌, ℕ, List, None, ap, subst, sym}
+use Rattle.std.proofs.Common.{◌≡◌, ◌≢◌, ◌∙◌, ◌++◌, ℕ, List, None, ap, subst, sym}
 use Rattle.std.specs.Prelude.{Some, slice_get}
 use Rattle.apf_files.specs.declared.requests.Request.{Request}
 use Rattle.apf_gate.specs.Records.{told_of}
 use Rattle.apf_gate.specs.Slots.{slot_of}
-use Rattle.apf_life_run.proofs.Known.{handled}
+use Rattle.std.proofs.lemmas.List.{append_assoc}
+use Rattle.apf_gate.specs.declared.record.Entry.{Entry}
+use Rattle.apf_gate.specs.Traces.{asked_in}
+use Rattle.apf_life_run.proofs.Known.{handled, one_more_asked, asked_still}
 use Rattle.apf_life_run.proofs.worker.handle.Goals as goal
 
 pub returns-clause-known : goal.returns-clause-known
@@ -17,3 +20,20 @@ returns-clause-known g c =
     (c.finish-slot.ensures.same ∙ c.next-pass.ensures.number)
     (subst (λ (r : ℕ). told_of c.hear.new.self.station.knows.told r ≢ None) (c.ticket-ticket.ensures.number ∙ sym c.finish-slot.ensures.same) c.hear.ensures.told)
     c.requires.known
+
+pub returns-clause-asked : goal.returns-clause-asked
+returns-clause-asked g c =
+    let requests : List Request = g.K.Plan.requests in
+    let at : c.slot.result ≡ slot_of c.args.slot.pass.number = c.slot.ensures ∙ ap slot_of c.ticket.ensures.number in
+    let next = c.next-pass.result.token in
+    let done = c.finish-slot.result in
+    one_more_asked requests c.args.slot done c.asked-request.result c.args.round
+    (subst (λ (i : ℕ). slice_get requests i ≡ Some c.asked-request.result) at c.asked-request.ensures.is) c.asked-request.ensures.width.1 c.requires.before
+    (c.finish-slot.ensures.same ∙ c.next-pass.ensures.number) (
+      c.finish-slot.ensures.goes_on.0 ++ c.next-pass.ensures.goes_on.0,
+      append_assoc c.finish-slot.ensures.goes_on.0 c.next-pass.ensures.goes_on.0 c.args.slot.pass.knows.trace
+          ∙ (ap (λ (es : List Entry). c.finish-slot.ensures.goes_on.0 ++ es) c.next-pass.ensures.goes_on.1 ∙ c.finish-slot.ensures.goes_on.1),
+    )
+    (ap (asked_in done.pass.knows.trace) c.finish-slot.ensures.same
+    ∙ asked_still next.pass.knows.trace done.pass.knows.trace next.pass.number (record { hash = c.asked-request.result.hash; cost = c.asked-request.result.width }) c.finish-slot.ensures.goes_on c.next-pass.ensures.asked)
+    c.requires.asked

@@ -2,7 +2,7 @@
 use Rattle.std.proofs.Common.{rules}
 use Rattle.apf_flow.specs.Deal.{hand_of}
 use Rattle.apf_life.specs.InPlace.{begin_of}
-use Rattle.apf_life.proofs.Asks.{asked_more, logs_more}
+use Rattle.apf_life.proofs.Asks.{asked_more, logs_more, on_of, on_then}
 use Rattle.apf_life.proofs.Knowing.{more_then}
 use Rattle.apf_life.proofs.level.Level.arrive.Goals as goal
 
@@ -21,8 +21,11 @@ loop-preserved g c = record {
   ends = search rules;
   kept = search rules;
   same = search rules;
-  more = more_then c.args.pass.now.pass.knows c.loop.pass.pass.knows c.take-tried.new.pass.pass.knows c.loop.invariant.more c.take-tried.ensures.more;
+  more = more_then c.args.pass.now.pass.knows c.loop.pass.pass.knows c.take-again.new.pass.pass.knows c.loop.invariant.more c.take-again.ensures.more;
   told = search rules;
   outside = search rules;
   never_entered = search rules;
 }
+
+pub returns-in-Queued-clause-goes_on : goal.returns-in-Queued-clause-goes_on
+returns-in-Queued-clause-goes_on g c = on_then c.args.pass.now.pass.knows.trace c.loop.pass.pass.knows.trace c.enqueue.new.pass.pass.knows.trace (on_of c.args.pass.now.pass.knows c.loop.pass.pass.knows c.loop.invariant.more) c.enqueue.ensures.goes_on

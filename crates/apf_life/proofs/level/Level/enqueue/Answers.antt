@@ -1,11 +1,23 @@
 -- A request that stands in line asked for the hand that was dealt it.
-use Rattle.std.proofs.Common.{rules, ◌≡◌, ◌∙◌, ℕ, List, sym, subst}
+use Rattle.std.proofs.Common.{rules, ◌≡◌, ◌∙◌, ◌++◌, ℕ, List, sym, subst}
+use Rattle.apf_gate.specs.declared.record.Entry.{Entry}
+use Rattle.apf_gate.specs.Tokens.{PassToken}
+use Rattle.apf_life.specs.declared.answers.Begun.{Begun}
+use Rattle.apf_life.specs.declared.answers.Begun.TheVariants as begins
+use Rattle.apf_life.specs.Admission.{begun_pass}
+use Rattle.apf_life.specs.InPlace.{begin_of}
 use Rattle.apf_history.specs.declared.events.Event.TheVariants.{Enter, Full}
 use Rattle.apf_flow.specs.Deal.{hand_of}
 use Rattle.apf_book.specs.Life.{IsAskedBy}
 use Rattle.apf_life.specs.Arrivals.{Came}
-use Rattle.apf_life.proofs.Asks.{asked_more, is_asked, came_more}
+use Rattle.apf_life.proofs.Asks.{asked_more, is_asked, came_more, came_since, on_of, on_then}
 use Rattle.apf_life.proofs.level.Level.enqueue.Goals as goal
+
+-- the Pass of what is answered is the one that is left
+keeps : (begun : Begun) (token : PassToken) (last : List Entry) → (later : List Entry) × (later ++ last ≡ token.pass.knows.trace) → (later : List Entry) × (later ++ last ≡ (begun_pass (begin_of begun token)).pass.knows.trace)
+keeps begins.Run token last on = on
+keeps (begins.Over decision) token last on = on
+keeps begins.Waits token last on = on
 
 pub arrive-enqueued-requires-clause-stands : goal.arrive-enqueued-requires-clause-stands
 arrive-enqueued-requires-clause-stands g c = λ κs outlive.
@@ -31,10 +43,14 @@ returns-in-Entered-clause-logs g c =
     let number : c.arrive-enqueued.new.pass.pass.number ≡ r = c.in-Entered.ensures.same.number ∙ c.ask.ensures.same.number in
     let ticket : c.ticket-ticket.result.number ≡ r = c.ticket-ticket.ensures.number ∙ c.ask.ensures.same.number in
     let t = c.ask.new.pass.pass.knows.trace in
-    let a = subst (λ (xs : List ℕ). Came k t c.arrive-enqueued.new.pass.pass.number xs c.args.cost (Enter c.arrive-enqueued.new.pass.pass.number c.in-Entered.queue)) dealt c.in-Entered.ensures.stands.1 in
-    let b = subst (λ (i : ℕ). Came k t i (hand_of k.sizes c.args.hash) c.args.cost (Enter i c.in-Entered.queue)) number a in
-    let d = subst (λ (i : ℕ). Came k t r (hand_of k.sizes c.args.hash) c.args.cost (Enter i c.in-Entered.queue)) (sym ticket) b in
-    ((ticket, (search rules)), came_more k c.args.pass.now.pass.knows c.ask.new.pass.pass.knows r (hand_of k.sizes c.args.hash) c.args.cost (Enter c.ticket-ticket.result.number c.in-Entered.queue) c.ask.ensures.same.more d)
+    let last = c.arrive-enqueued.new.pass.pass.knows.trace in
+    let a = subst (λ (xs : List ℕ). Came k t c.arrive-enqueued.new.pass.pass.number xs c.args.cost (Enter c.arrive-enqueued.new.pass.pass.number c.in-Entered.queue) last) dealt c.in-Entered.ensures.stands.1 in
+    let b = subst (λ (i : ℕ). Came k t i (hand_of k.sizes c.args.hash) c.args.cost (Enter i c.in-Entered.queue) last) number a in
+    let d = subst (λ (i : ℕ). Came k t r (hand_of k.sizes c.args.hash) c.args.cost (Enter i c.in-Entered.queue) last) (sym ticket) b in (
+      (ticket, (search rules)),
+      came_since k c.args.pass.now.pass.knows.trace r (hand_of k.sizes c.args.hash) c.args.cost (Enter c.ticket-ticket.result.number c.in-Entered.queue) last (begun_pass (begin_of c.read_decision-begun.result c.read_decision-begun.new.pass)).pass.knows.trace (keeps c.read_decision-begun.result c.read_decision-begun.new.pass last c.read_decision-begun.ensures.goes_on)
+          (came_more k c.args.pass.now.pass.knows c.ask.new.pass.pass.knows r (hand_of k.sizes c.args.hash) c.args.cost (Enter c.ticket-ticket.result.number c.in-Entered.queue) last c.ask.ensures.same.more d),
+    )
 
 pub returns-in-Full-clause-logs : goal.returns-in-Full-clause-logs
 returns-in-Full-clause-logs g c =
@@ -44,7 +60,17 @@ returns-in-Full-clause-logs g c =
     let number : c.arrive-enqueued.new.pass.pass.number ≡ r = c.in-Full.ensures.same.number ∙ c.ask.ensures.same.number in
     let ticket : c.ticket-ticket.result.number ≡ r = c.ticket-ticket.ensures.number ∙ c.ask.ensures.same.number in
     let t = c.ask.new.pass.pass.knows.trace in
-    let a = subst (λ (xs : List ℕ). Came k t c.arrive-enqueued.new.pass.pass.number xs c.args.cost (Full c.arrive-enqueued.new.pass.pass.number c.in-Full.queue)) dealt c.in-Full.ensures.stands.2 in
-    let b = subst (λ (i : ℕ). Came k t i (hand_of k.sizes c.args.hash) c.args.cost (Full i c.in-Full.queue)) number a in
-    let d = subst (λ (i : ℕ). Came k t r (hand_of k.sizes c.args.hash) c.args.cost (Full i c.in-Full.queue)) (sym ticket) b in
-    ((ticket, (search rules)), came_more k c.args.pass.now.pass.knows c.ask.new.pass.pass.knows r (hand_of k.sizes c.args.hash) c.args.cost (Full c.ticket-ticket.result.number c.in-Full.queue) c.ask.ensures.same.more d)
+    let last = c.arrive-enqueued.new.pass.pass.knows.trace in
+    let a = subst (λ (xs : List ℕ). Came k t c.arrive-enqueued.new.pass.pass.number xs c.args.cost (Full c.arrive-enqueued.new.pass.pass.number c.in-Full.queue) last) dealt c.in-Full.ensures.stands.2 in
+    let b = subst (λ (i : ℕ). Came k t i (hand_of k.sizes c.args.hash) c.args.cost (Full i c.in-Full.queue) last) number a in
+    let d = subst (λ (i : ℕ). Came k t r (hand_of k.sizes c.args.hash) c.args.cost (Full i c.in-Full.queue) last) (sym ticket) b in
+    ((ticket, (search rules)), came_more k c.args.pass.now.pass.knows c.ask.new.pass.pass.knows r (hand_of k.sizes c.args.hash) c.args.cost (Full c.ticket-ticket.result.number c.in-Full.queue) last c.ask.ensures.same.more d)
+
+pub returns-in-Entered-clause-goes_on : goal.returns-in-Entered-clause-goes_on
+returns-in-Entered-clause-goes_on g c = on_then c.args.pass.now.pass.knows.trace c.arrive-enqueued.new.pass.pass.knows.trace c.read_decision-begun.new.pass.pass.knows.trace (on_then c.args.pass.now.pass.knows.trace c.ask.new.pass.pass.knows.trace c.arrive-enqueued.new.pass.pass.knows.trace (on_of c.args.pass.now.pass.knows c.ask.new.pass.pass.knows c.ask.ensures.same.more) c.arrive-enqueued.ensures.goes_on) c.read_decision-begun.ensures.goes_on
+
+pub returns-in-Full-clause-goes_on : goal.returns-in-Full-clause-goes_on
+returns-in-Full-clause-goes_on g c = on_then c.args.pass.now.pass.knows.trace c.ask.new.pass.pass.knows.trace c.arrive-enqueued.new.pass.pass.knows.trace (on_of c.args.pass.now.pass.knows c.ask.new.pass.pass.knows c.ask.ensures.same.more) c.arrive-enqueued.ensures.goes_on
+
+pub returns-in-Over-clause-goes_on : goal.returns-in-Over-clause-goes_on
+returns-in-Over-clause-goes_on g c = on_then c.args.pass.now.pass.knows.trace c.ask.new.pass.pass.knows.trace c.arrive-enqueued.new.pass.pass.knows.trace (on_of c.args.pass.now.pass.knows c.ask.new.pass.pass.knows c.ask.ensures.same.more) c.arrive-enqueued.ensures.goes_on

@@ -4,7 +4,7 @@ use Rattle.std.proofs.lemmas.List.{length_push}
 use Rattle.std.proofs.lemmas.List.Elements.{All-pop, All-push}
 use Rattle.apf_files.specs.declared.requests.Request.{Request}
 use Rattle.apf_gate.specs.Tokens.{PassToken, StationToken, pass_gate}
-use Rattle.apf_life_run.specs.Workers.{IsInRound, IsKnown}
+use Rattle.apf_life_run.specs.Workers.{IsInRound, IsKnown, HasAsked}
 use Rattle.apf_life_run.proofs.Known.{all_still_known}
 use Rattle.apf_life_run.proofs.worker.Worker.go_round.Goals as goal
 
@@ -22,6 +22,11 @@ pub handle-requires-clause-known : goal.handle-requires-clause-known
 handle-requires-clause-known g c κs within =
     let popped : c.loop-slot.slots.items ≡ c.pop.new.self.items ++ c.in-Some.slot ∷ [] = search rules in
     (All-pop (IsKnown g.K.Plan.requests c.loop-slot.operator) c.loop-slot.slots.items c.pop.new.self.items (Some c.in-Some.slot) popped c.loop-slot.invariant.0.known_slots).1
+
+pub handle-requires-clause-asked : goal.handle-requires-clause-asked
+handle-requires-clause-asked g c κs within =
+    let popped : c.loop-slot.slots.items ≡ c.pop.new.self.items ++ c.in-Some.slot ∷ [] = search rules in
+    (All-pop (HasAsked g.K.Plan.requests) c.loop-slot.slots.items c.pop.new.self.items (Some c.in-Some.slot) popped c.loop-slot.invariant.0.asked_slots).1
 
 pub loop-slot-preserved : goal.loop-slot-preserved
 loop-slot-preserved g c =
@@ -45,6 +50,8 @@ loop-slot-preserved g c =
         known_slots = all_still_known requests before after rest c.handle.ensures.knows (All-pop (IsKnown requests before) c.loop-slot.slots.items rest (Some slot) popped was.0.known_slots).0;
         known_over = subst (All (IsKnown requests after)) (sym pushed)
             (All-push (IsKnown requests after) over done (all_still_known requests before after over c.handle.ensures.knows was.0.known_over) c.handle.ensures.known);
+        asked_slots = (All-pop (HasAsked requests) c.loop-slot.slots.items rest (Some slot) popped was.0.asked_slots).0;
+        asked_over = subst (All (HasAsked requests)) (sym pushed) (All-push (HasAsked requests) over done was.0.asked_over c.handle.ensures.asked);
       },
       omega (arith, shorter, longer, was.1),
       (All-pop (IsInRound c.args.before) c.loop-slot.slots.items rest (Some slot) popped was.2).0,

@@ -1,5 +1,7 @@
 use Rattle.std.proofs.Common.{rules, ◌≡◌, refl, sym, ap, ◌∙◌, subst}
+use Rattle.apf_life.specs.declared.answers.Tried.{Tried}
 use Rattle.apf_life.specs.declared.answers.Tried.TheVariants as tries
+use Rattle.apf_life.specs.Attempts.{Attempts}
 use Rattle.apf_life_session.specs.declared.answer.Answer.TheVariants as answers
 use Rattle.apf_life_session.specs.declared.answer.Place.{Place}
 use Rattle.apf_life_session.specs.declared.answer.Place.TheVariants as places
@@ -13,12 +15,12 @@ returns-in-Run-clause-steps g c =
     let at : c.self.inside.place ≡ places.Free = search rules in
     let holds : tokens.Free c.self.inside.pass ≡ c.args.self.now = ap (λ (p : Place). token_at p c.self.inside.pass) (sym at) ∙ c.self.view_is in
     let renewed = c.if-not-renew_slot.ensures.renews refl in
-    subst (λ (t : Token). TriesAs c.args.ask.width c.args.ask.hash t answers.Run (tokens.Running c.attempt.new.pass)) holds (λ _. record {
+    subst (λ (t : Token). TriesAs c.args.ask.width c.args.ask.hash t answers.Run (tokens.Running c.attempt-tried.new.pass)) holds (λ _. record {
       next = c.renew_slot.new.pass;
       found = renewed.0;
       renews = renewed.1;
       tried = tries.Run;
-      left = c.attempt.new.pass;
-      steps = c.in-Run.ensures.steps;
+      left = c.attempt-tried.new.pass;
+      steps = subst (λ (t : Tried). Attempts c.renew_slot.new.pass.pass t c.attempt-tried.new.pass) c.in-Run.is c.attempt-tried.ensures.steps;
       keeps = (refl, refl);
     })

@@ -53,7 +53,7 @@ returns-in_ok-add-in-Some-clause-met c came met =
     let was = subst (HaveMet came) (sym c.self.view_is) met in
     let named = subst (IsNamed came) (sym c.index_mut.ensures.value) (was.named c.in-Some.place (old c) (low c)) in
     named_set came (v c) c.in-Some.place (row c) c.add.new.self
-    (record { first = named.first; among = named.among; flow = named.flow; line = named.line; names = named.names; least = named.least }) was
+    (record { first = named.first; among = named.among; flow = named.flow; is_line = named.is_line; named = named.named; least = named.least }) was
 
 pub returns-in_ok-add-in-None-clause-added : goal.returns-in_ok-add-in-None-clause-added
 returns-in_ok-add-in-None-clause-added c told are =

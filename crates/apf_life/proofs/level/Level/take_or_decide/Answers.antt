@@ -5,7 +5,7 @@ use Rattle.apf_gate.specs.declared.record.Shape.{Shape}
 use Rattle.apf_gate.specs.Tokens.{GateId}
 use Rattle.apf_line.specs.Levels.{LifeId}
 use Rattle.apf_life.proofs.Knowing.{more_then}
-use Rattle.apf_life.proofs.level.Level.take.Goals as goal
+use Rattle.apf_life.proofs.level.Level.take_or_decide.Goals as goal
 
 pub returns-else-eq-clause-steps : goal.returns-else-eq-clause-steps
 returns-else-eq-clause-steps g c = λ pass same reads.

@@ -3,3 +3,4 @@ pub mod Keeping
 pub mod Meeting
 pub mod Flows
 pub mod Tabling
+pub mod Ordered

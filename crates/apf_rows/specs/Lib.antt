@@ -2,3 +2,4 @@ pub mod Accounts
 pub mod Rows
 pub mod Tables
 pub mod Texts
+pub mod Comparisons

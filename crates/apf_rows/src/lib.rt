@@ -7,6 +7,7 @@
 #![tactic(auto)]
 
 mod account;
+mod comparison;
 mod laws;
 mod row;
 mod rows;
@@ -14,6 +15,7 @@ mod sums;
 mod table;
 
 pub use account::{Account, Figures};
+pub use comparison::{Place, order_of, write_comparison};
 pub use laws::every_flow_is_met;
 pub use row::Row;
 pub use rows::{MOST_FLOWS, Rows};

@@ -15,6 +15,9 @@ pub enum SimulatorFault {
     /// The level is not opened.
     #[error("{0}")]
     Open(OpenFault),
+    /// The other level, of two, is not opened.
+    #[error("{0}")]
+    OpenOther(OpenFault),
     /// At the arrival of the request of this line, at this time in microseconds, all slots are taken.
     #[error("at line {0}, at {1}, more than 10000 requests are there at once")]
     Crowded(u64, u64),
@@ -33,6 +36,16 @@ pub enum SimulatorFault {
     /// Memory was refused.
     #[error("out of memory")]
     NoMemory,
+}
+
+impl SimulatorFault {
+    /// The other level, of two, is not opened, or memory was refused.
+    pub(crate) fn of_other(fault: OpenFault) -> SimulatorFault {
+        match fault {
+            OpenFault::NoMemory => SimulatorFault::NoMemory,
+            OpenFault::Gate(_) | OpenFault::Level(_) => SimulatorFault::OpenOther(fault),
+        }
+    }
 }
 
 impl From<StreamFault> for SimulatorFault {

@@ -4,11 +4,12 @@
 //! - `lane`: a level with what its requests came to. `lanes`: one or two of them, on which the same requests run.
 //! - `counting`: each request that is told is counted.
 //! - `feeding`: runs each request of a trace on the lanes. `fault`: why a trace is not simulated.
-//! - `simulating`: runs a trace, and prints what its flows came to.
+//! - `simulating`: runs a trace, and prints what its flows came to. `comparing`: runs it on two levels.
 #![tactic(auto)]
 
 mod asked;
 mod charge;
+mod comparing;
 mod counting;
 mod fault;
 mod feeding;
@@ -16,6 +17,7 @@ mod lane;
 mod lanes;
 mod simulating;
 
+pub use comparing::compare;
 pub use fault::SimulatorFault;
 pub use lane::{Lane, SLOTS};
 pub use lanes::Lanes;

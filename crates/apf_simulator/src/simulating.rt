@@ -40,8 +40,12 @@ fn totals_of(report: &Report) -> Totals
     }
 }
 
-// Runs the trace on the lanes, to which nobody came, and then all that is due.
-fn run<R: Read>(
+/// Runs the trace on the lanes, to which nobody came, and then all that is due.
+///
+/// # Errors
+///
+/// The reader's, and those of the lanes.
+pub(crate) fn run<R: Read>(
     lanes: &mut Lanes,
     first: &First,
     reader: &mut TraceReader,

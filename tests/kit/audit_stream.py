@@ -7,6 +7,7 @@ import os
 import random
 import subprocess
 import sys
+import tempfile
 
 HERE = os.path.dirname(os.path.dirname(os.path.abspath(__file__)))
 sys.path.insert(0, os.path.join(HERE, "lib"))
@@ -27,19 +28,26 @@ print(f"seed {seed}")
 
 
 def ran(size, by, pieces):
-    """What the program prints of the log, its status, and what it used."""
-    with subprocess.Popen([program, str(size), by], stdin=subprocess.PIPE, stdout=subprocess.PIPE) as process:
+    """What the program prints of the log, its status, the most memory that it had up to the log's end, in KiB, and its seconds of a processor. It prints
+    while it is given more, so what it prints goes to a file."""
+    most = 0
+    with tempfile.TemporaryFile() as out, subprocess.Popen([program, str(size), by], stdin=subprocess.PIPE, stdout=out) as process:
         try:
             for piece in pieces:
                 process.stdin.write(piece)
+            process.stdin.flush()
+            # not what `wait4` says: that counts what this process had when it made the other
+            with open(f"/proc/{process.pid}/status") as lines:
+                most = next((int(line.split()[1]) for line in lines if line.startswith("VmHWM:")), 0)
             process.stdin.close()
         except BrokenPipeError:
             # it ended before the log did, and says why
             pass
-        said = process.stdout.read().decode()
         _, status, used = os.wait4(process.pid, 0)
         process.returncode = os.waitstatus_to_exitcode(status)
-    return process.returncode, said, used
+        out.seek(0)
+        said = out.read().decode()
+    return process.returncode, said, most, used.ru_utime + used.ru_stime
 
 
 def drawn_event(received):
@@ -92,7 +100,7 @@ for number in range(LOGS):
     size = draw.choice([0, 1, 2, 3, 7, 20, WINDOW])
     by = draw.choice(["user", "namespace"])
     content = drawn_log(min(size, 20))
-    status, said, _ = ran(size, by, [content])
+    status, said, *_ = ran(size, by, [content])
     want = wanted(content, by, size)
     tally.check(f"log {number} with a window of {size}: {content[-300:]!r}", (status, said), want)
     last = want[1].splitlines()[-1].split()
@@ -149,14 +157,13 @@ def long_log(events):
 
 sizes = {}
 for events in (7 * MANY // 10, MANY):
-    status, said, used = ran(WINDOW, "user", long_log(events))
+    status, said, memory, seconds = ran(WINDOW, "user", long_log(events))
     told = [json.loads(line) for line in said.splitlines()[:-1]]
     tally.check(f"{events} events", (status, len(told), said.splitlines()[-1]), (0, events, "unnamed 0 cut false"))
     tally.check(f"{events} events, in the order of their arrivals", [it["arrivesAt"] for it in told], [700 * number for number in range(events)])
     ran_for = {received: end - received for received, end, _, is_refused, _ in long_events(events) if not is_refused}
     tally.check(f"{events} events, each with its own run", all(it["runsFor"] == ran_for.get(it["arrivesAt"], it["runsFor"]) for it in told), True)
-    sizes[events] = used.ru_maxrss
-    seconds = used.ru_utime + used.ru_stime
-    print(f"{events} events: {used.ru_maxrss} KiB, {seconds:.2f} s of a processor, {1e6 * seconds / events:.2f} us an event")
+    sizes[events] = memory
+    print(f"{events} events: {memory} KiB, {seconds:.2f} s of a processor, {1e6 * seconds / events:.2f} us an event")
 tally.check("memory does not grow with the log once the window is full", sizes[MANY] <= sizes[7 * MANY // 10] + 16_384, True)
 tally.end()

@@ -4,7 +4,7 @@
 #![tactic(auto)]
 
 use apf_audit::{AuditFault, By, Choice, arrives_at, write_request};
-use apf_audit_reader::{AuditReader, ReadFault};
+use apf_audit_reader::{AuditReader, ReadFault, WINDOW};
 use std::alloc::Global;
 use std::io;
 use std::io::{BufWriter, Read, Write};
@@ -54,11 +54,14 @@ fn print_all<I: Read, O: Write>(
     writeln!(out, "unnamed {unnamed} cut {is_cut}").map_err(|_| Trouble::CannotWrite)
 }
 
-// The size of the window, and what makes a flow.
+// The size of the window, and what makes a flow; without words those of the program.
 fn words_of(rt: &HostRuntime) -> Option<(usize, By)> {
     let mut words = std::env::args(rt).ok()?;
     let _program = words.next();
-    let size = words.next()?.parse::<usize>().ok()?;
+    let Some(size) = words.next() else {
+        return Some((WINDOW, By::User));
+    };
+    let size = size.parse::<usize>().ok()?;
     let by = words.next()?;
     let by = By::named(by.as_str())?;
     Some((size, by))

@@ -406,22 +406,6 @@ def check_widest_trace():
     tally.check("a trace's reader takes it", taken, (0, f'[\n{{"schema":{json_text(name)},"distinguisher":{json_text(name)}}}\n]\n'.encode(), b""))
 
 
-def check_size_of_traces():
-    """What `trace` prints is a file that `simulate` takes, or is refused: with a schema of 4096 characters that are escaped, each line has about 24 KB."""
-    most, schema = 67_108_864, 4096 * "\x01"
-    line = len(read(logs.line(logs.event((NOON, 5, "a", None))) + b"\n", schema)) + len(f"{10**10}") - 1
-    for count, size in ((most // line, None), (most // line + 1, most)):
-        # arrivals of eleven digits each, but for the first
-        events = [logs.event((NOON + (10**10 + number) * min(number, 1), 5, "a", None)) for number in range(count)]
-        status, out, err = run(program, [COMMAND, files("audit.log", b"".join(logs.line(it) + b"\n" for it in events)), schema])
-        if size:
-            tally.check("a trace that is too large", (status, out, err), (1, b"", f"apf: the trace would be too large: more than {most} bytes\n".encode()))
-        else:
-            tally.check("a trace of almost the most bytes", (status, most - line < len(out) <= most, err), (0, True, b""))
-            taken = run(program, ["simulate", files("config", b'{"limit":100}'), files("trace", out), "0"])
-            tally.check("simulate takes it", (taken[0], taken[2]), (0, b""))
-
-
 def check_example():
     tally.check("the judge of the example", read(example("audit.log"), "global-default"), example("trace.jsonl").decode())
 

@@ -21,7 +21,8 @@ seed = int(os.environ.get("APF_SEED", "2044"))
 draw = random.Random(seed)
 logs = Logs(draw)
 LOGS = int(os.environ.get("APF_LOGS", "1000"))
-MANY = int(os.environ.get("APF_EVENTS", "450000"))
+# the first of two long logs is longer than the window, too
+MANY = int(os.environ.get("APF_EVENTS", "200000"))
 print(f"seed {seed}")
 
 
@@ -147,7 +148,7 @@ def long_log(events):
 
 
 sizes = {}
-for events in (MANY // 3, MANY):
+for events in (7 * MANY // 10, MANY):
     status, said, used = ran(WINDOW, "user", long_log(events))
     told = [json.loads(line) for line in said.splitlines()[:-1]]
     tally.check(f"{events} events", (status, len(told), said.splitlines()[-1]), (0, events, "unnamed 0 cut false"))
@@ -157,5 +158,5 @@ for events in (MANY // 3, MANY):
     sizes[events] = used.ru_maxrss
     seconds = used.ru_utime + used.ru_stime
     print(f"{events} events: {used.ru_maxrss} KiB, {seconds:.2f} s of a processor, {1e6 * seconds / events:.2f} us an event")
-tally.check("memory does not grow with the log once the window is full", sizes[MANY] <= sizes[MANY // 3] + 32_768, True)
+tally.check("memory does not grow with the log once the window is full", sizes[MANY] <= sizes[7 * MANY // 10] + 16_384, True)
 tally.end()

@@ -1,6 +1,6 @@
 -- Estimates once one more request was read, and what they answer.
-use Rattle.std.proofs.Common.{◌≡◌, ◌≢◌, ℕ, ◌+◌, ◌-◌, ◌^◌, ◌<◌, ◌≤◌, List, [], ◌∷◌, ◌++◌, length, Bool, true, false, cond, true≢false, Option, Some, None, IsPermutation, refl, sym, ap, ◌∙◌, subst, arith}
-use Rattle.std.specs.Prelude.{nat_le, MatchOption, String, ◌&&◌, not}
+use Rattle.std.proofs.Common.{◌≡◌, ℕ, ◌+◌, ◌-◌, ◌^◌, ◌<◌, ◌≤◌, List, [], ◌∷◌, ◌++◌, length, Bool, true, false, cond, Option, Some, None, IsPermutation, refl, sym, ap, ◌∙◌, subst, arith}
+use Rattle.std.specs.Prelude.{nat_le, String}
 use Rattle.std.specs.declared.alloc.Global.{Global}
 use Rattle.std.specs.Map.{update}
 use Rattle.std.specs.Str.{bytes_eq}
@@ -10,7 +10,7 @@ use Rattle.std.proofs.lemmas.List.Sorted.{IsPermutation-sym, IsPermutation-to_fr
 use Rattle.apf_times.specs.Waits.{AreKept, AreKeptAs, IsKeptPercentile, TallyView, WaitsView, as_kept, is_absent, is_exact, max_exact, number, number_as}
 use Rattle.apf_audit.specs.AuditEvent.{Event}
 use Rattle.apf_audit.specs.Estimates.{AreEstimates, EstimatesView, IsKeptMedian, IsOwn, KeepsFirst, KeepsHere, KeepsMore, KeepsOwn, estimate_read, is_among, is_own, kept_median, max_flows, own_from, own_with, run_read, runs_in}
-use Rattle.apf_audit.specs.Runs.{median_of, ran, runs_of}
+use Rattle.apf_audit.specs.Runs.{median_of, runs_of}
 use Rattle.apf_audit.proofs.Medians.{median_is}
 use Rattle.apf_audit.proofs.Owning.{among_new, among_other, eq_self, none_ran, other_text, own_away, own_full, own_gain, own_known, own_more, runs_few, runs_more, same_text}
 

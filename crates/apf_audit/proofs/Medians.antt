@@ -1,10 +1,10 @@
 -- The median of runs is the first of them that is a median, since no two numbers are.
-use Rattle.std.proofs.Common.{◌≡◌, ◌≤◌, ◌<◌, ◌*◌, ◌&&◌, ◌⊎◌, inl, inr, ℕ, zero, suc, List, [], ◌∷◌, length, Option, Some, None, Bool, true, false, cond, refl, sym, ◌∙◌, ap, subst, arith, rules, All, true≢false}
-use Rattle.std.specs.Prelude.{Contains, count_by, filter, map, nat_le, nat_lt, sum_by, unwrap_or}
+use Rattle.std.proofs.Common.{◌≡◌, ◌≤◌, ◌<◌, ◌*◌, ◌&&◌, ◌⊎◌, inl, inr, ℕ, zero, suc, List, [], ◌∷◌, length, Option, Some, Bool, true, false, cond, refl, sym, ◌∙◌, ap, arith, All, true≢false}
+use Rattle.std.specs.Prelude.{Contains, count_by, filter, nat_le, nat_lt, sum_by, unwrap_or}
 use Rattle.std.specs.List.{find}
 use Rattle.std.proofs.lemmas.Bool.Decides.{nat_tests}
 use Rattle.std.proofs.lemmas.List.Sums.{sum_by-cons}
-use Rattle.std.proofs.lemmas.List.Elements.{All-cons, All-head, All-tail, All-filter, All-map}
+use Rattle.std.proofs.lemmas.List.Elements.{All-head, All-tail, All-filter, All-map}
 use Rattle.apf_times.specs.Percentiles.{IsPercentile}
 use Rattle.apf_audit.specs.AuditEvent.{Event}
 use Rattle.apf_audit.specs.Runs.{is_median, median_of, ran, runs_of}

@@ -1,7 +1,6 @@
 -- Which flows have runs of their own, and which runs.
-use Rattle.std.proofs.Common.{◌≡◌, ◌≢◌, ℕ, ◌+◌, ◌<◌, ◌≤◌, List, [], ◌∷◌, ◌++◌, length, map, Bool, true, false, cond, true≢false, Option, Some, None, refl, sym, ap, ◌∙◌, subst, append-nil, arith}
+use Rattle.std.proofs.Common.{◌≡◌, ℕ, ◌<◌, ◌≤◌, List, [], ◌∷◌, ◌++◌, length, map, Bool, true, false, cond, true≢false, Option, Some, refl, sym, ap, ◌∙◌, arith}
 use Rattle.std.specs.Prelude.{filter, nat_le, ◌||◌, ◌&&◌, not}
-use Rattle.std.specs.List.{list_any}
 use Rattle.std.specs.Str.{bytes_eq}
 use Rattle.std.proofs.lemmas.Slice.Eq.{bytes_eq-Decides}
 use Rattle.std.proofs.lemmas.Bool.Decides.{nat_tests}
@@ -10,8 +9,8 @@ use Rattle.std.proofs.lemmas.List.Elements.{filter-append}
 use Rattle.std.proofs.lemmas.List.Folds.{list_any-append}
 use Rattle.std.proofs.lemmas.List.Sums.{count_by-le-length, length-filter}
 use Rattle.apf_audit.specs.AuditEvent.{Event}
-use Rattle.apf_audit.specs.Estimates.{is_among, is_own, max_flows, own_from, own_with}
-use Rattle.apf_audit.specs.Runs.{is_of, ran, runs_of}
+use Rattle.apf_audit.specs.Estimates.{is_among, max_flows, own_from, own_with}
+use Rattle.apf_audit.specs.Runs.{ran, runs_of}
 
 -- ---- texts that are the same
 

@@ -1,8 +1,8 @@
 -- What an audit log says.
-use Rattle.std.specs.Prelude.{◌≡◌, ℕ, ◌+◌, List, [], ◌∷◌, length, Bool, true, false, nat_eq, nat_le, not, ◌&&◌, if◌then◌else◌, Option, Some, None, is_none, Result, Ok, Err}
+use Rattle.std.specs.Prelude.{ℕ, ◌+◌, List, [], ◌∷◌, length, Bool, true, false, nat_eq, nat_le, not, ◌&&◌, if◌then◌else◌, Option, Some, None, Result, Ok, Err}
 use Rattle.std.specs.List.{starts_with}
 use Rattle.serde_json.specs.Data.{Data}
-use Rattle.apf_files.specs.FirstFault.{◌>>=◌, before}
+use Rattle.apf_files.specs.FirstFault.{before}
 use Rattle.apf_files.specs.JsonFile.{value_of}
 use Rattle.apf_traces.specs.TraceFile.{Line, lines_of}
 use Rattle.apf_audit.specs.AuditEvent.{Event, event_of, is_nameless}

@@ -12,17 +12,13 @@ fn texts(rt: HostRuntime) -> Result<(), Fail> {
         (AuditFault::BadStage(7), "bad stageTimestamp"),
         (AuditFault::BadWait(7), "bad apf-queue-wait"),
         (AuditFault::BadRun(7), "bad run"),
-        (
-            AuditFault::TooMany {
-                count: 10_001,
-                first: 1,
-                last: 2,
-            },
-            "too many requests: 10001",
-        ),
-        (AuditFault::BadArrival(7), "arrives too late"),
+        (AuditFault::BadArrival(7, 8), "arrives too late"),
         (AuditFault::NoMemory, "out of memory"),
         (AuditFault::BadNamespace(7), "bad namespace"),
+        (
+            AuditFault::TooLate(7),
+            "arrives more than 131072 requests late",
+        ),
     ] {
         assert_eq!(rt; fault.to_string(rt.alloc())?.as_str(), said);
     }

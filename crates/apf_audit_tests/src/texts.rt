@@ -1,4 +1,4 @@
-use apf_audit::{AuditRequest, write_trace};
+use apf_audit::{Taken, write_request};
 use std::test::Fail;
 
 const TEXT: &str =
@@ -7,20 +7,25 @@ const TEXT: &str =
 // With room for fewer bytes than are to be written, down to none.
 #[test]
 fn a_writer_that_fails(rt: HostRuntime) -> Result<(), Fail> {
-    let requests = [AuditRequest {
+    let request = Taken {
         line: 2,
-        arrives_at: 1_000_000_000_000,
+        received: 1_795_608_000_000_000,
         turned_away: false,
         runs_for: 7,
         distinguisher: String::from_str(rt.alloc(), "\t/\u{7f}")?,
-    }];
+    };
     let mut room = [0u8; 200];
     for count in 0..=TEXT.len() {
         let Some(mut out) = room.as_mut_slice().get_mut(..count) else {
             assert!(rt; false);
             return Ok(());
         };
-        let is_written = write_trace("a\"b\\\n\u{1}é", requests.as_slice(), &mut out).is_ok();
+        let is_written = write_request(
+            "a\"b\\\n\u{1}é",
+            &request,
+            1_000_000_000_000,
+            &mut out,
+        ).is_ok();
         assert_eq!(rt; is_written, count == TEXT.len(), "at {count}");
     }
     assert!(rt; room.as_slice().starts_with(TEXT.as_bytes()));

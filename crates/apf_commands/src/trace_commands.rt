@@ -248,8 +248,9 @@ Status: 0 done, 1 a file's fault or output that can't be written, 2 a command li
         help: "\
 Prints the trace of an audit log of a Kubernetes API server, for apf simulate: one line a request,
 in the order of their arrivals. AUDITLOG has one JSON object a line, an audit event. Taken are the
-events of stage ResponseComplete, but for the verb watch and the subresources exec, attach,
-portforward, proxy and log. At most 10000 events are taken: --user, --since and --until choose.
+events of stage ResponseComplete, but for the verb watch, the subresources exec, attach,
+portforward, proxy and log, and events without a user's name. The log is read in pieces, and may
+have any size: a line may come 131072 requests late.
   schema         SCHEMA, at most 4096 bytes
   distinguisher  the event's user.username, or impersonatedUser.username where it stands; with --by
                  namespace objectRef.namespace, empty where there is none

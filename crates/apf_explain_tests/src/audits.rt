@@ -1,21 +1,16 @@
 use apf_audit::AuditFault;
-use apf_explain::explain_audit_log;
+use apf_explain::explain_audit_line;
 use std::test::Fail;
 
-// An instant after the year 9999, which no log can have, is told as a number.
+// Of a request that arrives too late the line is not at hand any more, and one that is too long is not kept whole.
 #[test]
-fn beyond_the_last_year(rt: HostRuntime) -> Result<(), Fail> {
-    let first = 253_402_207_200_999_999u64;
-    let last = first + 1;
+fn without_the_line(rt: HostRuntime) -> Result<(), Fail> {
     let mut out = Vec::new(rt.alloc());
-    let fault = AuditFault::TooMany {
-        count: 10_001,
-        first,
-        last,
-    };
-    explain_audit_log(rt.alloc(), b"", fault, &mut out)?;
-    let line =
-        "apf: audit fault 9: there are 10001 requests, received from 9999-12-30T22:00:00.999999Z to 253402207201000000: at most 10000 may be there: --since, --until and --user choose some of them\n";
-    assert_eq!(rt; out.as_slice(), line.as_bytes());
+    let late = AuditFault::BadArrival(7, 1_000_000_000_001);
+    explain_audit_line(rt.alloc(), b"", late, &mut out)?;
+    explain_audit_line(rt.alloc(), b"{", AuditFault::TooLong(8), &mut out)?;
+    let lines =
+        "apf: audit fault 10 at line 7: this request arrives 1000000000001 microseconds after the first one: at most 1000000000000 may be between them\napf: audit fault 1 at line 8: the line has more than 1048576 bytes\n";
+    assert_eq!(rt; out.as_slice(), lines.as_bytes());
     Ok(())
 }

@@ -4,7 +4,7 @@
 //! They stand in a crate of their own, as a crate with tests is proved twice.
 //!
 //! - `dealers`: the line of a config whose hands can't be dealt.
-//! - `audits`: an instant that no log can have.
+//! - `audits`: faults of an audit log whose line is not at hand.
 //! - `traces`: the line of one that comes too late, and of a line that was read in pieces.
 //! - `ends`: a writer without room, a call without memory, and faults that are not those of the bytes.
 #![tactic(auto)]

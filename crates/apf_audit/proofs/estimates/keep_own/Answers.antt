@@ -1,11 +1,10 @@
 -- The runs of the flow are written over, or its first run is put in, or there is no room.
-use Rattle.std.proofs.Common.{◌≡◌, ◌∷◌, ◌++◌, [], List, ℕ, Some, None, length, ◌+◌, cond, lit≤, string_bytes, sym, ap, ◌∙◌, rules, arith, subst}
+use Rattle.std.proofs.Common.{◌≡◌, [], List, ℕ, Some, None, length, ◌+◌, cond, lit≤, string_bytes, sym, ap, ◌∙◌, rules, arith, subst}
 use Rattle.std.specs.Map.{update}
 use Rattle.std.specs.Option.{is_some}
 use Rattle.std.specs.Str.{bytes_eq}
 use Rattle.std.proofs.lemmas.Map.Text.{btree_map_updates_text}
-use Rattle.std.proofs.lemmas.Result.{IfOk-at_ok, on_ok_weaker}
-use Rattle.apf_times.specs.Waits.{AreKept}
+use Rattle.std.proofs.lemmas.Result.{on_ok_weaker}
 use Rattle.apf_audit.specs.Estimates.{runs_in}
 use Rattle.apf_audit.proofs.Answering.{keeps_first, keeps_full, keeps_known}
 use Rattle.apf_audit.proofs.estimates.keep_own.Goals as goal

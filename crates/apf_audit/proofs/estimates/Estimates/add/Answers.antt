@@ -1,5 +1,5 @@
 -- It was turned away, or its run is kept with all and with those of its flow.
-use Rattle.std.proofs.Common.{◌≡◌, false, sym, ◌∙◌, subst, rules}
+use Rattle.std.proofs.Common.{◌≡◌, false, subst, rules}
 use Rattle.std.proofs.lemmas.Result.{on_ok_weaker}
 use Rattle.apf_audit.specs.AuditEvent.{event}
 use Rattle.apf_audit.specs.Estimates.{EstimatesView, KeepsOwn}

@@ -1,5 +1,5 @@
 -- The median of its flow, or of all.
-use Rattle.std.proofs.Common.{◌≡◌, List, Some, ap, sym, ◌∙◌, rules}
+use Rattle.std.proofs.Common.{Some, ap, sym, rules}
 use Rattle.std.proofs.lemmas.Map.Text.{btree_map_updates_text}
 use Rattle.apf_audit.specs.AuditEvent.{event}
 use Rattle.apf_audit.specs.Estimates.{EstimatesView}

@@ -69,7 +69,7 @@ async function draw(signal) {
   const held = kept
   const asked = { config: configOf(now), patience: now.patience, ...(now.charge && { charge: now.charge }) }
   const content = from.content
-  const [command, read, levels] = held ? ['compare', pairsOf, { ...asked, config: configOf(held), other: asked.config }] : ['simulate', flowsOf, asked]
+  const [command, read, levels] = held ? ['compare', pairsOf, { ...asked, kept: configOf(held) }] : ['simulate', flowsOf, asked]
   const table = read((await ask(command, levels, content, signal)).output)
   const { output: svg } = await ask('picture', asked, content, signal)
   const image = await imageOf(svg)

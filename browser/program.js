@@ -8,8 +8,9 @@ export class Fault extends Error {
   }
 }
 
-// Where a fault stands, by how its line begins. What is not here stands at the results.
+// Where a fault stands, by how a line of it begins. What is not here stands at the results.
 const PLACES = [
+  [/^kept:/m, () => 'kept'],
   [/^apf: dealer fault/, () => 'handSize'],
   [/^apf: config fault 5: bad value of (\w+)/, found => found[1]],
   [/^apf: config/, () => 'config'],

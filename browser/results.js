@@ -300,7 +300,8 @@ export function onChoice(tell) {
   closing('queue-close', 'queue', 'queues-list', drawQueue)
 }
 
-/** Marks the results as those of other settings than stand in the fields. */
+/** Marks the results as those of other settings than stand in the fields: of them there is nothing to keep. */
 export function showOld(old) {
   for (const place of document.querySelectorAll('.result')) place.classList.toggle('old', old)
+  $('keep').disabled = old
 }

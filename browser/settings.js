@@ -15,7 +15,7 @@ function stopsTo(most) {
   return [...new Set(stops)].sort((one, other) => one - other)
 }
 
-const microseconds = text => parseFloat(text) * ({ s: 1e6, ms: 1e3 }[/[a-z]*$/.exec(text.trim())[0]] ?? 1)
+const microseconds = text => parseFloat(text) * ({ m: 6e7, s: 1e6, ms: 1e3 }[/[a-z]*$/.exec(text.trim())[0]] ?? 1)
 const SLIDERS = {
   ...Object.fromEntries(Object.entries(COUNTS).map(([key, [most]]) => [key, { stops: stopsTo(most), size: Number }])),
   patience: { stops: WAITS, size: microseconds },
@@ -74,7 +74,9 @@ function follow(key) {
   said(key)
 }
 
+/** Says a value beside its field and by its slider. A patience that is a plain number is one of microseconds. */
 function said(key) {
+  if (key === 'patience') $(key).nextElementSibling.textContent = /^0*[1-9]\d*$/.test($(key).value.trim()) ? '\u00b5s' : ''
   $(`${key}-slider`).setAttribute('aria-valuetext', `${$(key).value} ${$(key).nextElementSibling.textContent}`.trim())
 }
 
@@ -108,7 +110,7 @@ export function showFault(place, line) {
   const at = $(`${place}-fault`) ?? $('run-fault')
   if (at.textContent !== line) at.textContent = line
   at.hidden = false
-  $(place)?.setAttribute('aria-invalid', 'true')
+  if ($(place)?.matches('input')) $(place).setAttribute('aria-invalid', 'true')
   at.closest('details')?.setAttribute('open', '')
 }
 

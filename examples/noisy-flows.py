@@ -1,5 +1,5 @@
 #!/usr/bin/env python3
-"""How often is one quiet flow covered by noisy ones?
+"""How likely is it that noisy flows cover one quiet flow?
 
 Each flow is dealt a hand of queues. If each queue of a quiet flow's hand is in the hand of some noisy
 flow too, the quiet flow is squeezed out with them. The Kubernetes documentation of API Priority and
@@ -9,10 +9,12 @@ with the program and prints its own column beside the published one, for the row
 usage: noisy-flows.py [PROGRAM]    (./apf of this repository, unless another is named)
 """
 
+import json
 import os
 import random
 import subprocess
 import sys
+import tempfile
 
 # hand, deck, noisy flows, published chance
 ROWS = [
@@ -29,18 +31,25 @@ FLOWS = 500
 SAMPLES = 20_000
 
 
-def asked(program, *words):
-    return subprocess.run([program, *words], stdout=subprocess.PIPE, check=True).stdout.decode().strip()
+def hands_of(program, hand, deck):
+    """The hands of all flows, by one call of the program: a trace has a request of each."""
+    config = json.dumps({"limit": 1, "queues": deck, "handSize": hand})
+    with tempfile.NamedTemporaryFile("w", suffix=".jsonl") as trace:
+        for flow in range(FLOWS):
+            print(json.dumps({"schema": "service-accounts", "distinguisher": f"user-{flow}", "arrivesAt": 0, "runsFor": 0}), file=trace)
+        trace.flush()
+        lines = subprocess.run([program, "hands", "-", trace.name], input=config, stdout=subprocess.PIPE, check=True, text=True).stdout.splitlines()
+    # flow HASH hand QUEUE .. of SCHEMA DISTINGUISHER
+    return [set(line.split()[3 : 3 + hand]) for line in lines if line.startswith("flow ")]
 
 
 def main(program):
-    hashes = [str(int(asked(program, "hash", "service-accounts", f"user-{flow}"), 16)) for flow in range(FLOWS)]
     draw = random.Random(1040)
     hands = {}
     print("hand  deck  noisy flows  published  dealt here")
     for hand, deck, noisy, published in ROWS:
         if (hand, deck) not in hands:
-            hands[hand, deck] = [set(asked(program, "deal", str(deck), str(hand), it).split()) for it in hashes]
+            hands[hand, deck] = hands_of(program, hand, deck)
         covered = 0
         for _ in range(SAMPLES):
             quiet, *others = draw.sample(hands[hand, deck], noisy + 1)

@@ -199,7 +199,7 @@ for example in sorted(os.listdir(os.path.join(TOP, "examples"))):
         tally.check(f"examples/{example} is shown", len(shown) > 0, True)
 
 # and of each promise it names a planted bug
-named = re.findall(r"`(apf_\w+/\w+)`", prose(os.path.join(TOP, "docs", "proof", "PROVED.md")).partition("Of each one planted bug")[2].partition("\n")[0])
+named = re.findall(r"`(apf_\w+/\w+)`", prose(os.path.join(TOP, "docs", "proof", "PROVED.md")).partition("For each promise one planted bug")[2].partition("\n")[0])
 tally.check("docs/proof/PROVED.md: a planted bug of each promise", (len(named), [it for it in named if not os.path.isfile(os.path.join(TOP, "planted", f"{it}.edit"))]), (len(fields), []))
 
 # each row of docs/proof/PROVED.md names a contract and its files: the files are there, and they or their crates' definitions have each name

@@ -13,6 +13,7 @@ from explain import ABSENT, FOLDER, FORMS, answer, cant_read, found, float_text,
 from harness import Files, Tally, build, run
 from judge import MOST
 from maker import CONFIG, REQUESTS, SCRIPT, WHOLE, with_spoiled
+from refusing import Refusing, shim
 
 tally = Tally()
 program = build()
@@ -413,9 +414,7 @@ with open("/dev/full", "wb") as full:
 
 # ---- each allocation refused in turn
 
-shim = os.path.join(files.folder.name, "refuse.so")
-subprocess.run(["cc", "-O1", "-shared", "-fPIC", "-o", shim, os.path.join(HERE, "lib", "refuse.c")], check=True)
-marker = os.path.join(files.folder.name, "refused")
+preloaded = shim(files)
 for place, content in (
     (0, CONFIG),
     (0, b'{"limit":1,"a":[{}]}'),
@@ -431,15 +430,16 @@ for place, content in (
     contents = with_file(place, content)
     want = answer(NAMES, contents)
     refused = 0
-    for which in range(1, 1000):
-        if os.path.exists(marker):
-            os.remove(marker)
-        got = explain(contents, env=dict(os.environ, LD_PRELOAD=shim, APF_REFUSE=str(which), APF_REFUSED=marker))
-        if not os.path.exists(marker):
-            tally.check(f"{content!r} with ample memory", got, want)
-            break
-        refused += 1
-        tally.check(f"{content!r} without allocation {which}: {got}", got in (want, (3, b"", b"apf: out of memory\n")), True)
+    for name, text in zip(NAMES, contents):
+        files(name, text)
+    with Refusing(files, preloaded, program, ["explain", *NAMES], cwd=files.folder.name) as runs:
+        for which in range(1, 1000):
+            got, was_refused = runs.without(which)
+            if not was_refused:
+                tally.check(f"{content!r} with ample memory", got, want)
+                break
+            refused += 1
+            tally.check(f"{content!r} without allocation {which}: {got}", got in (want, (3, b"", b"apf: out of memory\n")), True)
     tally.check(f"{content!r}: some were refused, and not all: {refused}", 0 < refused < 999, True)
 
 # ---- what the model writes of numbers and texts, by hand

@@ -281,8 +281,10 @@ class Gateway:
 
         def holds():
             nonlocal got
-            numbers = self.numbers()
-            got = {name: numbers.get(name) for name in wanted}
+            # on a machine that is busy a page may come too late: then it is asked for again
+            with contextlib.suppress(OSError, http.client.HTTPException):
+                numbers = self.numbers()
+                got = {name: numbers.get(name) for name in wanted}
             return got == wanted
 
         self.until(holds, most)
@@ -1036,7 +1038,7 @@ def end_session(started):
 
 
 def test_lines_of_the_readme():
-    """The README's lines that start the gateway, on other ports. Where the machine is too slow for so many clients, the backend is slower, too."""
+    """The README's lines that start the gateway, on other ports. Where the machine is too slow for these clients, the backend is slower, too."""
     with open(os.path.join(TOP, "README.md"), encoding="utf-8") as page:
         blocks = [it for it in re.findall(r"^```sh\n(.*?)^```$", page.read(), re.M | re.S) if "apf-gateway" in it]
     if not blocks or not shutil.which("curl"):

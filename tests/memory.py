@@ -11,14 +11,14 @@ HERE = os.path.dirname(os.path.abspath(__file__))
 sys.path.insert(0, os.path.join(HERE, "lib"))
 from harness import Files, Tally, build, build_serving, run
 from judge import config_of
+from refusing import Refusing, shim
 from serve import Service, session
 
 tally = Tally()
 program = build()
 serving, is_built = build_serving()
 files = Files()
-shim = os.path.join(files.folder.name, "refuse.so")
-subprocess.run(["cc", "-O1", "-shared", "-fPIC", "-o", shim, os.path.join(HERE, "lib", "refuse.c")], check=True)
+preloaded = shim(files)
 config = files("config", '{"limit":2,"queues":1,"handSize":1,"queueLengthLimit":10,"limitResponse":"Queue"}')
 requests = files("requests", '[{"hash":0,"width":5},{"schema":"a","distinguisher":"b","work":3,"cancels":0,"closes":true}]')
 script = files("script", "arrive 0\narrive 1\nfinish 0\nfinish 0\narrive 1\n")
@@ -27,7 +27,6 @@ bad = files("bad", "[{]")
 unknown = files("unknown", '{"limit":2,"color":"red"}')
 uneven = files("uneven", '{"limit":2,"queues":3}')
 wide = files("wide", '[{"hash":0},{"hash":0,"width":20001}]')
-marker = os.path.join(files.folder.name, "refused")
 WANT = (3, b"", b"apf: out of memory\n")
 # each request fits, so that the book comes out so in every schedule
 fit = files("fit", '[{"hash":0},{"hash":0,"work":9},{"hash":0}]')
@@ -113,16 +112,14 @@ for words, status in (
     name = " ".join(os.path.basename(word) for word in words)
     ample = run(program, words)
     tally.check(f"{name} with ample memory", (ample[0], ample != WANT), (status, True))
-    number, ends, refused = 0, 0, []
-    while ends == 0 and number < 10_000:
-        number += 1
-        if os.path.exists(marker):
-            os.remove(marker)
-        with_shim = dict(os.environ, LD_PRELOAD=shim, APF_REFUSE=str(number), APF_REFUSED=marker)
-        got = run(program, words, env=with_shim)
-        ends = not os.path.exists(marker)
-        refused += [got] if got in refusals(words, ample) else []
-        tally.check(f"{name} without allocation {number}", got, got if got == ample or got in refusals(words, ample) else WANT)
+    number, ends, refused, may_be = 0, 0, [], refusals(words, ample)
+    with Refusing(files, preloaded, program, words) as runs:
+        while ends == 0 and number < 10_000:
+            number += 1
+            got, was_refused = runs.without(number)
+            ends = not was_refused
+            refused += [got] if got in may_be else []
+            tally.check(f"{name} without allocation {number}", got, got if got == ample or got in may_be else WANT)
     tally.check(f"{name} was refused memory, and ends with a run that meets no refusal", (WANT in refused, ends, got), (True, True, ample))
     if words[0] == "run":
         tally.check(f"{name} had a worker that could not start", any(it != WANT for it in refused), True)
@@ -135,8 +132,11 @@ content = b"".join(line + b"\n" for line in LINES)
 served = {"limit": 1, "queues": 1, "handSize": 1, "queueLengthLimit": 2}
 
 
-def serve(content, **how):
-    done = subprocess.run([serving, "serve", files("served", json.dumps(served)), "--slots", "5"], input=content, capture_output=True, timeout=120, **how)
+SERVE = ["serve", files("served", json.dumps(served)), "--slots", "5"]
+
+
+def serve(content):
+    done = subprocess.run([serving, *SERVE], input=content, capture_output=True, timeout=120)
     return done.returncode, done.stdout, done.stderr
 
 
@@ -149,15 +149,14 @@ for name, content in [("a live level", content), ("a live level's metrics", b"me
     without = {line: modelled(line) for line in range(1, len(LINES) + 1) if b"{" in LINES[line - 1]} if content != b"metrics\n" else {}
     tally.check(f"{name} with ample memory", ample, modelled() if without else ample)
     number, ends, met = 0, 0, []
-    while ends == 0 and number < 10_000:
-        number += 1
-        if os.path.exists(marker):
-            os.remove(marker)
-        got = serve(content, env=dict(os.environ, LD_PRELOAD=shim, APF_REFUSE=str(number), APF_REFUSED=marker))
-        ends = not os.path.exists(marker)
-        met += [line for line, want in without.items() if got == want != ample] + [0] * (got == WANT)
-        # at the level's end memory is asked for once more, behind all that is told: that changes nothing
-        tally.check(f"{name} without allocation {number}", got, got if got in (ample, WANT, *without.values()) else ample)
+    with Refusing(files, preloaded, serving, SERVE, content) as runs:
+        while ends == 0 and number < 10_000:
+            number += 1
+            got, was_refused = runs.without(number)
+            ends = not was_refused
+            met += [line for line, want in without.items() if got == want != ample] + [0] * (got == WANT)
+            # at the level's end memory is asked for once more, behind all that is told: that changes nothing
+            tally.check(f"{name} without allocation {number}", got, got if got in (ample, WANT, *without.values()) else ample)
     # the line of a bad number and that of a number that is there ask for none
     asked = {0, *(line for line, want in without.items() if want != ample)}
     tally.check(f"{name}: before the first line, and at each object, memory was refused", (set(met), ends, got), (asked, True, ample))

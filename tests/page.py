@@ -2,6 +2,7 @@
 refuses: files, hosts and origins that are not its own, and names that would be more than text."""
 
 import base64
+import concurrent.futures
 import contextlib
 import http.client
 import json
@@ -82,6 +83,18 @@ def drop(name, content):
     rests()
 
 
+def drop_file(path, x, y):
+    """Drags a file of the machine over a point of the page, and drops it there, as the browser itself has it."""
+    data = {"items": [], "files": [path], "dragOperationsMask": 1}
+    over = []
+    for kind in ("dragEnter", "dragOver", "drop"):
+        page.command("Input.dispatchDragEvent", type=kind, x=x, y=y, data=data)
+        over.append(page.run("return document.body.matches('.over')"))
+    page.until("return document.getElementById('file-name').textContent === arguments[0]", os.path.basename(path))
+    rests()
+    return over[1:]
+
+
 def write(field, text):
     page.write(f"#{field}", text)
     rests()
@@ -156,6 +169,11 @@ def check_files():
     page.type("#file", TRACE)
     rests()
     tally.check("a trace that is chosen", shown(), table_of_one(config=small))
+    dropped = files("dropped.jsonl", SMALL)
+    tally.check("a file is over the page, anywhere, until it is dropped", drop_file(dropped, 900, 600), [True, False])
+    tally.check("a file that the browser drops", [[it[0].split("\n")[0], *it[1:]] for it in shown()], table_of_one(trace=dropped, config=small))
+    page.type("#file", TRACE)
+    rests()
     page.click("#flows button[data-flow]")
     tally.check("requests are open", page.run("return document.getElementById('requests-place').hidden"), False)
     # the first one is larger, and takes longer to read
@@ -257,11 +275,25 @@ def check_settings():
     tally.check("the limit by its slider and a pointer", (limit > 15, shown()), (True, table_of_one(config={**LEVEL, "limit": limit})))
     write("limit", "10")
     tally.check("the slider follows its field", page.run("return document.getElementById('limit-slider').getAttribute('aria-valuetext')"), "10 seats")
+    level = dict(LEVEL)
+    for field, key, value in (("queues", driver.RIGHT, "65"), ("handSize", driver.LEFT, "7"), ("queueLengthLimit", driver.LEFT, "49")):
+        page.run("document.getElementById(`${arguments[0]}-slider`).focus()", field)
+        press(key)
+        level[field] = int(value)
+        tally.check(f"{field} by its slider and a key", (page.run("return document.getElementById(arguments[0]).value", field), json.loads(page.text("#config")), shown()), (value, level, table_of_one(config=level)))
     for field, value in (("queues", "16"), ("handSize", "3"), ("queueLengthLimit", "9"), ("limit", "7")):
         write(field, value)
     write("patience", "500ms")
     level = {**LEVEL, "queues": 16, "handSize": 3, "queueLengthLimit": 9, "limit": 7}
     tally.check("each field", (shown(), json.loads(page.text("#config"))), (table_of_one(config=level, patience="500ms"), level))
+    tally.check("the picture is that of the fields", page.run("return document.getElementById('picture').alt"), picture_of(config=level, patience="500ms")[1])
+    for patience, unit, slider in (("1m", "", "60s"), ("700000", "\u00b5s", "700ms"), ("1.5s", "", "1s")):
+        write("patience", patience)
+        got = page.run("const it = document.getElementById('patience-slider'); return [it.getAttribute('aria-valuetext'), document.querySelector('#patience + .unit').innerText, Number(it.value)]")
+        tally.check(f"a patience of {patience}", (got, shown()), ([f"{patience} {unit}".strip(), unit, got[2]], table_of_one(config=level, patience=patience)))
+        page.run("const it = document.getElementById('patience-slider'); it.dispatchEvent(new Event('input', { bubbles: true }))")
+        rests()
+        tally.check(f"the slider stands by {patience}", page.run("return document.getElementById('patience').value"), slider)
     page.run("document.getElementById('patience-slider').focus()")
     press(driver.HOME)
     tally.check("the patience by its slider", (page.run("return document.getElementById('patience').value"), shown()), ("0", table_of_one(config=level, patience="0")))
@@ -270,9 +302,16 @@ def check_settings():
     level = {"limit": 7, "limitResponse": "Reject"}
     tally.check("Reject", (shown(), json.loads(page.text("#config"))), (table_of_one(config=level, patience="0"), level))
     tally.check("without queues", page.run("return [document.getElementById('queues').matches(':disabled'), document.querySelectorAll('#queues-list button').length]"), [True, 0])
+    page.command("Browser.grantPermissions", permissions=["clipboardReadWrite", "clipboardSanitizedWrite"], origin=served.address.rstrip("/"))
     page.click("#copy")
     page.until("return document.getElementById('copy').textContent !== 'Copy'")
-    tally.check("the config to copy", page.run("return getSelection().toString().trim()"), page.text("#config").strip())
+    tally.check("the config is copied", (page.text("#copy"), page.run("return navigator.clipboard.readText()")), ("Copied", page.run("return document.getElementById('config').textContent")))
+    page.command("Browser.resetPermissions")
+    page.run("getSelection().removeAllRanges(); navigator.clipboard.writeText = () => Promise.reject()")
+    page.until("return document.getElementById('copy').textContent === 'Copy'")
+    page.click("#copy")
+    page.until("return document.getElementById('copy').textContent !== 'Copy'")
+    tally.check("or it is selected where that may not be", (page.text("#copy"), page.run("return getSelection().toString().trim()")), ("Selected", page.text("#config").strip()))
 
 
 def check_faults():
@@ -290,6 +329,28 @@ def check_faults():
     for value in ("8 s", "-1", "1001s", "--help"):
         write("patience", value)
         tally.check(f"patience {value!r}", (fault("patience"), faults()), (run(program, ["simulate", "--", files("c", json.dumps(LEVEL)), TRACE, value])[2].decode().strip(), ["patience-fault"]))
+    begin()
+    bad = {**LEVEL, "limit": 0}
+    write("limit", "0")
+    tally.check("what has a fault is not kept", page.run("return document.getElementById('keep').disabled"), True)
+    write("limit", "10")
+    page.click("#keep")
+    rests()
+    write("limit", "0")
+    tally.check("a fault beside what is kept", (fault("limit"), faults()), (said("compare", config=LEVEL, other=bad)[1], ["limit-fault"]))
+    page.click("#back")
+    rests()
+    page.click("#let-go")
+    rests()
+    # faster than the program says that it is a fault
+    page.run("const it = document.getElementById('limit'); it.value = '0'; it.dispatchEvent(new Event('input', { bubbles: true })); document.getElementById('keep').click()")
+    rests()
+    write("limit", "10")
+    tally.check("a fault of what is kept", (fault("kept"), faults(), is_old()), (said("compare", config=bad, other=LEVEL)[1], ["kept-fault"], True))
+    tally.check("what leads out of it is not faint", page.run("return ['kept', 'kept-fault', 'let-go', 'flows'].map(it => { let sum = 1; for (let at = document.getElementById(it); at; at = at.parentElement) sum *= getComputedStyle(at).opacity; return sum === 1 })"), [True, True, True, False])
+    page.click("#let-go")
+    rests()
+    tally.check("it is let go", (shown(), faults()), (table_of_one(), []))
 
 
 def check_marks(name, table):
@@ -504,9 +565,24 @@ def check_hosts():
     with open(f"/proc/net/tcp") as table:
         listening = [it.split()[1] for it in table if it.split()[3] == "0A" and it.split()[1].endswith(f":{served.port:04X}")]
     tally.check("it listens on 127.0.0.1 alone", listening, [f"0100007F:{served.port:04X}"])
+    tally.check("a run may take 10 s, and a file 64 MiB", json.loads(served.ask("GET", "/options", Host=own)[1]) | {"charge": None}, {"charge": None, "seconds": 10, "bytes": LARGEST})
+    page.log()
     begin()
+    page.type("#file", AUDIT)
+    page.until("return !document.getElementById('audit').hidden")
+    page.click("#audit button")
+    rests()
+    for place in ("#keep", "#flows button[data-flow]", "#queues-list button", "#copy"):
+        page.click(place)
+        rests()
+    write("limit", "3")
     asked = page.run("return [...new Set(performance.getEntriesByType('resource').map(it => new URL(it.name).origin))]")
     tally.check("the page asks its own address alone", asked, [served.address.rstrip("/")])
+    words = page.run("return [...new Set(performance.getEntriesByType('resource').map(it => new URL(it.name).pathname))].sort()")
+    commands = ["compare", "fates", "hands", "noisy-client/config.json", "noisy-client/trace.jsonl", "options", "page.css", "page.js", "picture", "program.js", "results.js", "settings.js", "simulate", "trace"]
+    tally.check("and what it asks for is known", [it for it in words if it != "/icon.svg"], [f"/{it}" for it in commands])
+    # of what it may not ask, and of what is not there, the browser would say so
+    tally.check("the browser says nothing of it all", page.log(), [])
 
 
 SLOW = """#!/bin/bash
@@ -570,6 +646,12 @@ def check_time():
         tally.check("that is ended, too", still(), [])
         write("limit", "10")
         tally.check("and it goes on", (shown(), faults()), (table_of_one(), []))
+        # as three pages ask at once
+        words, content = f"/simulate?{urlencode({'config': json.dumps(LEVEL), 'patience': '8s'})}", open(TRACE, "rb").read()
+        own = f"127.0.0.1:{served.port}"
+        with concurrent.futures.ThreadPoolExecutor(3) as pages:
+            asked = [pages.submit(served.ask, "POST", words, content, Host=own, Origin=f"http://{own}", Content_Length=str(len(content))) for _ in range(3)]
+        tally.check("each of three pages has its answer", [(it.result()[0], json.loads(it.result()[1])["status"]) for it in asked], [(200, 0)] * 3)
     tally.check("one runs at a time", (noted("beside"), len(noted("alone")) > 10), ([], True))
     served = before
 
@@ -628,6 +710,14 @@ def check_launcher():
     served = before
 
 
+def check_readme():
+    """The page is the second thing of README, after the picture."""
+    with open(os.path.join(TOP, "README.md"), encoding="utf-8") as readme:
+        begins = readme.read().partition("\n## ")[0]
+    found = re.findall(r"^!\[[^]]*\]\((\S+)\)$|^```(?:sh|console)\n(?:\$ )?(.*)", begins, re.M)
+    tally.check("README shows the page after the picture", found[:2], [("examples/noisy-client/picture.svg", ""), ("", "./page")])
+
+
 def listing():
     """Each file of the repository, without what builds and git write."""
     found = {}
@@ -640,7 +730,7 @@ def listing():
 before = listing()
 # the launcher beside it takes as long as the program
 with Served(tally, APF_PROGRAM=program) as served, driver.Browser() as page:
-    for check in (check_begin, check_files, check_audit, check_settings, check_faults, check_two, check_details, check_keyboard, check_hostile, check_sizes, check_hosts, check_time, check_charge, check_launcher):
+    for check in (check_begin, check_files, check_audit, check_settings, check_faults, check_two, check_details, check_keyboard, check_hostile, check_sizes, check_hosts, check_time, check_charge, check_launcher, check_readme):
         if len(sys.argv) > 1 and check.__name__.removeprefix("check_") not in sys.argv[1:]:
             continue
         begun = time.monotonic()

@@ -1,4 +1,4 @@
-"""The planted bugs still apply: those of planted/, which ./plant tries, and those of crates/*/must-fail, which `rt ci` tries. Of each it is
+"""The planted bugs still apply: those of planted/, which ./plant tries, and those of crates/*/must-fail, which `rt ci` tries. For each it is
 recorded what refused it, and each that `./test all` is to try is there."""
 
 import os

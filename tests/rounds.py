@@ -146,6 +146,8 @@ alone = [{"hash": number % 3} for number in range(8)]
 # those of a slot come one after another, each request naming another one
 crowd = [{**it, "cancels": (number + 1) % 8} for number, it in enumerate(alone)]
 short = {**one_queue(1), "queueLengthLimit": 1}
+# APF_ROUNDS leaves these out
+LONG = [] if "APF_ROUNDS" in os.environ else [(1_000_000, 30)] * 5
 for name, place, config, requests in [
     ("cancelled", 6, one_queue(1), crowd),
     ("dispatched", 12, one_queue(1), crowd),
@@ -153,7 +155,7 @@ for name, place, config, requests in [
     ("rejected at the limit", 10, {**one_queue(1), "limitResponse": "Reject"}, alone),
 ]:
     some = 0
-    for work, rounds in [(0, 3000), (10_000, 300), (100_000, 100), *[(1_000_000, 30)] * 5]:
+    for work, rounds in [(0, 3000), (10_000, 300), (100_000, 100), *LONG]:
         if some == 0:
             asked = [{**it, "work": work} for it in requests]
             status, out, err = ran(config, asked, 8, rounds)

@@ -1,10 +1,13 @@
 """What an audit log says, by the table of its faults: an independent judge of its bytes.
 
-An audit log has one event a line, as JSON. `trace_of` answers the trace of its chosen requests as text, or raises AuditFault.
+An audit log has one event a line, as JSON. `read_of` answers what is printed of the trace of its chosen requests, what is noted of the log,
+and its first fault, if it has one. `trace_of` answers the trace as text, or raises AuditFault.
 """
 
+import bisect
 import collections
 import datetime
+import heapq
 import json
 import math
 import re
@@ -15,7 +18,11 @@ from jsontext import json_text
 from judge import Json, NotJson, Refused
 from trace import needed
 
-REQUESTS = 10_000
+# how many requests late a line may come
+WINDOW = 131_072
+# the runs of a flow that are kept as they are, and the flows that have runs of their own
+EXACT = 10_000
+FLOWS = 100_000
 # bytes of the name of a user
 NAME = 4096
 # microseconds after the earliest request
@@ -25,14 +32,14 @@ RUN = 10_000_000_000
 WAIT = 10_000_000_000
 
 # each fault's number is its place in the order in which a line is judged, but for that of a namespace, which stands behind that of a user;
-# the last two before it are judged once no line has a fault
-TOO_LONG, NOT_JSON, NOT_EVENT, BAD_USER, BAD_RECEIVED, BAD_STAGE, BAD_WAIT, BAD_RUN, TOO_MANY, BAD_ARRIVAL = range(1, 11)
-BAD_NAMESPACE = 12
+# BAD_ARRIVAL is judged when a request is handed out
+TOO_LONG, NOT_JSON, NOT_EVENT, BAD_USER, BAD_RECEIVED, BAD_STAGE, BAD_WAIT, BAD_RUN = range(1, 9)
+BAD_ARRIVAL, BAD_NAMESPACE, TOO_LATE = 10, 12, 13
 # what makes a flow, the name of a user or its beginning with `*`, and microseconds from 1970 on
 Choice = collections.namedtuple("Choice", "by user since until", defaults=("user", None, None, None))
 EVERY = Choice()
 # bytes of a line, without its LF
-BYTES = 8_388_608
+BYTES = 1_048_576
 CUT = "apf: the last line is left out: it has no LF at its end, and is not whole JSON"
 LASTING = ("exec", "attach", "portforward", "proxy", "log")
 QUEUE_WAIT = "apiserver.latency.k8s.io/apf-queue-wait"
@@ -45,32 +52,24 @@ EPOCH = datetime.datetime(1970, 1, 1, tzinfo=datetime.timezone.utc)
 
 
 class AuditFault(Refused):
-    """A fault of an audit log: its number, its line from 1 (of TOO_MANY how many requests there are), and what is wrong."""
+    """A fault of an audit log: its number, its line from 1, and what is wrong with it: the line's bytes, or of BAD_ARRIVAL how long after the
+    first one its request arrives."""
 
-    def __init__(self, number, line, content=None):
+    def __init__(self, number, line, content):
         self.number, self.line = number, line
-        at = f" at line {line}" if number != TOO_MANY else ""
-        super().__init__(f"apf: audit fault {number}{at}: {told(number, content, line)}")
-
-
-def utc(micros):
-    """An instant in UTC, with as many digits of the second as it needs."""
-    whole = (EPOCH + datetime.timedelta(microseconds=micros)).strftime("%Y-%m-%dT%H:%M:%S.%f")
-    return whole.rstrip("0").rstrip(".") + "Z"
+        super().__init__(f"apf: audit fault {number} at line {line}: {told(number, content)}")
 
 
 def shown(value):
     return "absent" if value is None else found(value[0])
 
 
-def told(number, content, line):
-    """What is wrong with a line of these bytes."""
-    if number == TOO_MANY:
-        first, last = (utc(it) for it in content)
-        choose = "--since, --until and --user choose some of them"
-        return f"there are {line} requests, received from {first} to {last}: at most {REQUESTS} may be there: {choose}"
+def told(number, content):
+    """What is wrong with a line of these bytes, or with a request that arrives so long after the first one."""
+    if number == BAD_ARRIVAL:
+        return f"this request arrives {content} microseconds after the first one: at most {ARRIVAL} may be between them"
     if number == TOO_LONG:
-        return f"the line has {len(content)} bytes: at most {BYTES} may be there"
+        return f"the line has more than {BYTES} bytes"
     if number == NOT_JSON:
         return line_not_json(content)
     value = Json(content).whole()
@@ -97,7 +96,8 @@ def told(number, content, line):
         run = f"the run, which is the first less the others, must be from 0 to {RUN} microseconds"
         stage, received = (shown(times[key]) for key in ("stageTimestamp", "requestReceivedTimestamp"))
         return f"stageTimestamp is {stage}, requestReceivedTimestamp is {received} and apf-queue-wait is {shown(wait)}: {run}"
-    return f"requestReceivedTimestamp is {shown(times['requestReceivedTimestamp'])}: it must be at most {ARRIVAL} microseconds after the earliest one"
+    received = shown(times["requestReceivedTimestamp"])
+    return f"requestReceivedTimestamp is {received}, and more than {WINDOW} requests of lines before it were received later"
 
 
 def no_constant(word):
@@ -196,9 +196,15 @@ def was_turned_away(event):
     return type(code) is int and code == 429
 
 
+def has_name(event):
+    """Whether something stands where the event has the name of its user. A user who is impersonated is the one."""
+    user = event.get("impersonatedUser" if "impersonatedUser" in event else "user")
+    return isinstance(user, dict) and "username" in user
+
+
 def request_of(event, line, text, choice):
     """The arrival from 1970 on, the line, the run and the flow of an event that is taken, with no run if it was turned away; None if it is
-    not chosen. A user who is impersonated is the one."""
+    not chosen."""
     user = text_at(event, "impersonatedUser" if "impersonatedUser" in event else "user", "username")
     if user is None or len(user.encode()) > NAME:
         raise AuditFault(BAD_USER, line, text)
@@ -238,51 +244,98 @@ def lines_of(content):
     return [*lines, rest], False
 
 
-def taken_of(content, choice):
-    """What is taken of the lines, in their order."""
-    for line, text in enumerate(lines_of(content)[0], 1):
-        if len(text) > BYTES:
-            raise AuditFault(TOO_LONG, line, text)
-        try:
-            event = value_of(text)
-        except NotJson:
-            raise AuditFault(NOT_JSON, line, text) from None
-        if text_at(event, "stage") is None or text_at(event, "verb") is None:
-            raise AuditFault(NOT_EVENT, line, text)
-        request = request_of(event, line, text, choice) if is_taken(event) else None
-        if request:
-            yield request
-
-
 def median(runs):
-    return sorted(runs)[(len(runs) - 1) // 2] if runs else 0
+    """The median of sorted runs, with zeros behind its first eight binary digits where they are many."""
+    if not runs:
+        return 0
+    run = runs[(len(runs) - 1) // 2]
+    behind = max(run.bit_length() - 8, 0) if len(runs) > EXACT else 0
+    return run >> behind << behind
 
 
-def with_runs(taken):
-    """Each of those that were turned away runs for the median of its flow's runs, or of all runs where none of its flow ran."""
-    ran = collections.defaultdict(list)
-    for _, _, run, flow in taken:
-        if run is not None:
-            ran[flow].append(run)
-    of_all = median([run for runs in ran.values() for run in runs])
-    of_flow = {flow: median(runs) for flow, runs in ran.items()}
-    return [(received, line, of_flow.get(flow, of_all) if run is None else run, flow) for received, line, run, flow in taken]
+class Runs:
+    """The runs of the requests that were read, sorted: of each of the first flows of which one ran, and of all."""
+
+    def __init__(self):
+        self.of_flow, self.of_all = {}, []
+
+    def add(self, run, flow):
+        bisect.insort(self.of_all, run)
+        if flow in self.of_flow or len(self.of_flow) < FLOWS:
+            bisect.insort(self.of_flow.setdefault(flow, []), run)
+
+    def estimate(self, flow):
+        return median(self.of_flow.get(flow, self.of_all))
+
+
+Read = collections.namedtuple("Read", "requests unnamed is_cut fault")
+
+
+def read_of(content, choice=EVERY, window=WINDOW):
+    """What is read of a log: the requests that are handed out, each with its arrival from 1970 on, its run, its flow and whether it was turned
+    away; how many events without a user's name were left out; whether the last line was; and the first fault, if there is one.
+
+    Of a request that is before more than the window's size of those of the lines before it that is TOO_LATE. The earliest of all is handed out
+    once one more than the window's size are there, and a request that was turned away gets its run then."""
+    lines, is_cut = lines_of(content)
+    held, requests, unnamed, last, runs = [], [], 0, None, Runs()
+
+    def hand_out():
+        received, line, run, flow = heapq.heappop(held)
+        if requests and received - requests[0][0] > ARRIVAL:
+            raise AuditFault(BAD_ARRIVAL, line, received - requests[0][0])
+        requests.append((received, runs.estimate(flow) if run is None else run, flow, run is None))
+        return received, line
+
+    try:
+        for line, text in enumerate(lines, 1):
+            if len(text) > BYTES:
+                raise AuditFault(TOO_LONG, line, text)
+            try:
+                event = value_of(text)
+            except NotJson:
+                raise AuditFault(NOT_JSON, line, text) from None
+            if text_at(event, "stage") is None or text_at(event, "verb") is None:
+                raise AuditFault(NOT_EVENT, line, text)
+            if not is_taken(event):
+                continue
+            if not has_name(event):
+                unnamed += 1
+                continue
+            request = request_of(event, line, text, choice)
+            if request is None:
+                continue
+            received, _, run, flow = request
+            if run is not None:
+                runs.add(run, flow)
+            if last and (received, line) < last:
+                raise AuditFault(TOO_LATE, line, text)
+            heapq.heappush(held, request)
+            if len(held) > window:
+                last = hand_out()
+        while held:
+            hand_out()
+    except AuditFault as fault:
+        return Read(requests, unnamed, is_cut, fault)
+    return Read(requests, unnamed, is_cut, None)
+
+
+def text_of(requests, schema):
+    """The lines of the trace of requests that are handed out."""
+    start = requests[0][0] if requests else 0
+    schema = json_text(schema)
+    form = '{{"schema":{},"distinguisher":{},"arrivesAt":{},"runsFor":{}}}\n'
+    return "".join(form.format(schema, json_text(user), received - start, run) for received, run, user, _ in requests)
 
 
 def turned_away(content, choice=EVERY):
     """How many of the chosen requests of a good log were turned away, of how many."""
-    taken = list(taken_of(content, choice))
-    return sum(run is None for _, _, run, _ in taken), len(taken)
+    requests = read_of(content, choice).requests
+    return sum(away for *_, away in requests), len(requests)
 
 
 def trace_of(content, schema, choice=EVERY):
-    taken = list(taken_of(content, choice))
-    if len(taken) > REQUESTS:
-        raise AuditFault(TOO_MANY, len(taken), [pick(it[0] for it in taken) for pick in (min, max)])
-    start = min((received for received, *_ in taken), default=0)
-    for received, line, _, _ in taken:
-        if received - start > ARRIVAL:
-            raise AuditFault(BAD_ARRIVAL, line, content.split(b"\n")[line - 1])
-    schema = json_text(schema)
-    form = '{{"schema":{},"distinguisher":{},"arrivesAt":{},"runsFor":{}}}\n'
-    return "".join(form.format(schema, json_text(user), received - start, run) for received, _, run, user in sorted(with_runs(taken), key=lambda it: it[:2]))
+    read = read_of(content, choice)
+    if read.fault:
+        raise read.fault
+    return text_of(read.requests, schema)

@@ -3,7 +3,7 @@
 import datetime
 import json
 
-from audit import BAD_ARRIVAL, BAD_RECEIVED, BAD_RUN, BAD_STAGE, BAD_USER, BAD_WAIT, Choice, LASTING, NOT_EVENT, NOT_JSON, QUEUE_WAIT, TOO_MANY
+from audit import BAD_ARRIVAL, BAD_RECEIVED, BAD_RUN, BAD_STAGE, BAD_USER, BAD_WAIT, Choice, LASTING, NOT_EVENT, NOT_JSON, QUEUE_WAIT
 
 USERS = ["system:serviceaccount:kube-system:job-controller", "system:node:node-7", "alice@example.com", "kubernetes-admin", "", 'o"\\\u20ac\U0001f600\u0001\u007f\u0085\u200f\u202e\u2028\u2067']
 VERBS = ["get", "list", "create", "update", "patch", "delete", "deletecollection"]
@@ -184,7 +184,7 @@ class Logs:
             key = self.draw.choice(["stage", "verb"])
             event[key] = self.draw.choice([None, 7, ["get"], {}])
         elif fault == BAD_USER:
-            bad = self.draw.choice([None, "alice", {}, {"username": None}, {"username": 7}, {"username": "x" * 4097}, {"username": "\u20ac" * 1366}])
+            bad = self.draw.choice([{"username": None}, {"username": 7}, {"username": "x" * 4097}, {"username": "\u20ac" * 1366}])
             event[self.draw.choice(["user", "impersonatedUser"]) if "impersonatedUser" not in event else "impersonatedUser"] = bad
         elif fault in (BAD_RECEIVED, BAD_STAGE):
             key = "requestReceivedTimestamp" if fault == BAD_RECEIVED else "stageTimestamp"
@@ -208,12 +208,7 @@ class Logs:
         return [self.line(self.draw.choice([self.other(), self.event(self.request())])) for _ in range(self.draw.choice([0, 0, 1, 2, 9]))]
 
     def faulty(self, fault):
-        """A log, and its fault's line; of too many requests, how many there are."""
-        if fault == TOO_MANY:
-            count = self.draw.choice([10_001, 10_050])
-            line = self.line(self.event((NOON, 5, "alice", None)))
-            others = [self.line(self.other()) for _ in range(3)]
-            return b"".join(it + b"\n" for it in [*others, *[line] * count]), count
+        """A log, and its fault's line."""
         if fault == BAD_ARRIVAL:
             last = [self.line(self.event((NOON + 10**12 + late, 5, "alice", None))) for late in (1, 10**9)]
             front = self.draw.choice([0, 1])
@@ -226,9 +221,9 @@ class Logs:
         return b"".join(it + b"\n" for it in lines) + self.draw.choice([b"", b"", b"{"]), place
 
     def all_faulty(self, count):
-        """This many logs with their faults' numbers and lines. Of too many requests, which make large files, there are few."""
+        """This many logs with their faults' numbers and lines."""
         for number in range(count):
-            fault = TOO_MANY if number % 100 == 99 else (*range(NOT_JSON, TOO_MANY), BAD_ARRIVAL)[number % 8]
+            fault = (*range(NOT_JSON, BAD_RUN + 1), BAD_ARRIVAL)[number % 8]
             content, line = self.faulty(fault)
             yield content, fault, line
 

@@ -26,8 +26,13 @@ class Json:
     BLANKS = re.compile("[ \t\n\r]*")
     DIGITS = re.compile("[0-9]+")
     PLAIN = re.compile(r'[^"\\\x00-\x1f]+')
-    # a string without escapes
+    # a string without escapes, and one that is a key
     SIMPLE = re.compile(r'"([^"\\\x00-\x1f]*)"')
+    KEY = re.compile(r'[ \t\n\r]*"([^"\\\x00-\x1f]*)"[ \t\n\r]*:')
+    # what stands behind a value in brackets
+    NEXT = re.compile("[ \t\n\r]*([]},]?)")
+    # a whole number that 64 bits hold, but for -0
+    WHOLE = re.compile("(?:0|-?[1-9][0-9]{0,17})(?![0-9.eE])")
     WORDS = {"t": ("true", True), "f": ("false", False), "n": ("null", None)}
     ESCAPES = {'"': '"', "\\": "\\", "/": "/", "b": "\b", "f": "\f", "n": "\n", "r": "\r", "t": "\t"}
 
@@ -81,11 +86,12 @@ class Json:
             return
         while True:
             one()
-            self.blank()
-            if self.peek() == close:
-                self.at += 1
+            behind = self.NEXT.match(self.text, self.at)
+            self.at = behind.end()
+            if behind[1] == close:
                 return
-            self.take(",")
+            if behind[1] != ",":
+                raise NotJson
 
     def items(self, depth):
         found = []
@@ -96,10 +102,13 @@ class Json:
         found = {}
 
         def one():
-            self.blank()
-            key = self.string()
-            self.blank()
-            self.take(":")
+            if simple := self.KEY.match(self.text, self.at):
+                key, self.at = simple[1], simple.end()
+            else:
+                self.blank()
+                key = self.string()
+                self.blank()
+                self.take(":")
             found[key] = self.value(depth)
 
         self.list("}", depth, one)
@@ -113,6 +122,9 @@ class Json:
         return found[0]
 
     def number(self):
+        if whole := self.WHOLE.match(self.text, self.at):
+            self.at = whole.end()
+            return int(whole[0])
         begin, is_whole = self.at, True
         if self.peek() == "-":
             self.at += 1

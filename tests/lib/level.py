@@ -32,7 +32,7 @@ class Level:
         # virtual time: where each queue's next service starts, how far the level is, and who was served last
         self.starts, self.time, self.last = [0] * queues, 0, queues - 1
         self.arrived, self.running, self.decided = set(), set(), {}
-        # of each request that was dispatched and is not settled: its queue, and what that is charged for it. Of each that is settled: what it took
+        # for each request that was dispatched and is not settled: its queue, and what that is charged for it. For each that is settled: what it took
         self.charged, self.settled = {}, {}
         # each settlement: how many events there were before it, its request and its queue
         self.settlements = []

@@ -90,11 +90,11 @@ class Told:
         self.program, self.files = program, files
 
     def said(self, command, *words, config=LEVEL, other=None, trace=TRACE, patience="8s"):
-        """The output of a command on a level, and its error."""
+        """The output of a command on a level, or on a kept one and another, and its error, which calls each as the page does."""
         levels = [self.files(f"level-{number}.json", it if isinstance(it, str) else json.dumps(it)) for number, it in enumerate((config, other)) if it is not None]
         _, out, err = run(self.program, [command, *levels, trace, *([] if command == "hands" else [patience]), *words])
         err = err.decode().strip()
-        for path, name in zip(levels, ("config", "other")):
+        for path, name in zip(levels, ("kept", "config")[2 - len(levels):]):
             err = err.replace(f"\n{path}:", f"\n{name}:")
         return out.decode().split("\n")[:-1], err
 

@@ -1,9 +1,17 @@
 /* Refuses one allocation of a program: the one whose number, from 1, is in APF_REFUSE.
- * When it refuses, it makes the file that APF_REFUSED names. A test tool, loaded before the C library. */
+ * When it refuses, it makes the file that APF_REFUSED names. A test tool, loaded before the C library.
+ *
+ * Where APF_RUNS names two files that are open, as "ASKS ANSWERS", the program is loaded once, and runs from its first
+ * line on in a child for each number that is asked for: the one of the allocation that is refused then. An ask is eight
+ * bytes. An answer is three times eight, the status and the lengths of output and errors, and these. */
 #define _GNU_SOURCE
 #include <errno.h>
 #include <fcntl.h>
+#include <stdint.h>
+#include <stdio.h>
 #include <stdlib.h>
+#include <sys/mman.h>
+#include <sys/wait.h>
 #include <unistd.h>
 
 extern void *__libc_malloc(size_t size);
@@ -39,4 +47,63 @@ int posix_memalign(void **to, size_t alignment, size_t size) {
         return ENOMEM;
     *to = made;
     return 0;
+}
+
+static int takes(int file, void *to, size_t length) {
+    for (ssize_t more; length; to = (char *)to + more, length -= more)
+        if ((more = read(file, to, length)) <= 0)
+            return 0;
+    return 1;
+}
+
+static int gives(int file, const void *from, size_t length) {
+    for (ssize_t more; length; from = (const char *)from + more, length -= more)
+        if ((more = write(file, from, length)) <= 0)
+            return 0;
+    return 1;
+}
+
+// What was written to a file since it was made empty, which is passed on.
+static int passes(int file, int64_t length, int to) {
+    void *written = length ? mmap(NULL, length, PROT_READ, MAP_SHARED, file, 0) : NULL;
+    int given = written != MAP_FAILED && gives(to, written, length);
+    if (length && written != MAP_FAILED)
+        munmap(written, length);
+    return given;
+}
+
+static int is_empty(int file) { return ftruncate(file, 0) == 0 && lseek(file, 0, SEEK_SET) == 0; }
+
+__attribute__((constructor)) static void runs(void) {
+    const char *files = getenv("APF_RUNS");
+    int asks, answers, printed[2];
+    if (!files || sscanf(files, "%d %d", &asks, &answers) != 2)
+        return;
+    unsetenv("APF_RUNS");
+    printed[0] = memfd_create("output", MFD_CLOEXEC);
+    printed[1] = memfd_create("errors", MFD_CLOEXEC);
+    if (printed[0] < 0 || printed[1] < 0)
+        _exit(125);
+    for (int64_t number; takes(asks, &number, sizeof number);) {
+        lseek(0, 0, SEEK_SET);
+        if (!is_empty(printed[0]) || !is_empty(printed[1]))
+            _exit(125);
+        pid_t child = fork();
+        if (child == 0) {
+            char text[24];
+            snprintf(text, sizeof text, "%lld", (long long)number);
+            if (dup2(printed[0], 1) < 0 || dup2(printed[1], 2) < 0 || setenv("APF_REFUSE", text, 1) != 0)
+                _exit(125);
+            close(asks);
+            close(answers);
+            return;
+        }
+        int status;
+        if (child < 0 || waitpid(child, &status, 0) != child)
+            _exit(125);
+        int64_t told[3] = {WIFEXITED(status) ? WEXITSTATUS(status) : -WTERMSIG(status), lseek(printed[0], 0, SEEK_END), lseek(printed[1], 0, SEEK_END)};
+        if (!gives(answers, told, sizeof told) || !passes(printed[0], told[1], answers) || !passes(printed[1], told[2], answers))
+            _exit(125);
+    }
+    _exit(0);
 }

@@ -16,7 +16,7 @@ class Report:
 
     def __init__(self, text):
         self.config, self.most, self.read, self.stats, self.counts, self.word, self.plain = [], 0, [], [], [], [], ""
-        # of each request its width, its hash, what its caller was told, and how
+        # for each request its width, its hash, what its caller was told, and how
         self.requests, self.decisions, self.events = [], [], []
         self.cancels, self.strikes, self.limits, self.closes = [], [], [], []
         for line in text.split("\n")[:-1]:
@@ -181,7 +181,7 @@ class History:
 
 
 def named(report, kind):
-    """The requests that an event of this kind names, as often as it does."""
+    """The requests that an event of this kind names, as many times as it does."""
     return [request for name, request, _ in report.events if name == kind]
 
 

@@ -4,7 +4,7 @@
 
 ghost use Rattle.std.specs.Prelude.{◌≤◌, IfOk, vec_len};
 
-use apf_cli::{Cause, FileFault, Files, act};
+use apf_cli::{FileFault, Files, act, cause_of};
 use std::alloc::{AllocError, Global};
 use std::fs::File;
 use std::io;
@@ -17,6 +17,8 @@ use std::thread::Threads;
 #[derive(Drop)]
 struct Disk<'a> {
     rt: &'a HostRuntime,
+    // the file that was opened last, if one was
+    opened: Option<File>,
 }
 
 impl Files for Disk<'_> {
@@ -29,18 +31,24 @@ impl Files for Disk<'_> {
         read_bounded(self.rt.alloc(), self.rt.stdin(), most)
     }
 
+    fn open(&mut self, name: &str) -> Result<(), FileFault> {
+        let file = File::open(self.rt, name).map_err(fault_of)?;
+        self.opened = Some(file);
+        Ok(())
+    }
+
     fn read_some(&mut self, into: &mut [u8]) -> io::Result<usize> {
-        self.rt.stdin().read(into)
+        match &mut self.opened {
+            Some(file) => file.read(into),
+            None => self.rt.stdin().read(into),
+        }
     }
 }
 
 fn fault_of(error: io::Error) -> FileFault {
     match error.kind() {
         io::ErrorKind::OutOfMemory => FileFault::NoMemory,
-        io::ErrorKind::NotFound => FileFault::CannotRead(Cause::Absent),
-        io::ErrorKind::PermissionDenied => FileFault::CannotRead(Cause::NotAllowed),
-        io::ErrorKind::IsADirectory => FileFault::CannotRead(Cause::Folder),
-        _ => FileFault::CannotRead(Cause::Other),
+        _ => FileFault::CannotRead(cause_of(&error)),
     }
 }
 
@@ -85,7 +93,7 @@ fn run<R: Wait + Threads + Sync>(rt: &HostRuntime, waiter: &R) -> Result<u8, Unr
     let mut out = BufWriter::new(alloc, io::writer(rt)).map_err(|_| Unread::NoMemory)?;
     let owned: Vec<String> = std::env::args(rt)?.collect(alloc)?;
     let words: Vec<&str> = owned.iter().map(|word| word.as_str()).collect(alloc)?;
-    let mut files = Disk { rt };
+    let mut files = Disk { rt, opened: None };
     Ok(act(
         waiter,
         alloc,

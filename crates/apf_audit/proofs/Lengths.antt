@@ -3,10 +3,10 @@ use Rattle.std.proofs.Common.{ℕ, zero, suc, ◌+◌, ◌*◌, ◌≤◌, ◌<�
 use Rattle.std.specs.Prelude.{codes, decimal, nat_lt, if◌then◌else◌}
 use Rattle.std.proofs.lemmas.Fmt.{length-decimal-le}
 use Rattle.apf_flows.specs.Json.{escape_by, escapes_from, escapes_of, letter_of, more_of, obeyed_by, shown_by, json_text}
-use Rattle.apf_audit.specs.AuditEvent.{max_name}
-use Rattle.apf_audit.specs.Arrivals.{IsRequestInRange}
+use Rattle.apf_times.specs.Limits.{max_arrival}
+use Rattle.apf_audit.specs.AuditEvent.{IsTakenInRange, max_name}
 use Rattle.apf_audit.specs.TraceText.{member_text, times_text, line_text}
-use Rattle.apf_audit.specs.declared.request.AuditRequest.{AuditRequest}
+use Rattle.apf_audit.specs.declared.event.Taken.{Taken}
 
 by_test : (x y b : ℕ) (t : Bool) → length (if t then codes "\\u00" ++ x ∷ y ∷ [] else b ∷ []) ≤ 6
 by_test x y b true = lit≤ tt
@@ -55,15 +55,15 @@ times_length arrives_at runs_for early short =
     simp length-append (omega arith)
 
 -- a line of a trace
-pub line_length : (schema : List ℕ) (request : AuditRequest) → length schema ≤ max_name → IsRequestInRange request → length (line_text schema request) ≤ 65537
+pub line_length : (schema : List ℕ) (request : Taken) (arrives_at : ℕ) → length schema ≤ max_name → IsTakenInRange request → arrives_at ≤ max_arrival → length (line_text schema request arrives_at) ≤ 65537
 unfolding line_text
-line_length schema request short ranges =
+line_length schema request arrives_at short ranges early =
     let first = member_length (codes "{\"schema\":") schema in
     let second = member_length (codes ",\"distinguisher\":") (string_bytes request.distinguisher) in
-    let times = times_length request.arrives_at request.runs_for (omega (arith, ranges.arrival)) (omega (arith, ranges.run)) in
+    let times = times_length arrives_at request.runs_for (omega (arith, early)) (omega (arith, ranges.run)) in
     omega (
       arith,
       ranges.name,
-      length-append (member_text (codes "{\"schema\":") schema ++ member_text (codes ",\"distinguisher\":") (string_bytes request.distinguisher)) (times_text request.arrives_at request.runs_for),
+      length-append (member_text (codes "{\"schema\":") schema ++ member_text (codes ",\"distinguisher\":") (string_bytes request.distinguisher)) (times_text arrives_at request.runs_for),
       length-append (member_text (codes "{\"schema\":") schema) (member_text (codes ",\"distinguisher\":") (string_bytes request.distinguisher)),
     )

@@ -1,9 +1,6 @@
-pub mod Judged
 pub mod Naturals
-pub mod Taken
-pub mod Logs
-pub mod Order
 pub mod Lengths
-pub mod Earliest
 pub mod Medians
-pub mod Nanoseconds
+pub mod Owning
+pub mod Answering
+pub mod Exact

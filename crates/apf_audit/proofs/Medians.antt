@@ -1,24 +1,14 @@
 -- The median of runs is the first of them that is a median, since no two numbers are.
 use Rattle.std.proofs.Common.{◌≡◌, ◌≤◌, ◌<◌, ◌*◌, ◌&&◌, ◌⊎◌, inl, inr, ℕ, zero, suc, List, [], ◌∷◌, length, Option, Some, None, Bool, true, false, cond, refl, sym, ◌∙◌, ap, subst, arith, rules, All, true≢false}
 use Rattle.std.specs.Prelude.{Contains, count_by, filter, map, nat_le, nat_lt, sum_by, unwrap_or}
-use Rattle.std.specs.Borrow.{Bor}
-use Rattle.std.specs.BTreeMap.{BTreeMap, get_by}
-use Rattle.std.specs.Cmp.Lexicographic.{slice_cmp}
 use Rattle.std.specs.List.{find}
-use Rattle.std.specs.Map.{update}
-use Rattle.std.specs.Option.{IfSome}
-use Rattle.std.specs.Ordering.{nat_cmp}
-use Rattle.std.specs.Str.{bytes_eq}
-use Rattle.std.proofs.lemmas.Slice.Eq.{bytes_eq-Decides}
 use Rattle.std.proofs.lemmas.Bool.Decides.{nat_tests}
 use Rattle.std.proofs.lemmas.List.Sums.{sum_by-cons}
 use Rattle.std.proofs.lemmas.List.Elements.{All-cons, All-head, All-tail, All-filter, All-map}
 use Rattle.apf_times.specs.Percentiles.{IsPercentile}
-use Rattle.apf_audit.specs.AuditEvent.{Event, event, IsTakenInRange}
-use Rattle.apf_audit.specs.Known.{AreKnown}
-use Rattle.apf_audit.specs.Runs.{is_median, median_of, estimate_of, ran, runs_of, run_in}
+use Rattle.apf_audit.specs.AuditEvent.{Event}
+use Rattle.apf_audit.specs.Runs.{is_median, median_of, ran, runs_of}
 use Rattle.apf_times.specs.Limits.{max_run}
-use Rattle.apf_audit.specs.declared.event.Taken.{Taken}
 
 sums_rise : (f g : ℕ → ℕ) → ((x : ℕ) → f x ≤ g x) → (xs : List ℕ) → sum_by f xs ≤ sum_by g xs
 sums_rise f g rises [] = omega arith
@@ -116,56 +106,10 @@ first_within p most (x ∷ xs) all = go (p x) (first_within p most xs (All-tail 
     go true later = All-head (λ y. y ≤ most) x xs all
     go false later = later
 
-median_within : (most : ℕ) (runs : List ℕ) → All (λ r. r ≤ most) runs → median_of runs ≤ most
+pub median_within : (most : ℕ) (runs : List ℕ) → All (λ r. r ≤ most) runs → median_of runs ≤ most
 unfolding median_of
 median_within most runs all = first_within (is_median runs) most runs all
 
-runs_within : (flow : Option (List ℕ)) (events : List Event) → All (λ e. e.runs_for ≤ max_run) events → All (λ r. r ≤ max_run) (runs_of flow events)
+pub runs_within : (flow : Option (List ℕ)) (events : List Event) → All (λ e. e.runs_for ≤ max_run) events → All (λ r. r ≤ max_run) (runs_of flow events)
 runs_within flow events all =
     All-map (λ r. r ≤ max_run) (λ (e : Event). e.runs_for) (filter (ran flow) events) (All-filter (ran flow) (λ (e : Event). e.runs_for ≤ max_run) events all)
-
-estimate_within : (events : List Event) (flow : List ℕ) → All (λ e. e.runs_for ≤ max_run) events → estimate_of events flow ≤ max_run
-unfolding estimate_of
-estimate_within events flow all = go (nat_lt 0 (length (runs_of (Some flow) events)))
-  where
-    go : (b : Bool) → cond b (median_of (runs_of (Some flow) events)) (median_of (runs_of None events)) ≤ max_run
-    go true = median_within max_run (runs_of (Some flow) events) (runs_within (Some flow) events all)
-    go false = median_within max_run (runs_of None events) (runs_within None events all)
-
--- a request that is to run for so long runs as long as a trace can have it
-pub run_within : (events : List Event) (e : Event) → All (λ x. x.runs_for ≤ max_run) events → e.runs_for ≤ max_run → run_in events e ≤ max_run
-run_within events e all one = go e.turned_away
-  where
-    go : (b : Bool) → cond b (estimate_of events e.flow) e.runs_for ≤ max_run
-    go true = estimate_within events e.flow all
-    go false = one
-
-short_events : (all : List Taken) → All IsTakenInRange all → All (λ e. e.runs_for ≤ max_run) (map event all)
-short_events [] h = search rules
-short_events (t ∷ ts) h =
-    All-cons (λ (e : Event). e.runs_for ≤ max_run) (event t) (map event ts) (All-head IsTakenInRange t ts h).run (short_events ts (All-tail IsTakenInRange t ts h))
-
-some_within : (events : List Event) → All (λ x. x.runs_for ≤ max_run) events → (all : List Taken) → All IsTakenInRange all
-    → All (λ run. run ≤ max_run) (map (λ taken. run_in events (event taken)) all)
-some_within events short [] h = search rules
-some_within events short (t ∷ ts) h =
-    All-cons (λ (run : ℕ). run ≤ max_run) (run_in events (event t)) (map (λ taken. run_in events (event taken)) ts)
-    (run_within events (event t) short (All-head IsTakenInRange t ts h).run) (some_within events short ts (All-tail IsTakenInRange t ts h))
-
--- the same of all
-pub all_within : (all : List Taken) → All IsTakenInRange all → All (λ run. run ≤ max_run) (map (λ taken. run_in (map event all) (event taken)) all)
-all_within all h = some_within (map event all) (short_events all h) all h
-
--- ---- what is known of flows
-
--- the estimate of one flow more is known
-pub known_more : (events : List Event) (old new : BTreeMap (Bor (List ℕ)) ℕ) (flow : List ℕ) (run : ℕ) → AreKnown events old → run ≡ estimate_of events flow
-    → ((other : List ℕ) → get_by (λ k. slice_cmp nat_cmp other k.now) new ≡ update bytes_eq (λ q. get_by (λ k. slice_cmp nat_cmp q k.now) old) flow (Some run) other)
-    → AreKnown events new
-known_more events old new flow run known is updates other =
-    subst (λ (o : Option ℕ). IfSome o (λ r. r ≡ estimate_of events other)) (sym (updates other)) (go (bytes_eq flow other) refl)
-  where
-    go : (b : Bool) → bytes_eq flow other ≡ b
-        → IfSome (cond b (Some run) (get_by (λ k. slice_cmp nat_cmp other k.now) old)) (λ r. r ≡ estimate_of events other)
-    go true same = is ∙ ap (estimate_of events) ((bytes_eq-Decides flow other).0 same)
-    go false differs = known other

@@ -1,5 +1,5 @@
 -- What the JSON value of a line of an audit log says.
-use Rattle.std.specs.Prelude.{ℕ, ◌≤◌, List, [], length, Bool, true, false, ◌&&◌, ◌||◌, ◌==◌, not, nat_le, if◌then◌else◌, Option, Some, None, option_and_then, IfSome, Result, Ok, Err, codes, bytes_eq, string_bytes}
+use Rattle.std.specs.Prelude.{◌≡◌, ℕ, ◌≤◌, List, [], ◌∷◌, length, Bool, true, false, ◌&&◌, ◌||◌, ◌==◌, not, nat_le, if◌then◌else◌, Option, Some, None, option_and_then, is_none, Result, Ok, Err, codes, bytes_eq, string_bytes}
 use Rattle.std.specs.Option.{option_map_or}
 use Rattle.serde_json.specs.Data.{Data}
 use Rattle.serde_json.specs.Find.{get, as_str}
@@ -11,6 +11,8 @@ use Rattle.apf_audit.specs.Times.{instant_of, wait_of, run_of}
 use Rattle.apf_audit.specs.declared.choice.By.{By}
 use Rattle.apf_audit.specs.declared.choice.By.TheVariants.{User, Namespace}
 use Rattle.apf_audit.specs.declared.choice.Choice.{Choice}
+use Rattle.apf_audit.specs.declared.event.Outcome.{Outcome}
+use Rattle.apf_audit.specs.declared.event.Outcome.TheVariants.{Chosen, Unnamed, LeftOut, Unfinished}
 use Rattle.apf_audit.specs.declared.event.Taken.{Taken}
 use Rattle.apf_audit.specs.declared.fault.AuditFault.{AuditFault}
 use Rattle.apf_audit.specs.declared.fault.AuditFault.TheVariants.{NotEvent, BadUser, BadNamespace, BadReceived, BadStage, BadWait, BadRun}
@@ -76,6 +78,15 @@ name_by d (Some impersonated) = text_at (codes "username") impersonated
 unfoldable pub user_of : Data → Option (List ℕ)
 user_of d = option_and_then short (name_by d (get (codes "impersonatedUser") d))
 
+-- what stands where an event has the name of its user, who is impersonated if it has such a one
+abbrev pub name_found : Data → Option Data → Option Data
+name_found d None = option_and_then (get (codes "username")) (get (codes "user") d)
+name_found d (Some impersonated) = get (codes "username") impersonated
+
+-- the event has no name of a user
+unfoldable pub is_unnamed : Data → Bool
+is_unnamed d = is_none (name_found d (get (codes "impersonatedUser") d))
+
 -- the namespace of an object that has one
 abbrev pub namespace_by : Option Data → Option (List ℕ)
 namespace_by None = Some []
@@ -137,19 +148,64 @@ taken_of choice line d = do
   received ← or_fault (BadReceived line) (instant_at (codes "requestReceivedTimestamp") d)
   if is_chosen choice user received then ran_at line received flow d >>= (λ e. Ok (Some e)) else Ok None
 
--- what is taken of the value of a line, by whether it is taken
+-- what is taken of the value of a line, by whether it is taken; nothing of one without a user's name
 abbrev pub event_by : Choice → ℕ → Data → Option Bool → Result (Option Event) AuditFault
 event_by choice line d None = Err (NotEvent line)
 event_by choice line d (Some false) = Ok None
-event_by choice line d (Some true) = taken_of choice line d
+event_by choice line d (Some true) = if is_unnamed d then Ok None else taken_of choice line d
 
 unfoldable pub event_of : Choice → ℕ → Data → Result (Option Event) AuditFault
 event_of choice line d = event_by choice line d (is_taken d)
+
+-- the event would be taken, but has no name of a user
+abbrev pub nameless_by : Data → Option Bool → Bool
+nameless_by d None = false
+nameless_by d (Some false) = false
+nameless_by d (Some true) = is_unnamed d
+
+unfoldable pub is_nameless : Data → Bool
+is_nameless d = nameless_by d (is_taken d)
+
+-- what is taken of what a line gives
+abbrev pub event_in : Outcome → Option Event
+event_in (Chosen taken) = Some (event taken)
+event_in Unnamed = None
+event_in LeftOut = None
+event_in Unfinished = None
+
+-- the request that is chosen, if there is one
+abbrev pub chosen_in : Outcome → List Taken
+chosen_in (Chosen taken) = taken ∷ []
+chosen_in Unnamed = []
+chosen_in LeftOut = []
+chosen_in Unfinished = []
+
+abbrev pub is_without_name : Outcome → Bool
+is_without_name (Chosen taken) = false
+is_without_name Unnamed = true
+is_without_name LeftOut = false
+is_without_name Unfinished = false
+
+abbrev pub is_still_written : Outcome → Bool
+is_still_written (Chosen taken) = false
+is_still_written Unnamed = false
+is_still_written LeftOut = false
+is_still_written Unfinished = true
 
 -- the run and the name are such that a trace can have them
 pub record IsTakenInRange (taken : Taken) : Type 0 where
   pub run : taken.runs_for ≤ max_run
   pub name : length (string_bytes taken.distinguisher) ≤ max_name
 
-abbrev pub IsInRangeIfTaken : Option Taken → Type 0
-IsInRangeIfTaken taken = IfSome taken IsTakenInRange
+abbrev pub IsInRangeIfChosen : Outcome → Type 0
+IsInRangeIfChosen (Chosen taken) = IsTakenInRange taken
+IsInRangeIfChosen Unnamed = Unit {0}
+IsInRangeIfChosen LeftOut = Unit {0}
+IsInRangeIfChosen Unfinished = Unit {0}
+
+-- what is taken is of this line
+abbrev pub IsOfLine : ℕ → Outcome → Type 0
+IsOfLine line (Chosen taken) = taken.line ≡ line
+IsOfLine line Unnamed = Unit {0}
+IsOfLine line LeftOut = Unit {0}
+IsOfLine line Unfinished = Unit {0}

@@ -1,21 +1,18 @@
 -- What an audit log says.
 use Rattle.std.specs.Prelude.{◌≡◌, ℕ, ◌+◌, List, [], ◌∷◌, length, Bool, true, false, nat_eq, nat_le, not, ◌&&◌, if◌then◌else◌, Option, Some, None, is_none, Result, Ok, Err}
 use Rattle.std.specs.List.{starts_with}
-use Rattle.std.specs.List.Sorted.{IsPermutation}
 use Rattle.serde_json.specs.Data.{Data}
-use Rattle.apf_words.specs.Limits.{max_requests}
 use Rattle.apf_files.specs.FirstFault.{◌>>=◌, before}
 use Rattle.apf_files.specs.JsonFile.{value_of}
 use Rattle.apf_traces.specs.TraceFile.{Line, lines_of}
-use Rattle.apf_audit.specs.AuditEvent.{Event, event_of}
-use Rattle.apf_audit.specs.Arrivals.{Entry, entries_from, earliest, latest}
+use Rattle.apf_audit.specs.AuditEvent.{Event, event_of, is_nameless}
 use Rattle.apf_audit.specs.declared.choice.Choice.{Choice}
 use Rattle.apf_audit.specs.declared.fault.AuditFault.{AuditFault}
-use Rattle.apf_audit.specs.declared.fault.AuditFault.TheVariants.{TooLong, NotUtf8Json, TooMany}
+use Rattle.apf_audit.specs.declared.fault.AuditFault.TheVariants.{TooLong, NotUtf8Json}
 
 -- a line has at most this many bytes, without its LF
 abbrev pub max_line : ℕ
-max_line = 8388608
+max_line = 1048576
 
 -- the bytes begin as an object in UTF-8 does: with `{`, which is 123, and no zero behind it, as UTF-16 has there
 abbrev pub is_begun : List ℕ → Bool
@@ -36,14 +33,22 @@ unfoldable pub judged_line : Choice → ℕ → Line → Result (Option Event) A
 judged_line choice number line =
     if nat_le (length line.bytes) max_line then judged_by choice number (is_unfinished line) (value_of line.bytes) else Err (TooLong number)
 
--- the first of the lines that no LF ends begins as an event does, and is no JSON text
-abbrev pub is_cut_from : List Line → Bool
-is_cut_from [] = false
-is_cut_from (line ∷ lines) = if line.is_ended then is_cut_from lines else is_begun line.bytes && is_none (value_of line.bytes)
+-- the value has an event that would be taken, but has no name of a user
+abbrev pub nameless_in : Option Data → Bool
+nameless_in None = false
+nameless_in (Some d) = is_nameless d
 
--- the last line is left out
-unfoldable pub is_cut : List ℕ → Bool
-is_cut bytes = is_cut_from (lines_of bytes)
+-- the line of these bytes has such an event
+unfoldable pub is_nameless_line : List ℕ → Bool
+is_nameless_line bytes = nameless_in (value_of bytes)
+
+-- the line is still written: no LF ends it, it begins as an event does, and it is no JSON text
+abbrev pub cut_by : (is_unfinished : Bool) → Option Data → Bool
+cut_by is_unfinished (Some d) = false
+cut_by is_unfinished None = is_unfinished
+
+unfoldable pub is_cut_line : Line → Bool
+is_cut_line line = cut_by (is_unfinished line) (value_of line.bytes)
 
 -- what is taken of a line before the others, or the first fault
 abbrev pub before_taken : {A F : Type 0} → Result (Option A) F → Result (List A) F → Result (List A) F
@@ -59,18 +64,3 @@ events_from choice number (line ∷ lines) = before_taken (judged_line choice nu
 -- what is taken of an audit log, in the order of its lines, or the first fault of a line
 unfoldable pub events_of : Choice → List ℕ → Result (List Event) AuditFault
 events_of choice bytes = events_from choice 1 (lines_of bytes)
-
--- the requests of these events, or why a trace cannot have them
-abbrev pub requests_by : Bool → List Event → Result (List Entry) AuditFault
-requests_by false events = Err (TooMany (length events) (earliest events) (latest events))
-requests_by true events = entries_from (earliest events) events events
-
--- the chosen requests of an audit log, in the order of its lines, or its fault
-unfoldable pub log_of : Choice → List ℕ → Result (List Entry) AuditFault
-log_of choice bytes = events_of choice bytes >>= (λ events. requests_by (nat_le (length events) max_requests) events)
-
--- these are the chosen requests of an audit log, in some order
-pub record IsLogOf (choice : Choice) (bytes : List ℕ) (requests : List Entry) : Type 0 where
-  pub in_file : List Entry
-  pub is : log_of choice bytes ≡ Ok in_file
-  pub same : IsPermutation in_file requests

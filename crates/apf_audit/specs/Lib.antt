@@ -6,5 +6,4 @@ pub mod Arrivals
 pub mod AuditLog
 pub mod TraceText
 pub mod Runs
-pub mod InstantText
-pub mod Known
+pub mod Estimates

@@ -1,15 +1,7 @@
 -- How long a request ran, and what stands for that where it was turned away.
-use Rattle.std.specs.Prelude.{ℕ, ◌*◌, List, length, map, filter, count_by, Bool, true, ◌&&◌, not, nat_le, nat_lt, if◌then◌else◌, Option, Some, None, option_map, unwrap_or, bytes_eq}
-use Rattle.std.specs.Borrow.{Bor}
+use Rattle.std.specs.Prelude.{ℕ, ◌*◌, List, length, map, filter, count_by, Bool, true, ◌&&◌, not, nat_le, nat_lt, if◌then◌else◌, Option, Some, None, unwrap_or, bytes_eq}
 use Rattle.std.specs.List.{find}
 use Rattle.apf_audit.specs.AuditEvent.{Event}
-
--- the flow that is asked for, or every one
-abbrev pub every : Option (List ℕ)
-every = None
-
-abbrev pub flow_text : Option (Bor (List ℕ)) → Option (List ℕ)
-flow_text flow = option_map (λ text. text.now) flow
 
 -- the event is of this flow, where one is named
 abbrev pub is_of : Option (List ℕ) → Event → Bool

@@ -1,6 +1,6 @@
 //! Which events are taken, and what is taken of one.
 
-ghost use Rattle.std.specs.Prelude.{◌≡◌, ◌≢◌, ◌≤◌, IfOk, IfErr, IfSome, Ok, Err, option_map, codes, length};
+ghost use Rattle.std.specs.Prelude.{◌≡◌, ◌≢◌, ◌≤◌, IfOk, IfErr, IfSome, Ok, Err, option_map, codes, length, false};
 ghost use Rattle.serde_json.specs.Find.{get};
 ghost use Rattle.serde_json.specs.View.{view};
 ghost use Rattle.apf_times.specs.Limits.{max_run};
@@ -18,16 +18,32 @@ pub const MAX_NAME: usize = 4096;
 
 const QUEUE_WAIT: &str = "apiserver.latency.k8s.io/apf-queue-wait";
 
-/// What is taken of an event.
-#[derive(Drop)]
-pub(crate) struct Taken {
-    pub line: usize,
-    // in microseconds from 1970 on
+/// The request that is taken of an event.
+#[derive(Debug, PartialEq, Eq, Drop)]
+pub struct Taken {
+    /// The line of its event, counted from 1.
+    pub line: u64,
+    /// When the server received it, in microseconds from 1970 on.
     pub received: u64,
-    // whether the server turned it away, and then it ran for 0
+    /// Whether the server turned it away, so that it did not run.
     pub turned_away: bool,
+    /// How long it ran once it had its seats, in microseconds, 0 to 10,000,000,000; 0 if it was turned away.
     pub runs_for: u64,
+    /// The name of its flow: of the user who made the request, or the namespace.
     pub distinguisher: String,
+}
+
+/// What a line of a log gives.
+#[derive(Debug, PartialEq, Eq, Drop)]
+pub enum Outcome {
+    /// A request that is chosen.
+    Chosen(Taken),
+    /// Nothing: its event is taken, but has no name of a user, as that of a failed login.
+    Unnamed,
+    /// Nothing: its event is not taken or not chosen.
+    LeftOut,
+    /// Nothing: no LF ends the line, it begins as an event does, and is no JSON text, so it is still written.
+    Unfinished,
 }
 
 // The text at a key of the object at another, if there is one.
@@ -83,6 +99,24 @@ fn short(name: &str) -> Option<&str>
         return None;
     }
     Some(name)
+}
+
+// The value that stands where the event has the name of its user, if there is one.
+fn name_found(value: &Value) -> Option<&Value>
+    ensures { option_map (λ found. view found.now) result ≡ spec.name_found (view value.now) (get (codes "impersonatedUser") (view value.now)) }
+{
+    match value.get("impersonatedUser") {
+        Some(impersonated) => impersonated.get("username"),
+        None => value.get("user").and_then(|user| user.get("username")),
+    }
+}
+
+// The event has no name of a user.
+#[tactic(auto, unfolding(crate::specs::AuditEvent::is_unnamed))]
+fn is_unnamed(value: &Value) -> bool
+    ensures { result ≡ spec.is_unnamed (view value.now) }
+{
+    name_found(value).is_none()
 }
 
 // The name of the user, where a trace can have it.
@@ -159,7 +193,7 @@ fn wait_at(value: &Value) -> Option<u64>
 
 // How long the request of an event ran that was received at this time, and 0 if it was turned away.
 #[tactic(auto, unfolding(crate::specs::AuditEvent::run_at))]
-fn run_at(value: &Value, line: usize, received: u64) -> Result<u64, AuditFault>
+fn run_at(value: &Value, line: u64, received: u64) -> Result<u64, AuditFault>
     ensures ok { IfOk result (λ run. spec.run_at line received (view value.now) ≡ Ok run) }
     ensures within { IfOk result (λ run. run ≤ max_run) }
     ensures err { IfErr result (λ fault. spec.run_at line received (view value.now) ≡ Err fault) }
@@ -177,13 +211,14 @@ fn run_at(value: &Value, line: usize, received: u64) -> Result<u64, AuditFault>
 fn ran_at(
     alloc: Global,
     value: &Value,
-    line: usize,
+    line: u64,
     received: u64,
     flow: &str,
 ) -> Result<Taken, AuditFault>
     requires { length flow.now ≤ spec.max_name }
     ensures ok { IfOk result (λ taken. spec.ran_at line received flow.now (view value.now) ≡ Ok (spec.event taken)) }
     ensures ranges { IfOk result spec.IsTakenInRange }
+    ensures line { IfOk result (λ taken. taken.line ≡ line) }
     ensures err { IfErr result (λ fault. fault ≢ AuditFault.NoMemory
         → spec.ran_at line received flow.now (view value.now) ≡ Err fault) }
 {
@@ -200,16 +235,19 @@ fn ran_at(
     })
 }
 
-// What is taken of the event of line `line`, or none where it is not chosen.
+// What the event of line `line` gives, which has a user's name.
 #[tactic(auto, unfolding(crate::specs::AuditEvent::taken_of))]
 fn taken_of(
     alloc: Global,
     choice: &Choice<'_>,
     value: &Value,
-    line: usize,
-) -> Result<Option<Taken>, AuditFault>
-    ensures ok { IfOk result (λ taken. spec.taken_of choice.now line (view value.now) ≡ Ok (option_map spec.event taken)) }
-    ensures ranges { IfOk result spec.IsInRangeIfTaken }
+    line: u64,
+) -> Result<Outcome, AuditFault>
+    ensures ok { IfOk result (λ outcome. spec.taken_of choice.now line (view value.now) ≡ Ok (spec.event_in outcome)) }
+    ensures named { IfOk result (λ outcome. spec.is_without_name outcome ≡ false) }
+    ensures whole { IfOk result (λ outcome. spec.is_still_written outcome ≡ false) }
+    ensures ranges { IfOk result spec.IsInRangeIfChosen }
+    ensures line { IfOk result (spec.IsOfLine line) }
     ensures err { IfErr result (λ fault. fault ≢ AuditFault.NoMemory
         → spec.taken_of choice.now line (view value.now) ≡ Err fault) }
 {
@@ -219,27 +257,31 @@ fn taken_of(
         line,
     ))?;
     if !choice.has(user, received) {
-        return Ok(None);
+        return Ok(Outcome::LeftOut);
     }
-    Ok(Some(ran_at(alloc, value, line, received, flow)?))
+    Ok(Outcome::Chosen(ran_at(alloc, value, line, received, flow)?))
 }
 
-/// What is taken of the value of line `line`, or none where its event is not taken, or not chosen.
-#[tactic(auto, unfolding(crate::specs::AuditEvent::event_of))]
+/// What the value of line `line` gives.
+#[tactic(auto, unfolding(crate::specs::AuditEvent::event_of, crate::specs::AuditEvent::is_nameless))]
 pub(crate) fn event_of_value(
     alloc: Global,
     choice: &Choice<'_>,
     value: &Value,
-    line: usize,
-) -> Result<Option<Taken>, AuditFault>
-    ensures ok { IfOk result (λ taken. spec.event_of choice.now line (view value.now) ≡ Ok (option_map spec.event taken)) }
-    ensures ranges { IfOk result spec.IsInRangeIfTaken }
+    line: u64,
+) -> Result<Outcome, AuditFault>
+    ensures ok { IfOk result (λ outcome. spec.event_of choice.now line (view value.now) ≡ Ok (spec.event_in outcome)) }
+    ensures unnamed { IfOk result (λ outcome. spec.is_nameless (view value.now) ≡ spec.is_without_name outcome) }
+    ensures whole { IfOk result (λ outcome. spec.is_still_written outcome ≡ false) }
+    ensures ranges { IfOk result spec.IsInRangeIfChosen }
+    ensures line { IfOk result (spec.IsOfLine line) }
     ensures err { IfErr result (λ fault. fault ≢ AuditFault.NoMemory
         → spec.event_of choice.now line (view value.now) ≡ Err fault) }
 {
     match is_taken(value) {
+        Some(true) if is_unnamed(value) => Ok(Outcome::Unnamed),
         Some(true) => taken_of(alloc, choice, value, line),
-        Some(false) => Ok(None),
+        Some(false) => Ok(Outcome::LeftOut),
         None => Err(AuditFault::NotEvent(line)),
     }
 }

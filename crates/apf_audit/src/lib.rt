@@ -1,41 +1,32 @@
-//! Reads an audit log of a Kubernetes API server, and writes the trace of its requests.
+//! Reads the events of an audit log of a Kubernetes API server, and writes the lines of the trace of their requests.
 //!
 //! - `fault`: why an audit log is refused.
-//! - `request`: a request of an audit log.
 //! - `choice`: which requests are chosen, and what makes a flow.
 //! - `times`: the instants, waits and runs that an event says.
 //! - `event`: which events are taken, and what is taken of one.
-//! - `line`: what is taken of the bytes of a line.
-//! - `events`: what is taken of all lines.
-//! - `runs`: how long requests run that were turned away.
-//! - `arrivals`: the times of arrivals from the earliest on.
-//! - `log`: the requests of a whole audit log.
-//! - `trace`: the trace of these requests.
-//! - `instants`: an instant as a person reads it.
+//! - `line`: what the bytes of a line give.
+//! - `estimates`: how long requests run that were turned away.
+//! - `arrivals`: the times of arrivals from the first on.
+//! - `trace`: the line of a request.
 //! - `laws`: what holds of every log and trace.
 #![tactic(auto)]
 
 mod arrivals;
 mod choice;
+mod estimates;
 mod event;
-mod events;
 mod fault;
-mod instants;
 mod laws;
 mod line;
-mod log;
-mod request;
-mod runs;
 mod times;
 mod trace;
 
+pub use arrivals::arrives_at;
 pub use choice::{By, Choice};
-pub use event::MAX_NAME;
+pub use estimates::Estimates;
+pub use event::{MAX_NAME, Outcome, Taken};
 pub use fault::AuditFault;
-pub use instants::write_instant;
-pub use laws::every_trace_fits;
-pub use line::{MAX_LINE, ends_early, is_begun};
-pub use log::read_audit_log;
-pub use request::{AuditRequest, count_turned_away};
+pub use laws::{every_estimate_is_in_range, every_trace_fits};
+pub use line::{MAX_LINE, is_begun, read_line};
 pub use times::read_instant;
-pub use trace::write_trace;
+pub use trace::write_request;

@@ -1,18 +1,17 @@
-//! What is taken of the bytes of a line.
+//! What the bytes of a line give.
 
-ghost use Rattle.std.specs.Prelude.{◌≡◌, ◌≢◌, IfOk, IfErr, Ok, Err, option_map};
-ghost use Rattle.apf_audit.specs.AuditEvent.{event, IsInRangeIfTaken};
-ghost use Rattle.apf_audit.specs.AuditLog.{judged_line, is_begun as is_begun_of, is_cut};
+ghost use Rattle.std.specs.Prelude.{◌≡◌, ◌≢◌, IfOk, IfErr, Ok, Err};
+ghost use Rattle.apf_audit.specs.AuditEvent.{event_in, is_still_written, is_without_name, IsInRangeIfChosen, IsOfLine};
+ghost use Rattle.apf_audit.specs.AuditLog.{judged_line, is_cut_line, is_nameless_line, is_begun as is_begun_of};
 
 use crate::choice::Choice;
-use crate::event::{Taken, event_of_value};
+use crate::event::{Outcome, event_of_value};
 use crate::fault::AuditFault;
 use apf_files::value_of;
-use apf_traces::first_line;
 use std::alloc::{AllocError, Global};
 
 /// The most bytes of a line, without its LF. It bounds what the value of a line takes of memory.
-pub const MAX_LINE: usize = 8_388_608;
+pub const MAX_LINE: usize = 1_048_576;
 
 /// Whether the bytes begin as an object in UTF-8 does: with `{`, and no zero byte behind it. A last line of a log that no
 /// LF ends, and that is no JSON text, may be one that is still written only if it begins so.
@@ -22,20 +21,27 @@ pub fn is_begun(bytes: &[u8]) -> bool
     bytes.starts_with(b"{") && !bytes.starts_with(b"{\0")
 }
 
-/// What is taken of line `line`, whose bytes come without their LF, or none where its event is not taken or not chosen.
+/// What line `line` gives, whose bytes come without their LF.
 ///
 /// `is_ended` says whether an LF ends the line. Where none does, and the line is no JSON text, but begins as an event
-/// does, nothing is taken of it.
-#[tactic(auto, unfolding(crate::specs::AuditLog::judged_line))]
-pub(crate) fn taken_of_line(
+/// does, nothing is taken of it, as it is still written.
+///
+/// # Errors
+///
+/// The line's first fault, in the order of `AuditFault`. `NoMemory` only where memory was refused.
+#[tactic(auto, unfolding(crate::specs::AuditLog::judged_line, crate::specs::AuditLog::is_cut_line, crate::specs::AuditLog::is_nameless_line))]
+pub fn read_line(
     alloc: Global,
     choice: &Choice<'_>,
     bytes: &[u8],
     is_ended: bool,
-    line: usize,
-) -> Result<Option<Taken>, AuditFault>
-    ensures ok { IfOk result (λ taken. judged_line choice.now line (record { bytes = bytes.now; is_ended = is_ended }) ≡ Ok (option_map event taken)) }
-    ensures ranges { IfOk result IsInRangeIfTaken }
+    line: u64,
+) -> Result<Outcome, AuditFault>
+    ensures ok { IfOk result (λ outcome. judged_line choice.now line (record { bytes = bytes.now; is_ended = is_ended }) ≡ Ok (event_in outcome)) }
+    ensures unnamed { IfOk result (λ outcome. is_nameless_line bytes.now ≡ is_without_name outcome) }
+    ensures unfinished { IfOk result (λ outcome. is_cut_line (record { bytes = bytes.now; is_ended = is_ended }) ≡ is_still_written outcome) }
+    ensures ranges { IfOk result IsInRangeIfChosen }
+    ensures line { IfOk result (IsOfLine line) }
     ensures err { IfErr result (λ fault. fault ≢ AuditFault.NoMemory
         → judged_line choice.now line (record { bytes = bytes.now; is_ended = is_ended }) ≡ Err fault) }
 {
@@ -44,29 +50,8 @@ pub(crate) fn taken_of_line(
     }
     match value_of(alloc, bytes) {
         Ok(Some(value)) => event_of_value(alloc, choice, &value, line),
-        Ok(None) if !is_ended && is_begun(bytes) => Ok(None),
+        Ok(None) if !is_ended && is_begun(bytes) => Ok(Outcome::Unfinished),
         Ok(None) => Err(AuditFault::NotUtf8Json(line)),
         Err(AllocError) => Err(AuditFault::NoMemory),
     }
-}
-
-/// Whether the last line of a log is left out, as one that is still written: no LF ends it, it begins as an event does,
-/// and it is no JSON text.
-///
-/// # Errors
-///
-/// Only where memory was refused.
-#[tactic(auto, unfolding(crate::specs::AuditLog::is_cut))]
-pub fn ends_early(alloc: Global, bytes: &[u8]) -> Result<bool, AllocError>
-    ensures { IfOk result (λ is_left_out. is_left_out ≡ is_cut bytes.now) }
-{
-    let mut rest = bytes;
-    while !rest.is_empty() {
-        let first = first_line(rest);
-        if !first.is_ended {
-            return Ok(is_begun(first.line) && value_of(alloc, first.line)?.is_none());
-        }
-        rest = first.rest;
-    }
-    Ok(false)
 }

@@ -2,9 +2,9 @@
 
 ghost use Rattle.std.specs.Prelude.{OnOk};
 ghost use Rattle.std.specs.Io.KnownBytes.{Appends};
-ghost use Rattle.apf_audit.specs.TraceText.{member_text, times_text, line_text, trace_text};
+ghost use Rattle.apf_audit.specs.TraceText.{member_text, times_text, line_text};
 
-use crate::request::AuditRequest;
+use crate::event::Taken;
 use apf_flows::write_text;
 use std::io;
 use std::io::Write;
@@ -29,26 +29,22 @@ fn write_times<W: Write>(out: &mut W, arrives_at: u64, runs_for: u64) -> io::Res
     )
 }
 
-// Writes the line of a request.
-#[tactic(auto, unfolding(crate::specs::TraceText::line_text))]
-fn write_line<W: Write>(out: &mut W, schema: &str, request: &AuditRequest) -> io::Result<()>
-    ensures { OnOk result (Appends (W.contents out.old) (W.contents out.new) (line_text schema.now request.now)) }
-{
-    write_member(out, b"{\"schema\":", schema)?;
-    write_member(out, b",\"distinguisher\":", request.distinguisher.as_str())?;
-    write_times(out, request.arrives_at, request.runs_for)
-}
-
-/// Writes the trace of requests, all of this flow schema: one JSON object a line, without blanks.
+/// Writes the line of a trace of a request of this flow schema, which arrives at this time: one JSON object, without blanks,
+/// and an LF.
 ///
 /// # Errors
 ///
 /// The writer's. Then nothing is known of how much was written.
-pub fn write_trace<W: Write>(schema: &str, requests: &[AuditRequest], out: &mut W) -> io::Result<()>
-    ensures { OnOk result (Appends (W.contents out.old) (W.contents out.new) (trace_text schema.now requests.now)) }
+#[tactic(auto, unfolding(crate::specs::TraceText::line_text))]
+pub fn write_request<W: Write>(
+    schema: &str,
+    request: &Taken,
+    arrives_at: u64,
+    out: &mut W,
+) -> io::Result<()>
+    ensures { OnOk result (Appends (W.contents out.old) (W.contents out.new) (line_text schema.now request.now arrives_at)) }
 {
-    for request in requests {
-        write_line(out, schema, request)?;
-    }
-    Ok(())
+    write_member(out, b"{\"schema\":", schema)?;
+    write_member(out, b",\"distinguisher\":", request.distinguisher.as_str())?;
+    write_times(out, arrives_at, request.runs_for)
 }

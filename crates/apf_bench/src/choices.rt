@@ -24,7 +24,7 @@ impl Shape {
         (request % self.busy().max(1)).wrapping_mul(self.stride)
     }
 
-    // This many dispatches that most busy queues keep a request to the end.
+    // As many dispatches as leave a request in most busy queues to the end.
     fn dispatches(self) -> u32 {
         REQUESTS.saturating_sub(self.busy().wrapping_mul(2))
     }

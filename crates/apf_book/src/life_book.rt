@@ -64,7 +64,7 @@ impl<A: Allocator + Copy> LifeBook<A> {
     /// A book in which nothing happened yet. All memory is taken here, that of the newest events too: two for each
     /// slot.
     ///
-    /// Where what requests take is settled, it keeps of each slot what a queue is charged for the request that holds it.
+    /// Where what requests take is settled, it keeps for each slot what a queue is charged for the request that holds it.
     ///
     /// The Desk is as `Gate::open_for_life` gave it, for the slots. At a gate without queues nothing ever happens to a
     /// book: no request arrives in it.
@@ -106,7 +106,7 @@ impl<A: Allocator + Copy> LifeBook<A> {
 
 impl<A: Allocator> LifeBook<A> {
     /// The request arrives, with its hand of queues and what its dispatch is charged, 1 to 4,294,967,295. In this
-    /// order: it is cancelled; the shortest queue of its hand is full, and it is rejected; the level is closed, and it
+    /// order: it is cancelled; the level is closed, and it is rejected; the shortest queue of its hand is full, and it
     /// is rejected; it enters that queue. A lost exchange is tried again.
     ///
     /// A rejection, and that it is cancelled, is what the Desk's last step in this call was told, and its Pass.

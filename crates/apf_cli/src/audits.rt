@@ -4,14 +4,14 @@ ghost use Rattle.std.specs.Prelude.{◌≡◌, IfOk, IfErr};
 ghost use Rattle.apf_cli.specs.Choices.{IsInstantFor, IsNoInstantFor, IsByFor, IsNoByFor, IsChoiceFor};
 
 use crate::faults::{Bound, Fault};
-use crate::files::{Files, Input, read_input};
-use crate::measuring::Measure;
-use crate::notes::{note_cut, note_nothing_chosen, note_turned_away};
-use crate::telling::{audit_fault, named};
-use apf_audit::{By, Choice, read_audit_log, read_instant, write_trace};
+use crate::files::{Files, Input, cause_of, open_input};
+use crate::notes::{note_cut, note_nothing_chosen, note_turned_away, note_unnamed};
+use crate::telling::{audit_line_fault, named};
+use apf_audit::{By, Choice, arrives_at, read_instant, write_request};
+use apf_audit_reader::{AuditReader, ReadFault, WINDOW};
 use apf_commands::Chosen;
 use std::alloc::Global;
-use std::io::Write;
+use std::io::{Read, Write};
 
 /// The most bytes of the name of a flow schema, so that each line of the trace has at most 65,536.
 const MOST_SCHEMA: usize = 4096;
@@ -53,14 +53,71 @@ fn choice_of<'a>(chosen: &Chosen<'a>) -> Result<Choice<'a>, Fault>
     })
 }
 
+// How many requests were printed, and how many of them were turned away.
+#[derive(Clone, Copy)]
+pub(crate) struct Printed {
+    pub(crate) requests: u64,
+    pub(crate) turned_away: u64,
+}
+
+// The fault of the log of this name, whose line has these bytes.
+fn log_fault(alloc: Global, log: &str, line: &[u8], fault: ReadFault) -> Fault {
+    match fault {
+        ReadFault::Log(fault) => audit_line_fault(alloc, line, fault),
+        ReadFault::CannotRead(error) => named(
+            alloc,
+            log,
+            Fault::CannotRead(Input::AuditLog, cause_of(&error)),
+        ),
+    }
+}
+
+// Prints the line of the trace of each chosen request of this flow schema, in the order of the arrivals.
+fn print_requests<I: Read, O: Write>(
+    alloc: Global,
+    reader: &mut AuditReader,
+    input: &mut I,
+    names: (&str, &str),
+    choice: &Choice<'_>,
+    out: &mut O,
+) -> Result<Printed, Fault> {
+    let (log, schema) = names;
+    let mut printed = Printed {
+        requests: 0,
+        turned_away: 0,
+    };
+    let mut start = 0;
+    for number in 0..u64::MAX {
+        let request = match reader.next(choice, input) {
+            Ok(Some(request)) => request,
+            Ok(None) => return Ok(printed),
+            Err(fault) => return Err(log_fault(alloc, log, reader.line(), fault)),
+        };
+        if number == 0 {
+            start = request.received;
+        }
+        let at = match arrives_at(request.received, request.line, start) {
+            Ok(at) => at,
+            Err(fault) => return Err(audit_line_fault(alloc, b"", fault)),
+        };
+        write_request(schema, &request, at, out).map_err(|_| Fault::CannotWrite)?;
+        printed.requests = number + 1;
+        if request.turned_away {
+            printed.turned_away = printed.turned_away.saturating_add(1);
+        }
+    }
+    Ok(printed)
+}
+
 /// Prints the trace of the chosen requests of the audit log of the first name, all of the flow schema that the second one
-/// names. A last line that is left out, as one that is still written, is said on `err`, and how many requests were turned
+/// names, each line as soon as its request is known to be the next. At the end it says on `err` how many events without a
+/// user's name were left out, that a last line was left out, as one that is still written, how many requests were turned
 /// away, and that the options choose none.
 ///
 /// # Errors
 ///
-/// `LongSchema` if its name has more than 4096 bytes, `BadBy` and `BadInstant` if the choice is none; then the faults of
-/// the log; `Unreadable` if the trace has more bytes than the commands on a trace read; then those of the output.
+/// `LongSchema` if its name has more than 4096 bytes, `BadBy` and `BadInstant` if the choice is none; then the first fault of
+/// the log, behind the lines of the requests before it; those of the output.
 pub(crate) fn print_trace<F: Files, O: Write, E: Write>(
     alloc: Global,
     files: &mut F,
@@ -74,19 +131,15 @@ pub(crate) fn print_trace<F: Files, O: Write, E: Write>(
         return Err(Fault::LongSchema);
     }
     let choice = choice_of(chosen)?;
-    let bytes = match read_input(files, Input::AuditLog, log) {
-        Ok(bytes) => bytes,
+    let mut input = match open_input(files, Input::AuditLog, log) {
+        Ok(input) => input,
         Err(fault) => return Err(named(alloc, log, fault)),
     };
-    let requests = match read_audit_log(alloc, bytes.as_slice(), &choice) {
-        Ok(requests) => requests,
-        Err(fault) => return Err(audit_fault(alloc, bytes.as_slice(), fault)),
-    };
-    let mut size = Measure::new();
-    write_trace(schema, requests.as_slice(), &mut size).map_err(|_| Fault::CannotWrite)?;
-    size.judge(Input::Trace)?;
-    note_cut(alloc, bytes.as_slice(), err)?;
-    note_turned_away(requests.as_slice(), err);
-    note_nothing_chosen(chosen, requests.as_slice(), err);
-    write_trace(schema, requests.as_slice(), out).map_err(|_| Fault::CannotWrite)
+    let mut reader = AuditReader::new(alloc, WINDOW)?;
+    let printed = print_requests(alloc, &mut reader, &mut input, names, &choice, out)?;
+    note_unnamed(reader.unnamed(), err);
+    note_cut(reader.is_cut(), err);
+    note_turned_away(printed, err);
+    note_nothing_chosen(chosen, printed, err);
+    Ok(())
 }

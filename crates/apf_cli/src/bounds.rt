@@ -2,9 +2,9 @@
 
 use crate::faults::Fault;
 use crate::files::Files;
+use crate::streaming::print_simulation;
 use crate::traces::{
-    Way, charge_of, charge_or_usual, patience_of, print_simulation, read_both, simulated_on,
-    write_simulation,
+    Way, charge_of, charge_or_usual, patience_of, read_both, simulated_on, write_simulation,
 };
 use apf_bound::Sides;
 use apf_charges::ChargedBy;

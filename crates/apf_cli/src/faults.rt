@@ -67,6 +67,12 @@ pub enum Fault {
     Level(ReplayFault),
     /// In a simulation nothing is due any more, and a request still waits. It has never been seen.
     StillWaits,
+    /// At the arrival of the request of this line of a trace, at this time in microseconds, too many are there at once.
+    Crowded(u64, u64),
+    /// A request of a simulation would finish later than anything is carried out.
+    TooFar,
+    /// A simulation has more requests than can be counted.
+    TooMany,
     CannotRead(Input, Cause),
     /// The file has more bytes than it may have, and begins with these.
     TooLarge(Input, Vec<u8>),
@@ -110,6 +116,9 @@ impl Fault {
             | Fault::Told(_)
             | Fault::Level(_)
             | Fault::StillWaits
+            | Fault::Crowded(_, _)
+            | Fault::TooFar
+            | Fault::TooMany
             | Fault::CannotRead(_, _)
             | Fault::CannotReadCommands
             | Fault::TooLarge(_, _)
@@ -278,6 +287,14 @@ impl fmt::Display for Fault {
             Fault::RequestAndLog => f.write_str("apf: --log goes with no other option"),
             Fault::Level(fault) => write!(f, "apf: the level can't be opened: {fault}"),
             Fault::StillWaits => f.write_str("apf: a request still waits, and no seat is taken"),
+            Fault::Crowded(line, at) => write!(
+                f,
+                "apf: at line {line}, at {at}, more than 10000 requests are there at once"
+            ),
+            Fault::TooFar => {
+                f.write_str("apf: a request would finish after 200000000 seconds, the latest time")
+            }
+            Fault::TooMany => f.write_str("apf: there are more requests than can be counted"),
             Fault::CannotRead(input, _) => write!(f, "apf: cannot read {input}"),
             Fault::TooLarge(input, _) => {
                 let most = input.most();

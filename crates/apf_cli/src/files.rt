@@ -8,6 +8,7 @@ ghost use Rattle.apf_cli.specs.Sizes.{most_bytes};
 use crate::faults::Fault;
 use apf_flows::write_escaped;
 use std::alloc::Global;
+use std::io::Read;
 use std::{fmt, io};
 
 /// The name that stands for standard input. A file of this name is `./-`.
@@ -110,14 +111,70 @@ pub trait Files {
         ensures within { IfOk result (λ bytes. vec_len bytes ≤ most) }
         ensures held { IfOk result (λ bytes. holds (codes "-") bytes.items) };
 
-    /// Reads the next bytes of standard input, as many as there are and there is room for. Tells how many; none at its
-    /// end.
+    /// Opens the file of this name: `read_some` reads it from then on, from its beginning.
+    ///
+    /// # Errors
+    ///
+    /// `CannotRead`, or `NoMemory`.
+    fn open(&mut self, name: &str) -> Result<(), FileFault>;
+
+    /// Reads the next bytes of the file that was opened last, or of standard input if none was, as many as there are and
+    /// there is room for. Tells how many; none at its end.
     ///
     /// # Errors
     ///
     /// The system's.
     fn read_some(&mut self, into: &mut [u8]) -> io::Result<usize>
         ensures bound { ReadsAtMost result into.new };
+}
+
+/// What `read_some` reads, as it comes.
+#[derive(Drop)]
+pub(crate) struct Source<'a, F: Files> {
+    files: &'a mut F,
+}
+
+impl<'a, F: Files> Source<'a, F> {
+    /// Standard input, or the file that was opened last.
+    pub(crate) fn of(files: &'a mut F) -> Source<'a, F> {
+        Source { files }
+    }
+}
+
+impl<F: Files> Read for Source<'_, F> {
+    fn read(&mut self, buf: &mut [u8]) -> io::Result<usize> {
+        self.files.read_some(buf)
+    }
+}
+
+/// Why the system does not let a file be read, by the error that it gave.
+pub fn cause_of(error: &io::Error) -> Cause {
+    match error.kind() {
+        io::ErrorKind::NotFound => Cause::Absent,
+        io::ErrorKind::PermissionDenied => Cause::NotAllowed,
+        io::ErrorKind::IsADirectory => Cause::Folder,
+        _ => Cause::Other,
+    }
+}
+
+/// The file of the command line of this name, or standard input if the name is `-`, to be read in pieces.
+///
+/// # Errors
+///
+/// `CannotRead`, or `NoMemory`.
+pub(crate) fn open_input<'a, F: Files>(
+    files: &'a mut F,
+    input: Input,
+    name: &str,
+) -> Result<Source<'a, F>, Fault> {
+    if name == STANDARD_INPUT {
+        return Ok(Source::of(files));
+    }
+    match files.open(name) {
+        Ok(()) => Ok(Source::of(files)),
+        Err(FileFault::CannotRead(cause)) => Err(Fault::CannotRead(input, cause)),
+        Err(_) => Err(Fault::NoMemory),
+    }
 }
 
 /// The name of a file as a person is told it: escaped as in a JSON text, and where a terminal would obey a character.

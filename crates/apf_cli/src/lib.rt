@@ -5,7 +5,8 @@
 //! - `files`: where the files' bytes come from.
 //! - `reading`: reads and judges the files of a level, and says what is wrong with one. `explaining` prints that, and
 //!   `telling` says it of other files.
-//! - `traces`, `comparing`, `pictures`, `bounds`: do the commands on a trace. `audits`: does that on an audit log.
+//! - `streaming`: simulates a trace that is read in pieces. `traces`, `comparing`, `pictures`, `bounds`: do the other commands on a
+//!   trace. `audits`: does that on an audit log.
 //! - `running`: runs requests by workers. `serving`: serves a level over standard input.
 //! - `measuring`: how large an output will be, before its first byte. `notes`: the lines beside an output.
 //! - `program`: does the others, and answers the status.
@@ -26,9 +27,10 @@ mod program;
 mod reading;
 mod running;
 mod serving;
+mod streaming;
 mod telling;
 mod traces;
 
 pub use apf_commands::{Action, Arguments, Chosen, read_patience, read_words};
-pub use files::{Cause, FileFault, Files};
+pub use files::{Cause, FileFault, Files, cause_of};
 pub use program::act;

@@ -1,47 +1,48 @@
 //! Lines on standard error beside what a command prints. A write of them that fails changes nothing.
 
-use crate::faults::Fault;
-use apf_audit::{AuditRequest, count_turned_away, ends_early};
+use crate::audits::Printed;
 use apf_commands::Chosen;
 use apf_flows::write_text;
-use std::alloc::Global;
 use std::io::{IsTerminal, Write};
 
+/// Says how many events of a log were left out, as they have no name of a user.
+pub(crate) fn note_unnamed<E: Write>(count: u64, err: &mut E) {
+    if count > 0 {
+        let _ = writeln!(
+            err,
+            "apf: events without a user's name, as of a failed login, are left out: {count}"
+        );
+    }
+}
+
 /// Says that the last line of a log was left out, where it was.
-///
-/// # Errors
-///
-/// `NoMemory` if memory was refused.
-pub(crate) fn note_cut<E: Write>(alloc: Global, bytes: &[u8], err: &mut E) -> Result<(), Fault> {
-    if ends_early(alloc, bytes)? {
+pub(crate) fn note_cut<E: Write>(is_cut: bool, err: &mut E) {
+    if is_cut {
         let _ = writeln!(
             err,
             "apf: the last line is left out: it has no LF at its end, and is not whole JSON"
         );
     }
-    Ok(())
 }
 
 /// Says how many requests were turned away, if any were.
-pub(crate) fn note_turned_away<E: Write>(requests: &[AuditRequest], err: &mut E) {
-    let count = count_turned_away(requests);
-    if count > 0 {
-        let all = requests.len();
+pub(crate) fn note_turned_away<E: Write>(printed: Printed, err: &mut E) {
+    let Printed {
+        requests,
+        turned_away,
+    } = printed;
+    if turned_away > 0 {
         let _ = writeln!(
             err,
-            "apf: {count} of {all} requests were turned away with status 429: each gets the median runsFor of those of its flow that ran, or of all that ran"
+            "apf: {turned_away} of {requests} requests were turned away with status 429: each gets the median runsFor of those of its flow that ran, or of all that ran"
         );
     }
 }
 
 /// Says that the options choose no request of a log, if they don't.
-pub(crate) fn note_nothing_chosen<E: Write>(
-    chosen: &Chosen<'_>,
-    requests: &[AuditRequest],
-    err: &mut E,
-) {
+pub(crate) fn note_nothing_chosen<E: Write>(chosen: &Chosen<'_>, printed: Printed, err: &mut E) {
     let is_choice = chosen.user.is_some() || chosen.since.is_some() || chosen.until.is_some();
-    if is_choice && requests.is_empty() {
+    if is_choice && printed.requests == 0 {
         let _ = writeln!(
             err,
             "apf: nothing matched: the options choose no request of the log"

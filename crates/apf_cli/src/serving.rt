@@ -4,27 +4,14 @@ ghost use Rattle.std.specs.Prelude.{◌≡◌, IfOk, IfErr};
 ghost use Rattle.apf_cli.specs.Choices.{IsChargeFor, IsNoChargeFor};
 
 use crate::faults::Fault;
-use crate::files::{Files, STANDARD_INPUT};
+use crate::files::{Files, STANDARD_INPUT, Source};
 use crate::reading::{config_of, level_fault};
 use apf_charges::ChargedBy;
 use apf_local::OpenFault;
 use apf_run::ReplayFault;
 use apf_service::{ServeFault, serve};
 use std::alloc::Global;
-use std::io;
-use std::io::{Read, Write};
-
-// Standard input, as it comes.
-#[derive(Drop)]
-struct Commands<'a, F: Files> {
-    files: &'a mut F,
-}
-
-impl<F: Files> Read for Commands<'_, F> {
-    fn read(&mut self, buf: &mut [u8]) -> io::Result<usize> {
-        self.files.read_some(buf)
-    }
-}
+use std::io::Write;
 
 impl From<OpenFault> for Fault {
     fn from(fault: OpenFault) -> Fault {
@@ -84,7 +71,7 @@ pub(crate) fn print_served<F: Files, O: Write>(
         return Err(Fault::CommandsOnInput);
     }
     let config = config_of(alloc, files, level.config)?;
-    let mut commands = Commands { files };
+    let mut commands = Source::of(files);
     match serve(
         alloc,
         &config,

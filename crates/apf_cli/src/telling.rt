@@ -1,13 +1,18 @@
 //! Lines on standard error that say of a file what is wrong with it.
 
-ghost use Rattle.apf_cli.specs.Told.{IsTraceTold, IsAuditTold};
+ghost use Rattle.apf_cli.specs.Told.{IsTraceTold, IsAuditTold, IsAuditLineTold};
 
 use crate::faults::Fault;
 use crate::files::shown;
 use apf_audit::AuditFault;
-use apf_explain::{explain_audit_log, explain_trace};
+use apf_explain::{explain_audit_line, explain_audit_log, explain_trace, explain_trace_line};
+use apf_trace_reader::TraceReader;
 use apf_traces::TraceFault;
-use std::alloc::Global;
+use std::alloc::{AllocError, Global};
+use std::io::Read;
+
+// How much of a file is looked at to tell what it is, where it is no trace: a config has at most 64 KiB.
+const MOST_FRONT: usize = 65_537;
 
 /// The fault of a trace, with the line that says what stands there and what may stand there.
 pub(crate) fn trace_fault(alloc: Global, bytes: &[u8], fault: TraceFault) -> Fault
@@ -20,12 +25,61 @@ pub(crate) fn trace_fault(alloc: Global, bytes: &[u8], fault: TraceFault) -> Fau
     }
 }
 
+// What the input has of the file whose first line was read, up to 64 KiB: that line, what is read behind it, and what follows.
+fn front_of<R: Read>(
+    alloc: Global,
+    reader: &TraceReader,
+    input: &mut R,
+) -> Result<Vec<u8>, AllocError> {
+    let mut front = reader.line().to_vec(alloc)?;
+    front.push(b'\n')?;
+    front.extend_from_slice(reader.behind())?;
+    if front.len() <= MOST_FRONT {
+        let room = (MOST_FRONT - front.len()) as u64;
+        // what can't be read is no part of it
+        let _ = input.take(room).read_to_end(&mut front);
+    }
+    Ok(front)
+}
+
+/// The fault of a trace that is read in pieces, with the line that says what stands there and what may stand there. The reader
+/// has read from the input.
+pub(crate) fn trace_line_fault<R: Read>(
+    alloc: Global,
+    reader: &TraceReader,
+    input: &mut R,
+    fault: TraceFault,
+) -> Fault {
+    if fault == TraceFault::NotUtf8Json(1) {
+        return match front_of(alloc, reader, input) {
+            Ok(front) => trace_fault(alloc, front.as_slice(), fault),
+            Err(_) => Fault::NoMemory,
+        };
+    }
+    let mut line = Vec::new(alloc);
+    match explain_trace_line(alloc, reader.line(), fault, &mut line) {
+        Ok(()) => Fault::Told(line),
+        Err(_) => Fault::NoMemory,
+    }
+}
+
 /// The fault of an audit log, with such a line.
 pub(crate) fn audit_fault(alloc: Global, bytes: &[u8], fault: AuditFault) -> Fault
     ensures { IsAuditTold bytes.now fault result }
 {
     let mut line = Vec::new(alloc);
     match explain_audit_log(alloc, bytes, fault, &mut line) {
+        Ok(()) => Fault::Told(line),
+        Err(_) => Fault::NoMemory,
+    }
+}
+
+/// The fault of an audit log that is read in pieces, whose line has these bytes, with such a line.
+pub(crate) fn audit_line_fault(alloc: Global, bytes: &[u8], fault: AuditFault) -> Fault
+    ensures { IsAuditLineTold bytes.now fault result }
+{
+    let mut line = Vec::new(alloc);
+    match explain_audit_line(alloc, bytes, fault, &mut line) {
         Ok(()) => Fault::Told(line),
         Err(_) => Fault::NoMemory,
     }

@@ -207,28 +207,12 @@ pub(crate) fn write_simulation<O: Write>(
         .map_err(|_| Fault::CannotWrite)
 }
 
-/// Simulates the trace on the level of the config, and prints what its flows met and the book.
+/// Simulates the trace on the level of the config, and prints the script of the simulation.
 ///
 /// # Errors
 ///
 /// The faults of the patience and of what requests are charged, then those of the files in the order config, trace, then
 /// those of the level, then those of the output.
-pub(crate) fn print_simulation<F: Files, O: Write>(
-    alloc: Global,
-    files: &mut F,
-    names: (&str, &str),
-    way: Way<'_>,
-    out: &mut O,
-) -> Result<(), Fault> {
-    let (_config, trace, simulation) = simulated(alloc, files, names, way)?;
-    write_simulation(trace.as_slice(), &simulation, out)
-}
-
-/// Simulates the trace on the level of the config, and prints the script of the simulation.
-///
-/// # Errors
-///
-/// As for `print_simulation`.
 pub(crate) fn print_timeline<F: Files, O: Write>(
     alloc: Global,
     files: &mut F,

@@ -6,6 +6,7 @@ use crate::screen::Screen;
 use apf_cli::{Cause, FileFault, Files, act};
 use std::alloc::Global;
 use std::io;
+use std::io::Read;
 use std::process::Abort;
 use std::sync::Wait;
 use std::thread::Threads;
@@ -22,6 +23,8 @@ pub struct Memory<'a> {
     pub config: &'a str,
     pub requests: &'a str,
     pub script: &'a str,
+    // what is left to be read of the file that was opened
+    pub rest: &'a [u8],
 }
 
 // The text's bytes, if they are at most `most`.
@@ -38,15 +41,21 @@ fn bytes_of(alloc: Global, text: &str, most: u32) -> Result<Vec<u8>, FileFault>
     Ok(bytes)
 }
 
+impl<'a> Memory<'a> {
+    // The text of the file of this name.
+    fn text(&self, name: &str) -> Result<&'a str, FileFault> {
+        match name {
+            "config" => Ok(self.config),
+            "requests" | "trace" => Ok(self.requests),
+            "script" => Ok(self.script),
+            _ => Err(FileFault::CannotRead(Cause::Absent)),
+        }
+    }
+}
+
 impl Files for Memory<'_> {
     fn read(&mut self, name: &str, most: u32) -> Result<Vec<u8>, FileFault> {
-        let text = match name {
-            "config" => self.config,
-            "requests" | "trace" => self.requests,
-            "script" => self.script,
-            _ => return Err(FileFault::CannotRead(Cause::Absent)),
-        };
-        bytes_of(self.alloc, text, most)
+        bytes_of(self.alloc, self.text(name)?, most)
     }
 
     // Standard input has the script.
@@ -54,9 +63,14 @@ impl Files for Memory<'_> {
         bytes_of(self.alloc, self.script, most)
     }
 
-    // Bit by bit it has nothing: the commands of `serve` end at once.
-    fn read_some(&mut self, _into: &mut [u8]) -> io::Result<usize> {
-        Ok(0)
+    fn open(&mut self, name: &str) -> Result<(), FileFault> {
+        self.rest = self.text(name)?.as_bytes();
+        Ok(())
+    }
+
+    // Where no file was opened, there is nothing: the commands of `serve` end at once.
+    fn read_some(&mut self, into: &mut [u8]) -> io::Result<usize> {
+        self.rest.read(into)
     }
 }
 
@@ -103,6 +117,7 @@ fn replays(rt: HostRuntime) {
             config: "{\"limit\":1}",
             requests,
             script,
+            rest: &[],
         };
         check(&rt, files, &words, false, 0, out, "");
     }
@@ -127,6 +142,7 @@ fn explains(rt: HostRuntime) {
             config: "{\"limit\":0}",
             requests: "",
             script: "",
+            rest: &[],
         };
         check(&rt, files, words, is_terminal, 1, "", err);
     }

@@ -39,6 +39,7 @@ fn files_of(alloc: Global, trace: &'static str) -> Memory<'static> {
         config: CONFIG,
         requests: trace,
         script: "",
+        rest: &[],
     }
 }
 
@@ -119,6 +120,7 @@ fn line_without_room(rt: HostRuntime) -> Result<(), AllocError> {
         config: "[]",
         requests: "",
         script: "",
+        rest: &[],
     };
     let whole = "config: a config is a JSON object, but this is an array\n".len();
     for room in 0..whole {

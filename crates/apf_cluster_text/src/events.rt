@@ -16,14 +16,14 @@ use std::io::Write;
 /// Why an audit log was not matched. Lines are counted from 1.
 #[derive(Clone, Copy, Debug, PartialEq, Eq)]
 pub enum LogFault {
-    /// The line has more than 8,388,608 bytes.
-    TooLong(usize),
+    /// The line has more than 1,048,576 bytes.
+    TooLong(u64),
     /// The line is no JSON text in UTF-8.
-    NotJson(usize),
+    NotJson(u64),
     /// The value is no object with the texts `stage` and `verb`.
-    NotEvent(usize),
+    NotEvent(u64),
     /// The event has no name of a user.
-    BadUser(usize),
+    BadUser(u64),
     /// Memory was refused.
     NoMemory,
     /// The output can't be written.
@@ -79,7 +79,7 @@ fn write_request<W: Write>(
     out: &mut W,
     cluster: &Cluster,
     request: &Request<'_>,
-    line: usize,
+    line: u64,
 ) -> io::Result<()>
     requires { HasCatchAll cluster.now }
 {
@@ -100,7 +100,7 @@ fn write_of_user<W: Write>(
     cluster: &Cluster,
     event: &Value,
     of_user: &Value,
-    line: usize,
+    line: u64,
 ) -> Result<(), LogFault>
     requires { HasCatchAll cluster.now }
 {
@@ -142,7 +142,7 @@ fn write_event<W: Write>(
     out: &mut W,
     cluster: &Cluster,
     event: &Value,
-    line: usize,
+    line: u64,
 ) -> Result<(), LogFault>
     requires { HasCatchAll cluster.now }
 {

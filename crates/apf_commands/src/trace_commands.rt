@@ -15,9 +15,10 @@ CONFIG alone. This is a simulation of that level by this project's rules, and no
 no clock runs, a dispatch is charged a number that is known before, and no level borrows or lends.
 
 CONFIG is that of apf replay; apf replay --help says what it holds.
-TRACE is JSON Lines: one JSON object a line, each line ended by LF, in any order of time. At most
-10000 lines of at most 65536 bytes. Its requests are numbered from 0. Times are whole microseconds
-from the trace's beginning:
+TRACE is JSON Lines: one JSON object a line, each line ended by LF, of at most 65536 bytes, in any
+order of time. Of more than 131072 lines, each may come up to 131072 places late. fates, timeline,
+picture, requests and hands take at most 10000 lines. At most 10000 requests may be there at once.
+Requests are numbered from 0. Times are whole microseconds from the trace's beginning:
   arrivesAt         when the request arrives, 0 to 1000000000000; must be there
   runsFor           how long it holds its seats, 0 to 10000000000; must be there
   hash              the flow, 0 to 18446744073709551615; or else both of
@@ -291,7 +292,9 @@ Then a line for each schema, in the order in which they are tried:
   dangling     stands at the end of a schema whose level is not there: it is never tried
 
 Example:
-  $ apf objects examples/cluster/objects.json --seats 600
+  $ apf objects examples/cluster/objects.json --seats 600 | grep global-default
+  level global-default nominal 49 limits 24..649 queues 128 hand 6 length 50
+  schema global-default precedence 9900 level global-default by user
 
 Status: 0 done, 1 a file's fault or output that can't be written, 2 a command line's fault,
 3 no memory.",
@@ -325,8 +328,11 @@ exactly if objectRef is there; else its path is requestURI before ?.
 
 Examples:
   $ apf match examples/cluster/objects.json --user alice --groups system:authenticated \\
-      --verb list --resource pods --namespace shop
-  $ apf match examples/cluster/objects.json --log examples/audit/audit.log
+  >   --verb list --resource pods --namespace shop | grep -o 'hash.*'
+  hash f4de3bd42ccdf6b7 of \"alice\" hand 55 62 126 125 105 1
+  $ apf match examples/cluster/objects.json --log examples/audit/audit.log | sed -n 1,2p
+  2 global-default global-default \"kubernetes-admin\"
+  3 kube-system-service-accounts workload-high \"default\"
 
 Status: 0 done, 1 a file's fault or output that can't be written, 2 a command line's fault,
 3 no memory.",

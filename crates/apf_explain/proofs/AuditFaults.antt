@@ -1,30 +1,24 @@
 -- What the fault of an audit log says of the line that it names.
 use Rattle.std.proofs.Common.{subst, ◌≡◌, ◌⊎◌, inl, inr, ℕ, suc, ◌+◌, ◌-◌, ◌<◌, List, [], ◌∷◌, length, Bool, true, false, cond, Option, Some, None, Result, Ok, Err, codes, refl, sym, ap, arith}
-use Rattle.std.specs.Prelude.{nat_le, option_and_then}
+use Rattle.std.specs.Prelude.{is_none, nat_le, option_and_then}
 use Rattle.serde_json.specs.Data.{Data}
 use Rattle.serde_json.specs.Find.{get, as_str}
 use Rattle.apf_files.specs.FirstFault.{◌>>=◌, or_fault}
-use Rattle.apf_words.specs.Limits.{max_requests}
 use Rattle.apf_files.specs.JsonFile.{text_at, value_of}
-use Rattle.apf_times.specs.Limits.{max_arrival}
-use Rattle.apf_traces.specs.TraceFile.{Line, lines_of}
-use Rattle.apf_audit.specs.Arrivals.{arrived, earliest, entries_from, latest}
-use Rattle.apf_audit.specs.AuditEvent.{Event, event_by, event_of, flow_of, instant_at, is_taken, name_by, namespace_by, namespace_of, ran_at, run_at, run_by, short, taken_by, taken_of, text_within, user_of, wait_at, wait_by, was_turned_away, max_name}
+use Rattle.apf_traces.specs.TraceFile.{Line}
+use Rattle.apf_audit.specs.AuditEvent.{event_by, event_of, flow_of, instant_at, is_taken, is_unnamed, name_by, name_found, namespace_by, namespace_of, ran_at, run_at, run_by, short, taken_by, taken_of, text_within, user_of, wait_at, wait_by, was_turned_away, max_name}
 use Rattle.apf_audit.specs.AuditFaults.{line_of}
-use Rattle.apf_audit.specs.AuditLog.{before_taken, events_from, events_of, is_unfinished, judged_by, judged_line, log_of, max_line, requests_by}
+use Rattle.apf_audit.specs.AuditLog.{is_unfinished, judged_by, judged_line, max_line}
 use Rattle.apf_audit.specs.Choice.{is_chosen}
-use Rattle.apf_audit.specs.Runs.{run_in}
 use Rattle.apf_audit.specs.Times.{instant_of, run_of}
 use Rattle.apf_audit.specs.declared.choice.By.{By}
 use Rattle.apf_audit.specs.declared.choice.By.TheVariants.{User, Namespace}
 use Rattle.apf_audit.specs.declared.choice.Choice.{Choice}
 use Rattle.apf_audit.specs.declared.fault.AuditFault.{AuditFault}
-use Rattle.apf_audit.specs.declared.fault.AuditFault.TheVariants.{TooLong, NotUtf8Json, NotEvent, BadUser, BadNamespace, BadReceived, BadStage, BadWait, BadRun, TooMany, BadArrival, NoMemory}
+use Rattle.apf_audit.specs.declared.fault.AuditFault.TheVariants.{TooLong, NotUtf8Json, NotEvent, BadUser, BadNamespace, BadReceived, BadStage, BadWait, BadRun, BadArrival, NoMemory, TooLate}
 use Rattle.apf_explain.specs.declared.wanted.Wanted.TheVariants.{Name, Instant, Wait}
-use Rattle.apf_explain.specs.TraceLines.{nth_line}
 use Rattle.apf_explain.specs.TraceShown.{IsUnwantedIfThere}
-use Rattle.apf_explain.specs.AuditShown.{IsUnwantedThere, name_found, IsEventShown, IsEventLineShown, IsOneOf, IsAuditShown}
-use Rattle.apf_explain.proofs.RequestFaults.{before_err}
+use Rattle.apf_explain.specs.AuditShown.{IsUnwantedThere, IsEventShown, IsEventLineShown, IsAuditShown}
 use Rattle.apf_explain.proofs.Steps.{stepped, none_there}
 use Rattle.apf_explain.proofs.TraceFaults.{above, stepped_by}
 
@@ -57,27 +51,24 @@ instant_by key d (Some v) at h = let none = rw at at h in rw (into (as_str v) no
     into : (o : Option (List ℕ)) → option_and_then instant_of o ≡ None → option_and_then instant_of o ≡ None
     into o e = e
 
-name_of_user : (o : Option Data) → option_and_then short (option_and_then (λ (u : Data). option_and_then as_str (get (codes "username") u)) o) ≡ None
-    → IsUnwantedIfThere (Name max_name) (option_and_then (get (codes "username")) o)
-name_of_user None h = tt
-name_of_user (Some u) h = name_at (get (codes "username") u) h
-  where
-    name_at : (v : Option Data) → option_and_then short (option_and_then as_str v) ≡ None → IsUnwantedIfThere (Name max_name) v
-    name_at None h = tt
-    name_at (Some v) h = rw h refl
+name_at : (v : Option Data) → is_none v ≡ false → option_and_then short (option_and_then as_str v) ≡ None → IsUnwantedThere (Name max_name) v
+name_at None there h = absurd cc
+name_at (Some v) there h = rw h refl
 
-user_by : (d : Data) (o : Option Data) → option_and_then short (name_by d o) ≡ None → IsUnwantedIfThere (Name max_name) (name_found d o)
+user_by : (d : Data) (o : Option Data) → is_none (name_found d o) ≡ false → option_and_then short (name_by d o) ≡ None → IsUnwantedThere (Name max_name) (name_found d o)
 unfolding text_within text_at
-user_by d None h = name_of_user (get (codes "user") d) h
-user_by d (Some i) h = name_at (get (codes "username") i) h
+user_by d None there h = of_user (get (codes "user") d) there h
   where
-    name_at : (v : Option Data) → option_and_then short (option_and_then as_str v) ≡ None → IsUnwantedIfThere (Name max_name) v
-    name_at None h = tt
-    name_at (Some v) h = rw h refl
+    of_user : (o : Option Data) → is_none (option_and_then (get (codes "username")) o) ≡ false
+        → option_and_then short (option_and_then (λ (u : Data). option_and_then as_str (get (codes "username") u)) o) ≡ None
+        → IsUnwantedThere (Name max_name) (option_and_then (get (codes "username")) o)
+    of_user None there h = absurd cc
+    of_user (Some u) there h = name_at (get (codes "username") u) there h
+user_by d (Some i) there h = name_at (get (codes "username") i) there h
 
-user_shown : (d : Data) → user_of d ≡ None → IsUnwantedIfThere (Name max_name) (name_found d (get (codes "impersonatedUser") d))
-unfolding user_of
-user_shown d h = user_by d (get (codes "impersonatedUser") d) h
+user_shown : (d : Data) → is_unnamed d ≡ false → user_of d ≡ None → IsUnwantedThere (Name max_name) (name_found d (get (codes "impersonatedUser") d))
+unfolding user_of is_unnamed
+user_shown d there h = user_by d (get (codes "impersonatedUser") d) there h
 
 namespace_shown : (o : Option Data) → namespace_by o ≡ None → IsUnwantedThere (Name max_name) o
 namespace_shown None h = absurd cc
@@ -133,11 +124,11 @@ chosen_shown true n received flow d fault from h =
     stepped (ran_at n received flow d) _ fault h (λ e. ran_shown n received flow d fault from e) (λ _ h1. absurd cc)
 chosen_shown false n received flow d fault from h = absurd cc
 
-taken_shown : (choice : Choice) (n : ℕ) (d : Data) (fault : AuditFault) → taken_of choice n d ≡ Err fault → IsEventAt n d fault
+taken_shown : (choice : Choice) (n : ℕ) (d : Data) (fault : AuditFault) → is_unnamed d ≡ false → taken_of choice n d ≡ Err fault → IsEventAt n d fault
 unfolding taken_of
-taken_shown choice n d fault h =
+taken_shown choice n d fault there h =
     stepped (or_fault (BadUser n) (user_of d)) _ fault h
-    (λ e. at_step n d (user_of d) (BadUser n) fault e (λ no. (refl, user_shown d no))) (λ user h1.
+    (λ e. at_step n d (user_of d) (BadUser n) fault e (λ no. (refl, user_shown d there no))) (λ user h1.
     stepped (or_fault (BadNamespace n) (flow_of choice.by user d)) _ fault h1
     (λ e. at_step n d (flow_of choice.by user d) (BadNamespace n) fault e (λ no. (refl, flow_shown choice.by user d no))) (λ flow h2.
     stepped_by (or_fault (BadReceived n) (instant_at (codes "requestReceivedTimestamp") d)) _ fault h2
@@ -149,20 +140,21 @@ event_shown : (choice : Choice) (n : ℕ) (d : Data) (fault : AuditFault) → ev
 unfolding event_of is_taken
 event_shown choice n d fault h = go (taken_by (text_at (codes "stage") d) (text_at (codes "verb") d) (text_within (codes "objectRef") (codes "subresource") d)) refl h
   where
+    named : (b : Bool) → is_unnamed d ≡ b → cond b (Ok None) (taken_of choice n d) ≡ Err fault → IsEventAt n d fault
+    named true is h = absurd cc
+    named false is h = taken_shown choice n d fault is h
+
     go : (o : Option Bool) → taken_by (text_at (codes "stage") d) (text_at (codes "verb") d) (text_within (codes "objectRef") (codes "subresource") d) ≡ o
         → event_by choice n d o ≡ Err fault → IsEventAt n d fault
     go None is h =
         let same : NotEvent n ≡ fault = cc in
         subst (λ (g : AuditFault). IsEventAt n d g) same (refl, no_event _ _ _ is)
     go (Some false) is h = absurd cc
-    go (Some true) is h = taken_shown choice n d fault h
+    go (Some true) is h = named (is_unnamed d) refl h
 
 -- ---- one line
 
-abbrev IsLineAt : ℕ → Line → AuditFault → Type 0
-IsLineAt n line fault = (line_of fault ≡ Some n) × IsEventLineShown line fault
-
-of_value : (n : ℕ) (line : Line) (d : Data) (fault : AuditFault) → value_of line.bytes ≡ Some d → IsEventAt n d fault → IsLineAt n line fault
+of_value : (n : ℕ) (line : Line) (d : Data) (fault : AuditFault) → value_of line.bytes ≡ Some d → IsEventAt n d fault → IsAuditShown n line fault
 of_value n line d (NotEvent m) is h = (h.0, (d, is, h.1))
 of_value n line d (BadUser m) is h = (h.0, (d, is, h.1))
 of_value n line d (BadNamespace m) is h = (h.0, (d, is, h.1))
@@ -172,107 +164,25 @@ of_value n line d (BadWait m) is h = (h.0, (d, is, h.1))
 of_value n line d (BadRun m) is h = (h.0, (d, is, h.1))
 of_value n line d (TooLong m) is h = absurd h.1
 of_value n line d (NotUtf8Json m) is h = absurd h.1
-of_value n line d (TooMany count first last) is h = absurd h.1
-of_value n line d (BadArrival m) is h = absurd h.1
+of_value n line d (BadArrival m after) is h = absurd h.1
 of_value n line d NoMemory is h = absurd h.1
+of_value n line d (TooLate m) is h = absurd h.1
 
 judged_shown : (choice : Choice) (n : ℕ) (line : Line) (cut : Bool) (o : Option Data) (fault : AuditFault) → is_unfinished line ≡ cut
-    → value_of line.bytes ≡ o → judged_by choice n cut o ≡ Err fault → IsLineAt n line fault
+    → value_of line.bytes ≡ o → judged_by choice n cut o ≡ Err fault → IsAuditShown n line fault
 judged_shown choice n line cut (Some d) fault unfinished is h = of_value n line d fault is (event_shown choice n d fault h)
 judged_shown choice n line false None fault unfinished is h =
     let same : NotUtf8Json n ≡ fault = cc in
-    subst (λ (g : AuditFault). IsLineAt n line g) same (refl, (is, unfinished))
+    subst (λ (g : AuditFault). IsAuditShown n line g) same (refl, (is, unfinished))
 judged_shown choice n line true None fault unfinished is h = absurd cc
 
-line_shown : (choice : Choice) (n : ℕ) (line : Line) (fault : AuditFault) → judged_line choice n line ≡ Err fault → IsLineAt n line fault
+pub line_shown : (choice : Choice) (n : ℕ) (line : Line) (fault : AuditFault) → judged_line choice n line ≡ Err fault → IsAuditShown n line fault
 unfolding judged_line
 line_shown choice n line fault h = go (nat_le (length line.bytes) max_line) refl h
   where
     go : (b : Bool) → nat_le (length line.bytes) max_line ≡ b → cond b (judged_by choice n (is_unfinished line) (value_of line.bytes)) (Err (TooLong n)) ≡ Err fault
-        → IsLineAt n line fault
+        → IsAuditShown n line fault
     go true short h = judged_shown choice n line (is_unfinished line) (value_of line.bytes) fault refl refl h
     go false long h =
         let same : TooLong n ≡ fault = cc in
-        subst (λ (g : AuditFault). IsLineAt n line g) same (refl, above (length line.bytes) max_line long)
-
--- ---- all lines
-
-abbrev IsShownFrom : ℕ → List Line → AuditFault → Type 0
-IsShownFrom n lines fault = (j : ℕ) × ((line : Line) × (nth_line j lines ≡ Some line) × IsLineAt (n + j + 1) line fault)
-
-before_taken_err : {A F C : Type 0} (r : Result (Option A) F) (others : Result (List A) F) (fault : F) → before_taken r others ≡ Err fault
-    → (r ≡ Err fault → C) → (others ≡ Err fault → C) → C
-before_taken_err (Err f) others fault h here later = let same : f ≡ fault = cc in here (rw same refl)
-before_taken_err (Ok None) others fault h here later = later h
-before_taken_err (Ok (Some x)) (Err f) fault h here later = let same : f ≡ fault = cc in later (rw same refl)
-before_taken_err (Ok (Some x)) (Ok xs) fault h here later = absurd cc
-
-lines_shown : (choice : Choice) (n : ℕ) (lines : List Line) (fault : AuditFault) → events_from choice (n + 1) lines ≡ Err fault → IsShownFrom n lines fault
-lines_shown choice n [] fault h = absurd cc
-lines_shown choice n (line ∷ lines) fault h =
-    before_taken_err (judged_line choice (n + 1) line) (events_from choice (n + 1 + 1) lines) fault h
-    (λ e. let here : n + 0 + 1 ≡ n + 1 = omega arith in
-    (0, (line, refl, rw here (line_shown choice (n + 1) line fault e))))
-    (λ e. let rest = lines_shown choice (n + 1) lines fault e in
-    let next : n + suc rest.0 + 1 ≡ n + 1 + rest.0 + 1 = omega arith in
-    (suc rest.0, (rest.1.0, rest.1.1, rw next rest.1.2)))
-
--- ---- the whole log
-
-late_by : (b : Bool) (start run : ℕ) (e : Event) (fault : AuditFault) → nat_le (e.received - start) max_arrival ≡ b
-    → arrived start e run ≡ Err fault → (fault ≡ BadArrival e.line) × (max_arrival < e.received - start)
-late_by true start run e fault is h = let none = rw is at h in absurd cc
-late_by false start run e fault is h = let late = rw is at h in (cc, above (e.received - start) max_arrival is)
-
-late_more : (start : ℕ) (e : Event) (events : List Event) (fault : AuditFault)
-    → ((x : Event) × IsOneOf x events × (fault ≡ BadArrival x.line) × (max_arrival < x.received - start))
-    → (x : Event) × IsOneOf x (e ∷ events) × (fault ≡ BadArrival x.line) × (max_arrival < x.received - start)
-late_more start e events fault late = (late.0, inr late.1, late.2, late.3)
-
--- an event that arrives too late is one of these
-late_shown : (start : ℕ) (all events : List Event) (fault : AuditFault) → entries_from start all events ≡ Err fault
-    → (x : Event) × IsOneOf x events × (fault ≡ BadArrival x.line) × (max_arrival < x.received - start)
-late_shown start all [] fault h = absurd cc
-late_shown start all (e ∷ events) fault h =
-    before_err (arrived start e (run_in all e)) (entries_from start all events) fault h
-    (λ late. let is = late_by (nat_le (e.received - start) max_arrival) start (run_in all e) e fault refl late in (e, inl refl, is.0, is.1))
-    (λ later. late_more start e events fault (late_shown start all events fault later))
-
-requests_shown : (choice : Choice) (bytes : List ℕ) (events : List Event) (b : Bool) (fault : AuditFault) → events_of choice bytes ≡ Ok events
-    → nat_le (length events) max_requests ≡ b → requests_by b events ≡ Err fault → IsAuditShown choice bytes fault
-requests_shown choice bytes events true fault are few h =
-    let late = late_shown (earliest events) events events fault h in
-    subst (λ (g : AuditFault). IsAuditShown choice bytes g) (sym late.2) (events, are, (late.0, late.1, refl, late.3))
-requests_shown choice bytes events false fault are many h =
-    let same : TooMany (length events) (earliest events) (latest events) ≡ fault = cc in
-    subst (λ (g : AuditFault). IsAuditShown choice bytes g) same
-    (events, are, record { are = refl; many = above (length events) max_requests many; begin = refl; last_is = refl })
-
--- the fault of a line is shown as one of the log
-of_line : (choice : Choice) (bytes : List ℕ) (n : ℕ) (line : Line) (fault : AuditFault) → nth_line n (lines_of bytes) ≡ Some line → IsLineAt (n + 1) line fault
-    → IsAuditShown choice bytes fault
-of_line choice bytes n line (TooLong m) is h = (n, h.0, (line, is, h.1))
-of_line choice bytes n line (NotUtf8Json m) is h = (n, h.0, (line, is, h.1))
-of_line choice bytes n line (NotEvent m) is h = (n, h.0, (line, is, h.1))
-of_line choice bytes n line (BadUser m) is h = (n, h.0, (line, is, h.1))
-of_line choice bytes n line (BadNamespace m) is h = (n, h.0, (line, is, h.1))
-of_line choice bytes n line (BadReceived m) is h = (n, h.0, (line, is, h.1))
-of_line choice bytes n line (BadStage m) is h = (n, h.0, (line, is, h.1))
-of_line choice bytes n line (BadWait m) is h = (n, h.0, (line, is, h.1))
-of_line choice bytes n line (BadRun m) is h = (n, h.0, (line, is, h.1))
-of_line choice bytes n line (TooMany count first last) is h = absurd cc
-of_line choice bytes n line (BadArrival m) is h = absurd h.1.2
-of_line choice bytes n line NoMemory is h = absurd cc
-
-lines_fail : (choice : Choice) (bytes : List ℕ) (fault : AuditFault) → events_of choice bytes ≡ Err fault → IsAuditShown choice bytes fault
-unfolding events_of
-lines_fail choice bytes fault h =
-    let found = lines_shown choice 0 (lines_of bytes) fault h in
-    let first : 0 + found.0 + 1 ≡ found.0 + 1 = omega arith in
-    of_line choice bytes found.0 found.1.0 fault found.1.1 (rw first at found.1.2)
-
-pub log_shown : (choice : Choice) (bytes : List ℕ) (fault : AuditFault) → log_of choice bytes ≡ Err fault → IsAuditShown choice bytes fault
-unfolding log_of
-log_shown choice bytes fault h =
-    stepped_by (events_of choice bytes) _ fault h (λ e. lines_fail choice bytes fault e)
-    (λ events are h1. requests_shown choice bytes events (nat_le (length events) max_requests) fault are refl h1)
+        subst (λ (g : AuditFault). IsAuditShown n line g) same (refl, above (length line.bytes) max_line long)

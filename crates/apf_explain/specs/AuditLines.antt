@@ -4,13 +4,11 @@ use Rattle.std.specs.Fmt.{◌++?◌}
 use Rattle.std.specs.Io.KnownBytes.{Appends}
 use Rattle.serde_json.specs.Data.{Data}
 use Rattle.serde_json.specs.Find.{get, as_object, as_str}
-use Rattle.apf_words.specs.Limits.{max_requests}
 use Rattle.apf_files.specs.JsonFile.{value_of}
 use Rattle.apf_times.specs.Limits.{max_arrival, max_run}
 use Rattle.apf_audit.specs.AuditEvent.{max_name}
 use Rattle.apf_audit.specs.AuditLog.{max_line}
 use Rattle.apf_audit.specs.AuditFaults.{audit_fault_number, line_of}
-use Rattle.apf_audit.specs.InstantText.{IsInstantText}
 use Rattle.apf_audit.specs.declared.fault.AuditFault.{AuditFault}
 use Rattle.apf_audit.specs.declared.fault.AuditFault.TheVariants as audit
 use Rattle.apf_explain.specs.declared.place.Part.TheVariants.{Fault}
@@ -68,11 +66,17 @@ bad_run_text place o =
     ++? Some (codes " and apf-queue-wait is ") ++? value_text (wait_found o)
     ++? Some (codes ": the run, which is the first less the others, must be from 0 to ") ++? Some (decimal max_run) ++? Some (codes " microseconds\n")
 
--- a request that arrives too late
-abbrev pub late_text : List ℕ → Option Data → Option (List ℕ)
-late_text place o =
+-- a request that arrives too late, this many microseconds after the first one
+abbrev pub late_text : List ℕ → ℕ → List ℕ
+late_text place after =
+    place ++ (codes "this request arrives " ++ (decimal after
+    ++ (codes " microseconds after the first one: at most " ++ (decimal max_arrival ++ codes " may be between them\n"))))
+
+-- a request that was received before requests that were handed out
+abbrev pub behind_text : List ℕ → Option Data → Option (List ℕ)
+behind_text place o =
     Some place ++? Some (codes "requestReceivedTimestamp is ") ++? value_text (found_at (codes "requestReceivedTimestamp") o)
-    ++? Some (codes ": it must be at most ") ++? Some (decimal max_arrival) ++? Some (codes " microseconds after the earliest one\n")
+    ++? Some (codes ", and more than 131072 requests of lines before it were received later\n")
 
 -- the fault of an event that is this value
 abbrev pub event_text : List ℕ → Option Data → AuditFault → Option (List ℕ)
@@ -83,7 +87,8 @@ event_text place o (audit.BadReceived n) =
 event_text place o (audit.BadStage n) = required_text place (codes "stageTimestamp") (found_at (codes "stageTimestamp") o) Instant
 event_text place o (audit.BadWait n) = unwanted_text place (codes "apf-queue-wait") (wait_found o) Wait
 event_text place o (audit.BadRun n) = bad_run_text place o
-event_text place o (audit.BadArrival n) = late_text place o
+event_text place o (audit.BadArrival n after) = Some (late_text place after)
+event_text place o (audit.TooLate n) = behind_text place o
 event_text place o fault = not_event_text place o
 
 -- the fault of this line was written, behind its place
@@ -92,31 +97,22 @@ IsAuditLineAt place line (audit.NotUtf8Json n) before after = IsColumnLine place
 IsAuditLineAt place line (audit.TooLong n) before after = Appends before after (too_long_text place max_line line)
 IsAuditLineAt place line fault before after = IfSome (event_text place (option_and_then value_of line) fault) (Appends before after)
 
--- this many requests are too many, which were received from one instant to another
-abbrev pub many_events : ℕ → List ℕ
-many_events count = codes "apf: audit fault 9: there are " ++ (decimal count ++ codes " requests, received from ")
+-- the fault of this line was written, behind the number of the line
+abbrev pub IsPlacedEvent : Option (List ℕ) → AuditFault → Option ℕ → Option (List ℕ) → Option (List ℕ) → Type 0
+IsPlacedEvent line fault None before after = ⊥
+IsPlacedEvent line fault (Some number) before after =
+    IsAuditLineAt (place_text (codes "apf: audit") (Fault (audit_fault_number fault) number)) line fault before after
 
-abbrev pub most_events : List ℕ
-most_events = codes ": at most " ++ (decimal max_requests ++ codes " may be there: --since, --until and --user choose some of them\n")
-
-abbrev pub too_many_events : ℕ → (from to : List ℕ) → List ℕ
-too_many_events count from to = many_events count ++ from ++ codes " to " ++ to ++ most_events
-
--- the line of that was written
-pub record IsManyLine (count first last : ℕ) (before after : Option (List ℕ)) : Type 0 where
-  pub from : List ℕ
-  pub to : List ℕ
-  pub begins : IsInstantText first from
-  pub ends : IsInstantText last to
-  pub written : Appends before after (too_many_events count from to)
-
--- the fault of the line of this number was written, or that there are too many requests
-abbrev pub IsNumberedEvent : List ℕ → Option ℕ → AuditFault → Option (List ℕ) → Option (List ℕ) → Type 0
-IsNumberedEvent bytes None (audit.TooMany count first last) before after = IsManyLine count first last before after
-IsNumberedEvent bytes None fault before after = ⊥
-IsNumberedEvent bytes (Some number) fault before after =
-    IsAuditLineAt (place_text (codes "apf: audit") (Fault (audit_fault_number fault) number)) (numbered_line number bytes) fault before after
+-- the fault of the line of this number was written
+abbrev pub IsNumberedEvent : List ℕ → AuditFault → Option ℕ → Option (List ℕ) → Option (List ℕ) → Type 0
+IsNumberedEvent bytes fault None before after = ⊥
+IsNumberedEvent bytes fault (Some number) before after = IsPlacedEvent (numbered_line number bytes) fault (Some number) before after
 
 -- the line of an audit log's fault was written
 abbrev pub IsAuditLine : List ℕ → AuditFault → Option (List ℕ) → Option (List ℕ) → Type 0
-IsAuditLine bytes fault before after = IsNumberedEvent bytes (line_of fault) fault before after
+IsAuditLine bytes fault before after = IsNumberedEvent bytes fault (line_of fault) before after
+
+-- the line of a log that is read in pieces, unless it is too long, so that it was not kept whole
+abbrev pub known_line : AuditFault → List ℕ → Option (List ℕ)
+known_line (audit.TooLong n) line = None
+known_line fault line = Some line

@@ -1,10 +1,12 @@
 //! The line of an audit log's fault.
 
-ghost use Rattle.std.specs.Prelude.{◌≡◌, OnOk, IfSome, Err, option_map};
+ghost use Rattle.std.specs.Prelude.{◌≡◌, OnOk, IfSome, Err, Some, codes, option_map};
 ghost use Rattle.std.specs.Io.KnownBytes.{Appends};
 ghost use Rattle.serde_json.specs.View.{view};
+ghost use Rattle.apf_audit.specs.AuditFaults.{audit_fault_number, line_of};
+ghost use Rattle.apf_explain.specs.declared.place.Part.TheVariants.{Fault};
 ghost use Rattle.apf_explain.specs.Lines.{place_text};
-ghost use Rattle.apf_explain.specs.AuditLines.{found_at, is_text_at, is_object, not_event_text, user_text, wait_found, bad_run_text, late_text, event_text, namespace_found, IsManyLine, IsAuditLineAt, IsAuditLine};
+ghost use Rattle.apf_explain.specs.AuditLines.{found_at, is_text_at, is_object, not_event_text, user_text, wait_found, bad_run_text, late_text, behind_text, event_text, namespace_found, IsAuditLineAt, known_line, IsAuditLine, IsPlacedEvent};
 
 use crate::fault::ExplainFault;
 use crate::found::Found;
@@ -12,9 +14,8 @@ use crate::json::{value_at, write_unwanted};
 use crate::lines::{line_value, numbered, write_not_json, write_required, write_too_long};
 use crate::place::{Part, Place};
 use crate::wanted::Wanted;
-use apf_audit::{AuditFault, MAX_LINE, MAX_NAME, write_instant};
+use apf_audit::{AuditFault, MAX_LINE, MAX_NAME};
 use apf_times::{MOST_ARRIVES_AT, MOST_RUNS_FOR};
-use apf_words::MAX_REQUESTS;
 use serde_json::Value;
 use std::alloc::Global;
 use std::io::Write;
@@ -138,15 +139,25 @@ fn write_run<W: Write>(out: &mut W, place: Place<'_>, value: Option<&Value>) -> 
     )
 }
 
-// Writes that a request arrives too late.
-fn write_late<W: Write>(out: &mut W, place: Place<'_>, value: Option<&Value>) -> io::Result<()>
-    ensures { OnOk result (IfSome (late_text (place_text place.entry.name.now place.entry.part) (option_map (λ value. view value.now) value.entry))
+// Writes that a request arrives this many microseconds after the first one, which is too late.
+fn write_late<W: Write>(out: &mut W, place: Place<'_>, after: u64) -> io::Result<()>
+    ensures { OnOk result (Appends (W.contents out.old) (W.contents out.new) (late_text (place_text place.entry.name.now place.entry.part) after)) }
+{
+    writeln!(
+        out,
+        "{place}this request arrives {after} microseconds after the first one: at most {MOST_ARRIVES_AT} may be between them"
+    )
+}
+
+// Writes that a request was received before requests that were handed out, in front of this many others.
+fn write_behind<W: Write>(out: &mut W, place: Place<'_>, value: Option<&Value>) -> io::Result<()>
+    ensures { OnOk result (IfSome (behind_text (place_text place.entry.name.now place.entry.part) (option_map (λ value. view value.now) value.entry))
         (Appends (W.contents out.old) (W.contents out.new))) }
 {
     let received = Perhaps(value_at(value, "requestReceivedTimestamp"));
     writeln!(
         out,
-        "{place}requestReceivedTimestamp is {received}: it must be at most {MOST_ARRIVES_AT} microseconds after the earliest one"
+        "{place}requestReceivedTimestamp is {received}, and more than 131072 requests of lines before it were received later"
     )
 }
 
@@ -187,11 +198,11 @@ fn write_event<W: Write>(
             write_unwanted(out, place, "apf-queue-wait", wait_of(value), Wanted::Wait)
         }
         AuditFault::BadRun(_) => write_run(out, place, value),
-        AuditFault::BadArrival(_) => write_late(out, place, value),
+        AuditFault::BadArrival(_, after) => write_late(out, place, after),
+        AuditFault::TooLate(_) => write_behind(out, place, value),
         AuditFault::TooLong(_)
         | AuditFault::NotUtf8Json(_)
         | AuditFault::NotEvent(_)
-        | AuditFault::TooMany { .. }
         | AuditFault::NoMemory => write_not_event(out, place, value),
     }
 }
@@ -218,8 +229,8 @@ fn write_line<W: Write>(
         | AuditFault::BadStage(_)
         | AuditFault::BadWait(_)
         | AuditFault::BadRun(_)
-        | AuditFault::TooMany { .. }
-        | AuditFault::BadArrival(_)
+        | AuditFault::BadArrival(_, _)
+        | AuditFault::TooLate(_)
         | AuditFault::NoMemory => {
             let value = line_value(alloc, line)?;
             Ok(write_event(out, place, value.as_ref(), fault)?)
@@ -227,27 +238,20 @@ fn write_line<W: Write>(
     }
 }
 
-// Writes that there are too many requests, and from when to when they were received, in microseconds from 1970 on.
-fn write_too_many<W: Write>(out: &mut W, count: usize, first: u64, last: u64) -> io::Result<()>
-    ensures { OnOk result (IsManyLine count first last (W.contents out.old) (W.contents out.new)) }
+// Where the fault of the line of this number is.
+fn place_of(fault: AuditFault, number: u64) -> Place<'static>
+    ensures { place_text result.name.now result.part ≡ place_text (codes "apf: audit") (Fault (audit_fault_number fault) number) }
 {
-    write!(
-        out,
-        "apf: audit fault 9: there are {count} requests, received from "
-    )?;
-    write_instant(out, first)?;
-    out.write_all(b" to ")?;
-    write_instant(out, last)?;
-    writeln!(
-        out,
-        ": at most {MAX_REQUESTS} may be there: --since, --until and --user choose some of them"
-    )
+    Place {
+        name: "apf: audit",
+        part: Part::Fault(fault.number(), number),
+    }
 }
 
 /// Writes the fault of an audit log as the one line of standard error.
 ///
-/// `fault` is what `read_audit_log` answers for these bytes. The line names the key and the value that stands there in
-/// the line of the fault, and what has to stand there.
+/// `fault` is of a line of these bytes. The line names the key and the value that stands there in the line of the fault, and
+/// what has to stand there: see `every_audit_fault_is_shown`.
 ///
 /// Of a line that is no JSON the column is told at which the reader stopped. Columns count bytes from 1.
 ///
@@ -265,16 +269,46 @@ pub fn explain_audit_log<W: Write>(
     ensures refused { fault ≡ AuditFault.NoMemory → (result ≡ Err ExplainFault.NoMemory) × (out.new ≡ out.old) }
     ensures memory { result ≡ Err ExplainFault.NoMemory → out.new ≡ out.old }
 {
-    if let AuditFault::TooMany { count, first, last } = fault {
-        return Ok(write_too_many(out, count, first, last)?);
-    }
     let Some(number) = fault.line() else {
         return Err(ExplainFault::NoMemory);
     };
-    let part = Part::Fault(fault.number(), number as u64);
-    let place = Place {
-        name: "apf: audit",
-        part,
+    let place = place_of(fault, number);
+    let line = numbered(bytes, number);
+    write_line(alloc, out, place, line, fault)
+}
+
+// The line, unless it is too long, so that it was not kept whole.
+fn known_line(fault: AuditFault, line: &[u8]) -> Option<&[u8]>
+    ensures { option_map (λ known. known.now) result ≡ known_line fault line.entry.now }
+{
+    match fault {
+        AuditFault::TooLong(_) => None,
+        _ => Some(line),
+    }
+}
+
+/// Writes the fault of an audit log that is read in pieces as the one line of standard error.
+///
+/// `line` is the line that has the fault, without its LF. Of one that is too long it need not be whole, and its length is
+/// not told.
+///
+/// # Errors
+///
+/// [`ExplainFault::NoMemory`] if memory was refused, here or, by the fault, to the reader, and then nothing is written.
+/// [`ExplainFault::CannotWrite`] if the writer failed.
+pub fn explain_audit_line<W: Write>(
+    alloc: Global,
+    line: &[u8],
+    fault: AuditFault,
+    out: &mut W,
+) -> Result<(), ExplainFault>
+    ensures line { OnOk result (IsPlacedEvent (known_line fault line.now) fault (line_of fault) (W.contents out.old) (W.contents out.new)) }
+    ensures refused { fault ≡ AuditFault.NoMemory → (result ≡ Err ExplainFault.NoMemory) × (out.new ≡ out.old) }
+    ensures memory { result ≡ Err ExplainFault.NoMemory → out.new ≡ out.old }
+{
+    let Some(number) = fault.line() else {
+        return Err(ExplainFault::NoMemory);
     };
-    write_line(alloc, out, place, numbered(bytes, number as u64), fault)
+    let line = known_line(fault, line);
+    write_line(alloc, out, place_of(fault, number), line, fault)
 }

@@ -10,7 +10,7 @@ ghost use Rattle.apf_files.specs.ScriptFile.{script_of};
 ghost use Rattle.apf_files.specs.declared.config.ConfigFault.{ConfigFault};
 ghost use Rattle.apf_files.specs.declared.requests.RequestFault.{RequestFault};
 ghost use Rattle.apf_files.specs.declared.script.ScriptFault.{ScriptFault};
-ghost use Rattle.apf_traces.specs.TraceFile.{trace_of};
+ghost use Rattle.apf_traces.specs.TraceFile.{Line, trace_of};
 ghost use Rattle.apf_traces.specs.declared.fault.TraceFault.{TraceFault};
 ghost use Rattle.apf_explain.specs.FlowFaults.{flow_fault_of};
 ghost use Rattle.apf_explain.specs.Keys.{is_key_of};
@@ -18,7 +18,7 @@ ghost use Rattle.apf_explain.specs.Shown.{IsConfigShown, IsRequestsShown, IsScri
 ghost use Rattle.apf_explain.specs.declared.flow.FlowFault.{FlowFault};
 ghost use Rattle.apf_explain.specs.declared.keys.Keys.{Keys};
 ghost use Rattle.apf_explain.specs.TraceShown.{IsTraceShown};
-ghost use Rattle.apf_audit.specs.AuditLog.{log_of};
+ghost use Rattle.apf_audit.specs.AuditLog.{judged_line};
 ghost use Rattle.apf_audit.specs.declared.choice.Choice.{Choice};
 ghost use Rattle.apf_audit.specs.declared.fault.AuditFault.{AuditFault};
 ghost use Rattle.apf_explain.specs.AuditShown.{IsAuditShown};
@@ -46,11 +46,10 @@ pub fn every_trace_fault_is_shown()
     ensures { (bytes : List ℕ) (fault : TraceFault) → trace_of bytes ≡ Err fault → IsTraceShown bytes fault }
 {}
 
-/// The law of an audit log's fault. The line that it names is there, and has the fault: of a bad value, none of those that
-/// the line says may stand at its key stands there. Of too many requests it says how many are chosen, and from when to when
-/// they were received; of a request that arrives too late that it is one of the chosen, and does.
+/// The law of the fault of a line of an audit log. It names the line's number, and the line has the fault: of a bad value,
+/// none of those that the line says may stand at its key stands there.
 pub fn every_audit_fault_is_shown()
-    ensures { (choice : Choice) (bytes : List ℕ) (fault : AuditFault) → log_of choice bytes ≡ Err fault → IsAuditShown choice bytes fault }
+    ensures { (choice : Choice) (number : ℕ) (line : Line) (fault : AuditFault) → judged_line choice number line ≡ Err fault → IsAuditShown number line fault }
 {}
 
 /// The law of a flow's fault: where a flow can't be told from its three values, one of the faults of flows is told.

@@ -20,7 +20,7 @@ const LONGEST: usize = 64;
 const FORMS: &str =
     "a line is arrive N, finish N, cancel N, close or limit N, with one blank before N, which has one to five digits and no zero in front";
 
-// This many requests, of which there are no others.
+// A script's requests: this many, and no others.
 #[derive(Clone, Copy)]
 struct Known(u32);
 

@@ -54,7 +54,7 @@ pub record HasRunRounds (config : Config) (requests : List Request) (rounds : â„
   pub slots : List PassToken
   pub stations : List StationToken
   pub ended : Ended level slots stations r
-  -- of each slot as many requests came as there are rounds
+  -- for each slot as many requests came as there are rounds
   pub count : length slots â‰¡ length requests
   pub through : All (IsInRound rounds) slots
   -- each of them is decided, and the counts are of no fewer: the executed, the rejected and the cancelled sum to rounds times the requests at least

@@ -106,7 +106,7 @@ pub record IsNewOwner (config : Config) (slots : ℕ) (settling : Settling) (o :
   pub all_stations : length o.stations ≡ 1
   -- the newest events are kept, two for each slot
   pub room : o.book.notes.capacity ≡ 2 * slots
-  -- where it is settled, it is kept of each slot what a queue is charged for its request
+  -- where it is settled, it is kept for each slot what a queue is charged for its request
   pub places : length o.book.queues.running ≡ places_of settling slots
 
 -- a level of this config with this many slots, all of them free, to which nothing happened yet

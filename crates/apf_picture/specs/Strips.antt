@@ -58,7 +58,7 @@ queue_number y queue = joined (codes "<text class=\"small\" x=\"-6\" y=\"" ∷ d
 abbrev pub middle_of : (strips place : ℕ) → ℕ
 middle_of strips place = scaled_of (2 * place + 1) (2 * strips) (high_of strips)
 
--- the number of the queue at a place, if the place is one of each this many
+-- the number of the queue at a place, if the place is a multiple of this number
 abbrev pub queue_label : (queues : List ℕ) (each place : ℕ) → List ℕ
 queue_label queues each place = if place % each == 0 then queue_number (middle_of (length queues) place + 4) (slice_index queues place) else []
 

@@ -168,7 +168,7 @@ fn queue_at(strips: &[Strip], place: usize) -> u32
     strips[place].queue
 }
 
-// Writes the number of a queue beside the middle of its strip, if the place is one of each this many.
+// Writes the number of a queue beside the middle of its strip, if the place is a multiple of this number.
 fn write_label<W: Write>(out: &mut W, strips: &[Strip], each: usize, place: usize) -> io::Result<()>
     requires few { length strips.now < 2 ^ 31 }
     requires each { 0 < each }
@@ -182,7 +182,7 @@ fn write_label<W: Write>(out: &mut W, strips: &[Strip], each: usize, place: usiz
     write_number(out, middle + 4, queue_at(strips, place))
 }
 
-// Writes the numbers of the queues, one of each this many.
+// Writes the numbers of the queues at the places that are multiples of this number.
 fn write_labels<W: Write>(out: &mut W, strips: &[Strip], each: usize) -> io::Result<()>
     requires few { length strips.now < 2 ^ 31 }
     requires each { 0 < each }

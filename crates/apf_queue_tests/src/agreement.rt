@@ -1,4 +1,4 @@
-//! Many random calls, whose answers are those of plain lists, and each this many choices those of the plain
+//! Many random calls, whose answers are those of plain lists. Some choices are compared with those of the plain
 //! program, which computes them of the history so far.
 //!
 //! The calls are made on one level after another, so that the histories stay short enough for the plain

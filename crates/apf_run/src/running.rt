@@ -23,7 +23,7 @@ use std::thread::Threads;
 /// Opens a level, brings all requests to their ends by this many workers, 1 to 64, each in a thread of its own,
 /// and ends the level.
 ///
-/// Worker k of m handles, in their order, the requests whose numbers leave k when divided by m. Of each it
+/// Worker k of m handles, in their order, the requests whose numbers leave k when divided by m. For each it
 /// closes the level if the request says so, and waits until it is decided. If the request executes, the worker
 /// does its work, cancels and strikes the request that it names (one that is not there is nobody), gives the
 /// seats back, and dispatches where requests wait.

@@ -125,7 +125,7 @@ runs_in h = runs_at h.place
 abbrev pub seats_in : Held → ℕ
 seats_in h = seats_at h.place h.number
 
--- how many times the slot was given, at most as often as it can be
+-- how many times the slot was given, at most as many as it can be
 abbrev pub rounds_in : Held → ℕ
 rounds_in h = min (round_of h.number) (2 ^ 46)
 

@@ -18,7 +18,7 @@ Cancels trace r old new = (answer : Cancel) × Steps old new (λ station station
 abbrev pub CancelsOnly : List TraceRequest → Due → List StationToken → List StationToken → Type 0
 CancelsOnly trace due old new = (new ≡ old) ⊎ ((due.kind ≡ GiveUp) × Cancels trace due.request old new)
 
--- of each of these that were carried out, in their order, the operator made no step, or cancelled the request whose patience ended by it
+-- for each of these that were carried out, in their order, the operator made no step, or cancelled the request whose patience ended by it
 abbrev pub CancelsInTurn : List TraceRequest → List Due → List StationToken → List StationToken → Type 0
 CancelsInTurn trace [] old new = new ≡ old
 CancelsInTurn trace (due ∷ dues) old new = (between : List StationToken) × CancelsOnly trace due old between × CancelsInTurn trace dues between new

@@ -56,7 +56,7 @@ pub record EndsBy (trace : List TraceRequest) (opened last : LocalView) (carried
 pub record HasEndedBy (trace : List TraceRequest) (opened : LocalView) (carried : List Due) (decisions : List Decision) (notes : Noted) (r : Report) : Type 0 where
   pub lived : IsLived opened.owner.book
   pub last : LocalView
-  -- of each history that it was of as it was opened
+  -- for each history that it was of as it was opened
   pub report : (v : LifeView) → IsLifeKept v opened.owner.book → EndsBy trace opened last carried notes r v
   pub operator : CancelsInTurn trace carried opened.owner.stations last.owner.stations
   pub told : AreTold trace last.owner.passes decisions

@@ -1,5 +1,5 @@
 -- The call that is due for what was just carried out.
-use Rattle.std.proofs.Common.{◌≡◌, ◌≢◌, ℕ, ◌<◌, List, [], length, set, Option, Some, refl, sym, ap, ◌∙◌, subst, arith}
+use Rattle.std.proofs.Common.{◌≡◌, ◌≢◌, ℕ, ◌<◌, ◌≤◌, List, [], length, set, Option, Some, refl, sym, ap, ◌∙◌, subst, arith}
 use Rattle.std.specs.Prelude.{slice_get}
 use Rattle.std.proofs.lemmas.List.{length-set}
 use Rattle.std.proofs.lemmas.Option.{slice_get_within}
@@ -90,10 +90,13 @@ module _ (s : State) (by : ℕ) (c : Carried) (v' : SlotsView) (tied : AreTied s
     noted = λ h noted. (tied.each c.slot).noted c.guest h here noted;
   }
 
+  in_turn : s.slots.time ≤ v'.time → s.slots.time ≤ c.at
+  in_turn forward = let e = ap (λ (v : SlotsView). v.time) carries.then in omega arith
+
   -- and with it one deed is done
-  pub called_run : (s' : State) (before after : List Ended) (stay : Stay) → c.guest.stay ≡ stay → CallsAs c stay (with_slots s v') before s' after → HasRun [] s before s' after
-  called_run s' before after Waits e calls =
-      ran_one (GiveUp c) s s' before calls.told after (record { by = by; between = v'; carries = carries; waited = e; cancels = calls.cancels }) calls.told_are
-  called_run s' before after Impatient e calls = absurd calls
-  called_run s' before after (Holds since) e calls =
-      ran_one (Finish c) s s' before calls.told after (record { by = by; between = v'; carries = carries; since = since; held = e; returns = calls.returns }) calls.told_are
+  pub called_run : s.slots.time ≤ v'.time → (s' : State) (before after : List Ended) (stay : Stay) → c.guest.stay ≡ stay → CallsAs c stay (with_slots s v') before s' after → HasRun [] s before s' after
+  called_run forward s' before after Waits e calls =
+      ran_one (GiveUp c) s s' before calls.told after (record { by = by; between = v'; carries = carries; forward = in_turn forward; waited = e; cancels = calls.cancels }) calls.told_are
+  called_run forward s' before after Impatient e calls = absurd calls
+  called_run forward s' before after (Holds since) e calls =
+      ran_one (Finish c) s s' before calls.told after (record { by = by; between = v'; carries = carries; forward = in_turn forward; since = since; held = e; returns = calls.returns }) calls.told_are

@@ -14,7 +14,7 @@ run_then [] es a b c told more first second = subst (λ (s : State). IsRun es s 
 run_then (d ∷ ds) es a b c told more first second =
     (first.0, first.1, first.2 ++ more, first.3, run_then ds es first.0 b c first.2 more first.4 second, ap (λ (t : List Ended). t ++ more) first.5 ∙ append_assoc first.1 first.2 more)
 
-came_then : (ds es : List Deed) → arrivals (ds ++ es) ≡ arrivals ds ++ arrivals es
+pub came_then : (ds es : List Deed) → arrivals (ds ++ es) ≡ arrivals ds ++ arrivals es
 came_then [] es = refl
 came_then (Arrive slot a ∷ ds) es = ap (λ (l : List Asked). a ∷ l) (came_then ds es)
 came_then (Finish c ∷ ds) es = came_then ds es

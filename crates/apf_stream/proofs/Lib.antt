@@ -1,8 +1,10 @@
 pub mod Arriving
 pub mod Calling
 pub mod Chains
+pub mod Coming
 pub mod Lefts
 pub mod Places
 pub mod Readings
 pub mod Telling
+pub mod Timing
 pub mod Tying

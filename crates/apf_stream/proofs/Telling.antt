@@ -198,7 +198,7 @@ module _ (c : Carried) (s s' : State) (told : List Ended) (f : GivesUp c s s' to
   impatient_slots : f.between.slots ≡ set s.slots.slots c.slot (Some (record { line = c.guest.line; times = c.guest.times; stay = Impatient }))
   impatient_slots = ap (λ (v : SlotsView). v.slots) f.carries.then ∙ ap (λ (x : Stay). set s.slots.slots c.slot (then_in c.guest.line c.guest.times x)) f.waited
 
-  waits_then : WaitsAt (record { level = f.cancels.cancelled; slots = f.between; holds = s.holds; charges = s.charges }) c.slot
+  pub waits_then : WaitsAt (record { level = f.cancels.cancelled; slots = f.between; holds = s.holds; charges = s.charges }) c.slot
   waits_then = waits_still (with_slots s f.between) c.slot f.cancels.cancelled (call_due s f.by c f.between tied f.carries Waits f.waited) f.cancels.stays
 
   gives_up_tied : AreTied s'
@@ -211,7 +211,7 @@ module _ (c : Carried) (s s' : State) (told : List Ended) (f : GivesUp c s s' to
       omega arith
 
 -- a request that reads
-read_waits_at : (slot : ℕ) (s s' : State) (told : List Ended) (place : Place) → Reads slot place s s' told → AreTied s → WaitsAt s slot
+pub read_waits_at : (slot : ℕ) (s s' : State) (told : List Ended) (place : Place) → Reads slot place s s' told → AreTied s → WaitsAt s slot
 read_waits_at slot s s' told place r tied =
     let low = slice_get_within s.level.places slot places.Waits r.waited in
     waits_of s slot tied (let n = tied.count.places in omega arith) r.waited

@@ -128,6 +128,7 @@ pub record Finishes (c : Carried) (s s' : State) (told : List Ended) : Type 0 wh
   pub by : ℕ
   pub between : SlotsView
   pub carries : CarriesOut s.slots by c between
+  pub forward : s.slots.time ≤ c.at
   pub since : ℕ
   pub held : c.guest.stay ≡ Holds since
   pub returns : Returns c since (with_slots s between) s' told
@@ -137,6 +138,7 @@ pub record GivesUp (c : Carried) (s s' : State) (told : List Ended) : Type 0 whe
   pub by : ℕ
   pub between : SlotsView
   pub carries : CarriesOut s.slots by c between
+  pub forward : s.slots.time ≤ c.at
   pub waited : c.guest.stay ≡ Waits
   pub cancels : Cancels c.slot (with_slots s between) s' told
 

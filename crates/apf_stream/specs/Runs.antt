@@ -1,14 +1,16 @@
 -- What is done with requests, one deed after another.
-use Rattle.std.specs.Prelude.{◌≡◌, ℕ, ◌+◌, ◌==◌, cond, List, [], ◌∷◌, ◌++◌, Option, Some, None}
+use Rattle.std.specs.Prelude.{◌≡◌, ℕ, ◌+◌, ◌≤◌, ◌==◌, cond, List, [], ◌∷◌, ◌++◌, Contains, slice_get, Option, Some, None, IfSome}
 use Rattle.apf_stream.specs.declared.deed.Deed.{Deed}
 use Rattle.apf_stream.specs.declared.deed.Deed.TheVariants.{Arrive, Finish, GiveUp, Read}
 use Rattle.apf_stream.specs.declared.ended.Ended.{Ended}
 use Rattle.apf_stream.specs.declared.asked.Asked.{Asked}
+use Rattle.apf_stream.specs.declared.asked.Hold.{Hold}
 use Rattle.apf_local.specs.declared.answer.Place.{Place}
 use Rattle.apf_calendar.specs.declared.calendar.Carried.{Carried}
 use Rattle.apf_calendar.specs.declared.guest.Guest.{Guest}
 use Rattle.apf_calendar.specs.declared.guest.Stay.{Stay}
 use Rattle.apf_calendar.specs.declared.guest.Stay.TheVariants.{Waits, Impatient, Holds}
+use Rattle.apf_calendar.specs.Guests.{IsIn}
 use Rattle.apf_stream.specs.Deeds.{IsDeed, Arrives, Cancels, Reads, Returns}
 use Rattle.apf_stream.specs.States.{State}
 
@@ -87,3 +89,12 @@ abbrev pub CallsAs : Carried → Stay → State → List Ended → State → Lis
 CallsAs c Waits s before s' after = CancelsAs c.slot s before s' after
 CallsAs c Impatient s before s' after = ⊥
 CallsAs c (Holds since) s before s' after = ReturnsAs c since s before s' after
+
+-- what is noted of each one who is there was asked by one of these that came
+abbrev pub AreOf : List Asked → State → Type 0
+AreOf came s = (i : ℕ) (g : Guest) (h : Hold) → IsIn s.slots i g → slice_get s.holds i ≡ Some h → Contains came h.asked
+
+-- it was over by this time, and was given its seats before that, if it was given any
+pub record IsOverBy (time : ℕ) (e : Ended) : Type 0 where
+  pub over : e.over_at ≤ time
+  pub since : IfSome e.since (λ at. at ≤ e.over_at)

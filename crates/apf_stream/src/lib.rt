@@ -22,5 +22,7 @@ pub use asked::{Asked, Hold};
 pub use deed::Deed;
 pub use ended::Ended;
 pub use fault::StreamFault;
-pub use laws::every_request_is_told_once;
+pub use laws::{
+    every_end_is_in_time, every_request_is_told_once, every_run_goes_on, every_told_request_came,
+};
 pub use stream::Stream;

@@ -2,7 +2,7 @@
 
 ghost use Rattle.std.specs.Prelude.{◌≡◌, ◌≤◌, ◌++◌, [], replicate, length, IfOk, IfErr, OnOk};
 ghost use Rattle.apf_words.specs.Limits.{max_requests};
-ghost use Rattle.apf_times.specs.Limits.{max_patience};
+ghost use Rattle.apf_times.specs.Limits.{max_patience, max_wait};
 ghost use Rattle.apf_charges.specs.Charging.{opening_charges};
 ghost use Rattle.apf_calendar.specs.Guests.{NothingBy};
 ghost use Rattle.apf_local.specs.Openings.{IsOpened, CanOpen, IsOpenFault};
@@ -102,7 +102,8 @@ impl Stream {
 
     /// The time of what was carried out last, in microseconds.
     pub fn time(&self) -> u64
-        ensures { result ≡ self.now.calendar.time }
+        ensures time { result ≡ self.now.calendar.time }
+        ensures low { result ≤ max_wait }
     {
         self.calendar.time()
     }

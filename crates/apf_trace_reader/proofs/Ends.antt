@@ -41,7 +41,7 @@ HasOneOrder = (size : ℕ) (calls : List (Call TraceRequest)) (v : WindowView Tr
 -- ---- the input ended behind a whole line
 
 pub input_ended : (bytes : List ℕ) (told : List (Arrival TraceRequest)) (left : Option (List ℕ)) (v : ReaderView) → IsAtEnd left → HasRead bytes told left v → v.stage ≡ Reading → TellsRest v.lines false
-    → HasRead bytes told left (record { lines = v.lines; window = v.window; number = v.number; stage = Ended })
+    → HasRead bytes told left (record { lines = v.lines; window = v.window; number = v.number; stage = Ended; has_cost = v.has_cost })
 input_ended bytes told left v end h is none = record {
   lines = h.lines;
   rest = h.rest;
@@ -50,6 +50,7 @@ input_ended bytes told left v end h is none = record {
   number = h.number;
   requests = h.requests;
   judged = h.judged;
+  cost = h.cost;
   calls = h.calls;
   run = h.run;
   came = h.came;
@@ -68,7 +69,7 @@ rest_lines bytes lines rest joined whole rest_whole some =
 pub rest_refused : (bytes : List ℕ) (told : List (Arrival TraceRequest)) (left : Option (List ℕ)) (v : ReaderView) (fault : TraceFault) (s : Stage)
     → IsAtEnd left → (h : HasRead bytes told left v) → HasNoLf h.rest → v.stage ≡ Reading → TellsRest v.lines true
     → (fault ≢ NoMemory → judged_within most_lines (v.number + 1) (record { bytes = h.rest; is_ended = false }) ≡ Err fault) → IsStage v.stage fault s
-    → IsRefused bytes told left fault (record { lines = v.lines; window = v.window; number = v.number; stage = s })
+    → IsRefused bytes told left fault (record { lines = v.lines; window = v.window; number = v.number; stage = s; has_cost = v.has_cost })
 unfolding requests_of
 rest_refused bytes told left v fault s end h whole is some judged stage =
     let there : 0 < length h.rest = some h.rest (subst (λ t. AreUntaken t h.rest v.lines) is h.untaken) in
@@ -92,6 +93,7 @@ rest_refused bytes told left v fault s end h whole is some judged stage =
         number = h.number;
         requests = h.requests;
         judged = h.judged;
+        cost = h.cost;
         calls = h.calls;
         run = h.run;
         came = h.came;
@@ -172,9 +174,9 @@ all_handed same order one bytes told left v h is none =
 -- the first of what is held was handed out, or nothing was held
 pub handed_out : HandsAll → HandsInOrder → HasOneOrder → (bytes : List ℕ) (told : List (Arrival TraceRequest)) (left : Option (List ℕ)) (v : ReaderView) (w : WindowView TraceRequest) (out : Option (Arrival TraceRequest))
     → HasRead bytes told left v → v.stage ≡ Ended → IsPopped v.window out w → w.size ≡ v.window.size
-    → Answers bytes told left (Ok out) (record { lines = v.lines; window = w; number = v.number; stage = v.stage })
+    → Answers bytes told left (Ok out) (record { lines = v.lines; window = w; number = v.number; stage = v.stage; has_cost = v.has_cost })
 handed_out same order one bytes told left v w None h is popped size =
-    subst (λ u. Answers bytes told left (Ok None) (record { lines = v.lines; window = u; number = v.number; stage = v.stage })) (sym popped.1)
+    subst (λ u. Answers bytes told left (Ok None) (record { lines = v.lines; window = u; number = v.number; stage = v.stage; has_cost = v.has_cost })) (sym popped.1)
     (h, all_handed same order one bytes told left v h is popped.0, h.end is)
 handed_out same order one bytes told left v w (Some x) h is popped size = record {
   lines = h.lines;
@@ -184,6 +186,7 @@ handed_out same order one bytes told left v w (Some x) h is popped size = record
   number = h.number;
   requests = h.requests;
   judged = subst (λ n. requests_from n [] 1 (map ended h.lines) ≡ Ok (map entry h.requests)) (sym size) h.judged;
+  cost = h.cost;
   calls = record { came = None; out = Some x } ∷ h.calls;
   run = (v.window, subst (λ n. IsWindowRun n h.calls v.window) (sym size) h.run, popped, size);
   came = append-nil (all_came h.calls) ∙ h.came;

@@ -1,5 +1,5 @@
 -- What is held, and what is handed out of it.
-use Rattle.std.proofs.Common.{◌≡◌, ℕ, List, [], ◌∷◌, Option, Some, None, Ok, IsPermutation, false, refl, sym, ap, ◌∙◌, subst}
+use Rattle.std.proofs.Common.{◌≡◌, ℕ, Bool, List, [], ◌∷◌, Option, Some, None, Ok, IsPermutation, false, refl, sym, ap, ◌∙◌, subst}
 use Rattle.std.specs.List.{AllByRecursion}
 use Rattle.std.proofs.lemmas.List.Elements.{All-from_recursion, recursion_from_All}
 use Rattle.std.proofs.lemmas.List.Sorted.{All-permutation}
@@ -39,8 +39,8 @@ pushed_leads x u v None one all pushed =
     (pushed.2, subst (λ l. AllByRecursion (IsHeld l) v.held) (sym pushed.2) (moved (IsHeld u.last) (x ∷ u.held) v.held pushed.1 (one, all)))
 pushed_leads x u v (Some first) one all pushed = handed u.last (x ∷ u.held) first v pushed.1 (one, all)
 
-pub taken_leads : (number : ℕ) (line : Line) (u v : WindowView TraceRequest) (out : Option (Arrival TraceRequest)) → IsTaken number line u out v → AllByRecursion (IsHeld u.last) u.held → Leads u.last out v
-taken_leads number line u v out taken all =
+pub taken_leads : (number : ℕ) (line : Line) (u v : WindowView TraceRequest) (out : Option (Arrival TraceRequest)) (has_cost : Bool) → IsTaken number line u out v has_cost → AllByRecursion (IsHeld u.last) u.held → Leads u.last out v
+taken_leads number line u v out has_cost taken all =
     pushed_leads (placed number taken.request) u v out (record { ranges = taken.ranges; named = taken.named; time = refl; forward = taken.timely }) all taken.pushed
 
 -- once one was taken out

@@ -9,7 +9,7 @@ use Rattle.apf_trace_reader.specs.declared.stage.Stage.TheVariants.{Reading}
 use Rattle.apf_trace_reader.specs.Reading.{HasRead}
 
 pub nothing_read : (left : Option (List ℕ)) (ls : LinesView) (w : WindowView TraceRequest) → ls ≡ record { longest = max_bytes; line = []; kept = []; is_skipped = false } → w.held ≡ [] → w.last ≡ None
-    → HasRead [] [] left (record { lines = ls; window = w; number = 0; stage = Reading })
+    → HasRead [] [] left (record { lines = ls; window = w; number = 0; stage = Reading; has_cost = false })
 nothing_read left ls w is held last = record {
   lines = [];
   rest = [];
@@ -18,6 +18,7 @@ nothing_read left ls w is held last = record {
   number = refl;
   requests = [];
   judged = refl;
+  cost = refl;
   calls = [];
   run = (held, last, refl);
   came = refl;

@@ -1,7 +1,8 @@
 -- What was read and taken, step by step.
 use Rattle.std.proofs.Common.{◌≡◌, ◌≢◌, ℕ, ◌+◌, ◌<◌, ◌≤◌, List, [], ◌∷◌, ◌++◌, All, length, map, Option, Some, None, Result, Ok, Err, true, false, refl, sym, ap, ◌∙◌, subst, inl, inr, append_assoc, append-nil, arith}
-use Rattle.std.specs.Prelude.{◌⊎◌}
-use Rattle.std.specs.List.{flat_map}
+use Rattle.std.specs.Prelude.{Bool, ◌||◌, ◌⊎◌, is_some}
+use Rattle.std.specs.List.{flat_map, list_any}
+use Rattle.std.proofs.lemmas.List.Folds.{list_any-append}
 use Rattle.std.specs.Option.{option_to_list}
 use Rattle.std.specs.Io.KnownBytes.{Consumes, IsAtEnd}
 use Rattle.std.proofs.KnownBytes.{Consumes-nil}
@@ -49,10 +50,21 @@ came_places bytes told left v h place = ap (number_behind place) h.came
 pub next_number : (lines : List (List ℕ)) (number : ℕ) → number ≡ length lines → number + 1 ≡ 1 + length (map ended lines)
 next_number lines number is = omega (arith, is, length-map lines ended)
 
+-- whether one of these and one more says what it is charged
+or_false : (b : Bool) → (b || false) ≡ b
+or_false true = refl
+or_false false = refl
+
+costs_more : (was has_cost : Bool) (requests : List TraceRequest) (r : TraceRequest) → was ≡ list_any (λ x. is_some x.cost) requests → has_cost ≡ is_some r.cost
+    → (was || has_cost) ≡ list_any (λ x. is_some x.cost) (requests ++ r ∷ [])
+costs_more was has_cost requests r before says =
+    ap (λ (b : Bool). b || has_cost) before ∙ ap (λ (b : Bool). list_any (λ x. is_some x.cost) requests || b) (says ∙ sym (or_false (is_some r.cost)))
+    ∙ sym (list_any-append (λ x. is_some x.cost) requests (r ∷ []))
+
 -- ---- a line is cut off
 
 pub line_cut : (bytes : List ℕ) (told : List (Arrival TraceRequest)) (left : Option (List ℕ)) (v : ReaderView) (ls : LinesView) → HasRead bytes told left v → v.stage ≡ Reading → CutsOff v.lines cuts.Line ls
-    → HasRead bytes told left (record { lines = ls; window = v.window; number = v.number; stage = Holding })
+    → HasRead bytes told left (record { lines = ls; window = v.window; number = v.number; stage = Holding; has_cost = v.has_cost })
 line_cut bytes told left v ls h is off = record {
   lines = h.lines;
   rest = h.rest;
@@ -61,6 +73,7 @@ line_cut bytes told left v ls h is off = record {
   number = h.number;
   requests = h.requests;
   judged = h.judged;
+  cost = h.cost;
   calls = h.calls;
   run = h.run;
   came = h.came;
@@ -141,9 +154,9 @@ module _ (hands : HandsInTime) (tells : TellsLate) (bytes : List ℕ) (told : Li
       judged_in_time v.window.size (v.number + 1) (ended v.lines.line) (places_from 1 (map entry h.requests)) (entry r) judged (omega (arith, few, places place))
 
   -- the line was taken
-  pub line_taken : (w : WindowView TraceRequest) (out : Option (Arrival TraceRequest)) → IsTaken (v.number + 1) (ended v.lines.line) v.window out w
-      → HasRead bytes (told ++ option_to_list out) left (record { lines = v.lines; window = w; number = v.number + 1; stage = Reading })
-  line_taken w out taken =
+  pub line_taken : (w : WindowView TraceRequest) (out : Option (Arrival TraceRequest)) (has_cost : Bool) → IsTaken (v.number + 1) (ended v.lines.line) v.window out w has_cost
+      → HasRead bytes (told ++ option_to_list out) left (record { lines = v.lines; window = w; number = v.number + 1; stage = Reading; has_cost = v.has_cost || has_cost })
+  line_taken w out has_cost taken =
       let r : TraceRequest = taken.request in
       let first : HasRead bytes told left v = h in
       let line : List ℕ = v.lines.line in
@@ -159,6 +172,7 @@ module _ (hands : HandsInTime) (tells : TellsLate) (bytes : List ℕ) (told : Li
         number = omega (arith, h.number, length-append h.lines (line ∷ []));
         requests = h.requests ++ r ∷ [];
         judged = subst (λ s. requests_from s [] 1 (map ended (h.lines ++ line ∷ [])) ≡ Ok (map entry (h.requests ++ r ∷ []))) (sym taken.size) judged;
+        cost = costs_more v.has_cost has_cost h.requests r h.cost taken.says;
         calls = record { came = Some (placed (v.number + 1) r); out = out } ∷ h.calls;
         run = (v.window, subst (λ s. IsWindowRun s h.calls v.window) (sym taken.size) h.run, (taken.timely, taken.pushed), taken.size);
         came = ap (λ (xs : List (Arrival TraceRequest)). xs ++ placed (v.number + 1) r ∷ []) h.came ∙ sym (arrivals_from-more 1 h.requests r (v.number + 1) count);
@@ -188,7 +202,7 @@ module _ (hands : HandsInTime) (tells : TellsLate) (bytes : List ℕ) (told : Li
       ]
 
   pub line_refused : (w : WindowView TraceRequest) (fault : TraceFault) (s : Stage) → IsNotTaken (v.number + 1) (ended v.lines.line) v.window fault w → IsStage v.stage fault s
-      → IsRefused bytes told left fault (record { lines = v.lines; window = w; number = v.number; stage = s })
+      → IsRefused bytes told left fault (record { lines = v.lines; window = w; number = v.number; stage = s; has_cost = v.has_cost })
   line_refused w fault s not stage = record {
     first = λ other. (first_of v.window.size w.size bytes left fault not.size (fault_stays fault (judged_not w fault not other)), stage.0 other);
     kept = λ e. record {
@@ -199,6 +213,7 @@ module _ (hands : HandsInTime) (tells : TellsLate) (bytes : List ℕ) (told : Li
       number = h.number;
       requests = h.requests;
       judged = subst (λ n. requests_from n [] 1 (map ended h.lines) ≡ Ok (map entry h.requests)) (sym not.size) h.judged;
+      cost = h.cost;
       calls = h.calls;
       run = subst (λ n. IsWindowRun n h.calls w) (sym not.size) (run_kept v.window.size h.calls v.window w all_pushed not.held not.last not.size h.run);
       came = h.came;
@@ -214,7 +229,7 @@ module _ (hands : HandsInTime) (tells : TellsLate) (bytes : List ℕ) (told : Li
 pub long_refused : (bytes : List ℕ) (told : List (Arrival TraceRequest)) (left : Option (List ℕ)) (v : ReaderView) (ls : LinesView) (fault : TraceFault) (s : Stage)
     → HasRead bytes told left v → v.stage ≡ Reading → v.lines.longest ≡ max_bytes → CutsOff v.lines cuts.TooLong ls
     → ((line : Line) → max_bytes < length line.bytes → judged_within most_lines (v.number + 1) line ≡ Err fault) → fault ≢ NoMemory → IsStage v.stage fault s
-    → IsRefused bytes told left fault (record { lines = ls; window = v.window; number = v.number; stage = s })
+    → IsRefused bytes told left fault (record { lines = ls; window = v.window; number = v.number; stage = s; has_cost = v.has_cost })
 long_refused bytes told left v ls fault s h is most off judged other stage =
     let long = off.of_each h.rest (subst (λ t. AreUntaken t h.rest v.lines) is h.untaken) in
     let line : List ℕ = long.line in
@@ -240,7 +255,7 @@ pub record IsWithout (bytes : List ℕ) (told : List (Arrival TraceRequest)) (le
   pub whole : HasNoLf read.rest
 
 pub nothing_cut : (bytes : List ℕ) (told : List (Arrival TraceRequest)) (left : Option (List ℕ)) (v : ReaderView) (ls : LinesView) → HasRead bytes told left v → v.stage ≡ Reading → CutsOff v.lines cuts.Nothing ls
-    → IsWithout bytes told left (record { lines = ls; window = v.window; number = v.number; stage = v.stage })
+    → IsWithout bytes told left (record { lines = ls; window = v.window; number = v.number; stage = v.stage; has_cost = v.has_cost })
 nothing_cut bytes told left v ls h is off =
     let none = off.of_each h.rest (subst (λ s. AreUntaken s h.rest v.lines) is h.untaken) in
     record {
@@ -252,6 +267,7 @@ nothing_cut bytes told left v ls h is off =
         number = h.number;
         requests = h.requests;
         judged = h.judged;
+        cost = h.cost;
         calls = h.calls;
         run = h.run;
         came = h.came;
@@ -265,7 +281,7 @@ nothing_cut bytes told left v ls h is off =
 -- ---- more is read
 
 pub more_read : (bytes : List ℕ) (told : List (Arrival TraceRequest)) (was left : Option (List ℕ)) (v : ReaderView) (ls : LinesView) (more : List ℕ) → (h : HasRead bytes told was v) → v.stage ≡ Reading
-    → ((rest : List ℕ) → AreUncut rest v.lines → AreUncut (rest ++ more) ls) → HasRead (bytes ++ more) told left (record { lines = ls; window = v.window; number = v.number; stage = v.stage })
+    → ((rest : List ℕ) → AreUncut rest v.lines → AreUncut (rest ++ more) ls) → HasRead (bytes ++ more) told left (record { lines = ls; window = v.window; number = v.number; stage = v.stage; has_cost = v.has_cost })
 more_read bytes told was left v ls more h is gains = record {
   lines = h.lines;
   rest = h.rest ++ more;
@@ -277,6 +293,7 @@ more_read bytes told was left v ls more h is gains = record {
   number = h.number;
   requests = h.requests;
   judged = h.judged;
+  cost = h.cost;
   calls = h.calls;
   run = h.run;
   came = h.came;
@@ -287,7 +304,7 @@ more_read bytes told was left v ls more h is gains = record {
 
 -- the input is at its end
 pub end_read : (bytes : List ℕ) (told : List (Arrival TraceRequest)) (was left : Option (List ℕ)) (v : ReaderView) (ls : LinesView) (more : List ℕ) → (h : HasRead bytes told was v) → HasNoLf h.rest → v.stage ≡ Reading → more ≡ []
-    → ((rest : List ℕ) → AreUncut rest v.lines → AreUncut (rest ++ more) ls) → IsWithout (bytes ++ more) told left (record { lines = ls; window = v.window; number = v.number; stage = v.stage })
+    → ((rest : List ℕ) → AreUncut rest v.lines → AreUncut (rest ++ more) ls) → IsWithout (bytes ++ more) told left (record { lines = ls; window = v.window; number = v.number; stage = v.stage; has_cost = v.has_cost })
 unfolding more_read
 end_read bytes told was left v ls more h whole is none gains = record {
   read = more_read bytes told was left v ls more h is gains;

@@ -1,5 +1,6 @@
 -- What was read, and what was handed out.
-use Rattle.std.specs.Prelude.{◌≡◌, ◌≢◌, ℕ, ◌+◌, ◌<◌, ◌≤◌, List, [], ◌∷◌, ◌++◌, length, map, Option, Some, None, Result, Ok, Err, IsOk, true, false, IsPermutation, ◌⊎◌}
+use Rattle.std.specs.Prelude.{◌≡◌, ◌≢◌, ℕ, ◌+◌, ◌<◌, ◌≤◌, List, [], ◌∷◌, ◌++◌, length, map, Option, Some, None, is_some, Result, Ok, Err, IsOk, true, false, IsPermutation, ◌⊎◌}
+use Rattle.std.specs.List.{list_any}
 use Rattle.std.specs.Io.KnownBytes.{Consumes, IsAtEnd, Keeps}
 use Rattle.apf_lines.specs.Lines.{AreLines, AreUncut, CutsLine, LinesView}
 use Rattle.apf_times.specs.declared.window.Arrival.{Arrival}
@@ -45,6 +46,7 @@ pub record HasRead (bytes : List ℕ) (told : List (Arrival TraceRequest)) (left
   -- their requests, each put into the window
   pub requests : List TraceRequest
   pub judged : requests_from v.window.size [] 1 (map ended lines) ≡ Ok (map entry requests)
+  pub cost : v.has_cost ≡ list_any (λ r. is_some r.cost) requests
   pub calls : List (Call TraceRequest)
   pub run : IsWindowRun v.window.size calls v.window
   pub came : all_came calls ≡ arrivals_from 1 requests

@@ -1,5 +1,5 @@
 -- What one turn of a reader does, and what a reader's fields keep.
-use Rattle.std.specs.Prelude.{◌≡◌, ◌≢◌, ℕ, ◌<◌, ◌≤◌, List, [], ◌∷◌, ◌++◌, length, true, false, Option, Some, None, Result, Ok, Err, ◌⊎◌}
+use Rattle.std.specs.Prelude.{◌≡◌, ◌≢◌, ℕ, ◌<◌, ◌≤◌, Bool, is_some, List, [], ◌∷◌, ◌++◌, length, true, false, Option, Some, None, Result, Ok, Err, ◌⊎◌}
 use Rattle.std.specs.List.{AllByRecursion}
 use Rattle.std.specs.Option.{option_to_list}
 use Rattle.std.specs.Io.KnownBytes.{Consumes, IsAtEnd}
@@ -37,7 +37,7 @@ pub record IsReader (longest number : ℕ) (window : WindowView TraceRequest) : 
   pub held : AllByRecursion (IsHeld window.last) window.held
 
 -- the line of this number is a request, which was not late and was put into the window
-pub record IsTaken (number : ℕ) (line : Line) (old : WindowView TraceRequest) (out : Option (Arrival TraceRequest)) (new : WindowView TraceRequest) : Type 0 where
+pub record IsTaken (number : ℕ) (line : Line) (old : WindowView TraceRequest) (out : Option (Arrival TraceRequest)) (new : WindowView TraceRequest) (has_cost : Bool) : Type 0 where
   pub request : TraceRequest
   pub judged : judged_within most_lines number line ≡ Ok (entry request)
   pub ranges : IsRequestInRange request
@@ -46,6 +46,8 @@ pub record IsTaken (number : ℕ) (line : Line) (old : WindowView TraceRequest) 
   pub timely : is_late (place_of number (entry request)) old.last ≡ false
   pub pushed : IsPushed (placed number request) old out new
   pub size : new.size ≡ old.size
+  -- whether it says what the request is charged
+  pub says : has_cost ≡ is_some request.cost
 
 -- the request of a line comes too late
 pub record IsLate (number : ℕ) (line : Line) (old : WindowView TraceRequest) : Type 0 where

@@ -1,5 +1,5 @@
 -- What contracts see of a reader.
-use Rattle.std.specs.Prelude.{ℕ}
+use Rattle.std.specs.Prelude.{ℕ, Bool}
 use Rattle.apf_lines.specs.Lines.{LinesView}
 use Rattle.apf_times.specs.Windows.{WindowView}
 use Rattle.apf_traces.specs.declared.request.TraceRequest.{TraceRequest}
@@ -14,3 +14,5 @@ pub record ReaderView : Type 0 where
   pub number : ℕ
   -- what comes next
   pub stage : Stage
+  -- whether a line that was taken says what its request is charged
+  pub has_cost : Bool

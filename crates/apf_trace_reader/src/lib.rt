@@ -2,7 +2,7 @@
 //!
 //! - `fault`: why no request is handed out.
 //! - `stage`: what a reader does next.
-//! - `reader`: the reader, which holds so many requests that lines may come late by as many places.
+//! - `reader`: the reader. Lines may come late by as many places as it has for requests.
 //! - `laws`: what is true of whatever was read.
 #![tactic(auto)]
 

@@ -32,6 +32,7 @@ pub struct TraceReader {
     window: Window<TraceRequest, Global>,
     number: u64,
     stage: Stage,
+    has_cost: bool,
 }
 
 impl Model for TraceReader {
@@ -41,7 +42,7 @@ impl Model for TraceReader {
 
     ghost use Rattle.apf_trace_reader.specs.Turns.{IsReader};
 
-    ghost view = { λ r. record { lines = r.lines; window = r.window; number = r.number; stage = r.stage } };
+    ghost view = { λ r. record { lines = r.lines; window = r.window; number = r.number; stage = r.stage; has_cost = r.has_cost } };
 
     ghost invariant = { λ r. IsReader r.lines.longest r.number r.window };
 }
@@ -91,14 +92,14 @@ fn unended_fault(line_reader: &mut LineReader, lines: &Lines, number: u64) -> Tr
     rest_fault(line_reader, lines.kept(), number)
 }
 
-// Puts the request that this line is into the window.
+// Puts the request that this line is into the window. Says whether the line says what the request is charged.
 fn take_line(
     line_reader: &mut LineReader,
     window: &mut Window<TraceRequest, Global>,
     line: &[u8],
     number: u64,
-) -> Result<Option<Arrival<TraceRequest>>, TraceFault>
-    ensures ok { IfOk result (λ out. IsTaken number (ended line.now) window.old out window.new) }
+) -> Result<(Option<Arrival<TraceRequest>>, bool), TraceFault>
+    ensures ok { IfOk result (λ o. IsTaken number (ended line.now) window.old o.0 window.new o.1) }
     ensures err { IfErr result (λ fault. IsNotTaken number (ended line.now) window.old fault window.new) }
 {
     let request = line_reader.read(line, true, number, MOST_LINES)?;
@@ -106,8 +107,9 @@ fn take_line(
         arrives_at: request.arrives_at,
         line: number,
     };
+    let has_cost = request.cost.is_some();
     match window.push(place, request) {
-        Ok(out) => Ok(out),
+        Ok(out) => Ok((out, has_cost)),
         Err(WindowError::TooLate) => Err(TraceFault::TooLate(number)),
         Err(WindowError::NoMemory) => Err(TraceFault::NoMemory),
     }
@@ -130,6 +132,7 @@ impl TraceReader {
             window: Window::new(alloc, size),
             number: 0,
             stage: Stage::Reading,
+            has_cost: false,
         })
     }
 
@@ -140,6 +143,18 @@ impl TraceReader {
             Stage::Failed(TraceFault::Truncated(_)) => self.lines.kept(),
             _ => self.lines.line(),
         }
+    }
+
+    /// What was read behind that line, and is no part of a line yet that was taken.
+    pub fn behind(&self) -> &[u8] {
+        self.lines.kept()
+    }
+
+    /// Whether a line that was taken says what its request is charged.
+    pub fn has_cost(&self) -> bool
+        ensures { result ≡ self.now.has_cost }
+    {
+        self.has_cost
     }
 
     // This fault was found.
@@ -167,9 +182,10 @@ impl TraceReader {
             self.lines.line(),
             number,
         ) {
-            Ok(out) => {
+            Ok((out, has_cost)) => {
                 self.number = number;
                 self.stage = Stage::Reading;
+                self.has_cost |= has_cost;
                 Ok(out)
             }
             Err(fault) => Err(self.refuse(fault)),

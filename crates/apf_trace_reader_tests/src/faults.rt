@@ -58,7 +58,7 @@ fn each_fault_has_its_line(rt: HostRuntime) -> Result<(), Fail> {
     Ok(())
 }
 
-// A good line with so many blanks behind it.
+// A good line with this many blanks behind it.
 fn padded(alloc: Global, length: usize) -> Result<Vec<u8>, Fail> {
     let mut line = Vec::new(alloc);
     for b in b"{\"hash\":1,\"arrivesAt\":2,\"runsFor\":3}" {

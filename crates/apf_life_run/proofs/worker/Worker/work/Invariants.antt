@@ -1,4 +1,4 @@
--- The worker went as often through its slots, which are as many as it had.
+-- The worker went through its slots as many times, and they are as many as it had.
 use Rattle.std.proofs.Common.{◌≡◌, [], length, All}
 use Rattle.apf_life_run.specs.Workers.{IsInRound}
 use Rattle.apf_life_run.proofs.worker.Worker.work.Given as goal

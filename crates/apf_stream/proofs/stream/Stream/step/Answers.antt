@@ -16,7 +16,7 @@ returns-clause-run c =
     let s : State = state_of c.args.self.now in
     let carried = c.in-Some.carried in
     ran_then [] [] s (state_of c.call.new.self) (state_of c.follow.new.self) c.args.ends.now.items c.call.new.ends.items c.follow.new.ends.items
-    (called_run s c.args.by carried c.next_by.new.self c.requires.tied c.in-Some.ensures.some (state_of c.call.new.self) c.args.ends.now.items c.call.new.ends.items carried.guest.stay refl c.in_ok-call.ensures.calls)
+    (called_run s c.args.by carried c.next_by.new.self c.requires.tied c.in-Some.ensures.some c.in-Some.ensures.forward (state_of c.call.new.self) c.args.ends.now.items c.call.new.ends.items carried.guest.stay refl c.in_ok-call.ensures.calls)
     c.in_ok-follow.ensures.run
 
 pub returns-clause-fewer : goal.returns-clause-fewer

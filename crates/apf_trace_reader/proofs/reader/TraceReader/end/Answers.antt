@@ -9,7 +9,7 @@ use Rattle.apf_trace_reader.proofs.reader.TraceReader.end.Goals as goal
 
 pub returns-clause-goes : goal.returns-clause-goes
 returns-clause-goes c =
-    let v : ReaderView = record { lines = c.self.inside.lines; window = c.self.inside.window; number = c.self.inside.number; stage = c.self.inside.stage } in
+    let v : ReaderView = record { lines = c.self.inside.lines; window = c.self.inside.window; number = c.self.inside.number; stage = c.self.inside.stage; has_cost = c.self.inside.has_cost } in
     let reading : v.stage ≡ Reading = ap (λ (u : ReaderView). u.stage) c.self.view_is ∙ c.requires in
     let some : TellsRest v.lines true = let there : c.has_rest.result ≡ true = search (c.if-not-has_rest.false, rules) in subst (TellsRest v.lines) there c.has_rest.ensures in
     rw (← c.self.view_is, c.refuse.ensures.told) (λ bytes told left end h whole.

@@ -19,7 +19,7 @@ pub returns-clause-goes : goal.returns-clause-goes
 returns-clause-goes c =
     rw (← c.self.view_is) (λ bytes told left h.
     handed_out c.every_window_is_in_order.ensures.same c.every_window_is_in_order.ensures.order c.every_window_is_in_order.ensures.whole bytes told left
-    (record { lines = c.self.inside.lines; window = c.self.inside.window; number = c.self.inside.number; stage = c.self.inside.stage }) c.pop.new.self c.pop.result h
+    (record { lines = c.self.inside.lines; window = c.self.inside.window; number = c.self.inside.number; stage = c.self.inside.stage; has_cost = c.self.inside.has_cost }) c.pop.new.self c.pop.result h
     (ap (λ v. v.stage) c.self.view_is ∙ c.requires) c.pop.ensures.popped c.pop.ensures.size)
 
 pub returns-clause-next : goal.returns-clause-next

@@ -9,7 +9,7 @@ use Rattle.apf_trace_reader.proofs.reader.TraceReader.turn.Goals as goal
 
 pub returns-in-TooLong-clause-goes : goal.returns-in-TooLong-clause-goes
 returns-in-TooLong-clause-goes g c =
-    let v : ReaderView = record { lines = c.self.inside.lines; window = c.self.inside.window; number = c.self.inside.number; stage = c.self.inside.stage } in
+    let v : ReaderView = record { lines = c.self.inside.lines; window = c.self.inside.window; number = c.self.inside.number; stage = c.self.inside.stage; has_cost = c.self.inside.has_cost } in
     let reading : v.stage ≡ Reading = c.in-Reading.is in
     let fault = c.too_long-fault.result in
     rw (← c.self.view_is, c.refuse.ensures.told) (λ bytes told h.
@@ -19,7 +19,7 @@ returns-in-TooLong-clause-goes g c =
 
 pub returns-in-Nothing-clause-goes : goal.returns-in-Nothing-clause-goes
 returns-in-Nothing-clause-goes g c =
-    let v : ReaderView = record { lines = c.self.inside.lines; window = c.self.inside.window; number = c.self.inside.number; stage = c.self.inside.stage } in
+    let v : ReaderView = record { lines = c.self.inside.lines; window = c.self.inside.window; number = c.self.inside.number; stage = c.self.inside.stage; has_cost = c.self.inside.has_cost } in
     let reading : v.stage ≡ Reading = c.in-Reading.is in
     rw (← c.self.view_is) (λ bytes told h.
     let without = nothing_cut bytes told (g.R.Read.remaining c.args.input.now) v c.cut.new.self h reading c.in-Nothing.ensures in

@@ -1,0 +1,9 @@
+pub mod Lines
+pub mod Cutting
+pub mod Judging
+pub mod Handing
+pub mod Owned
+pub mod Steps
+pub mod Turning
+pub mod Ends
+pub mod Short

@@ -1,0 +1,6 @@
+pub mod Summing
+pub mod Keeping
+pub mod Meeting
+pub mod Flows
+pub mod Tabling
+pub mod Ordered

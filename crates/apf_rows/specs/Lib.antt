@@ -1,0 +1,5 @@
+pub mod Accounts
+pub mod Rows
+pub mod Tables
+pub mod Texts
+pub mod Comparisons

@@ -1,0 +1,4 @@
+pub mod Asking
+pub mod Countable
+pub mod Running
+pub mod Turns

@@ -1,0 +1,88 @@
+-- A level that the requests of a trace come to, with what they came to.
+use Rattle.std.specs.Prelude.{◌≡◌, ℕ, ◌≤◌, Bool, true, false, List, [], ◌∷◌, ◌++◌, length, map, All, replicate, None}
+use Rattle.std.specs.List.{AllByRecursion}
+use Rattle.apf_model.specs.declared.config.Config.{Config}
+use Rattle.apf_charges.specs.Charging.{opening_charges}
+use Rattle.apf_charges.specs.declared.charges.ChargedBy.{ChargedBy}
+use Rattle.apf_charges.specs.declared.charges.ChargedBy.TheVariants.{Time, Seats}
+use Rattle.apf_local.specs.Openings.{IsOpened}
+use Rattle.apf_times.specs.declared.window.Arrival.{Arrival}
+use Rattle.apf_traces.specs.declared.request.TraceRequest.{TraceRequest}
+use Rattle.apf_stream.specs.declared.asked.Asked.{Asked}
+use Rattle.apf_stream.specs.declared.ended.Ended.{Ended}
+use Rattle.apf_stream.specs.Runs.{AreOf, HasRun}
+use Rattle.apf_stream.specs.States.{IsAsked, State, settling_by}
+use Rattle.apf_stream.specs.Ties.{AreTied}
+use Rattle.apf_rows.specs.Accounts.{IsInReach}
+use Rattle.apf_rows.specs.Rows.{AreRows, HaveMet, IsMet, RowsView}
+
+-- how many requests may be there at once
+abbrev pub slots : ℕ
+slots = 10000
+
+-- what the request of a line asks for
+abbrev pub asked_by : Arrival TraceRequest → Asked
+asked_by x = record {
+  line = x.place.line;
+  times = record { arrives_at = x.item.arrives_at; runs_for = x.item.runs_for };
+  width = x.item.width;
+  hash = x.item.hash;
+  cost = x.item.cost;
+}
+
+-- what requests are charged where nothing is said: their seats if a line says what its request is charged, and else time
+abbrev pub usual_charge : Bool → ChargedBy
+usual_charge true = Seats
+usual_charge false = Time
+
+-- a level of this config and a calendar of its slots, to which nobody came
+pub record IsOpening (config : Config) (patience : ℕ) (by : ChargedBy) (s : State) : Type 0 where
+  pub level : IsOpened config slots (settling_by by) s.level
+  pub slots_are : s.slots ≡ record { time = 0; patience = patience; slots = replicate slots None }
+  pub charges : s.charges ≡ opening_charges by
+
+-- What contracts see of a lane.
+pub record LaneView : Type 0 where
+  pub state : State
+  pub rows : RowsView
+  -- how many came
+  pub came : ℕ
+
+-- From a level to which nobody came, these came, and these were told. Each was counted in its row.
+pub record IsLane (opening : State) (came : List (Arrival TraceRequest)) (told : List Ended) (v : LaneView) : Type 0 where
+  pub tied : AreTied opening
+  pub nobody : AreOf [] opening
+  pub run : HasRun (map asked_by came) opening [] v.state told
+  pub still : AreTied v.state
+  pub asked : AllByRecursion IsAsked (map asked_by came)
+  pub met : HaveMet came v.rows
+  pub are : AreRows told v.rows
+  pub number : v.came ≡ length came
+
+-- some came, and some were told
+pub record IsLived (v : LaneView) : Type 0 where
+  pub opening : State
+  pub came : List (Arrival TraceRequest)
+  pub told : List Ended
+  pub lane : IsLane opening came told v
+
+-- whatever it was of before: these came more, and some were told more
+abbrev pub GoesOn : List (Arrival TraceRequest) → LaneView → LaneView → Type 0
+GoesOn more v v' = (opening : State) (came : List (Arrival TraceRequest)) (told : List Ended) → IsLane opening came told v
+    → (ends : List Ended) × IsLane opening (came ++ more) (told ++ ends) v'
+
+-- a request that was told can be counted: it is in reach, and its flow came
+pub record IsCounted (v : RowsView) (e : Ended) : Type 0 where
+  pub reach : IsInReach e
+  pub met : IsMet v e.hold.asked.hash
+
+-- those that came are met, and these were told last
+pub record IsTold (s : State) (v : RowsView) (ends : List Ended) : Type 0 where
+  pub opening : State
+  pub came : List (Arrival TraceRequest)
+  pub told : List Ended
+  pub tied : AreTied opening
+  pub nobody : AreOf [] opening
+  pub run : HasRun (map asked_by came) opening [] s (told ++ ends)
+  pub asked : AllByRecursion IsAsked (map asked_by came)
+  pub met : HaveMet came v

@@ -1,0 +1,170 @@
+//! A level with what its requests came to.
+
+ghost use Rattle.std.specs.Prelude.{◌≡◌, ◌+◌, ◌≤◌, [], ◌∷◌, ◌++◌, List, length, IfOk, IfErr, OnOk};
+ghost use Rattle.apf_times.specs.Limits.{max_patience, max_wait};
+ghost use Rattle.apf_times.specs.declared.window.Arrival.{Arrival as ArrivalOf};
+ghost use Rattle.apf_traces.specs.declared.request.TraceRequest.{TraceRequest as RequestOf};
+ghost use Rattle.apf_traces.specs.TraceValue.{IsRequestInRange};
+ghost use Rattle.apf_stream.specs.declared.ended.Ended.{Ended as EndedOf};
+ghost use Rattle.apf_stream.specs.Runs.{HasRun};
+ghost use Rattle.apf_stream.specs.States.{IsAsked, State, state_of};
+ghost use Rattle.apf_stream.specs.Ties.{AreTied};
+ghost use Rattle.apf_calendar.specs.Guests.{NothingBy};
+ghost use Rattle.apf_local.specs.Levels.{EndsFrom};
+ghost use Rattle.apf_local.specs.Openings.{CanOpen, IsOpenFault};
+ghost use Rattle.apf_rows.specs.Tables.{IsTable};
+ghost use Rattle.apf_simulator.specs.Lanes.{GoesOn, IsLane, IsLived, IsOpening, slots};
+
+use crate::asked::asked_of;
+use crate::counting::{are_countable, count_all};
+use crate::fault::SimulatorFault;
+use apf_calendar::MOST_TIME;
+use apf_charges::ChargedBy;
+use apf_line::Report;
+use apf_local::OpenFault;
+use apf_model::Config;
+use apf_rows::{Rows, Table};
+use apf_stream::{Asked, Ended, Stream, every_run_goes_on};
+use apf_times::Arrival;
+use apf_traces::TraceRequest;
+use std::alloc::Global;
+use std::marker::Model;
+
+/// How many requests may be there at once.
+pub const SLOTS: u32 = 10_000;
+
+/// A level that requests come to, with what they came to.
+#[derive(Drop)]
+pub struct Lane {
+    stream: Stream,
+    rows: Rows,
+    // who was told by the last call
+    ends: Vec<Ended>,
+    // how many came
+    came: u64,
+}
+
+impl Model for Lane {
+    ghost use Rattle.apf_stream.specs.States.{state_of};
+    ghost use Rattle.apf_simulator.specs.Lanes.{LaneView};
+
+    ghost Value = { LaneView };
+
+    ghost view = { λ l. record { state = state_of l.stream; rows = l.rows; came = l.came } };
+}
+
+// The request arrives, if a slot is free then.
+fn arrive(stream: &mut Stream, asked: Asked, ends: &mut Vec<Ended>) -> Result<(), SimulatorFault>
+    requires tied { AreTied (state_of stream.old) }
+    requires range { IsAsked asked }
+    requires forward { stream.old.calendar.time ≤ asked.times.arrives_at }
+    ensures tied { OnOk result (AreTied (state_of stream.new)) }
+    ensures run { OnOk result (HasRun (asked ∷ []) (state_of stream.old) ends.old.items (state_of stream.new) ends.new.items) }
+    ensures forward { OnOk result (stream.new.calendar.time ≤ asked.times.arrives_at) }
+{
+    match stream.arrive(asked, ends)? {
+        true => Ok(()),
+        false => Err(SimulatorFault::Crowded(asked.line, asked.times.arrives_at)),
+    }
+}
+
+impl Lane {
+    /// The level of this config, to which nobody came, for at most 10,000 requests at once. A request that waits as long as
+    /// `patience` in microseconds gives up, or never at 0.
+    ///
+    /// # Errors
+    ///
+    /// The level's fault, or `NoMemory`. Then everything is given up.
+    pub fn open(
+        alloc: Global,
+        config: &Config,
+        patience: u64,
+        by: ChargedBy,
+    ) -> Result<Lane, OpenFault>
+        requires patience { patience ≤ max_patience }
+        ensures opened { IfOk result (λ l. IsOpening config.now patience by l.state) }
+        ensures nobody { IfOk result (λ l. IsLane l.state [] [] l) }
+        ensures time { IfOk result (λ l. l.state.slots.time ≡ 0) }
+        ensures settings { OnOk result (CanOpen config.now slots) }
+        ensures fault { IfErr result (IsOpenFault config.now slots) }
+    {
+        let stream = Stream::open(alloc, config, SLOTS, patience, by)?;
+        Ok(Lane {
+            stream,
+            rows: Rows::new(alloc),
+            ends: Vec::new(alloc),
+            came: 0,
+        })
+    }
+
+    /// A request arrives, no earlier than anything that was carried out. Before that all is carried out that is due up to its
+    /// arrival. Whoever is over is counted.
+    ///
+    /// # Errors
+    ///
+    /// `Crowded` if all slots are taken then, `NoMemory`, `TooFar` or `TooMany`. Then nothing is known of the lane but that it
+    /// can be let go.
+    pub fn arrive(&mut self, came: &Arrival<TraceRequest>) -> Result<(), SimulatorFault>
+        requires range { IsRequestInRange came.now.item }
+        requires forward { self.old.state.slots.time ≤ came.now.item.arrives_at }
+        requires lived { IsLived self.old }
+        ensures goes { OnOk result (GoesOn (came.now ∷ []) self.old self.new) }
+        ensures time { OnOk result (self.new.state.slots.time ≤ came.now.item.arrives_at) }
+    {
+        every_run_goes_on();
+        if self.came == u64::MAX {
+            return Err(SimulatorFault::TooMany);
+        }
+        let asked = asked_of(came);
+        self.ends.clear();
+        self.rows.meet(came)?;
+        arrive(&mut self.stream, asked, &mut self.ends)?;
+        are_countable(&self.stream, &self.rows, self.ends.as_slice());
+        count_all(&mut self.rows, self.ends.as_slice())?;
+        self.came += 1;
+        Ok(())
+    }
+
+    /// Nobody arrives any more: all that is due is carried out. Whoever is over is counted, so that all are.
+    ///
+    /// # Errors
+    ///
+    /// `NoMemory`, `TooFar` or `TooMany`, or `StillWaits` if somebody is not over. Then nothing is known of the lane but that it
+    /// can be let go.
+    pub fn finish(&mut self) -> Result<(), SimulatorFault>
+        requires lived { IsLived self.old }
+        ensures goes { OnOk result (GoesOn [] self.old self.new) }
+        ensures over { OnOk result (NothingBy self.new.state.slots max_wait) }
+        ensures all { OnOk result (self.new.rows.all.sums.requests ≡ self.new.came) }
+    {
+        every_run_goes_on();
+        self.ends.clear();
+        self.stream.advance(MOST_TIME, &mut self.ends)?;
+        are_countable(&self.stream, &self.rows, self.ends.as_slice());
+        count_all(&mut self.rows, self.ends.as_slice())?;
+        if self.rows.sums().requests != self.came {
+            return Err(SimulatorFault::StillWaits);
+        }
+        Ok(())
+    }
+
+    /// Ends the level: what all flows came to, and what the level told.
+    ///
+    /// # Errors
+    ///
+    /// `NoMemory`. Then everything is given up.
+    pub fn close(self, alloc: Global) -> Result<(Table, Report), SimulatorFault>
+        ensures table { IfOk result (λ o. (opening : State) (came : List (ArrivalOf RequestOf)) (told : List EndedOf) → IsLane opening came told self → IsTable came told o.0) }
+        ensures report { IfOk result (λ o. EndsFrom self.state.level o.1) }
+    {
+        let Lane {
+            stream,
+            rows,
+            ends: _,
+            came: _,
+        } = self;
+        let table = rows.close()?;
+        let report = stream.end(alloc)?;
+        Ok((table, report))
+    }
+}

@@ -1,0 +1,67 @@
+"""A program without one of its allocations, for each of them in turn: it is loaded once, by tests/lib/refuse.c, and runs in a child for each."""
+
+import os
+import select
+import struct
+import subprocess
+
+HERE = os.path.dirname(os.path.abspath(__file__))
+# no run is longer, in seconds
+MOST = 120
+
+
+def shim(files):
+    """The path of what is loaded before the C library, compiled."""
+    path = files("refuse.so", b"")
+    subprocess.run(["cc", "-O1", "-shared", "-fPIC", "-o", path, os.path.join(HERE, "refuse.c")], check=True)
+    return path
+
+
+class Refusing:
+    """A program with these words and this standard input in this folder, for the length of a block."""
+
+    def __init__(self, files, shim, program, words, content=b"", cwd=None):
+        self.words, self.shim, self.cwd = [program, *words], shim, cwd
+        self.marker = os.path.join(files.folder.name, "refused")
+        self.content = files("content", content)
+
+    def __enter__(self):
+        asks, self.asks = os.pipe()
+        self.answers, answers = os.pipe()
+        environment = {**os.environ, "LD_PRELOAD": self.shim, "APF_REFUSED": self.marker, "APF_RUNS": f"{asks} {answers}"}
+        with open(self.content, "rb") as content:
+            self.process = subprocess.Popen(self.words, stdin=content, pass_fds=(asks, answers), env=environment, cwd=self.cwd, start_new_session=True)
+        os.close(asks)
+        os.close(answers)
+        return self
+
+    def __exit__(self, *_):
+        os.close(self.asks)
+        os.close(self.answers)
+        # where a run does not end, it ends now
+        try:
+            self.process.wait(1)
+        except subprocess.TimeoutExpired:
+            os.killpg(self.process.pid, 9)
+            self.process.wait()
+
+    def read(self, length):
+        parts = []
+        while length:
+            if not select.select([self.answers], [], [], MOST)[0]:
+                raise subprocess.TimeoutExpired(self.words, MOST)
+            part = os.read(self.answers, length)
+            if not part:
+                raise EOFError(f"{self.words} ended")
+            parts.append(part)
+            length -= len(part)
+        return b"".join(parts)
+
+    def without(self, number):
+        """The status, output and errors of the run without the allocation of this number, and whether it was refused: else there are fewer."""
+        if os.path.exists(self.marker):
+            os.remove(self.marker)
+        os.write(self.asks, struct.pack("q", number))
+        status, out, err = struct.unpack("qqq", self.read(24))
+        out, err = self.read(out), self.read(err)
+        return (status, out, err), os.path.exists(self.marker)

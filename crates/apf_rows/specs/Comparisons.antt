@@ -39,12 +39,13 @@ comparison_header = codes "flow requests median median-2 p99 p99-2 longest longe
 unfoldable pub percentiles_text : Bool → ℕ → Bool → ℕ → List ℕ
 percentiles_text exact one exact_2 other = (codes " " ++ percentile_text exact one) ++ (codes " " ++ percentile_text exact_2 other)
 
+-- a number of both, each with a space before it
+unfoldable pub numbers_text : ℕ → ℕ → List ℕ
+numbers_text one other = codes " " ++ decimal one ++ codes " " ++ decimal other
+
 -- the longest waits of both, who was turned away, and who gave up
 unfoldable pub lost_text : Figures → Figures → List ℕ
-lost_text one other =
-    codes " " ++ decimal one.sums.longest ++ codes " " ++ decimal other.sums.longest
-    ++ codes " " ++ decimal one.sums.rejected ++ codes " " ++ decimal other.sums.rejected
-    ++ codes " " ++ decimal one.sums.cancelled ++ codes " " ++ decimal other.sums.cancelled
+lost_text one other = numbers_text one.sums.longest other.sums.longest ++ (numbers_text one.sums.rejected other.sums.rejected ++ numbers_text one.sums.cancelled other.sums.cancelled)
 
 -- how many requests there are
 unfoldable pub requests_text : Figures → List ℕ

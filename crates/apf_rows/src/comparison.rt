@@ -4,7 +4,7 @@ ghost use Rattle.std.specs.Prelude.{◌≡◌, IfOk, OnOk, length, map, slice_ge
 ghost use Rattle.std.specs.List.{flat_map, range_with_len};
 ghost use Rattle.std.specs.List.Sorted.{IsPermutation, IsSortedBy};
 ghost use Rattle.std.specs.Io.KnownBytes.{Appends};
-ghost use Rattle.apf_rows.specs.Comparisons.{IsOrder, all_line, comes_before, comparison_header, comparison_text, figures_text, longest as the_longest, lost_text, others_line, pair_line, pair_text, percentiles_text, place_of as the_place_of, requests_text};
+ghost use Rattle.apf_rows.specs.Comparisons.{IsOrder, all_line, comes_before, comparison_header, comparison_text, figures_text, longest as the_longest, lost_text, numbers_text, others_line, pair_line, pair_text, percentiles_text, place_of as the_place_of, requests_text};
 
 use crate::account::Figures;
 use crate::table::{Line, Table, write_percentile};
@@ -100,21 +100,22 @@ fn write_percentiles<W: Write>(
     write_percentile(out, " ", is_exact_2, other)
 }
 
+// Writes a number of both.
+#[tactic(auto, unfolding(crate::specs::Comparisons::numbers_text))]
+fn write_numbers<W: Write>(out: &mut W, one: u64, other: u64) -> io::Result<()>
+    ensures { OnOk result (Appends (W.contents out.old) (W.contents out.new) (numbers_text one other)) }
+{
+    write!(out, " {one} {other}")
+}
+
 // Writes the longest waits of both, who was turned away, and who gave up.
 #[tactic(auto, unfolding(crate::specs::Comparisons::lost_text))]
 fn write_lost<W: Write>(out: &mut W, one: &Figures, other: &Figures) -> io::Result<()>
     ensures { OnOk result (Appends (W.contents out.old) (W.contents out.new) (lost_text one.now other.now)) }
 {
-    let longest = one.sums.longest;
-    let longest_2 = other.sums.longest;
-    let rejected = one.sums.rejected;
-    let rejected_2 = other.sums.rejected;
-    let cancelled = one.sums.cancelled;
-    let cancelled_2 = other.sums.cancelled;
-    write!(
-        out,
-        " {longest} {longest_2} {rejected} {rejected_2} {cancelled} {cancelled_2}"
-    )
+    write_numbers(out, one.sums.longest, other.sums.longest)?;
+    write_numbers(out, one.sums.rejected, other.sums.rejected)?;
+    write_numbers(out, one.sums.cancelled, other.sums.cancelled)
 }
 
 // Writes the figures of both.

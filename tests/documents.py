@@ -179,11 +179,11 @@ text = open(os.path.join(TOP, "crates", "apf_flow", "src", "fault.rt"), encoding
 numbers = dict(re.findall(r"^    (\w+) = (\d+),", text, re.M))
 wanted["dealer"] = [(numbers[name], False, line) for name, line in re.findall(r"DealerFault::(\w+) => \"(.*)\"", text)]
 tally.check("the files whose faults are listed", sorted(listed), sorted(wanted))
-# the lines of a trace's and an audit log's faults say more than their texts, so their tables have the numbers, in order; the last is out of memory
+# the lines of a trace's and an audit log's faults say more than their texts, so their tables have the numbers, in order; that of memory stands apart
 for name in ("trace", "audit"):
     rows = re.search(rf"^For .*\(`apf: {name} fault N at line L: \.\.`\).*\n\n((?:\|.*\n)+)", page, re.M)[1]
     text = open(os.path.join(TOP, "crates", {"trace": "apf_traces", "audit": "apf_audit"}[name], "src", "fault.rt"), encoding="utf-8").read()
-    *numbered, _ = re.findall(r"=> (\d+),", text)
+    numbered = [number for fault, number in re.findall(r"Fault::(\w+)(?:\([_, ]*\))? => (\d+),", text) if fault != "NoMemory"]
     tally.check(f"the faults of the {name} that are listed", re.findall(r"^\| (\d+) \|", rows, re.M), numbered)
 for name in wanted:
     tally.check(f"the faults of the {name} that are listed", sorted(listed.get(name, [])), sorted(wanted[name]))

@@ -242,8 +242,9 @@ def check_audit():
     page.until("return document.getElementById('file-name').textContent === 'many.log' && !document.getElementById('audit').hidden")
     page.click("#audit button")
     page.until("return !document.getElementById('file-fault').hidden")
-    want = run(program, ["trace", "--by=namespace", "--", many, "x"])[2].decode().strip()
-    tally.check("a log of too many requests", (fault("file"), want[:19], page.run("return document.getElementById('some').open")), (want, "apf: audit fault 9:", True))
+    trace = files("many.jsonl", run(program, ["trace", "--by=namespace", "--", many, "x"])[1])
+    want = run(program, ["fates", files("config.json", json.dumps(LEVEL)), trace, "8s"])[2].decode().strip()
+    tally.check("a log of too many requests", (fault("file"), want[:27], page.run("return document.getElementById('some').open")), (want, "apf: trace fault 1 at line ", True))
     turned = json.dumps({**json.loads(next(it for it in lines if "ResponseComplete" in it)), "responseStatus": {"code": 429}})
     log = files("turned.log", "\n".join([turned, *lines]))
     drop("turned.log", open(log, "rb").read())
@@ -554,7 +555,7 @@ def check_hosts():
     tally.check("a larger file", served.ask("POST", words, **fields, Content_Length=str(LARGEST + 1))[0], 413)
     tally.check("a file of no length", served.ask("POST", words, **fields)[0], 411)
     status, text, _ = served.ask("POST", words, bytes(LARGEST), **fields, Content_Length=str(LARGEST))
-    tally.check("the largest file", (status, json.loads(text)["errors"]), (200, f"apf: trace fault 2 at line 1: the line has {LARGEST} bytes: at most 65536 may be there\n"))
+    tally.check("the largest file", (status, json.loads(text)["errors"]), (200, "apf: trace fault 2 at line 1: the line has more than 65536 bytes\n"))
     for path in ("/../page", "/page", "/%2e%2e/README.md", "/noisy-client/../../README.md", "/README.md", "//etc/passwd"):
         tally.check(f"no other file: {path}", served.ask("GET", path, Host=own)[0], 404)
     for path in ("/serve", "/replay", "/"):

@@ -132,6 +132,15 @@ def nearest_rank(waits, percent):
     return 0
 
 
+def shown_rank(waits, percent):
+    """The same as it is printed: of more than 10,000 waits with a mark, and with zeros behind its first eight binary digits."""
+    rank = nearest_rank(waits, percent)
+    if len(waits) <= 10_000:
+        return str(rank)
+    behind = max(0, rank.bit_length() - 8)
+    return f"~{rank >> behind << behind}"
+
+
 def flow_line(run, flow, members):
     decisions = [run.level.decided[it] for it in members]
     executed, cancelled = decisions.count("execute"), decisions.count("cancelled")
@@ -140,7 +149,7 @@ def flow_line(run, flow, members):
         f"flow {flow:016x} requests {len(members)}"
         f" executed {executed} rejected {len(members) - executed - cancelled} cancelled {cancelled}"
         f" seat-time {sum(map(run.seat_time, members))}"
-        f" wait median {nearest_rank(waits, 50)} p99 {nearest_rank(waits, 99)} longest {max(waits, default=0)}{of_names(run.trace, members)}"
+        f" wait median {shown_rank(waits, 50)} p99 {shown_rank(waits, 99)} longest {max(waits, default=0)}{of_names(run.trace, members)}"
     )
 
 
@@ -173,7 +182,7 @@ def figures(run, members):
     waits = [run.wait(it) for it in members if it in run.started]
     gave_up = [it for it in members if run.level.decided[it] == "cancelled"]
     rejected = len(members) - len(waits) - len(gave_up)
-    return [nearest_rank(waits, 50), nearest_rank(waits, 99), max(waits, default=0), rejected, len(gave_up)]
+    return [shown_rank(waits, 50), shown_rank(waits, 99), max(waits, default=0), rejected, len(gave_up)]
 
 
 def compare(one, other):
@@ -255,7 +264,7 @@ def answer(command, contents, patience=None, charge=None):
     try:
         *configs, content = contents
         levels = [config_of(it) for it in configs]
-        trace = trace_of(content)
+        trace = trace_of(content, in_pieces=command in (simulate, compare))
         for level in levels:
             fault = level["limitResponse"] == "Queue" and dealer_fault(level["queues"], level["handSize"])
             if fault:

@@ -116,13 +116,14 @@ def request_of(value):
     }
 
 
-def trace_of(content):
+def trace_of(content, in_pieces=False):
+    """The requests of a trace. One that is read in pieces may have any number of lines, and no line that is too long is kept."""
     requests = []
     for number, (line, is_ended) in enumerate(lines_of(content), 1):
-        if number > LINES:
+        if number > LINES and not in_pieces:
             raise TraceFault(TOO_MANY, number, told(TOO_MANY, line))
         if len(line) > BYTES:
-            raise TraceFault(TOO_LONG, number, told(TOO_LONG, line))
+            raise TraceFault(TOO_LONG, number, f"the line has more than {BYTES} bytes" if in_pieces else told(TOO_LONG, line))
         try:
             value = value_of(line)
         except NotJson:

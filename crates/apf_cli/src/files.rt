@@ -132,18 +132,30 @@ pub trait Files {
 #[derive(Drop)]
 pub(crate) struct Source<'a, F: Files> {
     files: &'a mut F,
+    // whether the newest call read nothing
+    is_ended: bool,
 }
 
 impl<'a, F: Files> Source<'a, F> {
     /// Standard input, or the file that was opened last.
     pub(crate) fn of(files: &'a mut F) -> Source<'a, F> {
-        Source { files }
+        Source {
+            files,
+            is_ended: false,
+        }
+    }
+
+    /// Whether its end was reached: the newest call read nothing.
+    pub(crate) fn is_ended(&self) -> bool {
+        self.is_ended
     }
 }
 
 impl<F: Files> Read for Source<'_, F> {
     fn read(&mut self, buf: &mut [u8]) -> io::Result<usize> {
-        self.files.read_some(buf)
+        let count = self.files.read_some(buf)?;
+        self.is_ended = count == 0;
+        Ok(count)
     }
 }
 

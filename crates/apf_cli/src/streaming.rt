@@ -1,7 +1,7 @@
 //! Simulations of traces that are read in pieces.
 
 use crate::faults::Fault;
-use crate::files::{Files, Input, cause_of, judge_names, open_input};
+use crate::files::{Files, Input, Source, cause_of, judge_names, open_input};
 use crate::reading::{config_of, level_fault};
 use crate::telling::{named, trace_line_fault};
 use crate::traces::{Way, charge_of, patience_of};
@@ -9,18 +9,18 @@ use apf_run::Config;
 use apf_simulator::{SimulatorFault, compare, simulate};
 use apf_trace_reader::{ReadFault, TraceReader, WINDOW};
 use std::alloc::Global;
-use std::io::{Read, Write};
+use std::io::Write;
 
 // A level's config, and the name of its file.
 type Level<'a> = (&'a str, &'a Config);
 
 // The fault of a trace of this name that is read in pieces, and of what runs on these levels.
-fn fault_of<R: Read>(
+fn fault_of<F: Files>(
     alloc: Global,
     trace: &str,
     levels: (Level<'_>, Level<'_>),
     reader: &TraceReader,
-    input: &mut R,
+    input: &mut Source<'_, F>,
     fault: SimulatorFault,
 ) -> Fault {
     match fault {

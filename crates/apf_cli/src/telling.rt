@@ -3,7 +3,7 @@
 ghost use Rattle.apf_cli.specs.Told.{IsTraceTold, IsAuditTold, IsAuditLineTold};
 
 use crate::faults::Fault;
-use crate::files::shown;
+use crate::files::{Files, Source, shown};
 use apf_audit::AuditFault;
 use apf_explain::{explain_audit_line, explain_audit_log, explain_trace, explain_trace_line};
 use apf_trace_reader::TraceReader;
@@ -25,14 +25,18 @@ pub(crate) fn trace_fault(alloc: Global, bytes: &[u8], fault: TraceFault) -> Fau
     }
 }
 
-// What the input has of the file whose first line was read, up to 64 KiB: that line, what is read behind it, and what follows.
-fn front_of<R: Read>(
+// What is known of a file whose first line is no JSON, up to 64 KiB, so that what it is can be told: that line, what is read
+// behind it, and what follows. Without an LF that line is what was read.
+fn front_of<F: Files>(
     alloc: Global,
     reader: &TraceReader,
-    input: &mut R,
+    input: &mut Source<'_, F>,
 ) -> Result<Vec<u8>, AllocError> {
-    let mut front = reader.line().to_vec(alloc)?;
-    front.push(b'\n')?;
+    let mut front = Vec::new(alloc);
+    if !input.is_ended() {
+        front.extend_from_slice(reader.line())?;
+        front.push(b'\n')?;
+    }
     front.extend_from_slice(reader.behind())?;
     if front.len() <= MOST_FRONT {
         let room = (MOST_FRONT - front.len()) as u64;
@@ -43,22 +47,32 @@ fn front_of<R: Read>(
 }
 
 /// The fault of a trace that is read in pieces, with the line that says what stands there and what may stand there. The reader
-/// has read from the input.
-pub(crate) fn trace_line_fault<R: Read>(
+/// has read from the input. Each whole line is judged before the end is reached, so that a fault at the end is of what stands
+/// behind the last LF.
+pub(crate) fn trace_line_fault<F: Files>(
     alloc: Global,
     reader: &TraceReader,
-    input: &mut R,
+    input: &mut Source<'_, F>,
     fault: TraceFault,
 ) -> Fault {
+    if let TraceFault::TooLong(_) = fault {
+        // not all of such a line is kept, so that its length is not known
+        return trace_fault(alloc, &[], fault);
+    }
     if fault == TraceFault::NotUtf8Json(1) {
         return match front_of(alloc, reader, input) {
             Ok(front) => trace_fault(alloc, front.as_slice(), fault),
             Err(_) => Fault::NoMemory,
         };
     }
-    let mut line = Vec::new(alloc);
-    match explain_trace_line(alloc, reader.line(), fault, &mut line) {
-        Ok(()) => Fault::Told(line),
+    let line = if input.is_ended() {
+        reader.behind()
+    } else {
+        reader.line()
+    };
+    let mut text = Vec::new(alloc);
+    match explain_trace_line(alloc, line, fault, &mut text) {
+        Ok(()) => Fault::Told(text),
         Err(_) => Fault::NoMemory,
     }
 }

@@ -107,7 +107,7 @@ tally.check(f"22 MB are refused in well under a second: {took:.2f} s", took < 1,
 tally.check(f"22 MB are refused with little memory: {mebibytes} MiB", mebibytes < 128, True)
 print(f"a requests file of 22 MB is refused in {took:.2f} s, with {mebibytes} MiB")
 
-# audit logs of 64 MiB: of one line, which is too long, and of seven lines that are not, each with millions of empty arrays
+# audit logs of 64 MiB: of one line, which is too long, and of 63 lines that are not, each with hundreds of thousands of empty arrays
 EVENT = (
     b'{"stage":"ResponseComplete","verb":"get","user":{"username":"a"},"requestReceivedTimestamp":"2026-11-25T12:00:00Z",'
     b'"stageTimestamp":"2026-11-25T12:00:01Z","requestObject":[%s0]}'
@@ -118,9 +118,9 @@ def event_of(size):
     return EVENT % (b"[]," * ((size - len(EVENT) + 2) // 3))
 
 
-one, seven = event_of((64 << 20) - 1), event_of(8 << 20)
-said = f"apf: audit fault 1 at line 1: the line has {len(one)} bytes: at most 8388608 may be there\n".encode()
-for name, content, status, err in (("one line", one + b"\n", 1, said), ("seven lines", 7 * (seven + b"\n"), 0, b"")):
+one, longest = event_of((64 << 20) - 1), event_of(1 << 20)
+said = b"apf: audit fault 1 at line 1: the line has more than 1048576 bytes\n"
+for name, content, status, err in (("one line", one + b"\n", 1, said), ("63 lines", 63 * (longest + b"\n"), 0, b"")):
     tally.check(f"a log of {name} is not too large", len(content) <= 64 << 20, True)
     got, _, mebibytes = measured(["trace", files("log", content), "s"])
     tally.check(f"a log of {name}", (got[0], got[2]), (status, err))

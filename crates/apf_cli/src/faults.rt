@@ -9,7 +9,6 @@ use apf_local::OpenFault;
 use apf_run::{
     ConfigFault, LevelFault, ReplayFault, RequestFault, RunFault, ScriptFault, WriteFault,
 };
-use apf_simulation::SimulationFault;
 use std::alloc::AllocError;
 use std::io::Write;
 use std::{fmt, io};
@@ -73,6 +72,8 @@ pub enum Fault {
     TooFar,
     /// A simulation has more requests than can be counted.
     TooMany,
+    /// A simulation has more requests than a script, or a picture, may have.
+    TooManyListed,
     CannotRead(Input, Cause),
     /// The file has more bytes than it may have, and begins with these.
     TooLarge(Input, Vec<u8>),
@@ -119,6 +120,7 @@ impl Fault {
             | Fault::Crowded(_, _)
             | Fault::TooFar
             | Fault::TooMany
+            | Fault::TooManyListed
             | Fault::CannotRead(_, _)
             | Fault::CannotReadCommands
             | Fault::TooLarge(_, _)
@@ -190,17 +192,6 @@ impl From<RunFault> for Fault {
             RunFault::Worker(number) => Fault::Worker(number),
             RunFault::Gate(fault) => ReplayFault::Gate(fault).into(),
             RunFault::Level(fault) => ReplayFault::Level(fault).into(),
-        }
-    }
-}
-
-impl From<SimulationFault> for Fault {
-    fn from(fault: SimulationFault) -> Fault {
-        match fault {
-            SimulationFault::Open(OpenFault::Gate(fault)) => ReplayFault::Gate(fault).into(),
-            SimulationFault::Open(OpenFault::Level(fault)) => ReplayFault::Level(fault).into(),
-            SimulationFault::Open(OpenFault::NoMemory) => Fault::NoMemory,
-            SimulationFault::StillWaits => Fault::StillWaits,
         }
     }
 }
@@ -295,6 +286,9 @@ impl fmt::Display for Fault {
                 f.write_str("apf: a request would finish after 200000000 seconds, the latest time")
             }
             Fault::TooMany => f.write_str("apf: there are more requests than can be counted"),
+            Fault::TooManyListed => f.write_str(
+                "apf: there are more than 10000 requests: simulate, compare and fates take any number",
+            ),
             Fault::CannotRead(input, _) => write!(f, "apf: cannot read {input}"),
             Fault::TooLarge(input, _) => {
                 let most = input.most();

@@ -5,8 +5,8 @@
 //! - `files`: where the files' bytes come from.
 //! - `reading`: reads and judges the files of a level, and says what is wrong with one. `explaining` prints that, and
 //!   `telling` says it of other files.
-//! - `streaming`: simulates a trace that is read in pieces. `traces`, `comparing`, `pictures`, `bounds`: do the other commands on a
-//!   trace. `audits`: does that on an audit log.
+//! - `streaming`: simulates a trace that is read in pieces, and `pictures` draws that. `traces`: does the other commands on a trace.
+//!   `audits`: does that on an audit log.
 //! - `running`: runs requests by workers. `serving`: serves a level over standard input.
 //! - `measuring`: how large an output will be, before its first byte. `notes`: the lines beside an output.
 //! - `program`: does the others, and answers the status.
@@ -14,9 +14,7 @@
 #![tactic(auto)]
 
 mod audits;
-mod bounds;
 mod clusters;
-mod comparing;
 mod explaining;
 mod faults;
 mod files;

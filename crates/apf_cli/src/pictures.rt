@@ -1,31 +1,27 @@
 //! The command that draws a simulation.
 
-ghost use Rattle.std.specs.Prelude.{◌≡◌, ◌≤◌, IfOk, vec_len, length};
+ghost use Rattle.std.specs.Prelude.{◌≡◌, IfOk, vec_len, length};
 
 use crate::faults::Fault;
 use crate::files::Files;
-use crate::traces::{Way, simulated};
+use crate::streaming::simulated;
+use crate::traces::Way;
 use apf_flows::flows_of;
 use apf_picture::{Outcome, Picture, Scene};
-use apf_simulation::End;
+use apf_stream::Ended;
 use std::alloc::{AllocError, Global};
 use std::io::Write;
 
 // What a picture shows of each request: its decision, its wait, and the queue that it entered.
-fn outcomes_of(
-    alloc: Global,
-    queues: &[Option<u32>],
-    ends: &[End],
-) -> Result<Vec<Outcome>, AllocError>
-    requires { length queues.now ≡ length ends.now }
+fn outcomes_of(alloc: Global, ends: &[Ended]) -> Result<Vec<Outcome>, AllocError>
     ensures { IfOk result (λ outcomes. vec_len outcomes ≡ length ends.now) }
 {
     let mut outcomes = Vec::with_capacity(alloc, ends.len())?;
-    for (number, end) in ends.iter().enumerate() {
+    for ended in ends {
         outcomes.push(Outcome {
-            decision: end.decision,
-            wait: end.wait,
-            queue: queues[number],
+            decision: ended.decision,
+            wait: ended.wait(),
+            queue: ended.hold.queue,
         })?;
     }
     Ok(outcomes)
@@ -36,7 +32,7 @@ fn outcomes_of(
 /// # Errors
 ///
 /// The faults of the patience and of what requests are charged, then those of the files in the order config, trace, then
-/// those of the level, then those of the output.
+/// those of the level, then those of what runs on it, then those of the output; and `TooManyListed`.
 pub(crate) fn print_picture<F: Files, O: Write>(
     alloc: Global,
     files: &mut F,
@@ -44,18 +40,14 @@ pub(crate) fn print_picture<F: Files, O: Write>(
     way: Way<'_>,
     out: &mut O,
 ) -> Result<(), Fault> {
-    let (config, trace, simulation) = simulated(alloc, files, names, way)?;
-    let outcomes = outcomes_of(
-        alloc,
-        simulation.queues.as_slice(),
-        simulation.ends.as_slice(),
-    )?;
-    let flows = flows_of(alloc, trace.as_slice())?;
+    let (config, patience, listed) = simulated(alloc, files, names, way, out)?;
+    let outcomes = outcomes_of(alloc, listed.ends.as_slice())?;
+    let flows = flows_of(alloc, listed.requests.as_slice())?;
     let scene = Scene {
         config,
-        patience: simulation.whole.patience,
-        end: simulation.whole.end,
-        trace: trace.as_slice(),
+        patience,
+        end: listed.end,
+        trace: listed.requests.as_slice(),
         flows: &flows,
         outcomes: outcomes.as_slice(),
     };

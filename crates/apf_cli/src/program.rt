@@ -8,9 +8,7 @@ ghost use Rattle.apf_commands.specs.Commands.{is_script_command, is_simulation_c
 ghost use Rattle.apf_commands.specs.Meaning.{IsInRange, words_fault};
 
 use crate::audits::print_trace;
-use crate::bounds::print_bounded;
 use crate::clusters::{print_cluster, print_matches};
-use crate::comparing::print_fates;
 use crate::explaining::print_explanation;
 use crate::faults::{Fault, Sizes};
 use crate::files::{Files, judge_names};
@@ -19,8 +17,8 @@ use crate::pictures::print_picture;
 use crate::reading::{Explained, level_fault, read_level, script_in};
 use crate::running::print_run;
 use crate::serving::{Served, print_served};
-use crate::streaming::print_comparison;
-use crate::traces::{Way, print_hands, print_requests, print_timeline};
+use crate::streaming::{print_comparison, print_fates, print_simulation, print_timeline};
+use crate::traces::{Way, print_hands, print_requests};
 use apf_commands::{Action, Arguments, read_words};
 use apf_flow::{Dealer, flow_hash};
 use apf_flows::write_escaped;
@@ -196,7 +194,7 @@ fn print_action<F: Files, O: Write, E: Write + IsTerminal, R: Wait + Threads + S
             bound,
         } => {
             let way = Way { patience, charge };
-            print_bounded(alloc, files, (config, trace), way, bound, out)?;
+            print_simulation(alloc, files, (config, trace), way, bound, out)?;
             note_patience(patience, err);
             Ok(())
         }

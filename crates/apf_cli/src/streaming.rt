@@ -1,12 +1,17 @@
 //! Simulations of traces that are read in pieces.
 
+ghost use Rattle.std.specs.Prelude.{◌≤◌, IfOk};
+
 use crate::faults::Fault;
 use crate::files::{Files, Input, Source, cause_of, judge_names, open_input};
 use crate::reading::{config_of, level_fault};
 use crate::telling::{named, trace_line_fault};
 use crate::traces::{Way, charge_of, patience_of};
+use apf_charges::ChargedBy;
 use apf_run::Config;
-use apf_simulator::{SimulatorFault, compare, simulate};
+use apf_simulator::{
+    Listed, SimulatorFault, Terms, compare, list, simulate, write_fates, write_timeline,
+};
 use apf_trace_reader::{ReadFault, TraceReader, WINDOW};
 use std::alloc::Global;
 use std::io::Write;
@@ -40,37 +45,147 @@ fn fault_of<F: Files>(
         SimulatorFault::Crowded(line, at) => Fault::Crowded(line, at),
         SimulatorFault::TooFar => Fault::TooFar,
         SimulatorFault::TooMany => Fault::TooMany,
+        SimulatorFault::TooManyListed => Fault::TooManyListed,
+        SimulatorFault::BoundOfSeats => Fault::BoundOfSeats,
         SimulatorFault::StillWaits => Fault::StillWaits,
         SimulatorFault::CannotWrite => Fault::CannotWrite,
         SimulatorFault::NoMemory => Fault::NoMemory,
     }
 }
 
-/// Simulates the trace on the level of the config, and prints what its flows met and the book. The trace is read in pieces, so
-/// it may have any length.
+// How the requests of a trace wait, and what they are charged, by the words of a command line.
+fn terms_of(way: Way<'_>) -> Result<Terms, Fault>
+    ensures { IfOk result (λ terms. terms.patience ≤ 1000000000) }
+{
+    Ok(Terms {
+        patience: patience_of(way.patience)?,
+        by: charge_of(way.charge)?,
+        has_bound: false,
+    })
+}
+
+// The trace of this name, to be read in pieces.
+fn open_trace<'a, F: Files>(
+    alloc: Global,
+    files: &'a mut F,
+    name: &str,
+) -> Result<Source<'a, F>, Fault> {
+    match open_input(files, Input::Trace, name) {
+        Ok(input) => Ok(input),
+        Err(fault) => Err(named(alloc, name, fault)),
+    }
+}
+
+/// Simulates the trace on the level of the config, and prints what its flows met and the book, and if it is asked for both sides
+/// of the bound. The trace is read in pieces, so it may have any length.
 ///
 /// # Errors
 ///
 /// The faults of the patience and of what requests are charged, then those of the files in the order config, trace, then
-/// those of the level, then those of what runs on it, then those of the output.
+/// those of the level, then those of what runs on it, then those of the output; and with a bound `BoundOfSeats` if requests are
+/// charged their seats.
 pub(crate) fn print_simulation<F: Files, O: Write>(
+    alloc: Global,
+    files: &mut F,
+    names: (&str, &str),
+    way: Way<'_>,
+    has_bound: bool,
+    out: &mut O,
+) -> Result<(), Fault> {
+    let mut terms = terms_of(way)?;
+    terms.has_bound = has_bound;
+    if has_bound && terms.by == Some(ChargedBy::Seats) {
+        return Err(Fault::BoundOfSeats);
+    }
+    judge_names(&[names.0, names.1])?;
+    let config = config_of(alloc, files, names.0)?;
+    let mut input = open_trace(alloc, files, names.1)?;
+    let mut reader = TraceReader::new(alloc, WINDOW)?;
+    match simulate(alloc, &config, terms, &mut reader, &mut input, out) {
+        Ok(()) => Ok(()),
+        Err(fault) => {
+            let level = (names.0, &config);
+            Err(fault_of(alloc, names.1, (level, level), &reader, &mut input, fault))
+        }
+    }
+}
+
+/// Simulates the trace on the level of the config, and prints what became of each request. The trace is read in pieces, so it
+/// may have any length.
+///
+/// # Errors
+///
+/// As of `print_simulation`.
+pub(crate) fn print_fates<F: Files, O: Write>(
     alloc: Global,
     files: &mut F,
     names: (&str, &str),
     way: Way<'_>,
     out: &mut O,
 ) -> Result<(), Fault> {
-    let patience = patience_of(way.patience)?;
-    let by = charge_of(way.charge)?;
+    let terms = terms_of(way)?;
     judge_names(&[names.0, names.1])?;
     let config = config_of(alloc, files, names.0)?;
-    let mut input = match open_input(files, Input::Trace, names.1) {
-        Ok(input) => input,
-        Err(fault) => return Err(named(alloc, names.1, fault)),
-    };
+    let mut input = open_trace(alloc, files, names.1)?;
     let mut reader = TraceReader::new(alloc, WINDOW)?;
-    match simulate(alloc, &config, patience, by, &mut reader, &mut input, out) {
+    match write_fates(alloc, &config, terms, &mut reader, &mut input, out) {
         Ok(()) => Ok(()),
+        Err(fault) => {
+            let level = (names.0, &config);
+            Err(fault_of(alloc, names.1, (level, level), &reader, &mut input, fault))
+        }
+    }
+}
+
+/// Simulates a trace of at most 10,000 requests on the level of the config, and prints the script of the simulation.
+///
+/// # Errors
+///
+/// As of `print_simulation`, and `TooManyListed`.
+pub(crate) fn print_timeline<F: Files, O: Write>(
+    alloc: Global,
+    files: &mut F,
+    names: (&str, &str),
+    way: Way<'_>,
+    out: &mut O,
+) -> Result<(), Fault> {
+    let terms = terms_of(way)?;
+    judge_names(&[names.0, names.1])?;
+    let config = config_of(alloc, files, names.0)?;
+    let mut input = open_trace(alloc, files, names.1)?;
+    let mut reader = TraceReader::new(alloc, WINDOW)?;
+    match write_timeline(alloc, &config, terms, &mut reader, &mut input, out) {
+        Ok(()) => Ok(()),
+        Err(fault) => {
+            let level = (names.0, &config);
+            Err(fault_of(alloc, names.1, (level, level), &reader, &mut input, fault))
+        }
+    }
+}
+
+/// A level's config, for how long a request waits at it before it gives up, and the requests of a trace that ran on it, each with
+/// what became of it.
+pub(crate) type Simulated = (Config, u64, Listed);
+
+/// Simulates a trace of at most 10,000 requests on the level of the config, and lists its requests. Nothing is written.
+///
+/// # Errors
+///
+/// As of `print_simulation`, and `TooManyListed`.
+pub(crate) fn simulated<F: Files, O: Write>(
+    alloc: Global,
+    files: &mut F,
+    names: (&str, &str),
+    way: Way<'_>,
+    out: &mut O,
+) -> Result<Simulated, Fault> {
+    let terms = terms_of(way)?;
+    judge_names(&[names.0, names.1])?;
+    let config = config_of(alloc, files, names.0)?;
+    let mut input = open_trace(alloc, files, names.1)?;
+    let mut reader = TraceReader::new(alloc, WINDOW)?;
+    match list(alloc, &config, terms, &mut reader, &mut input, out) {
+        Ok(listed) => Ok((config, terms.patience, listed)),
         Err(fault) => {
             let level = (names.0, &config);
             Err(fault_of(alloc, names.1, (level, level), &reader, &mut input, fault))
@@ -92,21 +207,16 @@ pub(crate) fn print_comparison<F: Files, O: Write>(
     way: Way<'_>,
     out: &mut O,
 ) -> Result<(), Fault> {
-    let patience = patience_of(way.patience)?;
-    let by = charge_of(way.charge)?;
+    let terms = terms_of(way)?;
     judge_names(&[names.0, names.1, names.2])?;
     let one = config_of(alloc, files, names.0)?;
     let other = config_of(alloc, files, names.1)?;
-    let mut input = match open_input(files, Input::Trace, names.2) {
-        Ok(input) => input,
-        Err(fault) => return Err(named(alloc, names.2, fault)),
-    };
+    let mut input = open_trace(alloc, files, names.2)?;
     let mut reader = TraceReader::new(alloc, WINDOW)?;
     match compare(
         alloc,
         (&one, &other),
-        patience,
-        by,
+        terms,
         &mut reader,
         &mut input,
         out,

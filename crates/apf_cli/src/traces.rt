@@ -1,8 +1,7 @@
 //! The commands on a trace: each reads its files, and prints.
 
-ghost use Rattle.std.specs.Prelude.{◌≡◌, ◌≤◌, All, IfErr, IfOk, length, unwrap_or, vec_len};
+ghost use Rattle.std.specs.Prelude.{◌≡◌, ◌≤◌, All, IfErr, IfOk, length, vec_len};
 ghost use Rattle.apf_cli.specs.Choices.{IsChargeNamed, IsNoChargeFor};
-ghost use Rattle.apf_simulation.specs.Charged.{usual_charge as the_usual_charge};
 ghost use Rattle.apf_traces.specs.TraceFile.{max_lines};
 ghost use Rattle.apf_traces.specs.TraceValue.{IsRequestInRange};
 
@@ -15,10 +14,7 @@ use crate::telling::{named, trace_fault};
 use apf_charges::ChargedBy;
 use apf_commands::read_patience;
 use apf_flows::{HandsFault, write_hands, write_hands_of, write_requests};
-use apf_gate::Counts;
 use apf_run::Config;
-use apf_simulation::{Simulation, Watch, simulate, usual_charge};
-use apf_texts::Totals;
 use apf_traces::{TraceRequest, read_trace};
 use std::alloc::Global;
 use std::io::Write;
@@ -64,16 +60,6 @@ pub(crate) fn charge_of(word: Option<&str>) -> Result<Option<ChargedBy>, Fault>
     }
 }
 
-/// What the requests of a trace are charged: this, or what they usually are.
-pub(crate) fn charge_or_usual(by: Option<ChargedBy>, trace: &[TraceRequest]) -> ChargedBy
-    ensures { result ≡ unwrap_or by (the_usual_charge trace.now) }
-{
-    match by {
-        Some(by) => by,
-        None => usual_charge(trace),
-    }
-}
-
 /// Reads the trace.
 pub(crate) fn read_requests<F: Files>(
     alloc: Global,
@@ -106,124 +92,6 @@ pub(crate) fn read_both<F: Files>(
     let config = config_of(alloc, files, names.0)?;
     let trace = read_requests(alloc, files, names.1)?;
     Ok((config, trace))
-}
-
-/// Simulates the trace on the level of the config of this name.
-///
-/// # Errors
-///
-/// Those of the level, of which a dealer's names the config.
-pub(crate) fn simulated_on(
-    alloc: Global,
-    name: &str,
-    config: &Config,
-    trace: &[TraceRequest],
-    patience: u64,
-    by: ChargedBy,
-    watch: &mut Watch,
-) -> Result<Simulation, Fault>
-    requires few { length trace.now ≤ max_lines }
-    requires ranges { All IsRequestInRange trace.now }
-    requires patience { patience ≤ 1000000000 }
-    ensures each { IfOk result (λ s. length s.ends.items ≡ length trace.now) }
-    ensures all_queues { IfOk result (λ s. length s.queues.items ≡ length trace.now) }
-{
-    match simulate(alloc, config, trace, patience, by, watch) {
-        Ok(simulation) => Ok(simulation),
-        Err(fault) => Err(level_fault(alloc, name, config, fault.into()).told(alloc, true)),
-    }
-}
-
-/// A trace with the config of its level, and the simulation of both.
-pub(crate) type Simulated = (Config, Vec<TraceRequest>, Simulation);
-
-/// Reads the two files, and simulates the trace.
-///
-/// # Errors
-///
-/// The faults of the patience and of what requests are charged, then those of the files in the order config, trace, then
-/// those of the level.
-pub(crate) fn simulated<F: Files>(
-    alloc: Global,
-    files: &mut F,
-    names: (&str, &str),
-    way: Way<'_>,
-) -> Result<Simulated, Fault>
-    ensures few { IfOk result (λ o. vec_len o.1 ≤ max_lines) }
-    ensures each { IfOk result (λ o. vec_len o.2.ends ≡ vec_len o.1) }
-    ensures all_queues { IfOk result (λ o. vec_len o.2.queues ≡ vec_len o.1) }
-{
-    let patience = patience_of(way.patience)?;
-    let by = charge_of(way.charge)?;
-    let (config, trace) = read_both(alloc, files, names)?;
-    let by = charge_or_usual(by, trace.as_slice());
-    let watch = &mut Watch::off();
-    let simulation = simulated_on(
-        alloc,
-        names.0,
-        &config,
-        trace.as_slice(),
-        patience,
-        by,
-        watch,
-    )?;
-    Ok((config, trace, simulation))
-}
-
-// What the book of a simulation says.
-fn totals_of(simulation: &Simulation) -> Totals {
-    let word = simulation.report.words.level();
-    let stats = simulation.report.newest.stats;
-    let counts = simulation.counts;
-    Totals {
-        closed: word.closed(),
-        seats: word.seats(),
-        waiters: word.waiters(),
-        counts: Counts {
-            executed: u64::from(counts.executed),
-            queue_full: u64::from(counts.queue_full),
-            closed: u64::from(counts.closed),
-            concurrency_limit: u64::from(counts.concurrency_limit),
-            cancelled: u64::from(counts.cancelled),
-        },
-        undecided: 0,
-        entered: stats.entered,
-        dispatched: stats.dispatched,
-        struck: stats.struck,
-    }
-}
-
-/// Writes what the flows of a simulation met, and the book.
-pub(crate) fn write_simulation<O: Write>(
-    trace: &[TraceRequest],
-    simulation: &Simulation,
-    out: &mut O,
-) -> Result<(), Fault> {
-    simulation
-        .write(trace, out)
-        .map_err(|_| Fault::CannotWrite)?;
-    totals_of(simulation)
-        .write(out)
-        .map_err(|_| Fault::CannotWrite)
-}
-
-/// Simulates the trace on the level of the config, and prints the script of the simulation.
-///
-/// # Errors
-///
-/// The faults of the patience and of what requests are charged, then those of the files in the order config, trace, then
-/// those of the level, then those of the output.
-pub(crate) fn print_timeline<F: Files, O: Write>(
-    alloc: Global,
-    files: &mut F,
-    names: (&str, &str),
-    way: Way<'_>,
-    out: &mut O,
-) -> Result<(), Fault> {
-    let (_config, _trace, simulation) = simulated(alloc, files, names, way)?;
-    simulation
-        .write_timeline(out)
-        .map_err(|_| Fault::CannotWrite)
 }
 
 /// Prints the requests file of the trace.

@@ -8,7 +8,8 @@ use Rattle.apf_words.specs.declared.decision.Decision.{Decision}
 use Rattle.apf_words.specs.declared.decision.Decision.TheVariants.{Execute, QueueFull, Closed, Cancelled, ConcurrencyLimit}
 use Rattle.apf_times.specs.Waits.{AreKept, AreKeptAs, IsKeptPercentile, TallyView, WaitsView, is_absent, is_exact, max_exact, number, number_as}
 use Rattle.apf_stream.specs.declared.ended.Ended.{Ended}
-use Rattle.apf_rows.specs.Accounts.{IsRank, before, executed_wait, executes, wait_of, waits_of}
+use Rattle.apf_rows.specs.Accounts.{IsRank, before, executed_wait, executes, waits_of}
+use Rattle.apf_stream.specs.Waits.{wait_of}
 
 number_by : (waits exact : List ℕ) (counts : Option TallyView) → AreKeptAs waits exact counts → number_as exact counts ≡ length waits
 number_by waits exact None kept = length_permutation waits exact kept.1

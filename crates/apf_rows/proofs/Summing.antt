@@ -2,7 +2,8 @@
 use Rattle.std.proofs.Common.{◌≡◌, ℕ, ◌+◌, List, [], ◌∷◌, ◌++◌, length, max, refl, sym, ap, ◌∙◌, length-append, arith}
 use Rattle.apf_stream.specs.declared.ended.Ended.{Ended}
 use Rattle.apf_rows.specs.declared.sums.Sums.{Sums}
-use Rattle.apf_rows.specs.Accounts.{AreSums, cancels, executes, greatest, long_of, rejects, seat_time_of, total, wait_of, with_one}
+use Rattle.apf_rows.specs.Accounts.{AreSums, cancels, executes, greatest, long_of, rejects, seat_time_of, total, with_one}
+use Rattle.apf_stream.specs.Waits.{wait_of}
 
 total_then : (of : Ended → ℕ) (told : List Ended) (e : Ended) → total of (told ++ e ∷ []) ≡ total of told + of e
 total_then of [] e = omega arith

@@ -1,22 +1,14 @@
 -- What requests that were told came to.
-use Rattle.std.specs.Prelude.{◌≡◌, ℕ, ◌+◌, ◌-◌, ◌*◌, ◌^◌, ◌≤◌, Bool, List, [], ◌∷◌, fold, length, max, nat_le, Option, Some, None, IfSome}
+use Rattle.std.specs.Prelude.{◌≡◌, ℕ, ◌+◌, ◌*◌, ◌^◌, ◌≤◌, Bool, List, [], ◌∷◌, fold, length, max, nat_le, Option, Some, None, IfSome}
 use Rattle.apf_words.specs.declared.decision.Decision.{Decision}
 use Rattle.apf_words.specs.declared.decision.Decision.TheVariants.{Execute, QueueFull, Closed, Cancelled, ConcurrencyLimit}
 use Rattle.apf_times.specs.Limits.{max_wait}
 use Rattle.apf_times.specs.Waits.{AreKept, IsKeptPercentile, WaitsView, max_exact}
 use Rattle.apf_stream.specs.States.{IsAsked}
+use Rattle.apf_stream.specs.Waits.{wait_of}
 use Rattle.apf_stream.specs.declared.ended.Ended.{Ended}
 use Rattle.apf_rows.specs.declared.sums.Sums.{Sums}
 use Rattle.apf_rows.specs.declared.account.Figures.{Figures}
-
--- when a request did not wait any more: it was given its seats, or was over
-abbrev pub waited_until : Option ℕ → ℕ → ℕ
-waited_until None over = over
-waited_until (Some since) over = since
-
--- how long a request waited
-abbrev pub wait_of : Ended → ℕ
-wait_of e = waited_until e.since e.over_at - e.hold.asked.times.arrives_at
 
 -- the seat-time of a request that was given its seats, and of no other
 abbrev pub taken : Option ℕ → ℕ → ℕ

@@ -2,7 +2,8 @@
 
 ghost use Rattle.std.specs.Prelude.{◌≡◌, ◌+◌, ◌-◌, ◌^◌, ◌<◌, ◌≤◌};
 ghost use Rattle.apf_times.specs.Limits.{max_wait};
-ghost use Rattle.apf_rows.specs.Accounts.{AreBounded, IsInReach, cancels, executes, long_of, rejects, seat_time_of, wait_of, with_one};
+ghost use Rattle.apf_rows.specs.Accounts.{AreBounded, IsInReach, cancels, executes, long_of, rejects, seat_time_of, with_one};
+ghost use Rattle.apf_stream.specs.Waits.{wait_of};
 
 use apf_stream::Ended;
 use apf_words::Decision;
@@ -30,11 +31,7 @@ pub(crate) fn wait(ended: &Ended) -> u64
     ensures is { result ≡ wait_of ended.now }
     ensures low { result ≤ max_wait }
 {
-    let until = match ended.since {
-        Some(since) => since,
-        None => ended.over_at,
-    };
-    until.saturating_sub(ended.hold.asked.times.arrives_at)
+    ended.wait()
 }
 
 // Its width times how long it ran, if it was given its seats.

@@ -57,7 +57,7 @@ module _ (goes : RunsGoOn) (opening : State) (came more : List Came) (told ends 
   pub is_told : (w : RowsView) → HaveMet (came ++ more) w → IsTold s' w ends
   is_told w met = record { opening = opening; came = came ++ more; told = told; tied = lane.tied; nobody = lane.nobody; run = more_run; asked = more_asked; met = met }
 
-  pub lane_goes : (w : RowsView) (number : ℕ) → AreTied s' → HaveMet (came ++ more) w → AreRows (told ++ ends) w → number ≡ length (came ++ more) → IsLane opening (came ++ more) (told ++ ends) (record { state = s'; rows = w; came = number })
+  pub lane_goes : (w : RowsView) (number : ℕ) → AreTied s' → HaveMet (came ++ more) w → AreRows (told ++ ends) w → number ≡ length (came ++ more) → IsLane opening (came ++ more) (told ++ ends) (record { state = s'; rows = w; ends = ends; came = number })
   lane_goes w number still met are is = record { tied = lane.tied; nobody = lane.nobody; run = more_run; still = still; asked = more_asked; met = met; are = are; number = is }
 
 -- the run of one that came, or of nobody

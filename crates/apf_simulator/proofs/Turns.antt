@@ -5,7 +5,7 @@ use Rattle.apf_times.specs.declared.window.Arrival.{Arrival}
 use Rattle.apf_times.specs.declared.window.Place.{Place}
 use Rattle.apf_times.specs.Windows.{is_late, precedes}
 use Rattle.apf_traces.specs.declared.request.TraceRequest.{TraceRequest}
-use Rattle.apf_simulator.specs.Feeds.{AreBehind, AreInTime, AreLivedBoth, GoOn}
+use Rattle.apf_simulator.specs.Feeds.{AreInTime, AreLivedBoth, GoOn}
 use Rattle.apf_simulator.specs.Lanes.{GoesOn, IsLived, LaneView}
 
 after_place : (p q : Place) → precedes p q ≡ false → q.arrives_at ≤ p.arrives_at
@@ -15,13 +15,12 @@ later : (a b : ℕ) (one : LaneView) (other : Option LaneView) → a ≤ b → A
 later a b one None low is = omega arith
 later a b one (Some other) low is = (let x = is.0 in omega arith, let x = is.1 in omega arith)
 
-pub in_turn : (was : Option Place) (p : Place) (at : ℕ) (one : LaneView) (other : Option LaneView) → p.arrives_at ≡ at → is_late p was ≡ false → AreBehind was one other → AreInTime at one other
-in_turn None p at one other is late behind = later 0 at one other (omega arith) behind
-in_turn (Some q) p at one other is late behind = let a = after_place p q late in later q.arrives_at at one other (omega arith) behind
+pub in_turn : (was p : Place) (before at : ℕ) (one : LaneView) (other : Option LaneView) → was.arrives_at ≡ before → p.arrives_at ≡ at → is_late p (Some was) ≡ false → AreInTime before one other → AreInTime at one other
+in_turn was p before at one other was_is is late in_time = let a = after_place p was late in later before at one other (omega arith) in_time
 
 -- a lane that goes on is lived
 lived_one : (more : List (Arrival TraceRequest)) (v v' : LaneView) → GoesOn more v v' → IsLived v → IsLived v'
-lived_one more v v' goes l = let g = goes l.opening l.came l.told l.lane in record { opening = l.opening; came = l.came ++ more; told = l.told ++ g.0; lane = g.1 }
+lived_one more v v' goes l = record { opening = l.opening; came = l.came ++ more; told = l.told ++ v'.ends; lane = goes l.opening l.came l.told l.lane }
 
 pub lived : (more : List (Arrival TraceRequest)) (one : LaneView) (other : Option LaneView) (one' : LaneView) (other' : Option LaneView) → GoOn more one other one' other' → AreLivedBoth one other → AreLivedBoth one' other'
 lived more one None one' None goes l = lived_one more one one' goes l

@@ -1,4 +1,7 @@
--- What the book of a run in rounds says.
+-- What is printed behind the flows: the book of a level, and both sides of the bound.
+use Rattle.std.specs.Prelude.{ℕ, ◌+◌, ◌*◌, List, [], ◌++◌, Option, Some, None, codes, decimal}
+use Rattle.apf_bound.specs.declared.bound.Sides.{Sides}
+use Rattle.apf_bound.specs.declared.furthest.Furthest.{Furthest}
 use Rattle.apf_line.specs.declared.report.Report.{Report}
 use Rattle.apf_texts.specs.declared.totals.Totals.{Totals}
 
@@ -15,3 +18,21 @@ book_of r =
       dispatched = r.newest.stats.dispatched;
       struck = r.newest.stats.struck;
     }
+
+-- the pair of queues that came furthest apart, and by how much
+unfoldable pub furthest_text : Furthest → List ℕ
+furthest_text f = codes "bound " ++ decimal f.busy ++ codes " " ++ decimal f.other ++ codes " " ++ decimal f.ahead
+
+-- the other side: twice the largest cost, and three times what requests are misjudged by
+unfoldable pub other_text : Sides → List ℕ
+other_text s = codes " cost " ++ decimal s.largest_cost ++ codes " misjudged " ++ decimal s.slack ++ codes " limit " ++ decimal (2 * s.largest_cost + 3 * s.slack) ++ codes "\n"
+
+-- the line of both sides
+abbrev pub sides_line : Option Furthest → Sides → List ℕ
+sides_line None s = codes "bound none\n"
+sides_line (Some f) s = furthest_text f ++ other_text s
+
+-- that line, if both sides were kept
+abbrev pub sides_text : Option Sides → List ℕ
+sides_text None = []
+sides_text (Some s) = sides_line s.furthest s

@@ -45,6 +45,8 @@ pub record IsOpening (config : Config) (patience : ℕ) (by : ChargedBy) (s : St
 pub record LaneView : Type 0 where
   pub state : State
   pub rows : RowsView
+  -- who was told by the last call
+  pub ends : List Ended
   -- how many came
   pub came : ℕ
 
@@ -69,7 +71,7 @@ pub record IsLived (v : LaneView) : Type 0 where
 -- whatever it was of before: these came more, and some were told more
 abbrev pub GoesOn : List (Arrival TraceRequest) → LaneView → LaneView → Type 0
 GoesOn more v v' = (opening : State) (came : List (Arrival TraceRequest)) (told : List Ended) → IsLane opening came told v
-    → (ends : List Ended) × IsLane opening (came ++ more) (told ++ ends) v'
+    → IsLane opening (came ++ more) (told ++ v'.ends) v'
 
 -- a request that was told can be counted: it is in reach, and its flow came
 pub record IsCounted (v : RowsView) (e : Ended) : Type 0 where

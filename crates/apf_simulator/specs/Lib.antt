@@ -1,3 +1,9 @@
 pub mod Lanes
+pub mod Turns
 pub mod Feeds
+pub mod Fates
+pub mod Calls
+pub mod Hearing
+pub mod Runs
 pub mod Books
+pub mod Told

@@ -1,15 +1,21 @@
 //! Runs a trace on two levels, and prints both side by side.
 
-ghost use Rattle.std.specs.Prelude.{◌≡◌, ◌≤◌, None, IfOk, OnOk};
+ghost use Rattle.std.specs.Prelude.{◌≡◌, ◌≤◌, ◌×◌, ℕ, List, [], Option, None, IfOk, IfSome, OnOk};
+ghost use Rattle.std.specs.Io.KnownBytes.{Appends};
 ghost use Rattle.apf_times.specs.Limits.{max_patience};
+ghost use Rattle.apf_rows.specs.Comparisons.{IsOrder, comparison_text};
+ghost use Rattle.apf_rows.specs.declared.comparison.Place.{Place as PlaceOf};
+ghost use Rattle.apf_trace_reader.specs.Reading.{HasRead};
 ghost use Rattle.apf_simulator.specs.Feeds.{AreLivedBoth, AreNew};
+ghost use Rattle.apf_simulator.specs.Told.{ArePrinted, HaveCompared, IsTableOf};
 
 use crate::charge::charge_or_usual;
 use crate::fault::SimulatorFault;
-use crate::feeding::First;
+use crate::feeding::{Next, read_first};
 use crate::lane::Lane;
 use crate::lanes::Lanes;
-use crate::simulating::run;
+use crate::listener::Nobody;
+use crate::running::{Terms, run};
 use apf_charges::ChargedBy;
 use apf_model::Config;
 use apf_rows::{Table, order_of, write_comparison};
@@ -39,23 +45,26 @@ fn open_both(
     }
 }
 
-// What the flows of a lane came to.
-fn table_of(alloc: Global, lane: Lane) -> Result<Table, SimulatorFault> {
+// Ends the level of a lane. Answers what its flows came to.
+fn table_of(alloc: Global, lane: Lane) -> Result<Table, SimulatorFault>
+    ensures { IfOk result (IsTableOf lane) }
+{
     let (table, _report) = lane.close(alloc)?;
     Ok(table)
 }
 
 // Prints both side by side, flow by flow.
-fn print<W: Write>(alloc: Global, lanes: Lanes, out: &mut W) -> Result<(), SimulatorFault> {
-    let Lanes { one, other } = lanes;
-    match other {
-        Some(other) => {
-            let one = table_of(alloc, one)?;
-            let other = table_of(alloc, other)?;
-            write(alloc, &one, &other, out)
-        }
-        None => Ok(()),
-    }
+fn print<W: Write>(
+    alloc: Global,
+    one: Lane,
+    other: Lane,
+    out: &mut W,
+) -> Result<(), SimulatorFault>
+    ensures { OnOk result (ArePrinted one other (W.contents out.old) (W.contents out.new)) }
+{
+    let one = table_of(alloc, one)?;
+    let other = table_of(alloc, other)?;
+    write(alloc, &one, &other, out)
 }
 
 // Writes both side by side, flow by flow.
@@ -64,11 +73,30 @@ fn write<W: Write>(
     one: &Table,
     other: &Table,
     out: &mut W,
-) -> Result<(), SimulatorFault> {
+) -> Result<(), SimulatorFault>
+    ensures { OnOk result ((order : List PlaceOf) × IsOrder one.now.lines.items other.now.lines.items order × Appends (W.contents out.old) (W.contents out.new) (comparison_text one.now other.now order)) }
+{
     let order = order_of(alloc, one, other)?;
     match write_comparison(out, one, other, order.as_slice()) {
         Ok(()) => Ok(()),
         Err(_) => Err(SimulatorFault::CannotWrite),
+    }
+}
+
+// Runs the trace on the lanes of two levels to which nobody came.
+fn run_both<R: Read, W: Write>(
+    mut lanes: Lanes,
+    first: Next,
+    reader: &mut TraceReader,
+    input: &mut R,
+    out: &mut W,
+) -> Result<(Lane, Lane), SimulatorFault>
+{
+    run(&mut lanes, &mut Nobody, first, reader, input, out)?;
+    let Lanes { one, other } = lanes;
+    match other {
+        Some(other) => Ok((one, other)),
+        None => unreachable!(),
     }
 }
 
@@ -81,20 +109,19 @@ fn write<W: Write>(
 pub fn compare<R: Read, W: Write>(
     alloc: Global,
     configs: (&Config, &Config),
-    patience: u64,
-    by: Option<ChargedBy>,
+    terms: Terms,
     reader: &mut TraceReader,
     input: &mut R,
     out: &mut W,
 ) -> Result<(), SimulatorFault>
-    requires patience { patience ≤ max_patience }
+    requires patience { terms.patience ≤ max_patience }
     requires nothing { reader.old.window.last ≡ None }
+    ensures { OnOk result (HasRead [] [] (R.remaining input.old) reader.old
+        → HaveCompared configs.0.now configs.1.now terms.patience terms.by reader.old.window.size (R.remaining input.old) (R.remaining input.new) (W.contents out.old) (W.contents out.new)) }
 {
-    let first = First::read(reader, input)?;
-    let by = charge_or_usual(by, reader);
-    let mut lanes = open_both(alloc, configs.0, configs.1, patience, by)?;
-    match run(&mut lanes, &first, reader, input) {
-        Ok(()) => print(alloc, lanes, out),
-        Err(fault) => Err(fault),
-    }
+    let first = read_first(reader, input)?;
+    let by = charge_or_usual(terms.by, reader);
+    let lanes = open_both(alloc, configs.0, configs.1, terms.patience, by)?;
+    let (one, other) = run_both(lanes, first, reader, input, out)?;
+    print(alloc, one, other, out)
 }

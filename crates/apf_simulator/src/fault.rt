@@ -27,6 +27,12 @@ pub enum SimulatorFault {
     /// There are more requests than can be counted, 2^64 - 1, or than a slot can have, 2^46.
     #[error("there are more requests than can be counted")]
     TooMany,
+    /// There are more requests than can be listed, each with what became of it.
+    #[error("there are more than 10000 requests")]
+    TooManyListed,
+    /// Both sides of the bound are asked for where requests are charged their seats.
+    #[error("there is no bound where requests are charged their seats")]
+    BoundOfSeats,
     /// Nothing is due, and a request still waits. It has never been seen: that it can't be is not proved.
     #[error("a request waits while no seat is taken")]
     StillWaits,

@@ -18,6 +18,7 @@ ghost use Rattle.apf_simulator.specs.Lanes.{GoesOn, IsLane, IsLived, IsOpening, 
 use crate::asked::asked_of;
 use crate::counting::{are_countable, count_all};
 use crate::fault::SimulatorFault;
+use apf_bound::{Bound, Sides};
 use apf_calendar::MOST_TIME;
 use apf_charges::ChargedBy;
 use apf_line::Report;
@@ -50,7 +51,7 @@ impl Model for Lane {
 
     ghost Value = { LaneView };
 
-    ghost view = { λ l. record { state = state_of l.stream; rows = l.rows; came = l.came } };
+    ghost view = { λ l. record { state = state_of l.stream; rows = l.rows; ends = l.ends.items; came = l.came } };
 }
 
 // The request arrives, if a slot is free then.
@@ -95,6 +96,32 @@ impl Lane {
             ends: Vec::new(alloc),
             came: 0,
         })
+    }
+
+    /// Keeps both sides of the bound from now on, if nobody came yet.
+    pub fn watch(&mut self, bound: Bound)
+        ensures { self.new ≡ self.old }
+    {
+        self.stream.watch(bound);
+    }
+
+    /// Both sides of the bound of all that was carried out, if they are kept.
+    pub fn sides(&self) -> Option<Sides> {
+        self.stream.sides()
+    }
+
+    /// When the last request was over that was told, in microseconds, or 0.
+    pub fn last(&self) -> u64
+        ensures { result ≡ self.now.rows.all.sums.last }
+    {
+        self.rows.sums().last
+    }
+
+    /// Who was told by the last call.
+    pub fn ends(&self) -> &[Ended]
+        ensures { result.now ≡ self.now.ends }
+    {
+        self.ends.as_slice()
     }
 
     /// A request arrives, no earlier than anything that was carried out. Before that all is carried out that is due up to its

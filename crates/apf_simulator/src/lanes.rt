@@ -2,7 +2,7 @@
 
 ghost use Rattle.std.specs.Prelude.{◌≡◌, [], ◌∷◌, OnOk};
 ghost use Rattle.apf_traces.specs.TraceValue.{IsRequestInRange};
-ghost use Rattle.apf_simulator.specs.Feeds.{AreInTime, AreLivedBoth, GoOn};
+ghost use Rattle.apf_simulator.specs.Feeds.{AreInTime, AreLivedBoth, AreOver, GoOn};
 
 use crate::fault::SimulatorFault;
 use crate::lane::Lane;
@@ -44,6 +44,7 @@ impl Lanes {
     pub(crate) fn finish(&mut self) -> Result<(), SimulatorFault>
         requires lived { AreLivedBoth self.old.one self.old.other }
         ensures goes { OnOk result (GoOn [] self.old.one self.old.other self.new.one self.new.other) }
+        ensures over { OnOk result (AreOver self.new.one self.new.other) }
     {
         self.one.finish()?;
         match &mut self.other {

@@ -1,19 +1,20 @@
 //! Runs a trace on a level, and prints what its flows came to.
 
-ghost use Rattle.std.specs.Prelude.{◌≡◌, ◌≤◌, ◌++◌, None, OnOk};
+ghost use Rattle.std.specs.Prelude.{◌≡◌, ◌≤◌, ◌++◌, [], None, OnOk};
 ghost use Rattle.std.specs.Io.KnownBytes.{Appends};
 ghost use Rattle.apf_times.specs.Limits.{max_patience};
 ghost use Rattle.apf_texts.specs.Texts.{totals_text};
 ghost use Rattle.apf_rows.specs.Texts.{table_text};
-ghost use Rattle.apf_simulator.specs.Books.{book_of};
-ghost use Rattle.apf_simulator.specs.Feeds.{AreLivedBoth, AreNew, IsFirst};
+ghost use Rattle.apf_trace_reader.specs.Reading.{HasRead};
+ghost use Rattle.apf_simulator.specs.Books.{book_of, sides_text};
+ghost use Rattle.apf_simulator.specs.Told.{AreAskedFor, HasSimulated, IsPrinted};
 
-use crate::charge::charge_or_usual;
 use crate::fault::SimulatorFault;
-use crate::feeding::{First, feed_all};
 use crate::lane::Lane;
-use crate::lanes::Lanes;
-use apf_charges::ChargedBy;
+use crate::listener::Nobody;
+use crate::running::{Terms, run_one};
+use crate::sides::write_sides;
+use apf_bound::Sides;
 use apf_line::Report;
 use apf_model::Config;
 use apf_rows::Table;
@@ -40,38 +41,6 @@ fn totals_of(report: &Report) -> Totals
     }
 }
 
-/// Runs the trace on the lanes, to which nobody came, and then all that is due.
-///
-/// # Errors
-///
-/// The reader's, and those of the lanes.
-pub(crate) fn run<R: Read>(
-    lanes: &mut Lanes,
-    first: &First,
-    reader: &mut TraceReader,
-    input: &mut R,
-) -> Result<(), SimulatorFault>
-    requires new { AreNew lanes.old.one lanes.old.other }
-    requires lived { AreLivedBoth lanes.old.one lanes.old.other }
-    requires first { IsFirst first.now.came reader.old.window.last }
-{
-    first.arrive(lanes)?;
-    feed_all(lanes, reader, input)?;
-    lanes.finish()
-}
-
-// Prints what the flows of a lane came to, and its level's book.
-fn print<W: Write>(
-    alloc: Global,
-    lane: Lane,
-    limit: u32,
-    patience: u64,
-    out: &mut W,
-) -> Result<(), SimulatorFault> {
-    let (table, report) = lane.close(alloc)?;
-    write(&table, &report, limit, patience, out)
-}
-
 // Writes what the flows came to, and the level's book.
 fn write<W: Write>(
     table: &Table,
@@ -91,37 +60,69 @@ fn write<W: Write>(
     Ok(())
 }
 
-/// Runs a trace on the level of this config, in one thread, and prints a line for each flow, the line of the whole, and the
-/// level's book.
+// Writes both sides of the bound, if they were kept.
+fn write_bound<W: Write>(sides: &Option<Sides>, out: &mut W) -> Result<(), SimulatorFault>
+    ensures { OnOk result (Appends (W.contents out.old) (W.contents out.new) (sides_text sides.now)) }
+{
+    let Some(sides) = sides else {
+        return Ok(());
+    };
+    match write_sides(sides, out) {
+        Ok(()) => Ok(()),
+        Err(_) => Err(SimulatorFault::CannotWrite),
+    }
+}
+
+// Both sides of the bound of a lane, if they are asked for.
+fn sides_of(lane: &Lane, has_bound: bool) -> Option<Sides>
+    ensures { AreAskedFor has_bound result }
+{
+    if has_bound { lane.sides() } else { None }
+}
+
+// Ends the level of a lane, and prints what its flows came to, the level's book, and both sides of the bound.
+fn print<W: Write>(
+    alloc: Global,
+    lane: Lane,
+    limit: u32,
+    terms: Terms,
+    out: &mut W,
+) -> Result<(), SimulatorFault>
+    ensures { OnOk result (IsPrinted limit terms.patience terms.has_bound lane (W.contents out.old) (W.contents out.new)) }
+{
+    let sides = sides_of(&lane, terms.has_bound);
+    let (table, report) = lane.close(alloc)?;
+    write(&table, &report, limit, terms.patience, out)?;
+    write_bound(&sides, out)
+}
+
+/// Runs a trace on the level of this config, in one thread, and prints a line for each flow, the line of the whole, the level's
+/// book, and both sides of the bound in measured seat-time, if they are asked for.
 ///
 /// The reader has read nothing. Requests come in the order of their arrivals, as it hands them out. At one time finishes come
-/// first, then the ends of patience, then arrivals, each by their lines. A request that waits as long as `patience` in
-/// microseconds, at most 1,000,000,000, gives up, or never at 0. A dispatch is charged what its request's line says; else by
-/// time the width times how long the flow's requests ran that finished until then, or by seats the width. Where nothing is
-/// said, that is by time, but by seats if a line that was read before the first request came says what its request is charged.
+/// first, then the ends of patience, then arrivals, each by their lines. A request that waits as long as the patience gives up.
+/// A dispatch is charged what its request's line says; else by time the width times how long the flow's requests ran that
+/// finished until then, or by seats the width.
 ///
 /// # Errors
 ///
-/// The trace's first fault, or that of the input; the level's; and those of what runs on it. Then nothing is printed. And
-/// `CannotWrite`.
+/// The trace's first fault, or that of the input; the level's; and those of what runs on it. `BoundOfSeats` if both sides are
+/// asked for where requests are charged their seats. Then nothing is printed. And `CannotWrite`.
 pub fn simulate<R: Read, W: Write>(
     alloc: Global,
     config: &Config,
-    patience: u64,
-    by: Option<ChargedBy>,
+    terms: Terms,
     reader: &mut TraceReader,
     input: &mut R,
     out: &mut W,
 ) -> Result<(), SimulatorFault>
-    requires patience { patience ≤ max_patience }
+    requires patience { terms.patience ≤ max_patience }
     requires nothing { reader.old.window.last ≡ None }
+    ensures { OnOk result (HasRead [] [] (R.remaining input.old) reader.old
+        → HasSimulated config.now terms.patience terms.by terms.has_bound reader.old.window.size (R.remaining input.old) (R.remaining input.new) (W.contents out.old) (W.contents out.new)) }
 {
-    let first = First::read(reader, input)?;
-    let by = charge_or_usual(by, reader);
-    let one = Lane::open(alloc, config, patience, by)?;
-    let mut lanes = Lanes { one, other: None };
-    match run(&mut lanes, &first, reader, input) {
-        Ok(()) => print(alloc, lanes.into_one(), config.limit, patience, out),
+    match run_one(alloc, config, terms, &mut Nobody, reader, input, out) {
+        Ok(lane) => print(alloc, lane, config.limit, terms, out),
         Err(fault) => Err(fault),
     }
 }

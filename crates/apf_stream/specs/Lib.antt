@@ -3,3 +3,4 @@ pub mod Measures
 pub mod Runs
 pub mod States
 pub mod Ties
+pub mod Waits

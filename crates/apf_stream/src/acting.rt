@@ -43,6 +43,7 @@ impl Stream {
         let slot = carried.slot as usize;
         let hold = self.holds[slot];
         let runs_for = carried.guest.times.runs_for;
+        self.watch.settle(&hold);
         self.level.finish_measured(slot, runs_for);
         self.charges.learn(hold.asked.hash, runs_for);
         let ended = Ended {
@@ -103,6 +104,7 @@ impl Stream {
         for place in 0..count {
             if place < self.room.len() {
                 let event = self.room[place];
+                self.watch.see(self.holds.as_slice(), event);
                 self.hear(event, ends)?;
             }
         }

@@ -11,7 +11,9 @@ ghost use Rattle.apf_stream.specs.States.{state_of, settling_by};
 ghost use Rattle.apf_stream.specs.Ties.{AreTied};
 
 use crate::asked::{Asked, Hold};
+use crate::watch::Watch;
 use apf_book::LifeEvent;
+use apf_bound::{Bound, Sides};
 use apf_calendar::SlotCalendar;
 use apf_charges::{ChargedBy, Charges};
 use apf_gate::Ticket;
@@ -32,6 +34,8 @@ pub struct Stream {
     // the events that were read last, and up to which place they were read
     pub(crate) room: Vec<LifeEvent>,
     pub(crate) seen: u64,
+    // both sides of the bound, if they are kept
+    pub(crate) watch: Watch,
 }
 
 // What is noted of a slot in which nobody was yet.
@@ -97,7 +101,20 @@ impl Stream {
             charges,
             room,
             seen: 0,
+            watch: Watch::off(),
         })
+    }
+
+    /// Keeps both sides of the bound from now on, if nobody came yet.
+    pub fn watch(&mut self, bound: Bound)
+        ensures same { state_of self.new ≡ state_of self.old }
+    {
+        self.watch = Watch::on(bound);
+    }
+
+    /// Both sides of the bound of all that was carried out, if they are kept.
+    pub fn sides(&self) -> Option<Sides> {
+        self.watch.sides()
     }
 
     /// The time of what was carried out last, in microseconds.
@@ -124,6 +141,7 @@ impl Stream {
             charges: _,
             room: _,
             seen: _,
+            watch: _,
         } = self;
         level.end(alloc)
     }

@@ -1,9 +1,14 @@
--- The lanes are lived, and not ahead of the reader.
-use Rattle.apf_simulator.specs.Feeds.{AreBehind, AreLivedBoth}
+-- The lanes went on by all that came, and are not ahead of who comes next.
+use Rattle.std.proofs.Common.{◌≡◌, ℕ, List, [], Option}
+use Rattle.apf_simulator.specs.Feeds.{AreLivedBoth, HasFed, HaveGone, IsAhead, IsHandedOut}
 use Rattle.apf_simulator.proofs.feeding.feed_all.Given as goal
 
 abbrev pub invariant-requests : goal.invariant-requests
 invariant-requests g l = record {
-  behind : AreBehind l.reader.window.last l.lanes.one l.lanes.other;
+  handed_out : IsHandedOut l.next l.reader.window.last;
+  ahead : IsAhead l.next l.lanes.one l.lanes.other;
   lived : AreLivedBoth l.lanes.one l.lanes.other;
+  gone : (was before : Option (List ℕ)) → HasFed was (g.R.Read.remaining l.initial.input) [] l.initial.next l.initial.reader → g.L.Listener.heard before (g.W.Write.contents l.initial.out) [] l.initial.listener
+      → HaveGone was (g.R.Read.remaining l.input) l.next l.reader l.initial.lanes.one l.initial.lanes.other l.lanes.one l.lanes.other (λ turns. g.L.Listener.heard before (g.W.Write.contents l.out) turns l.listener);
+  size : l.reader.window.size ≡ l.initial.reader.window.size;
 }

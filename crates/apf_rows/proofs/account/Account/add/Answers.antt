@@ -2,7 +2,8 @@
 use Rattle.std.proofs.Common.{◌≡◌, ℕ, ◌+◌, ◌<◌, List, [], ◌∷◌, ◌++◌, length, sym, ap, ◌∙◌, subst, arith}
 use Rattle.apf_times.specs.Waits.{AreKept, WaitsView, number}
 use Rattle.apf_rows.specs.declared.sums.Sums.{Sums}
-use Rattle.apf_rows.specs.Accounts.{AccountView, AreSums, IsAccount, before, executed_wait, wait_of, waits_of, with_one}
+use Rattle.apf_rows.specs.Accounts.{AccountView, AreSums, IsAccount, before, executed_wait, waits_of, with_one}
+use Rattle.apf_stream.specs.Waits.{wait_of}
 use Rattle.apf_rows.proofs.Keeping.{before_number, kept_number, waits_then}
 use Rattle.apf_rows.proofs.Summing.{more_sums}
 use Rattle.apf_rows.proofs.account.Account.add.Goals as goal

@@ -19,18 +19,17 @@ pub are_countable-requires : goal.are_countable-requires
 are_countable-requires c =
     let l = c.requires.lived in
     let lane = subst (IsLane l.opening l.came l.told) (sym c.self.view_is) l.lane in
-    let v : LaneView = record { state = state_of c.self.inside.stream; rows = c.self.inside.rows; came = c.self.inside.came } in
+    let v : LaneView = record { state = state_of c.self.inside.stream; rows = c.self.inside.rows; ends = c.self.inside.ends.items; came = c.self.inside.came } in
     subst (λ (ends : List Ended). IsTold (state_of c.advance.new.self) c.self.inside.rows ends) (sym c.as_slice.ensures.value)
     (is_told c.every_run_goes_on.ensures l.opening l.came none l.told c.advance.new.ends.items v (state_of c.advance.new.self) lane (none_run (state_of c.self.inside.stream) (state_of c.advance.new.self) c.clear.new.self.items c.advance.new.ends.items c.clear.ensures.items c.in_ok-advance.ensures.run) tt c.self.inside.rows (still_met l.came c.self.inside.rows lane.met))
 
 pub returns-clause-goes : goal.returns-clause-goes
 returns-clause-goes c opening came told is =
     let lane = subst (IsLane opening came told) (sym c.self.view_is) is in
-    let v : LaneView = record { state = state_of c.self.inside.stream; rows = c.self.inside.rows; came = c.self.inside.came } in
+    let v : LaneView = record { state = state_of c.self.inside.stream; rows = c.self.inside.rows; ends = c.self.inside.ends.items; came = c.self.inside.came } in
     let ends = c.advance.new.ends.items in
     let met = still_met came c.count_all.new.rows (c.in_ok-count_all.ensures.met came lane.met) in
     let are = subst (λ (l : List Ended). AreRows (told ++ l) c.count_all.new.rows) c.as_slice-2.ensures.value (c.in_ok-count_all.ensures.added told lane.are) in (
-      ends,
       lane_goes c.every_run_goes_on.ensures opening came none told ends v (state_of c.advance.new.self) lane (none_run (state_of c.self.inside.stream) (state_of c.advance.new.self) c.clear.new.self.items c.advance.new.ends.items c.clear.ensures.items c.in_ok-advance.ensures.run) tt c.count_all.new.rows c.self.inside.came c.in_ok-advance.ensures.tied met are
-          (lane.number ∙ ap (λ (l : List (Arrival TraceRequest)). length l) (sym (append-nil came))),
+          (lane.number ∙ ap (λ (l : List (Arrival TraceRequest)). length l) (sym (append-nil came)))
     )

@@ -17,7 +17,7 @@ returns-clause-returns c =
     let e = c.finish_measured.ensures in
     let sets = finish_sets slot s.level c.finish_measured.new.self c.finish_measured.result e.finishes is.place in
     let low : slot < length s.holds = let a = is.but.inside in let b = is.but.count.holds in omega arith in
-    let hold = c.index-hold.result.now in
+    let hold = c.index.result.now in
     record {
       told = served hold c.args.since c.args.carried.at ∷ [];
       returns = record {
@@ -27,7 +27,7 @@ returns-clause-returns c =
         operators = e.operators;
         slots = refl;
         hold = hold;
-        noted = slice_get_read s.holds (length s.holds) slot hold refl low c.index-hold.ensures;
+        noted = slice_get_read s.holds (length s.holds) slot hold refl low c.index.ensures;
         told_is = refl;
         holds = refl;
         charges = c.learn.ensures;

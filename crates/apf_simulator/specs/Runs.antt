@@ -1,0 +1,58 @@
+-- A whole trace that ran on a level.
+use Rattle.std.specs.Prelude.{◌≡◌, ℕ, List, [], ◌++◌, unwrap_or, Option, Some, None}
+use Rattle.std.specs.Option.{option_to_list}
+use Rattle.std.specs.Io.KnownBytes.{Appends, Consumes, IsAtEnd}
+use Rattle.apf_charges.specs.declared.charges.ChargedBy.{ChargedBy}
+use Rattle.apf_model.specs.declared.config.Config.{Config}
+use Rattle.apf_line.specs.declared.report.Report.{Report}
+use Rattle.apf_local.specs.Levels.{EndsFrom}
+use Rattle.apf_rows.specs.Tables.{IsTable}
+use Rattle.apf_rows.specs.declared.table.Table.{Table}
+use Rattle.apf_stream.specs.States.{State}
+use Rattle.apf_times.specs.declared.window.Arrival.{Arrival}
+use Rattle.apf_traces.specs.declared.request.TraceRequest.{TraceRequest}
+use Rattle.apf_trace_reader.specs.Reading.{AreAll, HasRead}
+use Rattle.apf_trace_reader.specs.Views.{ReaderView}
+use Rattle.apf_simulator.specs.Lanes.{IsLane, IsOpening, LaneView, usual_charge}
+use Rattle.apf_simulator.specs.Feeds.{IsOver}
+use Rattle.apf_simulator.specs.Turns.{AreTurns, Turn, came_by}
+
+-- What requests are charged: this, or where nothing is said what they usually are, by what was read when the first request was handed out.
+pub record IsCharge (by : Option ChargedBy) (was : Option (List ℕ)) (charged : ChargedBy) : Type 0 where
+  pub front : List ℕ
+  pub left : Option (List ℕ)
+  pub given : Consumes was left front
+  pub first : Option (Arrival TraceRequest)
+  pub reader : ReaderView
+  pub read : HasRead front (option_to_list first) left reader
+  pub is : charged ≡ unwrap_or by (usual_charge reader.has_cost)
+
+-- from a level of this config to which nobody came, the lane went on by these turns until nothing was due, and each that came was told
+pub record HasGone (config : Config) (patience : ℕ) (charged : ChargedBy) (turns : List Turn) (v : LaneView) : Type 0 where
+  pub opening : State
+  pub opened : IsOpening config patience charged opening
+  pub start : LaneView
+  pub nobody : IsLane opening [] [] start
+  pub turns_are : AreTurns turns start v
+  pub is_over : IsOver v
+
+-- the whole input was read, and all of its requests ran in these turns, in their one order
+pub record HasRunAll (config : Config) (patience : ℕ) (by : Option ChargedBy) (size : ℕ) (was left : Option (List ℕ)) (turns : List Turn) (v : LaneView) : Type 0 where
+  pub bytes : List ℕ
+  pub given : Consumes was left bytes
+  pub all : AreAll size bytes (came_by turns)
+  pub ended : IsAtEnd left
+  pub charged : ChargedBy
+  pub charge : IsCharge by was charged
+  pub gone : HasGone config patience charged turns v
+
+-- the same, in turns of which this was heard
+pub record HasBeenHeard (config : Config) (patience : ℕ) (by : Option ChargedBy) (size : ℕ) (was left : Option (List ℕ)) (v : LaneView) (heard : List Turn → Type 0) : Type 0 where
+  pub turns : List Turn
+  pub ran : HasRunAll config patience by size was left turns v
+  pub heard_them : heard turns
+
+-- the same requests ran on another level, in these turns
+pub record HasRunToo (config : Config) (patience : ℕ) (charged : ChargedBy) (came : List (Arrival TraceRequest)) (turns : List Turn) (v : LaneView) : Type 0 where
+  pub same : came_by turns ≡ came
+  pub gone : HasGone config patience charged turns v

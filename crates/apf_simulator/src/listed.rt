@@ -1,0 +1,104 @@
+//! The requests of a trace, each with what became of it, in the order of their lines.
+
+ghost use Rattle.std.specs.Prelude.{◌≡◌, ◌≤◌, ℕ, [], List, length, Option, IfOk};
+ghost use Rattle.apf_simulator.specs.Hearing.{AreListed, AreParts, Holds};
+ghost use Rattle.apf_simulator.specs.Turns.{Turn, came_by, told_by};
+
+use crate::fault::SimulatorFault;
+use crate::held::{Held, HeldList};
+use crate::listener::Listener;
+use apf_stream::Ended;
+use apf_times::Arrival;
+use apf_traces::TraceRequest;
+use std::alloc::{AllocError, Global};
+use std::io::Write;
+
+/// How many requests may be listed: as many as a script may have.
+pub const MOST_LISTED: u32 = 10_000;
+
+/// The requests of a trace, each with what became of it, in the order of their lines.
+#[derive(Drop)]
+pub struct Listed {
+    pub requests: Vec<TraceRequest>,
+    pub ends: Vec<Ended>,
+    /// When the last of them was over, in microseconds.
+    pub end: u64,
+}
+
+/// Lists the requests that come.
+#[derive(Drop)]
+pub(crate) struct Listing {
+    held: HeldList,
+}
+
+// The requests with what became of each, if that was told of each.
+fn parts_of(
+    alloc: Global,
+    held: Vec<Held>,
+) -> Result<(Vec<TraceRequest>, Vec<Ended>), SimulatorFault>
+    ensures { IfOk result (λ r. AreParts held.items r.0.items r.1.items) }
+{
+    let mut requests = Vec::with_capacity(alloc, held.len())?;
+    let mut ends = Vec::with_capacity(alloc, held.len())?;
+    for it in held {
+        let Held { came, ended } = it;
+        let Some(ended) = ended else {
+            return Err(SimulatorFault::StillWaits);
+        };
+        if requests.push(came.item).is_err() || ends.push(ended).is_err() {
+            return Err(SimulatorFault::NoMemory);
+        }
+    }
+    Ok((requests, ends))
+}
+
+impl Listing {
+    /// Nobody came.
+    pub(crate) fn new(alloc: Global) -> Listing
+        ensures { result.held ≡ [] }
+    {
+        Listing {
+            held: HeldList::new(alloc),
+        }
+    }
+
+    /// All of them, where the last was over then.
+    ///
+    /// # Errors
+    ///
+    /// `NoMemory`; `StillWaits` if somebody was not over; and `TooManyListed`.
+    pub(crate) fn close(self, alloc: Global, end: u64) -> Result<Listed, SimulatorFault>
+        ensures listed { IfOk result (λ l. (before now : Option (List ℕ)) (turns : List Turn) → Holds before now turns self.held → AreListed (came_by turns) (told_by turns) l) }
+        ensures few { IfOk result (λ l. length l.requests.items ≤ 10000) }
+        ensures each { IfOk result (λ l. length l.ends.items ≡ length l.requests.items) }
+        ensures end { IfOk result (λ l. l.end ≡ end) }
+    {
+        let mut held = self.held.into_vec();
+        if held.len() > MOST_LISTED as usize {
+            return Err(SimulatorFault::TooManyListed);
+        }
+        held.sort_unstable_by_key(|it| it.came.place.line);
+        let (requests, ends) = parts_of(alloc, held)?;
+        Ok(Listed {
+            requests,
+            ends,
+            end,
+        })
+    }
+}
+
+impl Listener for Listing {
+    ghost heard = { λ before now turns listing. Holds before now turns listing.held };
+
+    fn hear<W: Write>(
+        &mut self,
+        came: Option<Arrival<TraceRequest>>,
+        ends: &[Ended],
+        _out: &mut W,
+    ) -> Result<(), SimulatorFault> {
+        if self.held.len() > MOST_LISTED as usize {
+            return Err(SimulatorFault::TooManyListed);
+        }
+        self.held.take(came, ends)
+    }
+}

@@ -1,0 +1,53 @@
+//! The line of both sides of the bound.
+
+ghost use Rattle.std.specs.Prelude.{◌≡◌, OnOk};
+ghost use Rattle.std.specs.Io.KnownBytes.{Appends};
+ghost use Rattle.apf_simulator.specs.Books.{furthest_text, other_text, sides_line};
+
+use apf_bound::{Furthest, Sides};
+use apf_model::{Config, Response};
+use std::io;
+use std::io::Write;
+
+/// Of how many queues a level is: of none where it rejects what does not fit.
+pub(crate) fn queues_of(config: &Config) -> u32 {
+    match config.limit_response {
+        Response::Queue => config.queues,
+        Response::Reject => 0,
+    }
+}
+
+// Writes the pair of queues that came furthest apart, and by how much.
+#[tactic(auto, unfolding(crate::specs::Books::furthest_text))]
+fn write_furthest<W: Write>(furthest: Furthest, out: &mut W) -> io::Result<()>
+    ensures { OnOk result (Appends (W.contents out.old) (W.contents out.new) (furthest_text furthest)) }
+{
+    let Furthest { busy, other, ahead } = furthest;
+    write!(out, "bound {busy} {other} {ahead}")
+}
+
+// Writes the other side of the bound.
+#[tactic(auto, unfolding(crate::specs::Books::other_text))]
+fn write_other<W: Write>(sides: &Sides, out: &mut W) -> io::Result<()>
+    ensures { OnOk result (Appends (W.contents out.old) (W.contents out.new) (other_text sides.now)) }
+{
+    let cost = sides.largest_cost;
+    let slack = sides.slack;
+    let limit = sides.limit();
+    writeln!(out, " cost {cost} misjudged {slack} limit {limit}")
+}
+
+/// Writes the line of both sides.
+///
+/// # Errors
+///
+/// The writer's. Then nothing is known of how much was written.
+pub(crate) fn write_sides<W: Write>(sides: &Sides, out: &mut W) -> io::Result<()>
+    ensures { OnOk result (Appends (W.contents out.old) (W.contents out.new) (sides_line sides.now.furthest sides.now)) }
+{
+    let Some(furthest) = sides.furthest else {
+        return writeln!(out, "bound none");
+    };
+    write_furthest(furthest, out)?;
+    write_other(sides, out)
+}

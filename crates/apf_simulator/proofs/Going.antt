@@ -27,13 +27,13 @@ abbrev pub turn_of : Option Came → LaneView → Turn
 turn_of came v = record { came = came; ends = v.ends }
 
 turns_then : (turns : List Turn) (came : Option Came) (u v v' : LaneView) → AreTurns turns u v → GoesOn (option_to_list came) v v' → AreTurns (turns ++ turn_of came v' ∷ []) u v'
-turns_then [] came u v v' is goes = (v', (record { goes = subst (λ (w : LaneView). GoesOn (option_to_list came) w v') is goes; told = refl }, refl))
-turns_then (t ∷ turns) came u v v' is goes = (is.0, (is.1.0, turns_then turns came is.0 v v' is.1.1 goes))
+turns_then [] came u v v' is goes = (v', record { goes = subst (λ (w : LaneView). GoesOn (option_to_list came) w v') is goes; told = refl }, refl)
+turns_then (t ∷ turns) came u v v' is goes = (is.0, is.1, turns_then turns came is.0 v v' is.2 goes)
 
 other_then : (all : List Came) (came : Option Came) (u v v' : LaneView) → HasTurns all u v → GoesOn (option_to_list came) v v' → HasTurns (all ++ option_to_list came) u v'
 other_then all came u v v' has goes =
     let t = turn_of came v' in
-    (has.0 ++ t ∷ [], (came_then has.0 t ∙ ap (λ (l : List Came). l ++ option_to_list came) has.1.0, turns_then has.0 came u v v' has.1.1 goes))
+    (has.0 ++ t ∷ [], came_then has.0 t ∙ ap (λ (l : List Came). l ++ option_to_list came) has.1, turns_then has.0 came u v v' has.2 goes)
 
 -- the lanes go on by one turn more
 pub both_then : (turns : List Turn) (came : Option Came) (one : LaneView) (other : Option LaneView) (one' : LaneView) (other' : Option LaneView) (one'' : LaneView) (other'' : Option LaneView)
@@ -49,7 +49,7 @@ both_then turns came one (Some o) one' (Some o') one'' (Some o'') are goes =
 
 pub both_none : (one : LaneView) (other : Option LaneView) → AreBothTurns [] one other one other
 both_none one None = refl
-both_none one (Some o) = (refl, ([], (refl, refl)))
+both_none one (Some o) = (refl, ([], refl, refl))
 
 -- a lane that went on by these turns is of all who came in them, and told all that was told in them
 pub lane_by : (turns : List Turn) (opening : State) (came : List Came) (told : List Ended) (u v : LaneView) → AreTurns turns u v → IsLane opening came told u → IsLane opening (came ++ came_by turns) (told ++ told_by turns) v
@@ -58,7 +58,7 @@ lane_by [] opening came told u v is lane =
     (subst (λ (l : List Came). IsLane opening l (told ++ []) u) (sym (append-nil came)) (subst (λ (l : List Ended). IsLane opening came l u) (sym (append-nil told)) lane))
 lane_by (t ∷ turns) opening came told u v is lane =
     let m = is.0 in
-    let next : IsLane opening (came ++ came_in t) (told ++ t.ends) m = subst (λ (l : List Ended). IsLane opening (came ++ came_in t) (told ++ l) m) is.1.0.told (is.1.0.goes opening came told lane) in
-    let all = lane_by turns opening (came ++ came_in t) (told ++ t.ends) m v is.1.1 next in
+    let next : IsLane opening (came ++ came_in t) (told ++ t.ends) m = subst (λ (l : List Ended). IsLane opening (came ++ came_in t) (told ++ l) m) is.1.told (is.1.goes opening came told lane) in
+    let all = lane_by turns opening (came ++ came_in t) (told ++ t.ends) m v is.2 next in
     subst (λ (l : List Came). IsLane opening l (told ++ told_by (t ∷ turns)) v) (append_assoc came (came_in t) (came_by turns))
     (subst (λ (l : List Ended). IsLane opening ((came ++ came_in t) ++ came_by turns) l v) (append_assoc told t.ends (told_by turns)) all)

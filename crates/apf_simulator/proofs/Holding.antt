@@ -1,5 +1,5 @@
 -- Requests that are held, and what became of them.
-use Rattle.std.proofs.Common.{◌≡◌, ℕ, zero, suc, ◌+◌, ◌<◌, List, [], ◌∷◌, ◌++◌, length, map, take, get_or, Contains, Option, Some, None, refl, sym, ap, ◌∙◌, subst, append_assoc, arith}
+use Rattle.std.proofs.Common.{◌≡◌, ℕ, zero, suc, ◌+◌, ◌<◌, ◌≤◌, List, [], ◌∷◌, ◌++◌, length, map, take, get_or, Contains, Option, Some, None, refl, sym, ap, ◌∙◌, subst, append_assoc, arith}
 use Rattle.std.specs.Prelude.{slice_get, slice_set, IfSome}
 use Rattle.std.specs.List.{AllByRecursion}
 use Rattle.std.proofs.lemmas.List.{map-append, append-nil, take_more}
@@ -22,6 +22,13 @@ with_end h e = record { came = h.came; ended = Some e }
 -- one more of a list
 pub take_one : (xs : List Ended) (k : ℕ) (d : Ended) → k < length xs → take k xs ++ get_or xs k d ∷ [] ≡ take (k + 1) xs
 take_one xs k d low = sym (take_more xs k d low)
+
+-- all of a list
+pub take_past : (xs : List Ended) (k : ℕ) → length xs ≤ k → take k xs ≡ xs
+take_past [] zero low = refl
+take_past [] (suc k) low = refl
+take_past (x ∷ xs) zero low = absurd (omega arith)
+take_past (x ∷ xs) (suc k) low = ap (λ (l : List Ended). x ∷ l) (take_past xs k (omega arith))
 
 fate_more : (told more : List Ended) (f : Fate) → IsFate told f → IsFate (told ++ more) f
 fate_more told more f is = record { was_told = Contains-append_left told more f.ended is.was_told; line = is.line }
@@ -77,3 +84,10 @@ came_too all told x old new is held =
       are = map-append came_of old (h ∷ []) ∙ ap (λ (l : List Came). l ++ x ∷ []) held.are;
       known = all_then told old (h ∷ []) held.known (tt, tt);
     })
+
+-- one came, or nobody, and these were told
+pub took : (all : List Came) (told : List Ended) (came : Option Came) (ends : List Ended) (old mid new : List Held) → IfSome came (λ x. mid ≡ old ++ record { came = x; ended = None } ∷ []) → (came ≡ None → mid ≡ old)
+    → ((c : List Came) (t : List Ended) → AreHeld c t mid → AreHeld c (t ++ ends) new) → AreHeld all told old → AreHeld (came_more all came) (told ++ ends) new
+took all told None ends old mid new some none end held =
+    end (all ++ []) told (subst (λ (l : List Came). AreHeld l told mid) (sym (append-nil all)) (subst (AreHeld all told) (sym (none refl)) held))
+took all told (Some x) ends old mid new some none end held = end (all ++ x ∷ []) told (came_too all told x old mid some held)

@@ -1,7 +1,8 @@
 pub mod Asking
 pub mod Countable
-pub mod Feeding
 pub mod Going
+pub mod Handed
 pub mod Holding
-pub mod Running
+pub mod Laning
+pub mod Showing
 pub mod Turns

@@ -23,14 +23,14 @@ book_of r =
 unfoldable pub furthest_text : Furthest → List ℕ
 furthest_text f = codes "bound " ++ decimal f.busy ++ codes " " ++ decimal f.other ++ codes " " ++ decimal f.ahead
 
--- the other side: twice the largest cost, and three times what requests are misjudged by
-unfoldable pub other_text : Sides → List ℕ
-other_text s = codes " cost " ++ decimal s.largest_cost ++ codes " misjudged " ++ decimal s.slack ++ codes " limit " ++ decimal (2 * s.largest_cost + 3 * s.slack) ++ codes "\n"
+-- the other side, with what it is made of
+unfoldable pub other_text : (cost slack limit : ℕ) → List ℕ
+other_text cost slack limit = codes " cost " ++ decimal cost ++ codes " misjudged " ++ decimal slack ++ codes " limit " ++ decimal limit ++ codes "\n"
 
--- the line of both sides
+-- the line of both sides: the other one is twice the largest cost, and three times what requests are misjudged by
 abbrev pub sides_line : Option Furthest → Sides → List ℕ
 sides_line None s = codes "bound none\n"
-sides_line (Some f) s = furthest_text f ++ other_text s
+sides_line (Some f) s = furthest_text f ++ other_text s.largest_cost s.slack (2 * s.largest_cost + 3 * s.slack)
 
 -- that line, if both sides were kept
 abbrev pub sides_text : Option Sides → List ℕ

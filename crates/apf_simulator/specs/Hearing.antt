@@ -89,14 +89,14 @@ AreParts (h ∷ held) (r ∷ requests) [] = ⊥
 AreParts (h ∷ held) (r ∷ requests) (e ∷ ends) = (h.came.item ≡ r) × (h.ended ≡ Some e) × AreParts held requests ends
 
 -- whether the line of a request is before that of another
-abbrev pub line_before : Fate → Fate → Bool
+abbrev pub line_before : Held → Held → Bool
 line_before a b = nat_lt a.came.place.line b.came.place.line
 
 -- those that came, each with what became of it, in the order of their lines
 pub record AreListed (came : List (Arrival TraceRequest)) (told : List Ended) (l : Listed) : Type 0 where
-  pub fates : List Fate
-  pub all : IsPermutation came (map (λ (f : Fate). f.came) fates)
-  pub order : IsSortedBy line_before fates
-  pub told_is : AllByRecursion (IsFate told) fates
-  pub requests : l.requests.items ≡ map (λ (f : Fate). f.came.item) fates
-  pub ends : l.ends.items ≡ map (λ (f : Fate). f.ended) fates
+  pub held : List Held
+  pub all : IsPermutation came (map (λ (h : Held). h.came) held)
+  pub order : IsSortedBy line_before held
+  pub known : AllByRecursion (IsHeldOf told) held
+  pub parts : AreParts held l.requests.items l.ends.items
+

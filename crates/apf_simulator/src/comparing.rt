@@ -1,12 +1,13 @@
 //! Runs a trace on two levels, and prints both side by side.
 
-ghost use Rattle.std.specs.Prelude.{◌≡◌, ◌≤◌, ◌×◌, ℕ, List, [], Option, None, IfOk, IfSome, OnOk};
-ghost use Rattle.std.specs.Io.KnownBytes.{Appends};
+ghost use Rattle.std.specs.Prelude.{◌≡◌, ◌≤◌, ℕ, List, [], Option, None, IfOk, IfSome, IsSome, OnOk, Some};
+ghost use Rattle.std.specs.Io.KnownBytes.{Appends, Keeps};
 ghost use Rattle.apf_times.specs.Limits.{max_patience};
 ghost use Rattle.apf_rows.specs.Comparisons.{IsOrder, comparison_text};
 ghost use Rattle.apf_rows.specs.declared.comparison.Place.{Place as PlaceOf};
 ghost use Rattle.apf_trace_reader.specs.Reading.{HasRead};
-ghost use Rattle.apf_simulator.specs.Feeds.{AreLivedBoth, AreNew};
+ghost use Rattle.apf_simulator.specs.Feeds.{AreLivedBoth, AreNew, HasFed, HaveGone, IsHandedOut, IsOver};
+ghost use Rattle.apf_simulator.specs.Lanes.{IsLane, IsOpening};
 ghost use Rattle.apf_simulator.specs.Told.{ArePrinted, HaveCompared, IsTableOf};
 
 use crate::charge::charge_or_usual;
@@ -32,6 +33,9 @@ fn open_both(
     by: ChargedBy,
 ) -> Result<Lanes, SimulatorFault>
     requires patience { patience ≤ max_patience }
+    ensures two { IfOk result (λ l. IsSome l.other) }
+    ensures opened { IfOk result (λ l. IsOpening one.now patience by l.one.state × IsLane l.one.state [] [] l.one) }
+    ensures other_opened { IfOk result (λ l. IfSome l.other (λ o. IsOpening other.now patience by o.state × IsLane o.state [] [] o)) }
     ensures new { IfOk result (λ l. AreNew l.one l.other) }
     ensures lived { IfOk result (λ l. AreLivedBoth l.one l.other) }
 {
@@ -64,7 +68,8 @@ fn print<W: Write>(
 {
     let one = table_of(alloc, one)?;
     let other = table_of(alloc, other)?;
-    write(alloc, &one, &other, out)
+    write(alloc, &one, &other, out)?;
+    Ok(())
 }
 
 // Writes both side by side, flow by flow.
@@ -91,6 +96,14 @@ fn run_both<R: Read, W: Write>(
     input: &mut R,
     out: &mut W,
 ) -> Result<(Lane, Lane), SimulatorFault>
+    requires two { IsSome lanes.other }
+    requires new { AreNew lanes.one lanes.other }
+    requires lived { AreLivedBoth lanes.one lanes.other }
+    requires handed_out { IsHandedOut first reader.old.window.last }
+    ensures over { IfOk result (λ o. IsOver o.0 × IsOver o.1) }
+    ensures gone { IfOk result (λ o. (was : Option (List ℕ)) → HasFed was (R.remaining input.old) [] first reader.old
+        → HaveGone was (R.remaining input.new) None reader.new lanes.one lanes.other o.0 (Some o.1) (λ turns. Keeps (W.contents out.old) (W.contents out.new))) }
+    ensures size { reader.new.window.size ≡ reader.old.window.size }
 {
     run(&mut lanes, &mut Nobody, first, reader, input, out)?;
     let Lanes { one, other } = lanes;
@@ -117,11 +130,12 @@ pub fn compare<R: Read, W: Write>(
     requires patience { terms.patience ≤ max_patience }
     requires nothing { reader.old.window.last ≡ None }
     ensures { OnOk result (HasRead [] [] (R.remaining input.old) reader.old
-        → HaveCompared configs.0.now configs.1.now terms.patience terms.by reader.old.window.size (R.remaining input.old) (R.remaining input.new) (W.contents out.old) (W.contents out.new)) }
+        → HaveCompared configs.entry.0.now configs.entry.1.now terms.patience terms.by reader.old.window.size (R.remaining input.old) (R.remaining input.new) (W.contents out.old) (W.contents out.new)) }
 {
     let first = read_first(reader, input)?;
     let by = charge_or_usual(terms.by, reader);
     let lanes = open_both(alloc, configs.0, configs.1, terms.patience, by)?;
     let (one, other) = run_both(lanes, first, reader, input, out)?;
-    print(alloc, one, other, out)
+    print(alloc, one, other, out)?;
+    Ok(())
 }

@@ -112,7 +112,8 @@ impl HeldList {
         if let Some(came) = came {
             self.hold(came)?;
         }
-        self.end_all(ends)
+        self.end_all(ends)?;
+        Ok(())
     }
 
     /// All of them, in the order in which they came.

@@ -1,7 +1,8 @@
 //! The requests of a trace, each with what became of it, in the order of their lines.
 
-ghost use Rattle.std.specs.Prelude.{◌≡◌, ◌≤◌, ℕ, [], List, length, Option, IfOk};
-ghost use Rattle.apf_simulator.specs.Hearing.{AreListed, AreParts, Holds};
+ghost use Rattle.std.specs.Prelude.{◌≡◌, ◌≤◌, ℕ, [], List, length, Option, IfOk, IsPermutation};
+ghost use Rattle.std.specs.List.Sorted.{IsSortedBy};
+ghost use Rattle.apf_simulator.specs.Hearing.{AreListed, AreParts, Holds, line_before};
 ghost use Rattle.apf_simulator.specs.Turns.{Turn, came_by, told_by};
 
 use crate::fault::SimulatorFault;
@@ -52,6 +53,14 @@ fn parts_of(
     Ok((requests, ends))
 }
 
+// Puts them into the order of their lines.
+fn put_in_order(held: &mut Vec<Held>)
+    ensures same { IsPermutation held.old.items held.new.items }
+    ensures in_order { IsSortedBy line_before held.new.items }
+{
+    held.sort_unstable_by_key(|it| it.came.place.line);
+}
+
 impl Listing {
     /// Nobody came.
     pub(crate) fn new(alloc: Global) -> Listing
@@ -77,7 +86,7 @@ impl Listing {
         if held.len() > MOST_LISTED as usize {
             return Err(SimulatorFault::TooManyListed);
         }
-        held.sort_unstable_by_key(|it| it.came.place.line);
+        put_in_order(&mut held);
         let (requests, ends) = parts_of(alloc, held)?;
         Ok(Listed {
             requests,
@@ -99,6 +108,7 @@ impl Listener for Listing {
         if self.held.len() > MOST_LISTED as usize {
             return Err(SimulatorFault::TooManyListed);
         }
-        self.held.take(came, ends)
+        self.held.take(came, ends)?;
+        Ok(())
     }
 }

@@ -62,7 +62,8 @@ pub(crate) fn run<R: Read, L: Listener, W: Write>(
 {
     feed_all(lanes, listener, first, reader, input, out)?;
     lanes.finish()?;
-    listener.hear(None, lanes.one.ends(), out)
+    listener.hear(None, lanes.one.ends(), out)?;
+    Ok(())
 }
 
 // Runs the trace on a level to which nobody came, and lets one listen.
@@ -86,10 +87,8 @@ fn run_lane<R: Read, L: Listener, W: Write>(
         one: lane,
         other: None,
     };
-    match run(&mut lanes, listener, first, reader, input, out) {
-        Ok(()) => Ok(lanes.into_one()),
-        Err(fault) => Err(fault),
-    }
+    run(&mut lanes, listener, first, reader, input, out)?;
+    Ok(lanes.into_one())
 }
 
 // The level, to which nobody came, the first request of the trace, and what requests are charged.
@@ -138,7 +137,8 @@ pub(crate) fn run_one<R: Read, L: Listener, W: Write>(
 {
     let (lane, first, by) = open_for(alloc, config, terms, reader, input)?;
     let lane = watched(alloc, config, terms, by, lane)?;
-    run_lane(lane, listener, first, reader, input, out)
+    let lane = run_lane(lane, listener, first, reader, input, out)?;
+    Ok(lane)
 }
 
 // Keeps both sides of the bound of a lane to which nobody came, if they are asked for.
@@ -183,10 +183,9 @@ pub fn write_fates<R: Read, W: Write>(
         → HasToldFates config.now terms.patience terms.by reader.old.window.size (R.remaining input.old) (R.remaining input.new) (W.contents out.old) (W.contents out.new)) }
 {
     let mut telling = Telling::new(alloc, WINDOW);
-    match run_one(alloc, config, terms, &mut telling, reader, input, out) {
-        Ok(_lane) => telling.finish(out),
-        Err(fault) => Err(fault),
-    }
+    run_one(alloc, config, terms, &mut telling, reader, input, out)?;
+    telling.finish(out)?;
+    Ok(())
 }
 
 /// Runs a trace of at most 10,000 requests on the level of this config as `simulate` does, and prints the script of the same run,
@@ -210,14 +209,9 @@ pub fn write_timeline<R: Read, W: Write>(
         → HasToldCalls config.now terms.patience terms.by reader.old.window.size (R.remaining input.old) (R.remaining input.new) (W.contents out.old) (W.contents out.new)) }
 {
     let mut timeline = Timeline::new(alloc);
-    match run_one(alloc, config, terms, &mut timeline, reader, input, out) {
-        Ok(_lane) => {}
-        Err(fault) => return Err(fault),
-    }
-    match timeline.write(out) {
-        Ok(()) => Ok(()),
-        Err(_) => Err(SimulatorFault::CannotWrite),
-    }
+    run_one(alloc, config, terms, &mut timeline, reader, input, out)?;
+    timeline.write(out)?;
+    Ok(())
 }
 
 /// Runs a trace of at most 10,000 requests on the level of this config as `simulate` does, and lists its requests, each with what
@@ -243,8 +237,7 @@ pub fn list<R: Read, W: Write>(
     ensures kept { OnOk result (HasRead [] [] (R.remaining input.old) reader.old → Keeps (W.contents out.old) (W.contents out.new)) }
 {
     let mut listing = Listing::new(alloc);
-    match run_one(alloc, config, terms, &mut listing, reader, input, out) {
-        Ok(lane) => listing.close(alloc, lane.last()),
-        Err(fault) => Err(fault),
-    }
+    let lane = run_one(alloc, config, terms, &mut listing, reader, input, out)?;
+    let listed = listing.close(alloc, lane.last())?;
+    Ok(listed)
 }

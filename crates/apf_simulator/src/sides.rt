@@ -26,14 +26,11 @@ fn write_furthest<W: Write>(furthest: Furthest, out: &mut W) -> io::Result<()>
     write!(out, "bound {busy} {other} {ahead}")
 }
 
-// Writes the other side of the bound.
+// Writes the other side of the bound, with what it is made of.
 #[tactic(auto, unfolding(crate::specs::Books::other_text))]
-fn write_other<W: Write>(sides: &Sides, out: &mut W) -> io::Result<()>
-    ensures { OnOk result (Appends (W.contents out.old) (W.contents out.new) (other_text sides.now)) }
+fn write_other<W: Write>(cost: u32, slack: u64, limit: u128, out: &mut W) -> io::Result<()>
+    ensures { OnOk result (Appends (W.contents out.old) (W.contents out.new) (other_text cost slack limit)) }
 {
-    let cost = sides.largest_cost;
-    let slack = sides.slack;
-    let limit = sides.limit();
     writeln!(out, " cost {cost} misjudged {slack} limit {limit}")
 }
 
@@ -49,5 +46,5 @@ pub(crate) fn write_sides<W: Write>(sides: &Sides, out: &mut W) -> io::Result<()
         return writeln!(out, "bound none");
     };
     write_furthest(furthest, out)?;
-    write_other(sides, out)
+    write_other(sides.largest_cost, sides.slack, sides.limit(), out)
 }

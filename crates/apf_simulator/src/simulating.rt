@@ -93,7 +93,8 @@ fn print<W: Write>(
     let sides = sides_of(&lane, terms.has_bound);
     let (table, report) = lane.close(alloc)?;
     write(&table, &report, limit, terms.patience, out)?;
-    write_bound(&sides, out)
+    write_bound(&sides, out)?;
+    Ok(())
 }
 
 /// Runs a trace on the level of this config, in one thread, and prints a line for each flow, the line of the whole, the level's
@@ -121,8 +122,7 @@ pub fn simulate<R: Read, W: Write>(
     ensures { OnOk result (HasRead [] [] (R.remaining input.old) reader.old
         → HasSimulated config.now terms.patience terms.by terms.has_bound reader.old.window.size (R.remaining input.old) (R.remaining input.new) (W.contents out.old) (W.contents out.new)) }
 {
-    match run_one(alloc, config, terms, &mut Nobody, reader, input, out) {
-        Ok(lane) => print(alloc, lane, config.limit, terms, out),
-        Err(fault) => Err(fault),
-    }
+    let lane = run_one(alloc, config, terms, &mut Nobody, reader, input, out)?;
+    print(alloc, lane, config.limit, terms, out)?;
+    Ok(())
 }

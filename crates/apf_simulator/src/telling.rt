@@ -73,7 +73,7 @@ impl Telling {
             → Tells before (W.contents out.new) turns self.new.has_begun self.new.held) }
     {
         let held = self.held.len();
-        for _ in back..held {
+        'lines: for _ in back..held {
             if !self.tell_one(out)? {
                 return Ok(());
             }
@@ -109,6 +109,7 @@ impl Listener for Telling {
         out: &mut W,
     ) -> Result<(), SimulatorFault> {
         self.held.take(came, ends)?;
-        self.tell(self.back, out)
+        self.tell(self.back, out)?;
+        Ok(())
     }
 }

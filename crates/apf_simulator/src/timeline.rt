@@ -105,12 +105,14 @@ impl Timeline {
     ///
     /// # Errors
     ///
-    /// The writer's. Then nothing is known of how much was written.
-    pub(crate) fn write<W: Write>(&self, out: &mut W) -> io::Result<()>
+    /// `CannotWrite`. Then nothing is known of how much was written.
+    pub(crate) fn write<W: Write>(&self, out: &mut W) -> Result<(), SimulatorFault>
         ensures { OnOk result (Appends (W.contents out.old) (W.contents out.new) (script_text self.now.calls.items)) }
     {
         for call in &self.calls {
-            write_call(out, *call)?;
+            if write_call(out, *call).is_err() {
+                return Err(SimulatorFault::CannotWrite);
+            }
         }
         Ok(())
     }

@@ -10,7 +10,7 @@ use Rattle.apf_stream.specs.States.{IsAsked, State, state_of}
 use Rattle.apf_stream.specs.Ties.{AreTied}
 use Rattle.apf_rows.specs.Rows.{AreRows}
 use Rattle.apf_simulator.specs.Lanes.{IsLane, IsTold, LaneView, asked_by}
-use Rattle.apf_simulator.proofs.Running.{is_told, lane_goes, one_asked, one_run}
+use Rattle.apf_simulator.proofs.Laning.{is_told, lane_goes, one_asked, one_run}
 use Rattle.apf_simulator.proofs.lane.Lane.arrive.Goals as goal
 
 pub arrive-requires-clause-tied : goal.arrive-requires-clause-tied

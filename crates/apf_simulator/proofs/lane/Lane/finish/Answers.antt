@@ -9,7 +9,7 @@ use Rattle.apf_stream.specs.States.{IsAsked, State, state_of}
 use Rattle.apf_stream.specs.Ties.{AreTied}
 use Rattle.apf_rows.specs.Rows.{AreRows, HaveMet}
 use Rattle.apf_simulator.specs.Lanes.{IsLane, IsTold, LaneView, asked_by}
-use Rattle.apf_simulator.proofs.Running.{is_told, lane_goes, none, none_run}
+use Rattle.apf_simulator.proofs.Laning.{is_told, lane_goes, none, none_run}
 use Rattle.apf_simulator.proofs.lane.Lane.finish.Goals as goal
 
 still_met : (came : List (Arrival TraceRequest)) (w : _) → HaveMet came w → HaveMet (came ++ none) w

@@ -2,7 +2,7 @@
 use Rattle.std.proofs.Common.{refl, ap}
 use Rattle.apf_calendar.specs.Guests.{SlotsView}
 use Rattle.apf_stream.specs.States.{State, state_of}
-use Rattle.apf_simulator.proofs.Running.{nobody_of, ran_none}
+use Rattle.apf_simulator.proofs.Laning.{nobody_of, ran_none}
 use Rattle.apf_simulator.proofs.lane.Lane.open.Goals as goal
 
 pub returns-clause-nobody : goal.returns-clause-nobody

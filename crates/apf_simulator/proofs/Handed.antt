@@ -31,21 +31,21 @@ ahead place was at (Some x) now one other is time f in_time =
 
 -- the first was handed out, or nothing is there
 pub first_fed : (was left : Option (List ℕ)) (next : Option Came) (v : ReaderView) → (more : List ℕ) × Consumes was left more × Answers more [] left (Ok next) v → HasFed was left [] next v
-first_fed was left None v a = record { bytes = a.0; given = a.1.0; read = a.1.1.0; all = λ is. (a.1.1.1.0, a.1.1.1.1) }
-first_fed was left (Some x) v a = record { bytes = a.0; given = a.1.0; read = a.1.1; all = λ is. let no : ◌≡◌ {A = Option Came} (Some x) None = is in absurd (cc) }
+first_fed was left None v a = record { bytes = a.0; given = a.1; read = a.2.0; all = λ is. (a.2.1, a.2.2) }
+first_fed was left (Some x) v a = record { bytes = a.0; given = a.1; read = a.2; all = λ is. let no : ◌≡◌ {A = Option Came} (Some x) None = is in absurd (cc) }
 
 fed_by : (was mid left : Option (List ℕ)) (turns turns' : List Turn) (x : Came) (next : Option Came) (v v' : ReaderView) → came_by turns' ≡ came_by turns ++ x ∷ [] → (f : HasFed was mid turns (Some x) v)
     → (more : List ℕ) × Consumes mid left more × Answers (f.bytes ++ more) (came_by turns ++ x ∷ []) left (Ok next) v' → HasFed was left turns' next v'
 fed_by was mid left turns turns' x None v v' came f a = record {
   bytes = f.bytes ++ a.0;
-  given = Consumes-trans was mid left f.bytes a.0 f.given a.1.0;
-  read = subst (λ (l : List Came). HasRead (f.bytes ++ a.0) l left v') (sym (append-nil (came_by turns')) ) (subst (λ (l : List Came). HasRead (f.bytes ++ a.0) l left v') (sym came) a.1.1.0);
-  all = λ is. (subst (AreAll v'.window.size (f.bytes ++ a.0)) (sym came) a.1.1.1.0, a.1.1.1.1);
+  given = Consumes-trans was mid left f.bytes a.0 f.given a.1;
+  read = subst (λ (l : List Came). HasRead (f.bytes ++ a.0) l left v') (sym (append-nil (came_by turns')) ) (subst (λ (l : List Came). HasRead (f.bytes ++ a.0) l left v') (sym came) a.2.0);
+  all = λ is. (subst (AreAll v'.window.size (f.bytes ++ a.0)) (sym came) a.2.1, a.2.2);
 }
 fed_by was mid left turns turns' x (Some y) v v' came f a = record {
   bytes = f.bytes ++ a.0;
-  given = Consumes-trans was mid left f.bytes a.0 f.given a.1.0;
-  read = subst (λ (l : List Came). HasRead (f.bytes ++ a.0) (l ++ y ∷ []) left v') (sym came) a.1.1;
+  given = Consumes-trans was mid left f.bytes a.0 f.given a.1;
+  read = subst (λ (l : List Came). HasRead (f.bytes ++ a.0) (l ++ y ∷ []) left v') (sym came) a.2;
   all = λ is. let no : ◌≡◌ {A = Option Came} (Some y) None = is in absurd (cc);
 }
 

@@ -52,7 +52,7 @@ class Client:
         self.process.stdout.readline()
         self.free, self.flow, self.runs_for = [*range(9_999, -1, -1)], {}, {}
         self.is_counted = {}
-        # who waits, each with how manieth of all that waited it is: its number may be another request's later
+        # who waits, each with its number among all that waited: its own may be another request's later
         self.waits, self.waited = {}, 0
         self.came, self.turned_away = {}, {}
 

@@ -16,9 +16,9 @@ subprocess.run(["cc", "-O1", "-shared", "-fPIC", "-o", shim, os.path.join(HERE, 
 marker = os.path.join(files.folder.name, "refused")
 
 
-def ticket(slot, manieth, width=1):
-    """The number of a request: how manieth of its slot it is, its width, and its slot."""
-    return "Ticket { number: %d }" % ((manieth * 2**15 + width) * 2**14 + slot)
+def ticket(slot, given, width=1):
+    """The number of a request: how many times its slot was given until then, its width, and its slot."""
+    return "Ticket { number: %d }" % ((given * 2**15 + width) * 2**14 + slot)
 
 
 # one seat, one queue, and three slots; the calls, with what each is to answer

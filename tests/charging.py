@@ -1,6 +1,7 @@
 """Who is turned away, where requests are charged by time and where by seats: quiet flows of short requests beside five flows that ask for twice the
-level. First with an `apf serve` in the middle: the client keeps the clock, and everything else is the program's. Then by `apf simulate`, on as many
-requests as a trace may have. Who comes in the first third is not counted with `serve`: nothing is known of any flow then.
+level. First with an `apf serve` in the middle: the client keeps the clock, and everything else is the program's. Who comes in the first third is not
+counted there: nothing is known of any flow then. Then by `apf simulate`, where all are counted, and the requests come for 90 times as long as a loud
+one runs, if that is longer.
 
 APF_SEED draws other arrivals, and APF_SECONDS says how long they come.
 """
@@ -29,11 +30,13 @@ SHORT, QUIET_FLOWS, LOUD_FLOWS = 10_000, 10, 5
 FINISH, GIVE_UP, ARRIVE = range(3)
 
 
-def arrivals_of(flows, name, runs_for, seats, draw, seconds=SECONDS):
-    """The arrivals in this many seconds of flows that ask for this many seats together, at times that know nothing of one another. Each runs up to a quarter longer or shorter."""
+def arrivals_of(flows, name, runs_for, seats, beside, seconds):
+    """The arrivals in this many seconds of flows that ask for this many seats together, at times that know nothing of one another. Each runs up to a
+    quarter longer or shorter. In fewer seconds they are the first of them."""
     each = runs_for * len(flows) / seats
     arrivals = []
     for flow in flows:
+        draw = random.Random(f"{seed} {beside} {name} {flow}")
         at = draw.expovariate(1 / each)
         while at < seconds * SECOND:
             arrivals.append((int(at), ARRIVE, f"{name}-{flow}", int(runs_for * draw.uniform(0.75, 1.25))))
@@ -49,7 +52,7 @@ class Client:
         self.process.stdout.readline()
         self.free, self.flow, self.runs_for = [*range(9_999, -1, -1)], {}, {}
         self.is_counted = {}
-        # who waits, each with how manieth of all that waited it is: its number may be another request's later
+        # who waits, each with its number among all that waited: its own may be another request's later
         self.waits, self.waited = {}, 0
         self.came, self.turned_away = {}, {}
 
@@ -110,11 +113,15 @@ class Client:
         return book, self.process.wait()
 
 
+def duel(runs_for, seconds):
+    """The arrivals of the quiet flows, and those of the loud ones, whose requests run this long."""
+    quiet = arrivals_of(range(QUIET_FLOWS), "quiet", SHORT, 4.9, runs_for, seconds)
+    return quiet, arrivals_of(range(LOUD_FLOWS), "loud", runs_for, 98, runs_for, seconds)
+
+
 def turned_away(runs_for, charge):
     """The part of the quiet flows' requests that is turned away beside requests that run this long."""
-    draw = random.Random(f"{seed} {runs_for}")
-    quiet = arrivals_of(range(QUIET_FLOWS), "quiet", SHORT, 4.9, draw)
-    loud = arrivals_of(range(LOUD_FLOWS), "loud", runs_for, 98, draw)
+    quiet, loud = duel(runs_for, SECONDS)
     client = Client(charge)
     book, status = client.run(quiet + loud)
     came = sum(count for flow, count in client.came.items() if flow.startswith("quiet"))
@@ -124,29 +131,38 @@ def turned_away(runs_for, charge):
     return away / came
 
 
-def simulated(runs_for, charge):
-    """The same by one simulation."""
-    draw = random.Random(f"{seed} {runs_for}")
-    # as long as 9,500 requests come, of 10,000 that a trace may have
-    seconds = 9_500 / (4.9 / SHORT + 98 / runs_for) / SECOND
-    quiet = arrivals_of(range(QUIET_FLOWS), "quiet", SHORT, 4.9, draw, seconds)
-    loud = arrivals_of(range(LOUD_FLOWS), "loud", runs_for, 98, draw, seconds)
-    lines = [{"schema": "duel", "distinguisher": flow, "arrivesAt": at, "runsFor": ran} for at, _, flow, ran in sorted(quiet + loud)]
-    trace = files("duel.jsonl", "".join(json.dumps(it) + "\n" for it in lines))
+def simulated_for(seconds, runs_for, charge):
+    """By a simulation of the arrivals in this many seconds: how many of the quiet flows' requests came, and how many were turned away."""
+    quiet, loud = duel(runs_for, seconds)
+    line = '{"schema":"duel","distinguisher":"%s","arrivesAt":%d,"runsFor":%d}\n'
+    trace = files("duel.jsonl", "".join(line % (flow, at, ran) for at, _, flow, ran in sorted(quiet + loud)))
     done = subprocess.run([program, "simulate", LEVEL, trace, "15s", "--charge", charge], stdout=subprocess.PIPE, stderr=subprocess.PIPE)
     rows = [line.split() for line in done.stdout.decode().split("\n") if line.startswith("flow ") and '"quiet-' in line]
     came, executed = (sum(int(row[row.index(word) + 1]) for row in rows) for word in ("requests", "executed"))
-    tally.check(f"{runs_for} us by {charge}: each is simulated", (done.returncode, done.stderr, came), (0, b"", len(quiet)))
-    print(f"simulated, loud requests of {runs_for // 1000} ms, charged by {charge}: {came - executed} of {came} quiet requests turned away")
-    return (came - executed) / came
+    tally.check(f"{runs_for} us for {seconds} s by {charge}: each is simulated", (done.returncode, done.stderr, came), (0, b"", len(quiet)))
+    return came, came - executed
+
+
+def simulated(runs_for, charge):
+    """The part that is turned away of all, and of those behind the first third. Of those in it some are there at its end. If nobody comes behind them,
+    fewer of these are turned away, so the second part is at most this."""
+    seconds = max(SECONDS, 90 * runs_for // SECOND)
+    came, away = simulated_for(seconds, runs_for, charge)
+    came_first, away_first = simulated_for(seconds // 3, runs_for, charge)
+    behind = (away - away_first) / (came - came_first)
+    print(f"simulated for {seconds} s, loud requests of {runs_for // 1000} ms, charged by {charge}: {away} of {came} quiet requests turned away, {100 * away / came:.2f} %; {100 * behind:.3f} % behind the first third")
+    return away / came, behind
 
 
 for milliseconds in (30, 100, 300, 1_000, 10_000):
-    # in so few requests as a trace may have, those of 10 s have all seats from the first second on, and nothing of them ends for half of the time
-    for way, told in ((turned_away, "with serve"), (simulated, "by simulate"))[: 1 if milliseconds == 10_000 else 2]:
-        away = way(milliseconds * 1000, "time")
-        tally.check(f"{told}, loud requests of {milliseconds} ms: at most 1 % of the quiet ones are turned away", away <= 0.01, True)
+    away = turned_away(milliseconds * 1000, "time")
+    tally.check(f"with serve, loud requests of {milliseconds} ms: at most 1 % of the quiet ones are turned away", away <= 0.01, True)
+    away, behind = simulated(milliseconds * 1000, "time")
+    tally.check(f"by simulate, loud requests of {milliseconds} ms: at most 1 % of the quiet ones are turned away", away <= 0.01, True)
+    # those of 10 s hold all seats from the fifth second on, and the first of them end some seconds later: nearly all who are turned away come then
+    tally.check(f"by simulate, loud requests of {milliseconds} ms: at most 0.1 % of those behind the first third", behind <= 0.001, True)
 # the same where dispatches are charged their seats: the test can tell
 tally.check("charged by seats, a fifth and more of them are", turned_away(300_000, "seats") >= 0.2, True)
-tally.check("by simulate too", simulated(1_000_000, "seats") >= 0.2, True)
+for milliseconds in (1_000, 10_000):
+    tally.check(f"by simulate too, of {milliseconds} ms", [it >= 0.2 for it in simulated(milliseconds * 1000, "seats")], [True, True])
 tally.end()

@@ -247,12 +247,12 @@ for row in rows:
         tally.check(f"docs/proof/PROVED.md: what {', '.join(sorted(functions))} says: {row[0][:70]}", lacking, [])
 tally.check("docs/proof/PROVED.md: contracts are found", asked > 300, True)
 
-# the library's example stands in a program, which is proved and run
+# the library's examples stand in a program, which is proved and run
 source = open(os.path.join(TOP, "crates", "apf_example", "src", "main.rt"), encoding="utf-8").read()
-for name in ("README.md", os.path.join("docs", "LIBRARY.md")):
+for name, count_of in (("README.md", 1), (os.path.join("docs", "LIBRARY.md"), 2)):
     page = open(os.path.join(TOP, name), encoding="utf-8").read()
     shown = [body for head, body in blocks(page) if head == "rust"]
-    tally.check(f"{name}: the example of the library", [len(shown), *(body in source for body in shown)], [1, True])
+    tally.check(f"{name}: the examples of the library", [len(shown), *(body in source for body in shown)], [count_of, *[True] * count_of])
 
 # the planted bugs are as many as the README says
 page = open(os.path.join(TOP, "README.md"), encoding="utf-8").read()

@@ -639,7 +639,7 @@ def check_time():
         begin()
         tally.check("one that takes long at the end", begin_slow(), 1)
     tally.check("it ends with the server", still(), [])
-    # a machine that is slow runs the others within so much
+    # a machine that is slow runs the others within this much
     with Served(tally, **environment, APF_LONGEST="5") as served:
         begin()
         write("limit", "17")

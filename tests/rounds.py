@@ -10,7 +10,7 @@ import time
 
 sys.path.insert(0, os.path.join(os.path.dirname(os.path.abspath(__file__)), "lib"))
 from books import BOOK
-from harness import Files, Tally, build, run
+from harness import Files, Memory, Tally, build, run
 
 tally = Tally()
 program = build()
@@ -197,13 +197,13 @@ tally.check("a file fault", ran({"limit": 0}, [], 1, 2), (1, b"", b"apf: config 
 
 
 def memory(rounds):
-    """The most memory that a run of this many rounds had, in KiB, and how many requests it executed."""
+    """The memory that a run of this many rounds had, and how many requests it executed."""
     child = subprocess.Popen([program, *words(one_queue(2), [plain, {"hash": 1, "cancels": 0}], 2, rounds)], stdin=subprocess.DEVNULL, stdout=subprocess.PIPE)
+    memory = Memory(child)
     out = child.stdout.read()
-    _, status, usage = os.wait4(child.pid, 0)
-    child.returncode = status
+    status = child.wait()
     found = BOOK.fullmatch(out.decode())
-    return usage.ru_maxrss, (status, found and int(found[4]) + int(found[6]))
+    return memory, (status, found and int(found[4]) + int(found[6]))
 
 
 # memory does not grow with the rounds: APF_ROUNDS asks for other than a million
@@ -212,6 +212,6 @@ began = time.monotonic()
 few, many = memory(10), memory(most)
 tally.check("ten rounds of two", few[1], (0, 20))
 tally.check(f"{most} rounds of two", many[1], (0, 2 * most))
-print(f"{most} rounds of two requests took {time.monotonic() - began:.1f} s; memory {few[0]} KiB after 10 rounds, {many[0]} KiB after {most}")
-tally.check("memory does not grow", many[0] < few[0] + 1024, True)
+print(f"{most} rounds of two requests took {time.monotonic() - began:.1f} s; memory {many[0].most()} KiB, of which {many[0].growth()} after a quarter of the time")
+tally.check("memory does not grow", many[0].growth() < 1024, True)
 tally.end()

@@ -437,7 +437,7 @@ func TestKilledUnderLoad(t *testing.T) {
 func TestAStoppedLevelCountsAsDead(t *testing.T) {
 	each(t, func(t *testing.T, program string) {
 		t.Parallel()
-		// a machine that is slow answers within so much
+		// a machine that is slow answers within this much
 		const patience = 2 * time.Second
 		l := opened(t, Options{Program: program, Patience: patience})
 		running := acquired(t, l, "a")

@@ -59,7 +59,7 @@ func (p *pipe) ask(word string, r *request) {
 	p.send(line+"\n", &question{word: word, request: r})
 }
 
-// ran is how the level is told that a request ran so long: in whole microseconds, at most 10^12.
+// ran is how the level is told that a request ran this long: in whole microseconds, at most 10^12.
 func ran(long time.Duration) string {
 	return strconv.FormatInt(int64(math.Min(float64(long.Microseconds()), 1e12)), 10)
 }

@@ -1,4 +1,4 @@
-"""A level whose slots are used again: each allocation of it refused in turn, and its memory after few requests and after many."""
+"""A level whose slots are used again: each allocation of it refused in turn, and its memory while many requests come."""
 
 import os
 import subprocess
@@ -6,7 +6,7 @@ import sys
 
 HERE = os.path.dirname(os.path.dirname(os.path.abspath(__file__)))
 sys.path.insert(0, os.path.join(HERE, "lib"))
-from harness import Files, Tally, build_crate, run
+from harness import Files, Memory, Tally, build_crate, run
 
 tally = Tally()
 program = build_crate("apf_life_trials")
@@ -16,9 +16,9 @@ subprocess.run(["cc", "-O1", "-shared", "-fPIC", "-o", shim, os.path.join(HERE, 
 marker = os.path.join(files.folder.name, "refused")
 
 
-def ticket(slot, manieth, width=1):
-    """The number of a request: how manieth of its slot it is, its width, and its slot."""
-    return "Ticket { number: %d }" % ((manieth * 2**15 + width) * 2**14 + slot)
+def ticket(slot, given, width=1):
+    """The number of a request: how many times its slot was given until then, its width, and its slot."""
+    return "Ticket { number: %d }" % ((given * 2**15 + width) * 2**14 + slot)
 
 
 # one seat, one queue, and three slots; the calls, with what each is to answer
@@ -68,12 +68,11 @@ tally.check("the level is refused at its opening and at its end", (set(places), 
 
 
 def after(rounds):
-    """What a run of this many rounds says, and the most memory that it had, in KiB."""
+    """What a run of this many rounds says, and the memory that it had."""
     with subprocess.Popen([program, "rounds", str(rounds)], stdout=subprocess.PIPE) as process:
+        memory = Memory(process)
         said = process.stdout.read()
-        _, status, used = os.wait4(process.pid, 0)
-        process.returncode = os.waitstatus_to_exitcode(status)
-    return (process.returncode, said), used.ru_maxrss
+    return (process.returncode, said), memory
 
 
 def counts(executed):
@@ -82,10 +81,10 @@ def counts(executed):
 
 # 64 requests a round
 FEW, MANY = 10, int(os.environ.get("APF_ROUNDS", "30000"))
-few, small = after(FEW)
-many, large = after(MANY)
+few, _ = after(FEW)
+many, memory = after(MANY)
 tally.check(f"{FEW} rounds", few, counts(64 * FEW))
 tally.check(f"{MANY} rounds", many, counts(64 * MANY))
-tally.check("memory does not grow", large <= small + 256, True)
-print(f"{64 * FEW} requests: {small} KiB, {64 * MANY} requests: {large} KiB")
+print(f"{64 * MANY} requests: {memory.most()} KiB, of which {memory.growth()} after a quarter of the time")
+tally.check("memory does not grow", memory.growth() <= 256, True)
 tally.end()

@@ -9,7 +9,7 @@ import sys
 
 HERE = os.path.dirname(os.path.dirname(os.path.abspath(__file__)))
 sys.path.insert(0, os.path.join(HERE, "lib"))
-from harness import Files, Tally, build_crate
+from harness import Files, Memory, Tally, build_crate
 from simulation import Run
 from trace import request_of
 
@@ -31,9 +31,10 @@ DECISIONS = {
 
 
 def ran(config, patience, charge, content, *more):
-    """What the program prints of the trace, its status, and the most memory that it had, in KiB."""
+    """What the program prints of the trace, its status, the most memory that it had, in KiB, and its seconds of a processor."""
     words = [program, files("config", json.dumps(config)), str(patience), charge, *more]
     with subprocess.Popen(words, stdin=subprocess.PIPE, stdout=subprocess.PIPE) as process:
+        memory = Memory(process)
         try:
             for piece in content:
                 process.stdin.write(piece)
@@ -44,7 +45,7 @@ def ran(config, patience, charge, content, *more):
         said = process.stdout.read().decode()
         _, status, used = os.wait4(process.pid, 0)
         process.returncode = os.waitstatus_to_exitcode(status)
-    return process.returncode, said, used
+    return process.returncode, said, memory, used.ru_utime + used.ru_stime
 
 
 def drawn_level():
@@ -106,7 +107,7 @@ for number in range(TRACES):
     patience = draw.choice([0, 0, 1, 30, 100, 1000, 30_000])
     charge = draw.choice(["time", "seats"])
     run = Run(config, [request_of(it) for it in objects], patience, charge)
-    status, said, _ = ran(config, patience, charge, [b"".join(json.dumps(it).encode() + b"\n" for it in objects)])
+    status, said, *_ = ran(config, patience, charge, [b"".join(json.dumps(it).encode() + b"\n" for it in objects)])
     *told, book = said.splitlines(keepends=True)
     decided = [run.level.decided[it] for it in range(len(objects))]
     tally.check(
@@ -138,15 +139,14 @@ def long_trace(requests, flows=200):
 LEVEL = {"limit": 49, "queues": 64, "handSize": 8, "queueLengthLimit": 50, "limitResponse": "Queue"}
 sizes = {}
 for requests in (MANY // 10, MANY):
-    status, said, used = ran(LEVEL, 15_000_000, "time", long_trace(requests), "quiet")
+    status, said, memory, seconds = ran(LEVEL, 15_000_000, "time", long_trace(requests), "quiet")
     tally.check(f"{requests} requests", (status, sum(int(it) for it in said.replace(",", " ").split() if it.isdigit())), (0, requests))
-    sizes[requests] = used.ru_maxrss
-    seconds = used.ru_utime + used.ru_stime
-    print(f"{requests} requests: {used.ru_maxrss} KiB, {seconds:.2f} s of a processor, {1e6 * seconds / requests:.2f} us a request")
+    sizes[requests] = memory.most()
+    print(f"{requests} requests: {sizes[requests]} KiB, {seconds:.2f} s of a processor, {1e6 * seconds / requests:.2f} us a request")
 tally.check("memory does not grow by more than the window holds", sizes[MANY] <= sizes[MANY // 10] + 16_384, True)
 
 crowd = b"".join(b'{"hash":%d,"arrivesAt":%d,"runsFor":1000000}\n' % (number, number // 1000) for number in range(10_001))
 CROWDED = {"limit": 1, "queues": 128, "handSize": 6, "queueLengthLimit": 1000, "limitResponse": "Queue"}
-status, said, _ = ran(CROWDED, 0, "seats", [crowd], "quiet")
+status, said, *_ = ran(CROWDED, 0, "seats", [crowd], "quiet")
 tally.check("one more than there are slots", (status, said), (1, "more than 10000 requests are there at once\n"))
 tally.end()

@@ -65,7 +65,7 @@ def shown(value):
 
 
 def told(number, content):
-    """What is wrong with a line of these bytes, or with a request that arrives so long after the first one."""
+    """What is wrong with a line of these bytes, or with a request that arrives this long after the first one."""
     if number == BAD_ARRIVAL:
         return f"this request arrives {content} microseconds after the first one: at most {ARRIVAL} may be between them"
     if number == TOO_LONG:

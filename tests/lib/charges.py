@@ -11,7 +11,7 @@ SETS, WAYS, NEWEST = 512, 8, 256
 
 
 def taken(width, ran):
-    """What a request took that ran so long: its seats times that."""
+    """What a request took that ran this long: its seats times that."""
     return max(1, min(MOST_TAKEN, width * ran))
 
 

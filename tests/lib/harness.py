@@ -6,6 +6,8 @@ import resource
 import subprocess
 import sys
 import tempfile
+import threading
+import time
 
 TOP = os.path.dirname(os.path.dirname(os.path.dirname(os.path.abspath(__file__))))
 LAUNCHER = os.path.join(TOP, "apf")
@@ -83,6 +85,40 @@ def processor_seconds(call):
     answer = call()
     after = resource.getrusage(resource.RUSAGE_CHILDREN)
     return answer, after.ru_utime - before.ru_utime + after.ru_stime - before.ru_stime
+
+
+class Memory(threading.Thread):
+    """The most memory that a process had so far, in KiB, looked at every few milliseconds until it ends. What `wait4` says of it counts what this
+    process had when it made the other."""
+
+    def __init__(self, process):
+        super().__init__(daemon=True)
+        self.folder, self.seen = f"/proc/{process.pid}", []
+        self.start()
+
+    def run(self):
+        try:
+            while True:
+                with open(f"{self.folder}/stat") as stat, open(f"{self.folder}/status") as status:
+                    ticks = sum(map(int, stat.read().rpartition(")")[2].split()[11:13]))
+                    most = re.search(r"VmHWM:\s*(\d+) kB", status.read())
+                if not most:
+                    # it has ended
+                    return
+                self.seen.append((ticks, int(most[1])))
+                time.sleep(0.005)
+        except OSError:
+            pass
+
+    def most(self):
+        """Once the process has ended."""
+        self.join()
+        return self.seen[-1][1]
+
+    def growth(self):
+        """By how much it grew once a quarter of the time was over in which processors were busy with it."""
+        self.join()
+        return self.most() - next(most for ticks, most in self.seen if ticks * 4 >= self.seen[-1][0])
 
 
 def drop_rights(program="/bin/true"):

@@ -138,7 +138,7 @@ class Service:
         return self.known(number), ran
 
     def ended(self, request, ran):
-        """The request ends, and is said to have run so long: its queue is set right, and then it gives its seats back."""
+        """The request ends, and is said to have run this long: its queue is set right, and then it gives its seats back."""
         ran_at_all = request in self.level.running
         if ran_at_all and self.means:
             self.level.settle(request, taken(self.requests[request]["width"], ran))
@@ -148,7 +148,7 @@ class Service:
         return lines
 
     def spent(self, request, ran):
-        """The request is said to have run so long so far."""
+        """The request is said to have run this long so far."""
         number = self.number[request]
         if request not in self.level.running:
             return [f"spent {number} not running"]

@@ -17,7 +17,8 @@ fn serve<K: Naming>(course: &Course, level: &Level<K>, request: &mut Request<K>)
         }
         course.wait();
     }
-    request.release(level);
+    // of one that found no room in these turns it answers Wrong
+    let _ = request.release(level);
 }
 
 fn serve_timed<K: Naming, R: Clock>(

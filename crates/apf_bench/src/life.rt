@@ -49,7 +49,9 @@ fn follow<K: Naming, R: Wait>(
     if answer != Answer::Waits {
         return false;
     }
-    before.finish(rt, level);
+    if before.finish(rt, level) != Answer::Released(true) {
+        return false;
+    }
     request.poll(rt, level) == Answer::Run
 }
 

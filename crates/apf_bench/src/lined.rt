@@ -24,12 +24,13 @@ pub fn serve_line<K: Naming, R: Wait>(rt: &R, level: &Level<K>, requests: &mut [
     if requests.is_empty() {
         return;
     }
-    requests[0].begin(rt, level);
+    // the first one executes, and each one behind it waits
+    let _ = requests[0].begin(rt, level);
     for place in 1..requests.len() {
-        requests[place].begin(rt, level);
-        requests[place - 1].release(level);
+        let _ = requests[place].begin(rt, level);
+        let _ = requests[place - 1].release(level);
         level.lock(rt).dispatch(rt);
         run(rt, level, &mut requests[place]);
     }
-    requests[requests.len() - 1].release(level);
+    let _ = requests[requests.len() - 1].release(level);
 }

@@ -120,6 +120,7 @@ impl<K: Naming> Level<K> {
     /// Gives the seats of a request that executes back, by one step on the level word. Answers whether
     /// requests waited then: if so, the caller owes a dispatch. The Pass stays in its place, that of a request
     /// that is over.
+    #[must_use]
     pub fn give_back(&self, pass: &mut Pass) -> bool
         requires own { pass_gate pass.old ≡ K.level.gate }
         requires runs { IsRunning pass.old }

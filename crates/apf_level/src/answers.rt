@@ -8,6 +8,7 @@ use apf_gate::Pass;
 use apf_words::Decision;
 
 /// What became of an attempt to be admitted.
+#[must_use]
 pub enum TryAdmit {
     /// It executes.
     Run(Running),
@@ -20,6 +21,7 @@ pub enum TryAdmit {
 }
 
 /// What became of an attempt to be admitted, and why it is busy. Its Pass stays in its place.
+#[must_use]
 #[derive(Clone, Copy, PartialEq, Eq)]
 pub enum Tried {
     /// It executes.
@@ -33,6 +35,7 @@ pub enum Tried {
 }
 
 /// What became of an arrival.
+#[must_use]
 pub enum Begin {
     /// It executes.
     Run(Running),
@@ -43,6 +46,7 @@ pub enum Begin {
 }
 
 /// What became of an arrival, or was read of a request that waits. Its Pass stays in its place.
+#[must_use]
 #[derive(Clone, Copy, PartialEq, Eq)]
 pub enum Begun {
     /// It executes.
@@ -68,6 +72,7 @@ impl Begun {
 }
 
 /// What became of an arrival under the lock.
+#[must_use]
 pub enum Enqueued {
     /// It entered this queue.
     Entered(u32),
@@ -78,6 +83,7 @@ pub enum Enqueued {
 }
 
 /// What was read of a request that waits.
+#[must_use]
 pub enum Poll {
     /// It executes.
     Run(Running),
@@ -88,6 +94,7 @@ pub enum Poll {
 }
 
 /// What became of a request in the end.
+#[must_use]
 pub enum Admit {
     /// It executes.
     Run(Running),

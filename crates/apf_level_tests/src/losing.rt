@@ -156,7 +156,8 @@ fn end<K: Naming, R: Wait + Clock>(
         answer = request.poll(rt, level);
         rest(rt, turn);
     }
-    request.finish(rt, level);
+    // of one that is over it answers Wrong
+    let _ = request.finish(rt, level);
 }
 
 // A request takes the seat and gives it back. Once it told that it lost its decision, nobody waits: the one that came

@@ -131,7 +131,8 @@ fn serve<K: Naming, R: Wait>(
     if arrive(rt, level, request) == Answer::Run {
         pass_time(turns(readings.round, place) / 4);
         thread::yield_now();
-        request.finish(rt, level);
+        // it executes, so this answers Released
+        let _ = request.finish(rt, level);
     }
 }
 

@@ -7,6 +7,7 @@ use crate::tokens::{Done, Pass, Running, Waiting};
 use apf_words::Decision;
 
 /// What became of a slot that was to be used again.
+#[must_use]
 pub enum Renewed {
     /// Its next request is there.
     Fresh(Pass),
@@ -15,6 +16,7 @@ pub enum Renewed {
 }
 
 /// What became of an attempt to be admitted.
+#[must_use]
 pub enum TryAdmit {
     /// It executes.
     Run(Running),
@@ -27,6 +29,7 @@ pub enum TryAdmit {
 }
 
 /// What became of an attempt to be admitted, and why it is busy. Its Pass stays in its place.
+#[must_use]
 #[derive(Clone, Copy, PartialEq, Eq)]
 pub enum Tried {
     /// It executes.
@@ -40,6 +43,7 @@ pub enum Tried {
 }
 
 /// What became of an arrival, or was read of a request that waits. Its Pass stays in its place.
+#[must_use]
 #[derive(Clone, Copy, PartialEq, Eq)]
 pub enum Begun {
     /// It executes.
@@ -66,6 +70,7 @@ impl Begun {
 }
 
 /// What became of an arrival.
+#[must_use]
 pub enum Begin {
     /// It executes.
     Run(Running),
@@ -76,6 +81,7 @@ pub enum Begin {
 }
 
 /// What became of an arrival under the lock.
+#[must_use]
 pub enum Enqueued {
     /// It entered this queue.
     Entered(u32),
@@ -86,6 +92,7 @@ pub enum Enqueued {
 }
 
 /// What was read of a request that waits.
+#[must_use]
 pub enum Poll {
     /// It executes.
     Run(Running),
@@ -96,6 +103,7 @@ pub enum Poll {
 }
 
 /// What became of a request in the end.
+#[must_use]
 pub enum Admit {
     /// It executes.
     Run(Running),

@@ -61,6 +61,7 @@ impl<K: Naming> Level<K> {
     /// and a cost of 1 to 4,294,967,295 in a unit of the caller's. Answers whether it did: no, exactly if the slot's
     /// numbers are used up, and then nothing changed. The slot's Pass stays in its place, and is fresh then. It takes
     /// no lock and no memory: it makes one swap of the slot's word.
+    #[must_use]
     pub fn renew_slot(&self, pass: &mut apf_gate::Pass, ask: Ask, cost: u32) -> bool
         requires own { pass_gate pass.old ≡ K.level.gate }
         requires done { IsDone pass.old }

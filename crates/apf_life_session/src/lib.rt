@@ -18,13 +18,20 @@
 //! ```
 //! let mut session = Session::<K>::open_for_life(rt, alloc, opening)?;
 //! let ask = Ask { width: 1, hash: 7 };
-//! session.arrive(rt, 0, ask);
-//! session.arrive(rt, 1, ask);
-//! session.finish(rt, 0);
-//! session.poll(rt, 1);
-//! // the slot 0 goes on to its next request
-//! session.arrive(rt, 0, ask);
+//! let (mut answer, _event) = session.arrive(rt, 0, ask);
+//! // what the slot answered last says which call follows
+//! answer = match answer {
+//!     // here the request is served; then it gives its seat to whoever waits
+//!     Answer::Run => session.finish(rt, 0),
+//!     // it may have been dispatched meanwhile
+//!     Answer::Waits => session.poll(rt, 0),
+//!     // the slot is free, and its next request arrives
+//!     Answer::Over(_) | Answer::Released(_) => session.arrive(rt, 0, ask).0,
+//!     other => other,
+//! };
 //! ```
+//!
+//! `apf_example` has this as a program, and the same with a thread for each slot.
 //!
 //! - `opening`: the gate of a level. `fault`: why a level was not opened.
 //! - `token`: what a slot holds. `answer`: what its calls answer. `request`: a slot, whose requests come one after

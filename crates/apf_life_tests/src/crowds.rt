@@ -172,7 +172,8 @@ fn run<K: Naming, R: Wait>(
         Answer::Over(decision) => board.note(slot, round, decision, false),
         _ => {}
     }
-    request.finish(rt, level);
+    // of one that is over it answers Wrong
+    let _ = request.finish(rt, level);
 }
 
 // All requests of one slot, one after another.

@@ -94,9 +94,9 @@ fn struck_full_and_closed<K: Naming, R: Wait + Abort>(rt: &R, alloc: Global, ope
     let Ok(mut session) = Session::<K>::open_for_life(rt, alloc, opening) else {
         panic!(rt; "opens")
     };
-    session.arrive(rt, 0, ONE);
-    session.arrive(rt, 1, ONE);
-    session.arrive(rt, 2, ONE);
+    assert_eq!(rt; session.arrive(rt, 0, ONE), (Answer::Run, None));
+    assert_eq!(rt; session.arrive(rt, 1, ONE).0, Answer::Waits);
+    assert_eq!(rt; session.arrive(rt, 2, ONE).0, Answer::Waits);
     let (answer, event) = session.arrive(rt, 3, ONE);
     assert_eq!(rt; answer, Answer::Over(Decision::QueueFull));
     assert_eq!(rt; event, Some(LifeEvent::Full(session.ticket(3), 0)));
@@ -110,9 +110,9 @@ fn struck_full_and_closed<K: Naming, R: Wait + Abort>(rt: &R, alloc: Global, ope
         session.arrive(rt, 3, ONE),
         (Answer::Over(Decision::Closed), None)
     );
-    session.finish(rt, 0);
+    assert_eq!(rt; session.finish(rt, 0), Answer::Released(true));
     assert_eq!(rt; session.poll(rt, 2), Answer::Run);
-    session.finish(rt, 2);
+    assert_eq!(rt; session.finish(rt, 2), Answer::Released(true));
     assert_eq!(rt; session.poll(rt, 1), Answer::Run);
     let stats = session.level.lock(rt).stats();
     assert_eq!(rt;
@@ -142,11 +142,11 @@ fn late_reader<K: Naming, R: Wait + Abort>(rt: &R, alloc: Global, opening: Openi
         panic!(rt; "opens")
     };
     for _round in 0..10 {
-        session.arrive(rt, 0, ONE);
-        session.arrive(rt, 1, ONE);
-        session.finish(rt, 0);
-        session.poll(rt, 1);
-        session.finish(rt, 1);
+        assert_eq!(rt; session.arrive(rt, 0, ONE), (Answer::Run, None));
+        assert_eq!(rt; session.arrive(rt, 1, ONE).0, Answer::Waits);
+        assert_eq!(rt; session.finish(rt, 0), Answer::Released(true));
+        assert_eq!(rt; session.poll(rt, 1), Answer::Run);
+        assert_eq!(rt; session.finish(rt, 1), Answer::Released(false));
     }
     let mut room = [LifeEvent::Full(Ticket::of(0), 0); 16];
     let copied = session.level.lock(rt).copy_events(3, &mut room);
@@ -170,12 +170,12 @@ fn rejected<K: Naming, R: Wait + Abort>(rt: &R, alloc: Global, opening: Opening)
     let Ok(mut session) = Session::<K>::open_for_life(rt, alloc, opening) else {
         panic!(rt; "opens")
     };
-    session.arrive(rt, 0, ONE);
+    assert_eq!(rt; session.arrive(rt, 0, ONE), (Answer::Run, None));
     let over = Answer::Over(Decision::ConcurrencyLimit);
     for _round in 0..3 {
         assert_eq!(rt; session.arrive(rt, 1, ONE), (over, None));
     }
-    session.finish(rt, 0);
+    assert_eq!(rt; session.finish(rt, 0), Answer::Released(false));
     assert_eq!(rt; session.arrive(rt, 1, ONE), (Answer::Run, None));
     let report = ended(rt, alloc, session);
     let counts = report.words.counts();
@@ -196,7 +196,7 @@ fn tried<K: Naming, R: Wait + Abort>(rt: &R, alloc: Global, opening: Opening)
     assert_eq!(rt; session.try_arrive(rt, 1, ONE), Answer::Busy);
     assert!(rt; session.slots[1].place() == Place::Free);
     assert_eq!(rt; session.try_arrive(rt, 0, ONE), Answer::Wrong);
-    session.finish(rt, 0);
+    assert_eq!(rt; session.finish(rt, 0), Answer::Released(false));
     assert_eq!(rt; session.close(), Close::First);
     let closed = Answer::Tried(Decision::Closed, false);
     assert_eq!(rt; session.try_arrive(rt, 1, ONE), closed);

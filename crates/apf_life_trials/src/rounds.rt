@@ -27,7 +27,8 @@ fn arrive<K: Naming, R: Wait>(rt: &R, session: &mut Session<K>, round: u64)
                 .wrapping_mul(u64::from(SLOTS))
                 .wrapping_add(u64::from(slot)),
         };
-        session.arrive(rt, slot, ask);
+        // `finish` below asks of each slot where its request is
+        let _ = session.arrive(rt, slot, ask);
     }
 }
 
@@ -40,7 +41,8 @@ fn finish<K: Naming, R: Wait>(rt: &R, session: &mut Session<K>) -> bool
         if session.poll(rt, slot) == Answer::Waits {
             held = true;
         }
-        session.finish(rt, slot);
+        // of one that does not execute it answers Wrong
+        let _ = session.finish(rt, slot);
     }
     held
 }

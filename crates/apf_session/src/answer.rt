@@ -3,6 +3,7 @@
 use apf_words::Decision;
 
 /// What became of a request by a call.
+#[must_use]
 #[derive(Clone, Copy, Debug, PartialEq, Eq)]
 pub enum Answer {
     /// It executes.

@@ -27,18 +27,22 @@
 //!     requires { length opening.gate.shape.widths ≡ 2 }
 //! {
 //!     let mut session = Session::<K>::open(rt, alloc, opening)?;
-//!     session.begin(rt, 0);
-//!     session.begin(rt, 1);
-//!     session.finish(rt, 0);
-//!     session.poll(rt, 1);
-//!     session.finish(rt, 1);
+//!     let mut answers = [session.begin(rt, 0), session.begin(rt, 1)];
+//!     for request in [0, 1, 1] {
+//!         // what a request answered last says which call follows
+//!         answers[request as usize] = match answers[request as usize] {
+//!             Answer::Run => session.finish(rt, request),
+//!             Answer::Waits => session.poll(rt, request),
+//!             other => other,
+//!         };
+//!     }
 //!     Ok(session.end(rt, alloc)?)
 //! }
 //! ```
 //!
 //! The first request executes, the second one waits, and is dispatched when the first one finishes. The report has
 //! the decisions, the log and the counts. That K names the level of this opening is said in the proof of `serve`, in
-//! one line; `apf_example` has it whole.
+//! one line, as `apf_example` has it of a level for life.
 //!
 //! - `opening`: the gate of a level. `fault`: why a level was not opened.
 //! - `token`: what a request holds. `answer`: what its calls answer. `request`: one request, from its arrival to its

@@ -132,8 +132,9 @@ fn finish_one<K: Naming, R: Wait>(rt: &R, level: &Level<K>, request: &mut Reques
     ensures number { request.new.number ≡ request.old.number }
     ensures told { StaysTold request.old.token request.new.token }
 {
-    request.poll(rt, level);
-    request.finish(rt, level);
+    // each of these answers Wrong where the request is elsewhere
+    let _ = request.poll(rt, level);
+    let _ = request.finish(rt, level);
 }
 
 // Each request that waits reads its decision, and each that executes gives its seats back.

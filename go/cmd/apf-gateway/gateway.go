@@ -80,7 +80,7 @@ func (g *gateway) ServeHTTP(writer http.ResponseWriter, r *http.Request) {
 	proxy.ServeHTTP(w, r.WithContext(it.ctx))
 }
 
-// readBody reads so much of a body as the buffer takes. It answers a status where it does not come.
+// readBody reads as much of a body as the buffer takes. It answers a status where it does not come.
 func (g *gateway) readBody(r *http.Request) int {
 	defer func() { r.Trailer = nil }() // what comes behind a body is not passed on
 	r.Header.Del("Expect")

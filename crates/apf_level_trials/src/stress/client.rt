@@ -97,7 +97,8 @@ impl<K: Naming> Client<K> {
 
     /// Gives its seats back, if it executes, and dispatches where requests wait.
     pub fn release<R: Wait>(&mut self, rt: &R, level: &Level<K>) {
-        self.request.finish(rt, level);
+        // of one that does not execute it answers Wrong
+        let _ = self.request.finish(rt, level);
     }
 
     /// Brings it to its end: arrives if it did not, waits until it is decided, and gives its seats back.

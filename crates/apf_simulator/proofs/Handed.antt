@@ -10,9 +10,9 @@ use Rattle.apf_traces.specs.declared.request.TraceRequest.{TraceRequest}
 use Rattle.apf_stream.specs.declared.ended.Ended.{Ended}
 use Rattle.apf_trace_reader.specs.Reading.{Answers, AnswersEach, AreAll, Follows, HasRead}
 use Rattle.apf_trace_reader.specs.Views.{ReaderView}
-use Rattle.apf_simulator.specs.Feeds.{AreInTime, GoOn, HasFed, HaveGone, IsAhead, IsHandedOut}
+use Rattle.apf_simulator.specs.Feeds.{AreInTime, AreOver, GoOn, HasFed, HaveGone, IsAhead, IsHandedOut, IsOver}
 use Rattle.apf_simulator.specs.Lanes.{LaneView}
-use Rattle.apf_simulator.specs.Turns.{Turn, came_by}
+use Rattle.apf_simulator.specs.Turns.{AreBothTurns, Turn, came_by}
 use Rattle.apf_simulator.proofs.Going.{both_then, came_then, turn_of}
 use Rattle.apf_simulator.proofs.Turns.{in_turn}
 
@@ -87,3 +87,18 @@ gone_last was left v one other one' other' one'' other'' heard heard' goes hears
       lanes = both_then g.turns None one other one' other' one'' other'' g.lanes goes;
       heard_them = hears g.turns g.heard_them;
     }
+
+pub over_one : (one : LaneView) (other : Option LaneView) → AreOver one other → IsOver one
+over_one one None over = over
+over_one one (Some o) over = over.0
+
+-- one lane alone
+pub gone_alone : (was left : Option (List ℕ)) (next : Option Came) (v : ReaderView) (one one' one'' : LaneView) (other' : Option LaneView) (heard : List Turn → Type 0) → one'' ≡ one'
+    → HaveGone was left next v one None one' other' heard → HaveGone was left next v one None one'' None heard
+gone_alone was left next v one one' one'' None heard is g = record {
+  turns = g.turns;
+  fed = g.fed;
+  lanes = subst (λ (w : LaneView). AreBothTurns g.turns one None w None) (sym is) g.lanes;
+  heard_them = g.heard_them;
+}
+gone_alone was left next v one one' one'' (Some o) heard is g = absurd g.lanes

@@ -85,9 +85,12 @@ came_too all told x old new is held =
       known = all_then told old (h ∷ []) held.known (tt, tt);
     })
 
--- one came, or nobody, and these were told
-pub took : (all : List Came) (told : List Ended) (came : Option Came) (ends : List Ended) (old mid new : List Held) → IfSome came (λ x. mid ≡ old ++ record { came = x; ended = None } ∷ []) → (came ≡ None → mid ≡ old)
-    → ((c : List Came) (t : List Ended) → AreHeld c t mid → AreHeld c (t ++ ends) new) → AreHeld all told old → AreHeld (came_more all came) (told ++ ends) new
-took all told None ends old mid new some none end held =
-    end (all ++ []) told (subst (λ (l : List Came). AreHeld l told mid) (sym (append-nil all)) (subst (AreHeld all told) (sym (none refl)) held))
-took all told (Some x) ends old mid new some none end held = end (all ++ x ∷ []) told (came_too all told x old mid some held)
+-- one came, and these were told
+pub took_one : (all : List Came) (told : List Ended) (x : Came) (ends : List Ended) (old mid new : List Held) → mid ≡ old ++ record { came = x; ended = None } ∷ []
+    → ((c : List Came) (t : List Ended) → AreHeld c t mid → AreHeld c (t ++ ends) new) → AreHeld all told old → AreHeld (all ++ x ∷ []) (told ++ ends) new
+took_one all told x ends old mid new is end held = end (all ++ x ∷ []) told (came_too all told x old mid is held)
+
+-- nobody came, and these were told
+pub took_none : (all : List Came) (told : List Ended) (ends : List Ended) (old mid new : List Held) → mid ≡ old
+    → ((c : List Came) (t : List Ended) → AreHeld c t mid → AreHeld c (t ++ ends) new) → AreHeld all told old → AreHeld (all ++ []) (told ++ ends) new
+took_none all told ends old mid new is end held = end (all ++ []) told (subst (λ (l : List Came). AreHeld l told mid) (sym (append-nil all)) (subst (AreHeld all told) (sym is) held))

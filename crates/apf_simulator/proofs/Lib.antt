@@ -6,3 +6,4 @@ pub mod Holding
 pub mod Laning
 pub mod Showing
 pub mod Turns
+pub mod Whole

@@ -52,6 +52,12 @@ pub record HasBeenHeard (config : Config) (patience : ℕ) (by : Option ChargedB
   pub ran : HasRunAll config patience by size was left turns v
   pub heard_them : heard turns
 
+-- the same, and this is when the last request was over
+pub record HasBeenHeardTo (end : ℕ) (config : Config) (patience : ℕ) (by : Option ChargedBy) (size : ℕ) (was left : Option (List ℕ)) (heard : List Turn → Type 0) : Type 0 where
+  pub lane : LaneView
+  pub been : HasBeenHeard config patience by size was left lane heard
+  pub last : end ≡ lane.rows.all.sums.last
+
 -- the same requests ran on another level, in these turns
 pub record HasRunToo (config : Config) (patience : ℕ) (charged : ChargedBy) (came : List (Arrival TraceRequest)) (turns : List Turn) (v : LaneView) : Type 0 where
   pub same : came_by turns ≡ came

@@ -96,7 +96,6 @@ fn run_both<R: Read, W: Write>(
     input: &mut R,
     out: &mut W,
 ) -> Result<(Lane, Lane), SimulatorFault>
-    requires two { IsSome lanes.other }
     requires new { AreNew lanes.one lanes.other }
     requires lived { AreLivedBoth lanes.one lanes.other }
     requires handed_out { IsHandedOut first reader.old.window.last }
@@ -109,7 +108,8 @@ fn run_both<R: Read, W: Write>(
     let Lanes { one, other } = lanes;
     match other {
         Some(other) => Ok((one, other)),
-        None => unreachable!(),
+        // never, since both lanes go on
+        None => Err(SimulatorFault::StillWaits),
     }
 }
 

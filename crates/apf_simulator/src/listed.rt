@@ -1,6 +1,6 @@
 //! The requests of a trace, each with what became of it, in the order of their lines.
 
-ghost use Rattle.std.specs.Prelude.{◌≡◌, ◌≤◌, ℕ, [], List, length, Option, IfOk, IsPermutation};
+ghost use Rattle.std.specs.Prelude.{◌≡◌, ◌≤◌, ◌++◌, ◌∷◌, ℕ, [], List, length, Option, IfOk, OnOk, IsPermutation};
 ghost use Rattle.std.specs.List.Sorted.{IsSortedBy};
 ghost use Rattle.apf_simulator.specs.Hearing.{AreListed, AreParts, Holds, line_before};
 ghost use Rattle.apf_simulator.specs.Turns.{Turn, came_by, told_by};
@@ -32,6 +32,21 @@ pub(crate) struct Listing {
     held: HeldList,
 }
 
+// Puts a request behind those before it, and what became of it.
+fn push(
+    requests: &mut Vec<TraceRequest>,
+    ends: &mut Vec<Ended>,
+    request: TraceRequest,
+    ended: Ended,
+) -> Result<(), AllocError>
+    ensures requests { OnOk result (requests.new.items ≡ requests.old.items ++ request ∷ []) }
+    ensures ends { OnOk result (ends.new.items ≡ ends.old.items ++ ended ∷ []) }
+{
+    requests.push(request)?;
+    ends.push(ended)?;
+    Ok(())
+}
+
 // The requests with what became of each, if that was told of each.
 fn parts_of(
     alloc: Global,
@@ -46,9 +61,7 @@ fn parts_of(
         let Some(ended) = ended else {
             return Err(SimulatorFault::StillWaits);
         };
-        if requests.push(came.item).is_err() || ends.push(ended).is_err() {
-            return Err(SimulatorFault::NoMemory);
-        }
+        push(&mut requests, &mut ends, came.item, ended)?;
     }
     Ok((requests, ends))
 }

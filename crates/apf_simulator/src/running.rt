@@ -6,7 +6,7 @@ ghost use Rattle.apf_times.specs.Limits.{max_patience};
 ghost use Rattle.apf_trace_reader.specs.Reading.{HasRead};
 ghost use Rattle.apf_simulator.specs.Feeds.{AreLivedBoth, AreNew, AreOver, HasFed, HaveGone, IsHandedOut, IsOver};
 ghost use Rattle.apf_simulator.specs.Lanes.{IsLane, IsOpening};
-ghost use Rattle.apf_simulator.specs.Runs.{HasBeenHeard, IsCharge};
+ghost use Rattle.apf_simulator.specs.Runs.{HasBeenHeard, HasBeenHeardTo, IsCharge};
 ghost use Rattle.apf_simulator.specs.Told.{HasListed, HasToldCalls, HasToldFates};
 
 use crate::charge::charge_or_usual;
@@ -141,6 +141,25 @@ pub(crate) fn run_one<R: Read, L: Listener, W: Write>(
     Ok(lane)
 }
 
+// Runs the trace on the level of this config, and lets one listen. Answers when the last request was over.
+fn run_to_end<R: Read, L: Listener, W: Write>(
+    alloc: Global,
+    config: &Config,
+    terms: Terms,
+    listener: &mut L,
+    reader: &mut TraceReader,
+    input: &mut R,
+    out: &mut W,
+) -> Result<u64, SimulatorFault>
+    requires patience { terms.patience ≤ max_patience }
+    requires nothing { reader.old.window.last ≡ None }
+    ensures { IfOk result (λ end. (before : Option (List ℕ)) → HasRead [] [] (R.remaining input.old) reader.old → L.heard before (W.contents out.old) [] listener.old
+        → HasBeenHeardTo end config.now terms.patience terms.by reader.old.window.size (R.remaining input.old) (R.remaining input.new) (λ turns. L.heard before (W.contents out.new) turns listener.new)) }
+{
+    let lane = run_one(alloc, config, terms, listener, reader, input, out)?;
+    Ok(lane.last())
+}
+
 // Keeps both sides of the bound of a lane to which nobody came, if they are asked for.
 fn watched(
     alloc: Global,
@@ -183,7 +202,7 @@ pub fn write_fates<R: Read, W: Write>(
         → HasToldFates config.now terms.patience terms.by reader.old.window.size (R.remaining input.old) (R.remaining input.new) (W.contents out.old) (W.contents out.new)) }
 {
     let mut telling = Telling::new(alloc, WINDOW);
-    run_one(alloc, config, terms, &mut telling, reader, input, out)?;
+    run_to_end(alloc, config, terms, &mut telling, reader, input, out)?;
     telling.finish(out)?;
     Ok(())
 }
@@ -209,7 +228,7 @@ pub fn write_timeline<R: Read, W: Write>(
         → HasToldCalls config.now terms.patience terms.by reader.old.window.size (R.remaining input.old) (R.remaining input.new) (W.contents out.old) (W.contents out.new)) }
 {
     let mut timeline = Timeline::new(alloc);
-    run_one(alloc, config, terms, &mut timeline, reader, input, out)?;
+    run_to_end(alloc, config, terms, &mut timeline, reader, input, out)?;
     timeline.write(out)?;
     Ok(())
 }
@@ -237,7 +256,7 @@ pub fn list<R: Read, W: Write>(
     ensures kept { OnOk result (HasRead [] [] (R.remaining input.old) reader.old → Keeps (W.contents out.old) (W.contents out.new)) }
 {
     let mut listing = Listing::new(alloc);
-    let lane = run_one(alloc, config, terms, &mut listing, reader, input, out)?;
-    let listed = listing.close(alloc, lane.last())?;
+    let end = run_to_end(alloc, config, terms, &mut listing, reader, input, out)?;
+    let listed = listing.close(alloc, end)?;
     Ok(listed)
 }

@@ -14,7 +14,10 @@ map_same [] = refl
 map_same (h ∷ held) = ap (λ (l : List Held). h ∷ l) (map_same held)
 
 pub loop-it-preserved : goal.loop-it-preserved
-loop-it-preserved c = ?
+loop-it-preserved c =
+    subst (λ (ends : List Ended). AreParts (c.loop-it.yielded ++ c.in-Some.it ∷ []) c.push.new.requests.items ends) (sym c.in_ok-push.ensures.ends)
+    (subst (λ (requests : List TraceRequest). AreParts (c.loop-it.yielded ++ c.in-Some.it ∷ []) requests (c.loop-it.ends.items ++ c.in-Some-ended.ended ∷ [])) (sym c.in_ok-push.ensures.requests)
+    (part_more c.loop-it.yielded c.loop-it.requests.items c.loop-it.ends.items c.in-Some.it c.in-Some-ended.ended c.in-Some-ended.is c.loop-it.invariant))
 
 pub returns : goal.returns
 returns c =

@@ -1,5 +1,6 @@
 -- Nobody comes any more.
-use Rattle.std.proofs.Common.{List, [], Option, None}
+use Rattle.std.proofs.Common.{List, [], ◌∷◌, ◌++◌, Option, None, subst}
+use Rattle.apf_stream.specs.declared.ended.Ended.{Ended}
 use Rattle.apf_simulator.proofs.Handed.{gone_last}
 use Rattle.apf_simulator.proofs.running.run.Goals as goal
 
@@ -7,4 +8,6 @@ pub returns-clause-gone : goal.returns-clause-gone
 returns-clause-gone g c = λ was before fed heard.
     gone_last was (g.R.Read.remaining c.feed_all.new.input) c.feed_all.new.reader c.args.lanes.now.one c.args.lanes.now.other c.feed_all.new.lanes.one c.feed_all.new.lanes.other c.finish.new.self.one c.finish.new.self.other
     (λ turns. g.L.Listener.heard before (g.W.Write.contents c.feed_all.new.out) turns c.feed_all.new.listener) (λ turns. g.L.Listener.heard before (g.W.Write.contents c.hear.new.out) turns c.hear.new.self)
-    c.in_ok-finish.ensures.goes (λ turns. c.in_ok-hear.ensures before turns) (c.in_ok-feed_all.ensures.gone was before fed heard)
+    c.in_ok-finish.ensures.goes
+    (λ turns h. subst (λ (ends : List Ended). g.L.Listener.heard before (g.W.Write.contents c.hear.new.out) (turns ++ record { came = None; ends = ends } ∷ []) c.hear.new.self) c.ends.ensures (c.in_ok-hear.ensures before turns h))
+    (c.in_ok-feed_all.ensures.gone was before fed heard)

@@ -304,7 +304,7 @@ BY_HAND = [
         0,
         {
             ">1 request of 1 flow of a &quot;&lt;&amp;&gt;&quot; b on 100 seats</": 2,
-            "y=\"14\">&#65533;&#65533;&#65533;&#65533;\x7f\u00e9'\U0001f600 <tspan": 1,
+            "y=\"14\">&#65533;&#65533;&#65533;&#65533;&#65533;\u00e9'\U0001f600 <tspan": 1,
         },
     ),
     # of a long name the beginning and the end are shown, in seventeen columns each; the description has the whole
@@ -365,7 +365,24 @@ BY_HAND = [
         ROOM,
         named(("s", 18 * "\1"), ("s", 18 * "\2"), ("s", 19 * "\x7f")),
         0,
-        {f'y="14">1: {18 * "&#65533;"} <tspan': 1, f'y="14">2: {18 * "&#65533;"} <tspan': 1, f'y="14">3: {8 * chr(127)}&#8230;{8 * chr(127)} <tspan': 1},
+        {f'y="14">1: {18 * "&#65533;"} <tspan': 1, f'y="14">2: {18 * "&#65533;"} <tspan': 1, f'y="14">3: {8 * "&#65533;"}&#8230;{8 * "&#65533;"} <tspan': 1},
+    ),
+    # the first character and the last one of each kind is drawn with a mark, in the label, the title of the row and the description; the one before
+    # it and the one behind it are drawn as they are
+    (
+        "names that turn the direction of writing",
+        ROOM,
+        named(("s", "a\u202eb\u202a\u2029\u202f"), ("s", "\x7f\x9f~\xa0"), ("s", "\u061c\u061b\u061d"), ("s", "\u2066\u2069\u2065\u206a"), ("s", "\u200e\u200f\u200d\u2010")),
+        0,
+        {
+            ">a&#65533;b&#65533;\u2029\u202f<": 1,
+            ">a&#65533;b&#65533;\u2029\u202f <tspan": 1,
+            ". a&#65533;b&#65533;\u2029\u202f, 1 request: ": 1,
+            'y="14">&#65533;&#65533;~\xa0 <tspan': 1,
+            'y="14">&#65533;\u061b\u061d <tspan': 1,
+            'y="14">&#65533;&#65533;\u2065\u206a <tspan': 1,
+            'y="14">&#65533;&#65533;\u200d\u2010 <tspan': 1,
+        },
     ),
     # a level without queues has no part of them
     (

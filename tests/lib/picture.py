@@ -3,6 +3,7 @@
 import html
 import itertools
 import os
+import unicodedata
 
 from simulation import flows_of
 
@@ -11,7 +12,7 @@ COLUMNS = 880
 # this many flows have a row of their own
 OWN_ROWS = 12
 SHADES = 8
-# the parts begin at these heights, and the seats' part is so high, of which the limit or the most seats take so much
+# the parts begin at these heights, and the seats' part has this height, of which the limit or the most seats take this much
 SEATS, QUEUES, HIGH, FULL = 124, 310, 140, 130
 # this many columns of letters are shown of a name: of one alone, of a schema and of a distinguisher beside it, of a schema in the
 # title, and of what all names begin with
@@ -46,6 +47,10 @@ STYLE = [
     "}",
 ]
 UNITS = [("d", 86_400_000_000), ("h", 3_600_000_000), ("min", 60_000_000), ("s", 1_000_000), ("ms", 1000), ("&#181;s", 1)]
+
+
+# the classes of the characters that embed, override and isolate a direction of writing, and end that
+TURNING = {"LRE", "RLE", "LRO", "RLO", "PDF", "LRI", "RLI", "FSI", "PDI"}
 
 
 # numbers, times and names in words
@@ -83,9 +88,9 @@ def mark_words(end, step, time):
 
 
 def escaped(text):
-    """As XML has it, with a mark where XML does not allow a character."""
-    marks = {"&": "&amp;", "<": "&lt;", ">": "&gt;", '"': "&quot;", "\ufffe": "&#65533;", "\uffff": "&#65533;"}
-    return "".join("&#65533;" if it < " " else marks.get(it, it) for it in text)
+    """As XML has it, with a mark for a control character, for one that turns the direction of writing, and where XML does not allow a character."""
+    marked = {it for it in text if unicodedata.category(it) == "Cc" or unicodedata.bidirectional(it) in TURNING or it in "\u061c\u200e\u200f\ufffe\uffff"}
+    return "".join("&#65533;" if it in marked else html.escape(it, quote=False).replace('"', "&quot;") for it in text)
 
 
 def columns(letter):

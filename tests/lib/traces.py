@@ -4,7 +4,7 @@ import json
 
 from trace import BAD_ARRIVAL, BAD_COST, BAD_FLOW, BAD_RUN, BAD_WIDTH, NOT_JSON, NOT_OBJECT, TOO_LONG, TOO_MANY, TRUNCATED, UNKNOWN_KEY
 
-LETTERS = 'abcABC012 -_/.:äß€😀\u2028\n\t\x01\x1c\x7f"\\'
+LETTERS = 'abcABC012 -_/.:äß€😀\u2028\n\t\x01\x1c\x7f\x85\u200f\u202e\u2067"\\'
 
 
 class Traces:

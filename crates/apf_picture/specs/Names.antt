@@ -1,16 +1,25 @@
 -- Names, as XML has them. A long one is cut in its middle.
 use Rattle.std.specs.Prelude.{◌≡◌, ◌≢◌, ℕ, ◌+◌, ◌-◌, ◌/◌, ◌⊎◌, List, [], ◌∷◌, ◌++◌, All, Bool, true, false, ◌||◌, ◌==◌, nat_le, nat_lt, if◌then◌else◌, sum_by, drop, codes, decimal, encode_utf8}
 use Rattle.std.specs.List.{flat_map}
+use Rattle.apf_flows.specs.Json.{is_within}
 use Rattle.apf_flows.specs.Names.{hash_text}
 use Rattle.apf_picture.specs.declared.cutting.Cutting.{Cutting}
 use Rattle.apf_picture.specs.Labels.{Called, By_name, By_names, By_hash, By_number}
 use Rattle.apf_picture.specs.Words.{joined, counted_text}
 
--- XML does not allow the character, or it needs no reference to it: the tab and the ends of lines
-abbrev pub is_marked : ℕ → Bool
-is_marked c = nat_lt c 32 || c == 65534 || c == 65535
+-- a control character, the tab and the ends of lines too: below U+0020, and from U+007F to U+009F
+abbrev pub is_control : ℕ → Bool
+is_control c = nat_lt c 32 || is_within 127 159 c
 
--- a character: the four that have a meaning by their names, and a mark in place of one that XML does not allow
+-- the character turns the direction of writing: U+061C, U+200E, U+200F, U+202A to U+202E, and U+2066 to U+2069
+abbrev pub turns : ℕ → Bool
+turns c = c == 1564 || is_within 8206 8207 c || is_within 8234 8238 c || is_within 8294 8297 c
+
+-- a mark stands for the character: it is a control character, it turns the direction of writing, or XML does not allow it
+abbrev pub is_marked : ℕ → Bool
+is_marked c = is_control c || turns c || c == 65534 || c == 65535
+
+-- a character: the four that have a meaning by their names, and some by a mark
 abbrev pub character_text : ℕ → List ℕ
 character_text c =
     if c == 38 then codes "&amp;"

@@ -8,7 +8,7 @@ ghost use Rattle.apf_picture.specs.Names.{visible_of};
 ghost use Rattle.apf_picture.specs.Cuttings.{common as the_common, common_with as the_common_with, common_to_all as the_common_to_all, is_separator as the_is_separator, behind_separator as the_behind_separator, fits as the_fits, beginning_by, shared_beginning as the_beginning, room_by, room_of, place_at as the_place_at, seen_name, seen_label, are_alike as the_are_alike, clashes as the_clashes, candidate_clashes, IsBest, IsCutting};
 
 use crate::label::Label;
-use crate::names::{ALONE, DISTINGUISHER, SCHEMA, back, front, rest, width};
+use crate::names::{ALONE, DISTINGUISHER, SCHEMA, back, front, is_marked, rest, width};
 use crate::row::Row;
 use std::alloc::{AllocError, Global};
 
@@ -145,9 +145,10 @@ pub(crate) fn shared_beginning(alloc: Global, rows: &[Row]) -> Result<Vec<char>,
 fn visible(character: char) -> char
     ensures { result ≡ visible_of character }
 {
-    match character {
-        '\0'..='\u{1f}' | '\u{fffe}' | '\u{ffff}' => '\u{fffd}',
-        _ => character,
+    if is_marked(character) {
+        '\u{fffd}'
+    } else {
+        character
     }
 }
 

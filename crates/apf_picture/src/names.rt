@@ -2,7 +2,7 @@
 
 ghost use Rattle.std.specs.Prelude.{◌≡◌, ◌<◌, ◌≤◌, ◌+◌, ◌*◌, ◌^◌, length, take, drop, OnOk};
 ghost use Rattle.std.specs.Io.KnownBytes.{Appends};
-ghost use Rattle.apf_picture.specs.Names.{character_text, escaped, columns_of, width_of, front_of, back_of, whole_name, cut_name, name_cut_at, name_text, number_text, distinguisher_text, both_text, label_text, whole_label};
+ghost use Rattle.apf_picture.specs.Names.{is_marked as the_is_marked, character_text, escaped, columns_of, width_of, front_of, back_of, whole_name, cut_name, name_cut_at, name_text, number_text, distinguisher_text, both_text, label_text, whole_label};
 ghost use Rattle.apf_picture.specs.Labels.{called};
 
 use crate::cutting::Cutting;
@@ -20,7 +20,26 @@ pub(crate) const SCHEMA: usize = 14;
 
 pub(crate) const DISTINGUISHER: usize = 20;
 
-// Writes a character. One that XML does not allow is a mark for a character that is missing.
+/// Whether a mark stands for the character: it is a control character, it turns the direction of writing, or XML does not
+/// allow it.
+pub(crate) fn is_marked(character: char) -> bool
+    ensures { result ≡ the_is_marked character }
+{
+    matches!(
+        character,
+        '\0'..='\u{1f}'
+            | '\u{7f}'..='\u{9f}'
+            | '\u{61c}'
+            | '\u{200e}'
+            | '\u{200f}'
+            | '\u{202a}'..='\u{202e}'
+            | '\u{2066}'..='\u{2069}'
+            | '\u{fffe}'
+            | '\u{ffff}'
+    )
+}
+
+// Writes a character. The mark is U+FFFD.
 fn write_character<W: Write>(out: &mut W, character: char) -> io::Result<()>
     ensures { OnOk result (Appends (W.contents out.old) (W.contents out.new) (character_text character)) }
 {
@@ -29,7 +48,7 @@ fn write_character<W: Write>(out: &mut W, character: char) -> io::Result<()>
         '<' => out.write_all(b"&lt;"),
         '>' => out.write_all(b"&gt;"),
         '"' => out.write_all(b"&quot;"),
-        '\0'..='\u{1f}' | '\u{fffe}' | '\u{ffff}' => out.write_all(b"&#65533;"),
+        _ if is_marked(character) => out.write_all(b"&#65533;"),
         _ => write!(out, "{character}"),
     }
 }

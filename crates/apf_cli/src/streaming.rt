@@ -1,6 +1,6 @@
 //! Simulations of traces that are read in pieces.
 
-ghost use Rattle.std.specs.Prelude.{◌≤◌, IfOk};
+ghost use Rattle.std.specs.Prelude.{◌≡◌, ◌≤◌, IfOk, vec_len};
 
 use crate::faults::Fault;
 use crate::files::{Files, Input, Source, cause_of, judge_names, open_input};
@@ -178,7 +178,10 @@ pub(crate) fn simulated<F: Files, O: Write>(
     names: (&str, &str),
     way: Way<'_>,
     out: &mut O,
-) -> Result<Simulated, Fault> {
+) -> Result<Simulated, Fault>
+    ensures few { IfOk result (λ o. vec_len o.2.requests ≤ 10000) }
+    ensures each { IfOk result (λ o. vec_len o.2.ends ≡ vec_len o.2.requests) }
+{
     let terms = terms_of(way)?;
     judge_names(&[names.0, names.1])?;
     let config = config_of(alloc, files, names.0)?;
@@ -213,14 +216,7 @@ pub(crate) fn print_comparison<F: Files, O: Write>(
     let other = config_of(alloc, files, names.1)?;
     let mut input = open_trace(alloc, files, names.2)?;
     let mut reader = TraceReader::new(alloc, WINDOW)?;
-    match compare(
-        alloc,
-        (&one, &other),
-        terms,
-        &mut reader,
-        &mut input,
-        out,
-    ) {
+    match compare(alloc, (&one, &other), terms, &mut reader, &mut input, out) {
         Ok(()) => Ok(()),
         Err(fault) => {
             let levels = ((names.0, &one), (names.1, &other));

@@ -1,5 +1,5 @@
 -- The request of a line is in its ranges.
-use Rattle.std.proofs.Common.{◌≡◌, ℕ, ◌≤◌, Option, Some, None}
+use Rattle.std.proofs.Common.{ℕ, ◌≤◌, Option, Some, None}
 use Rattle.std.specs.Prelude.{IfSome}
 use Rattle.apf_words.specs.Limits.{max_cost}
 

@@ -1,6 +1,5 @@
 -- Lanes that go on by turns.
-use Rattle.std.proofs.Common.{◌≡◌, ℕ, List, [], ◌∷◌, ◌++◌, Option, Some, None, refl, sym, ap, ◌∙◌, subst, append_assoc}
-use Rattle.std.specs.List.{flat_map}
+use Rattle.std.proofs.Common.{◌≡◌, List, [], ◌∷◌, ◌++◌, Option, Some, None, refl, sym, ap, ◌∙◌, subst, append_assoc}
 use Rattle.std.specs.Option.{option_to_list}
 use Rattle.std.proofs.lemmas.Grind.{flat_map-append}
 use Rattle.std.proofs.lemmas.List.{append-nil}
@@ -10,7 +9,7 @@ use Rattle.apf_stream.specs.declared.ended.Ended.{Ended}
 use Rattle.apf_stream.specs.States.{State}
 use Rattle.apf_simulator.specs.Feeds.{GoOn}
 use Rattle.apf_simulator.specs.Lanes.{GoesOn, IsLane, LaneView}
-use Rattle.apf_simulator.specs.Turns.{AreBothTurns, AreTurns, HasTurns, IsTurn, Turn, came_by, came_in, ends_in, told_by}
+use Rattle.apf_simulator.specs.Turns.{AreBothTurns, AreTurns, HasTurns, Turn, came_by, came_in, ends_in, told_by}
 
 abbrev pub Came : Type 0
 Came = Arrival TraceRequest

@@ -1,7 +1,6 @@
 -- What was handed out, and what the lanes did with it.
-use Rattle.std.proofs.Common.{◌≡◌, ℕ, ◌≤◌, List, [], ◌∷◌, ◌++◌, Option, Some, None, Result, Ok, refl, sym, ap, ◌∙◌, subst}
-use Rattle.std.specs.Option.{option_to_list}
-use Rattle.std.specs.Io.KnownBytes.{Consumes, IsAtEnd}
+use Rattle.std.proofs.Common.{◌≡◌, ℕ, List, [], ◌∷◌, ◌++◌, Option, Some, None, Ok, sym, ◌∙◌, subst}
+use Rattle.std.specs.Io.KnownBytes.{Consumes}
 use Rattle.std.proofs.KnownBytes.{Consumes-trans}
 use Rattle.std.proofs.lemmas.List.{append-nil}
 use Rattle.apf_times.specs.declared.window.Arrival.{Arrival}
@@ -39,7 +38,7 @@ fed_by : (was mid left : Option (List ℕ)) (turns turns' : List Turn) (x : Came
 fed_by was mid left turns turns' x None v v' came f a = record {
   bytes = f.bytes ++ a.0;
   given = Consumes-trans was mid left f.bytes a.0 f.given a.1;
-  read = subst (λ (l : List Came). HasRead (f.bytes ++ a.0) l left v') (sym (append-nil (came_by turns')) ) (subst (λ (l : List Came). HasRead (f.bytes ++ a.0) l left v') (sym came) a.2.0);
+  read = subst (λ (l : List Came). HasRead (f.bytes ++ a.0) l left v') (sym (append-nil (came_by turns'))) (subst (λ (l : List Came). HasRead (f.bytes ++ a.0) l left v') (sym came) a.2.0);
   all = λ is. (subst (AreAll v'.window.size (f.bytes ++ a.0)) (sym came) a.2.1, a.2.2);
 }
 fed_by was mid left turns turns' x (Some y) v v' came f a = record {

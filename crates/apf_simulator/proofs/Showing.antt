@@ -1,7 +1,7 @@
 -- What is told of requests in their order.
-use Rattle.std.proofs.Common.{◌≡◌, ℕ, zero, suc, ◌+◌, List, [], ◌∷◌, ◌++◌, length, map, Bool, true, false, Option, Some, None, refl, sym, ap, ◌∙◌, subst, append_assoc, arith}
+use Rattle.std.proofs.Common.{◌≡◌, ℕ, suc, List, [], ◌∷◌, ◌++◌, length, map, Bool, true, Option, Some, refl, sym, ap, ◌∙◌, subst, append_assoc, arith}
 use Rattle.std.specs.Prelude.{IsPermutation}
-use Rattle.std.specs.List.{All, AllByRecursion, flat_map}
+use Rattle.std.specs.List.{AllByRecursion, flat_map}
 use Rattle.std.specs.List.Sorted.{IsSortedBy}
 use Rattle.std.specs.Option.{option_to_list}
 use Rattle.std.specs.Io.KnownBytes.{Appends, Keeps}
@@ -9,11 +9,10 @@ use Rattle.std.proofs.KnownBytes.{Appends-trans}
 use Rattle.std.proofs.lemmas.List.{append-nil, flat_map_more, map-append}
 use Rattle.std.proofs.lemmas.List.Elements.{All-from_recursion, recursion_from_All}
 use Rattle.std.proofs.lemmas.List.Sorted.{All-permutation, IsPermutation-map}
-use Rattle.apf_times.specs.declared.window.Arrival.{Arrival}
 use Rattle.apf_traces.specs.declared.request.TraceRequest.{TraceRequest}
 use Rattle.apf_stream.specs.declared.ended.Ended.{Ended}
 use Rattle.apf_simulator.specs.Fates.{fate_text, fates_header}
-use Rattle.apf_simulator.specs.Hearing.{AllTold, AreHeld, AreListed, AreParts, Fate, Holds, IsBegun, IsFate, IsHeldOf, Tells, TellsStill, came_more, fates_written, line_before}
+use Rattle.apf_simulator.specs.Hearing.{AllTold, AreHeld, AreListed, AreParts, Fate, Holds, IsFate, IsHeldOf, Tells, TellsStill, came_more, line_before}
 use Rattle.apf_simulator.specs.Turns.{Turn, came_by, told_by}
 use Rattle.apf_simulator.specs.declared.held.Held.{Held}
 use Rattle.apf_simulator.specs.declared.listed.Listed.{Listed}

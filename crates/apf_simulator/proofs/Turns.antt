@@ -1,5 +1,5 @@
 -- What is handed out next is no earlier than what was carried out.
-use Rattle.std.proofs.Common.{◌≡◌, ℕ, ◌≤◌, false, List, [], ◌∷◌, ◌++◌, Option, Some, None, arith}
+use Rattle.std.proofs.Common.{◌≡◌, ℕ, ◌≤◌, false, List, ◌++◌, Option, Some, None, arith}
 use Rattle.std.proofs.lemmas.Bool.Decides.{nat_tests}
 use Rattle.apf_times.specs.declared.window.Arrival.{Arrival}
 use Rattle.apf_times.specs.declared.window.Place.{Place}

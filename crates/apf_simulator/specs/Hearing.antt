@@ -1,5 +1,5 @@
 -- What those who listen to a lane keep of it.
-use Rattle.std.specs.Prelude.{◌≡◌, ℕ, Bool, true, false, nat_lt, IsPermutation, List, [], ◌∷◌, ◌++◌, map, Contains, slice_get, slice_set, Option, Some, None, IfSome}
+use Rattle.std.specs.Prelude.{◌≡◌, ℕ, Bool, true, false, nat_lt, IsPermutation, List, [], ◌∷◌, ◌++◌, map, Contains, slice_get, slice_set, Option, Some, IfSome}
 use Rattle.std.specs.List.{AllByRecursion, flat_map}
 use Rattle.std.specs.Option.{option_to_list}
 use Rattle.std.specs.Io.KnownBytes.{Appends, Keeps}
@@ -99,4 +99,3 @@ pub record AreListed (came : List (Arrival TraceRequest)) (told : List Ended) (l
   pub order : IsSortedBy line_before held
   pub known : AllByRecursion (IsHeldOf told) held
   pub parts : AreParts held l.requests.items l.ends.items
-

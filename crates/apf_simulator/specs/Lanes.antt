@@ -1,5 +1,5 @@
 -- A level that the requests of a trace come to, with what they came to.
-use Rattle.std.specs.Prelude.{◌≡◌, ℕ, ◌≤◌, Bool, true, false, List, [], ◌∷◌, ◌++◌, length, map, All, replicate, None}
+use Rattle.std.specs.Prelude.{◌≡◌, ℕ, Bool, true, false, List, [], ◌++◌, length, map, replicate, None}
 use Rattle.std.specs.List.{AllByRecursion}
 use Rattle.apf_model.specs.declared.config.Config.{Config}
 use Rattle.apf_charges.specs.Charging.{opening_charges}

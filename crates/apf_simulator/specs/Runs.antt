@@ -1,13 +1,9 @@
 -- A whole trace that ran on a level.
-use Rattle.std.specs.Prelude.{◌≡◌, ℕ, List, [], ◌++◌, unwrap_or, Option, Some, None}
+use Rattle.std.specs.Prelude.{◌≡◌, ℕ, List, [], unwrap_or, Option}
 use Rattle.std.specs.Option.{option_to_list}
-use Rattle.std.specs.Io.KnownBytes.{Appends, Consumes, IsAtEnd}
+use Rattle.std.specs.Io.KnownBytes.{Consumes, IsAtEnd}
 use Rattle.apf_charges.specs.declared.charges.ChargedBy.{ChargedBy}
 use Rattle.apf_model.specs.declared.config.Config.{Config}
-use Rattle.apf_line.specs.declared.report.Report.{Report}
-use Rattle.apf_local.specs.Levels.{EndsFrom}
-use Rattle.apf_rows.specs.Tables.{IsTable}
-use Rattle.apf_rows.specs.declared.table.Table.{Table}
 use Rattle.apf_stream.specs.States.{State}
 use Rattle.apf_times.specs.declared.window.Arrival.{Arrival}
 use Rattle.apf_traces.specs.declared.request.TraceRequest.{TraceRequest}

@@ -1,5 +1,5 @@
 -- What the commands on a simulation print.
-use Rattle.std.specs.Prelude.{◌≡◌, ℕ, Bool, true, false, List, [], ◌++◌, Option, Some, None}
+use Rattle.std.specs.Prelude.{◌≡◌, ℕ, Bool, true, false, List, ◌++◌, Option, None}
 use Rattle.std.specs.Io.KnownBytes.{Appends}
 use Rattle.apf_charges.specs.declared.charges.ChargedBy.{ChargedBy}
 use Rattle.apf_model.specs.declared.config.Config.{Config}

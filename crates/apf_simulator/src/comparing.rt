@@ -58,12 +58,7 @@ fn table_of(alloc: Global, lane: Lane) -> Result<Table, SimulatorFault>
 }
 
 // Prints both side by side, flow by flow.
-fn print<W: Write>(
-    alloc: Global,
-    one: Lane,
-    other: Lane,
-    out: &mut W,
-) -> Result<(), SimulatorFault>
+fn print<W: Write>(alloc: Global, one: Lane, other: Lane, out: &mut W) -> Result<(), SimulatorFault>
     ensures { OnOk result (ArePrinted one other (W.contents out.old) (W.contents out.new)) }
 {
     let one = table_of(alloc, one)?;

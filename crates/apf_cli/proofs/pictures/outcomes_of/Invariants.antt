@@ -2,5 +2,5 @@
 use Rattle.std.proofs.Common.{◌≡◌, vec_len}
 use Rattle.apf_cli.proofs.pictures.outcomes_of.Given as goal
 
-abbrev pub invariant-loop-number : goal.invariant-loop-number
-invariant-loop-number l = vec_len l.outcomes ≡ l.number
+abbrev pub invariant-loop-ended : goal.invariant-loop-ended
+invariant-loop-ended l = vec_len l.outcomes ≡ l.ended-index

@@ -9,9 +9,9 @@ use Rattle.apf_cli.proofs.pictures.print_picture.Goals as goal
 pub of-requires-clause-firsts : goal.of-requires-clause-firsts
 of-requires-clause-firsts g c = λ k d within.
     let firsts = c.in_ok-flows.flows.firsts.items in
-    let grouped = c.as_slice-3.result.now in
-    let drawn = c.as_slice-4.result.now in
-    let same : grouped ≡ drawn = c.as_slice-3.ensures.value ∙ sym c.as_slice-4.ensures.value in
+    let grouped = c.as_slice-2.result.now in
+    let drawn = c.as_slice-3.result.now in
+    let same : grouped ≡ drawn = c.as_slice-2.ensures.value ∙ sym c.as_slice-3.ensures.value in
     let long : length (hashes_of grouped) ≡ length grouped = length-map grouped (λ (r : TraceRequest). r.hash) in
     let equal : length grouped ≡ length drawn = ap length same in
     let low : get_or firsts k 0 < length (hashes_of grouped) = c.in_ok-flows.ensures.flows.request k within in

@@ -1,5 +1,5 @@
 -- Both lanes went on.
-use Rattle.std.proofs.Common.{◌≡◌, List, [], Option, None, Some, subst}
+use Rattle.std.proofs.Common.{Option, None, subst}
 use Rattle.std.specs.Io.KnownBytes.{Keeps}
 use Rattle.std.proofs.KnownBytes.{Keeps-refl}
 use Rattle.apf_simulator.specs.Feeds.{HaveGone}

@@ -1,5 +1,5 @@
 -- Each that was told can be counted, by the laws of streams.
-use Rattle.std.proofs.Common.{◌≡◌, ℕ, ◌≤◌, List, [], ◌++◌, map, Contains, sym, ap, ◌∙◌, subst, arith}
+use Rattle.std.proofs.Common.{◌≤◌, List, [], map, Contains, sym, subst, arith}
 use Rattle.std.specs.List.{AllByRecursion}
 use Rattle.apf_stream.specs.declared.asked.Asked.{Asked}
 use Rattle.apf_stream.specs.declared.ended.Ended.{Ended}

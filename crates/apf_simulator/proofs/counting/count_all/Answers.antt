@@ -1,5 +1,5 @@
 -- One more is counted.
-use Rattle.std.proofs.Common.{◌≡◌, ℕ, ◌+◌, List, [], ◌∷◌, ◌++◌, take, get_or, sym, ap, ◌∙◌, subst, append_assoc}
+use Rattle.std.proofs.Common.{List, [], ◌∷◌, ◌++◌, take, get_or, ap, ◌∙◌, subst, append_assoc}
 use Rattle.apf_stream.specs.declared.ended.Ended.{Ended}
 use Rattle.apf_rows.specs.Rows.{AreRows}
 use Rattle.apf_simulator.proofs.Countable.{counted_still, take_one}

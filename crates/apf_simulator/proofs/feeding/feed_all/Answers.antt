@@ -1,7 +1,6 @@
 -- One more came, or nobody does any more.
-use Rattle.std.proofs.Common.{◌≡◌, ℕ, List, [], ◌∷◌, ◌++◌, Option, Some, None, refl, ◌∙◌, subst}
+use Rattle.std.proofs.Common.{Option, ◌∙◌, subst}
 use Rattle.apf_simulator.specs.Feeds.{HaveGone}
-use Rattle.apf_simulator.specs.Turns.{Turn}
 use Rattle.apf_simulator.proofs.Handed.{Came, gone_on}
 use Rattle.apf_simulator.proofs.feeding.feed_all.Goals as goal
 

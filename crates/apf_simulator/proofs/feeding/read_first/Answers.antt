@@ -1,5 +1,5 @@
 -- The first was handed out, or nothing is there.
-use Rattle.std.proofs.Common.{List, []}
+use Rattle.std.proofs.Common.{[]}
 use Rattle.apf_simulator.proofs.Handed.{first_fed}
 use Rattle.apf_simulator.proofs.feeding.read_first.Goals as goal
 

@@ -1,5 +1,5 @@
 -- The whole trace ran, and its requests are listed.
-use Rattle.std.proofs.Common.{◌≡◌, List, [], refl, sym, ◌∙◌, subst}
+use Rattle.std.proofs.Common.{List, [], refl, sym, ◌∙◌, subst}
 use Rattle.std.proofs.KnownBytes.{Keeps-refl}
 use Rattle.apf_simulator.specs.Hearing.{Holds}
 use Rattle.apf_simulator.specs.declared.held.Held.{Held}

@@ -1,5 +1,4 @@
 -- What requests are charged is by what was read when the first one was handed out.
-use Rattle.std.proofs.Common.{List, []}
 use Rattle.apf_simulator.proofs.running.open_for.Goals as goal
 
 pub returns-clause-charge : goal.returns-clause-charge

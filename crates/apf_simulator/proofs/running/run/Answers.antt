@@ -1,5 +1,5 @@
 -- Nobody comes any more.
-use Rattle.std.proofs.Common.{List, [], ◌∷◌, ◌++◌, Option, None, subst}
+use Rattle.std.proofs.Common.{List, [], ◌∷◌, ◌++◌, None, subst}
 use Rattle.apf_stream.specs.declared.ended.Ended.{Ended}
 use Rattle.apf_simulator.proofs.Handed.{gone_last}
 use Rattle.apf_simulator.proofs.running.run.Goals as goal

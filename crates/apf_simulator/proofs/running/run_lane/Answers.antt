@@ -1,5 +1,5 @@
 -- The lane went on.
-use Rattle.std.proofs.Common.{◌≡◌, List, [], Option, None, sym, subst}
+use Rattle.std.proofs.Common.{None, sym, subst}
 use Rattle.apf_simulator.specs.Feeds.{IsOver}
 use Rattle.apf_simulator.proofs.Handed.{gone_alone, over_one}
 use Rattle.apf_simulator.proofs.running.run_lane.Goals as goal

@@ -1,5 +1,5 @@
 -- The whole trace ran.
-use Rattle.std.proofs.Common.{◌≡◌, List, [], Option, None, ◌∙◌, subst}
+use Rattle.std.proofs.Common.{None, ◌∙◌, subst}
 use Rattle.apf_simulator.specs.Feeds.{HaveGone}
 use Rattle.apf_simulator.specs.Lanes.{LaneView}
 use Rattle.apf_simulator.proofs.Whole.{heard_all}

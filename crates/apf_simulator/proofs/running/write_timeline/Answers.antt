@@ -1,5 +1,5 @@
 -- The whole trace ran, and its calls are written.
-use Rattle.std.proofs.Common.{◌≡◌, List, subst}
+use Rattle.std.proofs.Common.{List, subst}
 use Rattle.std.specs.Io.KnownBytes.{Appends}
 use Rattle.std.proofs.KnownBytes.{Keeps-refl}
 use Rattle.apf_simulator.specs.Calls.{script_text}

@@ -1,5 +1,5 @@
 -- One more was told.
-use Rattle.std.proofs.Common.{◌≡◌, List, [], ◌∷◌, ◌++◌, take, get_or, ap, ◌∙◌, subst, append_assoc}
+use Rattle.std.proofs.Common.{List, [], ◌∷◌, ◌++◌, take, get_or, ap, ◌∙◌, subst, append_assoc}
 use Rattle.apf_stream.specs.declared.ended.Ended.{Ended}
 use Rattle.apf_simulator.specs.Hearing.{AreHeld}
 use Rattle.apf_simulator.proofs.Holding.{one_more, take_one, take_past}

@@ -1,15 +1,10 @@
 -- One more came, and who was over is counted.
-use Rattle.std.proofs.Common.{◌≡◌, ℕ, ◌+◌, ◌≤◌, List, [], ◌∷◌, ◌++◌, length, map, refl, sym, ap, ◌∙◌, subst, length-append, arith}
-use Rattle.std.specs.List.{AllByRecursion}
-use Rattle.apf_times.specs.declared.window.Arrival.{Arrival}
-use Rattle.apf_traces.specs.declared.request.TraceRequest.{TraceRequest}
-use Rattle.apf_stream.specs.declared.asked.Asked.{Asked}
+use Rattle.std.proofs.Common.{◌+◌, List, [], ◌∷◌, ◌++◌, sym, subst, length-append, arith}
 use Rattle.apf_stream.specs.declared.ended.Ended.{Ended}
-use Rattle.apf_stream.specs.Runs.{HasRun}
-use Rattle.apf_stream.specs.States.{IsAsked, State, state_of}
+use Rattle.apf_stream.specs.States.{state_of}
 use Rattle.apf_stream.specs.Ties.{AreTied}
 use Rattle.apf_rows.specs.Rows.{AreRows}
-use Rattle.apf_simulator.specs.Lanes.{IsLane, IsTold, LaneView, asked_by}
+use Rattle.apf_simulator.specs.Lanes.{IsLane, IsTold, LaneView}
 use Rattle.apf_simulator.proofs.Laning.{is_told, lane_goes, one_asked, one_run}
 use Rattle.apf_simulator.proofs.lane.Lane.arrive.Goals as goal
 

@@ -1,14 +1,11 @@
 -- Nobody came, and who was over is counted.
-use Rattle.std.proofs.Common.{◌≡◌, ℕ, ◌+◌, ◌≤◌, List, [], ◌∷◌, ◌++◌, length, map, refl, sym, ap, ◌∙◌, subst, append-nil, arith}
-use Rattle.std.specs.List.{AllByRecursion}
+use Rattle.std.proofs.Common.{List, ◌++◌, length, sym, ap, ◌∙◌, subst, append-nil}
 use Rattle.apf_times.specs.declared.window.Arrival.{Arrival}
 use Rattle.apf_traces.specs.declared.request.TraceRequest.{TraceRequest}
 use Rattle.apf_stream.specs.declared.ended.Ended.{Ended}
-use Rattle.apf_stream.specs.Runs.{HasRun}
-use Rattle.apf_stream.specs.States.{IsAsked, State, state_of}
-use Rattle.apf_stream.specs.Ties.{AreTied}
+use Rattle.apf_stream.specs.States.{state_of}
 use Rattle.apf_rows.specs.Rows.{AreRows, HaveMet}
-use Rattle.apf_simulator.specs.Lanes.{IsLane, IsTold, LaneView, asked_by}
+use Rattle.apf_simulator.specs.Lanes.{IsLane, IsTold, LaneView}
 use Rattle.apf_simulator.proofs.Laning.{is_told, lane_goes, none, none_run}
 use Rattle.apf_simulator.proofs.lane.Lane.finish.Goals as goal
 
@@ -30,6 +27,6 @@ returns-clause-goes c opening came told is =
     let ends = c.advance.new.ends.items in
     let met = still_met came c.count_all.new.rows (c.in_ok-count_all.ensures.met came lane.met) in
     let are = subst (λ (l : List Ended). AreRows (told ++ l) c.count_all.new.rows) c.as_slice-2.ensures.value (c.in_ok-count_all.ensures.added told lane.are) in (
-      lane_goes c.every_run_goes_on.ensures opening came none told ends v (state_of c.advance.new.self) lane (none_run (state_of c.self.inside.stream) (state_of c.advance.new.self) c.clear.new.self.items c.advance.new.ends.items c.clear.ensures.items c.in_ok-advance.ensures.run) tt c.count_all.new.rows c.self.inside.came c.in_ok-advance.ensures.tied met are
-          (lane.number ∙ ap (λ (l : List (Arrival TraceRequest)). length l) (sym (append-nil came)))
+    lane_goes c.every_run_goes_on.ensures opening came none told ends v (state_of c.advance.new.self) lane (none_run (state_of c.self.inside.stream) (state_of c.advance.new.self) c.clear.new.self.items c.advance.new.ends.items c.clear.ensures.items c.in_ok-advance.ensures.run) tt c.count_all.new.rows c.self.inside.came c.in_ok-advance.ensures.tied met are
+    (lane.number ∙ ap (λ (l : List (Arrival TraceRequest)). length l) (sym (append-nil came)))
     )

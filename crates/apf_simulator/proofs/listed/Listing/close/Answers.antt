@@ -1,5 +1,5 @@
 -- All of them, in the order of their lines.
-use Rattle.std.proofs.Common.{◌≡◌, ◌≤◌, length, sym, ◌∙◌, subst, arith}
+use Rattle.std.proofs.Common.{sym, ◌∙◌, subst, arith}
 use Rattle.std.proofs.lemmas.List.Sorted.{length_permutation}
 use Rattle.apf_simulator.specs.Hearing.{AreHeld}
 use Rattle.apf_simulator.specs.Turns.{came_by, told_by}

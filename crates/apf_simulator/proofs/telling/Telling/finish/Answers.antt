@@ -1,5 +1,5 @@
 -- All are told.
-use Rattle.std.proofs.Common.{◌≡◌, sym, ◌∙◌}
+use Rattle.std.proofs.Common.{sym, ◌∙◌}
 use Rattle.apf_simulator.proofs.Showing.{tells_all}
 use Rattle.apf_simulator.proofs.telling.Telling.finish.Goals as goal
 

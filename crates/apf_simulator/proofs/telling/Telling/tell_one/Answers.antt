@@ -1,5 +1,5 @@
 -- One more is told.
-use Rattle.std.proofs.Common.{◌≡◌, Bool, sym, subst, rules}
+use Rattle.std.proofs.Common.{Bool, sym, subst, rules}
 use Rattle.std.specs.Io.KnownBytes.{Appends}
 use Rattle.apf_simulator.specs.Fates.{fate_text}
 use Rattle.apf_simulator.specs.Hearing.{Tells}

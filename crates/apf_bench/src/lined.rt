@@ -27,9 +27,8 @@ pub fn serve_line<K: Naming, R: Wait>(rt: &R, level: &Level<K>, requests: &mut [
     requests[0].begin(rt, level);
     for place in 1..requests.len() {
         requests[place].begin(rt, level);
-        requests[place - 1].release(level);
-        level.lock(rt).dispatch(rt);
+        requests[place - 1].finish(rt, level);
         run(rt, level, &mut requests[place]);
     }
-    requests[requests.len() - 1].release(level);
+    requests[requests.len() - 1].finish(rt, level);
 }

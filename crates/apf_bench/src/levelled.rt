@@ -5,23 +5,26 @@ ghost use Rattle.std.specs.Prelude.{◌≡◌, length};
 use crate::course::{Callers, Course};
 use apf_level::{Level, Naming};
 use apf_session::{Answer, Request};
+use std::sync::Wait;
 use std::thread;
 use std::thread::Threads;
 use std::time::Clock;
 
 // Serves a request for which there is room, in at most this many turns.
-fn serve<K: Naming>(course: &Course, level: &Level<K>, request: &mut Request<K>) {
+fn serve<K: Naming, R: Wait>(rt: &R, course: &Course, level: &Level<K>, request: &mut Request<K>) {
     for _turn in 0..1_000_000u32 {
-        if request.try_admit(level) != Answer::Busy {
+        let (answer, owes) = request.try_admit(level);
+        level.dispatch_if_owed(rt, owes);
+        if answer != Answer::Busy {
             break;
         }
         course.wait();
     }
     // of one that found no room in these turns it answers Wrong
-    let _ = request.release(level);
+    let _ = request.finish(rt, level);
 }
 
-fn serve_timed<K: Naming, R: Clock>(
+fn serve_timed<K: Naming, R: Clock + Wait>(
     rt: &R,
     course: &Course,
     level: &Level<K>,
@@ -29,12 +32,12 @@ fn serve_timed<K: Naming, R: Clock>(
     request: &mut Request<K>,
 ) {
     course.begin(rt, number);
-    serve(course, level, request);
+    serve(rt, course, level, request);
     course.end(rt, number);
 }
 
 /// Serves the requests, each of which has room, by these callers.
-pub fn serve_all<K: Naming, R: Threads + Clock + Sync>(
+pub fn serve_all<K: Naming, R: Threads + Clock + Wait + Sync>(
     rt: &R,
     course: &Course,
     level: &Level<K>,

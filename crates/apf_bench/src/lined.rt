@@ -28,9 +28,8 @@ pub fn serve_line<K: Naming, R: Wait>(rt: &R, level: &Level<K>, requests: &mut [
     let _ = requests[0].begin(rt, level);
     for place in 1..requests.len() {
         let _ = requests[place].begin(rt, level);
-        let _ = requests[place - 1].release(level);
-        level.lock(rt).dispatch(rt);
+        let _ = requests[place - 1].finish(rt, level);
         run(rt, level, &mut requests[place]);
     }
-    let _ = requests[requests.len() - 1].release(level);
+    let _ = requests[requests.len() - 1].finish(rt, level);
 }

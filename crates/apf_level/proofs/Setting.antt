@@ -9,6 +9,7 @@ use Rattle.apf_gate.specs.declared.record.Actor.TheVariants.{OfStation}
 use Rattle.apf_gate.specs.declared.record.Entry.{Entry}
 use Rattle.apf_gate.specs.declared.record.Knowledge.{Knowledge}
 use Rattle.apf_gate.specs.declared.record.StationRecord.{StationRecord}
+use Rattle.apf_gate.specs.declared.answers.TrySetLimit.{TrySetLimit}
 use Rattle.apf_gate.specs.declared.answers.TrySetLimit.TheVariants as set
 use Rattle.apf_gate.specs.Traces.{entry, NoneOf}
 use Rattle.apf_gate.specs.Steps.{SawLevel}
@@ -74,3 +75,11 @@ pub sets_last : (station : StationRecord) (limit old : ℕ) (waiting : Bool) (be
 sets_last station limit old waiting before after same since tries =
     let between = tries.3.0 in
     exchanges station limit between after (loads_same before between tries.0 tries.3.1 ∙ same) (loads station limit before between same since tries.0 tries.3.1) tries.0 tries.3.2
+
+-- any try
+pub sets_any : (station : StationRecord) (limit : ℕ) (answer : TrySetLimit) (before after : StationRecord) → before.number ≡ station.number → SetsSince station limit before
+    → TriesToSet before limit answer after → (after.number ≡ station.number) × SetsSince station limit after
+sets_any station limit (set.Set old waiting) before after same since tries =
+    let between = tries.3.0 in
+    (ap (λ (s : StationRecord). s.number) tries.3.2.2 ∙ (loads_same before between tries.0 tries.3.1 ∙ same), sets_last station limit old waiting before after same since tries)
+sets_any station limit set.Raced before after same since tries = sets_raced station limit before after same since tries

@@ -9,6 +9,7 @@ pub mod Shown
 pub mod Copies
 pub mod Locked
 pub mod Limits
+pub mod Owing
 pub mod Heard
 pub mod InPlace
 pub mod UnderLock

@@ -11,10 +11,12 @@ ghost use Rattle.apf_level.specs.Tokens.{IsOf, IsRunning, IsDone};
 ghost use Rattle.apf_level.specs.Admission.{tried_pass, IsTriedTold, TriesToAdmit, SaysOpen};
 ghost use Rattle.apf_level.specs.Attempts.{tried_of, TakesOrDecides, IsKeptBy};
 ghost use Rattle.apf_level.specs.LevelCalls.{IsFreshPass, AfterAttempt};
+ghost use Rattle.apf_level.specs.Owing.{owed_by};
 
 use crate::answers::{Tried, TryAdmit};
 use crate::level::Level;
 use crate::naming::Naming;
+use crate::owing::{Owes, Owing, owes_if};
 use crate::shared::Shared;
 use crate::tokens::{Done, Running};
 use apf_gate::{Pass, TryTake};
@@ -33,7 +35,7 @@ impl<K: Naming> Level<K> {
         ensures steps { TriesToAdmit pass.pass result }
         ensures stays_closed { pass.pass.knows.saw_closed ≡ true → ¬ SaysOpen result }
     {
-        match self.attempt(&mut pass) {
+        match self.try_once(&mut pass) {
             Tried::Run => TryAdmit::Run(Running { pass }),
             Tried::Over(decision, waiting) => TryAdmit::Over(Done { pass }, decision, waiting),
             Tried::Blocked | Tried::Raced => TryAdmit::Busy(pass),
@@ -55,8 +57,21 @@ impl<K: Naming> Level<K> {
     /// its place: it is then that of a request that executes, is over, or is fresh as before, by the answer.
     ///
     /// It takes no lock, and makes the steps of `try_admit`. Where requests waited when its seats were given
-    /// back, the caller owes a dispatch.
-    pub fn attempt(&self, pass: &mut Pass) -> Tried
+    /// back, a dispatch is owed.
+    pub fn attempt(&self, pass: &mut Pass) -> (Tried, Owes<K>)
+        requires { IsFreshPass K.level pass.old }
+        ensures kept { IsKeptBy result.0 pass.new }
+        ensures after { AfterAttempt pass.old result.0 pass.new }
+        ensures steps { TriesToAdmit pass.old.pass (tried_of result.0 pass.new) }
+        ensures never_entered { pass.old.pass.entered ≡ false }
+        ensures owes { result.1 ≡ owed_by result.0 }
+    {
+        let tried = self.try_once(pass);
+        (tried, owes_of(tried))
+    }
+
+    // The same, with whether a dispatch is owed in the answer alone.
+    fn try_once(&self, pass: &mut Pass) -> Tried
         requires { IsFreshPass K.level pass.old }
         ensures kept { IsKeptBy result pass.new }
         ensures after { AfterAttempt pass.old result pass.new }
@@ -67,12 +82,24 @@ impl<K: Naming> Level<K> {
         if let Some(decision) = self.gate.told(pass) {
             return Tried::Over(decision, false);
         }
-        self.take(pass)
+        self.take_or_decide(pass)
     }
 
     // Takes the seats, if nobody waits and they fit, and decides: what `attempt` does once it read that
     // nothing is decided.
-    pub(crate) fn take(&self, pass: &mut Pass) -> Tried
+    pub(crate) fn take(&self, pass: &mut Pass) -> (Tried, Owes<K>)
+        requires { IsFreshPass K.level pass.old }
+        ensures kept { IsKeptBy result.0 pass.new }
+        ensures after { AfterAttempt pass.old result.0 pass.new }
+        ensures steps { TakesOrDecides pass.old.pass result.0 pass.new }
+        ensures owes { result.1 ≡ owed_by result.0 }
+    {
+        let tried = self.take_or_decide(pass);
+        (tried, owes_of(tried))
+    }
+
+    // The same, with whether a dispatch is owed in the answer alone.
+    fn take_or_decide(&self, pass: &mut Pass) -> Tried
         requires { IsFreshPass K.level pass.old }
         ensures kept { IsKeptBy result pass.new }
         ensures after { AfterAttempt pass.old result pass.new }
@@ -113,15 +140,25 @@ impl<K: Naming> Level<K> {
         ensures answer { (level : Word) × PassSubtractsLevel running.pass level result.0.pass × (result.1 ≡ not (level.waiters == 0)) }
     {
         let Running { mut pass } = running;
-        let waiting = self.give_back(&mut pass);
+        let waiting = self.gate.release(&mut pass);
         (Done { pass }, waiting)
     }
 
-    /// Gives the seats of a request that executes back, by one step on the level word. Answers whether
-    /// requests waited then: if so, the caller owes a dispatch. The Pass stays in its place, that of a request
-    /// that is over.
-    #[must_use]
-    pub fn give_back(&self, pass: &mut Pass) -> bool
+    /// As `release`, but where requests waited the dispatch is owed by a value that must be spent.
+    pub fn release_owing(&self, running: Running) -> (Done, Owes<K>)
+        requires own { pass_gate running ≡ K.level.gate }
+        ensures same { IsOf running result.0 }
+        ensures told { told_own result.0.pass ≡ Some Execute }
+        ensures answer { (level : Word) × PassSubtractsLevel running.pass level result.0.pass × (result.1 ≡ not (level.waiters == 0)) }
+    {
+        let Running { mut pass } = running;
+        let owes = self.give_back(&mut pass);
+        (Done { pass }, owes)
+    }
+
+    /// Gives the seats of a request that executes back, by one step on the level word. Where requests waited
+    /// then, a dispatch is owed. The Pass stays in its place, that of a request that is over.
+    pub fn give_back(&self, pass: &mut Pass) -> Owes<K>
         requires own { pass_gate pass.old ≡ K.level.gate }
         requires runs { IsRunning pass.old }
         ensures done { IsDone pass.new }
@@ -129,6 +166,16 @@ impl<K: Naming> Level<K> {
         ensures told { told_own pass.new.pass ≡ Some Execute }
         ensures answer { (level : Word) × PassSubtractsLevel pass.old.pass level pass.new.pass × (result ≡ not (level.waiters == 0)) }
     {
-        self.gate.release(pass)
+        owes_if(self.gate.release(pass))
+    }
+}
+
+// What is owed after an attempt that came to this.
+fn owes_of<K: Naming>(tried: Tried) -> Owes<K>
+    ensures { result ≡ owed_by tried }
+{
+    match tried {
+        Tried::Over(_decision, waiting) => owes_if(waiting),
+        Tried::Run | Tried::Blocked | Tried::Raced => Owing::nothing(),
     }
 }

@@ -95,16 +95,12 @@ impl<K: Naming> Level<K> {
         ensures queues { SaysWaits result.0 → self.now.gate.shape.response ≡ Queue }
         ensures logs { Logs K.level pass.old.pass.number (begin_of result.0 pass.new) result.1 }
     {
-        let mut tried = self.attempt(pass);
+        let (mut tried, owes) = self.attempt(pass);
+        self.dispatch_if_owed(rt, owes);
         for _ in rt.forever() {
             match tried {
                 Tried::Run => return (Begun::Run, None),
-                Tried::Over(decision, waiting) => {
-                    if waiting {
-                        self.lock(rt).dispatch(rt);
-                    }
-                    return (Begun::Over(decision), None);
-                }
+                Tried::Over(decision, _waiting) => return (Begun::Over(decision), None),
                 Tried::Blocked => match &self.shared {
                     Shared::Queued(queued) => return self.enqueue(rt, queued, pass),
                     // without queues a request is busy after a lost exchange alone
@@ -112,7 +108,9 @@ impl<K: Naming> Level<K> {
                 },
                 Tried::Raced => {}
             }
-            tried = self.take(pass);
+            let (again, owes) = self.take(pass);
+            self.dispatch_if_owed(rt, owes);
+            tried = again;
         }
         unreachable!()
     }

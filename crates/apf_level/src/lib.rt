@@ -5,6 +5,7 @@
 //! - `naming`: which level a type is of.
 //! - `tokens`: a request at a level, by what became of it so far. `answers`: what calls answer.
 //! - `queued`: what stands under the lock of a level with queues. `unqueued`: of one without. `shared`: the lock of either.
+//! - `owing`: what is owed once room was made, or a request was cancelled.
 //! - `level`: the level, and how it begins.
 //! - `admission`: the steps of a request outside the lock. `arriving`: those that may take it.
 //! - `stations`: the calls of a Station. `locked`: those that take the lock.
@@ -22,6 +23,7 @@ mod laws;
 mod level;
 mod locked;
 mod naming;
+mod owing;
 mod queued;
 mod report;
 mod shared;
@@ -35,5 +37,6 @@ pub use laws::{every_report_keeps_the_promises, every_reported_wait_is_bounded};
 pub use level::{Ends, Level, LevelFault, Opened};
 pub use locked::Locked;
 pub use naming::Naming;
+pub use owing::{Owed, OwedStrike, Owes, Owing};
 pub use report::{Counts, Report};
 pub use tokens::{Done, Running, Waiting};

@@ -1,6 +1,6 @@
 //! The level's lock, and the calls that take it and own no Pass.
 
-ghost use Rattle.std.specs.Prelude.{◌≡◌, ◌+◌, ◌<◌, ◌≤◌, length, reverse, None, option_map};
+ghost use Rattle.std.specs.Prelude.{◌≡◌, ◌+◌, ◌<◌, ◌≤◌, length, reverse, false, None, IfNone, option_map};
 ghost use Rattle.apf_words.specs.Limits.{max_limit};
 ghost use Rattle.apf_gate.specs.Tokens.{station_gate};
 ghost use Rattle.apf_stats.specs.Numbers.{numbers_of, IsBelow};
@@ -11,6 +11,7 @@ ghost use Rattle.apf_level.specs.Locked.{log_under, DispatchesUnder, StrikesUnde
 
 use crate::level::Level;
 use crate::naming::Naming;
+use crate::owing::{OwedStrike, Owes};
 use crate::queued::{Queued, copy};
 use crate::shared::Shared;
 use apf_book::Stats;
@@ -98,7 +99,26 @@ impl<K: Naming> Level<K> {
         }
     }
 
-    /// Sets the limit, in seats, and then dispatches. Answers the old limit. A lost exchange is tried again.
+    /// Dispatches, if that is owed. It takes the lock only then.
+    pub fn dispatch_if_owed<R: Wait>(&self, rt: &R, owes: Owes<K>) {
+        if let Some(owed) = owes.left() {
+            owed.dispatch(rt, &mut self.lock(rt));
+        }
+    }
+
+    /// Strikes the request out of its queue, if that is owed and it waits, and dispatches then. Says whether it struck. It
+    /// takes the lock only where a strike is owed.
+    pub fn strike_if_owed<R: Wait>(&self, rt: &R, owed: Option<OwedStrike<K>>) -> bool
+        ensures none { IfNone owed (result ≡ false) }
+    {
+        match owed {
+            Some(owed) => owed.strike(rt, &mut self.lock(rt)),
+            None => false,
+        }
+    }
+
+    /// Sets the limit, in seats, and then dispatches, if requests wait. Answers the old limit. A lost exchange is tried
+    /// again.
     pub fn set_limit<R: Wait>(&self, rt: &R, station: &mut Station, limit: u32) -> u32
         requires own { station_gate station.old ≡ K.level.gate }
         requires some_limit { 1 ≤ limit }
@@ -107,8 +127,9 @@ impl<K: Naming> Level<K> {
         ensures answer { LastSet station.old.station limit result station.new.station }
     {
         for _ in rt.forever() {
-            if let TrySetLimit::Set(old, _waiting) = self.gate.try_set_limit(station, limit) {
-                self.lock(rt).dispatch(rt);
+            let (tried, owes) = self.try_set_limit_owing(station, limit);
+            self.dispatch_if_owed(rt, owes);
+            if let TrySetLimit::Set(old, _waiting) = tried {
                 return old;
             }
         }

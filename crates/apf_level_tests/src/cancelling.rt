@@ -63,11 +63,12 @@ fn cancel<K: Naming, R: Wait>(
 {
     cancellers.start.wait_for(8);
     pass_time(turns(cancellers.round, thread) / 64);
-    if caller.cancel(level, 1) == Decision::Cancelled {
+    let (decision, owed) = caller.cancel(level, 1);
+    if decision == Decision::Cancelled {
         cancellers.cancelled.fetch_add(1, Ordering::SeqCst);
     }
     pass_time(turns(cancellers.round.wrapping_add(1), thread) / 64);
-    if level.lock(rt).strike(rt, 1) {
+    if level.strike_if_owed(rt, owed) {
         cancellers.struck.fetch_add(1, Ordering::SeqCst);
     }
 }

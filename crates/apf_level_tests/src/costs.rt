@@ -85,7 +85,7 @@ fn play_named<K: Naming, R: Wait + Abort>(
     requires costs { AreCosts costs.now }
 {
     let mut session = Session::<K>::open_with_costs(rt, alloc, opening, costs)?;
-    Script::of(steps).play(rt, &mut session);
+    Script::of(steps).play(rt, alloc, &mut session);
     let last = session.stats(rt);
     let report = session.end(rt, alloc)?;
     Ok(Ended { last, report })

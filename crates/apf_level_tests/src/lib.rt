@@ -4,7 +4,7 @@
 //!
 //! - `opening`: the settings and the requests of a level.
 //! - `scenes`: what is played on a level. `endings`: what it tells at its end.
-//! - `scripts`: a script with the answers that it is to have.
+//! - `scripts`: a script with the answers that it is to have. `debts`: what its steps made owed.
 //! - `crowds`: the requests that run at once.
 //!
 //! In one thread:
@@ -30,6 +30,8 @@ mod closing;
 mod costs;
 #[cfg(test)]
 mod crowds;
+#[cfg(test)]
+mod debts;
 #[cfg(test)]
 mod endings;
 #[cfg(test)]

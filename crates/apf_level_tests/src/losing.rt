@@ -200,7 +200,8 @@ fn come<K: Naming, R: Wait + Clock>(
         losers.cancels.fetch_add(1, Ordering::SeqCst);
         // the taker's number, which is the smaller one of the two
         let number = begun.saturating_sub(1).min(u64::from(request.number()));
-        caller.lock(rt).cancel(level, number as u32);
+        let (_decision, owed) = caller.lock(rt).cancel(level, number as u32);
+        level.strike_if_owed(rt, owed);
     }
     end(rt, level, request, answer);
     losers.coming.store(0, Ordering::SeqCst);

@@ -66,7 +66,7 @@ fn play_named<K: Naming, R: Threads + Wait + Abort + Clock + Sync>(
 {
     let mut session = Session::<K>::open(rt, alloc, opening)?;
     for scene in scenes {
-        play(rt, *scene, &mut session);
+        play(rt, alloc, *scene, &mut session);
     }
     let last = session.stats(rt);
     let report = session.end(rt, alloc)?;
@@ -75,11 +75,12 @@ fn play_named<K: Naming, R: Threads + Wait + Abort + Clock + Sync>(
 
 fn play<K: Naming, R: Threads + Wait + Abort + Clock + Sync>(
     rt: &R,
+    alloc: Global,
     scene: Scene<'_>,
     session: &mut Session<K>,
 ) {
     match scene {
-        Scene::Script(script) => script.play(rt, session),
+        Scene::Script(script) => script.play(rt, alloc, session),
         Scene::Take(takers) => takers.play(rt, session),
         Scene::Read(readings) => readings.play(rt, session),
         Scene::Close(closers) => closers.play(rt, session),

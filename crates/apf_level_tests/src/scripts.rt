@@ -1,5 +1,6 @@
 //! A script with the answers that it is to have, and what the level is to tell at its end.
 
+use crate::debts::Debts;
 use crate::endings::Ending;
 use crate::scenes::{Scene, run};
 use apf_book::{Ask, Config, Stats};
@@ -113,11 +114,21 @@ impl<'a> Script<'a> {
         Script { steps, log: &[] }
     }
 
-    /// Makes the steps.
-    pub fn play<K: Naming, R: Wait + Abort>(&self, rt: &R, session: &mut Session<K>) {
+    /// Makes the steps. What they make owed is spent when all are made: the steps themselves say when it is dispatched
+    /// and who is struck.
+    pub fn play<K: Naming, R: Wait + Abort>(
+        &self,
+        rt: &R,
+        alloc: Global,
+        session: &mut Session<K>,
+    ) {
+        let Ok(mut debts) = Debts::new(alloc, self.steps.len()) else {
+            panic!(rt; "memory")
+        };
         for (place, step) in self.steps.iter().enumerate() {
-            follow(rt, session, place, *step, self.log);
+            follow(rt, session, &mut debts, place, *step, self.log);
         }
+        debts.spend(rt, &session.level);
     }
 }
 
@@ -125,6 +136,7 @@ impl<'a> Script<'a> {
 fn follow<K: Naming, R: Wait + Abort>(
     rt: &R,
     session: &mut Session<K>,
+    debts: &mut Debts<K>,
     place: usize,
     step: Step,
     log: &[Event],
@@ -135,7 +147,11 @@ fn follow<K: Naming, R: Wait + Abort>(
         | Step::Poll(request, answer)
         | Step::Admit(request, answer)
         | Step::Release(request, answer) => {
-            assert_eq!(rt; call(rt, session, request, step), answer, "step {place}");
+            assert_eq!(rt;
+                call(rt, session, debts, request, step),
+                answer,
+                "step {place}"
+            );
         }
         Step::BeginWithEvent(request, answer, event) => {
             assert!(rt; (request as usize) < session.requests.len());
@@ -165,7 +181,7 @@ fn follow<K: Naming, R: Wait + Abort>(
             assert!(rt; count <= rest.len());
             copy(rt, session, place, from, room, &rest[..count]);
         }
-        _ => follow_station(rt, session, place, step),
+        _ => follow_station(rt, session, debts, place, step),
     }
 }
 
@@ -173,17 +189,26 @@ fn follow<K: Naming, R: Wait + Abort>(
 fn call<K: Naming, R: Wait + Abort>(
     rt: &R,
     session: &mut Session<K>,
+    debts: &mut Debts<K>,
     request: u32,
     step: Step,
 ) -> Answer {
     assert!(rt; (request as usize) < session.requests.len());
     let request = &mut session.requests[request as usize];
     match step {
-        Step::TryAdmit(..) => request.try_admit(&session.level),
+        Step::TryAdmit(..) => {
+            let (answer, owes) = request.try_admit(&session.level);
+            debts.keep(rt, &session.level, owes);
+            answer
+        }
         Step::Begin(..) => request.begin(rt, &session.level),
         Step::Poll(..) => request.poll(rt, &session.level),
         Step::Admit(..) => request.admit(rt, &session.level),
-        Step::Release(..) => request.release(&session.level),
+        Step::Release(..) => {
+            let (answer, owes) = request.release(&session.level);
+            debts.keep(rt, &session.level, owes);
+            answer
+        }
         _ => Answer::Wrong,
     }
 }
@@ -192,6 +217,7 @@ fn call<K: Naming, R: Wait + Abort>(
 fn follow_station<K: Naming, R: Wait + Abort>(
     rt: &R,
     session: &mut Session<K>,
+    debts: &mut Debts<K>,
     place: usize,
     step: Step,
 ) {
@@ -200,20 +226,16 @@ fn follow_station<K: Naming, R: Wait + Abort>(
     match step {
         Step::Cancel(request, decision) => {
             assert!(rt; (request as usize) < session.requests.len());
-            assert_eq!(rt;
-                caller.cancel(&session.level, request),
-                decision,
-                "step {place}"
-            );
+            let (told, owed) = caller.cancel(&session.level, request);
+            debts.keep_strike(rt, &session.level, owed);
+            assert_eq!(rt; told, decision, "step {place}");
         }
         Step::Close(close) => assert_eq!(rt; caller.close(&session.level), close, "step {place}"),
         Step::TryLimit(limit, answer) => {
             assert!(rt; (1..=10_000).contains(&limit));
-            assert_eq!(rt;
-                caller.try_set_limit(&session.level, limit),
-                answer,
-                "step {place}"
-            );
+            let (told, owes) = caller.try_set_limit(&session.level, limit);
+            debts.keep(rt, &session.level, owes);
+            assert_eq!(rt; told, answer, "step {place}");
         }
         Step::Limit(limit, old) => {
             assert!(rt; (1..=10_000).contains(&limit));

@@ -113,12 +113,20 @@ fn wake<K: Naming, R: Wait + Abort>(
     assert_eq!(rt; sleepers.woken.load(Ordering::SeqCst), 0);
     match sleepers.call {
         Call::Dispatch => {
-            assert_eq!(rt; request.release(level), Answer::Released(true));
-            assert_eq!(rt; level.lock(rt).dispatch(rt), sleepers.count);
+            let (answer, owes) = request.release(level);
+            assert_eq!(rt; answer, Answer::Released(true));
+            match owes.left() {
+                Some(owed) => {
+                    assert_eq!(rt; owed.dispatch(rt, &mut level.lock(rt)), sleepers.count);
+                }
+                None => panic!(rt; "a dispatch is owed"),
+            }
         }
         Call::Cancel => {
-            let decision = caller.lock(rt).cancel(level, 1);
+            let (decision, owed) = caller.lock(rt).cancel(level, 1);
             assert_eq!(rt; decision, Decision::Cancelled);
+            assert!(rt; sleepers.wait_for_waking(), "it sleeps on");
+            level.strike_if_owed(rt, owed);
         }
     }
     assert!(rt; sleepers.wait_for_waking(), "it sleeps on");

@@ -8,6 +8,7 @@ use crate::scenes::{Scene, run};
 use apf_level::{Level, Naming};
 use apf_rounds::{ENOUGH, MOST_LEVELS, MOST_TURNS};
 use apf_session::{Answer, OpenFault, Request, Session};
+use std::sync::Wait;
 use std::sync::atomic::{AtomicU64, Ordering};
 use std::thread;
 use std::thread::Threads;
@@ -38,27 +39,31 @@ impl Takers {
     }
 
     /// Each request takes its seats and gives them back, in four threads at most.
-    pub fn play<K: Naming, R: Threads + Sync>(&self, rt: &R, session: &mut Session<K>) {
+    pub fn play<K: Naming, R: Threads + Wait + Sync>(&self, rt: &R, session: &mut Session<K>) {
         serve_all(rt, &session.level, self, session.requests.as_mut_slice());
     }
 }
 
 // The request runs, and gives its seats back.
-fn work<K: Naming>(level: &Level<K>, takers: &Takers, request: &mut Request<K>) {
+fn work<K: Naming, R: Wait>(rt: &R, level: &Level<K>, takers: &Takers, request: &mut Request<K>) {
     if takers.crowd.run(takers.together) {
         takers.met.fetch_add(1, Ordering::SeqCst);
     }
-    if request.release(level) == Answer::Released(false) {
+    let (answer, owes) = request.release(level);
+    if answer == Answer::Released(false) {
         takers.released.fetch_add(1, Ordering::SeqCst);
     }
+    level.dispatch_if_owed(rt, owes);
 }
 
 // The request tries to be admitted until it runs, in at most this many turns.
-fn serve<K: Naming>(level: &Level<K>, takers: &Takers, request: &mut Request<K>) {
+fn serve<K: Naming, R: Wait>(rt: &R, level: &Level<K>, takers: &Takers, request: &mut Request<K>) {
     for _turn in 0..MOST_TURNS {
-        match request.try_admit(level) {
+        let (answer, owes) = request.try_admit(level);
+        level.dispatch_if_owed(rt, owes);
+        match answer {
             Answer::Run => {
-                work(level, takers, request);
+                work(rt, level, takers, request);
                 return;
             }
             Answer::Busy => {
@@ -71,7 +76,7 @@ fn serve<K: Naming>(level: &Level<K>, takers: &Takers, request: &mut Request<K>)
 }
 
 // Each request is served, in four threads at most.
-fn serve_all<K: Naming, R: Threads + Sync>(
+fn serve_all<K: Naming, R: Threads + Wait + Sync>(
     rt: &R,
     level: &Level<K>,
     takers: &Takers,
@@ -79,7 +84,12 @@ fn serve_all<K: Naming, R: Threads + Sync>(
 )
     ensures { length requests.new ≡ length requests.old }
 {
-    thread::for_each_mut(rt, requests, 4, &|_, request| serve(level, takers, request));
+    thread::for_each_mut(
+        rt,
+        requests,
+        4,
+        &|_, request| serve(rt, level, takers, request),
+    );
 }
 
 // At most two run at once, and two do. Some are told that there is no room. Nobody waits.

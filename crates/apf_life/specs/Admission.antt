@@ -6,8 +6,8 @@ use Rattle.apf_words.specs.declared.decision.Decision.TheVariants as decisions
 use Rattle.apf_gate.specs.declared.record.PassRecord.{PassRecord}
 use Rattle.apf_gate.specs.declared.record.State.TheVariants.{Fresh}
 use Rattle.apf_gate.specs.Records.{told_own, own_width}
-use Rattle.apf_gate.specs.declared.answers.TrySetLimit.{TrySetLimit}
-use Rattle.apf_gate.specs.declared.answers.TrySetLimit.TheVariants as setting
+use Rattle.apf_gate.specs.declared.answers.Cancel.{Cancel}
+use Rattle.apf_gate.specs.declared.answers.Cancel.TheVariants as cancels
 use Rattle.apf_gate.specs.Slots.{next_of}
 use Rattle.apf_gate.specs.Tokens.{PassToken, pass_gate}
 use Rattle.apf_gate.specs.PassSteps.{PassLoadsDecision, PassRenews}
@@ -109,15 +109,20 @@ TriesToAdmit pass (tried.Over token decision waiters) =
     ⊎ ((level : Level) × (waiters ≡ not (level.waiters == 0)) × TakesAndLoses pass decision level token.pass)))
 TriesToAdmit pass (tried.Busy a) = FindsBusy pass a.token.pass
 
--- whether requests waited when seats were given back, or the limit was set: then a dispatch is owed
+-- whether requests waited when seats were given back: then a dispatch is owed
 abbrev pub owed_by_try : TryAdmit → Bool
 owed_by_try (tried.Run token) = false
 owed_by_try (tried.Over token decision waiters) = waiters
 owed_by_try (tried.Busy a) = false
 
-abbrev pub owed_by_setting : TrySetLimit → Bool
-owed_by_setting (setting.Set old waiters) = waiters
-owed_by_setting setting.Raced = false
+-- the request whose strike is owed, once a cancel answered so of it: one that is cancelled and holds its slot, and no other
+abbrev pub strike_owed : Cancel → ℕ → Option ℕ
+strike_owed (cancels.Is decisions.Execute) r = None
+strike_owed (cancels.Is decisions.QueueFull) r = None
+strike_owed (cancels.Is decisions.Closed) r = None
+strike_owed (cancels.Is decisions.ConcurrencyLimit) r = None
+strike_owed (cancels.Is decisions.Cancelled) r = Some r
+strike_owed cancels.Other r = None
 
 -- the answer says that the level was open
 abbrev pub SaysOpen : TryAdmit → Type 0

@@ -16,10 +16,11 @@ ghost use Rattle.apf_life.specs.Releases.{Executes, ReleasesMeasured};
 use crate::answers::{Tried, TryAdmit};
 use crate::level::Level;
 use crate::naming::Naming;
-use crate::owing::Owes;
+use crate::owing::{Owes, owes_if};
 use crate::shared::Shared;
 use crate::tokens::{Done, Pass, Running};
 use apf_gate::TryTake;
+use apf_level::Owing;
 use apf_words::Decision;
 use std::sync::Wait;
 
@@ -75,7 +76,7 @@ impl<K: Naming> Level<K> {
     {
         let _number = pass.number();
         if let Some(decision) = self.gate.told(pass) {
-            return (Tried::Over(decision, false), Owes::nothing());
+            return (Tried::Over(decision, false), Owing::nothing());
         }
         self.take(pass)
     }
@@ -155,7 +156,7 @@ impl<K: Naming> Level<K> {
         ensures told { told_own pass.new.pass ≡ Some Execute }
         ensures answer { (level : Word) × PassSubtractsLevel pass.old.pass level pass.new.pass × (result ≡ not (level.waiters == 0)) }
     {
-        Owes::of(self.gate.release(pass))
+        owes_if(self.gate.release(pass))
     }
 
     /// As `release`, of a request that ran this many microseconds. If it was dispatched from a queue, what it took is settled
@@ -200,7 +201,7 @@ impl<K: Naming> Level<K> {
             return self.give_back(pass);
         }
         self.lock(rt).finish(rt, pass, micros);
-        Owes::nothing()
+        Owing::nothing()
     }
 }
 
@@ -209,7 +210,7 @@ fn owes_of<K: Naming>(tried: Tried) -> Owes<K>
     ensures { result ≡ owed_by tried }
 {
     match tried {
-        Tried::Over(_decision, waiting) => Owes::of(waiting),
-        Tried::Run | Tried::Blocked | Tried::Raced => Owes::nothing(),
+        Tried::Over(_decision, waiting) => owes_if(waiting),
+        Tried::Run | Tried::Blocked | Tried::Raced => Owing::nothing(),
     }
 }

@@ -4,7 +4,7 @@
 //!
 //! - `naming`: which level a type is of.
 //! - `tokens`: a slot, by what became of its request so far. `answers`: what calls answer.
-//! - `owing`: what is owed to those who wait, once room was made.
+//! - `owing`: what is owed once room was made, or a request was cancelled.
 //! - `queued`: what stands under the lock of a level with queues. `unqueued`: of one without. `shared`: the lock of either.
 //! - `level`: the level, and how it begins.
 //! - `renewing`: a slot goes on to its next request.
@@ -36,5 +36,5 @@ pub use apf_line::{
 pub use level::{Level, LevelFault, Opened};
 pub use locked::Locked;
 pub use naming::Naming;
-pub use owing::{Owed, Owes};
+pub use owing::{Owed, OwedStrike, Owes};
 pub use tokens::{Done, Pass, Running, Waiting};

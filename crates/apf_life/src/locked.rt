@@ -1,6 +1,6 @@
 //! The level's lock, and the calls that take it and own no Pass.
 
-ghost use Rattle.std.specs.Prelude.{◌≡◌, ◌≤◌, Some};
+ghost use Rattle.std.specs.Prelude.{◌≡◌, ◌≤◌, false, Some, IfNone};
 ghost use Rattle.apf_words.specs.Limits.{max_limit};
 ghost use Rattle.apf_gate.specs.Slots.{IsTicket};
 ghost use Rattle.apf_words.specs.declared.decision.Decision.TheVariants.{Execute};
@@ -15,7 +15,7 @@ ghost use Rattle.apf_life.specs.Sections.{IsCopied, AreStatsOf};
 
 use crate::level::Level;
 use crate::naming::Naming;
-use crate::owing::Owes;
+use crate::owing::{OwedStrike, Owes};
 use crate::queued::Queued;
 use crate::shared::Shared;
 use apf_book::{Copied, LifeEvent, LifeStats};
@@ -148,6 +148,17 @@ impl<K: Naming> Level<K> {
     pub fn dispatch_if_owed<R: Wait>(&self, rt: &R, owes: Owes<K>) {
         if let Some(owed) = owes.left() {
             owed.dispatch(rt, &mut self.lock(rt));
+        }
+    }
+
+    /// Strikes the request out of its queue, if that is owed and it waits, and dispatches then. Says whether it struck. It
+    /// takes the lock only where a strike is owed.
+    pub fn strike_if_owed<R: Wait>(&self, rt: &R, owed: Option<OwedStrike<K>>) -> bool
+        ensures none { IfNone owed (result ≡ false) }
+    {
+        match owed {
+            Some(owed) => owed.strike(rt, &mut self.lock(rt)),
+            None => false,
         }
     }
 

@@ -1,66 +1,19 @@
-//! What is owed to those who wait, once room was made for them.
+//! What is owed to those who wait, once room was made for them, and to a request that was cancelled.
 
-ghost use Rattle.std.specs.Prelude.{◌≡◌, true, false, IfNone, IfSome};
-ghost use Rattle.apf_life.specs.Locked.{DispatchesUnder};
+ghost use Rattle.std.specs.Prelude.{◌≡◌};
+ghost use Rattle.apf_gate.specs.Slots.{IsTicket};
+ghost use Rattle.apf_life.specs.Locked.{DispatchesUnder, StrikesUnder};
 
 use crate::locked::Locked;
 use crate::naming::Naming;
+use apf_gate::Ticket;
+use apf_level::Owing;
 use std::marker::{Model, PhantomData};
 use std::sync::Wait;
 
 /// Whether requests waited at the level that K names when room was made there. If so, whoever made it owes them a
 /// dispatch. It must be spent, by `Level::dispatch_if_owed` or by `left`, so that nobody forgets the dispatch.
-pub struct Owes<K: Naming> {
-    waiting: bool,
-    of: PhantomData<K>,
-}
-
-impl<K: Naming> Model for Owes<K> {
-    ghost use Rattle.std.specs.Prelude.{Bool};
-
-    ghost Value = { Bool };
-
-    ghost view = { λ o. o.waiting };
-}
-
-impl<K: Naming> Owes<K> {
-    /// Nothing is owed: no room was made.
-    pub fn nothing() -> Owes<K>
-        ensures { result ≡ false }
-    {
-        Owes::of(false)
-    }
-
-    // Room was made while requests waited, or while nobody did.
-    pub(crate) fn of(waiting: bool) -> Owes<K>
-        ensures { result ≡ waiting }
-    {
-        Owes {
-            waiting,
-            of: PhantomData,
-        }
-    }
-
-    /// Whether a dispatch is owed.
-    pub fn waits(&self) -> bool
-        ensures { result ≡ self.now }
-    {
-        self.waiting
-    }
-
-    /// The dispatch that is owed, if one is.
-    pub fn left(self) -> Option<Owed<K>>
-        ensures none { IfNone result (self ≡ false) }
-        ensures some { IfSome result (λ _. self ≡ true) }
-    {
-        let Owes { waiting, of: _ } = self;
-        if waiting {
-            Some(Owed { of: PhantomData })
-        } else {
-            None
-        }
-    }
-}
+pub type Owes<K> = Owing<Owed<K>>;
 
 /// A dispatch that is owed at the level that K names. It must be spent, and only a dispatch under that level's lock takes
 /// it.
@@ -75,5 +28,55 @@ impl<K: Naming> Owed<K> {
     {
         let Owed { of: _ } = self;
         locked.dispatch(rt)
+    }
+}
+
+/// Room was made while requests waited, or while nobody did.
+pub fn owes_if<K: Naming>(waiting: bool) -> Owes<K>
+    ensures { result ≡ waiting }
+{
+    if waiting {
+        Owing::of(Some(Owed { of: PhantomData }))
+    } else {
+        Owing::nothing()
+    }
+}
+
+/// The strike of a request of the level that K names, which is owed since the request is cancelled. It must be spent, and
+/// only a strike of that request under that level's lock takes it.
+pub struct OwedStrike<K: Naming> {
+    request: Ticket,
+    of: PhantomData<K>,
+}
+
+impl<K: Naming> Model for OwedStrike<K> {
+    ghost use Rattle.std.specs.Prelude.{ℕ};
+    ghost use Rattle.apf_gate.specs.Slots.{IsTicket};
+
+    ghost Value = { ℕ };
+
+    ghost view = { λ o. o.request.number };
+
+    ghost invariant = { λ o. IsTicket K.level.gate.shape o.request.number };
+}
+
+impl<K: Naming> OwedStrike<K> {
+    // The strike of this request is owed.
+    pub(crate) fn of(request: Ticket) -> OwedStrike<K>
+        requires { IsTicket K.level.gate.shape request.number }
+        ensures { result ≡ request.number }
+    {
+        OwedStrike {
+            request,
+            of: PhantomData,
+        }
+    }
+
+    /// Strikes the request out of its queue under the lock, if it waits, and dispatches then. Says whether it struck.
+    pub fn strike<R: Wait>(self, rt: &R, locked: &mut Locked<'_, K>) -> bool
+        ensures answer { StrikesUnder locked.old self result locked.new }
+    {
+        let OwedStrike { request, of: _ } = self;
+        locked.strike(rt, request)
     }
 }

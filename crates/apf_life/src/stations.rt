@@ -7,13 +7,14 @@ ghost use Rattle.apf_gate.specs.StationSteps.{StationLoadsLevel};
 ghost use Rattle.apf_gate.specs.StationCalls.{TriesToRead, TriesToCancel, ClosesTo, TriesToSet};
 ghost use Rattle.apf_gate.specs.StationResults.{SameStation, AfterLook, AfterTryRead, AfterTryCancel, AfterClose};
 ghost use Rattle.apf_gate.specs.Tokens.{station_gate};
-ghost use Rattle.apf_life.specs.Admission.{owed_by_setting};
+ghost use Rattle.apf_level.specs.Owing.{owed_by_setting};
+ghost use Rattle.apf_life.specs.Admission.{strike_owed};
 
 use crate::level::Level;
 use crate::naming::Naming;
-use crate::owing::Owes;
+use crate::owing::{OwedStrike, Owes, owes_if};
 use apf_gate::{Cancel, Close, Read, Station, Ticket, TrySetLimit};
-use apf_words::LevelWord;
+use apf_words::{Decision, LevelWord};
 
 impl<K: Naming> Level<K> {
     /// Whether this is the ticket of a request that there may be at this level: a ticket that came from outside is
@@ -35,6 +36,33 @@ impl<K: Naming> Level<K> {
         ensures after { AfterTryCancel station.old.station ticket.number result station.new.station }
     {
         self.gate.cancel(station, ticket)
+    }
+
+    /// As `cancel`. Where the request is cancelled and holds its slot its strike is owed, since it may stand in a queue.
+    pub fn cancel_owing(
+        &self,
+        station: &mut Station,
+        ticket: Ticket,
+    ) -> (Cancel, Option<OwedStrike<K>>)
+        requires own { station_gate station.old ≡ K.level.gate }
+        requires is_request { IsTicket K.level.gate.shape ticket.number }
+        ensures same { SameStation station.old station.new }
+        ensures answer { TriesToCancel station.old.station ticket.number result.0 station.new.station }
+        ensures after { AfterTryCancel station.old.station ticket.number result.0 station.new.station }
+        ensures owes { result.1 ≡ strike_owed result.0 ticket.number }
+    {
+        let answer = self.cancel(station, ticket);
+        let owed = match answer {
+            Cancel::Is(Decision::Cancelled) => Some(OwedStrike::of(ticket)),
+            Cancel::Is(
+                Decision::Execute
+                | Decision::QueueFull
+                | Decision::Closed
+                | Decision::ConcurrencyLimit,
+            )
+            | Cancel::Other => None,
+        };
+        (answer, owed)
     }
 
     /// Reads a request's decision, by one load of the word of its slot, if it holds that still. `Other` says that
@@ -84,6 +112,6 @@ impl<K: Naming> Level<K> {
             TrySetLimit::Set(_old, waiting) => waiting,
             TrySetLimit::Raced => false,
         };
-        (tried, Owes::of(waiting))
+        (tried, owes_if(waiting))
     }
 }

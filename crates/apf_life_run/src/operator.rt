@@ -4,13 +4,14 @@ ghost use Rattle.std.specs.Prelude.{◌≡◌, ◌≢◌, [], true, IsTrue, None
 ghost use Rattle.apf_gate.specs.Records.{told_of};
 ghost use Rattle.apf_gate.specs.Slots.{IsTicket};
 ghost use Rattle.apf_gate.specs.Tokens.{station_gate};
+ghost use Rattle.apf_life.specs.Admission.{strike_owed};
 ghost use Rattle.apf_run.specs.Plans.{SomeCloses};
 ghost use Rattle.apf_life_run.specs.Plans.{IsNamedIn, IsFaithful};
 ghost use Rattle.apf_life_run.specs.Workers.{KeepsKnowing};
 
 use crate::plan::Plan;
 use apf_gate::{Cancel, Read, Station, Ticket};
-use apf_life::Level;
+use apf_life::{Level, OwedStrike};
 use std::marker::{Model, PhantomData};
 use std::sync::Wait;
 
@@ -72,13 +73,15 @@ impl<K: Plan> Operator<K> {
         }
     }
 
-    /// Cancels a request in a slot that a request names, if it is undecided and holds the slot still.
-    pub fn cancel(&mut self, level: &Level<K>, request: Ticket) -> Cancel
+    /// Cancels a request in a slot that a request names, if it is undecided and holds the slot still. Where it is cancelled
+    /// its strike is owed.
+    pub fn cancel(&mut self, level: &Level<K>, request: Ticket) -> (Cancel, Option<OwedStrike<K>>)
         requires is_request { IsTicket K.level.gate.shape request.number }
         requires named { IsNamedIn K.requests K.rounds request.number }
         ensures knows { KeepsKnowing self.old self.new }
+        ensures owes { result.1 ≡ strike_owed result.0 request.number }
     {
-        level.cancel(&mut self.station, request)
+        level.cancel_owing(&mut self.station, request)
     }
 
     /// Closes the level, as a request says.

@@ -167,8 +167,8 @@ fn finish<K: Plan, W: Work, R: Wait>(
         Admit::Run(running) => {
             job.work.work(&running, request.work);
             if let Some(other) = job.named_by(request) {
-                operator.cancel(job.level, other);
-                job.level.lock(rt).strike(rt, other);
+                let (_answer, owed) = operator.cancel(job.level, other);
+                job.level.strike_if_owed(rt, owed);
             }
             release(rt, job.level, running)
         }

@@ -50,7 +50,7 @@ mod token;
 
 pub use answer::{Answer, Place};
 pub use apf_book::Settling;
-pub use apf_life::{Owed, Owes};
+pub use apf_life::{Owed, OwedStrike, Owes};
 pub use fault::OpenFault;
 pub use opening::Opening;
 pub use operator::Operator;

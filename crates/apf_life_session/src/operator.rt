@@ -8,10 +8,13 @@ ghost use Rattle.apf_gate.specs.StationCalls.{TriesToRead, TriesToCancel, Closes
 ghost use Rattle.apf_gate.specs.StationResults.{AfterTryRead, AfterTryCancel};
 ghost use Rattle.apf_gate.specs.Tokens.{station_gate};
 ghost use Rattle.apf_level.specs.Limits.{LastSet};
-ghost use Rattle.apf_life.specs.Admission.{owed_by_setting};
+ghost use Rattle.apf_level.specs.Owing.{owed_by_setting};
+ghost use Rattle.apf_life.specs.Admission.{strike_owed};
+ghost use Rattle.apf_life_session.specs.Requests.{number_in};
 
+use crate::request::Request;
 use apf_gate::{Cancel, Close, Read, Station, Ticket, TrySetLimit};
-use apf_life::{Level, Naming, Owes};
+use apf_life::{Level, Naming, OwedStrike, Owes};
 use apf_words::LevelWord;
 use std::marker::{Model, PhantomData};
 use std::sync::Wait;
@@ -48,14 +51,23 @@ impl<K: Naming> Operator<K> {
 
     /// Cancels the request, if it is undecided and holds its slot. Answers its decision, or `Other`: another request
     /// holds the slot, so that this one is over, and nothing was written of anyone. One that waits still stands in its
-    /// queue: `Level::strike` takes it out.
-    pub fn cancel(&mut self, level: &Level<K>, request: Ticket) -> Cancel
+    /// queue: where it is cancelled its strike is owed, and `Level::strike_if_owed` takes it out.
+    pub fn cancel(&mut self, level: &Level<K>, request: Ticket) -> (Cancel, Option<OwedStrike<K>>)
         requires { IsTicket K.level.gate.shape request.number }
         ensures number { self.new.station.number ≡ self.old.station.number }
-        ensures answer { TriesToCancel self.old.station request.number result self.new.station }
-        ensures after { AfterTryCancel self.old.station request.number result self.new.station }
+        ensures answer { TriesToCancel self.old.station request.number result.0 self.new.station }
+        ensures after { AfterTryCancel self.old.station request.number result.0 self.new.station }
+        ensures owes { result.1 ≡ strike_owed result.0 request.number }
     {
-        level.cancel(&mut self.station, request)
+        level.cancel_owing(&mut self.station, request)
+    }
+
+    // Cancels a request that is brought to its end next, if it is undecided. As that reads its decision, it leaves its queue.
+    pub(crate) fn cancel_before_end(&mut self, level: &Level<K>, request: &Request<K>) -> Cancel
+        ensures number { self.new.station.number ≡ self.old.station.number }
+        ensures answer { TriesToCancel self.old.station (number_in request.now) result self.new.station }
+    {
+        level.cancel(&mut self.station, request.ticket())
     }
 
     /// Reads the request's decision, if it holds its slot.

@@ -16,6 +16,7 @@ ghost use Rattle.apf_life_session.specs.Requests.{number_in, place_of, Answers, 
 use crate::answer::{Answer, Place};
 use apf_book::LifeEvent;
 use apf_gate::Ticket;
+use apf_level::Owing;
 use apf_life::{Begun, Done, Level, Naming, Owes, Poll, Running, Tried, Waiting};
 use apf_model::Ask;
 use std::marker::{Model, PhantomData};
@@ -196,10 +197,10 @@ impl<K: Naming> Request<K> {
         ensures owes { result.1 ≡ owed_by result.0 }
     {
         if self.place != Place::Free {
-            return (Answer::Wrong, Owes::nothing());
+            return (Answer::Wrong, Owing::nothing());
         }
         if !level.renew_slot(&mut self.pass, ask, ask.width) {
-            return (Answer::Spent, Owes::nothing());
+            return (Answer::Spent, Owing::nothing());
         }
         self.entered = false;
         let (tried, owes) = level.attempt(&mut self.pass);
@@ -246,7 +247,7 @@ impl<K: Naming> Request<K> {
         ensures owes { result.1 ≡ owed_by result.0 }
     {
         if self.place != Place::Runs {
-            return (Answer::Wrong, Owes::nothing());
+            return (Answer::Wrong, Owing::nothing());
         }
         let owes = level.give_back(&mut self.pass);
         self.place = Place::Free;

@@ -22,7 +22,6 @@ use apf_book::{LifeEvent, Settling};
 use apf_gate::{Cancel, Close, Station, Ticket};
 use apf_life::{Done, Level, Naming, Opened, Report};
 use apf_model::Ask;
-use apf_words::Decision;
 use std::alloc::{AllocError, Global};
 use std::sync::Wait;
 
@@ -94,7 +93,7 @@ fn cancel_if_waiting<K: Naming>(level: &Level<K>, operator: &mut Operator<K>, re
     ensures cancels { CancelsThese (waiting (request.now ∷ [])) operator.old.station operator.new.station }
 {
     if request.place() == Place::Waits {
-        operator.cancel(level, request.ticket());
+        operator.cancel_before_end(level, request);
     }
 }
 
@@ -291,10 +290,8 @@ impl<K: Naming> Session<K> {
         ensures others { StayButFirst self.old.operators.items self.new.operators.items }
         ensures same { self.new.slots.items ≡ self.old.slots.items }
     {
-        let answer = self.operators[0].cancel(&self.level, request);
-        if answer == Cancel::Is(Decision::Cancelled) {
-            self.level.lock(rt).strike(rt, request);
-        }
+        let (answer, owed) = self.operators[0].cancel(&self.level, request);
+        self.level.strike_if_owed(rt, owed);
         answer
     }
 

@@ -140,14 +140,13 @@ fn cancel<K: Naming, R: Wait>(
     if round == 0 || round > ROUNDS || !level.knows(ticket) {
         return;
     }
-    match operator.lock(rt).cancel(level, ticket) {
+    let (answer, owed) = operator.lock(rt).cancel(level, ticket);
+    level.strike_if_owed(rt, owed);
+    match answer {
         Cancel::Is(decision) => board.note(slot, round, decision, true),
         Cancel::Other => {
             board.late.fetch_add(1, Ordering::SeqCst);
         }
-    }
-    if back == 0 {
-        level.lock(rt).strike(rt, ticket);
     }
 }
 

@@ -2,11 +2,12 @@
 
 ghost use Rattle.std.specs.Prelude.{◌≡◌, ◌<◌, [], length, true};
 ghost use Rattle.apf_gate.specs.Tokens.{station_gate};
+ghost use Rattle.apf_level.specs.Owing.{strike_owed};
 ghost use Rattle.apf_run.specs.Plans.{IsNamed, SomeCloses, IsFaithful};
 
 use crate::plan::Plan;
 use apf_gate::Station;
-use apf_level::Level;
+use apf_level::{Level, OwedStrike};
 use apf_words::Decision;
 use std::marker::{Model, PhantomData};
 
@@ -41,13 +42,15 @@ impl<K: Plan> Operator<K> {
         }
     }
 
-    /// Cancels a request that another one names, if it is undecided. Answers its decision.
-    pub fn cancel(&mut self, level: &Level<K>, request: u32) -> Decision
+    /// Cancels a request that another one names, if it is undecided. Answers its decision. Where it is cancelled its strike
+    /// is owed.
+    pub fn cancel(&mut self, level: &Level<K>, request: u32) -> (Decision, Option<OwedStrike<K>>)
         requires is_request { request < length K.level.gate.shape.widths }
         requires named { IsNamed K.requests request }
         ensures stays_closed { self.old.station.knows.saw_closed ≡ true → self.new.station.knows.saw_closed ≡ true }
+        ensures owes { result.1 ≡ strike_owed result.0 request }
     {
-        level.cancel(&mut self.station, request)
+        level.cancel_owing(&mut self.station, request)
     }
 
     /// Closes the level, as a request says.

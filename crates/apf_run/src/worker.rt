@@ -107,8 +107,8 @@ fn handle<K: Plan, W: Work, R: Wait>(
         Admit::Run(running) => {
             job.work.work(&running, request.work);
             if let Some(other) = job.named_by(request) {
-                operator.cancel(job.level, other);
-                job.level.lock(rt).strike(rt, other);
+                let (_decision, owed) = operator.cancel(job.level, other);
+                job.level.strike_if_owed(rt, owed);
             }
             release(rt, job.level, running)
         }

@@ -130,6 +130,16 @@ ReleasesAs (tokens.Running pass) answer token' = (done : PassToken) × (level : 
 ReleasesAs (tokens.Done pass) answer token' = Unit {0}
 ReleasesAs tokens.Gone answer token' = Unit {0}
 
+-- whether requests waited when seats were given back: then a dispatch is owed
+abbrev pub owed_by : Answer → Bool
+owed_by answers.Run = false
+owed_by (answers.Over decision) = false
+owed_by (answers.Tried decision waiting) = waiting
+owed_by answers.Busy = false
+owed_by answers.Waits = false
+owed_by (answers.Released waiting) = waiting
+owed_by answers.Wrong = false
+
 -- the decision that a request was told, once it executes or is over
 abbrev pub told_by : Token → Option Decision
 told_by (tokens.Fresh pass) = None

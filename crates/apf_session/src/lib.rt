@@ -62,6 +62,7 @@ mod session;
 mod token;
 
 pub use answer::{Answer, Place};
+pub use apf_level::{Owed, OwedStrike, Owes};
 pub use fault::OpenFault;
 pub use follower::Follower;
 pub use opening::Opening;

@@ -7,9 +7,11 @@ ghost use Rattle.apf_gate.specs.StationSteps.{StationLoadsLevel};
 ghost use Rattle.apf_gate.specs.StationCalls.{CancelsTo, ClosesTo, TriesToSet};
 ghost use Rattle.apf_gate.specs.Tokens.{station_gate};
 ghost use Rattle.apf_level.specs.Limits.{LastSet};
+ghost use Rattle.apf_level.specs.Owing.{owed_by_setting, strike_owed};
 
+use crate::request::Request;
 use apf_gate::{Close, Station, TrySetLimit};
-use apf_level::{Level, Naming};
+use apf_level::{Level, Naming, OwedStrike, Owes};
 use apf_words::{Decision, LevelWord};
 use std::marker::{Model, PhantomData};
 use std::sync::Wait;
@@ -44,15 +46,24 @@ impl<K: Naming> Operator<K> {
         }
     }
 
-    /// Cancels the request, if it is undecided. Answers its decision. One that waits still stands in its queue:
-    /// `Level::strike` takes it out.
-    pub fn cancel(&mut self, level: &Level<K>, request: u32) -> Decision
+    /// Cancels the request, if it is undecided. Answers its decision. One that waits still stands in its queue: where it is
+    /// cancelled its strike is owed, and `Level::strike_if_owed` takes it out.
+    pub fn cancel(&mut self, level: &Level<K>, request: u32) -> (Decision, Option<OwedStrike<K>>)
         requires { request < length K.level.gate.shape.widths }
         ensures number { self.new.station.number ≡ self.old.station.number }
-        ensures answer { CancelsTo self.old.station request result self.new.station }
-        ensures told { told_of self.new.station.knows.told request ≡ Some result }
+        ensures answer { CancelsTo self.old.station request result.0 self.new.station }
+        ensures told { told_of self.new.station.knows.told request ≡ Some result.0 }
+        ensures owes { result.1 ≡ strike_owed result.0 request }
     {
-        level.cancel(&mut self.station, request)
+        level.cancel_owing(&mut self.station, request)
+    }
+
+    // Cancels a request that is brought to its end next, if it is undecided. As that reads its decision, it is struck.
+    pub(crate) fn cancel_before_end(&mut self, level: &Level<K>, request: &Request<K>) -> Decision
+        ensures number { self.new.station.number ≡ self.old.station.number }
+        ensures answer { CancelsTo self.old.station request.now.number result self.new.station }
+    {
+        level.cancel(&mut self.station, request.number())
     }
 
     /// Closes the level. Says whether this close was the first.
@@ -70,13 +81,14 @@ impl<K: Naming> Operator<K> {
         level.look(&mut self.station)
     }
 
-    /// Tries to set the limit, 1 to 10,000 seats. After `Set(_, true)` the caller owes a dispatch.
-    pub fn try_set_limit(&mut self, level: &Level<K>, limit: u32) -> TrySetLimit
+    /// Tries to set the limit, 1 to 10,000 seats. Where requests waited then, a dispatch is owed.
+    pub fn try_set_limit(&mut self, level: &Level<K>, limit: u32) -> (TrySetLimit, Owes<K>)
         requires some { 1 ≤ limit }
         requires small { limit ≤ max_limit }
-        ensures { TriesToSet self.old.station limit result self.new.station }
+        ensures answer { TriesToSet self.old.station limit result.0 self.new.station }
+        ensures owes { result.1 ≡ owed_by_setting result.0 }
     {
-        level.try_set_limit(&mut self.station, limit)
+        level.try_set_limit_owing(&mut self.station, limit)
     }
 
     /// Sets the limit, 1 to 10,000 seats, and dispatches. Answers the old one.

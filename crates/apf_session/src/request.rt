@@ -7,11 +7,11 @@ ghost use Rattle.apf_gate.specs.declared.record.State.TheVariants as states;
 ghost use Rattle.apf_gate.specs.Records.{told_own};
 ghost use Rattle.apf_gate.specs.Tokens.{pass_gate};
 ghost use Rattle.apf_session.specs.declared.answer.Place.TheVariants as places;
-ghost use Rattle.apf_session.specs.Requests.{place_of, told_by, Answers, LogsFor, SaysWhere, TriesAs, ReadsAs, ReleasesAs};
+ghost use Rattle.apf_session.specs.Requests.{place_of, told_by, Answers, LogsFor, SaysWhere, TriesAs, ReadsAs, ReleasesAs, owed_by};
 
 use crate::answer::{Answer, Place};
 use apf_gate::Pass;
-use apf_level::{Begun, Done, Level, Naming, Poll, Running, Tried, Waiting};
+use apf_level::{Begun, Done, Level, Naming, Owes, Owing, Poll, Running, Tried, Waiting};
 use apf_model::Event;
 use std::marker::{Model, PhantomData};
 use std::sync::Wait;
@@ -40,10 +40,8 @@ pub fn release<K: Naming, R: Wait>(rt: &R, level: &Level<K>, running: Running) -
     ensures same { result.pass.number ≡ running.pass.number }
     ensures told { told_own result.pass ≡ Some Execute }
 {
-    let (done, waiting) = level.release(running);
-    if waiting {
-        level.lock(rt).dispatch(rt);
-    }
+    let (done, owes) = level.release_owing(running);
+    level.dispatch_if_owed(rt, owes);
     done
 }
 
@@ -94,24 +92,27 @@ impl<K: Naming> Request<K> {
         self.place
     }
 
-    /// Admits it, if nobody waits and it fits. It takes no lock. Answers `Run`, `Tried` or `Busy`.
-    pub fn try_admit(&mut self, level: &Level<K>) -> Answer
-        ensures answers { Answers places.Away self.old result self.new }
-        ensures steps { TriesAs self.old.token result self.new.token }
+    /// Admits it, if nobody waits and it fits. It takes no lock. Answers `Run`, `Tried` or `Busy`. Where requests waited when
+    /// its seats were given back, a dispatch is owed.
+    pub fn try_admit(&mut self, level: &Level<K>) -> (Answer, Owes<K>)
+        ensures answers { Answers places.Away self.old result.0 self.new }
+        ensures steps { TriesAs self.old.token result.0 self.new.token }
+        ensures owes { result.1 ≡ owed_by result.0 }
     {
         if self.place != Place::Away {
-            return Answer::Wrong;
+            return (Answer::Wrong, Owing::nothing());
         }
-        match level.attempt(&mut self.pass) {
+        let (tried, owes) = level.attempt(&mut self.pass);
+        match tried {
             Tried::Run => {
                 self.place = Place::Runs;
-                Answer::Run
+                (Answer::Run, owes)
             }
             Tried::Over(decision, waiting) => {
                 self.place = Place::Over;
-                Answer::Tried(decision, waiting)
+                (Answer::Tried(decision, waiting), owes)
             }
-            Tried::Blocked | Tried::Raced => Answer::Busy,
+            Tried::Blocked | Tried::Raced => (Answer::Busy, owes),
         }
     }
 
@@ -211,17 +212,19 @@ impl<K: Naming> Request<K> {
         }
     }
 
-    /// A request that executes gives its seats back, by one step. Answers `Released`.
-    pub fn release(&mut self, level: &Level<K>) -> Answer
-        ensures answers { Answers places.Runs self.old result self.new }
-        ensures steps { ReleasesAs self.old.token result self.new.token }
+    /// A request that executes gives its seats back, by one step. Answers `Released`. Where requests waited then, a dispatch
+    /// is owed.
+    pub fn release(&mut self, level: &Level<K>) -> (Answer, Owes<K>)
+        ensures answers { Answers places.Runs self.old result.0 self.new }
+        ensures steps { ReleasesAs self.old.token result.0 self.new.token }
+        ensures owes { result.1 ≡ owed_by result.0 }
     {
         if self.place != Place::Runs {
-            return Answer::Wrong;
+            return (Answer::Wrong, Owing::nothing());
         }
-        let waiting = level.give_back(&mut self.pass);
+        let owes = level.give_back(&mut self.pass);
         self.place = Place::Over;
-        Answer::Released(waiting)
+        (Answer::Released(owes.waits()), owes)
     }
 
     /// A request that executes gives its seats back. Then requests that wait are dispatched. Answers `Released`.
@@ -229,10 +232,8 @@ impl<K: Naming> Request<K> {
         ensures answers { Answers places.Runs self.old result self.new }
         ensures steps { ReleasesAs self.old.token result self.new.token }
     {
-        let answer = self.release(level);
-        if answer == Answer::Released(true) {
-            level.lock(rt).dispatch(rt);
-        }
+        let (answer, owes) = self.release(level);
+        level.dispatch_if_owed(rt, owes);
         answer
     }
 

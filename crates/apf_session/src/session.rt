@@ -109,7 +109,7 @@ fn cancel_if_undecided<K: Naming>(
     ensures cancels { CancelsThese (undecided (request.now ∷ [])) operator.old.station operator.new.station }
 {
     if matches!(request.place(), Place::Away | Place::Waits) {
-        operator.cancel(level, request.number());
+        operator.cancel_before_end(level, request);
     }
 }
 
@@ -368,10 +368,8 @@ impl<K: Naming> Session<K> {
         ensures others { (i : ℕ) (d : StationToken) → i ≢ 0 → slice_index_or self.new.operators.items i d ≡ slice_index_or self.old.operators.items i d }
         ensures same { self.new.requests.items ≡ self.old.requests.items }
     {
-        let decision = self.operators[0].cancel(&self.level, request);
-        if decision == Decision::Cancelled {
-            self.level.lock(rt).strike(rt, request);
-        }
+        let (decision, owed) = self.operators[0].cancel(&self.level, request);
+        self.level.strike_if_owed(rt, owed);
         decision
     }
 

@@ -1,9 +1,9 @@
 //! The calls of the level, one after another.
 
-ghost use Rattle.std.specs.Prelude.{◌≡◌, ◌<◌, length};
+ghost use Rattle.std.specs.Prelude.{◌≡◌, length};
 
 use crate::answers::Answer;
-use apf_level::Naming;
+use apf_level::{Level, Naming, Owes};
 use apf_model::Event;
 use apf_session::Session;
 use std::sync::Wait;
@@ -18,16 +18,12 @@ fn copied<K: Naming, R: Wait>(rt: &R, session: &Session<K>) -> Answer {
     Answer::Copied(count, into)
 }
 
-// Strikes the request. The lock is given back at the end.
-fn struck<K: Naming, R: Wait>(rt: &R, session: &Session<K>, request: u32) -> Answer
-    requires { request < length K.level.gate.shape.widths }
-{
-    Answer::Struck(session.level.lock(rt).strike(rt, request))
-}
-
-// Dispatches. The lock is given back at the end.
-fn dispatched<K: Naming, R: Wait>(rt: &R, session: &Session<K>) -> Answer {
-    Answer::Dispatched(session.level.lock(rt).dispatch(rt))
+// Dispatches what is owed. The lock is given back at the end.
+fn dispatched<K: Naming, R: Wait>(rt: &R, level: &Level<K>, owes: Owes<K>) -> Answer {
+    match owes.left() {
+        Some(owed) => Answer::Dispatched(owed.dispatch(rt, &mut level.lock(rt))),
+        None => Answer::Dispatched(0),
+    }
 }
 
 /// Makes the calls on a level whose four requests did not arrive yet, and tells what they answered.
@@ -35,25 +31,37 @@ pub fn make<K: Naming, R: Wait>(rt: &R, session: &mut Session<K>) -> [Answer; CA
     requires requests { length K.level.gate.shape.widths ≡ 4 }
     requires one { K.level.gate.shape.stations ≡ 1 }
 {
+    let (tried, owes) = session.requests[0].try_admit(&session.level);
+    session.level.dispatch_if_owed(rt, owes);
+    let begun = [session.begin(rt, 1), session.begin(rt, 2)];
+    let polled = session.poll(rt, 1);
+    let (cancelled, owed) = session.operators[0].cancel(&session.level, 1);
+    let waits = session.look();
+    let struck = session.level.strike_if_owed(rt, owed);
+    let left = session.look();
+    let numbers = session.stats(rt);
+    let copied = copied(rt, session);
+    let (released, owes) = session.requests[0].release(&session.level);
+    let dispatched = dispatched(rt, &session.level, owes);
     [
-        session.requests[0].try_admit(&session.level).into(),
-        session.begin(rt, 1).into(),
-        session.begin(rt, 2).into(),
-        session.poll(rt, 1).into(),
-        Answer::Over(session.operators[0].cancel(&session.level, 1)),
-        Answer::Word(session.look()),
-        struck(rt, session, 1),
-        Answer::Word(session.look()),
-        Answer::Numbers(session.stats(rt)),
-        copied(rt, session),
-        session.requests[0].release(&session.level).into(),
-        dispatched(rt, session),
+        tried.into(),
+        begun[0].into(),
+        begun[1].into(),
+        polled.into(),
+        Answer::Over(cancelled),
+        Answer::Word(waits),
+        Answer::Struck(struck),
+        Answer::Word(left),
+        Answer::Numbers(numbers),
+        copied,
+        released.into(),
+        dispatched,
         Answer::Numbers(session.stats(rt)),
         session.poll(rt, 1).into(),
         session.poll(rt, 2).into(),
-        session.requests[2].release(&session.level).into(),
+        session.finish(rt, 2).into(),
         session.requests[3].admit(rt, &session.level).into(),
-        session.requests[3].release(&session.level).into(),
+        session.finish(rt, 3).into(),
         Answer::Closed(session.close()),
     ]
 }

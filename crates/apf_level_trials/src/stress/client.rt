@@ -65,16 +65,13 @@ impl<K: Naming> Client<K> {
 
     /// Tries to be admitted, and dispatches where it owes it.
     pub fn try_admit<R: Wait>(&mut self, rt: &R, level: &Level<K>) {
-        let answer = self.request.try_admit(level);
+        let (answer, owes) = self.request.try_admit(level);
         let takes = matches!(answer, Answer::Run);
-        let owes = matches!(answer, Answer::Tried(_, true));
         self.hear(answer);
         if takes {
             self.note.tried = true;
         }
-        if owes {
-            level.lock(rt).dispatch(rt);
-        }
+        level.dispatch_if_owed(rt, owes);
     }
 
     /// Arrives.

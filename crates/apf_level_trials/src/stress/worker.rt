@@ -102,14 +102,17 @@ impl<K: Naming> Worker<K> {
         stage.pick(later)
     }
 
-    // Cancels a request. Every other time it is struck too.
+    // Cancels a request, and strikes it. Every other time another thread may come to it in between.
     fn cancel<R: Wait>(&mut self, rt: &R, stage: &Stage<'_, K>, window: &[Client<K>]) {
         let Some(request) = self.whom(stage, window) else {
             return;
         };
-        let decision = self.operator.cancel(stage.level, request);
+        let (decision, owed) = self.operator.cancel(stage.level, request);
         self.note(Act::Cancel(request, decision));
-        if self.random.is_one_in(2) && stage.level.lock(rt).strike(rt, request) {
+        if self.random.is_one_in(2) {
+            thread::yield_now();
+        }
+        if stage.level.strike_if_owed(rt, owed) {
             self.note(Act::Strike(request));
         }
     }
@@ -119,13 +122,10 @@ impl<K: Naming> Worker<K> {
         requires some { 1 ≤ limit }
         requires small { limit ≤ 6 }
     {
-        match self.operator.try_set_limit(stage.level, limit) {
-            TrySetLimit::Set(old, waiting) => {
-                if waiting {
-                    stage.level.lock(rt).dispatch(rt);
-                }
-                Some(old)
-            }
+        let (tried, owes) = self.operator.try_set_limit(stage.level, limit);
+        stage.level.dispatch_if_owed(rt, owes);
+        match tried {
+            TrySetLimit::Set(old, _waiting) => Some(old),
             TrySetLimit::Raced => None,
         }
     }

@@ -3,4 +3,4 @@ use Rattle.apf_run.proofs.operator.Operator.cancel.Goals as goal
 
 pub invariant_of-self : goal.invariant_of-self
 invariant_of-self g c =
-    cancelled g.K.Naming.level.gate g.K.Plan.requests c.self.inside.station c.cancel.new.station c.args.request c.cancel.result c.self.invariant c.cancel.ensures.same.gate c.requires.named c.cancel.ensures.answer
+    cancelled g.K.Naming.level.gate g.K.Plan.requests c.self.inside.station c.cancel_owing.new.station c.args.request c.cancel_owing.result.0 c.self.invariant c.cancel_owing.ensures.same.gate c.requires.named c.cancel_owing.ensures.answer

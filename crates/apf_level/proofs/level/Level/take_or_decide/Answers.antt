@@ -4,7 +4,7 @@ use Rattle.apf_model.specs.declared.response.Response.TheVariants.{Queue, Reject
 use Rattle.apf_gate.specs.declared.record.Shape.{Shape}
 use Rattle.apf_gate.specs.Tokens.{GateId}
 use Rattle.apf_level.specs.Levels.{LevelId}
-use Rattle.apf_level.proofs.level.Level.take.Goals as goal
+use Rattle.apf_level.proofs.level.Level.take_or_decide.Goals as goal
 
 pub returns-else-eq-clause-steps : goal.returns-else-eq-clause-steps
 returns-else-eq-clause-steps g c = λ pass same reads.

@@ -16,8 +16,8 @@ no clock runs, a dispatch is charged a number that is known before, and no level
 
 CONFIG is that of apf replay; apf replay --help says what it holds.
 TRACE is JSON Lines: one JSON object a line, each line ended by LF, of at most 65536 bytes, in any
-order of time. Of more than 131072 lines, each may come up to 131072 places late. fates, timeline,
-picture, requests and hands take at most 10000 lines. At most 10000 requests may be there at once.
+order of time. Of more than 131072 lines, each may come up to 131072 places late. timeline, picture,
+requests and hands take at most 10000 lines. At most 10000 requests may be there at once.
 Requests are numbered from 0. Times are whole microseconds from the trace's beginning:
   arrivesAt         when the request arrives, 0 to 1000000000000; must be there
   runsFor           how long it holds its seats, 0 to 10000000000; must be there

@@ -307,6 +307,40 @@ def check_largest():
             tally.check(f"hands of 10,000 flows is small: {len(out)} bytes", len(out) < 10_000 * 500, True)
 
 
+def check_long():
+    """A trace of more lines than the reader holds: `fates` has a line for each request, in the order of the arrivals, and its numbers
+    are those of `simulate`. A fault behind as many lines as are held back comes after a beginning of that; one before them
+    comes alone. `timeline` and `picture` refuse so many requests."""
+    times = random.Random(seed)
+    form = '{"hash":%d,"arrivesAt":%d,"runsFor":%d}\n'
+    drawn = [(times.randrange(200), 10 * number + times.randrange(5_000), times.randrange(150)) for number in range(150_000)]
+    content = "".join(form % it for it in drawn).encode()
+    config = b'{"limit":6,"queues":8,"handSize":2,"queueLengthLimit":20}'
+    (status, out, err), took = processor_seconds(lambda: printed("fates", [config, content], "1ms"))
+    tally.check("fates of 150,000 requests", (status, err), (0, b""))
+    tally.check(f"fates of 150,000 requests in well under ten seconds: {took:.2f} s", took < 10, True)
+    fates = Fates(lines_of(out))
+    tally.check("each of the lines has its form", fates.are_formed, True)
+    meant = [(at, number) for at, number in sorted((at, number) for number, (_, at, _) in enumerate(drawn))]
+    tally.check("the 150,000 are in the order of the arrivals", [(int(it["arrival"]), int(it["request"])) for it in fates.rows] == meant, True)
+    tally.check("each is of its request", all((int(it["flow"], 16), it["start"] == "-" or int(it["start"]) + drawn[int(it["request"])][2] == int(it["end"])) == (drawn[int(it["request"])][0], True) for it in fates.rows), True)
+    count = {name: sum(it["decision"] in names for it in fates.rows) for name, names in (("executed", ["execute"]), ("rejected", ["queue-full"]), ("cancelled", ["cancelled"]))}
+    _, whole, _ = printed("simulate", [config, content], "1ms")
+    book = whole.decode().split("\n")
+    tally.check("they sum to the book of `simulate`", all(any(f"{name} {number}" in line for line in book[-5:]) for name, number in count.items()) and min(count.values()) > 100, True)
+    for place, begins in ((131_000, False), (140_000, True)):
+        lines = content.split(b"\n")
+        lines[place] = b"{}"
+        status, part, err = printed("fates", [config, b"\n".join(lines)], "1ms")
+        tally.check(f"a fault at line {place + 1} of fates", (status, f" at line {place + 1}: ".encode() in err), (1, True))
+        tally.check(f"before the fault at line {place + 1}", (len(part) > 0, out.startswith(part)), (begins, True))
+    many = b"".join(line + b"\n" for line in content.split(b"\n")[:10_001])
+    for command in ("timeline", "picture"):
+        tally.check(f"{command} of 10,001 requests", printed(command, [config, many], "1ms"), (1, b"", b"apf: there are more than 10000 requests: simulate, compare and fates take any number\n"))
+        status, out, err = printed(command, [config, many[: many.rindex(b"\n", 0, -1) + 1]], "1ms")
+        tally.check(f"{command} of 10,000 requests", (status, bool(out), err), (0, True, b""))
+
+
 check_examples()
 check_rules()
 check_drawn()
@@ -317,4 +351,5 @@ for command in ("fates", "compare"):
     check_words(command, PATIENT[command])
 check_standard_input()
 check_largest()
+check_long()
 tally.end()

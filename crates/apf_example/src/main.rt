@@ -71,7 +71,8 @@ fn serve_in_threads<K: Naming, R: Threads + Wait + Sync>(
     requires level { K.level ≡ level_of opening.gate opening.config }
 {
     let mut session = Session::<K>::open_for_life(rt, alloc, opening)?;
-    start(rt, &session.level, session.slots.as_mut_slice());
+    let all = &mut session;
+    start(rt, &all.level, all.slots.as_mut_slice());
     Ok(session.end(rt, alloc)?)
 }
 

@@ -55,10 +55,10 @@ impl<K: Naming> Debts<K> {
         while let Some(owed) = dispatches.pop() {
             owed.dispatch(rt, &mut level.lock(rt));
         }
+        dispatches.destroy_empty();
         while let Some(owed) = strikes.pop() {
             owed.strike(rt, &mut level.lock(rt));
         }
-        dispatches.destroy_empty();
         strikes.destroy_empty();
     }
 }

@@ -7,6 +7,7 @@ import json
 import os
 import random
 import resource
+import shutil
 import subprocess
 import sys
 
@@ -15,6 +16,11 @@ import simulation
 from harness import Files, Memory, Tally, build
 from simulation import Run, words_of
 from trace import request_of
+
+if not shutil.which("cc"):
+    print("not tried: all of it, as cc is missing")
+    print("0 passed, 0 failed, 1 skipped")
+    sys.exit(0)
 
 HERE = os.path.dirname(os.path.abspath(__file__))
 tally = Tally()

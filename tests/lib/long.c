@@ -1,0 +1,120 @@
+/* Long traces and audit logs, made while they are read. A test tool.
+ *
+ *   long trace SEED COUNT FLOWS SEATS COST
+ *
+ * A trace of this many requests. Times when more come than this many seats can serve take turns with quieter ones. One line in 50 comes up to 4,000 places
+ * late. Half of the requests are of five of the flows. The line COST, from 1, has a cost; with 0 no line has.
+ *
+ *   long log SEED COUNT SUMS
+ *
+ * An audit log of this many events that are taken, in the order of their ends, and some that are not. One in 40 waited. One in 30 is of a user whose
+ * requests all run for 5,120 microseconds, of which some were turned away: such a median is told in full, since it has four binary digits. SUMS gets a line
+ * for each user: its number, requests, and how long they ran together, with those that were turned away as the others; and then how many were turned away,
+ * and how many events have no user's name. */
+#include <stdint.h>
+#include <stdio.h>
+#include <stdlib.h>
+#include <string.h>
+
+static uint64_t state;
+
+/* xorshift64* */
+static uint64_t below(uint64_t most) {
+    state ^= state >> 12;
+    state ^= state << 25;
+    state ^= state >> 27;
+    return ((state * 0x2545f4914f6cdd1d) >> 33) % most;
+}
+
+static void trace(int64_t count, uint64_t flows, uint64_t seats, int64_t cost) {
+    static const int widths[] = {1, 1, 1, 1, 1, 1, 2, 2, 3, 5};
+    /* in 1/1024 microseconds, so that many seats have their traffic too: a request takes 1.8 seats for 21,000 microseconds */
+    uint64_t now = 1000000 * 1024ull, gap = 21000 * 18 * 1024 / 10 / seats;
+    for (int64_t line = 0; line < count; line++) {
+        int is_busy = line / 20000 % 2 == 0;
+        now += below(2 * gap) * (is_busy ? 3 : 5) / 4;
+        uint64_t flow = below(2) ? below(5) : below(flows), runs = below(4000ull << flow % 6);
+        uint64_t late = below(50) ? 0 : below(4000) * gap;
+        printf("{\"hash\":%llu", (unsigned long long)(flow * 0x9e3779b97f4a7c15 ^ flow));
+        uint64_t width = widths[below(10)];
+        if (width > 1)
+            printf(",\"width\":%llu", (unsigned long long)width);
+        if (line + 1 == cost)
+            printf(",\"cost\":7");
+        printf(",\"arrivesAt\":%llu,\"runsFor\":%llu}\n", (unsigned long long)((now > late ? now - late : 0) / 1024), (unsigned long long)runs);
+    }
+}
+
+enum { USERS = 200, STEADY = 7 };
+
+static const char *instant(uint64_t micros) {
+    static char text[2][64];
+    static int which;
+    uint64_t seconds = micros / 1000000;
+    which = !which;
+    snprintf(text[which], sizeof text[which], "2026-07-01T%02d:%02d:%02d.%06dZ", (int)(seconds / 3600 % 24), (int)(seconds / 60 % 60), (int)(seconds % 60),
+             (int)(micros % 1000000));
+    return text[which];
+}
+
+static void event(uint64_t number, const char *stage, const char *verb, int user, int code, uint64_t received, uint64_t ended, uint64_t waited) {
+    printf("{\"kind\":\"Event\",\"apiVersion\":\"audit.k8s.io/v1\",\"level\":\"Metadata\",\"auditID\":\"%032llx\",\"stage\":\"%s\",", (unsigned long long)number, stage);
+    printf("\"requestURI\":\"/api/v1/namespaces/team-%d/pods?limit=500\",\"verb\":\"%s\",\"user\":{", user % 20, verb);
+    if (user >= 0)
+        printf("\"username\":\"system:serviceaccount:team-%d:worker-%d\",\"uid\":\"%08x-0b7c-4d3e-9a55-2f60c1e7d7aa\",", user % 20, user, user);
+    printf("\"groups\":[\"system:serviceaccounts\",\"system:serviceaccounts:team-1\",\"system:authenticated\"]},\"sourceIPs\":[\"10.0.7.19\"],");
+    printf("\"userAgent\":\"kubectl/v1.34.1 (linux/amd64) kubernetes/93248f9\",\"objectRef\":{\"resource\":\"pods\",\"namespace\":\"team-1\",\"apiVersion\":\"v1\"},");
+    printf("\"responseStatus\":{\"metadata\":{},\"code\":%d},\"requestReceivedTimestamp\":\"%s\",\"stageTimestamp\":\"%s\",", code, instant(received), instant(ended));
+    printf("\"annotations\":{");
+    if (waited)
+        printf("\"apiserver.latency.k8s.io/apf-queue-wait\":\"%llu\xc2\xb5s\",", (unsigned long long)waited);
+    puts("\"authorization.k8s.io/decision\":\"allow\",\"authorization.k8s.io/reason\":\"RBAC: allowed by RoleBinding worker of team\"}}");
+}
+
+static void audit_log(uint64_t count, const char *name) {
+    uint64_t requests[USERS] = {0}, ran[USERS] = {0}, refused = 0, unnamed = 0;
+    for (uint64_t number = 0; number < count; number++) {
+        uint64_t ended = 36000000000ull + 700 * number;
+        int user = below(30) ? below(USERS) : STEADY, code = 200;
+        uint64_t runs = user == STEADY ? 5120 : below(50) ? below(100ull * user + 10) : below(900000);
+        uint64_t waited = below(40) ? 0 : 1 + below(30000);
+        requests[user]++;
+        ran[user] += runs;
+        if (user == STEADY && below(4) == 0) {
+            refused++;
+            code = 429;
+            waited = 0;
+        }
+        event(number, "ResponseComplete", "list", user, code, ended - waited - (code == 429 ? below(50) : runs), ended, waited);
+        if (below(20) == 0)
+            event(number, "RequestReceived", "list", user, 200, ended, ended, 0);
+        if (below(100) == 0)
+            event(number, "ResponseComplete", "watch", user, 200, ended - 1000000, ended, 0);
+        if (below(200) == 0) {
+            event(number, "ResponseComplete", "get", -1, 401, ended, ended, 0);
+            unnamed++;
+        }
+    }
+    FILE *sums = fopen(name, "w");
+    if (!sums)
+        exit(2);
+    for (int user = 0; user < USERS; user++)
+        fprintf(sums, "%d %llu %llu\n", user, (unsigned long long)requests[user], (unsigned long long)ran[user]);
+    fprintf(sums, "%llu %llu\n", (unsigned long long)refused, (unsigned long long)unnamed);
+    fclose(sums);
+}
+
+int main(int words, char **word) {
+    static char buffer[1 << 16];
+    setvbuf(stdout, buffer, _IOFBF, sizeof buffer);
+    if (words < 5)
+        return 2;
+    state = 0x9e3779b97f4a7c15 ^ strtoull(word[2], NULL, 10);
+    if (!strcmp(word[1], "trace") && words == 7)
+        trace(atoll(word[3]), strtoull(word[4], NULL, 10), strtoull(word[5], NULL, 10), atoll(word[6]));
+    else if (!strcmp(word[1], "log"))
+        audit_log(strtoull(word[3], NULL, 10), word[4]);
+    else
+        return 2;
+    return fflush(stdout) != 0 || ferror(stdout);
+}

@@ -313,22 +313,24 @@ def check_long():
     comes alone. `timeline` and `picture` refuse so many requests."""
     times = random.Random(seed)
     form = '{"hash":%d,"arrivesAt":%d,"runsFor":%d}\n'
-    drawn = [(times.randrange(200), 10 * number + times.randrange(5_000), times.randrange(150)) for number in range(150_000)]
+    drawn = [(times.randrange(200), 10 * number + times.randrange(5_000), times.randrange(150)) for number in range(300_000)]
     content = "".join(form % it for it in drawn).encode()
-    config = b'{"limit":6,"queues":8,"handSize":2,"queueLengthLimit":20}'
+    config = b'{"limit":6,"queues":8,"handSize":2,"queueLengthLimit":10}'
     (status, out, err), took = processor_seconds(lambda: printed("fates", [config, content], "1ms"))
-    tally.check("fates of 150,000 requests", (status, err), (0, b""))
-    tally.check(f"fates of 150,000 requests in well under ten seconds: {took:.2f} s", took < 10, True)
+    tally.check("fates of 300,000 requests", (status, err), (0, b""))
+    tally.check(f"fates of 300,000 requests in well under ten seconds: {took:.2f} s", took < 10, True)
     fates = Fates(lines_of(out))
     tally.check("each of the lines has its form", fates.are_formed, True)
     meant = [(at, number) for at, number in sorted((at, number) for number, (_, at, _) in enumerate(drawn))]
-    tally.check("the 150,000 are in the order of the arrivals", [(int(it["arrival"]), int(it["request"])) for it in fates.rows] == meant, True)
+    tally.check("the 300,000 are in the order of the arrivals", [(int(it["arrival"]), int(it["request"])) for it in fates.rows] == meant, True)
     tally.check("each is of its request", all((int(it["flow"], 16), it["start"] == "-" or int(it["start"]) + drawn[int(it["request"])][2] == int(it["end"])) == (drawn[int(it["request"])][0], True) for it in fates.rows), True)
     count = {name: sum(it["decision"] in names for it in fates.rows) for name, names in (("executed", ["execute"]), ("rejected", ["queue-full"]), ("cancelled", ["cancelled"]))}
     _, whole, _ = printed("simulate", [config, content], "1ms")
-    book = whole.decode().split("\n")
-    tally.check("they sum to the book of `simulate`", all(any(f"{name} {number}" in line for line in book[-5:]) for name, number in count.items()) and min(count.values()) > 100, True)
-    for place, begins in ((131_000, False), (140_000, True)):
+    decided = next(line.split(" ") for line in whole.decode().split("\n") if line.startswith("executed "))
+    book = {decided[place]: int(decided[place + 1]) for place in range(0, 6, 2)}
+    tally.check("they sum to the book of `simulate`", book, count)
+    tally.check("many execute, find full queues and give up", min(count.values()) > 100, True)
+    for place, begins in ((131_000, False), (290_000, True)):
         lines = content.split(b"\n")
         lines[place] = b"{}"
         status, part, err = printed("fates", [config, b"\n".join(lines)], "1ms")

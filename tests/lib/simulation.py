@@ -19,6 +19,8 @@ WORDS = ("finish", "cancel", "arrive")
 # the units of a patience, in microseconds, and the longest one
 UNITS = {"": 1, "us": 1, "ms": 1000, "s": 1_000_000, "m": 60_000_000}
 LONGEST = 1_000_000_000
+# the most requests of a script
+LISTED = 10_000
 BAD_PATIENCE = (
     "apf: PATIENCE must be a number with m, s, ms or us behind it, as 1.5s, or a whole number of microseconds: at most 1000000000 microseconds"
 )
@@ -264,11 +266,13 @@ def answer(command, contents, patience=None, charge=None):
     try:
         *configs, content = contents
         levels = [config_of(it) for it in configs]
-        trace = trace_of(content, in_pieces=command in (simulate, compare))
+        trace = trace_of(content, in_pieces=command in (simulate, compare, fates, timeline))
         for level in levels:
             fault = level["limitResponse"] == "Queue" and dealer_fault(level["queues"], level["handSize"])
             if fault:
                 raise Refused(fault)
+        if command is timeline and len(trace) > LISTED:
+            raise Refused(f"apf: there are more than {LISTED} requests: simulate, compare and fates take any number")
         lines = command(*levels, trace) if patience is None else command(*(Run(level, trace, patience, charge) for level in levels))
         return 0, "".join(f"{line}\n" for line in lines).encode(), b""
     except Refused as line:

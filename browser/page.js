@@ -107,7 +107,7 @@ function refuse(why) {
   clearFaults()
   showFault(why.place ?? 'run', why.message)
   // too many requests, or too far apart: some are to be chosen
-  if (/^apf: (audit fault 10|trace fault 1)\b/.test(why.message)) $('some').open = true
+  if (/^apf: (audit fault 10|trace fault 1|there are more than 10000 requests)\b/.test(why.message)) $('some').open = true
   showOld(true)
   if (last) tell('There is a fault. What stands here was asked before it.')
 }

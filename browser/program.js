@@ -17,7 +17,7 @@ const PLACES = [
   [/^apf: PATIENCE/, () => 'patience'],
   [/^apf: SCHEMA/, () => 'schema'],
   [/^apf: --(since|until)/, found => found[1]],
-  [/^apf: (trace|audit|cannot read|the requests would)|^page: the file/, () => 'file'],
+  [/^apf: (trace|audit|cannot read|the requests would|there are more than)|^page: the file/, () => 'file'],
 ]
 
 function placeOf(line) {

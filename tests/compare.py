@@ -310,7 +310,7 @@ def check_largest():
 def check_long():
     """A trace of more lines than the reader holds: `fates` has a line for each request, in the order of the arrivals, and its numbers
     are those of `simulate`. A fault behind as many lines as are held back comes after a beginning of that; one before them
-    comes alone. `timeline` and `picture` refuse so many requests."""
+    comes alone. `timeline` and `picture` refuse this many requests."""
     times = random.Random(seed)
     form = '{"hash":%d,"arrivesAt":%d,"runsFor":%d}\n'
     drawn = [(times.randrange(200), 10 * number + times.randrange(5_000), times.randrange(150)) for number in range(300_000)]

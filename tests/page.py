@@ -244,7 +244,7 @@ def check_audit():
     page.until("return !document.getElementById('file-fault').hidden")
     trace = files("many.jsonl", run(program, ["trace", "--by=namespace", "--", many, "x"])[1])
     want = run(program, ["picture", files("config.json", json.dumps(LEVEL)), trace, "8s"])[2].decode().strip()
-    tally.check("a log of too many requests", (fault("file"), want[:24], page.run("return document.getElementById('some').open")), (want, "apf: there are more than ", True))
+    tally.check("a log of too many requests", (fault("file"), want[:24], page.run("return document.getElementById('some').open")), (want, "apf: there are more than", True))
     turned = json.dumps({**json.loads(next(it for it in lines if "ResponseComplete" in it)), "responseStatus": {"code": 429}})
     log = files("turned.log", "\n".join([turned, *lines]))
     drop("turned.log", open(log, "rb").read())

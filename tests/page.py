@@ -587,14 +587,15 @@ def check_hosts():
 
 
 SLOW = """#!/bin/bash
-# notes whether another one runs; takes long at some limits; reads late. It alone has the lock: what it starts may end a little later
-exec 9>>"$NOTES.lock"
-if flock -n 9; then echo "alone $$" >>"$NOTES"; else echo "beside $$" >>"$NOTES"; fi
+# notes whether another one runs; takes long at some limits; reads late. It alone has the lock: what it starts may end a little later. The lock's
+# number is above those of the configs
+exec 200>>"$NOTES.lock"
+if flock -n 200; then echo "alone $$" >>"$NOTES"; else echo "beside $$" >>"$NOTES"; fi
 for word; do
-  if [[ $word = /dev/fd/* ]] && grep -q '"limit": 1[17],' "$word"; then echo "slow $$" >>"$NOTES"; sleep 600 9>&-; fi
+  if [[ $word = /dev/fd/* ]] && grep -q '"limit": 1[17],' "$word"; then echo "slow $$" >>"$NOTES"; sleep 600 200>&-; fi
 done
-sleep 0.12 9>&-
-"$REAL" "$@" 9>&-
+sleep 0.12 200>&-
+"$REAL" "$@" 200>&-
 """
 
 

@@ -97,8 +97,8 @@ SEEN = {
 }
 
 
-def happenings(made, config, patience):
-    """Those of them that happen in this run by time."""
+def happenings(made, fates, by_seats, as_usual):
+    """Those of them that happen in this run by time, whose fates are these, with those by seats and as usual."""
     trace, asked = made.trace, made.asked
     entered = [it for kind, it, _ in made.level.log if kind == "enter"]
     own = [it for it in range(len(trace)) if trace[it]["cost"] is None]
@@ -106,12 +106,11 @@ def happenings(made, config, patience):
     for it in entered:
         if it in own:
             costs.setdefault((trace[it]["hash"], trace[it]["width"]), set()).add(asked[it]["cost"])
-    fates = simulation.fates(made)
     known = sum(map(len, made.means.sets))
     finished = {trace[it]["hash"] for it in made.started}
     happens = {
-        MATTERS: fates != simulation.fates(Run(config, trace, patience, "seats")),
-        "a line has a cost, and by time it is another run than as usual": len(own) < len(trace) and fates != simulation.fates(Run(config, trace, patience)),
+        MATTERS: fates != by_seats,
+        "a line has a cost, and by time it is another run than as usual": len(own) < len(trace) and fates != as_usual,
         "two requests of a flow, of one width, wait and have unlike costs": any(len(it) > 1 for it in costs.values()),
         "a request that gave up": "cancelled" in made.level.decided.values(),
         "a full queue": "queue-full" in made.level.decided.values(),
@@ -130,14 +129,18 @@ def check_drawn():
         config, objects, patience = drawn_level(), drawn_objects(), draw.choice([0, 0, 30, 200, 1000, 1_000_000_000])
         made = Run(config, [request_of(it) for it in objects], patience, "time")
         name = f"{number}: {config}, {objects}, patience {patience}"
-        tally.check(f"fates by time of {name}", printed("fates", config, objects, patience, "time"), told(simulation.fates(made)))
-        if number % 5 == 0:
-            command = ("simulate", "timeline")[number % 2]
-            tally.check(f"{command} by time of {name}", printed(command, config, objects, patience, "time"), told(getattr(simulation, command)(made)))
-        happened = happenings(made, config, patience)
-        if MATTERS in happened:
-            usual = Run(config, made.trace, patience)
-            tally.check(f"fates as usual of {name}", printed("fates", config, objects, patience), told(simulation.fates(usual)))
+        fates, by_seats = (simulation.fates(it) for it in (made, Run(config, made.trace, patience, "seats")))
+        # where no line has a cost, the usual charge is time
+        as_usual = by_seats if any(it["cost"] is not None for it in made.trace) else fates
+        happened = happenings(made, fates, by_seats, as_usual)
+        # where both ways say the same, and it matters, they are asked in turn; `simulate` below is by time in any case
+        is_asked_once = MATTERS in happened and as_usual == fates
+        if not is_asked_once or number % 2:
+            tally.check(f"fates by time of {name}", printed("fates", config, objects, patience, "time"), told(fates))
+        if MATTERS in happened and (not is_asked_once or number % 2 == 0):
+            tally.check(f"fates as usual of {name}", printed("fates", config, objects, patience), told(as_usual))
+        if number % 10 == 5:
+            tally.check(f"timeline by time of {name}", printed("timeline", config, objects, patience, "time"), told(simulation.timeline(made)))
         told_sides = sides(made)
         _, worst, largest, slack = told_sides
         tally.check(f"the bound of {name}: {told_sides.line()}", worst <= told_sides.limit(), True)
@@ -166,6 +169,32 @@ def check_worked_bounds():
     ):
         status, out, err = printed("simulate", config, objects, 0, more=["--bound"])
         tally.check(f"worked by hand: {line}", (status, out.splitlines()[-1:], err), (0, [line.encode()], b""))
+
+
+def check_met_bound():
+    """The bound is met to the microsecond: what requests are misjudged by counts three times, and not two. Costs are at most 100, and requests are misjudged by 50.
+
+    At 10, when the first request gives all seats back, five are dispatched: two of queue 1, which then stands at 101, and three of queue 2, which stands at 251;
+    its last one at 151. That one is charged 100 and takes 150: when it ends, queue 2 stands at 301. Then the first of queue 1 ends, charged 1 and taking 51, so
+    queue 1 stands at 151, where virtual time is. It is waited in again, as queue 2 is, and stands no lower. The second one ends, charged 100 and taking 50:
+    queue 1 stands at 101. So it is behind by the largest cost and twice what is misjudged. Two of it are dispatched, which take 100 each. One of queue 0 is, so that
+    in the tie that follows queue 1 comes first: its third one is charged 100 like the one that waits in queue 2 at 301, and takes 150."""
+    first = [{"hash": 0, "arrivesAt": 0, "runsFor": 10, "width": 20, "cost": 1}]
+    misjudged = [{"hash": 1, "arrivesAt": 1, "runsFor": 17, "width": 3, "cost": 1}, {"hash": 1, "arrivesAt": 2, "runsFor": 50, "cost": 100}]
+    run_on = [{"hash": 2, "arrivesAt": 3, "runsFor": 100, "cost": 100}, {"hash": 2, "arrivesAt": 4, "runsFor": 51, "cost": 51}]
+    run_on += [{"hash": 2, "arrivesAt": 5, "runsFor": 15, "width": 10, "cost": 100}]
+    # they take the seats that are free, or are given back, and were not dispatched from a queue
+    fill = [{"hash": 0, "arrivesAt": at, "runsFor": 1000, "width": width, "cost": 1} for at, width in ((11, 4), (25, 10), (27, 3))]
+    waits = [{"hash": 2, "arrivesAt": 30, "runsFor": 100, "cost": 100}]
+    ahead = [{"hash": 1, "arrivesAt": 31 + it, "runsFor": runs, "cost": 100} for it, runs in enumerate((100, 100, 150))]
+    tie = [{"hash": 0, "arrivesAt": 80, "runsFor": 1, "cost": 1}]
+    config = {"limit": 20, "queues": 3, "handSize": 1, "queueLengthLimit": 50, "limitResponse": "Queue"}
+    objects = [*first, *misjudged, *run_on, *fill, *waits, *ahead, *tie]
+    made = Run(config, [request_of(it) for it in objects], 0, "time")
+    told_sides = sides(made)
+    tally.check("three times what is misjudged is needed", (told_sides.ahead, told_sides.largest, told_sides.slack), (350, 100, 50))
+    line = "bound 2 1 350 cost 100 misjudged 50 limit 350"
+    tally.check("the bound is met to the microsecond", printed("simulate", config, objects, 0, "time", more=["--bound"]), told([*simulation.simulate(made), line]))
 
 
 def check_bound_of_seats():
@@ -199,5 +228,6 @@ def check_long():
 check_drawn()
 check_long()
 check_worked_bounds()
+check_met_bound()
 check_bound_of_seats()
 tally.end()

@@ -19,7 +19,7 @@ from trace import trace_of
 from traces import Traces
 
 # each command that takes a patience, and how many configs
-PATIENT = {"simulate": 1, "timeline": 1, "picture": 1, "fates": 1, "compare": 2}
+PATIENT = {"fates": 1, "simulate": 1, "timeline": 1, "picture": 1, "compare": 2}
 CONFIG = b'{"limit":2,"queues":2,"handSize":1}'
 OTHER = b'{"limit":1,"limitResponse":"Reject"}'
 # the second one waits for 7.5 s where there is one seat

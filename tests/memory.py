@@ -65,12 +65,12 @@ def refusals(words, ample):
 
 for words, status in (
     (["hash", "a", "b"], 0),
+    (["run", config, requests, "1"], 0),
     (["deal", "8", "3", "100"], 0),
     (["replay", config, requests, script], 0),
     (["services", config, requests, script], 0),
     (["waits", config, requests, script], 0),
     (["explain", config, requests, script], 0),
-    (["run", config, requests, "1"], 0),
     (["run", config, requests, "1", "--rounds", "3"], 0),
     (["simulate", tight, trace, "0"], 0),
     (["simulate", tight, trace, "3"], 0),

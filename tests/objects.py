@@ -296,9 +296,29 @@ def miss_of(schema, asked):
     return max([best, *found], key=lambda it: it[1])[0]
 
 
+def matches(schema, asked):
+    """Whether the schema matches, and nothing of why not."""
+    for subjects, resources, paths in schema["rules"]:
+        for subject in subjects:
+            if is_subject(subject, asked):
+                break
+        else:
+            continue
+        if asked["path"] is None:
+            for verbs, groups, names, scope, namespaces in resources:
+                if stands(verbs, asked["verb"]) and stands(groups, asked["group"]) and stands(names, asked["resource"]):
+                    if stands(namespaces, asked["namespace"]) if asked["namespace"] else scope:
+                        return True
+        else:
+            for verbs, urls in paths:
+                if stands(verbs, asked["verb"]) and any(is_path(it, asked["path"]) for it in urls):
+                    return True
+    return False
+
+
 def schema_of(live, asked):
     for place, schema in enumerate(live):
-        if miss_of(schema, asked) is None:
+        if matches(schema, asked):
             return place
     return next(i for i, it in enumerate(live) if it["name"] == "catch-all")
 

@@ -270,15 +270,17 @@ def check_examples():
             tally.check(name, printed(command.__name__, contents, *how), (0, text.encode(), b""))
 
 
-def check_drawn(command):
-    """On drawn traces, what the model foresees."""
+def check_drawn():
+    """On drawn traces, what the model foresees of each command."""
     for number in range(TRACES):
         config, (objects, patience) = traces.config(), traces.trace()
-        taken = inputs(command, json.dumps(config).encode(), traces.content(objects), patience, traces.charge())
-        got = printed(command, *taken)
-        tally.check(f"{command} of {taken}", got, foreseen(command, *taken))
-        if command == "simulate":
-            tally.check(f"the sums of {taken}", sums_broken(objects, config, lines_of(got[1].decode())), [])
+        texts, charge = (json.dumps(config).encode(), traces.content(objects)), traces.charge()
+        for command in COMMANDS:
+            taken = inputs(command, *texts, patience, charge)
+            got = printed(command, *taken)
+            tally.check(f"{command} of {taken}", got, foreseen(command, *taken))
+            if command == "simulate":
+                tally.check(f"the sums of {taken}", sums_broken(objects, config, lines_of(got[1].decode())), [])
 
 
 def check_circle():
@@ -437,8 +439,8 @@ check_rules()
 check_model()
 check_judge()
 check_examples()
+check_drawn()
 for command in COMMANDS:
-    check_drawn(command)
     check_traces(command)
     check_reading(command)
     check_words(command)

@@ -104,6 +104,8 @@ for name, parts, want in [
     is_proved = parts[0] == WELL
     tally.check(f"test: {name}", (status, lines[-1], calls), (*want, ["ci", "plant"] if is_proved else ["ci"]))
     tally.check(f"test: {name}: says how long it takes", "minutes" in lines[0], True)
+    told = [it.partition(" took ")[0] for it in lines if re.fullmatch(r"test: .* took \d+\.\d processor minutes", it)]
+    tally.check(f"test: {name}: says what each part took", told, ["test: rt ci", "test: ./plant --must-fail", "test: all scripts together"][: 3 if is_proved else 1])
 
 # the program is built once: by rt ci, or by the launcher where that made none or where a source has changed since
 for name, does, want in [
@@ -192,7 +194,8 @@ tally.check("test: scripts run side by side", (status, lines[-1]), (0, "5 passed
 late = ("late\n1 passed, 0 failed", 0, "print('begins', flush=True)\ntime.sleep(1)")
 status, lines, calls = tested("in order", WELL, late, ("soon\n1 passed, 0 failed", 0))
 want = ["== python3 tests/0.py", "begins", "late", "1 passed, 0 failed", "== python3 tests/1.py", "soon", "1 passed, 0 failed", "5 passed, 0 failed"]
-tally.check("test: what each script says stands whole, in order", (status, lines[lines.index(want[0]):]), (0, want))
+said = [it for it in lines[lines.index(want[0]):] if "processor minutes" not in it]
+tally.check("test: what each script says stands whole, in order", (status, said), (0, want))
 
 # a script counts by its own status, also where the system has given its process's number to another since: here, where
 # that may be chosen, to the process that the shell starts next

@@ -112,6 +112,23 @@ NUMBERED = USAGE.replace("#include <unistd.h>\n", "#include <string.h>\n#include
 )
 
 
+# tells words that are not UTF-8 as no memory
+NOT_UTF_8 = r"""
+#include <locale.h>
+#include <stdlib.h>
+#include <unistd.h>
+int main(int count, char **words) {
+    if (!setlocale(LC_CTYPE, "C.UTF-8"))
+        return 9;
+    for (int word = 1; word < count; word++)
+        if (mbstowcs(NULL, words[word], 0) == (size_t)-1)
+            return write(2, "apf: out of memory\n", 19) < 0 ? 9 : 3;
+    execv(PROGRAM, words);
+    return 9;
+}
+"""
+
+
 def compiled(path, text):
     source = files(os.path.basename(path) + ".c", text)
     subprocess.run(["cc", "-O1", f'-DPROGRAM="{program}"', "-o", path, source], check=True)
@@ -191,10 +208,7 @@ if replay and b" config" not in got[2]:
         instead(*early)
 '''), "replay.py", "FAILED the requests before the dealer"),
     ("help that has no line for run", shell('[ "$*" = --help ] && { %s --help | grep -v "^  run "; exit 0; }' % program), "command_line.py", "FAILED --help"),
-    ("words that are not UTF-8 told as no memory", python('''
-if any("\\udc80" <= it <= "\\udcff" for word in words for it in word):
-    instead(3, b"", b"apf: out of memory\\n")
-'''), "command_line.py", "FAILED [b'hash', b'\\xff', b'a']"),
+    ("words that are not UTF-8 told as no memory", NOT_UTF_8, "command_line.py", "FAILED [b'hash', b'\\xff', b'a']"),
     ("a run that finds no memory", shell('[ "$1" = run ] && { echo "apf: out of memory" >&2; exit 3; }'), "workers.py", "FAILED thousand workers"),
     ("a run that closes nothing", other_requests('s/, "closes": true//g'), "workers.py", "FAILED cancels and closes"),
     ("a run that cancels nobody", other_requests('s/, "cancels": [0-9]+//g'), "workers.py", "FAILED all cancel one"),
@@ -244,7 +258,7 @@ if replay:
 def tried(wrong):
     name, text, script, row = wrong
     path = os.path.join(files.folder.name, name.replace(" ", "-").replace(",", ""))
-    if text in (USAGE, NUMBERED):
+    if text in (USAGE, NUMBERED, NOT_UTF_8):
         compiled(path, text)
     else:
         with open(path, "w") as file:

@@ -7,6 +7,7 @@ and its first fault, if it has one. `trace_of` answers the trace as text, or rai
 import bisect
 import collections
 import datetime
+import functools
 import heapq
 import json
 import math
@@ -110,6 +111,8 @@ def finite(text):
     return float(text)
 
 
+# the last lines are kept, as large logs of the tests repeat some; what is made of one is not changed
+@functools.lru_cache(maxsize=256)
 def value_of(line):
     """The JSON value of a line. Python alone takes NaN and the like, numbers without an end, a mark of byte order, and halves of a surrogate pair."""
     try:
@@ -135,6 +138,7 @@ def text_at(value, *path):
     return found if isinstance(found, str) else None
 
 
+@functools.lru_cache(maxsize=1024)
 def instant(text):
     """The whole microseconds from 1970 on, or None."""
     # its two letters may be small
@@ -203,8 +207,7 @@ def has_name(event):
 
 
 def request_of(event, line, text, choice):
-    """The arrival from 1970 on, the line, the run and the flow of an event that is taken, with no run if it was turned away; None if it is
-    not chosen."""
+    """The arrival from 1970 on, the run and the flow of an event that is taken, with no run if it was turned away; None if it is not chosen."""
     user = text_at(event, "impersonatedUser" if "impersonatedUser" in event else "user", "username")
     if user is None or len(user.encode()) > NAME:
         raise AuditFault(BAD_USER, line, text)
@@ -217,7 +220,7 @@ def request_of(event, line, text, choice):
     if not is_chosen(choice, user, times[0]):
         return None
     if was_turned_away(event):
-        return times[0], line, None, flow
+        return times[0], None, flow
     if times[1] is None:
         raise AuditFault(BAD_STAGE, line, text)
     wait = wait_of(event)
@@ -226,7 +229,7 @@ def request_of(event, line, text, choice):
     run = times[1] - times[0] - wait
     if not 0 <= run <= RUN:
         raise AuditFault(BAD_RUN, line, text)
-    return times[0], line, run, flow
+    return times[0], run, flow
 
 
 def lines_of(content):
@@ -268,9 +271,31 @@ class Runs:
         return median(self.of_flow.get(flow, self.of_all))
 
 
+# what is found in an event without a user's name
+UNNAMED = "unnamed"
+
+
+def judged(line, text, choice):
+    """What the line of this number holds: the arrival, the run and the flow of a request, or UNNAMED, or None where it is no chosen request."""
+    if len(text) > BYTES:
+        raise AuditFault(TOO_LONG, line, text)
+    try:
+        event = value_of(text)
+    except NotJson:
+        raise AuditFault(NOT_JSON, line, text) from None
+    if text_at(event, "stage") is None or text_at(event, "verb") is None:
+        raise AuditFault(NOT_EVENT, line, text)
+    if not is_taken(event):
+        return None
+    if not has_name(event):
+        return UNNAMED
+    return request_of(event, line, text, choice)
+
+
 Read = collections.namedtuple("Read", "requests unnamed is_cut fault")
 
 
+@functools.lru_cache(maxsize=2)
 def read_of(content, choice=EVERY, window=WINDOW):
     """What is read of a log: the requests that are handed out, each with its arrival from 1970 on, its run, its flow and whether it was turned
     away; how many events without a user's name were left out; whether the last line was; and the first fault, if there is one.
@@ -278,7 +303,7 @@ def read_of(content, choice=EVERY, window=WINDOW):
     Of a request that is before more than the window's size of those of the lines before it that is TOO_LATE. The earliest of all is handed out
     once one more than the window's size are there, and a request that was turned away gets its run then."""
     lines, is_cut = lines_of(content)
-    held, requests, unnamed, last, runs = [], [], 0, None, Runs()
+    held, requests, unnamed, last, runs, known = [], [], 0, None, Runs(), {}
 
     def hand_out():
         received, line, run, flow = heapq.heappop(held)
@@ -289,28 +314,20 @@ def read_of(content, choice=EVERY, window=WINDOW):
 
     try:
         for line, text in enumerate(lines, 1):
-            if len(text) > BYTES:
-                raise AuditFault(TOO_LONG, line, text)
-            try:
-                event = value_of(text)
-            except NotJson:
-                raise AuditFault(NOT_JSON, line, text) from None
-            if text_at(event, "stage") is None or text_at(event, "verb") is None:
-                raise AuditFault(NOT_EVENT, line, text)
-            if not is_taken(event):
-                continue
-            if not has_name(event):
+            found = known[text] if text in known else judged(line, text, choice)
+            # large logs of the tests repeat some lines
+            if len(known) < 100:
+                known[text] = found
+            if found is UNNAMED:
                 unnamed += 1
+            if found in (None, UNNAMED):
                 continue
-            request = request_of(event, line, text, choice)
-            if request is None:
-                continue
-            received, _, run, flow = request
+            received, run, flow = found
             if run is not None:
                 runs.add(run, flow)
             if last and (received, line) < last:
                 raise AuditFault(TOO_LATE, line, text)
-            heapq.heappush(held, request)
+            heapq.heappush(held, (received, line, run, flow))
             if len(held) > window:
                 last = hand_out()
         while held:

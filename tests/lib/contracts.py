@@ -29,7 +29,7 @@ class Contracts:
     """The contracts of all sources that are asked for."""
 
     def __init__(self):
-        self.specs, self.read = Specs(), {}
+        self.specs, self.read, self.of_definitions = Specs(), {}, {}
 
     def of(self, path):
         """The contracts of a file by name, each with all words of its clauses and of the definitions that they cite."""
@@ -43,14 +43,26 @@ class Contracts:
         return self.read[path]
 
     def words(self, clauses, names):
-        words, seen, rest = set(), set(), [(clauses, "", names)]
+        words, definitions = self.cited(clauses, "", names)
+        words, seen, rest = {*words}, set(), [*definitions]
         while rest:
-            text, module, brought = rest.pop()
-            for word in WORD.findall(re.sub(r"--.*", "", text)):
-                words.add(word)
-                there = brought.get(word)
-                it = self.specs.found(module, word) or (self.specs.found(*there) if there else None)
-                if it and (it.module, it.name) not in seen:
-                    seen.add((it.module, it.name))
-                    rest.append((it.text, it.module, self.specs.names.get(it.module, {})))
+            it = rest.pop()
+            if (it.module, it.name) not in seen:
+                seen.add((it.module, it.name))
+                more, definitions = self.cited_by(it)
+                words |= more
+                rest += definitions
         return words
+
+    def cited(self, text, module, brought):
+        """The words of a text in a module, and the definitions that they mean there, by these names too."""
+        words = {*WORD.findall(re.sub(r"--.*", "", text))}
+        found = [self.specs.found(module, it) or (self.specs.found(*brought[it]) if brought.get(it) else None) for it in words]
+        return words, [it for it in found if it]
+
+    def cited_by(self, it):
+        """The same of a definition, which is asked for once."""
+        key = it.module, it.name
+        if key not in self.of_definitions:
+            self.of_definitions[key] = self.cited(it.text, it.module, self.specs.names.get(it.module, {}))
+        return self.of_definitions[key]

@@ -1,8 +1,11 @@
 """Runs the built program, and counts what holds."""
 
+import contextlib
 import os
 import re
 import resource
+import select
+import signal
 import subprocess
 import sys
 import tempfile
@@ -70,12 +73,52 @@ def build_crate(name):
     return program
 
 
+# no program of a test takes longer, in seconds
+LONGEST = 120
+
+
+class Written(threading.local):
+    """Two files in memory, which hold what a program prints and its errors. Each thread has its own, and takes them for one program after another."""
+
+    def __init__(self):
+        self.files = [os.memfd_create(name) for name in ("output", "errors")]
+
+
+def can_wait_for_a_number():
+    """Whether the system tells by a file when a process ends, and takes files in memory: where not, a program gets pipes, which take longer."""
+    try:
+        os.close(os.pidfd_open(os.getpid()))
+        os.close(os.memfd_create("output"))
+        return True
+    except (AttributeError, OSError):
+        return False
+
+
+HAS_PIPES_ALONE = not can_wait_for_a_number()
+written = None if HAS_PIPES_ALONE else Written()
+NOTHING = os.open(os.devnull, os.O_RDONLY)
+
+
 def run(program, words, **how):
     """Runs the program, and answers its status, its output and its errors, as bytes."""
-    done = subprocess.run(
-        [program, *words], stdin=subprocess.DEVNULL, stdout=subprocess.PIPE, stderr=subprocess.PIPE, timeout=120, **how
-    )
-    return done.returncode, done.stdout, done.stderr
+    if how or HAS_PIPES_ALONE:
+        done = subprocess.run([program, *words], stdin=subprocess.DEVNULL, stdout=subprocess.PIPE, stderr=subprocess.PIPE, timeout=LONGEST, **how)
+        return done.returncode, done.stdout, done.stderr
+    for file in written.files:
+        os.ftruncate(file, 0)
+        os.lseek(file, 0, os.SEEK_SET)
+    given = [(os.POSIX_SPAWN_DUP2, file, place) for place, file in enumerate([NOTHING, *written.files])]
+    # Python ignores these signals, and what it starts does not
+    process = os.posix_spawnp(program, [program, *words], os.environ, file_actions=given, setsigdef=[signal.SIGPIPE, signal.SIGXFSZ])
+    ending = os.pidfd_open(process)
+    is_over = select.select([ending], [], [], LONGEST)[0]
+    os.close(ending)
+    if not is_over:
+        os.kill(process, signal.SIGKILL)
+    status = os.waitstatus_to_exitcode(os.waitpid(process, 0)[1])
+    if not is_over:
+        raise subprocess.TimeoutExpired([program, *words], LONGEST)
+    return status, *(os.pread(file, os.fstat(file).st_size, 0) for file in written.files)
 
 
 def processor_seconds(call):
@@ -149,8 +192,13 @@ class Files:
 
     def __call__(self, name, content):
         path = os.path.join(self.folder.name, name)
-        with open(path, "wb") as file:
-            file.write(content if isinstance(content, bytes) else content.encode())
+        # a file that is written over goes to the disk at once on some systems, which takes a hundred times as long as a new one
+        with contextlib.suppress(FileNotFoundError):
+            os.unlink(path)
+        with open(path, "xb", buffering=0) as file:
+            left = memoryview(content if isinstance(content, bytes) else content.encode())
+            while left:
+                left = left[file.write(left) :]
         return path
 
 

@@ -3,6 +3,7 @@
 Each function answers the value, or raises Refused with the program's line.
 """
 
+import json
 import re
 
 
@@ -29,6 +30,9 @@ class Json:
     # a string without escapes, and one that is a key
     SIMPLE = re.compile(r'"([^"\\\x00-\x1f]*)"')
     KEY = re.compile(r'[ \t\n\r]*"([^"\\\x00-\x1f]*)"[ \t\n\r]*:')
+    # a key with a whole number or a string of these, and an object of such ones alone
+    MEMBER = re.compile(KEY.pattern + r'[ \t\n\r]*(?:((?:0|-?[1-9][0-9]{0,17})(?![0-9.eE]))|"([^"\\\x00-\x1f]*)")')
+    OF_MEMBERS = re.compile("[ \t\n\r]*{(?:MEMBER(?:[ \t\n\r]*,MEMBER)*)?[ \t\n\r]*}[ \t\n\r]*".replace("MEMBER", MEMBER.pattern.replace("(", "(?:").replace("(?:?", "(?")))
     # what stands behind a value in brackets
     NEXT = re.compile("[ \t\n\r]*([]},]?)")
     # a whole number that 64 bits hold, but for -0
@@ -55,6 +59,9 @@ class Json:
         self.at += len(wanted)
 
     def whole(self):
+        # no other reader of JSON takes such a text for anything else
+        if self.OF_MEMBERS.fullmatch(self.text):
+            return json.loads(self.text)
         value = self.value(0)
         self.blank()
         if self.peek():
@@ -102,6 +109,11 @@ class Json:
         found = {}
 
         def one():
+            if member := self.MEMBER.match(self.text, self.at):
+                key, number, text = member.groups()
+                self.at = member.end()
+                found[key] = text if number is None else int(number)
+                return
             if simple := self.KEY.match(self.text, self.at):
                 key, self.at = simple[1], simple.end()
             else:

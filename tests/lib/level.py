@@ -1,5 +1,6 @@
 """What a replay prints: an independent computation, written from the rules and slow on purpose."""
 
+import functools
 import hashlib
 
 from judge import Refused, config_of, dealer_fault, requests_of, script_of
@@ -7,8 +8,9 @@ from judge import Refused, config_of, dealer_fault, requests_of, script_of
 DECISIONS = ("execute", "queue-full", "closed", "concurrency-limit", "cancelled")
 
 
+@functools.lru_cache(maxsize=1024)
 def hand_of(deck, hand, number):
-    """Takes cards out of a list."""
+    """Takes cards out of a list. What is dealt is not changed by who asks."""
     cards, dealt = list(range(deck)), []
     for _ in range(hand):
         number, place = divmod(number, len(cards))
@@ -61,11 +63,12 @@ class Level:
             self.lines.append(f"{kind} {request} queue {queue}")
 
     def dispatch(self):
-        while self.waiting():
-            busy = [queue for queue in range(len(self.queues)) if self.queues[queue]]
+        while busy := [queue for queue, waiting in enumerate(self.queues) if waiting]:
             finish = {queue: self.starts[queue] + self.cost(self.queues[queue][0]) for queue in busy}
-            round_from = [(self.last + 1 + step) % len(self.queues) for step in range(len(self.queues))]
-            chosen = next(queue for queue in round_from if queue in finish and finish[queue] == min(finish.values()))
+            least = min(finish.values())
+            # of those that finish first, the next one behind the last that was served
+            round_from = [queue for queue in busy if queue > self.last] + [queue for queue in busy if queue <= self.last]
+            chosen = next(queue for queue in round_from if finish[queue] == least)
             request = self.queues[chosen][0]
             if not self.fits(request):
                 return
@@ -205,6 +208,8 @@ class Level:
         return "".join(lines)
 
 
+# the last one is kept: a test asks for all that is told of it
+@functools.lru_cache(maxsize=1)
 def followed(config, requests, script):
     """The level after the script in files of these bytes, read and judged in this order."""
     level = config_of(config)

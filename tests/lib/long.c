@@ -11,12 +11,55 @@
  * requests all run for 5,120 microseconds, of which some were turned away: such a median is told in full, since it has four binary digits. SUMS gets a line
  * for each user: its number, requests, and how long they ran together, with those that were turned away as the others; and then how many were turned away,
  * and how many events have no user's name. */
+#include <errno.h>
 #include <stdint.h>
 #include <stdio.h>
 #include <stdlib.h>
 #include <string.h>
+#include <unistd.h>
 
 static uint64_t state;
+
+/* What is printed, which goes out where there is no room for one piece more. */
+static char out[1 << 16];
+static size_t filled;
+static int is_broken;
+
+static void flush(void) {
+    for (size_t done = 0; done < filled && !is_broken;) {
+        ssize_t more = write(1, out + done, filled - done);
+        if (more > 0)
+            done += more;
+        else if (more == 0 || errno != EINTR)
+            is_broken = 1;
+    }
+    filled = 0;
+}
+
+static char *room_for(size_t size) {
+    if (filled + size > sizeof out)
+        flush();
+    filled += size;
+    return out + filled - size;
+}
+
+#define PUT(text) memcpy(room_for(sizeof text - 1), text, sizeof text - 1)
+
+/* A number of this many digits, with zeros in front. */
+static void padded(uint64_t number, int digits, unsigned base) {
+    char *at = room_for(digits);
+    while (digits--) {
+        at[digits] = "0123456789abcdef"[number % base];
+        number /= base;
+    }
+}
+
+static void put_number(uint64_t number) {
+    int digits = 1;
+    for (uint64_t left = number; left > 9; left /= 10)
+        digits++;
+    padded(number, digits, 10);
+}
 
 /* xorshift64* */
 static uint64_t below(uint64_t most) {
@@ -35,40 +78,74 @@ static void trace(int64_t count, uint64_t flows, uint64_t seats, int64_t cost) {
         now += below(2 * gap) * (is_busy ? 3 : 5) / 4;
         uint64_t flow = below(2) ? below(5) : below(flows), runs = below(4000ull << flow % 6);
         uint64_t late = below(50) ? 0 : below(4000) * gap;
-        printf("{\"hash\":%llu", (unsigned long long)(flow * 0x9e3779b97f4a7c15 ^ flow));
+        PUT("{\"hash\":");
+        put_number(flow * 0x9e3779b97f4a7c15 ^ flow);
         uint64_t width = widths[below(10)];
-        if (width > 1)
-            printf(",\"width\":%llu", (unsigned long long)width);
+        if (width > 1) {
+            PUT(",\"width\":");
+            put_number(width);
+        }
         if (line + 1 == cost)
-            printf(",\"cost\":7");
-        printf(",\"arrivesAt\":%llu,\"runsFor\":%llu}\n", (unsigned long long)((now > late ? now - late : 0) / 1024), (unsigned long long)runs);
+            PUT(",\"cost\":7");
+        PUT(",\"arrivesAt\":");
+        put_number((now > late ? now - late : 0) / 1024);
+        PUT(",\"runsFor\":");
+        put_number(runs);
+        PUT("}\n");
     }
 }
 
 enum { USERS = 200, STEADY = 7 };
 
-static const char *instant(uint64_t micros) {
-    static char text[2][64];
-    static int which;
+static void put_instant(uint64_t micros) {
     uint64_t seconds = micros / 1000000;
-    which = !which;
-    snprintf(text[which], sizeof text[which], "2026-07-01T%02d:%02d:%02d.%06dZ", (int)(seconds / 3600 % 24), (int)(seconds / 60 % 60), (int)(seconds % 60),
-             (int)(micros % 1000000));
-    return text[which];
+    PUT("2026-07-01T");
+    padded(seconds / 3600 % 24, 2, 10);
+    PUT(":");
+    padded(seconds / 60 % 60, 2, 10);
+    PUT(":");
+    padded(seconds % 60, 2, 10);
+    PUT(".");
+    padded(micros % 1000000, 6, 10);
+    PUT("Z");
 }
 
+#define PUT_WORD(text) memcpy(room_for(strlen(text)), text, strlen(text))
+
 static void event(uint64_t number, const char *stage, const char *verb, int user, int code, uint64_t received, uint64_t ended, uint64_t waited) {
-    printf("{\"kind\":\"Event\",\"apiVersion\":\"audit.k8s.io/v1\",\"level\":\"Metadata\",\"auditID\":\"%032llx\",\"stage\":\"%s\",", (unsigned long long)number, stage);
-    printf("\"requestURI\":\"/api/v1/namespaces/team-%d/pods?limit=500\",\"verb\":\"%s\",\"user\":{", user % 20, verb);
-    if (user >= 0)
-        printf("\"username\":\"system:serviceaccount:team-%d:worker-%d\",\"uid\":\"%08x-0b7c-4d3e-9a55-2f60c1e7d7aa\",", user % 20, user, user);
-    printf("\"groups\":[\"system:serviceaccounts\",\"system:serviceaccounts:team-1\",\"system:authenticated\"]},\"sourceIPs\":[\"10.0.7.19\"],");
-    printf("\"userAgent\":\"kubectl/v1.34.1 (linux/amd64) kubernetes/93248f9\",\"objectRef\":{\"resource\":\"pods\",\"namespace\":\"team-1\",\"apiVersion\":\"v1\"},");
-    printf("\"responseStatus\":{\"metadata\":{},\"code\":%d},\"requestReceivedTimestamp\":\"%s\",\"stageTimestamp\":\"%s\",", code, instant(received), instant(ended));
-    printf("\"annotations\":{");
-    if (waited)
-        printf("\"apiserver.latency.k8s.io/apf-queue-wait\":\"%llu\xc2\xb5s\",", (unsigned long long)waited);
-    puts("\"authorization.k8s.io/decision\":\"allow\",\"authorization.k8s.io/reason\":\"RBAC: allowed by RoleBinding worker of team\"}}");
+    PUT("{\"kind\":\"Event\",\"apiVersion\":\"audit.k8s.io/v1\",\"level\":\"Metadata\",\"auditID\":\"");
+    padded(number, 32, 16);
+    PUT("\",\"stage\":\"");
+    PUT_WORD(stage);
+    PUT("\",\"requestURI\":\"/api/v1/namespaces/team-");
+    put_number(user < 0 ? 0 : user % 20);
+    PUT("/pods?limit=500\",\"verb\":\"");
+    PUT_WORD(verb);
+    PUT("\",\"user\":{");
+    if (user >= 0) {
+        PUT("\"username\":\"system:serviceaccount:team-");
+        put_number(user % 20);
+        PUT(":worker-");
+        put_number(user);
+        PUT("\",\"uid\":\"");
+        padded(user, 8, 16);
+        PUT("-0b7c-4d3e-9a55-2f60c1e7d7aa\",");
+    }
+    PUT("\"groups\":[\"system:serviceaccounts\",\"system:serviceaccounts:team-1\",\"system:authenticated\"]},\"sourceIPs\":[\"10.0.7.19\"],");
+    PUT("\"userAgent\":\"kubectl/v1.34.1 (linux/amd64) kubernetes/93248f9\",\"objectRef\":{\"resource\":\"pods\",\"namespace\":\"team-1\",\"apiVersion\":\"v1\"},");
+    PUT("\"responseStatus\":{\"metadata\":{},\"code\":");
+    put_number(code);
+    PUT("},\"requestReceivedTimestamp\":\"");
+    put_instant(received);
+    PUT("\",\"stageTimestamp\":\"");
+    put_instant(ended);
+    PUT("\",\"annotations\":{");
+    if (waited) {
+        PUT("\"apiserver.latency.k8s.io/apf-queue-wait\":\"");
+        put_number(waited);
+        PUT("\xc2\xb5s\",");
+    }
+    PUT("\"authorization.k8s.io/decision\":\"allow\",\"authorization.k8s.io/reason\":\"RBAC: allowed by RoleBinding worker of team\"}}\n");
 }
 
 static void audit_log(uint64_t count, const char *name) {
@@ -105,8 +182,6 @@ static void audit_log(uint64_t count, const char *name) {
 }
 
 int main(int words, char **word) {
-    static char buffer[1 << 16];
-    setvbuf(stdout, buffer, _IOFBF, sizeof buffer);
     if (words < 5)
         return 2;
     state = 0x9e3779b97f4a7c15 ^ strtoull(word[2], NULL, 10);
@@ -116,5 +191,6 @@ int main(int words, char **word) {
         audit_log(strtoull(word[3], NULL, 10), word[4]);
     else
         return 2;
-    return fflush(stdout) != 0 || ferror(stdout);
+    flush();
+    return is_broken;
 }

@@ -156,7 +156,8 @@ class Fates:
 
     def __init__(self, lines):
         self.header, *rows = lines or [""]
-        self.rows = [dict(zip(self.header.split(" "), row.split(" ", 8))) for row in rows]
+        names = self.header.split(" ")
+        self.rows = [dict(zip(names, row.split(" ", 8))) for row in rows]
         self.are_formed = all(map(FATE.fullmatch, rows))
 
     def broken(self, limit, trace, patience):

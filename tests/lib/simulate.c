@@ -17,7 +17,7 @@
 typedef unsigned __int128 sum;
 typedef __int128 service;
 
-enum { MOST_THERE = 10000, MOST_FLOWS = 100000, MOST_EXACT = 10000, WINDOW = 131072, PLACES = 1 << 18, MOST_QUEUES = 1024 };
+enum { MOST_THERE = 10000, MOST_FLOWS = 100000, MOST_EXACT = 10000, WINDOW = 131072, PLACES = 1 << 18, MOST_QUEUES = 1024, MOST_HAND = 16 };
 enum { COMING, RUNNING, WAITING, EXECUTED, QUEUE_FULL, NO_ROOM, CANCELLED };
 enum { BY_TIME, BY_SEATS };
 
@@ -31,7 +31,8 @@ struct request {
 };
 
 struct queue {
-    uint32_t first, last, length;
+    /* the cost is that of the first one */
+    uint32_t first, last, length, cost;
     service start;
 };
 
@@ -40,6 +41,9 @@ struct row {
     uint32_t first_line, requests, executed, cancelled, room;
     sum seat_time;
     int64_t *waits;
+    /* the hand of its flow, once it is dealt */
+    uint16_t hand[MOST_HAND];
+    int is_dealt;
 };
 
 static int64_t limit, queue_count, hand_size, most_waiting, patience;
@@ -73,52 +77,91 @@ static void *resized(void *old, size_t size) {
 
 /* The trace. */
 
-static int take(char **at, const char *text) {
-    size_t length = strlen(text);
-    if (strncmp(*at, text, length))
-        return 0;
-    *at += length;
-    return 1;
-}
+/* The bytes of a trace, and where a line of it is read. */
+static char *bytes, *at;
+static size_t bytes_room;
 
-static uint64_t number_behind(char **at, const char *key, uint64_t absent) {
-    return take(at, key) ? strtoull(*at, at, 10) : absent;
-}
-
-static int read_trace(const char *name) {
-    char *line = NULL;
-    size_t size = 0;
-    int costs = 0;
+static void read_whole(const char *name) {
+    size_t size = 0, more;
     FILE *file = fopen(name, "r");
     if (!file)
         fail(name);
-    for (count = 0; getline(&line, &size, file) > 0; count++) {
+    do {
+        if (bytes_room - size < 1 << 16)
+            bytes = resized(bytes, bytes_room = 2 * bytes_room + (1 << 20));
+        more = fread(bytes + size, 1, bytes_room - size - 1, file);
+        size += more;
+    } while (more);
+    bytes[size] = 0;
+    fclose(file);
+}
+
+static int take(const char *text, size_t length) {
+    if (strncmp(at, text, length))
+        return 0;
+    at += length;
+    return 1;
+}
+
+#define TAKE(text) take(text, sizeof text - 1)
+
+static uint64_t digits(void) {
+    uint64_t number = 0;
+    for (; *at >= '0' && *at <= '9'; at++)
+        number = 10 * number + (*at - '0');
+    return number;
+}
+
+#define NUMBER_BEHIND(key, absent) (TAKE(key) ? digits() : (absent))
+
+static int read_trace(const char *name) {
+    int costs = 0;
+    read_whole(name);
+    at = bytes;
+    for (count = 0; *at; count++) {
         if (count == room)
             all = resized(all, (room = 2 * room + 1000) * sizeof *all);
         struct request *it = &all[count];
         memset(it, 0, sizeof *it);
-        char *at = line;
         it->line = count;
         it->charged = -1;
-        it->hash = number_behind(&at, "{\"hash\":", 0);
-        it->width = number_behind(&at, ",\"width\":", 1);
-        it->line_cost = number_behind(&at, ",\"cost\":", 0);
-        it->arrives = number_behind(&at, ",\"arrivesAt\":", 0);
-        it->runs = number_behind(&at, ",\"runsFor\":", 0);
+        it->hash = NUMBER_BEHIND("{\"hash\":", 0);
+        it->width = NUMBER_BEHIND(",\"width\":", 1);
+        it->line_cost = NUMBER_BEHIND(",\"cost\":", 0);
+        it->arrives = NUMBER_BEHIND(",\"arrivesAt\":", 0);
+        it->runs = NUMBER_BEHIND(",\"runsFor\":", 0);
         costs |= it->line_cost && count <= WINDOW;
-        if (strcmp(at, "}\n"))
-            fail(line);
+        if (!TAKE("}\n"))
+            fail(at);
     }
-    fclose(file);
-    free(line);
     return costs;
 }
 
+/* The requests by their arrivals, and those of one time by their lines. */
+
+struct place {
+    int64_t arrives;
+    uint32_t line;
+};
+
 static int by_arrival(const void *a, const void *b) {
-    const struct request *one = a, *other = b;
+    const struct place *one = a, *other = b;
     if (one->arrives != other->arrives)
         return one->arrives < other->arrives ? -1 : 1;
     return one->line < other->line ? -1 : one->line > other->line;
+}
+
+static void sort(void) {
+    struct place *places = resized(NULL, (count + 1) * sizeof *places);
+    struct request *sorted = resized(NULL, room * sizeof *sorted + 1);
+    for (uint32_t line = 0; line < count; line++)
+        places[line] = (struct place){all[line].arrives, line};
+    qsort(places, count, sizeof *places, by_arrival);
+    for (uint32_t turn = 0; turn < count; turn++)
+        sorted[turn] = all[places[turn].line];
+    free(places);
+    free(all);
+    all = sorted;
 }
 
 /* What a request is charged, by the means of the flows that are known: sets of eight, in each of which the flow goes that learned longest ago. */
@@ -276,19 +319,21 @@ static int fits(const struct request *it) {
 static void leave(struct queue *queue) {
     queue->first = all[queue->first].next;
     queue->length--;
+    queue->cost = queue->length ? all[queue->first].cost : 0;
     waiting--;
 }
 
 static void dispatch(int64_t now) {
-    while (waiting) {
+    /* where no seat is free nobody fits */
+    while (waiting && seats < limit) {
         struct queue *chosen = NULL;
         service best = 0;
-        for (uint32_t step = 0, at = last_served; step < queue_count; step++) {
-            at = at + 1 < queue_count ? at + 1 : 0;
-            struct queue *queue = &queues[at];
-            if (queue->length && (!chosen || queue->start + all[queue->first].cost < best)) {
+        for (uint32_t step = 0, place = last_served; step < queue_count; step++) {
+            place = place + 1 < queue_count ? place + 1 : 0;
+            struct queue *queue = &queues[place];
+            if (queue->length && (!chosen || queue->start + queue->cost < best)) {
                 chosen = queue;
-                best = queue->start + all[queue->first].cost;
+                best = queue->start + queue->cost;
             }
         }
         uint32_t number = chosen->first;
@@ -331,19 +376,30 @@ static void give_up(uint32_t number, int64_t now) {
     dispatch(now);
 }
 
-/* The shortest queue of the flow's hand, and of equally short ones the one that was dealt first. */
-static uint32_t queue_of(uint64_t hash) {
+static void deal(uint64_t hash, uint16_t *hand) {
     uint16_t cards[MOST_QUEUES];
-    uint32_t left = queue_count, best = 0;
+    uint32_t left = queue_count;
     for (uint32_t card = 0; card < left; card++)
         cards[card] = card;
     for (int dealt = 0; dealt < hand_size; dealt++) {
-        uint32_t place = hash % left, card = cards[place];
+        uint32_t place = hash % left;
+        hand[dealt] = cards[place];
         hash /= left--;
         memmove(cards + place, cards + place + 1, (left - place) * sizeof *cards);
-        if (!dealt || queues[card].length < queues[best].length)
-            best = card;
     }
+}
+
+/* The shortest queue of the flow's hand, and of equally short ones the one that was dealt first. */
+static uint32_t queue_of(const struct request *it) {
+    struct row *row = &rows[it->row];
+    if (!row->is_dealt)
+        deal(it->hash, row->hand);
+    /* flows beyond the most have one row together */
+    row->is_dealt = it->row != MOST_FLOWS;
+    uint32_t best = row->hand[0];
+    for (int dealt = 1; dealt < hand_size; dealt++)
+        if (queues[row->hand[dealt]].length < queues[best].length)
+            best = row->hand[dealt];
     return best;
 }
 
@@ -357,7 +413,7 @@ static void arrive(uint32_t number, int64_t now) {
     } else if (!queue_count) {
         it->state = NO_ROOM;
     } else {
-        it->queue = queue_of(it->hash);
+        it->queue = queue_of(it);
         struct queue *queue = &queues[it->queue];
         if (queue->length == most_waiting) {
             it->state = QUEUE_FULL;
@@ -367,7 +423,8 @@ static void arrive(uint32_t number, int64_t now) {
             queue->start = virtual_time;
         *(queue->length ? &all[queue->last].next : &queue->first) = number;
         queue->last = number;
-        queue->length++;
+        if (!queue->length++)
+            queue->cost = it->cost;
         it->state = WAITING;
         waiting++;
         entered++;
@@ -395,7 +452,7 @@ static void run(void) {
     int64_t end = 0;
     uint32_t coming = 0, oldest = 0;
     begin();
-    qsort(all, count, sizeof *all, by_arrival);
+    sort();
     for (;;) {
         int64_t arrival = coming < count ? all[coming].arrives : INT64_MAX, late = INT64_MAX, over = INT64_MAX;
         while (oldest < coming && all[oldest].state != WAITING)

@@ -4,6 +4,7 @@ A run looks at each step for what is due, and makes the calls of the independent
 means of what finished until then (charges.py). By time, what it took is charged in the place of its cost as it finishes.
 """
 
+import functools
 import re
 from fractions import Fraction
 
@@ -260,6 +261,12 @@ def hands_of(config, trace, name):
     return lines
 
 
+@functools.lru_cache(maxsize=2)
+def run_of(config, content, patience, charge):
+    """The run of a trace on a level, both of which are good files with these bytes. The last ones are kept, as several commands are tried on them."""
+    return Run(config_of(config), trace_of(content, in_pieces=True), patience, charge)
+
+
 def answer(command, contents, patience=None, charge=None):
     """The status, output and errors of one of these commands, on files of these bytes that are judged in this order: the configs
     of its levels, and the trace. Then the levels are opened. Without a patience it makes no run."""
@@ -273,7 +280,7 @@ def answer(command, contents, patience=None, charge=None):
                 raise Refused(fault)
         if command is timeline and len(trace) > LISTED:
             raise Refused(f"apf: there are more than {LISTED} requests: simulate, compare and fates take any number")
-        lines = command(*levels, trace) if patience is None else command(*(Run(level, trace, patience, charge) for level in levels))
+        lines = command(*levels, trace) if patience is None else command(*(run_of(it, content, patience, charge) for it in configs))
         return 0, "".join(f"{line}\n" for line in lines).encode(), b""
     except Refused as line:
         return 1, b"", f"{line}\n".encode()

@@ -79,10 +79,18 @@ def lines_of(content):
     return [*((line, True) for line in lines), *([(rest, False)] if rest else [])]
 
 
-@functools.lru_cache(maxsize=16)
 def value_of(line):
-    """The JSON value of a line. The last ones are kept, as large traces of the tests repeat one line."""
+    """The JSON value of a line."""
     return Json(line).whole()
+
+
+# the last lines are kept, as large traces of the tests repeat one
+@functools.lru_cache(maxsize=16)
+def read_of(line):
+    """The JSON value of a line, its first fault, and its request where it has none."""
+    value = value_of(line)
+    fault = value_fault(value)
+    return value, fault, None if fault else request_of(value)
 
 
 def value_fault(value):
@@ -116,6 +124,8 @@ def request_of(value):
     }
 
 
+# the last one is kept, as several commands are tried on it; what it answers is not changed
+@functools.lru_cache(maxsize=1)
 def trace_of(content, in_pieces=False):
     """The requests of a trace. One that is read in pieces may have any number of lines, and no line that is too long is kept."""
     requests = []
@@ -125,12 +135,12 @@ def trace_of(content, in_pieces=False):
         if len(line) > BYTES:
             raise TraceFault(TOO_LONG, number, f"the line has more than {BYTES} bytes" if in_pieces else told(TOO_LONG, line))
         try:
-            value = value_of(line)
+            value, fault, request = read_of(line)
         except NotJson:
             file = CONFIG_AS_TRACE if number == 1 and is_config(content) else ""
             raise TraceFault(NOT_JSON, number, told(NOT_JSON, line, file=file)) from None
-        fault = value_fault(value) or (None if is_ended else TRUNCATED)
+        fault = fault or (None if is_ended else TRUNCATED)
         if fault:
             raise TraceFault(fault, number, told(fault, line, value))
-        requests.append(request_of(value))
+        requests.append(request)
     return requests

@@ -18,6 +18,7 @@ use Rattle.apf_life.specs.declared.answers.Begin.{Begin}
 use Rattle.apf_life.specs.declared.answers.Begin.TheVariants as begun
 use Rattle.apf_life.specs.Admission.{begun_pass}
 use Rattle.apf_line.specs.Levels.{LifeId, IsHistoryOf}
+use Rattle.apf_line.specs.Tries.{FoundNoSeatsSince}
 
 -- all steps that the Pass knew of it knows of still, and of later ones
 abbrev pub TraceGoesOn : PassToken → PassToken → Type 0
@@ -64,7 +65,13 @@ NeedsNoEvent (begun.Run token) = token.pass.entered ≡ false
 NeedsNoEvent (begun.Over token decision) = (token.pass.entered ≡ false) × (decision ≢ decisions.QueueFull)
 NeedsNoEvent (begun.Waiting token) = ⊥
 
--- the event, if there is one, is the request's, and the level's history got it, with this hand and this cost
+-- the event, if there is one, is that of a request that came to its queues, and the level's history got it, with this hand and this cost
+abbrev pub LogsInLine : LifeId → List Entry → ℕ → List ℕ → ℕ → Begin → Option LifeEvent → Type 0
+LogsInLine k known r hand cost answer None = NeedsNoEvent answer
+LogsInLine k known r hand cost answer (Some event) = IsEventOf r answer (event_of event) × Came k known r hand cost (event_of event) (begun_pass answer).pass.knows.trace
+
+-- the same of a request that arrived. It came to its queues only once it had tried to take its seats and found none: others waited, or it did not fit
 abbrev pub Logs : LifeId → List Entry → ℕ → List ℕ → ℕ → Begin → Option LifeEvent → Type 0
 Logs k known r hand cost answer None = NeedsNoEvent answer
 Logs k known r hand cost answer (Some event) = IsEventOf r answer (event_of event) × Came k known r hand cost (event_of event) (begun_pass answer).pass.knows.trace
+    × FoundNoSeatsSince known r (begun_pass answer).pass.knows.trace

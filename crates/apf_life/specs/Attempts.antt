@@ -1,7 +1,8 @@
 -- One attempt of a request to be admitted, which says why it is busy, and leaves the Pass in its place.
-use Rattle.std.specs.Prelude.{◌≡◌, ◌≢◌, ◌⊎◌, ◌==◌, not, Bool, false, Some, None}
+use Rattle.std.specs.Prelude.{◌≡◌, ◌≢◌, ◌⊎◌, ◌==◌, not, Bool, false, List, Some, None}
 use Rattle.apf_words.specs.Level.{Level}
 use Rattle.apf_words.specs.declared.decision.Decision.TheVariants as decisions
+use Rattle.apf_gate.specs.declared.record.Entry.{Entry}
 use Rattle.apf_gate.specs.declared.record.PassRecord.{PassRecord}
 use Rattle.apf_gate.specs.declared.record.State.TheVariants.{Fresh}
 use Rattle.apf_gate.specs.Records.{told_own}
@@ -11,6 +12,7 @@ use Rattle.apf_level.specs.Admission.{TakesAndRuns, TakesAndLoses, FindsClosed, 
 use Rattle.apf_life.specs.declared.answers.Tried.{Tried}
 use Rattle.apf_life.specs.declared.answers.Tried.TheVariants as tries
 use Rattle.apf_line.specs.Tokens.{IsRunning, IsDone}
+use Rattle.apf_line.specs.Tries.{FoundNoSeatsSince}
 
 -- the Pass that was left is what the answer says: of a request that executes, or that is over
 abbrev pub IsKeptBy : Tried → PassToken → Type 0
@@ -61,3 +63,10 @@ StaysOut pass tries.Run token = token.pass.entered ≡ pass.entered
 StaysOut pass (tries.Over decision waiters) token = (token.pass.entered ≡ pass.entered) × (decision ≢ decisions.QueueFull)
 StaysOut pass tries.Blocked token = (token.pass.state ≡ Fresh) × (token.pass.entered ≡ pass.entered)
 StaysOut pass tries.Raced token = (token.pass.state ≡ Fresh) × (token.pass.entered ≡ pass.entered)
+
+-- a request that is blocked tried to take its seats since its Pass knew of these steps, and found none. One that lost an exchange may try again
+abbrev pub FoundIfBlocked : List Entry → Tried → PassToken → Type 0
+FoundIfBlocked known tries.Run left = Unit {0}
+FoundIfBlocked known (tries.Over decision waiters) left = Unit {0}
+FoundIfBlocked known tries.Blocked left = FoundNoSeatsSince known left.pass.number left.pass.knows.trace
+FoundIfBlocked known tries.Raced left = Unit {0}

@@ -20,7 +20,7 @@ use Rattle.apf_life.specs.declared.answers.Tried.{Tried}
 use Rattle.apf_line.specs.Levels.{LifeId}
 use Rattle.apf_line.specs.Tokens.{IsOf}
 use Rattle.apf_life.specs.Admission.{begun_pass, IsBegunTold, EnteredNow}
-use Rattle.apf_life.specs.Attempts.{IsAttemptedTold, FoundOpen, StaysOut}
+use Rattle.apf_life.specs.Attempts.{IsAttemptedTold, FoundOpen, StaysOut, FoundIfBlocked}
 
 -- whether what requests take is settled, on a level of this many slots
 abbrev pub settles_by : Settling → ℕ → Bool
@@ -82,12 +82,13 @@ pub record StandsInLine (k : LifeId) (token : PassToken) (hand : List ℕ) (cost
   pub low : cost ≤ max_cost
   pub asked : IsAskedBy k.sizes token.pass.knows.trace hand cost token.pass.number
 
--- what an attempt answers and leaves, beside its steps: the Pass of the same request, which was told what is answered. One that saw the level closed finds it closed, and nobody enters
+-- what an attempt answers and leaves, beside its steps: the Pass of the same request, which was told what is answered. One that saw the level closed finds it closed, and nobody enters. One that is blocked found no seats
 pub record AfterAttempt (token : PassToken) (answer : Tried) (left : PassToken) : Type 0 where
   pub same : IsOf token left
   pub told : IsAttemptedTold answer left
   pub stays_closed : token.pass.knows.saw_closed ≡ true → ¬ FoundOpen answer
   pub outside : StaysOut token.pass answer left
+  pub found : FoundIfBlocked token.pass.knows.trace answer left
 
 -- what an arrival leaves and answers: the Pass of the same request, which was told what is answered, and has whether its request entered
 pub record AfterBegin (token : PassToken) (answer : Begin) : Type 0 where

@@ -10,7 +10,7 @@ ghost use Rattle.apf_gate.specs.Tokens.{pass_gate};
 ghost use Rattle.apf_line.specs.Tokens.{IsOf, IsInLine};
 ghost use Rattle.apf_life.specs.InPlace.{begin_of, poll_of, IsLeftBy, IsDecided, HasEnteredIf};
 ghost use Rattle.apf_life.specs.Admission.{polled_pass, admitted_pass, begun_of, IsAdmittedTold, SaysWaiting, Polls};
-ghost use Rattle.apf_life.specs.Arrivals.{Logs, TraceGoesOn};
+ghost use Rattle.apf_life.specs.Arrivals.{Logs, LogsInLine, TraceGoesOn};
 ghost use Rattle.apf_life.specs.Calls.{IsFreshPass, AfterBegin};
 
 use crate::answers::{Admit, Begin, Begun, Enqueued, Poll, Tried};
@@ -163,7 +163,7 @@ impl<K: Naming> Level<K> {
         ensures left { IsLeftBy result.0 pass.new }
         ensures goes_on { TraceGoesOn pass.old pass.new }
         ensures after { AfterBegin pass.old (begin_of result.0 pass.new) }
-        ensures logs { Logs K.level pass.old.pass.knows.trace pass.old.pass.number (hand_of K.level.sizes hash) cost (begin_of result.0 pass.new) result.1 }
+        ensures logs { LogsInLine K.level pass.old.pass.knows.trace pass.old.pass.number (hand_of K.level.sizes hash) cost (begin_of result.0 pass.new) result.1 }
         ensures queues { self.now.shape.response ≡ Queue }
     {
         self.gate.ask(pass);

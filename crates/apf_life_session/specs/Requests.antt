@@ -21,6 +21,7 @@ use Rattle.apf_life.specs.InPlace.{poll_of}
 use Rattle.apf_life.specs.Releases.{ReleasesMeasured}
 use Rattle.apf_line.specs.Levels.{LifeId}
 use Rattle.apf_line.specs.Tokens.{IsInLine, IsRunning, IsDone}
+use Rattle.apf_line.specs.Tries.{FoundNoSeatsSince}
 use Rattle.apf_flow.specs.Deal.{hand_of}
 use Rattle.apf_gate.specs.declared.record.Entry.{Entry}
 use Rattle.apf_gate.specs.Traces.{asked_in}
@@ -204,11 +205,11 @@ TriesAs width hash (tokens.Waiting pass) answer token' = Unit {0}
 TriesAs width hash (tokens.Running pass) answer token' = Unit {0}
 TriesAs width hash tokens.Gone answer token' = Unit {0}
 
--- what the history got by the arrival of the slot's request, of a flow with this hash and with this cost, that is answered so: its Enter, or its Full if a queue was full, of a request that came with the hand of that flow, by steps that begin it with what it asked for. It is the newest event of the level's history at that time, by all steps, which its Pass knows of. And no event only if it did not enter, and no queue was full
+-- what the history got by the arrival of the slot's request, of a flow with this hash and with this cost, that is answered so: its Enter, or its Full if a queue was full, of a request that came with the hand of that flow, by steps that begin it with what it asked for. It is the newest event of the level's history at that time, by all steps, which its Pass knows of. It came to its queues only once it had tried to take its seats and found none. And no event only if it did not enter, and no queue was full
 abbrev pub LogsFor : LifeId → Token → ℕ → ℕ → Answer → Option LifeEvent → Type 0
 LogsFor k token hash cost answer None = NeedsNoEvent answer token
 LogsFor k token hash cost answer (Some event) = SaysWhere answer × IsEventOf (number_in token) answer token (event_of event)
-    × ((known : List Entry) × (asked_in known (number_in token) ≡ Some (record { hash = hash; cost = cost })) × Came k known (number_in token) (hand_of k.sizes hash) cost (event_of event) (trace_in token))
+    × ((known : List Entry) × (asked_in known (number_in token) ≡ Some (record { hash = hash; cost = cost })) × Came k known (number_in token) (hand_of k.sizes hash) cost (event_of event) (trace_in token) × FoundNoSeatsSince known (number_in token) (trace_in token))
 
 -- a call of a slot whose request is at this place, and else answers that it is wrong here and changes nothing
 pub record Answers (place : Place) (old : Token) (answer : Answer) (new : Token) : Type 0 where

@@ -5,3 +5,4 @@ pub mod Stopped
 pub mod Laws
 pub mod Promises
 pub mod SeatTime
+pub mod Tries

@@ -1,5 +1,6 @@
 -- Where a request is after its try and a hearing.
 use Rattle.std.proofs.Common.{◌≡◌, ◌≢◌, inl, inr, Some, None, refl, sym, ap, ◌∙◌}
+use Rattle.std.proofs.lemmas.List.{append-nil}
 use Rattle.apf_words.specs.declared.decision.Decision.{Decision}
 use Rattle.apf_gate.specs.declared.record.State.TheVariants as states
 use Rattle.apf_gate.specs.Records.{told_own}
@@ -32,7 +33,8 @@ module _ (ask : Ask) (b b' : LifeBookView) (old p p' : PassToken) (same : SameRe
     record {
       before = old.pass;
       after = no_room.1.found;
-      number = same.number ∙ no_room.1.number;
+      number = sym (same.number ∙ no_room.1.number);
+      since = (old.pass.knows.trace, append-nil old.pass.knows.trace);
       finds = no_room.1.finds;
       goes_on = goes_on_then no_room.1.found.knows.trace p.pass.knows.trace p'.pass.knows.trace no_room.1.goes_on (hears_trace b b' p p' same hears);
     },
@@ -43,5 +45,5 @@ module _ (ask : Ask) (b b' : LifeBookView) (old p p' : PassToken) (same : SameRe
   begun (took.Over d) not takes asked =
       let told = hears_told b b' p p' same hears d takes.1 in
       (over_is_done p' d (hears.state ∙ takes.0) told, told, refused d takes.2)
-  begun took.Blocked not takes asked = (hears.state ∙ takes.0, ap (λ (g : GateId). g.shape.response) same.pass ∙ takes.1, asked_then p.pass.knows.trace p'.pass.knows.trace p.pass.number p'.pass.number (record { hash = ask.hash; cost = ask.cost }) (hears_trace b b' p p' same hears) same.number asked, record { before = old.pass; after = p.pass; number = same.number; finds = takes.2; goes_on = hears_trace b b' p p' same hears })
+  begun took.Blocked not takes asked = (hears.state ∙ takes.0, ap (λ (g : GateId). g.shape.response) same.pass ∙ takes.1, asked_then p.pass.knows.trace p'.pass.knows.trace p.pass.number p'.pass.number (record { hash = ask.hash; cost = ask.cost }) (hears_trace b b' p p' same hears) same.number asked, record { before = old.pass; after = p.pass; number = sym same.number; since = (old.pass.knows.trace, append-nil old.pass.knows.trace); finds = takes.2; goes_on = hears_trace b b' p p' same hears })
   begun took.Raced not takes asked = absurd (not refl)

@@ -1,5 +1,5 @@
 -- A gate, its book and all of its tokens in one hand, and what the calls of their owner answer.
-use Rattle.std.specs.Prelude.{◌≡◌, ◌≢◌, ◌⊎◌, ◌≤◌, ℕ, ◌*◌, ◌++◌, ◌==◌, not, Bool, false, List, length, All, slice_get, slice_set, Option, Some, None}
+use Rattle.std.specs.Prelude.{◌≡◌, ◌≢◌, ◌⊎◌, ◌≤◌, ℕ, ◌*◌, ◌++◌, ◌==◌, not, Bool, false, List, [], length, All, slice_get, slice_set, Option, Some, None}
 use Rattle.apf_words.specs.Level.{Level}
 use Rattle.apf_words.specs.declared.decision.Decision.{Decision}
 use Rattle.apf_words.specs.declared.decision.Decision.TheVariants.{Execute, QueueFull, Closed, Cancelled, ConcurrencyLimit}
@@ -29,6 +29,7 @@ use Rattle.apf_book.specs.Life.{LifeView, IsAskedBy, then_came}
 use Rattle.apf_book.specs.LifeBook.{LifeBookView, IsLifeKept, arrived_in}
 use Rattle.apf_book.specs.LifeCalls.{SameLifeBook}
 use Rattle.apf_line.specs.Tokens.{IsDone, IsInLine, IsRunning}
+use Rattle.apf_line.specs.Tries.{FindsNoSeats, FoundNoSeatsSince}
 use Rattle.apf_local.specs.declared.answer.Ask.{Ask}
 use Rattle.apf_local.specs.Worlds.{HasComeIn}
 use Rattle.apf_local.specs.declared.taking.Took.{Took}
@@ -78,10 +79,6 @@ pub record Moves (slot : ℕ) (old new : List PassToken) (Does : PassToken → P
   pub now : new ≡ slice_set old slot after
   pub does : Does before after
 
--- it loaded the level word, and found that others wait, or that it does not fit
-abbrev pub FindsNoSeats : PassRecord → PassRecord → Type 0
-FindsNoSeats pass pass' = TriesToTake pass tried.Waiters pass' ⊎ TriesToTake pass tried.NoRoom pass'
-
 -- at a gate without queues it found no seats, and then decided
 pub record FindsNoRoom (pass pass' : PassRecord) : Type 0 where
   pub no_queues : pass'.knows.shape.response ≡ Reject
@@ -102,12 +99,8 @@ Takes pass took.Blocked pass' = (pass'.state ≡ states.Fresh) × (pass'.knows.s
 Takes pass took.Raced pass' = TriesToTake pass tried.Raced pass'
 
 -- the request of this Pass tried to take its seats, and found none
-pub record FoundNoSeats (token : PassToken) : Type 0 where
-  pub before : PassRecord
-  pub after : PassRecord
-  pub number : token.pass.number ≡ after.number
-  pub finds : FindsNoSeats before after
-  pub goes_on : (newer : List Entry) × (newer ++ after.knows.trace ≡ token.pass.knows.trace)
+abbrev pub FoundNoSeats : PassToken → Type 0
+FoundNoSeats token = FoundNoSeatsSince [] token.pass.number token.pass.knows.trace
 
 -- the same, where it was decided so. Only at a gate without queues is a request rejected because it found no seats
 abbrev pub IsRefusal : PassToken → Decision → Type 0

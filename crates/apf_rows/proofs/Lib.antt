@@ -4,3 +4,5 @@ pub mod Meeting
 pub mod Flows
 pub mod Tabling
 pub mod Ordered
+pub mod Areas
+pub mod Columns

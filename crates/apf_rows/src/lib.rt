@@ -16,7 +16,7 @@ mod table;
 
 pub use account::{Account, Figures};
 pub use comparison::{Place, order_of, write_comparison};
-pub use laws::every_flow_is_met;
+pub use laws::{every_flow_is_met, every_sum_is_an_area, every_table_adds_up};
 pub use row::Row;
 pub use rows::{MOST_FLOWS, Rows};
 pub use sums::Sums;

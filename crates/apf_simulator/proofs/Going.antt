@@ -9,7 +9,7 @@ use Rattle.apf_stream.specs.declared.ended.Ended.{Ended}
 use Rattle.apf_stream.specs.States.{State}
 use Rattle.apf_simulator.specs.Feeds.{GoOn}
 use Rattle.apf_simulator.specs.Lanes.{GoesOn, IsLane, LaneView}
-use Rattle.apf_simulator.specs.Turns.{AreBothTurns, AreTurns, HasTurns, Turn, came_by, came_in, ends_in, told_by}
+use Rattle.apf_simulator.specs.Turns.{AreBothTurns, AreTurns, Begins, HasTurns, Turn, came_by, came_in, ends_in, first_of, told_by}
 
 abbrev pub Came : Type 0
 Came = Arrival TraceRequest
@@ -17,6 +17,26 @@ Came = Arrival TraceRequest
 -- who came, with one turn more
 pub came_then : (turns : List Turn) (t : Turn) → came_by (turns ++ t ∷ []) ≡ came_by turns ++ came_in t
 came_then turns t = flat_map-append came_in turns (t ∷ []) ∙ ap (λ (l : List Came). came_by turns ++ l) (append-nil (came_in t))
+
+-- who came first stays so
+pub first_alone : (first : Option Came) → Begins first [] first
+first_alone None = refl
+first_alone (Some x) = refl
+
+first_stays : (came : List Came) (x : Came) (more : List Came) → first_of ((came ++ x ∷ []) ++ more) ≡ first_of (came ++ x ∷ [])
+first_stays [] x more = refl
+first_stays (y ∷ came) x more = refl
+
+pub begins_on : (first : Option Came) (turns : List Turn) (x : Came) (ends : List Ended) (next : Option Came) → Begins first turns (Some x) → Begins first (turns ++ record { came = Some x; ends = ends } ∷ []) next
+begins_on first turns x ends next is =
+    ap (λ (l : List Came). first_of (l ++ option_to_list next)) (came_then turns (record { came = Some x; ends = ends })) ∙ (first_stays (came_by turns) x (option_to_list next) ∙ is)
+
+pub begins_last : (first : Option Came) (turns : List Turn) (ends : List Ended) → Begins first turns None → Begins first (turns ++ record { came = None; ends = ends } ∷ []) None
+begins_last first turns ends is =
+    ap (λ (l : List Came). first_of (l ++ [])) (came_then turns (record { came = None; ends = ends }) ∙ append-nil (came_by turns)) ∙ is
+
+pub first_came : (first : Option Came) (turns : List Turn) → Begins first turns None → first ≡ first_of (came_by turns)
+first_came first turns is = sym is ∙ ap first_of (append-nil (came_by turns))
 
 pub told_then : (turns : List Turn) (t : Turn) → told_by (turns ++ t ∷ []) ≡ told_by turns ++ t.ends
 told_then turns t = flat_map-append ends_in turns (t ∷ []) ∙ ap (λ (l : List Ended). told_by turns ++ l) (append-nil t.ends)

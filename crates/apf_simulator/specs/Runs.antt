@@ -11,14 +11,13 @@ use Rattle.apf_trace_reader.specs.Reading.{AreAll, HasRead}
 use Rattle.apf_trace_reader.specs.Views.{ReaderView}
 use Rattle.apf_simulator.specs.Lanes.{IsLane, IsOpening, LaneView, usual_charge}
 use Rattle.apf_simulator.specs.Feeds.{IsOver}
-use Rattle.apf_simulator.specs.Turns.{AreTurns, Turn, came_by}
+use Rattle.apf_simulator.specs.Turns.{AreTurns, Turn, came_by, first_of}
 
--- What requests are charged: this, or where nothing is said what they usually are, by what was read when the first request was handed out.
-pub record IsCharge (by : Option ChargedBy) (was : Option (List ℕ)) (charged : ChargedBy) : Type 0 where
+-- What requests are charged: this, or where nothing is said what they usually are, by what was read when this one, the first, was handed out.
+pub record IsCharge (by : Option ChargedBy) (was : Option (List ℕ)) (first : Option (Arrival TraceRequest)) (charged : ChargedBy) : Type 0 where
   pub front : List ℕ
   pub left : Option (List ℕ)
   pub given : Consumes was left front
-  pub first : Option (Arrival TraceRequest)
   pub reader : ReaderView
   pub read : HasRead front (option_to_list first) left reader
   pub is : charged ≡ unwrap_or by (usual_charge reader.has_cost)
@@ -39,7 +38,7 @@ pub record HasRunAll (config : Config) (patience : ℕ) (by : Option ChargedBy) 
   pub all : AreAll size bytes (came_by turns)
   pub ended : IsAtEnd left
   pub charged : ChargedBy
-  pub charge : IsCharge by was charged
+  pub charge : IsCharge by was (first_of (came_by turns)) charged
   pub gone : HasGone config patience charged turns v
 
 -- the same, in turns of which this was heard

@@ -1,5 +1,5 @@
 -- What comes to a lane, turn by turn.
-use Rattle.std.specs.Prelude.{◌≡◌, List, [], ◌∷◌, Option, Some, None}
+use Rattle.std.specs.Prelude.{◌≡◌, List, [], ◌∷◌, ◌++◌, Option, Some, None}
 use Rattle.std.specs.List.{flat_map}
 use Rattle.std.specs.Option.{option_to_list}
 use Rattle.apf_times.specs.declared.window.Arrival.{Arrival}
@@ -25,6 +25,15 @@ came_by turns = flat_map came_in turns
 -- who was told in these turns
 abbrev pub told_by : List Turn → List Ended
 told_by turns = flat_map ends_in turns
+
+-- the first of these, if there is one
+abbrev pub first_of : List (Arrival TraceRequest) → Option (Arrival TraceRequest)
+first_of [] = None
+first_of (x ∷ came) = Some x
+
+-- this came first in these turns, or comes next, if nobody came yet
+abbrev pub Begins : Option (Arrival TraceRequest) → List Turn → Option (Arrival TraceRequest) → Type 0
+Begins first turns next = first_of (came_by turns ++ option_to_list next) ≡ first
 
 -- a lane goes on by a turn
 pub record IsTurn (t : Turn) (v v' : LaneView) : Type 0 where

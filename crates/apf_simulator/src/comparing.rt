@@ -9,6 +9,7 @@ ghost use Rattle.apf_trace_reader.specs.Reading.{HasRead};
 ghost use Rattle.apf_simulator.specs.Feeds.{AreLivedBoth, AreNew, HasFed, HaveGone, IsHandedOut, IsOver};
 ghost use Rattle.apf_simulator.specs.Lanes.{IsLane, IsOpening};
 ghost use Rattle.apf_simulator.specs.Told.{ArePrinted, HaveCompared, IsTableOf};
+ghost use Rattle.apf_simulator.specs.Turns.{Begins};
 
 use crate::charge::charge_or_usual;
 use crate::fault::SimulatorFault;
@@ -96,7 +97,7 @@ fn run_both<R: Read, W: Write>(
     requires handed_out { IsHandedOut first reader.old.window.last }
     ensures over { IfOk result (λ o. IsOver o.0 × IsOver o.1) }
     ensures gone { IfOk result (λ o. (was : Option (List ℕ)) → HasFed was (R.remaining input.old) [] first reader.old
-        → HaveGone was (R.remaining input.new) None reader.new lanes.one lanes.other o.0 (Some o.1) (λ turns. Keeps (W.contents out.old) (W.contents out.new))) }
+        → HaveGone was (R.remaining input.new) None reader.new lanes.one lanes.other o.0 (Some o.1) (λ turns. Keeps (W.contents out.old) (W.contents out.new) × Begins first turns None)) }
     ensures size { reader.new.window.size ≡ reader.old.window.size }
 {
     run(&mut lanes, &mut Nobody, first, reader, input, out)?;

@@ -5,7 +5,7 @@ ghost use Rattle.apf_stream.specs.declared.ended.Ended.{Ended as EndedOf};
 ghost use Rattle.apf_traces.specs.TraceValue.{IsRequestInRange};
 ghost use Rattle.apf_trace_reader.specs.Reading.{HasRead};
 ghost use Rattle.apf_simulator.specs.Feeds.{AreInTime, AreLivedBoth, GoOn, HasFed, HaveGone, IsAhead, IsHandedOut};
-ghost use Rattle.apf_simulator.specs.Turns.{Turn};
+ghost use Rattle.apf_simulator.specs.Turns.{Begins, Turn};
 
 use crate::fault::SimulatorFault;
 use crate::lanes::Lanes;
@@ -98,7 +98,7 @@ pub(crate) fn feed_all<R: Read, L: Listener, W: Write>(
     requires lived { AreLivedBoth lanes.old.one lanes.old.other }
     ensures lived { OnOk result (AreLivedBoth lanes.new.one lanes.new.other) }
     ensures gone { OnOk result ((was before : Option (List ℕ)) → HasFed was (R.remaining input.old) [] first reader.old → L.heard before (W.contents out.old) [] listener.old
-        → HaveGone was (R.remaining input.new) None reader.new lanes.old.one lanes.old.other lanes.new.one lanes.new.other (λ turns. L.heard before (W.contents out.new) turns listener.new)) }
+        → HaveGone was (R.remaining input.new) None reader.new lanes.old.one lanes.old.other lanes.new.one lanes.new.other (λ turns. L.heard before (W.contents out.new) turns listener.new × Begins first turns None)) }
     ensures size { reader.new.window.size ≡ reader.old.window.size }
 {
     let mut next = first;

@@ -8,6 +8,7 @@ ghost use Rattle.apf_simulator.specs.Feeds.{AreLivedBoth, AreNew, AreOver, HasFe
 ghost use Rattle.apf_simulator.specs.Lanes.{IsLane, IsOpening};
 ghost use Rattle.apf_simulator.specs.Runs.{HasBeenHeard, HasBeenHeardTo, IsCharge};
 ghost use Rattle.apf_simulator.specs.Told.{HasListed, HasToldCalls, HasToldFates};
+ghost use Rattle.apf_simulator.specs.Turns.{Begins};
 
 use crate::charge::charge_or_usual;
 use crate::fault::SimulatorFault;
@@ -57,7 +58,7 @@ pub(crate) fn run<R: Read, L: Listener, W: Write>(
     requires handed_out { IsHandedOut first reader.old.window.last }
     ensures over { OnOk result (AreOver lanes.new.one lanes.new.other) }
     ensures gone { OnOk result ((was before : Option (List ℕ)) → HasFed was (R.remaining input.old) [] first reader.old → L.heard before (W.contents out.old) [] listener.old
-        → HaveGone was (R.remaining input.new) None reader.new lanes.old.one lanes.old.other lanes.new.one lanes.new.other (λ turns. L.heard before (W.contents out.new) turns listener.new)) }
+        → HaveGone was (R.remaining input.new) None reader.new lanes.old.one lanes.old.other lanes.new.one lanes.new.other (λ turns. L.heard before (W.contents out.new) turns listener.new × Begins first turns None)) }
     ensures size { reader.new.window.size ≡ reader.old.window.size }
 {
     feed_all(lanes, listener, first, reader, input, out)?;
@@ -80,7 +81,7 @@ fn run_lane<R: Read, L: Listener, W: Write>(
     requires handed_out { IsHandedOut first reader.old.window.last }
     ensures over { IfOk result IsOver }
     ensures gone { IfOk result (λ end. (was before : Option (List ℕ)) → HasFed was (R.remaining input.old) [] first reader.old → L.heard before (W.contents out.old) [] listener.old
-        → HaveGone was (R.remaining input.new) None reader.new lane None end None (λ turns. L.heard before (W.contents out.new) turns listener.new)) }
+        → HaveGone was (R.remaining input.new) None reader.new lane None end None (λ turns. L.heard before (W.contents out.new) turns listener.new × Begins first turns None)) }
     ensures size { reader.new.window.size ≡ reader.old.window.size }
 {
     let mut lanes = Lanes {
@@ -106,7 +107,7 @@ fn open_for<R: Read>(
     ensures opened { IfOk result (λ o. IsOpening config.now terms.patience o.2 o.0.state) }
     ensures handed_out { IfOk result (λ o. IsHandedOut o.1 reader.new.window.last) }
     ensures fed { IfOk result (λ o. HasRead [] [] (R.remaining input.old) reader.old → HasFed (R.remaining input.old) (R.remaining input.new) [] o.1 reader.new) }
-    ensures charge { IfOk result (λ o. HasRead [] [] (R.remaining input.old) reader.old → IsCharge terms.by (R.remaining input.old) o.2) }
+    ensures charge { IfOk result (λ o. HasRead [] [] (R.remaining input.old) reader.old → IsCharge terms.by (R.remaining input.old) o.1 o.2) }
     ensures size { reader.new.window.size ≡ reader.old.window.size }
 {
     let first = read_first(reader, input)?;

@@ -2,6 +2,7 @@ pub mod Arriving
 pub mod Calling
 pub mod Chains
 pub mod Coming
+pub mod Honouring
 pub mod Lefts
 pub mod Places
 pub mod Readings

@@ -1,5 +1,8 @@
 -- What is done with requests, one deed after another.
-use Rattle.std.specs.Prelude.{◌≡◌, ℕ, ◌+◌, ◌≤◌, ◌==◌, cond, List, [], ◌∷◌, ◌++◌, Contains, slice_get, Option, Some, None, IfSome}
+use Rattle.std.specs.Prelude.{◌≡◌, ◌≢◌, ◌⊎◌, ℕ, ◌+◌, ◌≤◌, ◌==◌, cond, List, [], ◌∷◌, ◌++◌, Contains, slice_get, Option, Some, None, IfSome}
+use Rattle.apf_words.specs.declared.decision.Decision.{Decision}
+use Rattle.apf_words.specs.declared.decision.Decision.TheVariants.{Execute, Cancelled}
+use Rattle.apf_times.specs.declared.course.Times.{Times}
 use Rattle.apf_stream.specs.declared.deed.Deed.{Deed}
 use Rattle.apf_stream.specs.declared.deed.Deed.TheVariants.{Arrive, Finish, GiveUp, Read}
 use Rattle.apf_stream.specs.declared.ended.Ended.{Ended}
@@ -98,3 +101,16 @@ AreOf came s = (i : ℕ) (g : Guest) (h : Hold) → IsIn s.slots i g → slice_g
 pub record IsOverBy (time : ℕ) (e : Ended) : Type 0 where
   pub over : e.over_at ≤ time
   pub since : IfSome e.since (λ at. at ≤ e.over_at)
+
+-- at or after its arrival, and before it has waited for longer than its patience, unless that has no end
+pub record IsWithin (patience arrives_at at : ℕ) : Type 0 where
+  pub came : arrives_at ≤ at
+  pub in_time : patience ≢ 0 → at ≤ arrives_at + patience
+
+-- What became of a request, by its times. One that was given its seats was executed: it got them within its patience, and was over once it had run. Any other was not executed: it was over within its patience, and as it arrived, unless it was cancelled
+abbrev pub IsCourse : ℕ → Times → Decision → Option ℕ → ℕ → Type 0
+IsCourse patience times decision None over_at = (decision ≢ Execute) × ((decision ≡ Cancelled) ⊎ (over_at ≡ times.arrives_at)) × IsWithin patience times.arrives_at over_at
+IsCourse patience times decision (Some since) over_at = (decision ≡ Execute) × (over_at ≡ since + times.runs_for) × IsWithin patience times.arrives_at since
+
+abbrev pub IsHonoured : ℕ → Ended → Type 0
+IsHonoured patience e = IsCourse patience e.hold.asked.times e.decision e.since e.over_at

@@ -1,12 +1,12 @@
 //! What is true of every run of a stream.
 
-ghost use Rattle.std.specs.Prelude.{◌≡◌, ◌+◌, ◌++◌, ◌≤◌, ℕ, List, Contains};
+ghost use Rattle.std.specs.Prelude.{◌≡◌, ◌+◌, ◌++◌, ◌≤◌, ℕ, List, [], Contains};
 ghost use Rattle.std.specs.List.{AllByRecursion};
 ghost use Rattle.apf_stream.specs.declared.asked.Asked.{Asked};
 ghost use Rattle.apf_stream.specs.declared.deed.Deed.{Deed};
 ghost use Rattle.apf_stream.specs.declared.ended.Ended.{Ended};
 ghost use Rattle.apf_stream.specs.States.{State};
-ghost use Rattle.apf_stream.specs.Runs.{AreOf, HasRun, IsOverBy, IsRun, arrivals, came_of, there_of, told_of};
+ghost use Rattle.apf_stream.specs.Runs.{AreOf, HasRun, IsHonoured, IsOverBy, IsRun, arrivals, came_of, there_of, told_of};
 ghost use Rattle.apf_stream.specs.Ties.{AreTied};
 
 /// Each request that came, or was there, is told once or is there still, and nobody else: of each line, as many were told and
@@ -35,6 +35,15 @@ pub fn every_told_request_came()
 pub fn every_end_is_in_time()
     ensures forward { (deeds : List Deed) (s s' : State) (told : List Ended) → IsRun deeds s s' told → s.slots.time ≤ s'.slots.time }
     ensures over { (deeds : List Deed) (s s' : State) (told : List Ended) → IsRun deeds s s' told → AllByRecursion (IsOverBy s'.slots.time) told }
+{}
+
+/// On a level to which nobody had come before, a request gets its seats within its patience, or it gets none: it is executed
+/// exactly if it got them, and is then over once it has run.
+///
+/// It runs no code: the contract is the law.
+pub fn every_request_is_honoured()
+    ensures { (deeds : List Deed) (s s' : State) (told : List Ended) → IsRun deeds s s' told → AreTied s → AreOf [] s
+        → AllByRecursion (IsHonoured s.slots.patience) told }
 {}
 
 /// A run goes on: who came in both came, and what was told in both is told.

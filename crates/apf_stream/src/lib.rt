@@ -25,6 +25,7 @@ pub use deed::Deed;
 pub use ended::Ended;
 pub use fault::StreamFault;
 pub use laws::{
-    every_end_is_in_time, every_request_is_told_once, every_run_goes_on, every_told_request_came,
+    every_end_is_in_time, every_request_is_honoured, every_request_is_told_once, every_run_goes_on,
+    every_told_request_came,
 };
 pub use stream::Stream;

@@ -1,7 +1,7 @@
 -- The request is the same and did not enter. Whoever is not decided is fresh.
 use Rattle.std.proofs.Common.{◌≡◌, false}
 use Rattle.apf_gate.specs.Records.{KnowsMore}
-use Rattle.apf_life.specs.Attempts.{IsKeptBy, IsAttemptedTold, StaysOut}
+use Rattle.apf_life.specs.Attempts.{IsKeptBy, IsAttemptedTold, StaysOut, FoundIfBlocked}
 use Rattle.apf_line.specs.Tokens.{IsOf}
 use Rattle.apf_life.proofs.level.Level.arrive.Given as goal
 
@@ -16,4 +16,5 @@ invariant-loop g l =
       told : IsAttemptedTold l.tried l.pass;
       outside : StaysOut l.fn.pass.pass l.tried l.pass;
       never_entered : l.fn.pass.pass.entered ≡ false;
+      found : FoundIfBlocked l.fn.pass.pass.knows.trace l.tried l.pass;
     }

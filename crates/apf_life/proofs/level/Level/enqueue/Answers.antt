@@ -1,23 +1,13 @@
 -- A request that stands in line asked for the hand that was dealt it.
-use Rattle.std.proofs.Common.{rules, ◌≡◌, ◌∙◌, ◌++◌, ℕ, List, sym, subst}
-use Rattle.apf_gate.specs.declared.record.Entry.{Entry}
-use Rattle.apf_gate.specs.Tokens.{PassToken}
-use Rattle.apf_life.specs.declared.answers.Begun.{Begun}
-use Rattle.apf_life.specs.declared.answers.Begun.TheVariants as begins
+use Rattle.std.proofs.Common.{rules, ◌≡◌, ◌∙◌, ℕ, List, sym, subst}
 use Rattle.apf_life.specs.Admission.{begun_pass}
 use Rattle.apf_life.specs.InPlace.{begin_of}
 use Rattle.apf_history.specs.declared.events.Event.TheVariants.{Enter, Full}
 use Rattle.apf_flow.specs.Deal.{hand_of}
 use Rattle.apf_book.specs.Life.{IsAskedBy}
 use Rattle.apf_life.specs.Arrivals.{Came}
-use Rattle.apf_life.proofs.Asks.{asked_more, is_asked, came_more, came_since, on_of, on_then}
+use Rattle.apf_life.proofs.Asks.{asked_more, is_asked, came_more, came_since, keeps, on_of, on_then}
 use Rattle.apf_life.proofs.level.Level.enqueue.Goals as goal
-
--- the Pass of what is answered is the one that is left
-keeps : (begun : Begun) (token : PassToken) (last : List Entry) → (later : List Entry) × (later ++ last ≡ token.pass.knows.trace) → (later : List Entry) × (later ++ last ≡ (begun_pass (begin_of begun token)).pass.knows.trace)
-keeps begins.Run token last on = on
-keeps (begins.Over decision) token last on = on
-keeps begins.Waits token last on = on
 
 pub arrive-enqueued-requires-clause-stands : goal.arrive-enqueued-requires-clause-stands
 arrive-enqueued-requires-clause-stands g c = λ κs outlive.

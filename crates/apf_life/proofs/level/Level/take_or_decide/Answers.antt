@@ -1,4 +1,4 @@
-use Rattle.std.proofs.Common.{rules, ◌≡◌, ◌≢◌, refl, sym, ap, ◌∙◌, inl, inr}
+use Rattle.std.proofs.Common.{rules, ◌≡◌, ◌≢◌, [], refl, sym, ap, ◌∙◌, inl, inr}
 use Rattle.apf_model.specs.declared.response.Response.{Response}
 use Rattle.apf_model.specs.declared.response.Response.TheVariants.{Queue, Reject}
 use Rattle.apf_gate.specs.declared.record.Shape.{Shape}
@@ -90,3 +90,37 @@ returns-in-Unqueued-clause-more g c = more_then c.args.pass.now.pass.knows c.try
 
 pub returns-else-eq-clause-more : goal.returns-else-eq-clause-more
 returns-else-eq-clause-more g c = more_then c.args.pass.now.pass.knows c.decide-decision.new.pass.pass.knows c.release-waiting.new.pass.pass.knows (more_then c.args.pass.now.pass.knows c.try_take.new.pass.pass.knows c.decide-decision.new.pass.pass.knows c.try_take.ensures.same.more c.decide-decision.ensures.same.more) c.release-waiting.ensures.same.more
+
+pub returns-in-Waiters-clause-after : goal.returns-in-Waiters-clause-after
+returns-in-Waiters-clause-after g c = record {
+  same = search rules;
+  told = search rules;
+  stays_closed = search rules;
+  outside = search rules;
+  found =
+      record {
+        before = c.args.pass.now.pass;
+        after = c.try_take.new.pass.pass;
+        number = refl;
+        since = ([], refl);
+        finds = inl c.in-Waiters.ensures.answer;
+        goes_on = ([], refl);
+      };
+}
+
+pub returns-in-Queued-clause-after : goal.returns-in-Queued-clause-after
+returns-in-Queued-clause-after g c = record {
+  same = search rules;
+  told = search rules;
+  stays_closed = search rules;
+  outside = search rules;
+  found =
+      record {
+        before = c.args.pass.now.pass;
+        after = c.try_take.new.pass.pass;
+        number = refl;
+        since = ([], refl);
+        finds = inr c.in-NoRoom.ensures.answer;
+        goes_on = ([], refl);
+      };
+}

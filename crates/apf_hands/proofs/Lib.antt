@@ -1,0 +1,4 @@
+pub mod Deals
+pub mod Held
+pub mod Meeting
+pub mod Written

@@ -1,0 +1,4 @@
+pub mod Firsts
+pub mod Hands
+pub mod Dealt
+pub mod Holders

@@ -1,0 +1,64 @@
+//! The flows of a trace with their hands of queues.
+
+ghost use Rattle.std.specs.Prelude.{◌≡◌, IfOk};
+ghost use Rattle.std.specs.Result.{result_err};
+ghost use Rattle.apf_hands.specs.Hands.{flows_in, hand_by, sizes_of, fault_by};
+ghost use Rattle.apf_hands.specs.Dealt.{flows_of};
+
+use apf_flow::{Dealer, DealerFault};
+use apf_model::{Config, Response};
+use apf_times::Arrival;
+use apf_traces::TraceRequest;
+use arrayvec::ArrayVec;
+use std::alloc::{AllocError, Global};
+
+/// A flow, by its first request, with the hand of queues that it is dealt.
+#[derive(Drop)]
+pub(crate) struct Dealt<'a> {
+    pub(crate) first: &'a TraceRequest,
+    pub(crate) hand: ArrayVec<u32, 15>,
+}
+
+/// The dealer of a level's queues. A level that rejects has none.
+pub(crate) fn dealer_of(config: &Config) -> Result<Option<Dealer>, DealerFault>
+    ensures ok { IfOk result (λ dealer. dealer ≡ sizes_of config.now) }
+    ensures fault { result_err result ≡ fault_by (sizes_of config.now) }
+{
+    match config.limit_response {
+        Response::Queue => Ok(Some(Dealer::new(config.queues, config.hand_size)?)),
+        Response::Reject => Ok(None),
+    }
+}
+
+// The hand of a flow. Without a dealer it has no queues.
+fn hand_of(dealer: &Option<Dealer>, hash: u64) -> ArrayVec<u32, 15>
+    ensures { result.items ≡ hand_by dealer.now hash }
+{
+    match dealer {
+        Some(dealer) => dealer.deal(hash),
+        None => ArrayVec::new(),
+    }
+}
+
+/// The flows whose first requests these are, each with its hand.
+///
+/// # Errors
+///
+/// `AllocError` if memory was refused.
+pub(crate) fn deal_all<'a>(
+    alloc: Global,
+    dealer: &Option<Dealer>,
+    firsts: &'a [Arrival<TraceRequest>],
+) -> Result<Vec<Dealt<'a>>, AllocError>
+    ensures { IfOk result (λ all. flows_of all.items ≡ flows_in dealer.now firsts.now) }
+{
+    let mut all = Vec::with_capacity(alloc, firsts.len())?;
+    for first in firsts {
+        let hand = hand_of(dealer, first.item.hash);
+        all.push(Dealt {
+            first: &first.item,
+            hand,
+        })?;
+    }
+    Ok(all)
+}

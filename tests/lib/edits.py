@@ -1,4 +1,5 @@
-"""Planted bugs: files NAME.edit, with lines 'file: PATH' and then pairs of lines 'old: TEXT' and 'new: TEXT'."""
+"""Planted bugs: files NAME.edit, with lines 'file: PATH' and then pairs of lines 'old: TEXT' and 'new: TEXT'. A first line 'compiler: CODE' says that
+the compiler refuses the bug, by errors of that code alone, before anything is proved."""
 
 import os
 import re
@@ -26,10 +27,14 @@ class Edit:
         self.name = os.path.basename(path)[: -len(".edit")]
         self.crate = crate
         self.pairs = []
+        # of the compiler's error that refuses it, or empty where the prover does
+        self.code = ""
         file = old = None
         with open(path, encoding="utf-8") as it:
             for line in it.read().split("\n"):
-                if line.startswith("file: "):
+                if line.startswith("compiler: ") and not file:
+                    self.code = line[len("compiler: ") :].strip()
+                elif line.startswith("file: "):
                     file = line[len("file: ") :].strip()
                 elif line.startswith("old: "):
                     old = line[len("old: ") :]

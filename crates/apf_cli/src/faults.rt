@@ -66,6 +66,8 @@ pub enum Fault {
     Level(ReplayFault),
     /// In a simulation nothing is due any more, and a request still waits. It has never been seen.
     StillWaits,
+    /// At the end of a simulation the level's book has other numbers than its flows. It has never been seen.
+    OtherBook,
     /// At the arrival of the request of this line of a trace, at this time in microseconds, too many are there at once.
     Crowded(u64, u64),
     /// A request of a simulation would finish later than anything is carried out.
@@ -117,6 +119,7 @@ impl Fault {
             | Fault::Told(_)
             | Fault::Level(_)
             | Fault::StillWaits
+            | Fault::OtherBook
             | Fault::Crowded(_, _)
             | Fault::TooFar
             | Fault::TooMany
@@ -278,6 +281,9 @@ impl fmt::Display for Fault {
             Fault::RequestAndLog => f.write_str("apf: --log goes with no other option"),
             Fault::Level(fault) => write!(f, "apf: the level can't be opened: {fault}"),
             Fault::StillWaits => f.write_str("apf: a request still waits, and no seat is taken"),
+            Fault::OtherBook => {
+                f.write_str("apf: the level's book has other numbers than its flows")
+            }
             Fault::Crowded(line, at) => write!(
                 f,
                 "apf: at line {line}, at {at}, more than 10000 requests are there at once"

@@ -48,6 +48,7 @@ fn fault_of<F: Files>(
         SimulatorFault::TooManyListed => Fault::TooManyListed,
         SimulatorFault::BoundOfSeats => Fault::BoundOfSeats,
         SimulatorFault::StillWaits => Fault::StillWaits,
+        SimulatorFault::OtherBook => Fault::OtherBook,
         SimulatorFault::CannotWrite => Fault::CannotWrite,
         SimulatorFault::NoMemory => Fault::NoMemory,
     }

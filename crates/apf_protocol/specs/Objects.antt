@@ -1,5 +1,5 @@
 -- What an arrival's object says.
-use Rattle.std.specs.Prelude.{ℕ, ◌≤◌, List, Option, option_map, IfSome, Result, Ok, codes}
+use Rattle.std.specs.Prelude.{ℕ, ◌≤◌, List, option_map, IfSome, Result, Ok, codes}
 use Rattle.serde_json.specs.Data.{Data}
 use Rattle.serde_json.specs.Find.{get, as_object}
 use Rattle.serde_json.specs.Read.{read}

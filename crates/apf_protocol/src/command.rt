@@ -9,7 +9,7 @@ use crate::arrival::{Arrival, read_arrival};
 use crate::fault::LineFault;
 use crate::form::Form;
 use crate::head::Head;
-use std::alloc::Global;
+use apf_traces::ObjectReader;
 
 /// What a line commands. Requests are numbers below the level's slots.
 #[derive(Clone, Copy, Debug, PartialEq, Eq)]
@@ -41,14 +41,14 @@ pub enum Command {
 /// counts.
 ///
 /// The memory that it takes is given back when it returns, but for the value that a fault tells, which goes with the
-/// fault.
+/// fault, and for what the reader of objects keeps.
 ///
 /// # Errors
 ///
 /// Of an object the first of `NotJson`, `UnknownKey`, `BadFlow`, `BadWidth` and `BadCost`, with what was found there.
 /// `NoMemory` only where memory was refused. Words without an object have no fault.
 #[tactic(auto, unfolding(crate::specs::Commands::command_from))]
-pub fn read_command(alloc: Global, form: Form<'_>) -> Result<Command, LineFault>
+pub fn read_command(objects: &mut ObjectReader, form: Form<'_>) -> Result<Command, LineFault>
     ensures ok { IfOk result (λ command. command_from form.entry.head form.entry.object.now ≡ Ok command) }
     ensures ranges { IfOk result (IsInRangeAs form.entry.head) }
     ensures err { IfErr result (λ fault. fault.kind ≢ NoMemory → command_from form.entry.head form.entry.object.now ≡ Err fault.kind) }
@@ -56,8 +56,8 @@ pub fn read_command(alloc: Global, form: Form<'_>) -> Result<Command, LineFault>
     ensures memory { IfErr result (λ fault. HasObject form.entry.head) }
 {
     match form.head {
-        Head::Arrive(number) => Ok(Command::Arrive(number, read_arrival(alloc, form.object)?)),
-        Head::Try(number) => Ok(Command::Try(number, read_arrival(alloc, form.object)?)),
+        Head::Arrive(number) => Ok(Command::Arrive(number, read_arrival(objects, form.object)?)),
+        Head::Try(number) => Ok(Command::Try(number, read_arrival(objects, form.object)?)),
         Head::Finish(number, ran) => Ok(Command::Finish(number, ran)),
         Head::Spent(number, ran) => Ok(Command::Spent(number, ran)),
         Head::Cancel(number) => Ok(Command::Cancel(number)),

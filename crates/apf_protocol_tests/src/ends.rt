@@ -1,11 +1,12 @@
 use apf_protocol::{Command, FaultKind, LineFault, read_command, read_form};
+use apf_traces::ObjectReader;
 use std::alloc::Global;
 use std::test::Fail;
 
 // What a line commands, on a level with 100 slots.
 fn judged(alloc: Global, line: &[u8]) -> Result<Command, LineFault> {
     match read_form(line, 100) {
-        Ok(form) => read_command(alloc, form),
+        Ok(form) => read_command(&mut ObjectReader::new(alloc), form),
         Err(kind) => Err(LineFault::from(kind)),
     }
 }

@@ -30,6 +30,7 @@ use apf_protocol::{
     read_form,
 };
 use apf_texts::Totals;
+use apf_traces::ObjectReader;
 use std::alloc::Global;
 use std::io;
 use std::io::Write;
@@ -181,13 +182,13 @@ impl Service {
     }
 
     // What the line commands.
-    fn read(&self, alloc: Global, line: &[u8]) -> Result<Command, LineFault>
+    fn read(&self, objects: &mut ObjectReader, line: &[u8]) -> Result<Command, LineFault>
         ensures ok { IfOk result (λ c. command_in (state_of self.now.level self.now.notes) line.now ≡ Ok c) }
         ensures ranges { IfOk result (IsCommandInRange (length self.now.level.places)) }
         ensures err { IfErr result (λ f. IsFaultOf (state_of self.now.level self.now.notes) line.now f.kind f.found) }
     {
         match self.words(line) {
-            Ok(form) => read_command(alloc, form),
+            Ok(form) => read_command(objects, form),
             Err(kind) => Err(LineFault::from(kind)),
         }
     }
@@ -296,7 +297,7 @@ impl Service {
     /// The writer's. Then nothing is known of how much was written; the line was carried out.
     pub fn take_line<W: Write>(
         &mut self,
-        alloc: Global,
+        objects: &mut ObjectReader,
         number: u64,
         line: &[u8],
         out: &mut W,
@@ -304,7 +305,7 @@ impl Service {
         ensures same { (self.new.config ≡ self.old.config) × (self.new.name ≡ self.old.name) × (length self.new.level.places ≡ length self.old.level.places) }
         ensures served { Serves (string_bytes self.old.name) number line.now (state_of self.old.level self.old.notes) (WritesIfOk result (W.contents out.old) (W.contents out.new)) (state_of self.new.level self.new.notes) }
     {
-        match self.read(alloc, line) {
+        match self.read(objects, line) {
             Ok(command) => self.obey(number, command, out),
             Err(fault) => fault.write(out, number),
         }

@@ -19,7 +19,7 @@ use apf_lines::{Cut, Lines};
 use apf_local::OpenFault;
 use apf_model::Config;
 use apf_protocol::{FaultKind, LineFault};
-use apf_traces::MAX_BYTES;
+use apf_traces::{MAX_BYTES, ObjectReader};
 use std::alloc::{AllocError, Global};
 use std::io;
 use std::io::{Read, Write};
@@ -92,7 +92,7 @@ fn flush<O: Write>(out: &mut O) -> Result<(), ServeFault>
 /// system before the input is read again.
 ///
 /// All memory of the level is taken before the first line is written. Reading an arrival's object may ask for memory, and
-/// gives it back with the line.
+/// gives it back with the line, but for room for the next object and the hashes of the newest flows' names: some 2 MB at most.
 ///
 /// # Errors
 ///
@@ -113,12 +113,13 @@ pub fn serve<I: Read, O: Write>(
     let name = String::from_str(alloc, name)?;
     let mut service = Service::open(alloc, config, slots, name, by)?;
     let mut lines = Lines::new(alloc, MAX_BYTES)?;
-    answer_all(alloc, &mut service, &mut lines, input, out)
+    let mut objects = ObjectReader::new(alloc);
+    answer_all(&mut objects, &mut service, &mut lines, input, out)
 }
 
 // Writes the first line, answers each line of the input, and writes the book.
 fn answer_all<I: Read, O: Write>(
-    alloc: Global,
+    objects: &mut ObjectReader,
     service: &mut Service,
     lines: &mut Lines,
     input: &mut I,
@@ -131,7 +132,7 @@ fn answer_all<I: Read, O: Write>(
     ensures fault { IfErr result IsPipeFault }
 {
     begin(service, out)?;
-    let number = answer_input(alloc, service, lines, input, out)?;
+    let number = answer_input(objects, service, lines, input, out)?;
     end(service, lines, number, out)
 }
 
@@ -173,7 +174,7 @@ fn tell_rest<O: Write>(lines: &Lines, number: u64, out: &mut O) -> Result<(), Se
 
 // Answers each line up to the end of the input. Tells the number of the line that would come next.
 fn answer_input<I: Read, O: Write>(
-    alloc: Global,
+    objects: &mut ObjectReader,
     service: &mut Service,
     lines: &mut Lines,
     input: &mut I,
@@ -190,7 +191,7 @@ fn answer_input<I: Read, O: Write>(
         if !read_on(lines, input)? {
             return Ok(number);
         }
-        number = answer_lines(alloc, service, lines, number, out)?;
+        number = answer_lines(objects, service, lines, number, out)?;
         flush(out)?;
     }
     Err(ServeFault::CannotRead)
@@ -211,7 +212,7 @@ fn read_on<I: Read>(lines: &mut Lines, input: &mut I) -> Result<bool, ServeFault
 
 // Answers each whole line that was read, of which the first has this number. Tells that of the next one.
 fn answer_lines<O: Write>(
-    alloc: Global,
+    objects: &mut ObjectReader,
     service: &mut Service,
     lines: &mut Lines,
     first: u64,
@@ -225,7 +226,7 @@ fn answer_lines<O: Write>(
     ensures fault { IfErr result (λ fault. fault ≡ CannotWrite) }
 {
     let mut number = first;
-    'lines: while answer_next(alloc, service, lines, number, out)? {
+    'lines: while answer_next(objects, service, lines, number, out)? {
         number = number.saturating_add(1);
     }
     Ok(number)
@@ -233,7 +234,7 @@ fn answer_lines<O: Write>(
 
 // Cuts off the next line that was read, and answers it as the line of this number. Tells whether there was one.
 fn answer_next<O: Write>(
-    alloc: Global,
+    objects: &mut ObjectReader,
     service: &mut Service,
     lines: &mut Lines,
     number: u64,
@@ -247,7 +248,7 @@ fn answer_next<O: Write>(
 {
     match lines.cut() {
         Cut::Line => {
-            written(service.take_line(alloc, number, lines.line(), out))?;
+            written(service.take_line(objects, number, lines.line(), out))?;
             Ok(true)
         }
         Cut::TooLong => {

@@ -1,8 +1,10 @@
 -- What is printed behind the flows: the book of a level, and both sides of the bound.
-use Rattle.std.specs.Prelude.{ℕ, ◌+◌, ◌*◌, List, [], ◌++◌, Option, Some, None, codes, decimal}
+use Rattle.std.specs.Prelude.{◌≡◌, ℕ, ◌+◌, ◌*◌, List, [], ◌++◌, Option, Some, None, codes, decimal}
 use Rattle.apf_bound.specs.declared.bound.Sides.{Sides}
 use Rattle.apf_bound.specs.declared.furthest.Furthest.{Furthest}
+use Rattle.apf_gate.specs.declared.counts.Counts.{Counts}
 use Rattle.apf_line.specs.declared.report.Report.{Report}
+use Rattle.apf_rows.specs.declared.sums.Sums.{Sums}
 use Rattle.apf_texts.specs.declared.totals.Totals.{Totals}
 
 -- by its word, the numbers of the decisions of all requests, of whom nobody is undecided, and the numbers of all events
@@ -18,6 +20,12 @@ book_of r =
       dispatched = r.newest.stats.dispatched;
       struck = r.newest.stats.struck;
     }
+
+-- by the rows just as many requests were executed, rejected and cancelled as by the book
+pub record AreOfBook (sums : Sums) (counts : Counts) : Type 0 where
+  pub executed : sums.executed ≡ counts.executed
+  pub rejected : sums.rejected ≡ counts.queue_full + counts.closed + counts.concurrency_limit
+  pub cancelled : sums.cancelled ≡ counts.cancelled
 
 -- the pair of queues that came furthest apart, and by how much
 unfoldable pub furthest_text : Furthest → List ℕ

@@ -12,7 +12,7 @@ use Rattle.apf_rows.specs.declared.comparison.Place.{Place}
 use Rattle.apf_rows.specs.Texts.{table_text}
 use Rattle.apf_rows.specs.declared.table.Table.{Table}
 use Rattle.apf_texts.specs.Texts.{totals_text}
-use Rattle.apf_simulator.specs.Books.{book_of, sides_text}
+use Rattle.apf_simulator.specs.Books.{AreOfBook, book_of, sides_text}
 use Rattle.apf_simulator.specs.Calls.{calls_by, script_text}
 use Rattle.apf_simulator.specs.Hearing.{AllTold, AreListed}
 use Rattle.apf_stream.specs.States.{State}
@@ -57,6 +57,7 @@ pub record IsPrinted (limit patience : ℕ) (has_bound : Bool) (lane : LaneView)
   pub of_all : (opening : State) (came : List (Arrival TraceRequest)) (told : List Ended) → IsLane opening came told lane → IsTable came told table
   pub report : Report
   pub ended : EndsFrom lane.state.level report
+  pub of_book : AreOfBook table.all.sums report.words.counts
   pub sides : Option Sides
   pub asked : AreAskedFor has_bound sides
   pub written : Appends before after ((table_text limit patience table ++ totals_text (book_of report)) ++ sides_text sides)
@@ -70,13 +71,21 @@ pub record HasSimulated (config : Config) (patience : ℕ) (by : Option ChargedB
   pub of_all : IsTable (came_by turns) (told_by turns) table
   pub report : Report
   pub ended : EndsFrom lane.state.level report
+  pub of_book : AreOfBook table.all.sums report.words.counts
   pub sides : Option Sides
   pub asked : AreAskedFor has_bound sides
   pub written : Appends before after ((table_text config.limit patience table ++ totals_text (book_of report)) ++ sides_text sides)
 
+-- a level ended, and these are the numbers of its book
+pub record EndsWith (lane : LaneView) (t : Table) : Type 0 where
+  pub report : Report
+  pub ended : EndsFrom lane.state.level report
+  pub of_book : AreOfBook t.all.sums report.words.counts
+
 -- the requests that ran on a lane, and what its flows came to
 pub record IsTableOf (lane : LaneView) (t : Table) : Type 0 where
   pub of_all : (opening : State) (came : List (Arrival TraceRequest)) (told : List Ended) → IsLane opening came told lane → IsTable came told t
+  pub ends : EndsWith lane t
 
 -- what the flows of two lanes came to was printed side by side
 pub record ArePrinted (one other : LaneView) (before after : Option (List ℕ)) : Type 0 where
@@ -98,8 +107,10 @@ pub record HaveCompared (config other_config : Config) (patience : ℕ) (by : Op
   pub other_ran : HasRunToo other_config patience ran.charged (came_by turns) other_turns other
   pub table : Table
   pub of_all : IsTable (came_by turns) (told_by turns) table
+  pub ends : EndsWith lane table
   pub other_table : Table
   pub other_of_all : IsTable (came_by turns) (told_by other_turns) other_table
+  pub other_ends : EndsWith other other_table
   pub order : List Place
   pub ordered : IsOrder table.lines.items other_table.lines.items order
   pub written : Appends before after (comparison_text table other_table order)

@@ -36,6 +36,9 @@ pub enum SimulatorFault {
     /// Nothing is due, and a request still waits. It has never been seen: that it can't be is not proved.
     #[error("a request waits while no seat is taken")]
     StillWaits,
+    /// The level decided other numbers of requests than its flows have. It has never been seen: that it can't be is not proved.
+    #[error("the level's book has other numbers than its flows")]
+    OtherBook,
     /// The output is not written.
     #[error("cannot write")]
     CannotWrite,

@@ -1,6 +1,6 @@
 //! A level with what its requests came to.
 
-ghost use Rattle.std.specs.Prelude.{◌≡◌, ◌+◌, ◌≤◌, [], ◌∷◌, ◌++◌, List, length, IfOk, IfErr, OnOk};
+ghost use Rattle.std.specs.Prelude.{◌≡◌, ◌+◌, ◌≤◌, [], ◌∷◌, ◌++◌, List, length, IfOk, IfErr, IsTrue, OnOk};
 ghost use Rattle.apf_times.specs.Limits.{max_patience, max_wait};
 ghost use Rattle.apf_times.specs.declared.window.Arrival.{Arrival as ArrivalOf};
 ghost use Rattle.apf_traces.specs.declared.request.TraceRequest.{TraceRequest as RequestOf};
@@ -13,6 +13,7 @@ ghost use Rattle.apf_calendar.specs.Guests.{NothingBy};
 ghost use Rattle.apf_local.specs.Levels.{EndsFrom};
 ghost use Rattle.apf_local.specs.Openings.{CanOpen, IsOpenFault};
 ghost use Rattle.apf_rows.specs.Tables.{IsTable};
+ghost use Rattle.apf_simulator.specs.Books.{AreOfBook};
 ghost use Rattle.apf_simulator.specs.Lanes.{GoesOn, IsLane, IsLived, IsOpening, slots};
 
 use crate::asked::asked_of;
@@ -21,10 +22,11 @@ use crate::fault::SimulatorFault;
 use apf_bound::{Bound, Sides};
 use apf_calendar::MOST_TIME;
 use apf_charges::ChargedBy;
+use apf_gate::Counts;
 use apf_line::Report;
 use apf_local::OpenFault;
 use apf_model::Config;
-use apf_rows::{Rows, Table};
+use apf_rows::{Rows, Sums, Table};
 use apf_stream::{Asked, Ended, Stream, every_run_goes_on};
 use apf_times::Arrival;
 use apf_traces::TraceRequest;
@@ -67,6 +69,18 @@ fn arrive(stream: &mut Stream, asked: Asked, ends: &mut Vec<Ended>) -> Result<()
         true => Ok(()),
         false => Err(SimulatorFault::Crowded(asked.line, asked.times.arrives_at)),
     }
+}
+
+// Whether just as many requests were executed, rejected and cancelled by the rows as by the book.
+fn are_of_book(sums: &Sums, counts: &Counts) -> bool
+    ensures { IsTrue result → AreOfBook sums.now counts.now }
+{
+    let full = u128::from(counts.queue_full);
+    let closed = u128::from(counts.closed);
+    let without_room = u128::from(counts.concurrency_limit);
+    sums.executed == counts.executed
+        && u128::from(sums.rejected) == full + closed + without_room
+        && sums.cancelled == counts.cancelled
 }
 
 impl Lane {
@@ -175,14 +189,16 @@ impl Lane {
         Ok(())
     }
 
-    /// Ends the level: what all flows came to, and what the level told.
+    /// Ends the level: what all flows came to, and what the level told. Just as many requests were executed, rejected and cancelled
+    /// by the one as by the other.
     ///
     /// # Errors
     ///
-    /// `NoMemory`. Then everything is given up.
+    /// `NoMemory`, or `OtherBook` if the two have other numbers. Then everything is given up.
     pub fn close(self, alloc: Global) -> Result<(Table, Report), SimulatorFault>
         ensures table { IfOk result (λ o. (opening : State) (came : List (ArrivalOf RequestOf)) (told : List EndedOf) → IsLane opening came told self → IsTable came told o.0) }
         ensures report { IfOk result (λ o. EndsFrom self.state.level o.1) }
+        ensures book { IfOk result (λ o. AreOfBook o.0.all.sums o.1.words.counts) }
     {
         let Lane {
             stream,
@@ -192,6 +208,9 @@ impl Lane {
         } = self;
         let table = rows.close()?;
         let report = stream.end(alloc)?;
+        if !are_of_book(&table.all.sums, &report.words.counts()) {
+            return Err(SimulatorFault::OtherBook);
+        }
         Ok((table, report))
     }
 }

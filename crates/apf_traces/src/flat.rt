@@ -24,9 +24,9 @@ fn whole_number(text: &str) -> Option<u64>
     Numeral::scan(bytes).to_u64()
 }
 
-// The line is no object of texts and whole numbers, or memory was refused.
+/// The text is no object of texts and whole numbers, or memory was refused.
 #[derive(Clone, Copy)]
-struct Unusual;
+pub(crate) struct Unusual;
 
 impl From<Invalid> for Unusual {
     fn from(_invalid: Invalid) -> Unusual {
@@ -79,8 +79,12 @@ fn flat_members(alloc: Global, reader: &mut Reader<'_>) -> Result<Map<String, Va
     Ok(found)
 }
 
-// The object that the text is, if its members are texts and whole numbers, and memory was not refused.
-fn flat_object(alloc: Global, text: &str, scratch: &mut Scratch) -> Result<Value, Unusual>
+/// The object that the text is, if its members are texts and whole numbers, and memory was not refused.
+pub(crate) fn flat_object(
+    alloc: Global,
+    text: &str,
+    scratch: &mut Scratch,
+) -> Result<Value, Unusual>
     ensures { IfOk result (λ v. read_text text.now ≡ Some (view v)) }
 {
     let Ok(mut reader) = Reader::new(text, scratch) else {

@@ -6,11 +6,10 @@ ghost use Rattle.apf_traces.specs.TraceFile.{judged_within};
 
 use crate::fault::TraceFault;
 use crate::flat::line_value;
-use crate::newest::Newest;
+use crate::object::ObjectReader;
 use crate::request::TraceRequest;
 use crate::value::request_of_value;
 use apf_words::MAX_REQUESTS;
-use json::Scratch;
 use std::alloc::{AllocError, Global};
 use std::marker::Model;
 
@@ -24,9 +23,7 @@ pub const MAX_BYTES: usize = 65_536;
 /// flows' names.
 #[derive(Drop)]
 pub struct LineReader {
-    alloc: Global,
-    scratch: Scratch,
-    newest: Newest,
+    objects: ObjectReader,
 }
 
 impl Model for LineReader {
@@ -42,9 +39,7 @@ impl LineReader {
     /// It takes no memory yet.
     pub fn new(alloc: Global) -> LineReader {
         LineReader {
-            alloc,
-            scratch: Scratch::new(alloc),
-            newest: Newest::new(alloc),
+            objects: ObjectReader::new(alloc),
         }
     }
 
@@ -78,12 +73,13 @@ impl LineReader {
         if bytes.len() > MAX_BYTES {
             return Err(TraceFault::TooLong(line));
         }
-        let value = match line_value(self.alloc, bytes, &mut self.scratch) {
+        let objects = &mut self.objects;
+        let value = match line_value(objects.alloc, bytes, &mut objects.scratch) {
             Ok(Some(value)) => value,
             Ok(None) => return Err(TraceFault::NotUtf8Json(line)),
             Err(AllocError) => return Err(TraceFault::NoMemory),
         };
-        let request = request_of_value(self.alloc, &mut self.newest, &value, line)?;
+        let request = request_of_value(objects.alloc, &mut objects.newest, &value, line)?;
         if !is_ended {
             return Err(TraceFault::Truncated(line));
         }

@@ -1,4 +1,4 @@
-//! The hashes of the newest flows, so that they are not computed again for each line.
+//! The hashes of the newest flows, so that they are not computed again for each line. They take some 2 MB at most.
 
 ghost use Rattle.std.specs.Prelude.{◌≡◌, ◌<◌, IfSome, codes, string_bytes};
 ghost use Rattle.serde_json.specs.Find.{get};
@@ -12,6 +12,9 @@ use std::alloc::{AllocError, Global};
 
 // How many hashes are kept at most.
 const PLACES: u32 = 4_096;
+
+// How many bytes the names of a flow may have together whose hash is kept.
+const MOST_BYTES: usize = 512;
 
 // The names of a flow, and their hash.
 #[derive(Drop)]
@@ -97,7 +100,9 @@ impl Newest {
             return hash;
         }
         let hash = flow_hash(schema, distinguisher);
-        let _ = self.keep(place, schema, distinguisher, hash);
+        if schema.len().saturating_add(distinguisher.len()) <= MOST_BYTES {
+            let _ = self.keep(place, schema, distinguisher, hash);
+        }
         hash
     }
 

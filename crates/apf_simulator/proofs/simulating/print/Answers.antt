@@ -8,6 +8,7 @@ returns g c = record {
   of_all = c.in_ok-table.ensures.table;
   report = c.in_ok-table.report;
   ended = c.in_ok-table.ensures.report;
+  of_book = c.in_ok-table.ensures.book;
   sides = c.sides_of-sides.result;
   asked = c.sides_of-sides.ensures;
   written = Appends-trans (g.W.Write.contents c.args.out.now) (g.W.Write.contents c.write.new.out) (g.W.Write.contents c.write_bound.new.out) _ _ c.in_ok-write.ensures c.in_ok-write_bound.ensures;

@@ -124,7 +124,7 @@ for words, status in (
     if words[0] == "run":
         tally.check(f"{name} had a worker that could not start", any(it != WANT for it in refused), True)
 
-# of a live level: arrivals that execute, wait and are rejected, faults of each kind, and a line that is nearly too long
+# of a live level, where one allocation is refused and where two are: arrivals that execute, wait and are rejected, faults of each kind, and a line that is nearly too long
 LINES = [b'arrive 0 {"schema":"a","distinguisher":"b"}', b'arrive 1 {"hash":0,"width":2,"cost":3}', b'arrive 2 {"schema":"a","distinguisher":"%s"}' % (b"x" * 65_000), b'try 3 {"hash":0}']
 LINES += [b'arrive 4 {"hash":[1,2,{"a":"b"}]}', b'arrive 4 {"work":1}', b'arrive 4 {"hash":0', b'arrive 4 {"hash":0,"width":0}', b"finish 9", b"nonsense", b'arrive 9 {"hash":0}', b"cancel 1"]
 LINES += [b'arrive 1 {"hash":7}', b"limit 2", b"finish 0", b"queues", b"close", b'arrive 0 {"hash":0}', b"book"]
@@ -144,12 +144,22 @@ def modelled(*refused):
     return 0, session(Service(config_of(json.dumps(served).encode()), 5, refused=refused), content).encode(), b""
 
 
-for name, content in [("a live level", content), ("a live level's metrics", b"metrics\n")] if is_built else []:
+def is_flat(line):
+    """Whether the object of a line has texts and whole numbers alone: it is read twice where memory is refused."""
+    try:
+        return all(type(it) in (str, int) for it in json.loads(line[line.index(b"{") :]).values())
+    except ValueError:
+        return False
+
+
+WITH_OBJECTS = [number for number, line in enumerate(LINES, 1) if b"{" in line]
+for name, content, together in [("a live level", content, 1), ("a live level", content, 2), ("a live level's metrics", b"metrics\n", 1)] if is_built else []:
+    name = f"{name}, {together} at a time"
     ample = serve(content)
-    without = {line: modelled(line) for line in range(1, len(LINES) + 1) if b"{" in LINES[line - 1]} if content != b"metrics\n" else {}
+    without = {line: modelled(line) for line in WITH_OBJECTS} if content != b"metrics\n" else {}
     tally.check(f"{name} with ample memory", ample, modelled() if without else ample)
     number, ends, met = 0, 0, []
-    with Refusing(files, preloaded, serving, SERVE, content) as runs:
+    with Refusing(files, preloaded, serving, SERVE, content, together=together) as runs:
         while ends == 0 and number < 10_000:
             number += 1
             got, was_refused = runs.without(number)
@@ -158,6 +168,6 @@ for name, content in [("a live level", content), ("a live level's metrics", b"me
             # at the level's end memory is asked for once more, behind all that is told: that changes nothing
             tally.check(f"{name} without allocation {number}", got, got if got in (ample, WANT, *without.values()) else ample)
     # the line of a bad number and that of a number that is there ask for none
-    asked = {0, *(line for line, want in without.items() if want != ample)}
+    asked = {0, *(line for line, want in without.items() if want != ample and (together > 1 or not is_flat(LINES[line - 1])))}
     tally.check(f"{name}: before the first line, and at each object, memory was refused", (set(met), ends, got), (asked, True, ample))
 tally.end()

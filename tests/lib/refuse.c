@@ -1,5 +1,5 @@
-/* Refuses one allocation of a program: the one whose number, from 1, is in APF_REFUSE.
- * When it refuses, it makes the file that APF_REFUSED names. A test tool, loaded before the C library.
+/* Refuses one allocation of a program: the one whose number, from 1, is in APF_REFUSE. Where APF_TOGETHER is set, it refuses that many
+ * in a row. When it refuses, it makes the file that APF_REFUSED names. A test tool, loaded before the C library.
  *
  * Where APF_RUNS names two files that are open, as "ASKS ANSWERS", the program is loaded once, and runs from its first
  * line on in a child for each number that is asked for: the one of the allocation that is refused then. An ask is eight
@@ -22,8 +22,11 @@ extern void *__libc_memalign(size_t alignment, size_t size);
 static long count;
 
 static int refuses(void) {
-    const char *which = getenv("APF_REFUSE");
-    if (!which || __atomic_add_fetch(&count, 1, __ATOMIC_SEQ_CST) != atol(which))
+    const char *which = getenv("APF_REFUSE"), *together = getenv("APF_TOGETHER");
+    if (!which)
+        return 0;
+    long behind = __atomic_add_fetch(&count, 1, __ATOMIC_SEQ_CST) - atol(which);
+    if (behind < 0 || behind >= (together ? atol(together) : 1))
         return 0;
     const char *name = getenv("APF_REFUSED");
     int file = name ? open(name, O_CREAT | O_WRONLY, 0600) : -1;

@@ -1,4 +1,5 @@
-"""A program without one of its allocations, for each of them in turn: it is loaded once, by tests/lib/refuse.c, and runs in a child for each."""
+"""A program without one of its allocations, or some in a row, for each of them in turn: it is loaded once, by tests/lib/refuse.c, and runs in a child for
+each."""
 
 import os
 import select
@@ -18,17 +19,17 @@ def shim(files):
 
 
 class Refusing:
-    """A program with these words and this standard input in this folder, for the length of a block."""
+    """A program with these words and this standard input in this folder, for the length of a block. `together` allocations are refused in a row."""
 
-    def __init__(self, files, shim, program, words, content=b"", cwd=None):
-        self.words, self.shim, self.cwd = [program, *words], shim, cwd
+    def __init__(self, files, shim, program, words, content=b"", cwd=None, together=1):
+        self.words, self.shim, self.cwd, self.together = [program, *words], shim, cwd, together
         self.marker = os.path.join(files.folder.name, "refused")
         self.content = files("content", content)
 
     def __enter__(self):
         asks, self.asks = os.pipe()
         self.answers, answers = os.pipe()
-        environment = {**os.environ, "LD_PRELOAD": self.shim, "APF_REFUSED": self.marker, "APF_RUNS": f"{asks} {answers}"}
+        environment = {**os.environ, "LD_PRELOAD": self.shim, "APF_REFUSED": self.marker, "APF_RUNS": f"{asks} {answers}", "APF_TOGETHER": str(self.together)}
         with open(self.content, "rb") as content:
             self.process = subprocess.Popen(self.words, stdin=content, pass_fds=(asks, answers), env=environment, cwd=self.cwd, start_new_session=True)
         os.close(asks)

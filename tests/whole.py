@@ -56,6 +56,8 @@ def test_of(name, *scripts, processors=2):
     write(os.path.join(top, "bin", "rt"), RT_OF_TEST, 0o755)
     write(os.path.join(top, "plant"), PLANT_OF_TEST, 0o755)
     write(os.path.join(top, "bin", "nproc"), f"#!/bin/sh\necho {processors}\n", 0o755)
+    # where python3 is a script that looks for it, it takes longer than what it runs here
+    os.symlink(sys.executable, os.path.join(top, "bin", "python3"))
     write(os.path.join(top, "crates.txt"), "apf:\n")
     write(os.path.join(top, "crates", "apf", "src", "main.rt"), "first")
     for file in ("test", "apf"):
@@ -170,7 +172,7 @@ def without_kit(name, *scripts, stores=True):
 TOOLS = os.path.join(room.name, "tools")
 os.mkdir(TOOLS)
 for tool in ("bash", "sh", "env", "awk", "cat", "cc", "cmp", "dirname", "find", "git", "mkdir", "mktemp", "mv", "nproc", "python3", "readlink", "rm", "sed", "sha256sum", "sort", "tail", "tee", "tr", "uname", "xargs"):
-    os.symlink(shutil.which(tool), os.path.join(TOOLS, tool))
+    os.symlink(sys.executable if tool == "python3" else shutil.which(tool), os.path.join(TOOLS, tool))
 for name, scripts, want in [
     ("alone", [("2 passed, 0 failed", 0), ("4 passed, 0 failed", 0)], (0, "6 passed, 0 failed", False)),
     ("alone, a failed count", [("2 passed, 3 failed", 1), ("4 passed, 0 failed", 0)], (1, "6 passed, 3 failed", False)),

@@ -11,6 +11,7 @@ import functools
 import heapq
 import itertools
 import json
+import math
 import os
 import random
 import subprocess
@@ -41,11 +42,12 @@ def arrivals_of(flows, name, runs_for, seats, beside, seconds):
     each = runs_for * len(flows) / seats
     arrivals = []
     for flow in flows:
-        draw = random.Random(f"{seed} {beside} {name} {flow}")
-        at = draw.expovariate(1 / each)
+        draw, who = random.Random(f"{seed} {beside} {name} {flow}").random, f"{name}-{flow}"
+        # a million are drawn: an exponential time between two, as `expovariate` has it, and then the run, as `uniform` has it
+        at = -math.log(1 - draw()) * each
         while at < seconds * SECOND:
-            arrivals.append((int(at), ARRIVE, f"{name}-{flow}", int(runs_for * draw.uniform(0.75, 1.25))))
-            at += draw.expovariate(1 / each)
+            arrivals.append((int(at), ARRIVE, who, int(runs_for * (0.75 + 0.5 * draw()))))
+            at -= math.log(1 - draw()) * each
     return arrivals
 
 

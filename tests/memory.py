@@ -51,6 +51,9 @@ log = files(
 cluster = os.path.join(HERE, "..", "examples", "cluster", "objects.json")
 spoilt = files("spoilt", '{"kind":"FlowSchema","apiVersion":"flowcontrol.apiserver.k8s.io/v1","metadata":{"name":"a"},"spec":5}')
 who = ["--user", "alice", "--groups", "system:authenticated,dev", "--verb", "list"]
+# an object on lines of its own, and an event, each in the place of a trace; and a trace in the place of objects
+printed = files("printed", '{\n  "kind": "FlowSchema",\n  "metadata": {"name": "a"}\n}\n')
+events = files("events", '{"kind":"Event","stage":"ResponseComplete","verb":"get"}\n')
 cut = files("cut", '{"hash":0,"arrivesAt":0,"runsFor":0}\n{"hash":0')
 roomy = files("roomy", '{"limit":3,"queues":1,"handSize":1,"queueLengthLimit":10}')
 
@@ -106,6 +109,10 @@ for words, status in (
     (["explain", config, requests, bad], 1),
     (["explain", config, "missing", script], 1),
     (["simulate", tight, cut, "0"], 1),
+    (["simulate", tight, printed, "0"], 1),
+    (["hands", tight, printed], 1),
+    (["requests", events], 1),
+    (["objects", events], 1),
     (["hands", tight, "missing"], 1),
     (["compare", tight, uneven, trace, "3"], 1),
 ):

@@ -2,6 +2,7 @@
 a file in the place of another one; what matched nothing; and at a terminal what a patience was taken for, and the explanation behind an old line."""
 
 import gzip
+import json
 import os
 import pty
 import subprocess
@@ -138,6 +139,7 @@ for name, content, line, explained in (
     ("a trace of one line", LINE, "3: unknown key", f': the key "arrivesAt" is unknown: this is a request of a trace: {HAS}'),
     ("a list of kubectl", objects, "3: unknown key", f': the key "apiVersion" is unknown: {KUBECTL}: {HAS}'),
     ("an object", LEVEL, "3: unknown key", f': the key "kind" is unknown: {KUBECTL}: {HAS}'),
+    ("an event of an audit log", '{"kind":"Event","stage":"Panic","verb":"get"}\n', "3: unknown key", f': the key "kind" is unknown: this is an event of an audit log: {HAS}'),
     ("YAML", "limit: 2\nqueues: 8\n", "1: not JSON", ":1:1: this is not JSON: the bytes begin as YAML does: write them as JSON"),
     ("YAML behind a comment", "# seats\n\nlimit: 2\n", "1: not JSON", ":1:1: this is not JSON: the bytes begin as YAML does: write them as JSON"),
     ("YAML of kubectl", "apiVersion: flowcontrol.apiserver.k8s.io/v1\n", "1: not JSON", ":1:1: this is not JSON: the bytes begin as YAML does: write them as JSON"),
@@ -151,10 +153,27 @@ for name, content, line, explained in (
     if len(content) <= 65_536:
         tally.check(f"{name} as a config", run(program, ["simulate", path, trace, "0"]), refused(f"apf: config fault {line}", path + explained))
 KEYS = "a request of a trace has arrivesAt, runsFor, schema, distinguisher, hash, width and cost"
+EVENT = "this is an event of an audit log"
+with open(os.path.join(TOP, "examples", "audit", "audit.log")) as file:
+    event = json.loads(file.readline())
+on_lines = json.dumps(json.loads(objects), indent=4)
+# more than 64 KiB, as a list of a real cluster has
+large = json.dumps({**json.loads(objects), "items": 4 * json.loads(objects)["items"]}, indent=4)
 for name, content, said in (
     ("a config", CONFIG, f'5 at line 1: the key "handSize" is unknown: this is a config: {KEYS}'),
     ("a config with an LF", CONFIG + "\n", f'5 at line 1: the key "handSize" is unknown: this is a config: {KEYS}'),
     ("a config of two lines", CONFIG.replace(",", ",\n"), "3 at line 1: this is not JSON at column 11: this is a config: a trace has one object on each line"),
+    ("a list of kubectl", on_lines, f"3 at line 1: this is not JSON at column 1: {KUBECTL}: a trace has one object on each line"),
+    ("a list of kubectl as it is stored", objects, f"3 at line 1: this is not JSON at column 1: {KUBECTL}: a trace has one object on each line"),
+    ("a large list of kubectl", large, f"3 at line 1: this is not JSON at column 1: {KUBECTL}: a trace has one object on each line"),
+    ("an object that is cut", on_lines[:-1], "3 at line 1: this is not JSON at column 1: the text ends too early"),
+    ("an object of kubectl on one line", json.dumps(json.loads(objects)) + "\n", f'5 at line 1: the key "apiVersion" is unknown: {KUBECTL}: {KEYS}'),
+    ("an object without apiVersion", LEVEL + "\n", f'5 at line 1: the key "kind" is unknown: {KUBECTL}: {KEYS}'),
+    ("an audit log", json.dumps(event) + "\n", f'5 at line 1: the key "apiVersion" is unknown: {EVENT}: {KEYS}'),
+    ("an audit log with annotations", json.dumps({**event, "annotations": {}}) + "\n", f'5 at line 1: the key "annotations" is unknown: {EVENT}: {KEYS}'),
+    ("an event on lines of its own", json.dumps(event, indent=2), f"3 at line 1: this is not JSON at column 1: {EVENT}: a trace has one object on each line"),
+    ("a stage without a verb", '{"kind":"Event","stage":"Panic"}\n', f'5 at line 1: the key "kind" is unknown: {KUBECTL}: {KEYS}'),
+    ("another key", '{"stage":"Panic"}\n', f'5 at line 1: the key "stage" is unknown: {KEYS}'),
     ("YAML", "limit: 2\n", "3 at line 1: this is not JSON at column 1: the bytes begin as YAML does: write them as JSON"),
     ("gzip without an LF", b"\x1f\x8b\x08\0\0\0\0\0\2\xff\xab\6\0", "3 at line 1: this is not JSON at column 2: the bytes begin as gzip does: unpack them first"),
     ("UTF-16 without an LF", LINE[:-1].encode("utf-16"), "3 at line 1: this is not JSON at column 1: the bytes begin as UTF-16 does: they must be UTF-8"),
@@ -163,7 +182,7 @@ for name, content, said in (
     path = files("strange", content)
     for words in (["simulate", good, path, "0"], ["hands", good, path], ["requests", path]):
         tally.check(f"{words[0]} of {name} as a trace", run(program, words), refused(f"apf: trace fault {said}"))
-    if b"\n" not in (content if isinstance(content, bytes) else content.encode()) and not name.startswith("a config"):
+    if b"\n" not in (content if isinstance(content, bytes) else content.encode()) and not name.startswith("a config") and said.startswith("3"):
         said = said.replace("3 at line 1", "2 at line 1")
         tally.check(f"trace of {name} as a log", run(program, ["trace", path, "users"]), refused(f"apf: audit fault {said}"))
         cluster = os.path.join(TOP, "examples", "cluster", "objects.json")
@@ -187,6 +206,23 @@ for name, content, explained in (
     path = files("strange", content)
     for words in (["objects", path], ["match", path, "--user", "a", "--verb", "get", "--path", "/"], ["match", path, "--log", log]):
         tally.check(f"{' '.join(words[:1] + words[2:3])} of {name} as objects", run(program, words), refused("apf: objects fault 1: this is not JSON", path + explained))
+# and other files, which are JSON: what each is stands behind the fault
+OF_LIST = "it must be List, FlowSchemaList, PriorityLevelConfigurationList, FlowSchema or PriorityLevelConfiguration"
+for name, content, kind, what in (
+    ("a trace of one line", LINE, "nothing", "a request of a trace"),
+    ("a trace of one line without an LF", LINE[:-1], "nothing", "a request of a trace"),
+    ("a config", CONFIG, "nothing", "a config"),
+    ("an event of an audit log", json.dumps(event), '"Event"', "an event of an audit log"),
+    ("another object", '{"kind":"Pod"}', '"Pod"', None),
+    ("an array", "[]", "nothing", None),
+):
+    path = files("strange", content)
+    behind = [f"{path}: this is {what}: {AS_LIST}"] if what else []
+    for words in (["objects", path], ["match", path, "--user", "a", "--verb", "get", "--path", "/"], ["match", path, "--log", log]):
+        tally.check(f"{' '.join(words[:1] + words[2:3])} of {name} as objects", run(program, words), refused(f"apf: objects fault 2: kind is {kind}: {OF_LIST}", *behind))
+done = subprocess.run([program, "objects", "-"], input=LINE.encode(), stdout=subprocess.PIPE, stderr=subprocess.PIPE, timeout=60)
+told = f"standard input: this is a request of a trace: {AS_LIST}"
+tally.check("a trace as objects, from a pipe", (done.returncode, done.stdout, done.stderr), refused(f"apf: objects fault 2: kind is nothing: {OF_LIST}", told))
 done = subprocess.run([program, "objects", "-"], input=b"kind: List\n", stdout=subprocess.PIPE, stderr=subprocess.PIPE, timeout=60)
 told = "standard input:1:1: this is not JSON: the bytes begin as YAML does: write them as JSON"
 tally.check("objects from a pipe", (done.returncode, done.stdout, done.stderr), refused("apf: objects fault 1: this is not JSON", told))

@@ -56,6 +56,8 @@ def test_of(name, *scripts, processors=2):
     write(os.path.join(top, "bin", "rt"), RT_OF_TEST, 0o755)
     write(os.path.join(top, "plant"), PLANT_OF_TEST, 0o755)
     write(os.path.join(top, "bin", "nproc"), f"#!/bin/sh\necho {processors}\n", 0o755)
+    # where python3 is a script that looks for it, it takes longer than what it runs here
+    os.symlink(sys.executable, os.path.join(top, "bin", "python3"))
     write(os.path.join(top, "crates.txt"), "apf:\n")
     write(os.path.join(top, "crates", "apf", "src", "main.rt"), "first")
     for file in ("test", "apf"):
@@ -170,7 +172,7 @@ def without_kit(name, *scripts, stores=True):
 TOOLS = os.path.join(room.name, "tools")
 os.mkdir(TOOLS)
 for tool in ("bash", "sh", "env", "awk", "cat", "cc", "cmp", "dirname", "find", "git", "mkdir", "mktemp", "mv", "nproc", "python3", "readlink", "rm", "sed", "sha256sum", "sort", "tail", "tee", "tr", "uname", "xargs"):
-    os.symlink(shutil.which(tool), os.path.join(TOOLS, tool))
+    os.symlink(sys.executable if tool == "python3" else shutil.which(tool), os.path.join(TOOLS, tool))
 for name, scripts, want in [
     ("alone", [("2 passed, 0 failed", 0), ("4 passed, 0 failed", 0)], (0, "6 passed, 0 failed", False)),
     ("alone, a failed count", [("2 passed, 3 failed", 1), ("4 passed, 0 failed", 0)], (1, "6 passed, 3 failed", False)),
@@ -215,8 +217,10 @@ status, lines, calls = tested("one processor", WELL, alone, alone, alone, proces
 tally.check("test: one processor, one script at once", (status, lines[-1]), (0, "6 passed, 0 failed"))
 
 # those that take longest begin first, whatever their names are, and what they say stands in the order of the names
-longest = re.search(r'^longest="(.*)"$', open(os.path.join(TOP, "test")).read(), re.M)[1].split()
+longest, waiting = (re.search(rf'^{name}="(.*)"$', open(os.path.join(TOP, "test")).read(), re.M)[1].split() for name in ("longest", "waiting"))
 tally.check("test: those that take longest are scripts", [it for it in longest if not os.path.isfile(os.path.join(TOP, "tests", f"{it}.py"))], [])
+tally.check("test: those that wait are the first of them", longest[: len(waiting)], waiting)
+longest = longest[len(waiting) :]
 top = test_of("longest first", plain, processors=1)
 for name in (longest[1], longest[0]):
     write(os.path.join(top, "tests", f"{name}.py"), f"open('begun', 'a').write('{name} ')\nprint('1 passed, 0 failed')\n")
@@ -225,6 +229,12 @@ lines = begun(top, WELL).communicate(timeout=60)[0].split("\n")[:-1]
 tally.check("test: the longest begins first", open(os.path.join(top, "begun")).read().split(), [*longest[:2], "0"])
 named = [it for it in lines if it.startswith("== python3")]
 tally.check("test: and what it says stands in the order of the names", (named, lines[-1]), ([f"== python3 tests/{it}.py" for it in sorted(["0", *longest[:2]])], "6 passed, 0 failed"))
+
+# one that waits counts for no processor: another one runs beside it on one
+top = test_of("one that waits", both[0], processors=1)
+write(os.path.join(top, "tests", f"{waiting[0]}.py"), f"import os, sys, time\n{MEETS % (1, 0, 0)}\nprint('1 passed, 0 failed')\nsys.exit(0 if met else 1)\n")
+lines = begun(top, WELL).communicate(timeout=60)[0].split("\n")[:-1]
+tally.check("test: beside one that waits another one runs on one processor", lines[-1], "5 passed, 0 failed")
 
 # an interrupt of the one process ends the scripts and what they run, and counts as a failure
 for signal in ("INT", "TERM"):

@@ -318,7 +318,17 @@ LIKE_CONFIG = {
     "kind": ": this is an object as kubectl prints it",
     "arrivesAt": ": this is a request of a trace",
 }
-LIKE_TRACE = {key: ": this is a config" for key in ("limit", "queues", "handSize", "queueLengthLimit", "limitResponse")}
+LIKE_TRACE = {
+    "apiVersion": ": this is an object as kubectl prints it",
+    "kind": ": this is an object as kubectl prints it",
+    **{key: ": this is a config" for key in ("limit", "queues", "handSize", "queueLengthLimit", "limitResponse")},
+}
+LIKE_EVENT = ": this is an event of an audit log"
+
+
+def is_event(value):
+    """Whether a value is an event of an audit log."""
+    return isinstance(value, dict) and "stage" in value and "verb" in value
 
 
 def unknown(value, known, like=()):
@@ -327,7 +337,10 @@ def unknown(value, known, like=()):
     if not keys:
         return None
     shown = sized(keys[0].decode(), "a key")
-    return f"{'the key ' if len(keys[0]) <= LONGEST else ''}{shown} is unknown{dict(like).get(keys[0].decode(), '')}"
+    if len(keys[0]) > LONGEST:
+        return f"{shown} is unknown"
+    likeness = LIKE_EVENT if like and is_event(value) else dict(like).get(keys[0].decode(), "")
+    return f"the key {shown} is unknown{likeness}"
 
 
 def range_of(low, high):

@@ -5,7 +5,7 @@ A trace is one JSON object a line, for a request each. `trace_of` answers the re
 
 import functools
 
-from explain import LIKE_TRACE, flow_line, found, line_not_json, unknown
+from explain import LIKE_EVENT, LIKE_TRACE, flow_line, found, is_event, line_not_json, unknown
 from judge import Json, NotJson, Refused, flow_of, whole_in
 from level import hash_of
 
@@ -34,18 +34,26 @@ def needed(value, key, wanted):
     return f"{key} is {found(value[key])}: it must be {wanted}" if key in value else f"the key {key} is missing: it must be {wanted}"
 
 
-CONFIG_AS_TRACE = ": this is a config: a trace has one object on each line"
-# of a config
-MOST = 65_536
+# behind what a file is that is one object
+NO_TRACE = ": a trace has one object on each line"
+# the most bytes of a config, and of the objects of a cluster
+MOST, MOST_OF_OBJECTS = 65_536, 8_388_608
 
 
-def is_config(content):
-    """Whether a file is no larger than a config, and a JSON object that has a limit."""
+def whole_said(content):
+    """What is said of a file whose first line is no JSON: what it is, where it is one object."""
     try:
-        value = Json(content).whole() if len(content) <= MOST else None
+        value = Json(content).whole() if len(content) <= MOST_OF_OBJECTS else None
     except NotJson:
-        return False
-    return isinstance(value, dict) and "limit" in value
+        return ""
+    if not isinstance(value, dict):
+        return ""
+    if is_event(value):
+        return LIKE_EVENT + NO_TRACE
+    for key in ("apiVersion", "kind"):
+        if key in value:
+            return LIKE_TRACE[key] + NO_TRACE
+    return LIKE_TRACE["limit"] + NO_TRACE if "limit" in value and len(content) <= MOST else ""
 
 
 def told(number, line, value=None, file=""):
@@ -137,7 +145,7 @@ def trace_of(content, in_pieces=False):
         try:
             value, fault, request = read_of(line)
         except NotJson:
-            file = CONFIG_AS_TRACE if number == 1 and is_config(content) else ""
+            file = whole_said(content) if number == 1 else ""
             raise TraceFault(NOT_JSON, number, told(NOT_JSON, line, file=file)) from None
         fault = fault or (None if is_ended else TRUNCATED)
         if fault:

@@ -11,7 +11,7 @@ use crate::telling::{audit_fault, named};
 use apf_audit::AuditFault;
 use apf_cluster_text::{LogFault, write_cluster, write_log, write_match, write_object_fault};
 use apf_commands::Asked;
-use apf_explain::explain_objects;
+use apf_explain::{explain_objects, explain_other};
 use apf_files::{Parsed, parse};
 use apf_matching::{Request, Target};
 use apf_objects::{Cluster, ObjectFault, judge_objects};
@@ -32,8 +32,19 @@ fn write_stop(
     explain_objects(alloc, name.as_str(), bytes, parsed, line).map_err(|_| Fault::NoMemory)
 }
 
+// Writes what the value is that stands in the place of the objects of this name, if that is known.
+fn write_other(
+    alloc: Global,
+    name: &str,
+    parsed: &Parsed,
+    line: &mut Vec<u8>,
+) -> Result<(), Fault> {
+    let name = shown(alloc, name)?;
+    explain_other(name.as_str(), parsed.value(), line).map_err(|_| Fault::NoMemory)
+}
+
 // The fault of the objects of this name, which were parsed as this, with the line that says it. Where they are no JSON, one more
-// says where they stop to be, and why.
+// says where they stop to be, and why; where they are another file that is known, one more says which.
 fn objects_fault(
     alloc: Global,
     name: &str,
@@ -47,12 +58,15 @@ fn objects_fault(
     if *fault == ObjectFault::NoMemory || write_object_fault(&mut line, parsed, fault).is_err() {
         return Fault::NoMemory;
     }
-    if *fault == ObjectFault::NotJson
-        && write_stop(alloc, name, bytes, parsed, &mut line).is_err()
-    {
-        return Fault::NoMemory;
+    let written = match *fault {
+        ObjectFault::NotJson => write_stop(alloc, name, bytes, parsed, &mut line),
+        ObjectFault::NoObjects => write_other(alloc, name, parsed, &mut line),
+        _ => Ok(()),
+    };
+    match written {
+        Ok(()) => Fault::Told(line),
+        Err(_) => Fault::NoMemory,
     }
-    Fault::Told(line)
 }
 
 // Reads the objects.

@@ -14,6 +14,9 @@ use std::io::Read;
 // How much of a file is looked at to tell what it is, where it is no trace: a config has at most 64 KiB.
 const MOST_FRONT: usize = 65_537;
 
+// The same of a file whose first line opens an object: those of a cluster have at most 8 MiB.
+const MOST_FRONT_OF_OBJECT: usize = 8_388_609;
+
 /// The fault of a trace, with the line that says what stands there and what may stand there.
 pub(crate) fn trace_fault(alloc: Global, bytes: &[u8], fault: TraceFault) -> Fault
     ensures { IsTraceTold bytes.now fault result }
@@ -25,21 +28,26 @@ pub(crate) fn trace_fault(alloc: Global, bytes: &[u8], fault: TraceFault) -> Fau
     }
 }
 
-// What is known of a file whose first line is no JSON, up to 64 KiB, so that what it is can be told: that line, what is read
-// behind it, and what follows. Without an LF that line is what was read.
+// What is known of a file whose first line is no JSON, up to 64 KiB or to 8 MiB, so that what it is can be told: that line, what is
+// read behind it, and what follows. Without an LF that line is what was read.
 fn front_of<F: Files>(
     alloc: Global,
     reader: &TraceReader,
     input: &mut Source<'_, F>,
 ) -> Result<Vec<u8>, AllocError> {
     let mut front = Vec::new(alloc);
+    let mut most = MOST_FRONT;
     if !input.is_ended() {
-        front.extend_from_slice(reader.line())?;
+        let line = reader.line();
+        if line == b"{".as_slice() {
+            most = MOST_FRONT_OF_OBJECT;
+        }
+        front.extend_from_slice(line)?;
         front.push(b'\n')?;
     }
     front.extend_from_slice(reader.behind())?;
-    if front.len() <= MOST_FRONT {
-        let room = (MOST_FRONT - front.len()) as u64;
+    if front.len() <= most {
+        let room = (most - front.len()) as u64;
         // what can't be read is no part of it
         let _ = input.take(room).read_to_end(&mut front);
     }

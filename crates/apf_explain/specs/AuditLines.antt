@@ -93,7 +93,7 @@ event_text place o fault = not_event_text place o
 
 -- the fault of this line was written, behind its place
 abbrev pub IsAuditLineAt : List ℕ → Option (List ℕ) → AuditFault → Option (List ℕ) → Option (List ℕ) → Type 0
-IsAuditLineAt place line (audit.NotUtf8Json n) before after = IsColumnLine place line (option_and_then value_of line) before after
+IsAuditLineAt place line (audit.NotUtf8Json n) before after = IsColumnLine place line None (option_and_then value_of line) before after
 IsAuditLineAt place line (audit.TooLong n) before after = Appends before after (too_long_text place max_line line)
 IsAuditLineAt place line fault before after = IfSome (event_text place (option_and_then value_of line) fault) (Appends before after)
 

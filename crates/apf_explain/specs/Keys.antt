@@ -1,10 +1,11 @@
 -- The keys of a file's objects.
-use Rattle.std.specs.Prelude.{ℕ, List, [], Bool, ◌||◌, bytes_eq, if◌then◌else◌, Option, Some, None, option_and_then, codes}
+use Rattle.std.specs.Prelude.{ℕ, List, [], Bool, true, false, ◌||◌, ◌&&◌, bytes_eq, if◌then◌else◌, Option, Some, None, option_and_then, codes}
 use Rattle.serde_json.specs.Data.{Data, Members, no_members, member}
 use Rattle.serde_json.specs.Find.{as_object}
 use Rattle.apf_files.specs.ConfigFile.{is_key as is_config_key}
 use Rattle.apf_files.specs.RequestsFile.{is_key as is_request_key}
 use Rattle.apf_traces.specs.TraceValue.{is_key as is_trace_key}
+use Rattle.apf_explain.specs.Kinds.{is_event}
 use Rattle.apf_explain.specs.declared.keys.Keys.{Keys}
 use Rattle.apf_explain.specs.declared.keys.Keys.TheVariants.{OfConfig, OfRequest, OfTrace, OfArrival}
 
@@ -30,14 +31,28 @@ unknown_in is_known (member k d ms) = if is_known k then unknown_in is_known ms 
 abbrev pub unknown_of : Keys → Option Data → Option (List ℕ)
 unknown_of keys o = option_and_then (λ d. option_and_then (unknown_in (is_key_of keys)) (as_object d)) o
 
--- what an object is that has such a key in place of those of a file of this kind, in words
-abbrev pub likeness_text : Keys → List ℕ → List ℕ
-likeness_text OfConfig name =
+-- what an object is that is no event, and has such a key in place of those of a file of this kind, in words
+abbrev pub key_likeness : Keys → List ℕ → List ℕ
+key_likeness OfConfig name =
     if bytes_eq name (codes "apiVersion") || bytes_eq name (codes "kind") then codes "this is an object as kubectl prints it: "
     else (if bytes_eq name (codes "arrivesAt") then codes "this is a request of a trace: " else [])
-likeness_text OfRequest name = []
-likeness_text OfTrace name = if is_config_key name then codes "this is a config: " else []
-likeness_text OfArrival name = []
+key_likeness OfRequest name = []
+key_likeness OfTrace name =
+    if bytes_eq name (codes "apiVersion") || bytes_eq name (codes "kind") then codes "this is an object as kubectl prints it: "
+    else (if is_config_key name then codes "this is a config: " else [])
+key_likeness OfArrival name = []
+
+-- files of this kind are told from an audit log
+abbrev pub may_be_event : Keys → Bool
+may_be_event OfConfig = true
+may_be_event OfRequest = false
+may_be_event OfTrace = true
+may_be_event OfArrival = false
+
+-- what this value is, which has such a key in place of those of a file of this kind, in words
+abbrev pub likeness_text : Keys → Option Data → List ℕ → List ℕ
+likeness_text keys o name =
+    if may_be_event keys && is_event o then codes "this is an event of an audit log: " else key_likeness keys name
 
 -- which keys there are
 abbrev pub keys_text : Keys → List ℕ

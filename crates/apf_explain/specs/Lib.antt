@@ -1,5 +1,6 @@
 pub mod Found
 pub mod Wanted
+pub mod Kinds
 pub mod Keys
 pub mod FlowFaults
 pub mod Lines

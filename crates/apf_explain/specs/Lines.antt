@@ -1,5 +1,5 @@
 -- The lines that are written. None where nothing is stated of the text of a value that the line names.
-use Rattle.std.specs.Prelude.{ℕ, ◌-◌, ◌++◌, List, nat_le, if◌then◌else◌, length, Option, Some, None, IfSome, option_and_then, codes, decimal}
+use Rattle.std.specs.Prelude.{ℕ, ◌-◌, ◌++◌, List, [], nat_le, if◌then◌else◌, length, Option, Some, None, IfSome, option_and_then, codes, decimal}
 use Rattle.std.specs.Fmt.{◌++?◌}
 use Rattle.std.specs.Io.KnownBytes.{Appends}
 use Rattle.serde_json.specs.Data.{Data, Items}
@@ -47,13 +47,17 @@ unwanted_text place key found wanted =
 abbrev pub misplaced_text : (place should : List ℕ) → Option Data → Option (List ℕ)
 misplaced_text place should found = Some place ++? Some should ++? found_text found ++? Some (codes "\n")
 
--- a key is unknown, and this one if it was found
-abbrev pub unknown_text : List ℕ → Keys → Option (List ℕ) → Option (List ℕ)
-unknown_text place keys None = Some place ++? Some (codes "a key is unknown: ") ++? Some (keys_text keys) ++? Some (codes "\n")
-unknown_text place keys (Some name) =
+-- a key of this value is unknown, and this one if it was found
+abbrev pub unknown_line : List ℕ → Keys → Option Data → Option (List ℕ) → Option (List ℕ)
+unknown_line place keys o None = Some place ++? Some (codes "a key is unknown: ") ++? Some (keys_text keys) ++? Some (codes "\n")
+unknown_line place keys o (Some name) =
     if nat_le (length name) 64
-    then Some place ++? Some (codes "the key ") ++? quoted_text (codes "a key") name ++? Some (codes " is unknown: ") ++? Some (likeness_text keys name) ++? Some (keys_text keys) ++? Some (codes "\n")
+    then Some place ++? Some (codes "the key ") ++? quoted_text (codes "a key") name ++? Some (codes " is unknown: ") ++? Some (likeness_text keys o name) ++? Some (keys_text keys) ++? Some (codes "\n")
     else Some place ++? quoted_text (codes "a key") name ++? Some (codes " is unknown: ") ++? Some (keys_text keys) ++? Some (codes "\n")
+
+-- a key of this value is unknown
+abbrev pub unknown_text : List ℕ → Keys → Option Data → Option (List ℕ)
+unknown_text place keys o = unknown_line place keys o (unknown_of keys o)
 
 -- a config without a limit, which is at most this
 abbrev pub missing_text : List ℕ → ℕ → List ℕ
@@ -61,7 +65,7 @@ missing_text name most = name ++ (codes ": the key limit is missing: it must be 
 
 -- the fault of a config that is this value
 abbrev pub config_text : List ℕ → Option Data → ConfigFault → Option (List ℕ)
-config_text place o config.UnknownKey = unknown_text place OfConfig (unknown_of OfConfig o)
+config_text place o config.UnknownKey = unknown_text place OfConfig o
 config_text place o (config.BadValue key) = unwanted_text place (name_of key) (option_and_then (get (name_of key)) o) (wanted_at key)
 config_text place o fault = misplaced_text place (codes "a config is a JSON object, but this is ") o
 
@@ -108,7 +112,7 @@ key_of_fault _ = None
 
 -- the fault of one request, where it is not that of one key alone
 abbrev pub member_text : List ℕ → Option Data → RequestFault → Option (List ℕ)
-member_text place o (request.UnknownKey i) = unknown_text place OfRequest (unknown_of OfRequest o)
+member_text place o (request.UnknownKey i) = unknown_text place OfRequest o
 member_text place o (request.BadFlow i) = bad_flow_text place o
 member_text place o fault = misplaced_text place (codes "a request is a JSON object, but this is ") o
 
@@ -161,6 +165,11 @@ IsStopLine name bytes before after =
 abbrev pub SaysNotJson : (name bytes : List ℕ) → Option Data → Option (List ℕ) → Option (List ℕ) → Type 0
 SaysNotJson name bytes None before after = IsStopLine name bytes before after
 SaysNotJson name bytes (Some d) before after = Appends before after (name ++ codes ": this is not JSON\n")
+
+-- what stands in the place of the objects of a cluster, where it is known
+abbrev pub other_line : (name : List ℕ) → Option (List ℕ) → List ℕ
+other_line name None = []
+other_line name (Some kind) = name ++ (codes ": this is " ++ (kind ++ codes ": objects are one JSON object, as kubectl prints a list\n"))
 
 -- the line of bytes that are no JSON was written
 abbrev pub IsNotJsonLine : (name bytes : List ℕ) → Option (List ℕ) → Option (List ℕ) → Type 0

@@ -1,6 +1,8 @@
 -- What is said of bytes that are no JSON, by how they begin.
-use Rattle.std.specs.Prelude.{◌≡◌, ℕ, List, [], ◌∷◌, Bool, nat_eq, ◌||◌, if◌then◌else◌, Option, Some, None, IfSome, codes, option_and_then}
+use Rattle.std.specs.Prelude.{◌≡◌, ℕ, ⊤, List, [], ◌∷◌, Bool, nat_eq, ◌||◌, if◌then◌else◌, Option, Some, None, IfSome, codes}
 use Rattle.std.specs.List.{starts_with}
+use Rattle.apf_explain.specs.declared.reason.Cause.{Cause}
+use Rattle.apf_explain.specs.declared.reason.Cause.TheVariants.{Unknown, Early, NotUtf8, TooDeep, Yaml, LargeNumber}
 
 -- the bytes begin with these
 abbrev pub begins : (bytes front : List ℕ) → Bool
@@ -37,6 +39,21 @@ line_mark_text bytes = first_text (mark_text bytes) (array_text bytes)
 abbrev pub IsSaid : (said : Option (List ℕ)) (told : List ℕ) → Type 0
 IsSaid said told = IfSome said (λ text. told ≡ text)
 
--- the same of a line, if it is there
-abbrev pub IsSaidOfLine : Option (List ℕ) → List ℕ → Type 0
-IsSaidOfLine line told = IsSaid (option_and_then line_mark_text line) told
+-- what is said of bytes by what their reader says of them
+abbrev pub cause_text : Cause → List ℕ
+cause_text Unknown = []
+cause_text Early = codes ": the text ends too early"
+cause_text NotUtf8 = codes ": the bytes here are not UTF-8"
+cause_text TooDeep = codes ": more than 127 arrays and objects stand in one another"
+cause_text Yaml = codes ": the bytes begin as YAML does: write them as JSON"
+cause_text LargeNumber = codes ": the number here is too large"
+
+-- what is told is what is said, or else by what the reader says
+abbrev pub IsWhy : (said : Option (List ℕ)) (told : List ℕ) → Type 0
+IsWhy None told = (cause : Cause) × (told ≡ cause_text cause)
+IsWhy (Some text) told = told ≡ text
+
+-- the same of a line, if it is there: what is said of its beginning, or else of its file, or else by what the reader says
+abbrev pub IsWhyOfLine : (line file : Option (List ℕ)) → List ℕ → Type 0
+IsWhyOfLine None file told = ⊤
+IsWhyOfLine (Some line) file told = IsWhy (first_text (line_mark_text line) file) told

@@ -1,5 +1,5 @@
 -- The lines that are written of a trace's faults. None where nothing is stated of the text of a value that the line names.
-use Rattle.std.specs.Prelude.{ℕ, zero, suc, ◌-◌, List, [], ◌∷◌, ◌++◌, length, Option, Some, None, IfSome, option_and_then, option_map, codes, decimal}
+use Rattle.std.specs.Prelude.{ℕ, zero, suc, ◌-◌, List, [], ◌∷◌, ◌++◌, length, nat_eq, if◌then◌else◌, Option, Some, None, IfSome, option_and_then, option_map, codes, decimal}
 use Rattle.std.specs.Io.KnownBytes.{Appends}
 use Rattle.serde_json.specs.Data.{Data}
 use Rattle.serde_json.specs.Find.{get}
@@ -14,9 +14,9 @@ use Rattle.apf_explain.specs.declared.place.Part.TheVariants.{Fault}
 use Rattle.apf_explain.specs.declared.keys.Keys.TheVariants.{OfTrace}
 use Rattle.apf_explain.specs.declared.wanted.Wanted.{Wanted}
 use Rattle.apf_explain.specs.declared.wanted.Wanted.TheVariants.{Whole, Micros}
-use Rattle.apf_explain.specs.Keys.{unknown_of}
 use Rattle.apf_explain.specs.Wanted.{wanted_text}
-use Rattle.apf_explain.specs.Reasons.{IsSaidOfLine}
+use Rattle.apf_explain.specs.Kinds.{whole_said}
+use Rattle.apf_explain.specs.Reasons.{IsWhyOfLine}
 use Rattle.apf_explain.specs.Lines.{place_text, unwanted_text, misplaced_text, unknown_text, bad_flow_text}
 
 -- the line that has this many before it, if there is one
@@ -47,7 +47,7 @@ late_text place None = place ++ codes "more than 131072 requests of lines before
 
 -- the fault of a request of a trace that is this value
 abbrev pub trace_value_text : List ℕ → Option Data → TraceFault → Option (List ℕ)
-trace_value_text place o (trace.UnknownKey n) = unknown_text place OfTrace (unknown_of OfTrace o)
+trace_value_text place o (trace.UnknownKey n) = unknown_text place OfTrace o
 trace_value_text place o (trace.BadArrival n) =
     required_text place (codes "arrivesAt") (option_and_then (get (codes "arrivesAt")) o) (Micros max_arrival)
 trace_value_text place o (trace.BadRun n) =
@@ -79,27 +79,32 @@ abbrev pub column_text : (place : List ℕ) (column : ℕ) (why : List ℕ) → 
 column_text place column why =
     place ++ (codes "this is not JSON at column " ++ (decimal column ++ (why ++ codes "\n")))
 
--- a line that is no JSON, where this is its value: the column at which the reader stopped, and what is known of why
-abbrev pub IsColumnLine : List ℕ → Option (List ℕ) → Option Data → Option (List ℕ) → Option (List ℕ) → Type 0
-IsColumnLine place line None before after =
-    (column : ℕ) × ((why : List ℕ) × IsSaidOfLine line why × Appends before after (column_text place column why))
-IsColumnLine place line (Some d) before after = Appends before after (place ++ codes "this is not JSON\n")
+-- a line that is no JSON, where this is said of its file, and this is its value: the column at which the reader stopped, and what is known of why
+abbrev pub IsColumnLine : List ℕ → (line file : Option (List ℕ)) → Option Data → Option (List ℕ) → Option (List ℕ) → Type 0
+IsColumnLine place line file None before after =
+    (column : ℕ) × ((why : List ℕ) × IsWhyOfLine line file why × Appends before after (column_text place column why))
+IsColumnLine place line file (Some d) before after = Appends before after (place ++ codes "this is not JSON\n")
 
--- the fault of this line was written, behind its place
-abbrev pub IsTraceLineAt : List ℕ → Option (List ℕ) → TraceFault → Option (List ℕ) → Option (List ℕ) → Type 0
-IsTraceLineAt place line (trace.NotUtf8Json n) before after = IsColumnLine place line (option_and_then value_of line) before after
-IsTraceLineAt place line fault before after = IfSome (trace_line_text place line fault) (Appends before after)
+-- what is said of the file of a fault: of one whose first line is no JSON, what it is, where it is no trace
+abbrev pub file_said : TraceFault → List ℕ → Option (List ℕ)
+file_said (trace.NotUtf8Json n) bytes = if nat_eq n 1 then whole_said bytes else None
+file_said fault bytes = None
+
+-- the fault of this line was written, behind its place, where this is said of its file
+abbrev pub IsTraceLineAt : List ℕ → (line file : Option (List ℕ)) → TraceFault → Option (List ℕ) → Option (List ℕ) → Type 0
+IsTraceLineAt place line file (trace.NotUtf8Json n) before after = IsColumnLine place line file (option_and_then value_of line) before after
+IsTraceLineAt place line file fault before after = IfSome (trace_line_text place line fault) (Appends before after)
 
 -- the fault of this line was written, behind the number of the line
-abbrev pub IsPlacedLine : Option (List ℕ) → TraceFault → Option ℕ → Option (List ℕ) → Option (List ℕ) → Type 0
-IsPlacedLine line fault None before after = ⊥
-IsPlacedLine line fault (Some number) before after =
-    IsTraceLineAt (place_text (codes "apf: trace") (Fault (trace_fault_number fault) number)) line fault before after
+abbrev pub IsPlacedLine : (line file : Option (List ℕ)) → TraceFault → Option ℕ → Option (List ℕ) → Option (List ℕ) → Type 0
+IsPlacedLine line file fault None before after = ⊥
+IsPlacedLine line file fault (Some number) before after =
+    IsTraceLineAt (place_text (codes "apf: trace") (Fault (trace_fault_number fault) number)) line file fault before after
 
 -- the fault of the line of this number was written
 abbrev pub IsNumberedLine : List ℕ → TraceFault → Option ℕ → Option (List ℕ) → Option (List ℕ) → Type 0
 IsNumberedLine bytes fault None before after = ⊥
-IsNumberedLine bytes fault (Some number) before after = IsPlacedLine (numbered_line number bytes) fault (Some number) before after
+IsNumberedLine bytes fault (Some number) before after = IsPlacedLine (numbered_line number bytes) (file_said fault bytes) fault (Some number) before after
 
 -- the line of a trace's fault was written
 abbrev pub IsTraceLine : List ℕ → TraceFault → Option (List ℕ) → Option (List ℕ) → Type 0

@@ -221,7 +221,7 @@ fn write_line<W: Write>(
 {
     match fault {
         AuditFault::TooLong(_) => Ok(write_too_long(out, place, MAX_LINE, line)?),
-        AuditFault::NotUtf8Json(_) => write_not_json(alloc, out, place, line, ""),
+        AuditFault::NotUtf8Json(_) => write_not_json(alloc, out, place, line, None),
         AuditFault::NotEvent(_)
         | AuditFault::BadUser(_)
         | AuditFault::BadNamespace(_)

@@ -4,10 +4,11 @@ ghost use Rattle.std.specs.Prelude.{◌≡◌, OnOk, IfSome, option_map, option_
 ghost use Rattle.std.specs.Io.KnownBytes.{Appends};
 ghost use Rattle.serde_json.specs.Find.{as_object};
 ghost use Rattle.serde_json.specs.View.{view, members_view};
-ghost use Rattle.apf_explain.specs.Keys.{is_arrival_key as is_arrival_key_of, is_key_of, likeness_text, unknown_in, unknown_of};
+ghost use Rattle.apf_explain.specs.Keys.{is_arrival_key as is_arrival_key_of, is_key_of, key_likeness, likeness_text, may_be_event as may_be_event_of, unknown_in, unknown_of};
 ghost use Rattle.apf_explain.specs.Lines.{place_text, unknown_text};
 
 use crate::found::Quoted;
+use crate::likeness::is_event;
 use crate::place::Place;
 use apf_files::{is_config_key, is_request_key};
 use apf_traces::is_trace_key;
@@ -72,17 +73,37 @@ impl Keys {
         }
     }
 
-    // What an object is that has such a key in place of these, in words.
-    fn likeness(self, name: &str) -> &'static str
-        ensures { result.now ≡ likeness_text self name.now }
+    // What an object is that is no event, and has such a key in place of these, in words.
+    fn key_likeness(self, name: &str) -> &'static str
+        ensures { result.now ≡ key_likeness self name.now }
     {
         match self {
-            Keys::OfConfig if name == "apiVersion" || name == "kind" =>
+            Keys::OfConfig | Keys::OfTrace if name == "apiVersion" || name == "kind" =>
                 "this is an object as kubectl prints it: ",
             Keys::OfConfig if name == "arrivesAt" => "this is a request of a trace: ",
             Keys::OfTrace if is_config_key(name) => "this is a config: ",
             _ => "",
         }
+    }
+
+    // Whether files of this kind are told from an audit log.
+    fn may_be_event(self) -> bool
+        ensures { result ≡ may_be_event_of self }
+    {
+        match self {
+            Keys::OfConfig | Keys::OfTrace => true,
+            Keys::OfRequest | Keys::OfArrival => false,
+        }
+    }
+
+    // What the value is that has such a key in place of these, in words.
+    fn likeness(self, value: Option<&Value>, name: &str) -> &'static str
+        ensures { result.now ≡ likeness_text self (option_map (λ whole. view whole.now) value.entry) name.now }
+    {
+        if self.may_be_event() && is_event(value) {
+            return "this is an event of an audit log: ";
+        }
+        self.key_likeness(name)
     }
 
     // The first unknown key of these members, in the order of the keys' bytes.
@@ -107,7 +128,7 @@ pub fn write_unknown_key<W: Write>(
     keys: Keys,
     value: Option<&Value>,
 ) -> io::Result<()>
-    ensures { OnOk result (IfSome (unknown_text (place_text place.entry.name.now place.entry.part) keys (unknown_of keys (option_map (λ value. view value.now) value.entry)))
+    ensures { OnOk result (IfSome (unknown_text (place_text place.entry.name.now place.entry.part) keys (option_map (λ value. view value.now) value.entry))
         (Appends (W.contents out.old) (W.contents out.new))) }
 {
     match keys.unknown(value) {
@@ -117,7 +138,7 @@ pub fn write_unknown_key<W: Write>(
                 text,
             };
             if key.is_whole() {
-                let other = keys.likeness(text);
+                let other = keys.likeness(value, text);
                 writeln!(out, "{place}the key {key} is unknown: {other}{keys}")
             } else {
                 writeln!(out, "{place}{key} is unknown: {keys}")

@@ -12,7 +12,7 @@
 //! - `flow`: what is wrong with the flow of a request.
 //! - `members`: the line of one request.
 //! - `requests`: the line of a requests file.
-//! - `objects`: the line of a cluster's objects that are no JSON.
+//! - `objects`: the line of a cluster's objects that are no JSON, or are another file.
 //! - `script`: the line of a script file.
 //! - `likeness`: which file the bytes are that stand in the place of another one.
 //! - `reason`: why bytes are no JSON.
@@ -59,7 +59,7 @@ pub use laws::{
 };
 pub use likeness::begins_as_trace;
 pub use lines::write_column;
-pub use objects::explain_objects;
+pub use objects::{explain_objects, explain_other};
 pub use place::{Part, Place};
 pub use reason::line_reason;
 pub use requests::explain_requests;

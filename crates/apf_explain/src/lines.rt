@@ -99,15 +99,15 @@ pub fn write_column<W: Write>(
     writeln!(out, "{place}this is not JSON at column {column}{why}")
 }
 
-// Writes where these bytes stop to be JSON, and why, where `file` is what is known of their file.
+// Writes where these bytes stop to be JSON, and why, where `file` is what is said of their file.
 fn write_stop<W: Write>(
     alloc: Global,
     out: &mut W,
     place: Place<'_>,
     bytes: &[u8],
-    file: &'static str,
+    file: Option<&'static str>,
 ) -> Result<(), ExplainFault>
-    ensures line { OnOk result (IsColumnLine (place_text place.entry.name.now place.entry.part) (Some bytes.now) (value_of_bytes bytes.now) (W.contents out.old) (W.contents out.new)) }
+    ensures line { OnOk result (IsColumnLine (place_text place.entry.name.now place.entry.part) (Some bytes.now) (option_map (λ said. said.now) file.entry) (value_of_bytes bytes.now) (W.contents out.old) (W.contents out.new)) }
     ensures memory { result ≡ Err ExplainFault.NoMemory → out.new ≡ out.old }
 {
     every_text_is_what_was_read();
@@ -121,15 +121,15 @@ fn write_stop<W: Write>(
     }
 }
 
-/// Writes where a line stops to be JSON, and why, where `file` is what is known of its file.
+/// Writes where a line stops to be JSON, and why, where `file` is what is said of its file.
 pub(crate) fn write_not_json<W: Write>(
     alloc: Global,
     out: &mut W,
     place: Place<'_>,
     line: Option<&[u8]>,
-    file: &'static str,
+    file: Option<&'static str>,
 ) -> Result<(), ExplainFault>
-    ensures line { OnOk result (IsColumnLine (place_text place.entry.name.now place.entry.part) (option_map (λ line. line.now) line.entry) (option_and_then value_of_bytes (option_map (λ line. line.now) line.entry)) (W.contents out.old) (W.contents out.new)) }
+    ensures line { OnOk result (IsColumnLine (place_text place.entry.name.now place.entry.part) (option_map (λ line. line.now) line.entry) (option_map (λ said. said.now) file.entry) (option_and_then value_of_bytes (option_map (λ line. line.now) line.entry)) (W.contents out.old) (W.contents out.new)) }
     ensures memory { result ≡ Err ExplainFault.NoMemory → out.new ≡ out.old }
 {
     match line {

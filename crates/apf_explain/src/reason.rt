@@ -1,13 +1,45 @@
 //! Why bytes are no JSON.
 
 ghost use Rattle.std.specs.Prelude.{◌≡◌, IfOk, IfErr, option_map};
-ghost use Rattle.apf_explain.specs.Reasons.{begins_utf16 as begins_utf16_of, mark_text, line_mark_text, IsSaid};
+ghost use Rattle.apf_explain.specs.Reasons.{begins_utf16 as begins_utf16_of, mark_text, cause_text, line_mark_text, first_text, IsSaid, IsWhy};
 
 use crate::fault::ExplainFault;
 use crate::likeness::begins_as_trace;
 use apf_traces::first_line;
 use serde_json::{Error, Value};
 use std::alloc::Global;
+
+/// Why bytes are no JSON, by what their reader says of them.
+#[derive(Clone, Copy)]
+pub(crate) enum Cause {
+    /// Nothing is known.
+    Unknown,
+    /// They are the front of a JSON text.
+    Early,
+    NotUtf8,
+    /// Too many arrays and objects stand in one another.
+    TooDeep,
+    /// They begin as YAML does.
+    Yaml,
+    /// A number is too large.
+    LargeNumber,
+}
+
+impl Cause {
+    // What is said of it.
+    fn text(self) -> &'static str
+        ensures { result.now ≡ cause_text self }
+    {
+        match self {
+            Cause::Unknown => "",
+            Cause::Early => ": the text ends too early",
+            Cause::NotUtf8 => ": the bytes here are not UTF-8",
+            Cause::TooDeep => ": more than 127 arrays and objects stand in one another",
+            Cause::Yaml => ": the bytes begin as YAML does: write them as JSON",
+            Cause::LargeNumber => ": the number here is too large",
+        }
+    }
+}
 
 // This many arrays and objects may stand in one another.
 const DEEPEST: u32 = 127;
@@ -154,33 +186,32 @@ fn line_mark(bytes: &[u8]) -> Option<&'static str>
     None
 }
 
-// What is known of why bytes are no JSON, by what their reader says.
-fn reason(alloc: Global, bytes: &[u8], error: &Error) -> Result<&'static str, ExplainFault>
+// Why bytes are no JSON, by what their reader says.
+fn cause_of(alloc: Global, bytes: &[u8], error: &Error) -> Result<Cause, ExplainFault>
     ensures { IfErr result (λ fault. fault ≡ ExplainFault.NoMemory) }
 {
-    const EARLY: &str = ": the text ends too early";
     if let Err(e) = std::str::from_utf8(bytes) {
         if e.error_len().is_none() && is_cut_inside(alloc, bytes, e.valid_up_to())? {
-            return Ok(EARLY);
+            return Ok(Cause::Early);
         }
-        return Ok(": the bytes here are not UTF-8");
+        return Ok(Cause::NotUtf8);
     }
     if is_too_deep(bytes, error) {
-        return Ok(": more than 127 arrays and objects stand in one another");
+        return Ok(Cause::TooDeep);
     }
     if begins_yaml(bytes) {
-        return Ok(": the bytes begin as YAML does: write them as JSON");
+        return Ok(Cause::Yaml);
     }
     if error.is_eof() && !ends_in_bad_escape(bytes) {
-        return Ok(EARLY);
+        return Ok(Cause::Early);
     }
     let Ok(said) = format!(in alloc; "{error}") else {
         return Err(ExplainFault::NoMemory);
     };
     if said.starts_with("number out of range") {
-        return Ok(": the number here is too large");
+        return Ok(Cause::LargeNumber);
     }
-    Ok("")
+    Ok(Cause::Unknown)
 }
 
 /// What is said of a file that is not of its kind.
@@ -207,9 +238,9 @@ pub(crate) fn file_reason(
     if let Some(why) = mark(bytes) {
         return Ok(why);
     }
-    let why = reason(alloc, bytes, error)?;
-    if !why.is_empty() {
-        return Ok(why);
+    match cause_of(alloc, bytes, error)? {
+        Cause::Unknown => {}
+        cause => return Ok(cause.text()),
     }
     if begins_as_trace(alloc, bytes)? {
         return Ok(strange.why_trace);
@@ -220,28 +251,28 @@ pub(crate) fn file_reason(
     Ok("")
 }
 
-/// What is known of why the bytes of a line are no JSON: by how they begin, by what is known of their file, or else by
+/// What is known of why the bytes of a line are no JSON: by how they begin, by what is said of their file, or else by
 /// what their reader says.
 pub(crate) fn line_reason_in(
     alloc: Global,
     bytes: &[u8],
     error: &Error,
-    file: &'static str,
+    file: Option<&'static str>,
 ) -> Result<&'static str, ExplainFault>
-    ensures why { IfOk result (λ why. IsSaid (line_mark_text bytes.now) why.now) }
+    ensures why { IfOk result (λ why. IsWhy (first_text (line_mark_text bytes.now) (option_map (λ said. said.now) file.entry)) why.now) }
     ensures memory { IfErr result (λ fault. fault ≡ ExplainFault.NoMemory) }
 {
-    match line_mark(bytes) {
-        Some(why) => Ok(why),
-        None if !file.is_empty() => Ok(file),
-        None => reason(alloc, bytes, error),
+    match (line_mark(bytes), file) {
+        (Some(why), _) => Ok(why),
+        (None, Some(said)) => Ok(said),
+        (None, None) => Ok(cause_of(alloc, bytes, error)?.text()),
     }
 }
 
-/// The same where nothing is known of their file.
+/// The same where nothing is said of their file.
 pub fn line_reason(alloc: Global, bytes: &[u8], error: &Error) -> Result<&'static str, ExplainFault>
     ensures why { IfOk result (λ why. IsSaid (line_mark_text bytes.now) why.now) }
     ensures memory { IfErr result (λ fault. fault ≡ ExplainFault.NoMemory) }
 {
-    line_reason_in(alloc, bytes, error, "")
+    line_reason_in(alloc, bytes, error, None)
 }

@@ -1,20 +1,20 @@
 //! The line of a trace's fault.
 
-ghost use Rattle.std.specs.Prelude.{◌≡◌, OnOk, IfErr, IfSome, Err, Some, codes, option_map, option_and_then};
+ghost use Rattle.std.specs.Prelude.{◌≡◌, OnOk, IfOk, IfErr, IfSome, Err, Some, None, codes, option_map, option_and_then};
 ghost use Rattle.std.specs.Io.KnownBytes.{Appends};
 ghost use Rattle.serde_json.specs.View.{view};
 ghost use Rattle.apf_files.specs.JsonFile.{whole_of};
 ghost use Rattle.apf_traces.specs.TraceFaults.{line_of, trace_fault_number};
 ghost use Rattle.apf_explain.specs.declared.place.Part.TheVariants.{Fault};
 ghost use Rattle.apf_explain.specs.Lines.{place_text};
-ghost use Rattle.apf_explain.specs.TraceLines.{late_text, trace_value_text, IsPlacedLine, IsTraceLineAt, IsTraceLine};
+ghost use Rattle.apf_explain.specs.TraceLines.{file_said as file_said_of, late_text, trace_value_text, IsPlacedLine, IsTraceLineAt, IsTraceLine};
 
 use crate::fault::ExplainFault;
 use crate::flow::write_bad_flow;
 use crate::found::Found;
 use crate::json::{value_at, write_unwanted};
 use crate::keys::{Keys, write_unknown_key};
-use crate::likeness::is_config;
+use crate::likeness::whole_said;
 use crate::lines::{line_value, numbered, write_not_json, write_required, write_too_long};
 use crate::place::{Part, Place};
 use crate::wanted::Wanted;
@@ -95,26 +95,31 @@ fn write_value<W: Write>(
     }
 }
 
-// What is known of why the first line of these bytes is no JSON.
-fn strange(alloc: Global, bytes: &[u8], fault: TraceFault) -> Result<&'static str, ExplainFault>
+// What is said of the file of a fault: of one whose first line is no JSON, what it is, where it is no trace.
+fn file_said(
+    alloc: Global,
+    bytes: &[u8],
+    fault: TraceFault,
+) -> Result<Option<&'static str>, ExplainFault>
+    ensures ok { IfOk result (λ said. option_map (λ text. text.now) said ≡ file_said_of fault bytes.now) }
     ensures memory { IfErr result (λ told. told ≡ ExplainFault.NoMemory) }
 {
-    if fault == TraceFault::NotUtf8Json(1) && is_config(alloc, bytes)? {
-        return Ok(": this is a config: a trace has one object on each line");
+    match fault {
+        TraceFault::NotUtf8Json(1) => whole_said(alloc, bytes),
+        _ => Ok(None),
     }
-    Ok("")
 }
 
-// Writes the fault of this line, where `file` is what is known of its file.
+// Writes the fault of this line, where `file` is what is said of its file.
 fn write_line<W: Write>(
     alloc: Global,
     out: &mut W,
     place: Place<'_>,
     line: Option<&[u8]>,
     fault: TraceFault,
-    file: &'static str,
+    file: Option<&'static str>,
 ) -> Result<(), ExplainFault>
-    ensures line { OnOk result (IsTraceLineAt (place_text place.entry.name.now place.entry.part) (option_map (λ line. line.now) line.entry) fault
+    ensures line { OnOk result (IsTraceLineAt (place_text place.entry.name.now place.entry.part) (option_map (λ line. line.now) line.entry) (option_map (λ said. said.now) file.entry) fault
         (W.contents out.old) (W.contents out.new)) }
     ensures memory { result ≡ Err ExplainFault.NoMemory → out.new ≡ out.old }
 {
@@ -178,7 +183,7 @@ pub fn explain_trace<W: Write>(
         return Err(ExplainFault::NoMemory);
     };
     let place = place_of(fault, number);
-    let file = strange(alloc, bytes, fault)?;
+    let file = file_said(alloc, bytes, fault)?;
     let line = numbered(bytes, number);
     write_line(alloc, out, place, line, fault, file)
 }
@@ -197,12 +202,12 @@ pub fn explain_trace_line<W: Write>(
     fault: TraceFault,
     out: &mut W,
 ) -> Result<(), ExplainFault>
-    ensures line { OnOk result (IsPlacedLine (Some line.now) fault (line_of fault) (W.contents out.old) (W.contents out.new)) }
+    ensures line { OnOk result (IsPlacedLine (Some line.now) None fault (line_of fault) (W.contents out.old) (W.contents out.new)) }
     ensures refused { fault ≡ TraceFault.NoMemory → (result ≡ Err ExplainFault.NoMemory) × (out.new ≡ out.old) }
     ensures memory { result ≡ Err ExplainFault.NoMemory → out.new ≡ out.old }
 {
     let Some(number) = fault.line() else {
         return Err(ExplainFault::NoMemory);
     };
-    write_line(alloc, out, place_of(fault, number), Some(line), fault, "")
+    write_line(alloc, out, place_of(fault, number), Some(line), fault, None)
 }

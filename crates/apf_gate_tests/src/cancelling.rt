@@ -5,7 +5,7 @@ ghost use Rattle.apf_gate.specs.Tokens.{desk_gate, station_gate};
 ghost use Rattle.apf_gate_tests.specs.Stages.{IsNamed};
 
 use crate::crews::{DeskWork, StationWork};
-use crate::desks::Keeper;
+use crate::desks::StagedDesk;
 use crate::stand::Stand;
 use crate::stations;
 use apf_gate::{Gate, Station, TryGrant};
@@ -74,7 +74,7 @@ pub fn cancel(gate: &Gate<Global>, round: &Round, thread: usize, station: &mut S
 /// The Desk serves the first request, which waits: lets it leave if it is cancelled, and else grants it and
 /// writes execute. It is early to read, so that some rounds find the request undecided, and at its own time to
 /// write.
-pub fn serve(gate: &Gate<Global>, round: &Round, desk: &mut Keeper) -> Served
+pub fn serve(gate: &Gate<Global>, round: &Round, desk: &mut StagedDesk) -> Served
     requires some { IsNamed gate.now.shape 0 }
     requires own { desk_gate desk.old.desk ≡ gate.now }
     ensures { desk_gate desk.new.desk ≡ gate.now }
@@ -92,7 +92,7 @@ pub fn serve(gate: &Gate<Global>, round: &Round, desk: &mut Keeper) -> Served
 }
 
 // The Desk lets the first request leave, which it saw cancelled.
-fn leave(gate: &Gate<Global>, desk: &mut Keeper) -> Served
+fn leave(gate: &Gate<Global>, desk: &mut StagedDesk) -> Served
     requires some { IsNamed gate.now.shape 0 }
     requires own { desk_gate desk.old.desk ≡ gate.now }
     ensures { desk_gate desk.new.desk ≡ gate.now }
@@ -104,7 +104,7 @@ fn leave(gate: &Gate<Global>, desk: &mut Keeper) -> Served
 }
 
 // The Desk writes execute of the request that it holds, or gives its seats back.
-fn settle(gate: &Gate<Global>, desk: &mut Keeper) -> Served
+fn settle(gate: &Gate<Global>, desk: &mut StagedDesk) -> Served
     requires { desk_gate desk.old.desk ≡ gate.now }
     ensures { desk_gate desk.new.desk ≡ gate.now }
 {

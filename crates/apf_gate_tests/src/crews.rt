@@ -7,7 +7,7 @@ ghost use Rattle.apf_gate_tests.specs.Stages.{IsNamed};
 
 use crate::cancelling::{Round, Served, cancel, serve as serve_waiting};
 use crate::closing::{Closes, close};
-use crate::desks::Keeper;
+use crate::desks::StagedDesk;
 use crate::requests::Request;
 use crate::serving::{Counts, serve, set_limits};
 use crate::sleeping::{Sleeps, cancel_later, grant_later, sleep, sleep_beside};
@@ -82,7 +82,7 @@ fn station_works<R: Wait>(
     }
 }
 
-fn desk_works(gate: &Gate<Global>, work: DeskWork<'_>, desk: &mut Keeper) -> Served
+fn desk_works(gate: &Gate<Global>, work: DeskWork<'_>, desk: &mut StagedDesk) -> Served
     requires some { IsNamed gate.now.shape 0 }
     requires own { desk_gate desk.old.desk ≡ gate.now }
     ensures { desk_gate desk.new.desk ≡ gate.now }
@@ -166,7 +166,7 @@ fn desk_beside_stations<R: Threads + Wait + Sync>(
     rt: &R,
     gate: &Gate<Global>,
     work: (DeskWork<'_>, StationWork<'_>),
-    desk: &mut Keeper,
+    desk: &mut StagedDesk,
     stations: &mut [Station],
 ) -> Served
     requires some { IsNamed gate.now.shape 0 }
@@ -193,7 +193,7 @@ fn desk_beside_request<R: Threads + Wait + Sync>(
     rt: &R,
     gate: &Gate<Global>,
     work: (DeskWork<'_>, RequestWork<'_>),
-    desk: &mut Keeper,
+    desk: &mut StagedDesk,
     request: &mut Request,
 )
     requires some { IsNamed gate.now.shape 0 }

@@ -13,9 +13,9 @@ use apf_gate::{Desk, Gate, TryEnter, TryGrant};
 use apf_words::{Decision, LevelWord};
 use std::alloc::Global;
 
-/// The Desk.
+/// The Desk, and how far it is with the request that it serves.
 #[derive(Drop)]
-pub struct Keeper {
+pub struct StagedDesk {
     pub desk: Desk,
     serving: Serving,
     // Whether it saw the level closed.
@@ -24,14 +24,14 @@ pub struct Keeper {
     ghost closed: { saw_closed ≡ true → desk.desk.knows.saw_closed ≡ true },
 }
 
-impl Keeper {
+impl StagedDesk {
     /// A Desk that served nobody.
-    pub fn new(desk: Desk) -> Keeper
+    pub fn new(desk: Desk) -> StagedDesk
         requires services { desk.desk.services ≡ [] }
         requires held { desk.desk.held ≡ None }
         ensures { result.desk ≡ desk }
     {
-        Keeper {
+        StagedDesk {
             desk,
             serving: Serving::Idle,
             saw_closed: false,
@@ -246,7 +246,7 @@ impl Keeper {
     pub fn into_desk(self) -> Desk
         ensures { result ≡ self.desk }
     {
-        let Keeper {
+        let StagedDesk {
             desk,
             serving: _,
             saw_closed: _,

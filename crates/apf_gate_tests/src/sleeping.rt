@@ -7,7 +7,7 @@ ghost use Rattle.apf_gate_tests.specs.Stages.{IsNamed};
 
 use crate::cancelling::Served;
 use crate::crews::{DeskWork, RequestWork, StationWork};
-use crate::desks::Keeper;
+use crate::desks::StagedDesk;
 use crate::requests::Request;
 use crate::stand::Stand;
 use crate::stations;
@@ -136,7 +136,12 @@ pub fn cancel_later(gate: &Gate<Global>, sleeps: &Sleeps, station: &mut Station)
 
 /// Lets this many others sleep, grants the first request, which waits, settles it and wakes who sleeps. Gives
 /// its seats back if it was decided otherwise.
-pub fn grant_later(gate: &Gate<Global>, sleeps: &Sleeps, others: u64, desk: &mut Keeper) -> Served
+pub fn grant_later(
+    gate: &Gate<Global>,
+    sleeps: &Sleeps,
+    others: u64,
+    desk: &mut StagedDesk,
+) -> Served
     requires some { IsNamed gate.now.shape 0 }
     requires own { desk_gate desk.old.desk ≡ gate.now }
     ensures { desk_gate desk.new.desk ≡ gate.now }

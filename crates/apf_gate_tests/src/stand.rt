@@ -4,7 +4,7 @@ ghost use Rattle.std.specs.Prelude.{◌≡◌, length, All};
 ghost use Rattle.apf_gate.specs.declared.record.State.TheVariants.{Fresh};
 ghost use Rattle.apf_gate.specs.Tokens.{pass_gate, desk_gate, station_gate};
 
-use crate::desks::Keeper;
+use crate::desks::StagedDesk;
 use crate::endings::Ended;
 use crate::requests::Request;
 use crate::stations;
@@ -19,7 +19,7 @@ use std::sync::Wait;
 #[derive(Drop)]
 pub struct Stand {
     pub gate: Gate<Global>,
-    pub desk: Keeper,
+    pub desk: StagedDesk,
     pub requests: Vec<Request>,
     pub stations: Vec<Station>,
     response: Response,
@@ -95,7 +95,7 @@ impl Stand {
         let requests = requests_of(rt, alloc, passes, &gate);
         Stand {
             gate,
-            desk: Keeper::new(desk),
+            desk: StagedDesk::new(desk),
             requests,
             stations,
             response,

@@ -8,7 +8,6 @@ use Rattle.apf_words.specs.Limits.{max_cost, max_width}
 use Rattle.apf_explain.specs.declared.place.Part.TheVariants.{Sent}
 use Rattle.apf_explain.specs.declared.keys.Keys.TheVariants.{OfArrival}
 use Rattle.apf_explain.specs.declared.wanted.Wanted.TheVariants.{Whole}
-use Rattle.apf_explain.specs.Keys.{unknown_of}
 use Rattle.apf_explain.specs.Lines.{place_text, unwanted_text, unknown_text, bad_flow_text}
 use Rattle.apf_explain.specs.Reasons.{IsSaid, line_mark_text}
 use Rattle.apf_explain.specs.TraceLines.{column_text}
@@ -43,7 +42,7 @@ value_in (Object value) = Some (view value)
 
 -- what is wrong with an object that is this value, or else the fault in a few words, behind the place
 abbrev pub value_text : List ℕ → Option Data → FaultKind → Option (List ℕ)
-value_text place o UnknownKey = unknown_text place OfArrival (unknown_of OfArrival o)
+value_text place o UnknownKey = unknown_text place OfArrival o
 value_text place o BadFlow = bad_flow_text place o
 value_text place o BadWidth = unwanted_text place (codes "width") (option_and_then (get (codes "width")) o) (Whole 1 max_width)
 value_text place o BadCost = unwanted_text place (codes "cost") (option_and_then (get (codes "cost")) o) (Whole 1 max_cost)

@@ -6,5 +6,5 @@ use Rattle.apf_explain.proofs.traces.explain_trace.Goals as goal
 pub returns-clause-line : goal.returns-clause-line
 returns-clause-line g c =
     let is : line_of c.args.fault ≡ Some c.in-Some.number = search rules in
-    let written = rw (c.numbered-line.ensures, c.place_of-place.ensures) at c.write_line.ensures.line in
+    let written = rw (c.numbered-line.ensures, c.place_of-place.ensures, c.in_ok-file.ensures.ok) at c.write_line.ensures.line in
     rw is written

@@ -11,11 +11,11 @@ import sys
 sys.path.insert(0, os.path.join(os.path.dirname(os.path.abspath(__file__)), "lib"))
 import simulation
 import worked
-from harness import Files, Tally, build, processor_seconds, run
+from harness import Files, Memory, Tally, build, processor_seconds, run
 from jsontext import json_text
 from runs import Fates, comparison
-from simulation import BAD_PATIENCE, Run, flows_of, patience_of, words_of
-from trace import trace_of
+from simulation import BAD_PATIENCE, Run, config_of, flows_of, patience_of, words_of
+from trace import NOT_JSON, TRUNCATED, UNKNOWN_KEY, trace_of
 from traces import Traces
 
 # each command that takes a patience, and how many configs
@@ -307,6 +307,44 @@ def check_largest():
             tally.check(f"hands of 10,000 flows is small: {len(out)} bytes", len(out) < 10_000 * 500, True)
 
 
+def check_long_hands():
+    """`hands` of a trace of more lines than the reader holds, of 2,000 flows whose first requests are not in the order of their arrivals; of one
+    name that eight schemas share; and its faults. Its memory does not grow with the lines."""
+    times = random.Random(seed)
+    form = '{"schema":"%s","distinguisher":"%s","arrivesAt":%d,"runsFor":0}\n'
+    flows = [(f"schema-{number % 8}", "shared" if number < 8 else f"flow-{number}") for number in range(2_000)]
+    lines = [form % (*flows[min(number, times.randrange(2_000))], max(0, 100_000 + 5 * number - times.randrange(400_000))) for number in range(140_000)]
+    content = "".join(lines).encode()
+    trace = trace_of(content, in_pieces=True)
+    tally.check("the flows come in another order than they arrive", [it["arrivesAt"] for it in trace] != sorted(it["arrivesAt"] for it in trace), True)
+    for config in ('{"limit":6,"queues":16,"handSize":3,"queueLengthLimit":10}', '{"limit":6,"queues":128,"handSize":6}', '{"limit":6,"queues":2,"handSize":2}', '{"limit":6,"limitResponse":"Reject"}'):
+        level = config_of(config.encode())
+        (status, out, err), took = processor_seconds(lambda: printed("hands", [config.encode(), content]))
+        tally.check(f"hands of 140,000 lines on {config}", (status, err, lines_of(out) == simulation.hands(level, trace)), (0, b"", True))
+        tally.check(f"hands of 140,000 lines on {config} in well under ten seconds: {took:.2f} s", took < 10, True)
+        status, out, err = printed("hands", [config.encode(), content], "--flow=shared")
+        tally.check(f"hands of eight flows of one name on {config}", (status, err, lines_of(out) == simulation.hands_of(level, trace, "shared")), (0, b"", True))
+    config = b'{"limit":6,"queues":16,"handSize":3}'
+    note = 'apf: nothing matched: no flow of the trace has the distinguisher "nobody"\n'
+    tally.check("no flow of 140,000 lines has the name", printed("hands", [config, content], "--flow=nobody"), (0, b"", note.encode()))
+    for number, line, fault in ((1, "x\n", NOT_JSON), (70_000, lines[0].replace("runsFor", "ranFor"), UNKNOWN_KEY), (140_000, lines[0][:-1], TRUNCATED)):
+        status, out, err = printed("hands", [config, "".join([*lines[: number - 1], line]).encode()])
+        tally.check(f"hands of a fault at line {number}", (status, out, err.split(b":")[1]), (1, b"", b" trace fault %d at line %d" % (fault, number)))
+    # from a pipe: the memory is that of the flows and of the lines that are held, and not of all lines
+    path, most = files("level", config), []
+    block = "".join(form % (*flows[number % 200], 0) for number in range(140_000)).encode()
+    for times_over in (1, 8):
+        with subprocess.Popen([program, "hands", path, "-"], stdin=subprocess.PIPE, stdout=subprocess.PIPE) as process:
+            memory = Memory(process)
+            for _ in range(times_over):
+                process.stdin.write(block)
+            process.stdin.close()
+            out = process.stdout.read()
+        most.append(memory.most())
+        tally.check(f"hands of {times_over} times 140,000 lines from a pipe", (process.returncode, out.count(b"flow ")), (0, 200))
+    tally.check(f"hands of eight times as many lines take as much memory: {most} KiB", most[1] < most[0] + 8_192, True)
+
+
 def check_long():
     """A trace of more lines than the reader holds: `fates` has a line for each request, in the order of the arrivals, and its numbers
     are those of `simulate`. A fault behind as many lines as are held back comes after a beginning of that; one before them
@@ -353,5 +391,6 @@ for command in ("fates", "compare"):
     check_words(command, PATIENT[command])
 check_standard_input()
 check_largest()
+check_long_hands()
 check_long()
 tally.end()

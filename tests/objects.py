@@ -4,11 +4,13 @@ good and faulty, and the faults of the command line and of the log."""
 import json
 import os
 import random
+import subprocess
 import sys
+import threading
 
 HERE = os.path.dirname(os.path.abspath(__file__))
 sys.path.insert(0, os.path.join(HERE, "lib"))
-from harness import TOP, Files, Tally, build, run
+from harness import TOP, Files, Memory, Tally, build, run
 from explain import NO_OBJECTS, TRACE_AS_OBJECTS, not_json
 from level import hand_of, hash_of
 
@@ -504,6 +506,12 @@ def event_of(asked):
     return event
 
 
+def same(got, want):
+    """An answer, with whether its output is this, which is long, in place of it."""
+    status, out, err = got
+    return status, out == want, err
+
+
 # ---- events in bulk
 
 for _ in range(20):
@@ -528,6 +536,53 @@ for _ in range(20):
     got = out.decode().splitlines(keepends=True)
     differ = [(a, b, lines[int(b.split()[0]) - 1]) for a, b in zip(got, want) if a != b]
     tally.check("10,000 events", (status, err, len(got), differ[:2]), (0, b"", len(want), []))
+
+# ---- a log that is longer than any file that is read whole, with lines of the largest size, from a file and from a pipe
+
+MOST_LINE = 1_048_576
+while True:
+    value = drawn_objects()
+    if value["kind"] == "List" and len(value["items"]) > 8:
+        break
+objects = files("objects.json", json.dumps(value))
+cluster = cluster_of(value)
+lines, want = [], []
+for number in range(1, 25_001):
+    asked = drawn_request()
+    event = event_of(asked)
+    schema = cluster[1][schema_of(cluster[1], asked)]
+    want.append(f"{number} {schema['name']} {schema['level']} {json.dumps(distinguisher_of(schema, asked))}\n")
+    line = json.dumps(event)
+    lines.append((line.ljust(MOST_LINE) if number % 300 == 0 else line) + "\n")
+log = files("log.jsonl", "".join(lines))
+tally.check("a log of more than 64 MiB", os.path.getsize(log) > 67_108_864, True)
+whole = "".join(want).encode()
+tally.check("25,000 events, some of them of 1 MiB", same(run(program, ["match", objects, "--log", log]), whole), (0, True, b""))
+with subprocess.Popen([program, "match", objects, "--log", "-"], stdin=subprocess.PIPE, stdout=subprocess.PIPE, stderr=subprocess.PIPE) as process:
+    memory = Memory(process)
+    threading.Thread(target=lambda: (process.stdin.write("".join(lines).encode()), process.stdin.close()), daemon=True).start()
+    told = process.stdout.read(), process.stderr.read()
+tally.check("the same from a pipe", same((process.returncode, *told), whole), (0, True, b""))
+tally.check(f"it is read in pieces: {memory.most()} KiB", memory.most() < 32_768, True)
+last = lines[0][:-1]
+for name, more, fault in (
+    ("a line that is too long", last.ljust(MOST_LINE + 1) + "\n", b"1 at line 25001: the line has more than 1048576 bytes"),
+    ("a last line that is too long", last.ljust(MOST_LINE + 1), b"1 at line 25001: the line has more than 1048576 bytes"),
+    ("a last line that is much too long", last.ljust(3 * MOST_LINE), b"1 at line 25001: the line has more than 1048576 bytes"),
+    ("a line that is no JSON", "x\n" + lines[1], b"2 at line 25001: "),
+    ("a line that is no event", '{"verb":"get"}\n' + lines[1], b"3 at line 25001: "),
+    ("an event without a user", '{"stage":"ResponseComplete","verb":"get"}\n' + lines[1], b"4 at line 25001: "),
+):
+    status, out, err = run(program, ["match", objects, "--log", files("log.jsonl", "".join(lines) + more)])
+    tally.check(f"{name}, behind the others", (status, out == whole, err.startswith(b"apf: audit fault " + fault)), (1, True, True))
+schema, level, distinguisher = want[0].rstrip("\n").split(" ", 3)[1:]
+for name, more, line in (
+    ("a last line without LF", last, f"25001 {schema} {level} {distinguisher}\n"),
+    ("a last line of the largest size without LF", last.ljust(MOST_LINE), f"25001 {schema} {level} {distinguisher}\n"),
+    ("a last line that is still written", last[:40], ""),
+):
+    got = run(program, ["match", objects, "--log", files("log.jsonl", "".join(lines) + more)])
+    tally.check(name, same(got, whole + line.encode()), (0, True, b""))
 
 # ---- single requests, with what did not match
 

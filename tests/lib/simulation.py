@@ -4,6 +4,7 @@ A run looks at each step for what is due, and makes the calls of the independent
 means of what finished until then (charges.py). By time, what it took is charged in the place of its cost as it finishes.
 """
 
+import collections
 import functools
 import re
 from fractions import Fraction
@@ -229,13 +230,15 @@ def dealt_of(config, trace):
 def hands(config, trace):
     """Each hand, with how many other flows have each of its queues, and the first ten of those that have all of them."""
     dealt, lines = dealt_of(config, trace), []
+    queues_of = {flow: set(hand) for flow, hand in dealt.items()}
+    holders = collections.Counter(queue for queues in queues_of.values() for queue in queues)
     for flow, members in flows_of(trace).items():
+        own = queues_of[flow]
         lines.append(" ".join([f"flow {flow:016x} hand", *map(str, dealt[flow])]) + of_names(trace, members))
-        others = {it: set(hand) for it, hand in dealt.items() if it != flow}
         for queue in dealt[flow]:
-            if sharers := sum(queue in hand for hand in others.values()):
+            if sharers := holders[queue] - 1:
                 lines.append(f"  shares {queue} with {sharers} flows")
-        covers = [f"{it:016x}" for it, hand in others.items() if dealt[flow] and hand.issuperset(dealt[flow])]
+        covers = [f"{it:016x}" for it, queues in queues_of.items() if own and queues >= own and it != flow]
         if covers:
             lines.append(" ".join(["  covered by", *covers[:10]]))
         if covers[10:]:
@@ -273,7 +276,7 @@ def answer(command, contents, patience=None, charge=None):
     try:
         *configs, content = contents
         levels = [config_of(it) for it in configs]
-        trace = trace_of(content, in_pieces=command in (simulate, compare, fates, timeline))
+        trace = trace_of(content, in_pieces=command in (simulate, compare, fates, timeline, hands))
         for level in levels:
             fault = level["limitResponse"] == "Queue" and dealer_fault(level["queues"], level["handSize"])
             if fault:

@@ -9,7 +9,7 @@ use Rattle.apf_files.specs.declared.script.ScriptFault.{ScriptFault}
 use Rattle.apf_traces.specs.declared.fault.TraceFault.{TraceFault}
 use Rattle.apf_audit.specs.declared.fault.AuditFault.{AuditFault}
 use Rattle.apf_audit.specs.AuditFaults.{line_of}
-use Rattle.apf_explain.specs.AuditLines.{known_line, IsAuditLine, IsPlacedEvent}
+use Rattle.apf_explain.specs.AuditLines.{known_line, IsPlacedEvent}
 use Rattle.apf_explain.specs.Lines.{IsConfigLine, IsRequestsLine, dealer_text}
 use Rattle.apf_explain.specs.ScriptTexts.{IsScriptLine}
 use Rattle.apf_explain.specs.TraceLines.{IsTraceLine}
@@ -19,13 +19,7 @@ use Rattle.apf_cli.specs.declared.faults.Fault.TheVariants.{Dealer, Config, Requ
 use Rattle.apf_cli.specs.declared.faults.Sizes.TheVariants.{OfConfig}
 use Rattle.apf_cli.specs.declared.reading.Explained.{Explained}
 
--- the fault has the whole line of an audit log's fault, or memory was refused
-abbrev pub IsAuditTold : List ℕ → AuditFault → Fault → Type 0
-IsAuditTold bytes fault (Told line) = IsAuditLine bytes fault (Some []) (Some line.items)
-IsAuditTold bytes fault NoMemory = ⊤
-IsAuditTold bytes fault _ = ⊥
-
--- the same of a line that has the fault
+-- the fault has the whole line of the fault of an audit log's line, or memory was refused
 abbrev pub IsAuditLineTold : List ℕ → AuditFault → Fault → Type 0
 IsAuditLineTold bytes fault (Told line) = IsPlacedEvent (known_line fault bytes) fault (line_of fault) (Some []) (Some line.items)
 IsAuditLineTold bytes fault NoMemory = ⊤

@@ -6,10 +6,12 @@ ghost use Rattle.apf_matching.specs.Limits.{max_seats};
 ghost use Rattle.apf_objects.specs.Cluster.{HasCatchAll, most_levels};
 
 use crate::faults::Fault;
-use crate::files::{Files, Input, judge_names, read_input, shown};
-use crate::telling::{audit_fault, named};
+use crate::files::{Files, Input, cause_of, judge_names, open_input, read_input, shown};
+use crate::telling::{audit_line_fault, named};
 use apf_audit::AuditFault;
-use apf_cluster_text::{LogFault, write_cluster, write_log, write_match, write_object_fault};
+use apf_cluster_text::{
+    LogFault, LogLines, write_cluster, write_log, write_match, write_object_fault,
+};
 use apf_commands::Asked;
 use apf_explain::{explain_objects, explain_other};
 use apf_files::{Parsed, parse};
@@ -162,19 +164,23 @@ fn print_match<F: Files, O: Write>(
     write_match(out, &cluster, &request).map_err(|_| Fault::CannotWrite)
 }
 
-// The fault of an audit log, with its line.
-fn log_fault(alloc: Global, bytes: &[u8], fault: LogFault) -> Fault {
+// The fault of the audit log of this name, where the line that was found last has these bytes.
+fn log_fault(alloc: Global, name: &str, line: &[u8], fault: LogFault) -> Fault {
     match fault {
-        LogFault::TooLong(line) => audit_fault(alloc, bytes, AuditFault::TooLong(line)),
-        LogFault::NotJson(line) => audit_fault(alloc, bytes, AuditFault::NotUtf8Json(line)),
-        LogFault::NotEvent(line) => audit_fault(alloc, bytes, AuditFault::NotEvent(line)),
-        LogFault::BadUser(line) => audit_fault(alloc, bytes, AuditFault::BadUser(line)),
+        LogFault::TooLong(number) => audit_line_fault(alloc, line, AuditFault::TooLong(number)),
+        LogFault::NotJson(number) => audit_line_fault(alloc, line, AuditFault::NotUtf8Json(number)),
+        LogFault::NotEvent(number) => audit_line_fault(alloc, line, AuditFault::NotEvent(number)),
+        LogFault::BadUser(number) => audit_line_fault(alloc, line, AuditFault::BadUser(number)),
         LogFault::NoMemory => Fault::NoMemory,
+        LogFault::CannotRead(error) => {
+            let cause = cause_of(&error);
+            named(alloc, name, Fault::CannotRead(Input::AuditLog, cause))
+        }
         LogFault::CannotWrite => Fault::CannotWrite,
     }
 }
 
-// Prints the schema of each request of an audit log.
+// Prints the schema of each request of an audit log, which is read in pieces, so that it may have any length.
 fn print_log<F: Files, O: Write>(
     alloc: Global,
     files: &mut F,
@@ -183,13 +189,14 @@ fn print_log<F: Files, O: Write>(
 ) -> Result<(), Fault> {
     judge_names(&[names.0, names.1])?;
     let cluster = read_cluster(alloc, files, names.0)?;
-    let bytes = match read_input(files, Input::AuditLog, names.1) {
-        Ok(bytes) => bytes,
+    let mut input = match open_input(files, Input::AuditLog, names.1) {
+        Ok(input) => input,
         Err(fault) => return Err(named(alloc, names.1, fault)),
     };
-    match write_log(alloc, out, &cluster, bytes.as_slice()) {
+    let mut log = LogLines::new(alloc)?;
+    match write_log(alloc, out, &cluster, &mut log, &mut input) {
         Ok(()) => Ok(()),
-        Err(fault) => Err(log_fault(alloc, bytes.as_slice(), fault)),
+        Err(fault) => Err(log_fault(alloc, names.1, log.line(), fault)),
     }
 }
 

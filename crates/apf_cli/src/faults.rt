@@ -4,7 +4,7 @@ ghost use Rattle.std.specs.Prelude.{◌≤◌};
 
 use crate::files::{Cause, Input};
 use apf_flow::DealerFault;
-use apf_flows::HandsFault;
+use apf_hands::HandsFault;
 use apf_local::OpenFault;
 use apf_run::{
     ConfigFault, LevelFault, ReplayFault, RequestFault, RunFault, ScriptFault, WriteFault,

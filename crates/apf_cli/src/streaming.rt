@@ -3,16 +3,16 @@
 ghost use Rattle.std.specs.Prelude.{◌≡◌, ◌≤◌, IfOk, vec_len};
 
 use crate::faults::Fault;
-use crate::files::{Files, Input, Source, cause_of, judge_names, open_input};
+use crate::files::{Files, Input, Source, judge_names, open_input};
 use crate::reading::{config_of, level_fault};
-use crate::telling::{named, trace_line_fault};
+use crate::telling::{named, unread_trace_fault};
 use crate::traces::{Way, charge_of, patience_of};
 use apf_charges::ChargedBy;
 use apf_run::Config;
 use apf_simulator::{
     Listed, SimulatorFault, Terms, compare, list, simulate, write_fates, write_timeline,
 };
-use apf_trace_reader::{ReadFault, TraceReader, WINDOW};
+use apf_trace_reader::{TraceReader, WINDOW};
 use std::alloc::Global;
 use std::io::Write;
 
@@ -29,13 +29,7 @@ fn fault_of<F: Files>(
     fault: SimulatorFault,
 ) -> Fault {
     match fault {
-        SimulatorFault::Read(ReadFault::Trace(fault)) => {
-            trace_line_fault(alloc, reader, input, fault)
-        }
-        SimulatorFault::Read(ReadFault::CannotRead(error)) => {
-            let cause = cause_of(&error);
-            named(alloc, trace, Fault::CannotRead(Input::Trace, cause))
-        }
+        SimulatorFault::Read(fault) => unread_trace_fault(alloc, trace, reader, input, fault),
         SimulatorFault::Open(fault) => {
             level_fault(alloc, levels.0.0, levels.0.1, fault.into()).told(alloc, true)
         }
@@ -65,8 +59,8 @@ fn terms_of(way: Way<'_>) -> Result<Terms, Fault>
     })
 }
 
-// The trace of this name, to be read in pieces.
-fn open_trace<'a, F: Files>(
+/// The trace of this name, to be read in pieces.
+pub(crate) fn open_trace<'a, F: Files>(
     alloc: Global,
     files: &'a mut F,
     name: &str,

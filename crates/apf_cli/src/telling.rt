@@ -1,12 +1,12 @@
 //! Lines on standard error that say of a file what is wrong with it.
 
-ghost use Rattle.apf_cli.specs.Told.{IsTraceTold, IsAuditTold, IsAuditLineTold};
+ghost use Rattle.apf_cli.specs.Told.{IsTraceTold, IsAuditLineTold};
 
 use crate::faults::Fault;
-use crate::files::{Files, Source, shown};
+use crate::files::{Files, Input, Source, cause_of, shown};
 use apf_audit::AuditFault;
-use apf_explain::{explain_audit_line, explain_audit_log, explain_trace, explain_trace_line};
-use apf_trace_reader::TraceReader;
+use apf_explain::{explain_audit_line, explain_trace, explain_trace_line};
+use apf_trace_reader::{ReadFault, TraceReader};
 use apf_traces::TraceFault;
 use std::alloc::{AllocError, Global};
 use std::io::Read;
@@ -54,10 +54,10 @@ fn front_of<F: Files>(
     Ok(front)
 }
 
-/// The fault of a trace that is read in pieces, with the line that says what stands there and what may stand there. The reader
-/// has read from the input. Each whole line is judged before the end is reached, so that a fault at the end is of what stands
-/// behind the last LF.
-pub(crate) fn trace_line_fault<F: Files>(
+// The fault of a trace that is read in pieces, with the line that says what stands there and what may stand there. The reader
+// has read from the input. Each whole line is judged before the end is reached, so that a fault at the end is of what stands
+// behind the last LF.
+fn trace_line_fault<F: Files>(
     alloc: Global,
     reader: &TraceReader,
     input: &mut Source<'_, F>,
@@ -85,14 +85,20 @@ pub(crate) fn trace_line_fault<F: Files>(
     }
 }
 
-/// The fault of an audit log, with such a line.
-pub(crate) fn audit_fault(alloc: Global, bytes: &[u8], fault: AuditFault) -> Fault
-    ensures { IsAuditTold bytes.now fault result }
-{
-    let mut line = Vec::new(alloc);
-    match explain_audit_log(alloc, bytes, fault, &mut line) {
-        Ok(()) => Fault::Told(line),
-        Err(_) => Fault::NoMemory,
+/// The fault of a trace of this name that is read in pieces and was not read to its end, with such a line.
+pub(crate) fn unread_trace_fault<F: Files>(
+    alloc: Global,
+    name: &str,
+    reader: &TraceReader,
+    input: &mut Source<'_, F>,
+    fault: ReadFault,
+) -> Fault {
+    match fault {
+        ReadFault::Trace(fault) => trace_line_fault(alloc, reader, input, fault),
+        ReadFault::CannotRead(error) => {
+            let cause = cause_of(&error);
+            named(alloc, name, Fault::CannotRead(Input::Trace, cause))
+        }
     }
 }
 

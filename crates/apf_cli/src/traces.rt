@@ -1,20 +1,23 @@
 //! The commands on a trace: each reads its files, and prints.
 
-ghost use Rattle.std.specs.Prelude.{◌≡◌, ◌≤◌, All, IfErr, IfOk, length, vec_len};
+ghost use Rattle.std.specs.Prelude.{◌≡◌, ◌≤◌, All, IfErr, IfOk, vec_len};
 ghost use Rattle.apf_cli.specs.Choices.{IsChargeNamed, IsNoChargeFor};
 ghost use Rattle.apf_traces.specs.TraceFile.{max_lines};
 ghost use Rattle.apf_traces.specs.TraceValue.{IsRequestInRange};
 
 use crate::faults::Fault;
-use crate::files::{Files, Input, judge_names, read_input};
+use crate::files::{Files, Input, Source, judge_names, read_input};
 use crate::measuring::Measure;
 use crate::notes::note_no_flow;
 use crate::reading::{config_of, level_fault};
-use crate::telling::{named, trace_fault};
+use crate::streaming::open_trace;
+use crate::telling::{named, trace_fault, unread_trace_fault};
 use apf_charges::ChargedBy;
 use apf_commands::read_patience;
-use apf_flows::{HandsFault, write_hands, write_hands_of, write_requests};
+use apf_flows::write_requests;
+use apf_hands::{FlowsFault, write_flows};
 use apf_run::Config;
+use apf_trace_reader::{TraceReader, WINDOW};
 use apf_traces::{TraceRequest, read_trace};
 use std::alloc::Global;
 use std::io::Write;
@@ -79,21 +82,6 @@ pub(crate) fn read_requests<F: Files>(
     }
 }
 
-/// Reads the config and the trace of these names, the config judged before the trace is read.
-pub(crate) fn read_both<F: Files>(
-    alloc: Global,
-    files: &mut F,
-    names: (&str, &str),
-) -> Result<(Config, Vec<TraceRequest>), Fault>
-    ensures few { IfOk result (λ read. vec_len read.1 ≤ max_lines) }
-    ensures ranges { IfOk result (λ read. All IsRequestInRange read.1.items) }
-{
-    judge_names(&[names.0, names.1])?;
-    let config = config_of(alloc, files, names.0)?;
-    let trace = read_requests(alloc, files, names.1)?;
-    Ok((config, trace))
-}
-
 /// Prints the requests file of the trace.
 ///
 /// # Errors
@@ -112,28 +100,25 @@ pub(crate) fn print_requests<F: Files, O: Write>(
     write_requests(trace.as_slice(), out).map_err(|_| Fault::CannotWrite)
 }
 
-// Writes the hands of the flows of one distinguisher, and says on `err` that there is none, if there is none.
-fn write_part<O: Write, E: Write>(
+// The fault of the hands of a trace of this name, on a level whose config is in the file of the other one.
+fn hands_fault<F: Files>(
     alloc: Global,
+    names: (&str, &str),
     config: &Config,
-    trace: &[TraceRequest],
-    flow: &str,
-    out: &mut O,
-    err: &mut E,
-) -> Result<(), HandsFault>
-    requires { length trace.now ≤ max_lines }
-{
-    let mut size = Measure::new();
-    write_hands_of(alloc, config, trace, flow, &mut size)?;
-    if size.is_empty() {
-        note_no_flow(flow, err);
-        return Ok(());
+    reader: &TraceReader,
+    input: &mut Source<'_, F>,
+    fault: FlowsFault,
+) -> Fault {
+    match fault {
+        FlowsFault::Trace(fault) => unread_trace_fault(alloc, names.1, reader, input, fault),
+        FlowsFault::Hands(fault) => {
+            level_fault(alloc, names.0, config, fault.into()).told(alloc, true)
+        }
     }
-    write_hands_of(alloc, config, trace, flow, out)
 }
 
 /// Prints the hands of the trace's flows on the level of the config, or of those of one distinguisher. That no flow has it
-/// is said on `err`.
+/// is said on `err`. The trace is read in pieces, so it may have any length.
 ///
 /// # Errors
 ///
@@ -146,13 +131,19 @@ pub(crate) fn print_hands<F: Files, O: Write, E: Write>(
     out: &mut O,
     err: &mut E,
 ) -> Result<(), Fault> {
-    let (config, trace) = read_both(alloc, files, names)?;
-    let written = match flow {
-        Some(name) => write_part(alloc, &config, trace.as_slice(), name, out, err),
-        None => write_hands(alloc, &config, trace.as_slice(), out),
-    };
-    match written {
-        Ok(()) => Ok(()),
-        Err(fault) => Err(level_fault(alloc, names.0, &config, fault.into()).told(alloc, true)),
+    judge_names(&[names.0, names.1])?;
+    let config = config_of(alloc, files, names.0)?;
+    let mut input = open_trace(alloc, files, names.1)?;
+    let mut reader = TraceReader::new(alloc, WINDOW)?;
+    match write_flows(alloc, &config, &mut reader, &mut input, flow, out) {
+        Ok(is_found) => {
+            if let Some(name) = flow
+                && !is_found
+            {
+                note_no_flow(name, err);
+            }
+            Ok(())
+        }
+        Err(fault) => Err(hands_fault(alloc, names, &config, &reader, &mut input, fault)),
     }
 }

@@ -1,20 +1,26 @@
 //! The requests of an audit log.
 
+ghost use Rattle.std.specs.Prelude.{◌≡◌, [], None, codes, option_map, IfErr, OnOk};
+ghost use Rattle.serde_json.specs.Find.{get};
+ghost use Rattle.serde_json.specs.View.{view};
+ghost use Rattle.apf_audit.specs.AuditEvent.{name_by};
 ghost use Rattle.apf_objects.specs.Cluster.{HasCatchAll};
+ghost use Rattle.apf_cluster_text.specs.Log.{value_fault, short_fault, IsMatched, IsOfMachine, IsToldAt, IsToldOf};
+ghost use Rattle.apf_cluster_text.specs.LogLines.{HasRead};
 
-use apf_audit::{MAX_LINE, is_begun};
+use crate::log_lines::{Found, LogLines};
+use apf_audit::is_begun;
 use apf_files::{text_at, value_of};
 use apf_flows::{write_escaped, write_text};
 use apf_matching::{Request, Target, distinguisher_of, schema_for};
 use apf_objects::Cluster;
-use apf_traces::first_line;
 use serde_json::Value;
 use std::alloc::Global;
 use std::io;
-use std::io::Write;
+use std::io::{ErrorKind, Read, Write};
 
 /// Why an audit log was not matched. Lines are counted from 1.
-#[derive(Clone, Copy, Debug, PartialEq, Eq)]
+#[derive(Debug, Drop)]
 pub enum LogFault {
     /// The line has more than 1,048,576 bytes.
     TooLong(u64),
@@ -26,6 +32,8 @@ pub enum LogFault {
     BadUser(u64),
     /// Memory was refused.
     NoMemory,
+    /// The input failed.
+    CannotRead(io::Error),
     /// The output can't be written.
     CannotWrite,
 }
@@ -36,7 +44,9 @@ fn text_or_empty<'a>(value: &'a Value, key: &str) -> &'a str {
 }
 
 // The texts among the members of the array at a key.
-fn texts_at<'a>(alloc: Global, value: &'a Value, key: &str) -> Result<Vec<&'a str>, LogFault> {
+fn texts_at<'a>(alloc: Global, value: &'a Value, key: &str) -> Result<Vec<&'a str>, LogFault>
+    ensures { IfErr result IsOfMachine }
+{
     let mut texts = Vec::new(alloc);
     let Some(array) = value.get(key) else {
         return Ok(texts);
@@ -63,7 +73,9 @@ fn path_of(uri: &str) -> &str {
 }
 
 // The resource, with its subresource behind it.
-fn resource_of(alloc: Global, object: &Value) -> Result<String, LogFault> {
+fn resource_of(alloc: Global, object: &Value) -> Result<String, LogFault>
+    ensures { IfErr result IsOfMachine }
+{
     let resource = text_or_empty(object, "resource");
     let subresource = text_or_empty(object, "subresource");
     let named = if subresource == "" {
@@ -71,7 +83,10 @@ fn resource_of(alloc: Global, object: &Value) -> Result<String, LogFault> {
     } else {
         format!(in alloc; "{resource}/{subresource}")
     };
-    named.map_err(|_| LogFault::NoMemory)
+    match named {
+        Ok(resource) => Ok(resource),
+        Err(_) => Err(LogFault::NoMemory),
+    }
 }
 
 // Writes the line of a request.
@@ -93,18 +108,19 @@ fn write_request<W: Write>(
     out.write_all(b"\n")
 }
 
-// Writes the line of the request of an event of this user.
+// Writes the line of the request of an event of this user, whose value is the other one.
 fn write_of_user<W: Write>(
     alloc: Global,
     out: &mut W,
     cluster: &Cluster,
     event: &Value,
+    user: &str,
     of_user: &Value,
     line: u64,
 ) -> Result<(), LogFault>
     requires { HasCatchAll cluster.now }
+    ensures { IfErr result IsOfMachine }
 {
-    let user = text_at(of_user, "username").ok_or(LogFault::BadUser(line))?;
     let groups = texts_at(alloc, of_user, "groups")?;
     let verb = text_or_empty(event, "verb");
     let written = match event.get("objectRef") {
@@ -133,10 +149,26 @@ fn write_of_user<W: Write>(
             write_request(out, cluster, &request, line)
         }
     };
-    written.map_err(|_| LogFault::CannotWrite)
+    match written {
+        Ok(()) => Ok(()),
+        Err(_) => Err(LogFault::CannotWrite),
+    }
+}
+
+// The name of the user of an event, with the value that has it: of the one who is impersonated, if there is such a one.
+#[tactic(auto, unfolding(apf_audit::specs::AuditEvent::text_within))]
+fn user_of(event: &Value) -> Option<(&str, &Value)>
+    ensures { option_map (λ user. user.0.now) result ≡ name_by (view event.now) (get (codes "impersonatedUser") (view event.now)) }
+{
+    let of_user = match event.get("impersonatedUser") {
+        Some(user) => user,
+        None => event.get("user")?,
+    };
+    Some((text_at(of_user, "username")?, of_user))
 }
 
 // Writes the line of an event, if it is of a request that is complete.
+#[tactic(auto, unfolding(crate::specs::Log::value_fault))]
 fn write_event<W: Write>(
     alloc: Global,
     out: &mut W,
@@ -145,25 +177,49 @@ fn write_event<W: Write>(
     line: u64,
 ) -> Result<(), LogFault>
     requires { HasCatchAll cluster.now }
+    ensures ok { OnOk result (value_fault line (view event.now) ≡ None) }
+    ensures err { IfErr result (λ fault. IsToldAt fault (value_fault line (view event.now))) }
 {
-    let stage = text_at(event, "stage").ok_or(LogFault::NotEvent(line))?;
+    let Some(stage) = text_at(event, "stage") else {
+        return Err(LogFault::NotEvent(line));
+    };
     if text_at(event, "verb").is_none() {
         return Err(LogFault::NotEvent(line));
     }
     if stage != "ResponseComplete" {
         return Ok(());
     }
-    let of_user = match event.get("impersonatedUser") {
-        Some(user) => Some(user),
-        None => event.get("user"),
+    let Some((user, of_user)) = user_of(event) else {
+        return Err(LogFault::BadUser(line));
     };
-    let of_user = of_user.ok_or(LogFault::BadUser(line))?;
-    write_of_user(alloc, out, cluster, event, of_user, line)
+    write_of_user(alloc, out, cluster, event, user, of_user, line)
+}
+
+// Writes the line of the event of this line of a log, if it has one. The line is not too long.
+fn write_line<W: Write>(
+    alloc: Global,
+    out: &mut W,
+    cluster: &Cluster,
+    bytes: &[u8],
+    is_ended: bool,
+    line: u64,
+) -> Result<(), LogFault>
+    requires { HasCatchAll cluster.now }
+    ensures ok { OnOk result (short_fault line (record { bytes = bytes.now; is_ended = is_ended }) ≡ None) }
+    ensures err { IfErr result (λ fault. IsToldAt fault (short_fault line (record { bytes = bytes.now; is_ended = is_ended }))) }
+{
+    match value_of(alloc, bytes) {
+        Ok(Some(event)) => write_event(alloc, out, cluster, &event, line),
+        Ok(None) if !is_ended && is_begun(bytes) => Ok(()),
+        Ok(None) => Err(LogFault::NotJson(line)),
+        Err(_) => Err(LogFault::NoMemory),
+    }
 }
 
 /// Writes a line for each event of an audit log whose `stage` is `ResponseComplete`: the number of its line, its schema,
 /// its level and its distinguisher. Of a last line that no LF ends, that begins as
-/// an event does and is no JSON text, nothing is written.
+/// an event does and is no JSON text, nothing is written. The log's lines come one after the other, and are read in pieces, so
+/// that it may have any length.
 ///
 /// The user and the groups are those of `impersonatedUser` where it stands, and else of `user`. A request is for a
 /// resource exactly if `objectRef` is there; else its path is `requestURI` before `?`. What is absent, or no text,
@@ -171,30 +227,33 @@ fn write_event<W: Write>(
 ///
 /// # Errors
 ///
-/// The first fault of a line. What came before it is written.
-pub fn write_log<W: Write>(
+/// The first fault of a line, which `log` holds then; nothing more is read. `CannotRead` with what the input answered, or
+/// after 2^64 - 1 lines. What came before is written.
+pub fn write_log<R: Read, W: Write>(
     alloc: Global,
     out: &mut W,
     cluster: &Cluster,
-    bytes: &[u8],
+    log: &mut LogLines,
+    input: &mut R,
 ) -> Result<(), LogFault>
     requires { HasCatchAll cluster.now }
+    ensures ok { OnOk result (HasRead [] [] (R.remaining input.old) log.old → IsMatched (R.remaining input.old) (R.remaining input.new)) }
+    ensures err { IfErr result (λ fault. HasRead [] [] (R.remaining input.old) log.old → IsToldOf (R.remaining input.old) (R.remaining input.new) fault) }
 {
-    let mut rest = bytes;
-    let mut line = 1;
-    while !rest.is_empty() {
-        let first = first_line(rest);
-        if first.line.len() > MAX_LINE {
-            return Err(LogFault::TooLong(line));
+    'lines: for _ in 0..u64::MAX {
+        match log.next(input) {
+            Ok(Some(Found::Held)) => write_line(
+                alloc,
+                out,
+                cluster,
+                log.line(),
+                log.is_ended(),
+                log.number(),
+            )?,
+            Ok(Some(Found::TooLong)) => return Err(LogFault::TooLong(log.number())),
+            Ok(None) => return Ok(()),
+            Err(error) => return Err(LogFault::CannotRead(error)),
         }
-        match value_of(alloc, first.line) {
-            Ok(Some(event)) => write_event(alloc, out, cluster, &event, line)?,
-            Ok(None) if !first.is_ended && is_begun(first.line) => {}
-            Ok(None) => return Err(LogFault::NotJson(line)),
-            Err(_) => return Err(LogFault::NoMemory),
-        }
-        rest = first.rest;
-        line += 1;
     }
-    Ok(())
+    Err(LogFault::CannotRead(io::Error::from(ErrorKind::Other)))
 }

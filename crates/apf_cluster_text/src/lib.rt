@@ -5,6 +5,7 @@
 //! - `faults`: the line of a fault.
 //! - `listing`: the levels and schemas.
 //! - `matching`: the schema of a request.
+//! - `log_lines`: the lines of an audit log, which is read in pieces.
 //! - `events`: the requests of an audit log.
 #![tactic(auto)]
 
@@ -12,10 +13,12 @@ mod events;
 mod faults;
 mod found;
 mod listing;
+mod log_lines;
 mod matching;
 mod path;
 
 pub use events::{LogFault, write_log};
 pub use faults::write_object_fault;
 pub use listing::write_cluster;
+pub use log_lines::{Found, LogLines};
 pub use matching::write_match;

@@ -18,3 +18,8 @@ texts_more text xs x ys is old mid new h k =
     let whole : flat_map text xs ++ text x ≡ flat_map text ys =
     sym (ap (λ zs. flat_map text zs) is ∙ (flat_map-append text xs (x ∷ []) ∙ ap (λ (t : List ℕ). flat_map text xs ++ t) (append-nil (text x)))) in
     subst (λ (t : List ℕ). Appends old new t) whole (appends_more old mid new (flat_map text xs) (text x) h k)
+
+-- nothing was written
+pub appends_none : (old : Option (List ℕ)) → Appends old old []
+appends_none None = tt
+appends_none (Some a) = sym (append-nil a)

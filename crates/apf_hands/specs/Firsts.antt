@@ -25,6 +25,14 @@ pub record AreFirst (came firsts : List (Arrival TraceRequest)) : Type 0 where
   -- there is one of each flow
   pub each : (x : Arrival TraceRequest) → Contains came x → list_any (nat_eq (hash_of x)) (map hash_of firsts) ≡ true
 
+-- first requests of flows
+abbrev pub FirstRequests : Type 0
+FirstRequests = List (Arrival TraceRequest)
+
+-- no two are of one flow
+pub record HaveDistinctFlows (firsts : List (Arrival TraceRequest)) : Type 0 where
+  pub distinct : IsDistinct nat_eq (map hash_of firsts)
+
 -- the lower line comes first
 abbrev pub comes_first : Arrival TraceRequest → Arrival TraceRequest → Bool
 comes_first a b = nat_lt a.place.line b.place.line

@@ -20,11 +20,6 @@ pub record AreHolders (flows : List Flow) (places : ℕ → List ℕ) : Type 0 w
   pub flow : (queue : ℕ) → filter_map (slice_get flows) (places queue) ≡ filter (λ flow. holds flow.hand queue) flows
   pub count : (queue : ℕ) → length (places queue) ≡ holders_of flows queue
 
--- the places at the first queue of a hand
-abbrev pub first_places : (ℕ → List ℕ) → List ℕ → List ℕ
-first_places places [] = []
-first_places places (queue ∷ hand) = places queue
-
 -- how many are at a queue beside one of them
 abbrev pub others_at : (ℕ → List ℕ) → ℕ → ℕ
 others_at places queue = length (places queue) - 1
@@ -36,16 +31,3 @@ others_text places queue = if nat_lt 0 (others_at places queue) then sharers_lin
 -- the lines of the queues of a hand
 abbrev pub all_others_text : (ℕ → List ℕ) → List ℕ → List ℕ
 all_others_text places hand = flat_map (others_text places) hand
-
--- the hash of another flow whose hand holds all queues of this one's
-abbrev pub cover_of : (flow other : Flow) → Option ℕ
-cover_of flow other = if covers flow other then Some other.hash else None
-
--- the same of the flow at a place
-abbrev pub cover_at : Flow → List Flow → ℕ → Option ℕ
-cover_at flow flows place = option_and_then (cover_of flow) (slice_get flows place)
-
--- the lines of a flow
-abbrev pub held_text : List Flow → (ℕ → List ℕ) → Flow → List ℕ
-held_text flows places flow =
-    hand_text flow ++ all_others_text places flow.hand ++ covering_text (filter_map (cover_at flow flows) (first_places places flow.hand))

@@ -1,17 +1,13 @@
 //! What is written of each flow's hand: how many share its queues, and some of those that cover it.
 
-ghost use Rattle.std.specs.Prelude.{◌≡◌, OnOk};
+ghost use Rattle.std.specs.Prelude.{OnOk, take};
 ghost use Rattle.std.specs.Io.KnownBytes.{Appends};
-ghost use Rattle.std.specs.List.{filter_map};
-ghost use Rattle.apf_hands.specs.Dealt.{flow_of, flows_of};
-ghost use Rattle.apf_hands.specs.Hands.{sharers_line, named_text, named_line, more_line, covering_text};
-ghost use Rattle.apf_hands.specs.Holders.{places_at, others_text, all_others_text, cover_of as the_cover_of, cover_at as the_cover_at};
+ghost use Rattle.apf_hands.specs.Alike.{IsOnce, others_of};
+ghost use Rattle.apf_hands.specs.Hands.{sharers_line, most_named, named_text, named_line, more_line, covering_text};
+ghost use Rattle.apf_hands.specs.Holders.{places_at, others_text, all_others_text};
 
-use crate::dealt::Dealt;
 use crate::holders::{Holders, holding};
-use crate::sharing::is_cover;
 use apf_flows::write_hash;
-use std::alloc::AllocError;
 use std::io;
 use std::io::Write;
 
@@ -55,66 +51,32 @@ pub(crate) fn write_all_sharers<W: Write>(
     Ok(())
 }
 
-// The hash of another flow whose hand holds all queues of this one's.
-fn cover_of(flow: &Dealt<'_>, other: &Dealt<'_>) -> Option<u64>
-    ensures { result ≡ the_cover_of (flow_of flow.now) (flow_of other.now) }
+// Writes the first ten of these hashes but one, each with a space before it.
+fn write_named<W: Write>(out: &mut W, hash: u64, hashes: &[u64]) -> io::Result<()>
+    ensures { OnOk result (Appends (W.contents out.old) (W.contents out.new) (named_text (take most_named (others_of hash hashes.now)))) }
 {
-    if is_cover(flow, other) {
-        Some(other.first.hash)
-    } else {
-        None
-    }
-}
-
-// The same of the flow at a place.
-fn cover_at(flow: &Dealt<'_>, flows: &[Dealt<'_>], place: usize) -> Option<u64>
-    ensures { result ≡ the_cover_at (flow_of flow.now) (flows_of flows.now) place }
-{
-    let other = flows.get(place)?;
-    cover_of(flow, other)
-}
-
-/// Puts the hashes of the flows at these places whose hands hold all queues of this other one's in place of what the
-/// list had. It asks for no memory where the list has room for as many hashes as there are places.
-///
-/// # Errors
-///
-/// `AllocError` if memory was refused.
-pub(crate) fn find_covering(
-    flow: &Dealt<'_>,
-    flows: &[Dealt<'_>],
-    places: &[usize],
-    hashes: &mut Vec<u64>,
-) -> Result<(), AllocError>
-    ensures { OnOk result (hashes.new.items ≡ filter_map (the_cover_at (flow_of flow.now) (flows_of flows.now)) places.now) }
-{
-    hashes.clear();
-    for place in places {
-        if let Some(hash) = cover_at(flow, flows, *place) {
-            hashes.push(hash)?;
+    let mut left = MOST_NAMED;
+    for other in hashes {
+        if left == 0 {
+            return Ok(());
         }
-    }
-    Ok(())
-}
-
-// Writes hashes, each with a space before it.
-fn write_named<W: Write>(out: &mut W, hashes: &[u64]) -> io::Result<()>
-    ensures { OnOk result (Appends (W.contents out.old) (W.contents out.new) (named_text hashes.now)) }
-{
-    for hash in hashes {
+        if *other == hash {
+            continue;
+        }
         out.write_all(b" ")?;
-        write_hash(out, *hash)?;
+        write_hash(out, *other)?;
+        left -= 1;
     }
     Ok(())
 }
 
-// Writes the line that names flows that cover a hand.
+// Writes the line that names the first of these flows but one.
 #[tactic(auto, unfolding(crate::specs::Hands::named_line))]
-fn write_named_line<W: Write>(out: &mut W, hashes: &[u64]) -> io::Result<()>
-    ensures { OnOk result (Appends (W.contents out.old) (W.contents out.new) (named_line hashes.now)) }
+fn write_named_line<W: Write>(out: &mut W, hash: u64, hashes: &[u64]) -> io::Result<()>
+    ensures { OnOk result (Appends (W.contents out.old) (W.contents out.new) (named_line (take most_named (others_of hash hashes.now)))) }
 {
     out.write_all(b"  covered by")?;
-    write_named(out, hashes)?;
+    write_named(out, hash, hashes)?;
     out.write_all(b"\n")
 }
 
@@ -126,21 +88,24 @@ fn write_more_line<W: Write>(out: &mut W, count: usize) -> io::Result<()>
     writeln!(out, "  covered by {count} more")
 }
 
-/// Writes the first of the flows that cover a hand, whose hashes these are, and how many more there are.
+/// Writes the first of the flows that cover the hand of a flow, and how many more there are. The hashes are those of the flows
+/// with the queues of that hand, among them its own.
 ///
 /// # Errors
 ///
 /// The writer's. Then nothing is known of how much was written.
 #[tactic(auto, unfolding(crate::specs::Hands::covering_text))]
-pub(crate) fn write_covering<W: Write>(out: &mut W, hashes: &[u64]) -> io::Result<()>
-    ensures { OnOk result (Appends (W.contents out.old) (W.contents out.new) (covering_text hashes.now)) }
+pub(crate) fn write_covering<W: Write>(out: &mut W, hash: u64, hashes: &[u64]) -> io::Result<()>
+    requires { IsOnce hash hashes.now }
+    ensures { OnOk result (Appends (W.contents out.old) (W.contents out.new) (covering_text (others_of hash hashes.now))) }
 {
-    if hashes.len() > MOST_NAMED {
-        write_named_line(out, &hashes[..MOST_NAMED])?;
-        return write_more_line(out, hashes.len() - MOST_NAMED);
+    let count = hashes.len().saturating_sub(1);
+    if count > MOST_NAMED {
+        write_named_line(out, hash, hashes)?;
+        return write_more_line(out, count - MOST_NAMED);
     }
-    if !hashes.is_empty() {
-        write_named_line(out, hashes)?;
+    if count > 0 {
+        write_named_line(out, hash, hashes)?;
     }
     Ok(())
 }

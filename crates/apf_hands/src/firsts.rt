@@ -6,7 +6,7 @@ ghost use Rattle.std.specs.List.Sorted.{IsPermutation, IsSortedBy};
 ghost use Rattle.apf_times.specs.declared.window.Arrival.{Arrival as ArrivalOf};
 ghost use Rattle.apf_traces.specs.declared.request.TraceRequest.{TraceRequest as RequestOf};
 ghost use Rattle.apf_trace_reader.specs.Reading.{HasRead};
-ghost use Rattle.apf_hands.specs.Firsts.{AreFirst, HasFirsts, HaveCome, comes_first, hash_of};
+ghost use Rattle.apf_hands.specs.Firsts.{AreFirst, HasFirsts, HaveCome, HaveDistinctFlows, comes_first, hash_of};
 
 use apf_times::Arrival;
 use apf_trace_reader::{ReadFault, TraceReader};
@@ -32,6 +32,32 @@ impl Model for Meeting {
     ghost view = { λ m. record { flows = m.flows.keys; firsts = m.firsts.items } };
 
     ghost invariant = { λ m. IsMeeting m.flows.keys m.firsts.items };
+}
+
+/// The first requests of the flows of a trace, in the order of their lines. Requests of one hash are one flow.
+#[derive(Drop)]
+pub struct Firsts {
+    requests: Vec<Arrival<TraceRequest>>,
+}
+
+impl Model for Firsts {
+    ghost use Rattle.apf_hands.specs.Firsts.{FirstRequests, HaveDistinctFlows};
+
+    ghost Value = { FirstRequests };
+
+    ghost view = { λ f. f.requests.items };
+
+    ghost invariant = { λ f. HaveDistinctFlows f.requests.items };
+}
+
+impl Firsts {
+    /// The requests, in the order of their lines.
+    pub fn as_slice(&self) -> &[Arrival<TraceRequest>]
+        ensures same { result.now ≡ self.now }
+        ensures distinct { HaveDistinctFlows self.now }
+    {
+        self.requests.as_slice()
+    }
 }
 
 // A request came of the same flow: if its line is lower than that of the first one, it is the first one now.
@@ -129,8 +155,8 @@ fn put_in_order(firsts: &mut Vec<Arrival<TraceRequest>>)
     firsts.sort_unstable_by_key(|first| first.place.line);
 }
 
-/// The first request of each flow of a trace, in the order of their lines. The reader has read nothing, and reads the trace to
-/// its end. Requests of one hash are one flow. Memory is taken for the flows alone.
+/// The first request of each flow of a trace. The reader has read nothing, and reads the trace to its end. Memory is taken for
+/// the flows alone.
 ///
 /// # Errors
 ///
@@ -139,12 +165,11 @@ pub fn read_firsts<R: Read>(
     alloc: Global,
     reader: &mut TraceReader,
     input: &mut R,
-) -> Result<Vec<Arrival<TraceRequest>>, ReadFault>
-    ensures firsts { IfOk result (λ firsts. HasRead [] [] (R.remaining input.old) reader.old
-        → HasFirsts reader.old.window.size (R.remaining input.old) (R.remaining input.new) firsts.items) }
-    ensures distinct { IfOk result (λ firsts. IsDistinct nat_eq (map hash_of firsts.items)) }
+) -> Result<Firsts, ReadFault>
+    ensures { IfOk result (λ firsts. HasRead [] [] (R.remaining input.old) reader.old
+        → HasFirsts reader.old.window.size (R.remaining input.old) (R.remaining input.new) firsts) }
 {
-    let mut firsts = meet_all(alloc, reader, input)?.into_firsts();
-    put_in_order(&mut firsts);
-    Ok(firsts)
+    let mut requests = meet_all(alloc, reader, input)?.into_firsts();
+    put_in_order(&mut requests);
+    Ok(Firsts { requests })
 }

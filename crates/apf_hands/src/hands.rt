@@ -7,15 +7,18 @@ ghost use Rattle.apf_flow.specs.declared.fault.DealerFault.{DealerFault as Fault
 ghost use Rattle.apf_hands.specs.declared.hands.HandsFault.TheVariants.{NoMemory, CannotWrite};
 ghost use Rattle.apf_hands.specs.Dealt.{flow_of as flow_of_dealt, flows_of as flows_of_dealt};
 ghost use Rattle.apf_hands.specs.Hands.{sizes_of, fault_by, flows_in, hands_text, has_distinguisher, IsNoDealer, part_text};
-ghost use Rattle.apf_hands.specs.Holders.{places_at, held_text};
+ghost use Rattle.apf_hands.specs.Alike.{held_text, IsOnce};
+ghost use Rattle.apf_hands.specs.Dealing.{HaveHands};
+ghost use Rattle.apf_hands.specs.Holders.{places_at};
 
-use crate::brief::{find_covering, write_all_sharers, write_covering};
+use crate::alike::{alike_of, alike_to};
+use crate::brief::{write_all_sharers, write_covering};
 use crate::dealt::{Dealt, deal_all, dealer_of};
-use crate::holders::{Holders, holders_of, holding_first};
+use crate::firsts::Firsts;
+use crate::holders::{Holders, holders_of};
 use crate::sharing::{write_hand, write_whole};
 use apf_flow::DealerFault;
 use apf_model::Config;
-use apf_times::Arrival;
 use apf_traces::TraceRequest;
 use std::alloc::{AllocError, Global};
 use std::io;
@@ -52,35 +55,33 @@ impl From<io::Error> for HandsFault {
     }
 }
 
-// Writes the lines of a flow. The list is for the flows that cover its hand.
+// Writes the lines of a flow, where these are the hashes of the flows with the queues of its hand.
 fn write_flow<W: Write>(
     out: &mut W,
     flow: &Dealt<'_>,
-    flows: &[Dealt<'_>],
     holders: &Holders,
-    covering: &mut Vec<u64>,
-) -> Result<(), HandsFault>
-    ensures ok { OnOk result (Appends (W.contents out.old) (W.contents out.new) (held_text (flows_of_dealt flows.now) (places_at holders.now) (flow_of_dealt flow.now))) }
-    ensures no_dealer { IfErr result IsNoDealer }
+    hashes: &[u64],
+) -> io::Result<()>
+    requires { IsOnce flow.now.first.now.hash hashes.now }
+    ensures { OnOk result (Appends (W.contents out.old) (W.contents out.new) (held_text (places_at holders.now) hashes.now (flow_of_dealt flow.now))) }
 {
-    let hand = flow.hand.as_slice();
-    find_covering(flow, flows, holding_first(holders, hand), covering)?;
     write_hand(out, flow)?;
-    write_all_sharers(out, holders, hand)?;
-    write_covering(out, covering.as_slice())?;
-    Ok(())
+    write_all_sharers(out, holders, flow.hand.as_slice())?;
+    write_covering(out, flow.first.hash, hashes)
 }
 
-// Writes the lines of all flows. A flow is compared with those alone that hold the first queue of its hand. All memory
-// is taken before the first byte.
-fn write_flows<W: Write>(alloc: Global, out: &mut W, flows: &[Dealt<'_>]) -> Result<(), HandsFault>
+// Writes the lines of all flows. Of each flow those are looked at that hold its queues, and not the others: how many hold each of
+// them is known, and so are the flows with the same queues. All memory is taken before the first byte.
+fn write_all<W: Write>(alloc: Global, out: &mut W, flows: &[Dealt<'_>]) -> Result<(), HandsFault>
+    requires dealt { HaveHands flows.now }
     ensures ok { OnOk result (Appends (W.contents out.old) (W.contents out.new) (hands_text (flows_of_dealt flows.now))) }
     ensures no_dealer { IfErr result IsNoDealer }
 {
     let holders = holders_of(alloc, flows)?;
-    let mut covering = Vec::with_capacity(alloc, flows.len())?;
+    let alike = alike_of(alloc, flows)?;
     for flow in flows {
-        write_flow(out, flow, flows, &holders, &mut covering)?;
+        let hashes = alike_to(&alike, flow.queues.as_slice());
+        write_flow(out, flow, &holders, hashes)?;
     }
     Ok(())
 }
@@ -111,9 +112,10 @@ fn write_part<W: Write>(out: &mut W, flows: &[Dealt<'_>], distinguisher: &str) -
 fn dealt_flows<'a>(
     alloc: Global,
     config: &Config,
-    firsts: &'a [Arrival<TraceRequest>],
+    firsts: &'a Firsts,
 ) -> Result<Vec<Dealt<'a>>, HandsFault>
     ensures ok { IfOk result (λ all. flows_of_dealt all.items ≡ flows_in (sizes_of config.now) firsts.now) }
+    ensures hands { IfOk result (λ all. HaveHands all.items) }
     ensures dealer { IfSome (fault_by (sizes_of config.now)) (λ fault. result ≡ Err (HandsFault.Dealer fault)) }
     ensures no_other { IfErr result (λ told. (fault : Fault) → told ≡ HandsFault.Dealer fault → fault_by (sizes_of config.now) ≡ Some fault) }
 {
@@ -121,7 +123,7 @@ fn dealt_flows<'a>(
         Ok(dealer) => dealer,
         Err(fault) => return Err(HandsFault::Dealer(fault)),
     };
-    Ok(deal_all(alloc, &dealer, firsts)?)
+    Ok(deal_all(alloc, &dealer, firsts.as_slice())?)
 }
 
 /// Writes each flow with the hand of queues that it is dealt, in the order of their first requests, which are given.
@@ -139,7 +141,7 @@ fn dealt_flows<'a>(
 pub fn write_hands<W: Write>(
     alloc: Global,
     config: &Config,
-    firsts: &[Arrival<TraceRequest>],
+    firsts: &Firsts,
     out: &mut W,
 ) -> Result<(), HandsFault>
     ensures ok { OnOk result (Appends (W.contents out.old) (W.contents out.new) (hands_text (flows_in (sizes_of config.now) firsts.now))) }
@@ -149,7 +151,7 @@ pub fn write_hands<W: Write>(
     ensures no_other { IfErr result (λ told. (fault : Fault) → told ≡ HandsFault.Dealer fault → fault_by (sizes_of config.now) ≡ Some fault) }
 {
     let flows = dealt_flows(alloc, config, firsts)?;
-    write_flows(alloc, out, flows.as_slice())
+    write_all(alloc, out, flows.as_slice())
 }
 
 /// Writes the flows that have this distinguisher, each with the hand of queues that it is dealt, in the order of the first
@@ -165,7 +167,7 @@ pub fn write_hands<W: Write>(
 pub fn write_hands_of<W: Write>(
     alloc: Global,
     config: &Config,
-    firsts: &[Arrival<TraceRequest>],
+    firsts: &Firsts,
     distinguisher: &str,
     out: &mut W,
 ) -> Result<(), HandsFault>
@@ -182,10 +184,11 @@ pub fn write_hands_of<W: Write>(
 }
 
 /// Whether one of the flows whose first requests these are has this distinguisher.
-pub fn has_flow(firsts: &[Arrival<TraceRequest>], distinguisher: &str) -> bool
+pub fn has_flow(firsts: &Firsts, distinguisher: &str) -> bool
     ensures { result ≡ list_any (λ first. has_distinguisher distinguisher.now first.item.names) firsts.now }
 {
     firsts
+        .as_slice()
         .iter()
         .any(|first| has_name(&first.item, distinguisher))
 }

@@ -3,7 +3,7 @@
 ghost use Rattle.std.specs.Prelude.{◌≡◌, ◌++◌, List, [], ◌∷◌, ℕ, IfOk, OnOk, if◌then◌else◌, ◌==◌};
 ghost use Rattle.apf_hands.specs.Dealt.{flows_of};
 ghost use Rattle.apf_hands.specs.Hands.{holds};
-ghost use Rattle.apf_hands.specs.Holders.{AreHolders, places_at, first_places};
+ghost use Rattle.apf_hands.specs.Holders.{AreHolders, places_at};
 
 use crate::dealt::Dealt;
 use std::alloc::{AllocError, Global};
@@ -66,14 +66,4 @@ pub(crate) fn holding(holders: &Holders, queue: u32) -> &[usize]
         return &[];
     };
     places.as_slice()
-}
-
-/// The places of the flows that hold the first queue of a hand, among which are those that hold all of it.
-pub(crate) fn holding_first<'h>(holders: &'h Holders, hand: &[u32]) -> &'h [usize]
-    ensures { result.now ≡ first_places (places_at holders.now) hand.now }
-{
-    let Some(queue) = hand.first() else {
-        return &[];
-    };
-    holding(holders, *queue)
 }

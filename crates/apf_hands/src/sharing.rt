@@ -88,8 +88,8 @@ fn write_shares<W: Write>(out: &mut W, flow: &Dealt<'_>, flows: &[Dealt<'_>]) ->
     Ok(())
 }
 
-/// Whether another flow's hand holds all queues of this one's.
-pub(crate) fn is_cover(flow: &Dealt<'_>, other: &Dealt<'_>) -> bool
+// Whether another flow's hand holds all queues of this one's.
+fn is_cover(flow: &Dealt<'_>, other: &Dealt<'_>) -> bool
     ensures { result ≡ covers (flow_of flow.now) (flow_of other.now) }
 {
     let (hand, held) = (flow.hand.as_slice(), other.hand.as_slice());

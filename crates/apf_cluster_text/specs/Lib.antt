@@ -1,0 +1,3 @@
+pub mod LogViews
+pub mod LogLines
+pub mod Log

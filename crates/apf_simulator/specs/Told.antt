@@ -95,7 +95,7 @@ pub record HaveCompared (config other_config : Config) (patience : ℕ) (by : Op
   pub ran : HasRunAll config patience by size was left turns lane
   pub other_turns : List Turn
   pub other : LaneView
-  pub other_ran : HasRunToo other_config patience ran.charged (came_by turns) other_turns other
+  pub other_ran : HasRunToo other_config ran.slots patience ran.charged (came_by turns) other_turns other
   pub table : Table
   pub of_all : IsTable (came_by turns) (told_by turns) table
   pub other_table : Table

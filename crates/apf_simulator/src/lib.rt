@@ -32,7 +32,7 @@ mod timeline;
 
 pub use comparing::compare;
 pub use fault::SimulatorFault;
-pub use lane::{Lane, SLOTS};
+pub use lane::{Lane, MOST_SLOTS};
 pub use lanes::Lanes;
 pub use listed::{Listed, MOST_LISTED};
 pub use running::{Terms, list, write_fates, write_timeline};

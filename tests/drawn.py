@@ -142,12 +142,15 @@ def drawn_count():
 
 def check_drawn():
     """Drawn traces, by the simulation in C. Before them one flow with the most waits of which each is kept, and with one more; and as many requests as may
-    be there at once, and one more, on levels with more room and with as much."""
+    be there at once, one more, and fewer, on levels with more room and with as much."""
     seen = dict.fromkeys(SEEN, 0)
     one_flow = [f'{{"hash":5,"arrivesAt":{7 * it // 10 * 1000},"runsFor":{900 + it % 7}}}\n' for it in range(10_001)]
     at_once = [f'{{"hash":{it % 100},"arrivesAt":10,"runsFor":{1000 + it}}}\n' for it in range(10_001)]
     runs = [(level_of(1, 2, 1, 5000), 0, None, one_flow[:count]) for count in (10_000, 10_001)]
     runs += [(level, 0, None, at_once[:count]) for level in (level_of(1000, 64, 8, 1000), level_of(10_000, 0), level_of(9_999, 0)) for count in (10_000, 10_001)]
+    # a level has no more slots than a short trace has requests
+    few = [1, 2, 3, 4, 5, 16, 63, 64, 65, 1023, 1024, 1025, 9_999]
+    runs += [(level, 0, None, at_once[:count]) for level in (level_of(10_000, 0), level_of(1, 1, 1, 10_000)) for count in few]
     runs += [drawn_run(drawn_count()) for _ in range(TRACES)]
     names = stored(runs)
     got, want = printed(names), modelled(names)
@@ -159,6 +162,7 @@ def check_drawn():
             seen[what] += 1
     tally.check("of 10,000 waits percentiles are exact, and of 10,001 they are not", ["~" in want[it][0] for it in (0, 1)], [False, True])
     tally.check("10,001 requests are more than may be there", [it[-1] for it in want[2:8]], ["status 0", "status 1"] * 2 + ["status 0"] * 2)
+    tally.check("of a short trace all may be there at once", {it[-1] for it in got[8 : 8 + 2 * len(few)]}, {"status 0"})
     for what, count in seen.items():
         print(f"in {count} runs there is {what}")
         tally.check(f"in many runs there is {what}: {count}", count >= SEEN[what] * TRACES // 3000, True)

@@ -13,7 +13,7 @@ use Rattle.apf_trace_reader.specs.Reading.{AreAll}
 use Rattle.apf_trace_reader.specs.Views.{ReaderView}
 use Rattle.apf_simulator.specs.Feeds.{HaveGone, IsOver}
 use Rattle.apf_simulator.specs.Lanes.{IsLane, IsOpening, LaneView}
-use Rattle.apf_simulator.specs.Runs.{HasBeenHeard, IsCharge}
+use Rattle.apf_simulator.specs.Runs.{HasBeenHeard, HasSlots, IsCharge}
 use Rattle.apf_simulator.specs.Told.{ArePrinted, HasSimulated, HaveCompared, IsPrinted}
 use Rattle.apf_simulator.specs.Turns.{Begins, Turn, came_by, told_by}
 use Rattle.apf_simulator.proofs.Going.{first_came, lane_by}
@@ -31,10 +31,10 @@ pub kept_then : (a b c : Option (List ℕ)) (text : List ℕ) → Keeps a b → 
 kept_then a b c text k is = Appends-trans a b c [] text (kept a b k) is
 
 -- from an opening lane, by what came, to the end
-pub heard_all : (config : Config) (patience : ℕ) (by : Option ChargedBy) (charged : ChargedBy) (first : Option Came) (size : ℕ) (was left : Option (List ℕ)) (start lane : LaneView) (v : ReaderView) (heard : List Turn → Type 0)
-    → IsOpening config patience charged start.state → IsLane start.state [] [] start → IsCharge by was first charged → IsOver lane → v.window.size ≡ size
+pub heard_all : (config : Config) (slots patience : ℕ) (by : Option ChargedBy) (charged : ChargedBy) (first : Option Came) (size : ℕ) (was left : Option (List ℕ)) (start lane : LaneView) (v : ReaderView) (heard : List Turn → Type 0)
+    → IsOpening config slots patience charged start.state → IsLane start.state [] [] start → IsCharge by was first charged → HasSlots was first slots → IsOver lane → v.window.size ≡ size
     → HaveGone was left None v start None lane None (λ turns. heard turns × Begins first turns None) → HasBeenHeard config patience by size was left lane heard
-heard_all config patience by charged first size was left start lane v heard opened nobody charge over same g =
+heard_all config slots patience by charged first size was left start lane v heard opened nobody charge slots_are over same g =
     let all = g.fed.all refl in record {
       turns = g.turns;
       ran = record {
@@ -44,6 +44,8 @@ heard_all config patience by charged first size was left start lane v heard open
         ended = all.1;
         charged = charged;
         charge = subst (λ (f : Option Came). IsCharge by was f charged) (first_came first g.turns g.heard_them.1) charge;
+        slots = slots;
+        slots_are = subst (λ (f : Option Came). HasSlots was f slots) (first_came first g.turns g.heard_them.1) slots_are;
         gone = record { opening = start.state; opened = opened; start = start; nobody = nobody; turns_are = g.lanes; is_over = over };
       };
       heard_them = g.heard_them.0;
@@ -68,12 +70,12 @@ simulated config patience by has_bound size was left before mid after lane h p =
     }
 
 -- both ran, and what they came to was printed
-pub compared : (config other_config : Config) (patience : ℕ) (by : Option ChargedBy) (charged : ChargedBy) (first : Option Came) (size : ℕ) (was left before mid after : Option (List ℕ)) (start : LaneView) (other_start : Option LaneView) (one other : LaneView) (v : ReaderView)
-    → IsOpening config patience charged start.state × IsLane start.state [] [] start → IfSome other_start (λ o. IsOpening other_config patience charged o.state × IsLane o.state [] [] o)
-    → IsCharge by was first charged → IsOver one × IsOver other → v.window.size ≡ size
+pub compared : (config other_config : Config) (slots patience : ℕ) (by : Option ChargedBy) (charged : ChargedBy) (first : Option Came) (size : ℕ) (was left before mid after : Option (List ℕ)) (start : LaneView) (other_start : Option LaneView) (one other : LaneView) (v : ReaderView)
+    → IsOpening config slots patience charged start.state × IsLane start.state [] [] start → IfSome other_start (λ o. IsOpening other_config slots patience charged o.state × IsLane o.state [] [] o)
+    → IsCharge by was first charged → HasSlots was first slots → IsOver one × IsOver other → v.window.size ≡ size
     → HaveGone was left None v start other_start one (Some other) (λ turns. Keeps before mid × Begins first turns None) → ArePrinted one other mid after → HaveCompared config other_config patience by size was left before after
-compared config other_config patience by charged first size was left before mid after start None one other v opened other_opened charge over same g p = absurd g.lanes
-compared config other_config patience by charged first size was left before mid after start (Some o) one other v opened other_opened charge over same g p =
+compared config other_config slots patience by charged first size was left before mid after start None one other v opened other_opened charge slots_are over same g p = absurd g.lanes
+compared config other_config slots patience by charged first size was left before mid after start (Some o) one other v opened other_opened charge slots_are over same g p =
     let all = g.fed.all refl in
     let too = g.lanes.1 in record {
       turns = g.turns;
@@ -85,6 +87,8 @@ compared config other_config patience by charged first size was left before mid 
         ended = all.1;
         charged = charged;
         charge = subst (λ (f : Option Came). IsCharge by was f charged) (first_came first g.turns g.heard_them.1) charge;
+        slots = slots;
+        slots_are = subst (λ (f : Option Came). HasSlots was f slots) (first_came first g.turns g.heard_them.1) slots_are;
         gone = record { opening = start.state; opened = opened.0; start = start; nobody = opened.1; turns_are = g.lanes.0; is_over = over.0 };
       };
       other_turns = too.0;

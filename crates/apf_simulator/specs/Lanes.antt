@@ -1,5 +1,5 @@
 -- A level that the requests of a trace come to, with what they came to.
-use Rattle.std.specs.Prelude.{◌≡◌, ℕ, Bool, true, false, List, [], ◌++◌, length, map, replicate, None}
+use Rattle.std.specs.Prelude.{◌≡◌, ℕ, Bool, true, false, List, [], ◌++◌, length, map, max, min, replicate, Option, Some, None}
 use Rattle.std.specs.List.{AllByRecursion}
 use Rattle.apf_model.specs.declared.config.Config.{Config}
 use Rattle.apf_charges.specs.Charging.{opening_charges}
@@ -16,9 +16,14 @@ use Rattle.apf_stream.specs.Ties.{AreTied}
 use Rattle.apf_rows.specs.Accounts.{IsInReach}
 use Rattle.apf_rows.specs.Rows.{AreRows, HaveMet, IsMet, RowsView}
 
--- how many requests may be there at once
-abbrev pub slots : ℕ
-slots = 10000
+-- how many requests may be there at once, at most
+abbrev pub most_slots : ℕ
+most_slots = 10000
+
+-- how many slots a level has for a trace: the most, but no more than there are requests in all, if that is known, and one at least
+abbrev pub slots_for : Option ℕ → ℕ
+slots_for None = most_slots
+slots_for (Some requests) = max (min requests most_slots) 1
 
 -- what the request of a line asks for
 abbrev pub asked_by : Arrival TraceRequest → Asked
@@ -35,8 +40,8 @@ abbrev pub usual_charge : Bool → ChargedBy
 usual_charge true = Seats
 usual_charge false = Time
 
--- a level of this config and a calendar of its slots, to which nobody came
-pub record IsOpening (config : Config) (patience : ℕ) (by : ChargedBy) (s : State) : Type 0 where
+-- a level of this config and a calendar of this many slots, to which nobody came
+pub record IsOpening (config : Config) (slots patience : ℕ) (by : ChargedBy) (s : State) : Type 0 where
   pub level : IsOpened config slots (settling_by by) s.level
   pub slots_are : s.slots ≡ record { time = 0; patience = patience; slots = replicate slots None }
   pub charges : s.charges ≡ opening_charges by

@@ -8,8 +8,8 @@ use Rattle.apf_stream.specs.States.{State}
 use Rattle.apf_times.specs.declared.window.Arrival.{Arrival}
 use Rattle.apf_traces.specs.declared.request.TraceRequest.{TraceRequest}
 use Rattle.apf_trace_reader.specs.Reading.{AreAll, HasRead}
-use Rattle.apf_trace_reader.specs.Views.{ReaderView}
-use Rattle.apf_simulator.specs.Lanes.{IsLane, IsOpening, LaneView, usual_charge}
+use Rattle.apf_trace_reader.specs.Views.{ReaderView, all_lines}
+use Rattle.apf_simulator.specs.Lanes.{IsLane, IsOpening, LaneView, slots_for, usual_charge}
 use Rattle.apf_simulator.specs.Feeds.{IsOver}
 use Rattle.apf_simulator.specs.Turns.{AreTurns, Turn, came_by, first_of}
 
@@ -22,10 +22,19 @@ pub record IsCharge (by : Option ChargedBy) (was : Option (List ℕ)) (first : O
   pub read : HasRead front (option_to_list first) left reader
   pub is : charged ≡ unwrap_or by (usual_charge reader.has_cost)
 
--- from a level of this config to which nobody came, the lane went on by these turns until nothing was due, and each that came was told
-pub record HasGone (config : Config) (patience : ℕ) (charged : ChargedBy) (turns : List Turn) (v : LaneView) : Type 0 where
+-- How many slots a level has: by whether the whole input was read when this one, the first, was handed out, and by how many requests there are then.
+pub record HasSlots (was : Option (List ℕ)) (first : Option (Arrival TraceRequest)) (slots : ℕ) : Type 0 where
+  pub front : List ℕ
+  pub left : Option (List ℕ)
+  pub given : Consumes was left front
+  pub reader : ReaderView
+  pub read : HasRead front (option_to_list first) left reader
+  pub is : slots ≡ slots_for (all_lines reader.stage reader.number)
+
+-- from a level of this config with this many slots, to which nobody came, the lane went on by these turns until nothing was due, and each that came was told
+pub record HasGone (config : Config) (slots patience : ℕ) (charged : ChargedBy) (turns : List Turn) (v : LaneView) : Type 0 where
   pub opening : State
-  pub opened : IsOpening config patience charged opening
+  pub opened : IsOpening config slots patience charged opening
   pub start : LaneView
   pub nobody : IsLane opening [] [] start
   pub turns_are : AreTurns turns start v
@@ -39,7 +48,9 @@ pub record HasRunAll (config : Config) (patience : ℕ) (by : Option ChargedBy) 
   pub ended : IsAtEnd left
   pub charged : ChargedBy
   pub charge : IsCharge by was (first_of (came_by turns)) charged
-  pub gone : HasGone config patience charged turns v
+  pub slots : ℕ
+  pub slots_are : HasSlots was (first_of (came_by turns)) slots
+  pub gone : HasGone config slots patience charged turns v
 
 -- the same, in turns of which this was heard
 pub record HasBeenHeard (config : Config) (patience : ℕ) (by : Option ChargedBy) (size : ℕ) (was left : Option (List ℕ)) (v : LaneView) (heard : List Turn → Type 0) : Type 0 where
@@ -53,7 +64,7 @@ pub record HasBeenHeardTo (end : ℕ) (config : Config) (patience : ℕ) (by : O
   pub been : HasBeenHeard config patience by size was left lane heard
   pub last : end ≡ lane.rows.all.sums.last
 
--- the same requests ran on another level, in these turns
-pub record HasRunToo (config : Config) (patience : ℕ) (charged : ChargedBy) (came : List (Arrival TraceRequest)) (turns : List Turn) (v : LaneView) : Type 0 where
+-- the same requests ran on another level with this many slots, in these turns
+pub record HasRunToo (config : Config) (slots patience : ℕ) (charged : ChargedBy) (came : List (Arrival TraceRequest)) (turns : List Turn) (v : LaneView) : Type 0 where
   pub same : came_by turns ≡ came
-  pub gone : HasGone config patience charged turns v
+  pub gone : HasGone config slots patience charged turns v

@@ -7,18 +7,16 @@ ghost use Rattle.apf_rows.specs.Comparisons.{IsOrder, comparison_text};
 ghost use Rattle.apf_rows.specs.declared.comparison.Place.{Place as PlaceOf};
 ghost use Rattle.apf_trace_reader.specs.Reading.{HasRead};
 ghost use Rattle.apf_simulator.specs.Feeds.{AreLivedBoth, AreNew, HasFed, HaveGone, IsHandedOut, IsOver};
-ghost use Rattle.apf_simulator.specs.Lanes.{IsLane, IsOpening};
+ghost use Rattle.apf_simulator.specs.Lanes.{IsLane, IsOpening, most_slots};
 ghost use Rattle.apf_simulator.specs.Told.{ArePrinted, HaveCompared, IsTableOf};
 ghost use Rattle.apf_simulator.specs.Turns.{Begins};
 
-use crate::charge::charge_or_usual;
 use crate::fault::SimulatorFault;
 use crate::feeding::{Next, read_first};
 use crate::lane::Lane;
 use crate::lanes::Lanes;
 use crate::listener::Nobody;
-use crate::running::{Terms, run};
-use apf_charges::ChargedBy;
+use crate::running::{Opening, Terms, opening_for, run};
 use apf_model::Config;
 use apf_rows::{Table, order_of, write_comparison};
 use apf_trace_reader::TraceReader;
@@ -31,17 +29,19 @@ fn open_both(
     one: &Config,
     other: &Config,
     patience: u64,
-    by: ChargedBy,
+    opening: Opening,
 ) -> Result<Lanes, SimulatorFault>
+    requires some { 1 ≤ opening.slots }
+    requires few { opening.slots ≤ most_slots }
     requires patience { patience ≤ max_patience }
     ensures two { IfOk result (λ l. IsSome l.other) }
-    ensures opened { IfOk result (λ l. IsOpening one.now patience by l.one.state × IsLane l.one.state [] [] l.one) }
-    ensures other_opened { IfOk result (λ l. IfSome l.other (λ o. IsOpening other.now patience by o.state × IsLane o.state [] [] o)) }
+    ensures opened { IfOk result (λ l. IsOpening one.now opening.slots patience opening.by l.one.state × IsLane l.one.state [] [] l.one) }
+    ensures other_opened { IfOk result (λ l. IfSome l.other (λ o. IsOpening other.now opening.slots patience opening.by o.state × IsLane o.state [] [] o)) }
     ensures new { IfOk result (λ l. AreNew l.one l.other) }
     ensures lived { IfOk result (λ l. AreLivedBoth l.one l.other) }
 {
-    let one = Lane::open(alloc, one, patience, by)?;
-    match Lane::open(alloc, other, patience, by) {
+    let one = Lane::open(alloc, one, opening.slots, patience, opening.by)?;
+    match Lane::open(alloc, other, opening.slots, patience, opening.by) {
         Ok(other) => Ok(Lanes {
             one,
             other: Some(other),
@@ -129,8 +129,8 @@ pub fn compare<R: Read, W: Write>(
         → HaveCompared configs.entry.0.now configs.entry.1.now terms.patience terms.by reader.old.window.size (R.remaining input.old) (R.remaining input.new) (W.contents out.old) (W.contents out.new)) }
 {
     let first = read_first(reader, input)?;
-    let by = charge_or_usual(terms.by, reader);
-    let lanes = open_both(alloc, configs.0, configs.1, terms.patience, by)?;
+    let opening = opening_for(terms, reader);
+    let lanes = open_both(alloc, configs.0, configs.1, terms.patience, opening)?;
     let (one, other) = run_both(lanes, first, reader, input, out)?;
     print(alloc, one, other, out)?;
     Ok(())

@@ -14,7 +14,7 @@ ghost use Rattle.apf_local.specs.Levels.{EndsFrom};
 ghost use Rattle.apf_local.specs.Openings.{CanOpen, IsOpenFault};
 ghost use Rattle.apf_rows.specs.Tables.{IsTable};
 ghost use Rattle.apf_simulator.specs.Books.{AreOfBook};
-ghost use Rattle.apf_simulator.specs.Lanes.{GoesOn, IsLane, IsLived, IsOpening, slots};
+ghost use Rattle.apf_simulator.specs.Lanes.{GoesOn, IsLane, IsLived, IsOpening, most_slots};
 
 use crate::asked::asked_of;
 use crate::counting::{are_countable, count_all};
@@ -33,8 +33,8 @@ use apf_traces::TraceRequest;
 use std::alloc::Global;
 use std::marker::Model;
 
-/// How many requests may be there at once.
-pub const SLOTS: u32 = 10_000;
+/// How many requests may be there at once, at most.
+pub const MOST_SLOTS: u32 = 10_000;
 
 /// A level that requests come to, with what they came to.
 #[derive(Drop)]
@@ -84,8 +84,8 @@ fn are_of_book(sums: &Sums, counts: &Counts) -> bool
 }
 
 impl Lane {
-    /// The level of this config, to which nobody came, for at most 10,000 requests at once. A request that waits as long as
-    /// `patience` in microseconds gives up, or never at 0.
+    /// The level of this config, to which nobody came, for as many requests at once as it has slots, 1 to 10,000. A request that
+    /// waits as long as `patience` in microseconds gives up, or never at 0.
     ///
     /// # Errors
     ///
@@ -93,17 +93,20 @@ impl Lane {
     pub fn open(
         alloc: Global,
         config: &Config,
+        slots: u32,
         patience: u64,
         by: ChargedBy,
     ) -> Result<Lane, OpenFault>
+        requires some { 1 ≤ slots }
+        requires few { slots ≤ most_slots }
         requires patience { patience ≤ max_patience }
-        ensures opened { IfOk result (λ l. IsOpening config.now patience by l.state) }
+        ensures opened { IfOk result (λ l. IsOpening config.now slots patience by l.state) }
         ensures nobody { IfOk result (λ l. IsLane l.state [] [] l) }
         ensures time { IfOk result (λ l. l.state.slots.time ≡ 0) }
         ensures settings { OnOk result (CanOpen config.now slots) }
         ensures fault { IfErr result (IsOpenFault config.now slots) }
     {
-        let stream = Stream::open(alloc, config, SLOTS, patience, by)?;
+        let stream = Stream::open(alloc, config, slots, patience, by)?;
         Ok(Lane {
             stream,
             rows: Rows::new(alloc),

@@ -1,19 +1,21 @@
 //! Runs a trace on a level, and lets one listen.
 
-ghost use Rattle.std.specs.Prelude.{◌≡◌, ◌≤◌, ℕ, List, [], length, Option, None, IfOk, OnOk};
+ghost use Rattle.std.specs.Prelude.{◌≡◌, ◌≤◌, ℕ, List, [], length, Option, None, IfOk, OnOk, unwrap_or};
 ghost use Rattle.std.specs.Io.KnownBytes.{Keeps};
 ghost use Rattle.apf_times.specs.Limits.{max_patience};
 ghost use Rattle.apf_trace_reader.specs.Reading.{HasRead};
 ghost use Rattle.apf_simulator.specs.Feeds.{AreLivedBoth, AreNew, AreOver, HasFed, HaveGone, IsHandedOut, IsOver};
-ghost use Rattle.apf_simulator.specs.Lanes.{IsLane, IsOpening};
-ghost use Rattle.apf_simulator.specs.Runs.{HasBeenHeard, HasBeenHeardTo, IsCharge};
+ghost use Rattle.apf_trace_reader.specs.Views.{all_lines};
+ghost use Rattle.apf_simulator.specs.Lanes.{IsLane, IsOpening, most_slots, slots_for, usual_charge};
+ghost use Rattle.apf_simulator.specs.Runs.{HasBeenHeard, HasBeenHeardTo, HasSlots, IsCharge};
 ghost use Rattle.apf_simulator.specs.Told.{HasListed, HasToldCalls, HasToldFates};
 ghost use Rattle.apf_simulator.specs.Turns.{Begins};
 
 use crate::charge::charge_or_usual;
 use crate::fault::SimulatorFault;
 use crate::feeding::{Next, feed_all, read_first};
-use crate::lane::Lane;
+use crate::held::TimeWindow;
+use crate::lane::{Lane, MOST_SLOTS};
 use crate::lanes::Lanes;
 use crate::listed::{Listed, Listing};
 use crate::listener::Listener;
@@ -92,28 +94,56 @@ fn run_lane<R: Read, L: Listener, W: Write>(
     Ok(lanes.into_one())
 }
 
-// The level, to which nobody came, the first request of the trace, and what requests are charged.
+/// How a level is opened for a trace of which the first request was handed out.
+#[derive(Clone, Copy)]
+pub(crate) struct Opening {
+    /// How many requests may be there at once.
+    pub(crate) slots: u32,
+    /// What requests are charged.
+    pub(crate) by: ChargedBy,
+}
+
+/// How a level is opened for a trace of which this reader handed out the first request. It has no more slots than requests come,
+/// if the whole input was read by then: each slot takes memory and time.
+pub(crate) fn opening_for(terms: Terms, reader: &TraceReader) -> Opening
+    ensures slots { result.slots ≡ slots_for (all_lines reader.now.stage reader.now.number) }
+    ensures some { 1 ≤ result.slots }
+    ensures few { result.slots ≤ most_slots }
+    ensures charge { result.by ≡ unwrap_or terms.by (usual_charge reader.now.has_cost) }
+{
+    let slots = match reader.lines_in_all() {
+        Some(requests) => requests.min(u64::from(MOST_SLOTS)).max(1) as u32,
+        None => MOST_SLOTS,
+    };
+    Opening {
+        slots,
+        by: charge_or_usual(terms.by, reader),
+    }
+}
+
+// The level, to which nobody came, the first request of the trace, and how the level was opened.
 fn open_for<R: Read>(
     alloc: Global,
     config: &Config,
     terms: Terms,
     reader: &mut TraceReader,
     input: &mut R,
-) -> Result<(Lane, Next, ChargedBy), SimulatorFault>
+) -> Result<(Lane, Next, Opening), SimulatorFault>
     requires patience { terms.patience ≤ max_patience }
     requires nothing { reader.old.window.last ≡ None }
     ensures new { IfOk result (λ o. AreNew o.0 None) }
     ensures nobody { IfOk result (λ o. IsLane o.0.state [] [] o.0) }
-    ensures opened { IfOk result (λ o. IsOpening config.now terms.patience o.2 o.0.state) }
+    ensures opened { IfOk result (λ o. IsOpening config.now o.2.slots terms.patience o.2.by o.0.state) }
     ensures handed_out { IfOk result (λ o. IsHandedOut o.1 reader.new.window.last) }
     ensures fed { IfOk result (λ o. HasRead [] [] (R.remaining input.old) reader.old → HasFed (R.remaining input.old) (R.remaining input.new) [] o.1 reader.new) }
-    ensures charge { IfOk result (λ o. HasRead [] [] (R.remaining input.old) reader.old → IsCharge terms.by (R.remaining input.old) o.1 o.2) }
+    ensures charge { IfOk result (λ o. HasRead [] [] (R.remaining input.old) reader.old → IsCharge terms.by (R.remaining input.old) o.1 o.2.by) }
+    ensures slots { IfOk result (λ o. HasRead [] [] (R.remaining input.old) reader.old → HasSlots (R.remaining input.old) o.1 o.2.slots) }
     ensures size { reader.new.window.size ≡ reader.old.window.size }
 {
     let first = read_first(reader, input)?;
-    let by = charge_or_usual(terms.by, reader);
-    let lane = Lane::open(alloc, config, terms.patience, by)?;
-    Ok((lane, first, by))
+    let opening = opening_for(terms, reader);
+    let lane = Lane::open(alloc, config, opening.slots, terms.patience, opening.by)?;
+    Ok((lane, first, opening))
 }
 
 /// Runs the trace on the level of this config, and lets one listen. With both sides of the bound, if it is asked for.
@@ -136,8 +166,8 @@ pub(crate) fn run_one<R: Read, L: Listener, W: Write>(
     ensures { IfOk result (λ lane. (before : Option (List ℕ)) → HasRead [] [] (R.remaining input.old) reader.old → L.heard before (W.contents out.old) [] listener.old
         → HasBeenHeard config.now terms.patience terms.by reader.old.window.size (R.remaining input.old) (R.remaining input.new) lane (λ turns. L.heard before (W.contents out.new) turns listener.new)) }
 {
-    let (lane, first, by) = open_for(alloc, config, terms, reader, input)?;
-    let lane = watched(alloc, config, terms, by, lane)?;
+    let (lane, first, opening) = open_for(alloc, config, terms, reader, input)?;
+    let lane = watched(alloc, config, terms, opening.by, lane)?;
     let lane = run_lane(lane, listener, first, reader, input, out)?;
     Ok(lane)
 }
@@ -234,8 +264,8 @@ pub fn write_timeline<R: Read, W: Write>(
     Ok(())
 }
 
-/// Runs a trace of at most 10,000 requests on the level of this config as `simulate` does, and lists its requests, each with what
-/// became of it. Nothing is written.
+/// Runs a trace on the level of this config as `simulate` does, and lists its requests that were there at some moment of the
+/// window, at most 10,000, each with what became of it. Nothing is written.
 ///
 /// # Errors
 ///
@@ -244,6 +274,7 @@ pub fn list<R: Read, W: Write>(
     alloc: Global,
     config: &Config,
     terms: Terms,
+    window: TimeWindow,
     reader: &mut TraceReader,
     input: &mut R,
     out: &mut W,
@@ -253,11 +284,11 @@ pub fn list<R: Read, W: Write>(
     ensures few { IfOk result (λ l. length l.requests.items ≤ 10000) }
     ensures each { IfOk result (λ l. length l.ends.items ≡ length l.requests.items) }
     ensures listed { IfOk result (λ l. HasRead [] [] (R.remaining input.old) reader.old
-        → HasListed config.now terms.patience terms.by reader.old.window.size (R.remaining input.old) (R.remaining input.new) l) }
+        → HasListed window config.now terms.patience terms.by reader.old.window.size (R.remaining input.old) (R.remaining input.new) l) }
     ensures kept { OnOk result (HasRead [] [] (R.remaining input.old) reader.old → Keeps (W.contents out.old) (W.contents out.new)) }
 {
-    let mut listing = Listing::new(alloc);
+    let mut listing = Listing::new(alloc, window);
     let end = run_to_end(alloc, config, terms, &mut listing, reader, input, out)?;
-    let listed = listing.close(alloc, end)?;
+    let listed = listing.close(alloc, window, end)?;
     Ok(listed)
 }

@@ -1,6 +1,6 @@
 //! What is true of whatever was read.
 
-ghost use Rattle.std.specs.Prelude.{◌≡◌, ◌≢◌, ℕ, ◌≤◌, List, ◌++◌, length, Option, Result, Ok, Err, IsPermutation};
+ghost use Rattle.std.specs.Prelude.{◌≡◌, ◌≢◌, ℕ, ◌+◌, ◌≤◌, List, ◌++◌, length, Option, Result, Ok, Err, IsPermutation};
 ghost use Rattle.apf_times.specs.declared.window.Arrival.{Arrival};
 ghost use Rattle.apf_times.specs.WindowRuns.{AreInPlace};
 ghost use Rattle.apf_traces.specs.TraceFile.{max_lines, trace_of};
@@ -15,7 +15,7 @@ use apf_times::every_window_is_in_order;
 use apf_traces::TraceRequest;
 
 /// What was handed out and what is held are the requests of the lines that were taken. What was handed out is in the order
-/// of the arrivals. No more are held than the window's size.
+/// of the arrivals. No more are held than the window's size. The two together are as many as the lines that were taken.
 ///
 /// It runs no code: the contract is the law.
 pub fn every_reading_is_in_order()
@@ -25,6 +25,8 @@ pub fn every_reading_is_in_order()
         → (read : HasRead bytes told left v) → IsPermutation (arrivals_from 1 read.requests) (told ++ v.window.held) }
     ensures few { (bytes : List ℕ) (told : List (Arrival TraceRequest)) (left : Option (List ℕ)) (v : ReaderView)
         → HasRead bytes told left v → length v.window.held ≤ v.window.size }
+    ensures count { (bytes : List ℕ) (told : List (Arrival TraceRequest)) (left : Option (List ℕ)) (v : ReaderView)
+        → HasRead bytes told left v → length told + length v.window.held ≡ v.number }
 {
     every_window_is_in_order::<TraceRequest>();
 }

@@ -5,6 +5,7 @@ ghost use Rattle.apf_lines.specs.Lines.{AreUncut, HasNoLf};
 ghost use Rattle.apf_traces.specs.TraceFile.{Line, judged_within, max_bytes};
 ghost use Rattle.apf_trace_reader.specs.Timely.{most_lines};
 ghost use Rattle.apf_trace_reader.specs.Reading.{ended, AnswersEach, AnswersMore, Follows, HasRead};
+ghost use Rattle.apf_trace_reader.specs.Views.{all_lines};
 ghost use Rattle.apf_trace_reader.specs.Turns.{EndsAt, FillsMore, GoesMore, GoesOn, IsNotTaken, IsStage, IsTaken, Pops};
 
 use crate::fault::ReadFault;
@@ -155,6 +156,17 @@ impl TraceReader {
         ensures { result ≡ self.now.has_cost }
     {
         self.has_cost
+    }
+
+    /// How many lines the input has, once all of it was read; none before that, nor where it has a fault. As many requests come
+    /// in all.
+    pub fn lines_in_all(&self) -> Option<u64>
+        ensures { result ≡ all_lines self.now.stage self.now.number }
+    {
+        match self.stage {
+            Stage::Ended => Some(self.number),
+            Stage::Reading | Stage::Holding | Stage::Failed(_) => None,
+        }
     }
 
     // This fault was found.

@@ -11,7 +11,8 @@ returns g c = λ read.
     let fed = first.read read in
     let o = c.in_ok-lanes.ensures in
     let ran = c.in_ok-one.ensures in
-    compared c.args.configs.0.now c.args.configs.1.now c.args.terms.patience c.args.terms.by c.charge_or_usual-by.result c.in_ok-first.first c.args.reader.now.window.size was (g.R.Read.remaining c.run_both.new.input) before (g.W.Write.contents c.run_both.new.out) (g.W.Write.contents c.print.new.out)
+    compared c.args.configs.0.now c.args.configs.1.now c.opening_for-opening.result.slots c.args.terms.patience c.args.terms.by c.opening_for-opening.result.by c.in_ok-first.first c.args.reader.now.window.size was (g.R.Read.remaining c.run_both.new.input) before (g.W.Write.contents c.run_both.new.out) (g.W.Write.contents c.print.new.out)
     c.in_ok-lanes.lanes.one c.in_ok-lanes.lanes.other c.in_ok-one.one c.in_ok-one.other c.run_both.new.reader o.opened o.other_opened
-    (record { front = fed.bytes; left = g.R.Read.remaining c.read_first.new.input; given = fed.given; reader = c.read_first.new.reader; read = fed.read; is = c.charge_or_usual-by.ensures })
+    (record { front = fed.bytes; left = g.R.Read.remaining c.read_first.new.input; given = fed.given; reader = c.read_first.new.reader; read = fed.read; is = c.opening_for-opening.ensures.charge })
+    (record { front = fed.bytes; left = g.R.Read.remaining c.read_first.new.input; given = fed.given; reader = c.read_first.new.reader; read = fed.read; is = c.opening_for-opening.ensures.slots })
     ran.over (ran.size ∙ first.size) (ran.gone was fed) c.in_ok-print.ensures

@@ -11,7 +11,7 @@ returns-clause-nobody c =
     let e = c.in_ok-stream.ensures in
     record {
       tied = e.tied;
-      nobody = nobody_of s 10000 (ap (λ (v : SlotsView). v.slots) e.calendar);
+      nobody = nobody_of s c.args.slots (ap (λ (v : SlotsView). v.slots) e.calendar);
       run = ran_none s;
       still = e.tied;
       asked = tt;

@@ -1,8 +1,0 @@
--- The lines of the marks so far were written.
-use Rattle.std.specs.List.{flat_map, range_with_len}
-use Rattle.apf_picture.specs.Parts.{mark_line}
-use Rattle.std.specs.Io.KnownBytes.{Appends}
-use Rattle.apf_picture.proofs.axis.write_all_lines.Given as goal
-
-abbrev pub invariant-loop-mark : goal.invariant-loop-mark
-invariant-loop-mark g l = Appends (g.W.Write.contents l.initial.out) (g.W.Write.contents l.out) (flat_map (mark_line l.end l.step l.depth) (range_with_len 0 l.mark))

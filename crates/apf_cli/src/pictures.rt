@@ -55,7 +55,7 @@ fn time_of(word: Option<&str>, edge: Edge) -> Result<Option<u64>, Fault>
 //
 // `BadTime` if one of them is no time, and `EndsBefore` if it would end before it begins.
 fn window_of(drawn: Drawn<'_>) -> Result<TimeWindow, Fault>
-    ensures { IfOk result (IsWindowFor drawn.from.entry drawn.to.entry) }
+    ensures { IfOk result (IsWindowFor drawn.entry.from drawn.entry.to) }
 {
     let first = time_of(drawn.from, Edge::From)?;
     let to = time_of(drawn.to, Edge::To)?;

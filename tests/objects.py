@@ -556,13 +556,13 @@ for number in range(1, 25_001):
     lines.append((line.ljust(MOST_LINE) if number % 300 == 0 else line) + "\n")
 log = files("log.jsonl", "".join(lines))
 tally.check("a log of more than 64 MiB", os.path.getsize(log) > 67_108_864, True)
-whole = "".join(want).encode()
-tally.check("25,000 events, some of them of 1 MiB", same(run(program, ["match", objects, "--log", log]), whole), (0, True, b""))
+matched = "".join(want).encode()
+tally.check("25,000 events, some of them of 1 MiB", same(run(program, ["match", objects, "--log", log]), matched), (0, True, b""))
 with subprocess.Popen([program, "match", objects, "--log", "-"], stdin=subprocess.PIPE, stdout=subprocess.PIPE, stderr=subprocess.PIPE) as process:
     memory = Memory(process)
     threading.Thread(target=lambda: (process.stdin.write("".join(lines).encode()), process.stdin.close()), daemon=True).start()
     told = process.stdout.read(), process.stderr.read()
-tally.check("the same from a pipe", same((process.returncode, *told), whole), (0, True, b""))
+tally.check("the same from a pipe", same((process.returncode, *told), matched), (0, True, b""))
 tally.check(f"it is read in pieces: {memory.most()} KiB", memory.most() < 32_768, True)
 last = lines[0][:-1]
 for name, more, fault in (
@@ -574,7 +574,7 @@ for name, more, fault in (
     ("an event without a user", '{"stage":"ResponseComplete","verb":"get"}\n' + lines[1], b"4 at line 25001: "),
 ):
     status, out, err = run(program, ["match", objects, "--log", files("log.jsonl", "".join(lines) + more)])
-    tally.check(f"{name}, behind the others", (status, out == whole, err.startswith(b"apf: audit fault " + fault)), (1, True, True))
+    tally.check(f"{name}, behind the others", (status, out == matched, err.startswith(b"apf: audit fault " + fault)), (1, True, True))
 schema, level, distinguisher = want[0].rstrip("\n").split(" ", 3)[1:]
 for name, more, line in (
     ("a last line without LF", last, f"25001 {schema} {level} {distinguisher}\n"),
@@ -582,7 +582,7 @@ for name, more, line in (
     ("a last line that is still written", last[:40], ""),
 ):
     got = run(program, ["match", objects, "--log", files("log.jsonl", "".join(lines) + more)])
-    tally.check(name, same(got, whole + line.encode()), (0, True, b""))
+    tally.check(name, same(got, matched + line.encode()), (0, True, b""))
 
 # ---- single requests, with what did not match
 

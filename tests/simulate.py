@@ -302,7 +302,7 @@ def check_traces(command):
     for content, *_ in FAULTY_ENDS if command not in PATIENT else all_faulty():
         taken = inputs(command, CONFIG, content, 0)
         # read in pieces, a trace may have any number of lines
-        want = foreseen(command, *taken) if command in PATIENT else (1, b"", f"{fault_line(content)}\n".encode())
+        want = foreseen(command, *taken) if command in (*PATIENT, "hands") else (1, b"", f"{fault_line(content)}\n".encode())
         tally.check(f"{command} of {content[-300:]!r}", printed(command, *taken), want)
     for name, content, _ in good_ends():
         taken = inputs(command, CONFIG, content, 0)

@@ -77,7 +77,7 @@ for words, says in [
     (["fates", "--help"], PATIENCE + ["arrival", "queue", "start", "end", "decision", "concurrency-limit", "column -t"]),
     (["help", "fates"], PATIENCE),
     (["requests", "--help"], TIMES + ["apf replay", "width"]),
-    (["picture", "--help"], PATIENCE + ["SVG", "apf simulate --help", "those whose requests waited longest in sum, of flows with equal sums", "The others share the last row"]),
+    (["picture", "--help"], PATIENCE + ["SVG", "apf simulate --help", "those whose requests waited longest in sum, of flows with equal sums", "The others share the last row", "With --from T or --to T it draws that stretch"]),
     (["trace", "--help"], ["<AUDITLOG>", "<SCHEMA>", "user.username", "requestReceivedTimestamp", "microseconds", "4096 bytes"]),
     (["objects", "--help"], ["<OBJECTS>", "--seats <N>", "1000000", "600", "kubectl", "v1beta2", "dangling"]),
     (["match", "--help"], ["<OBJECTS>", "--user <NAME>", "--groups <NAMES>", "--path <PATH>", "--log <LOG>", "system:authenticated", "impersonatedUser"]),

@@ -81,6 +81,7 @@ for words, status in (
     (["requests", trace], 0),
     (["hands", tight, trace], 0),
     (["picture", tight, trace, "3"], 0),
+    (["picture", tight, trace, "3", "--from", "1", "--to", "9"], 0),
     (["trace", log, "a"], 0),
     (["objects", cluster], 0),
     (["objects", spoilt], 1),

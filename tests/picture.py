@@ -14,7 +14,7 @@ sys.path.insert(0, os.path.join(os.path.dirname(os.path.abspath(__file__)), "lib
 from harness import TOP, Files, Tally, build, run
 from judge import Refused, config_of
 from colours import EYES, contrast, least_beside, least_distance, least_lightness
-from picture import COLUMNS, Picture, width
+from picture import COLUMNS, Picture, Stretch, width
 from simulation import Run, answer, flows_of, words_of
 from trace import trace_of
 from traces import Traces
@@ -488,11 +488,97 @@ def check_command():
     tally.check("a picture on a full disk", (done.returncode, done.stderr), (1, b"apf: cannot write\n"))
 
 
+# a stretch of a run
+
+
+def stretched(config, trace, patience, charge, *words):
+    """What the command prints with these words behind the others."""
+    return run(program, ["picture", files("config", config), files("trace", trace), *words_of(patience, charge), *words])
+
+
+def edge(time, draw):
+    """A time in one of the forms that a command line takes."""
+    forms = [str(time), f"{time}us", f"{time // 1000}.{time % 1000:03}ms", f"{time // 10**6}.{time % 10**6:06}s"]
+    return draw.choice(forms)
+
+
+def check_stretches():
+    draw = random.Random(seed + 1)
+    for number in range(TRACES):
+        config, (objects, patience) = traces.config(), traces.trace()
+        taken = json.dumps(config).encode(), traces.content(objects), patience, traces.charge()
+        made = Run(config, trace_of(taken[1]), patience, taken[3])
+        begin, end = sorted(draw.randrange(made.end() + made.end() // 8 + 2) for _ in range(2))
+        begin, end = draw.choice([(begin, end), (begin, end), (begin, begin), (begin, None), (None, end)])
+        words = ([] if begin is None else ["--from", edge(begin, draw)]) + ([] if end is None else ["--to", edge(end, draw)])
+        drawn = Picture(made, begin, end)
+        tally.check(f"the stretch {words} of {taken}", stretched(*taken, *words), (0, drawn.text().encode(), b""))
+    # by hand: the crawler's run from 95 to 105. Until 100 its first two execute; those that gave up at 90 and that were rejected at 0 are not there.
+    # Three of the other flow are: two wait from before, one until 100, when it executes, and one until 120.
+    status, out, err = stretched(SMALL, CRAWLED, 90, "seats", "--from", "95", "--to", "105us")
+    text = out.decode()
+    tally.check("a stretch by hand", (status, err), (0, b""))
+    for words, count in {
+        ">4 requests of 2 flows on 2 seats</title>": 1,
+        ">4 executed, 0 rejected, 0 gave up, longest wait 60 &#181;s, from 95 &#181;s to 105 &#181;s<": 1,
+        "0000000000000009, 2 requests: 2 executed, 0 rejected, 0 gave up, longest wait 0 &#181;s.": 1,
+        "0000000000000004, 2 requests: 2 executed, 0 rejected, 0 gave up, longest wait 60 &#181;s.": 1,
+        "Queues used: 1, at most 2 waiting in one.": 1,
+        'd="M0 1h440M0 3h880"/>': 1,
+        ">95 &#181;s<": 2,
+        ">105 &#181;s<": 2,
+        '<path class="gave-up" d=""/>': 2,
+    }.items():
+        tally.check(f"a stretch by hand: {words}", text.count(words), count)
+    # who gives up behind the end is drawn without a triangle, and who gives up at it with one
+    for end, count in (("89", 0), ("90", 2), ("91", 2)):
+        text = stretched(SMALL, CRAWLED, 90, "seats", "--from", "10", "--to", end)[1].decode()
+        tally.check(f"triangles up to {end}", len(re.findall("M\\d+ 0l3 7h-6z", text)), count)
+    whole = stretched(SMALL, CRAWLED, 90, "seats")[1].replace(b", 420 &#181;s in all", b", from 0 &#181;s to 420 &#181;s")
+    for words in (["--from", "0"], ["--to", "420"], ["--from", "0s", "--to", "0.42ms"]):
+        tally.check(f"the whole run by {words}", stretched(SMALL, CRAWLED, 90, "seats", *words), (0, whole, b""))
+    empty = stretched(SMALL, CRAWLED, 90, "seats", "--from", "1m")
+    tally.check("a stretch behind the end", (empty[0], empty[2], empty[1].count(b">0 requests of 0 flows on 2 seats</title>")), (0, b"", 1))
+    for words, line in (
+        (["--from", "x"], b"apf: --from must be a number with m, s, ms or us behind it, as 1.5s, or a whole number of microseconds: at most 200000000 seconds\n"),
+        (["--to", "200000001s"], b"apf: --to must be a number with m, s, ms or us behind it, as 1.5s, or a whole number of microseconds: at most 200000000 seconds\n"),
+        (["--from", "2s", "--to", "1s"], b"apf: --to is before --from\n"),
+    ):
+        tally.check(f"a picture with {words}", stretched(SMALL, CRAWLED, 90, None, *words), (2, b"", line))
+    check_long()
+
+
+def check_long():
+    """Stretches of a run of 25,000 requests, of which one is there all the time."""
+    count = 25_000
+    trace = b'{"hash":7,"arrivesAt":0,"runsFor":2000000}\n' + b"".join(b'{"hash":%d,"arrivesAt":%d,"runsFor":%d}\n' % (it % 5, 10 * it, it % 23) for it in range(count))
+    config = b'{"limit":3,"queues":8,"handSize":2,"queueLengthLimit":5}'
+    made = Run(config_of(config), trace_of(trace, in_pieces=True), 40, "seats")
+    line = b"apf: there are more than 10000 requests between --from and --to: draw less\n"
+    whole = b"apf: there are more than 10000 requests: simulate, compare and fates take any number\n"
+    tally.check("a picture of a long run", stretched(config, trace, 40, "seats"), (1, b"", whole))
+    for begin, end in ((0, 1000), (123_456, 124_567), (249_000, None), (60_000, 60_000)):
+        words = ["--from", str(begin), *([] if end is None else ["--to", str(end)])]
+        tally.check(f"the stretch {words} of a long run", stretched(config, trace, 40, "seats", *words), (0, Picture(made, begin, end).text().encode(), b""))
+    # as many as may be drawn, and one more
+    last = {many: end_of(made, many) for many in (10_000, 10_001)}
+    for many, end in last.items():
+        status, out, err = stretched(config, trace, 40, "seats", "--from", "100000", "--to", str(end))
+        tally.check(f"a stretch of {many} requests", (status, err, f">{many} requests of ".encode() in out), (0, b"", True) if many == 10_000 else (1, line, False))
+
+
+def end_of(made, many):
+    """When the stretch from 100,000 on ends that has so many requests."""
+    arrivals = sorted(it["arrivesAt"] for place, it in enumerate(made.trace) if Stretch.over(made, place) >= 100_000)
+    return arrivals[many - 1]
+
+
 check_colours()
 check_model()
 check_example()
 check_sizes()
 check_drawn()
 check_by_hand()
+check_stretches()
 check_command()
 tally.end()

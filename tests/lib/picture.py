@@ -196,26 +196,65 @@ def patience_words(patience):
     return f"patience {patience // length} {unit}"
 
 
-class Picture:
-    """The picture of a run (simulation.py)."""
+class Level:
+    """What became of some requests at a level, and who of them entered which queue."""
 
-    def __init__(self, run):
-        self.run, self.end, self.config, self.patience, self.trace = run, run.end(), run.config, run.patience, run.trace
+    def __init__(self, level, number):
+        self.decided = {number[it]: how for it, how in level.decided.items() if it in number}
+        self.log = [("enter", number[it], queue) for kind, it, queue in level.log if kind == "enter" and it in number]
+
+
+class Stretch:
+    """A stretch of a run: the requests that are there at some moment of it, in the order of their lines."""
+
+    def __init__(self, run, begin, end):
+        inside = [it for it in range(len(run.trace)) if run.trace[it]["arrivesAt"] <= end and self.over(run, it) >= begin]
+        number = {it: place for place, it in enumerate(inside)}
+        self.config, self.patience, self.whole, self.inside = run.config, run.patience, run, inside
+        self.trace = [run.trace[it] for it in inside]
+        self.started = {number[it]: at for it, at in run.started.items() if it in number}
+        self.level = Level(run.level, number)
+
+    @staticmethod
+    def over(run, it):
+        """When a request was over: what was not executed is over at the end of its wait."""
+        return run.trace[it]["arrivesAt"] + run.wait(it) + (run.trace[it]["runsFor"] if it in run.started else 0)
+
+    def wait(self, it):
+        return self.whole.wait(self.inside[it])
+
+
+class Picture:
+    """The picture of a run (simulation.py), or of a stretch of it: from a time on, or from its beginning, up to another one, or to its end."""
+
+    def __init__(self, run, begin=None, end=None):
+        self.is_whole = begin is None and end is None
+        self.begin, last = begin or 0, run.end() if end is None else end
+        self.end = max(last - self.begin, 0)
+        if not self.is_whole:
+            run = Stretch(run, self.begin, last if end is not None else max(last, self.begin))
+        self.run, self.config, self.patience, self.trace = run, run.config, run.patience, run.trace
         self.limit = run.config["limit"]
         self.rows, self.beginning = rows_of(run)
         self.shared = shared_schema(run.trace)
         self.flows = len(flows_of(run.trace))
         self.entered = {request: queue for kind, request, queue in run.level.log if kind == "enter"}
+        # a queue in which nobody waits from the beginning on is not drawn
+        self.entered = {it: queue for it, queue in self.entered.items() if self.until(it) >= self.begin}
         self.queues = sorted(set(self.entered.values()))
-        self.times = [column * self.end // COLUMNS for column in range(COLUMNS)]
+        self.times = [self.begin + column * self.end // COLUMNS for column in range(COLUMNS)]
         # when requests execute, and how wide they are: of the rows up to each one; and when they wait, of each queue
         self.executing = [self.executing_in(self.rows[: row + 1]) for row in range(OWN_ROWS + 1)]
         self.waiting = {queue: [(self.begins(it), self.until(it)) for it, other in self.entered.items() if other == queue] for queue in self.queues}
         self.areas = [[self.seats(row, time) for time in self.times] for row in range(len(self.rows))]
         self.lengths = [[self.length(queue, time) for time in self.times] for queue in self.queues]
         # over time, and not at the columns alone: more are in use, or wait, only where one begins to
-        self.used = max((self.seats(OWN_ROWS, self.until(it)) for it in range(len(self.trace))), default=0)
-        self.longest = max((self.length(queue, self.begins(it)) for it, queue in self.entered.items()), default=0)
+        self.used = max((self.seats(OWN_ROWS, time) for time in self.moments(map(self.until, range(len(self.trace))))), default=0)
+        self.longest = max((self.length(queue, time) for queue in self.queues for time in self.moments(map(self.begins, self.entered))), default=0)
+
+    def moments(self, times):
+        """Those of the times that are drawn, and the beginning."""
+        return {self.begin, *(time for time in times if self.begin <= time <= self.begin + self.end)}
 
     # what became of the requests
 
@@ -257,7 +296,8 @@ class Picture:
         return f"{counted(len(self.trace), 'request')} of {counted(self.flows, 'flow')}{schema} on {counted(self.limit, 'seat')}"
 
     def whole(self):
-        return f"{self.numbers(range(len(self.trace)))}, {time_words(self.end)} in all"
+        drawn = f"{time_words(self.end)} in all" if self.is_whole else f"from {time_words(self.begin)} to {time_words(self.begin + self.end)}"
+        return f"{self.numbers(range(len(self.trace)))}, {drawn}"
 
     def settings(self):
         if self.config["limitResponse"] == "Reject":
@@ -277,7 +317,8 @@ class Picture:
     def axis(self, depth):
         length = next((it for _, it in UNITS if it * 4 <= self.end), 1)
         step = next(it * length for it in (part * 10**power for power in range(20) for part in (1, 2, 5)) if it * length * 10 >= self.end)
-        marks = [(scaled(time, self.end, COLUMNS), mark_words(self.end, step, time)) for time in range(0, self.end + 1, step)]
+        first = -(-self.begin // step) * step
+        marks = [(scaled(time - self.begin, self.end, COLUMNS), mark_words(self.end, step, time)) for time in range(first, self.begin + self.end + 1, step)]
         yield f'<g transform="translate(48 {SEATS})">'
         yield f'<path class="line" d="{"".join(f"M{x} 0v{depth}" for x, _ in marks)}"/>'
         yield "</g>"
@@ -348,7 +389,7 @@ class Picture:
         yield "</g>"
 
     def x(self, time):
-        return scaled(time, self.end, COLUMNS)
+        return scaled(max(time - self.begin, 0), self.end, COLUMNS)
 
     def tall(self, row):
         return min(6 * len(row.members), 30 + scaled(len(row.members), len(self.trace), 240))
@@ -362,7 +403,7 @@ class Picture:
     def row_part(self, number, row, y):
         tall, count = self.tall(row), len(row.members)
         rejected = [f"M{self.x(self.begins(it))} 0v8" for it in row.members if self.ending(it) == "rejected"]
-        given_up = [f"M{self.x(self.until(it))} 0l3 7h-6z" for it in row.members if self.ending(it) == "gave up"]
+        given_up = [f"M{self.x(self.until(it))} 0l3 7h-6z" for it in row.members if self.ending(it) == "gave up" and self.until(it) <= self.begin + self.end]
         yield f'<g transform="translate(48 {y})">'
         yield f"<title>{row.whole}</title>"
         yield '<rect class="page" width="880" height="20"/>'

@@ -2,7 +2,7 @@
 use Rattle.std.proofs.Common.{◌≡◌, ℕ, List, Option, Some, None, ◌∙◌}
 use Rattle.std.specs.Io.KnownBytes.{Appends, Keeps}
 use Rattle.apf_commands.specs.declared.words.Arguments.{Arguments}
-use Rattle.apf_commands.specs.declared.words.Arguments.TheVariants.{Flow, Deck, Script, Workers, Level, Simulation, Bounded, Comparison, Trace, Flows, AuditLog, Objects, Match}
+use Rattle.apf_commands.specs.declared.words.Arguments.TheVariants.{Flow, Deck, Script, Workers, Level, Simulation, Bounded, Comparison, Trace, Picture, Flows, AuditLog, Objects, Match}
 use Rattle.apf_cli.specs.Runs.{PrintsOf}
 
 appends_kept : (old mid new : Option (List ℕ)) (text : List ℕ) → Appends old mid text → Keeps mid new → Appends old new text
@@ -25,6 +25,7 @@ prints_kept holds (Simulation config trace patience charge) old mid new h k = tt
 prints_kept holds (Bounded config trace patience charge bound) old mid new h k = tt
 prints_kept holds (Comparison config other trace patience charge) old mid new h k = tt
 prints_kept holds (Trace trace) old mid new h k = tt
+prints_kept holds (Picture config trace patience charge from to) old mid new h k = tt
 prints_kept holds (Flows config trace flow) old mid new h k = tt
 prints_kept holds (AuditLog log schema chosen) old mid new h k = tt
 prints_kept holds (Objects cluster seats) old mid new h k = tt

@@ -1,5 +1,5 @@
--- Which requests the words of a command line choose, and what those of a level are charged.
-use Rattle.std.specs.Prelude.{◌≡◌, ⊤, ℕ, List, Option, Some, None}
+-- Which requests the words of a command line choose, what those of a level are charged, and which stretch of a run is drawn.
+use Rattle.std.specs.Prelude.{◌≡◌, ◌≤◌, ⊤, ℕ, List, Option, Some, None, IfSome, unwrap_or}
 use Rattle.std.specs.Borrow.{Bor}
 use Rattle.apf_audit.specs.Choice.{by_named}
 use Rattle.apf_audit.specs.Times.{instant_of}
@@ -9,7 +9,9 @@ use Rattle.apf_audit.specs.declared.choice.Choice.{Choice}
 use Rattle.apf_charges.specs.Charging.{named}
 use Rattle.apf_charges.specs.declared.charges.ChargedBy.{ChargedBy}
 use Rattle.apf_charges.specs.declared.charges.ChargedBy.TheVariants.{Time}
+use Rattle.apf_commands.specs.Patience.{IsNoTime, IsTime, most_time}
 use Rattle.apf_commands.specs.declared.words.Chosen.{Chosen}
+use Rattle.apf_simulator.specs.declared.held.TimeWindow.{TimeWindow}
 
 -- what makes a flow: what the word says, and users where there is none
 abbrev pub IsByFor : Option (Bor (List ℕ)) → By → Type 0
@@ -54,3 +56,22 @@ IsChargeNamed (Some word) (Some charged) = named word.now ≡ Some charged
 abbrev pub IsNoChargeFor : Option (Bor (List ℕ)) → Type 0
 IsNoChargeFor None = ⊥
 IsNoChargeFor (Some word) = named word.now ≡ None
+
+-- the time that the word says, and none where there is none
+abbrev pub IsTimeFor : Option (Bor (List ℕ)) → Option ℕ → Type 0
+IsTimeFor None time = time ≡ None
+IsTimeFor (Some word) None = ⊥
+IsTimeFor (Some word) (Some time) = IsTime most_time word.now time
+
+-- the word says no time
+abbrev pub IsNoTimeFor : Option (Bor (List ℕ)) → Type 0
+IsNoTimeFor None = ⊥
+IsNoTimeFor (Some word) = IsNoTime most_time word.now
+
+-- the stretch of a run that the words say: from the time of the one on, and from the run's beginning where there is none, up to that of the other, and up to the run's end where there is none
+pub record IsWindowFor (from to : Option (Bor (List ℕ))) (window : TimeWindow) : Type 0 where
+  pub first : Option ℕ
+  pub from_is : IsTimeFor from first
+  pub begins : window.from ≡ unwrap_or first 0
+  pub to_is : IsTimeFor to window.to
+  pub ends : IfSome window.to (λ last. window.from ≤ last)

@@ -36,6 +36,22 @@ impl fmt::Display for Bound {
     }
 }
 
+/// An edge of the stretch of a run that is drawn.
+#[derive(Clone, Copy, Debug, PartialEq, Eq)]
+pub enum Edge {
+    From,
+    To,
+}
+
+impl fmt::Display for Edge {
+    fn fmt<W: fmt::Write>(&self, f: &mut fmt::Formatter<W>) -> fmt::Result {
+        f.write_str(match self {
+            Edge::From => "--from",
+            Edge::To => "--to",
+        })
+    }
+}
+
 /// Why a command did not end well.
 #[derive(Debug, PartialEq, Eq, Drop)]
 pub enum Fault {
@@ -58,6 +74,10 @@ pub enum Fault {
     BoundOfSeats,
     /// The bound of the choice is no instant from 1970 on.
     BadInstant(Bound),
+    /// The edge of what is drawn is no time, or more than 200,000,000 seconds.
+    BadTime(Edge),
+    /// What is drawn would end before it begins.
+    EndsBefore,
     /// The options say no request: a user and a verb are missing, or there is not one of a resource and a path.
     NoRequest,
     /// A request and an audit log are both named.
@@ -74,6 +94,8 @@ pub enum Fault {
     TooMany,
     /// A simulation has more requests than a script, or a picture, may have.
     TooManyListed,
+    /// A stretch of a simulation has more requests than a picture may have.
+    TooManyDrawn,
     CannotRead(Input, Cause),
     /// The file has more bytes than it may have, and begins with these.
     TooLarge(Input, Vec<u8>),
@@ -108,6 +130,8 @@ impl Fault {
             | Fault::BoundOfSeats
             | Fault::NoRequest
             | Fault::RequestAndLog
+            | Fault::BadTime(_)
+            | Fault::EndsBefore
             | Fault::BadInstant(_) => 2,
             Fault::Worker(_) | Fault::NoMemory => 3,
             Fault::Dealer(_, Sizes::OfConfig)
@@ -121,6 +145,7 @@ impl Fault {
             | Fault::TooFar
             | Fault::TooMany
             | Fault::TooManyListed
+            | Fault::TooManyDrawn
             | Fault::CannotRead(_, _)
             | Fault::CannotReadCommands
             | Fault::TooLarge(_, _)
@@ -272,6 +297,11 @@ impl fmt::Display for Fault {
                 f,
                 "apf: {bound} must be an instant from 1970 on, as 2026-01-31T12:00:00Z"
             ),
+            Fault::BadTime(edge) => write!(
+                f,
+                "apf: {edge} must be a number with m, s, ms or us behind it, as 1.5s, or a whole number of microseconds: at most 200000000 seconds"
+            ),
+            Fault::EndsBefore => f.write_str("apf: --to is before --from"),
             Fault::NoRequest => f.write_str(
                 "apf: a request needs --user, --verb and one of --resource and --path, and --api-group and --namespace go with --resource",
             ),
@@ -288,6 +318,9 @@ impl fmt::Display for Fault {
             Fault::TooMany => f.write_str("apf: there are more requests than can be counted"),
             Fault::TooManyListed => f.write_str(
                 "apf: there are more than 10000 requests: simulate, compare and fates take any number",
+            ),
+            Fault::TooManyDrawn => f.write_str(
+                "apf: there are more than 10000 requests between --from and --to: draw less",
             ),
             Fault::CannotRead(input, _) => write!(f, "apf: cannot read {input}"),
             Fault::TooLarge(input, _) => {

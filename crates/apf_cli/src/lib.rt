@@ -29,6 +29,6 @@ mod streaming;
 mod telling;
 mod traces;
 
-pub use apf_commands::{Action, Arguments, Chosen, read_patience, read_words};
+pub use apf_commands::{Action, Arguments, Chosen, read_patience, read_time, read_words};
 pub use files::{Cause, FileFault, Files, cause_of};
 pub use program::act;

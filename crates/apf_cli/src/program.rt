@@ -13,7 +13,7 @@ use crate::explaining::print_explanation;
 use crate::faults::{Fault, Sizes};
 use crate::files::{Files, judge_names};
 use crate::notes::note_patience;
-use crate::pictures::print_picture;
+use crate::pictures::{Drawn, print_picture};
 use crate::reading::{Explained, level_fault, read_level, script_in};
 use crate::running::print_run;
 use crate::serving::{Served, print_served};
@@ -116,8 +116,6 @@ fn print_simulated<F: Files, O: Write>(
         print_timeline(alloc, files, names, way, out)
     } else if command == "fates" {
         print_fates(alloc, files, names, way, out)
-    } else if command == "picture" {
-        print_picture(alloc, files, names, way, out)
     } else {
         unreachable!()
     }
@@ -211,6 +209,20 @@ fn print_action<F: Files, O: Write, E: Write + IsTerminal, R: Wait + Threads + S
             Ok(())
         }
         Arguments::Trace { trace } => print_requests(alloc, files, trace, out),
+        Arguments::Picture {
+            config,
+            trace,
+            patience,
+            charge,
+            from,
+            to,
+        } => {
+            let way = Way { patience, charge };
+            let drawn = Drawn { from, to };
+            print_picture(alloc, files, (config, trace), way, drawn, out)?;
+            note_patience(patience, err);
+            Ok(())
+        }
         Arguments::Flows {
             config,
             trace,

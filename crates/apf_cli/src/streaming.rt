@@ -10,7 +10,7 @@ use crate::traces::{Way, charge_of, patience_of};
 use apf_charges::ChargedBy;
 use apf_run::Config;
 use apf_simulator::{
-    Listed, SimulatorFault, Terms, compare, list, simulate, write_fates, write_timeline,
+    Listed, SimulatorFault, Terms, TimeWindow, compare, list, simulate, write_fates, write_timeline,
 };
 use apf_trace_reader::{ReadFault, TraceReader, WINDOW};
 use std::alloc::Global;
@@ -53,8 +53,8 @@ fn fault_of<F: Files>(
     }
 }
 
-// How the requests of a trace wait, and what they are charged, by the words of a command line.
-fn terms_of(way: Way<'_>) -> Result<Terms, Fault>
+/// How the requests of a trace wait, and what they are charged, by the words of a command line.
+pub(crate) fn terms_of(way: Way<'_>) -> Result<Terms, Fault>
     ensures { IfOk result (λ terms. terms.patience ≤ 1000000000) }
 {
     Ok(Terms {
@@ -163,11 +163,11 @@ pub(crate) fn print_timeline<F: Files, O: Write>(
     }
 }
 
-/// A level's config, for how long a request waits at it before it gives up, and the requests of a trace that ran on it, each with
-/// what became of it.
-pub(crate) type Simulated = (Config, u64, Listed);
+/// A level's config, and the requests of a trace that ran on it, each with what became of it.
+pub(crate) type Simulated = (Config, Listed);
 
-/// Simulates a trace of at most 10,000 requests on the level of the config, and lists its requests. Nothing is written.
+/// Simulates a trace on the level of the config, and lists the at most 10,000 requests that are there at some moment of the window.
+/// Nothing is written.
 ///
 /// # Errors
 ///
@@ -176,19 +176,20 @@ pub(crate) fn simulated<F: Files, O: Write>(
     alloc: Global,
     files: &mut F,
     names: (&str, &str),
-    way: Way<'_>,
+    terms: Terms,
+    window: TimeWindow,
     out: &mut O,
 ) -> Result<Simulated, Fault>
-    ensures few { IfOk result (λ o. vec_len o.2.requests ≤ 10000) }
-    ensures each { IfOk result (λ o. vec_len o.2.ends ≡ vec_len o.2.requests) }
+    requires { terms.patience ≤ 1000000000 }
+    ensures few { IfOk result (λ o. vec_len o.1.requests ≤ 10000) }
+    ensures each { IfOk result (λ o. vec_len o.1.ends ≡ vec_len o.1.requests) }
 {
-    let terms = terms_of(way)?;
     judge_names(&[names.0, names.1])?;
     let config = config_of(alloc, files, names.0)?;
     let mut input = open_trace(alloc, files, names.1)?;
     let mut reader = TraceReader::new(alloc, WINDOW)?;
-    match list(alloc, &config, terms, &mut reader, &mut input, out) {
-        Ok(listed) => Ok((config, terms.patience, listed)),
+    match list(alloc, &config, terms, window, &mut reader, &mut input, out) {
+        Ok(listed) => Ok((config, listed)),
         Err(fault) => {
             let level = (names.0, &config);
             Err(fault_of(alloc, names.1, (level, level), &reader, &mut input, fault))

@@ -1,4 +1,4 @@
-use apf_cli::{Action, Arguments, Chosen, read_patience, read_words};
+use apf_cli::{Action, Arguments, Chosen, read_patience, read_time, read_words};
 use clap::Error;
 use clap::error::ErrorKind;
 use std::alloc::Global;
@@ -376,6 +376,29 @@ fn reads_the_words_of_simulations(rt: HostRuntime) -> Result<(), Fail> {
             }
         }
     );
+    for (words, from, to) in [
+        (&["apf", "picture", "c", "t", "0"] as &[&str], None, None),
+        (
+            &["apf", "picture", "c", "t", "0", "--to", "x", "--from", "1s"],
+            Some("1s"),
+            Some("x"),
+        ),
+    ] {
+        assert_eq!(rt;
+            read_words(alloc, words)?,
+            Action {
+                command: "picture",
+                arguments: Arguments::Picture {
+                    config: "c",
+                    trace: "t",
+                    patience: "0",
+                    charge: None,
+                    from,
+                    to
+                }
+            }
+        );
+    }
     assert_eq!(rt;
         read_words(alloc, &["apf", "simulate", "--bound", "c", "t", "0"])?,
         Action {
@@ -444,6 +467,28 @@ fn reads_a_patience(rt: HostRuntime) {
         ("x", None),
     ] {
         assert_eq!(rt; read_patience(text), patience, "{text}");
+    }
+}
+
+#[test]
+fn reads_times(rt: HostRuntime) {
+    for (text, time) in [
+        ("0", Some(0)),
+        ("1000000001", Some(1_000_000_001)),
+        ("200000000000000us", Some(200_000_000_000_000)),
+        ("200000000000001us", None),
+        ("200000000s", Some(200_000_000_000_000)),
+        ("200000001s", None),
+        ("3333333.2m", Some(199_999_992_000_000)),
+        ("3333333.5m", None),
+        ("90.5s", Some(90_500_000)),
+        ("18446744073709551616", None),
+        ("18446744073709551615m", None),
+        ("-1", None),
+        ("1 s", None),
+        ("", None),
+    ] {
+        assert_eq!(rt; read_time(text), time, "{text}");
     }
 }
 

@@ -10,7 +10,7 @@ use Rattle.clap.specs.Faults.{entered_fault, fault_of, is_simple_and_free, level
 use Rattle.clap.proofs.OnLiterals.{clap_on_literals}
 use Rattle.apf_commands.specs.Commands.{Named, apf_app, command_shape, commands, kind_named, rules_of, shape_for}
 use Rattle.apf_commands.specs.declared.entries.Kind.{Kind}
-use Rattle.apf_commands.specs.declared.entries.Kind.TheVariants.{Flow, Deck, Script, Workers, Level, Simulation, Bounded, Comparison, Trace, Flows, AuditLog, Objects, Match}
+use Rattle.apf_commands.specs.declared.entries.Kind.TheVariants.{Flow, Deck, Script, Workers, Level, Simulation, Bounded, Comparison, Trace, Picture, Flows, AuditLog, Objects, Match}
 use Rattle.apf_commands.specs.Arguments.{HasArguments, IsCommand}
 use Rattle.apf_commands.proofs.Taken.{Each, MayStop, OwnIds, found, is_plain_rule, walk_holds}
 use Rattle.apf_commands.proofs.Named.{each_own}
@@ -193,6 +193,15 @@ match_given name words e =
     let objects = given.0 refl refl in
     record { objects = (objects.text, objects.first) }
 
+picture_given : (name : Text) (words : List Text) → IsFaultFree (of_kind name Picture) words → HasArguments Picture (rows_after (of_kind name Picture).rules [] words)
+unfolding apf_app
+picture_given name words e =
+    let given = all_given (of_kind name Picture) (record { rules = refl; own_ids = (refl, (refl, (refl, (refl, (refl, (refl, (refl, tt))))))); negates = refl }) words e in
+    let config = given.0 refl refl in
+    let trace = given.1.0 refl refl in
+    let patience = given.1.1.0 refl refl in
+    record { config = (config.text, config.first); trace = (trace.text, trace.first); patience = (patience.text, patience.first) }
+
 -- a command whose words have no fault has its arguments
 arguments_given : (kind : Kind) (name : Text) (words : List Text) → IsFaultFree (of_kind name kind) words → HasArguments kind (rows_after (of_kind name kind).rules [] words)
 arguments_given Flow name words e = flow_given name words e
@@ -204,6 +213,7 @@ arguments_given Simulation name words e = simulation_given name words e
 arguments_given Bounded name words e = bounded_given name words e
 arguments_given Comparison name words e = comparison_given name words e
 arguments_given Trace name words e = trace_given name words e
+arguments_given Picture name words e = picture_given name words e
 arguments_given Flows name words e = flows_given name words e
 arguments_given AuditLog name words e = audit_log_given name words e
 arguments_given Objects name words e = objects_given name words e

@@ -9,7 +9,7 @@ use Rattle.apf_commands.specs.Commands.{Named, has_kind_in, is_same, kind_in, sh
 use Rattle.clap.proofs.WalkLemmas.{both}
 use Rattle.apf_commands.proofs.Taken.{Each, each_passes}
 use Rattle.apf_commands.specs.declared.entries.Kind.{Kind}
-use Rattle.apf_commands.specs.declared.entries.Kind.TheVariants.{Flow, Deck, Script, Workers, Level, Simulation, Bounded, Comparison, Trace, Flows, AuditLog, Objects, Match}
+use Rattle.apf_commands.specs.declared.entries.Kind.TheVariants.{Flow, Deck, Script, Workers, Level, Simulation, Bounded, Comparison, Trace, Picture, Flows, AuditLog, Objects, Match}
 
 -- one more command
 pub with_commands_last : (cs : List Named) (c : Named) (app : App) → with_commands (cs ++ c ∷ []) app ≡ with_subcommand (with_commands cs app) (shape_for c)
@@ -46,6 +46,7 @@ is_same_self Simulation = refl
 is_same_self Bounded = refl
 is_same_self Comparison = refl
 is_same_self Trace = refl
+is_same_self Picture = refl
 is_same_self Flows = refl
 is_same_self AuditLog = refl
 is_same_self Objects = refl

@@ -13,7 +13,7 @@ use Rattle.apf_commands.specs.declared.entries.Kind.{Kind}
 use Rattle.apf_commands.specs.declared.entries.Kind.TheVariants as of_kind
 use Rattle.apf_commands.specs.declared.words.Action.{Action}
 use Rattle.apf_commands.specs.declared.words.Arguments.{Arguments}
-use Rattle.apf_commands.specs.declared.words.Arguments.TheVariants.{Flow, Deck, Script, Workers, Level, Simulation, Bounded, Comparison, Trace, Flows, AuditLog, Objects, Match}
+use Rattle.apf_commands.specs.declared.words.Arguments.TheVariants.{Flow, Deck, Script, Workers, Level, Simulation, Bounded, Comparison, Trace, Picture, Flows, AuditLog, Objects, Match}
 use Rattle.apf_commands.proofs.Named.{kind_had}
 
 -- an action that words ask for is in its ranges, once its level's name is
@@ -35,6 +35,7 @@ in_range name rows action is named = go action.arguments known is.arguments name
     go (Bounded config trace patience charge bound) known read named = record { command = known; workers = tt; rounds = tt; slots = tt; seats = tt; name = tt }
     go (Comparison config other trace patience charge) known read named = record { command = known; workers = tt; rounds = tt; slots = tt; seats = tt; name = tt }
     go (Trace trace) known read named = record { command = known; workers = tt; rounds = tt; slots = tt; seats = tt; name = tt }
+    go (Picture config trace patience charge from to) known read named = record { command = known; workers = tt; rounds = tt; slots = tt; seats = tt; name = tt }
     go (Flows config trace flow) known read named = record { command = known; workers = tt; rounds = tt; slots = tt; seats = tt; name = tt }
     go (AuditLog log schema chosen) known read named = record { command = known; workers = tt; rounds = tt; slots = tt; seats = tt; name = tt }
     go (Objects objects seats) known read named = record { command = known; workers = tt; rounds = tt; slots = tt; seats = (read.1.1, read.1.2); name = tt }
@@ -64,6 +65,7 @@ no_name_fault name rows action is named = go action.arguments is.kind is.argumen
     go (Bounded config trace patience charge bound) kind read named = other_kind name rows _ kind refl
     go (Comparison config other trace patience charge) kind read named = other_kind name rows _ kind refl
     go (Trace trace) kind read named = other_kind name rows _ kind refl
+    go (Picture config trace patience charge from to) kind read named = other_kind name rows _ kind refl
     go (Flows config trace flow) kind read named = other_kind name rows _ kind refl
     go (AuditLog log schema chosen) kind read named = other_kind name rows _ kind refl
     go (Objects objects seats) kind read named = other_kind name rows _ kind refl
@@ -85,6 +87,7 @@ has_name_fault name rows action is named = go action.arguments is.kind is.argume
     go (Bounded config trace patience charge bound) kind read named = absurd named
     go (Comparison config other trace patience charge) kind read named = absurd named
     go (Trace trace) kind read named = absurd named
+    go (Picture config trace patience charge from to) kind read named = absurd named
     go (Flows config trace flow) kind read named = absurd named
     go (AuditLog log schema chosen) kind read named = absurd named
     go (Objects objects seats) kind read named = absurd named

@@ -4,7 +4,7 @@ use Rattle.clap.specs.Words.{Row, Text}
 use Rattle.apf_commands.specs.Meaning.{IsFlag, IsNumber, IsRoundCount, IsSeatCount, IsSlotCount, IsText, IsWorkerCount}
 use Rattle.apf_commands.specs.Commands.{kind_named}
 use Rattle.apf_commands.specs.declared.entries.Kind.{Kind}
-use Rattle.apf_commands.specs.declared.entries.Kind.TheVariants.{Flow, Deck, Script, Workers, Level, Simulation, Bounded, Comparison, Trace, Flows, AuditLog, Objects, Match}
+use Rattle.apf_commands.specs.declared.entries.Kind.TheVariants.{Flow, Deck, Script, Workers, Level, Simulation, Bounded, Comparison, Trace, Picture, Flows, AuditLog, Objects, Match}
 
 -- the argument has a text
 abbrev pub HasText : List Row → Text → Type 0
@@ -71,6 +71,12 @@ pub record HasComparison (rows : List Row) : Type 0 where
 pub record HasTrace (rows : List Row) : Type 0 where
   pub trace : HasText rows (codes "TRACE")
 
+-- the arguments of a picture
+pub record HasPicture (rows : List Row) : Type 0 where
+  pub config : HasText rows (codes "CONFIG")
+  pub trace : HasText rows (codes "TRACE")
+  pub patience : HasText rows (codes "PATIENCE")
+
 -- the arguments of the flows of a trace
 pub record HasFlows (rows : List Row) : Type 0 where
   pub config : HasText rows (codes "CONFIG")
@@ -101,6 +107,7 @@ HasArguments Simulation rows = HasSimulation rows
 HasArguments Bounded rows = HasBounded rows
 HasArguments Comparison rows = HasComparison rows
 HasArguments Trace rows = HasTrace rows
+HasArguments Picture rows = HasPicture rows
 HasArguments Flows rows = HasFlows rows
 HasArguments AuditLog rows = HasAuditLog rows
 HasArguments Objects rows = HasObjects rows

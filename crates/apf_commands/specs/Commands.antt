@@ -9,7 +9,7 @@ use Rattle.clap.specs.declared.builder.value_parser.ValueParser.{ValueParser}
 use Rattle.clap.specs.declared.builder.value_parser.ValueParser.TheVariants.{Signed, Unsigned}
 use Rattle.apf_commands.specs.declared.entries.Entry.{Entry}
 use Rattle.apf_commands.specs.declared.entries.Kind.{Kind}
-use Rattle.apf_commands.specs.declared.entries.Kind.TheVariants.{Flow, Deck, Script, Workers, Level, Simulation, Bounded, Comparison, Trace, Flows, AuditLog, Objects, Match}
+use Rattle.apf_commands.specs.declared.entries.Kind.TheVariants.{Flow, Deck, Script, Workers, Level, Simulation, Bounded, Comparison, Trace, Picture, Flows, AuditLog, Objects, Match}
 
 -- a command: its name, and the kind of its arguments
 abbrev pub Named : Type 0
@@ -25,7 +25,7 @@ level_commands =
 abbrev pub trace_commands : List Named
 trace_commands =
     (codes "simulate", Bounded) ∷ (codes "timeline", Simulation) ∷ (codes "compare", Comparison) ∷ (codes "fates", Simulation)
-    ∷ (codes "requests", Trace) ∷ (codes "picture", Simulation) ∷ (codes "hands", Flows) ∷ (codes "trace", AuditLog)
+    ∷ (codes "requests", Trace) ∷ (codes "picture", Picture) ∷ (codes "hands", Flows) ∷ (codes "trace", AuditLog)
     ∷ (codes "objects", Objects) ∷ (codes "match", Match) ∷ []
 
 -- the program's commands
@@ -56,6 +56,7 @@ is_same Simulation Simulation = true
 is_same Bounded Bounded = true
 is_same Comparison Comparison = true
 is_same Trace Trace = true
+is_same Picture Picture = true
 is_same Flows Flows = true
 is_same AuditLog AuditLog = true
 is_same Objects Objects = true
@@ -145,6 +146,9 @@ rules_of Comparison =
     text_rule (codes "CONFIG") ∷ text_rule (codes "OTHER") ∷ text_rule (codes "TRACE") ∷ text_rule (codes "PATIENCE")
     ∷ option_rule (codes "charge") ∷ []
 rules_of Trace = text_rule (codes "TRACE") ∷ []
+rules_of Picture =
+    text_rule (codes "CONFIG") ∷ text_rule (codes "TRACE") ∷ text_rule (codes "PATIENCE") ∷ option_rule (codes "charge")
+    ∷ option_rule (codes "from") ∷ option_rule (codes "to") ∷ []
 rules_of Flows = text_rule (codes "CONFIG") ∷ text_rule (codes "TRACE") ∷ option_rule (codes "flow") ∷ []
 rules_of AuditLog =
     text_rule (codes "AUDITLOG") ∷ text_rule (codes "SCHEMA") ∷ option_rule (codes "by") ∷ option_rule (codes "user")

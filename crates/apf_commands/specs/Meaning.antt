@@ -14,7 +14,7 @@ use Rattle.apf_commands.specs.declared.words.Action.{Action}
 use Rattle.apf_commands.specs.declared.words.Arguments.{Arguments}
 use Rattle.apf_commands.specs.declared.words.Asked.{Asked}
 use Rattle.apf_commands.specs.declared.words.Chosen.{Chosen}
-use Rattle.apf_commands.specs.declared.words.Arguments.TheVariants.{Flow, Deck, Script, Workers, Level, Simulation, Bounded, Comparison, Trace, Flows, AuditLog, Objects, Match}
+use Rattle.apf_commands.specs.declared.words.Arguments.TheVariants.{Flow, Deck, Script, Workers, Level, Simulation, Bounded, Comparison, Trace, Picture, Flows, AuditLog, Objects, Match}
 
 -- the argument's text
 abbrev pub IsText : List Row → Text → Text → Type 0
@@ -108,6 +108,12 @@ AreArguments rows (Comparison config other trace patience charge) = IsText rows 
     × IsText rows (codes "PATIENCE") patience.now
     × IsOption rows (codes "charge") charge
 AreArguments rows (Trace trace) = IsText rows (codes "TRACE") trace.now
+AreArguments rows (Picture config trace patience charge from to) = IsText rows (codes "CONFIG") config.now
+    × IsText rows (codes "TRACE") trace.now
+    × IsText rows (codes "PATIENCE") patience.now
+    × IsOption rows (codes "charge") charge
+    × IsOption rows (codes "from") from
+    × IsOption rows (codes "to") to
 AreArguments rows (Flows config trace flow) = IsText rows (codes "CONFIG") config.now
     × IsText rows (codes "TRACE") trace.now
     × IsOption rows (codes "flow") flow
@@ -130,6 +136,7 @@ kind_of (Simulation a b c d) = of_kind.Simulation
 kind_of (Bounded a b c d e) = of_kind.Bounded
 kind_of (Comparison a b c d e) = of_kind.Comparison
 kind_of (Trace a) = of_kind.Trace
+kind_of (Picture a b c d e f) = of_kind.Picture
 kind_of (Flows a b c) = of_kind.Flows
 kind_of (AuditLog a b c) = of_kind.AuditLog
 kind_of (Objects a b) = of_kind.Objects

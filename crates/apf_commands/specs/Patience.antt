@@ -1,4 +1,4 @@
--- What a text says of how long a request waits before it gives up.
+-- What a text says of a time: of how long a request waits before it gives up, or of when something is.
 use Rattle.std.specs.Prelude.{◌≡◌, ◌<◌, ◌≤◌, ◌+◌, ◌*◌, ◌^◌, ◌==◌, ◌&&◌, ◌⊎◌, ⊤, ℕ, List, [], ◌++◌, length, Bool, true, nat_le, Ok, codes}
 use Rattle.std.specs.List.{list_all, position_or_len, before_first, after_first}
 use Rattle.std.specs.Str.Parse.{ParsesUnsigned}
@@ -25,6 +25,10 @@ microseconds_of Minutes = 60000000
 abbrev pub most_patience : ℕ
 most_patience = 1000000000
 
+-- the latest time, in microseconds: 200,000,000 seconds
+abbrev pub most_time : ℕ
+most_time = 200000000000000
+
 -- a digit, 0 to 9
 abbrev pub is_digit : ℕ → Bool
 is_digit byte = nat_le 48 byte && nat_le byte 57
@@ -37,12 +41,12 @@ is_point byte = byte == 46
 abbrev pub most_digits : ℕ
 most_digits = 6
 
--- the digits are a whole number, which is this many microseconds in the unit
-pub record IsWholeIn (unit : Unit) (digits : List ℕ) (patience : ℕ) : Type 0 where
+-- the digits are a whole number, which is this many microseconds in the unit, and no longer than the longest time
+pub record IsWholeIn (longest : ℕ) (unit : Unit) (digits : List ℕ) (time : ℕ) : Type 0 where
   pub number : ℕ
-  pub parses : ParsesUnsigned {E = ℕ} 32 10 digits (Ok number)
-  pub times : patience ≡ number * microseconds_of unit
-  pub most : patience ≤ most_patience
+  pub parses : ParsesUnsigned {E = ℕ} 64 10 digits (Ok number)
+  pub times : time ≡ number * microseconds_of unit
+  pub most : time ≤ longest
 
 -- the digits behind a point are this many whole microseconds in the unit
 pub record IsPartIn (unit : Unit) (digits : List ℕ) (rest : ℕ) : Type 0 where
@@ -58,48 +62,48 @@ abbrev pub IsNamed : Unit → Type 0
 IsNamed Plain = ⊥
 IsNamed _ = ⊤
 
--- the digits are a whole number, a point and a part, which are this many microseconds in the unit
-pub record IsDecimalIn (unit : Unit) (digits : List ℕ) (patience : ℕ) : Type 0 where
+-- the digits are a whole number, a point and a part, which are this many microseconds in the unit, and no longer than the longest time
+pub record IsDecimalIn (longest : ℕ) (unit : Unit) (digits : List ℕ) (time : ℕ) : Type 0 where
   pub named : IsNamed unit
   pub pointed : position_or_len is_point digits < length digits
   pub count : ℕ
   pub rest : ℕ
-  pub parses : ParsesUnsigned {E = ℕ} 32 10 (before_first is_point digits) (Ok count)
+  pub parses : ParsesUnsigned {E = ℕ} 64 10 (before_first is_point digits) (Ok count)
   pub part : IsPartIn unit (after_first is_point digits) rest
-  pub times : patience ≡ count * microseconds_of unit + rest
-  pub most : patience ≤ most_patience
+  pub times : time ≡ count * microseconds_of unit + rest
+  pub most : time ≤ longest
 
 -- the one or the other
-abbrev pub IsAmountIn : Unit → List ℕ → ℕ → Type 0
-IsAmountIn unit digits patience = IsWholeIn unit digits patience ⊎ IsDecimalIn unit digits patience
+abbrev pub IsAmountIn : ℕ → Unit → List ℕ → ℕ → Type 0
+IsAmountIn longest unit digits time = IsWholeIn longest unit digits time ⊎ IsDecimalIn longest unit digits time
 
 -- the text is such digits with the unit's name behind them
-pub record IsPatienceIn (unit : Unit) (text : List ℕ) (patience : ℕ) : Type 0 where
+pub record IsTimeIn (longest : ℕ) (unit : Unit) (text : List ℕ) (time : ℕ) : Type 0 where
   pub digits : List ℕ
   pub written : text ≡ digits ++ name_of unit
-  pub is : IsAmountIn unit digits patience
+  pub is : IsAmountIn longest unit digits time
 
 -- the same in one of the units
-abbrev pub IsPatience : List ℕ → ℕ → Type 0
-IsPatience text patience = (unit : Unit) × IsPatienceIn unit text patience
+abbrev pub IsTime : ℕ → List ℕ → ℕ → Type 0
+IsTime longest text time = (unit : Unit) × IsTimeIn longest unit text time
 
 -- the digits are none of these
-abbrev pub IsNoWholeIn : Unit → List ℕ → Type 0
-IsNoWholeIn unit digits = (patience : ℕ) → IsWholeIn unit digits patience → ⊥
+abbrev pub IsNoWholeIn : ℕ → Unit → List ℕ → Type 0
+IsNoWholeIn longest unit digits = (time : ℕ) → IsWholeIn longest unit digits time → ⊥
 
 abbrev pub IsNoPartIn : Unit → List ℕ → Type 0
 IsNoPartIn unit digits = (rest : ℕ) → IsPartIn unit digits rest → ⊥
 
-abbrev pub IsNoDecimalIn : Unit → List ℕ → Type 0
-IsNoDecimalIn unit digits = (patience : ℕ) → IsDecimalIn unit digits patience → ⊥
+abbrev pub IsNoDecimalIn : ℕ → Unit → List ℕ → Type 0
+IsNoDecimalIn longest unit digits = (time : ℕ) → IsDecimalIn longest unit digits time → ⊥
 
-abbrev pub IsNoAmountIn : Unit → List ℕ → Type 0
-IsNoAmountIn unit digits = (patience : ℕ) → IsAmountIn unit digits patience → ⊥
+abbrev pub IsNoAmountIn : ℕ → Unit → List ℕ → Type 0
+IsNoAmountIn longest unit digits = (time : ℕ) → IsAmountIn longest unit digits time → ⊥
 
--- in this unit the text is no patience
-abbrev pub IsNoPatienceIn : Unit → List ℕ → Type 0
-IsNoPatienceIn unit text = (patience : ℕ) → IsPatienceIn unit text patience → ⊥
+-- in this unit the text is no time
+abbrev pub IsNoTimeIn : ℕ → Unit → List ℕ → Type 0
+IsNoTimeIn longest unit text = (time : ℕ) → IsTimeIn longest unit text time → ⊥
 
--- the text is no patience
-abbrev pub IsNoPatience : List ℕ → Type 0
-IsNoPatience text = (patience : ℕ) → IsPatience text patience → ⊥
+-- the text is no time
+abbrev pub IsNoTime : ℕ → List ℕ → Type 0
+IsNoTime longest text = (time : ℕ) → IsTime longest text time → ⊥

@@ -34,6 +34,12 @@ const CHARGE: &str =
 /// What help says of the bound.
 const BOUND: &str = "Prints how far the seat-times of two queues came apart, and how far they may";
 
+/// What help says of where a picture begins.
+const FROM: &str = "Draws the run from T on, as 90s; from its beginning if left out";
+
+/// What help says of where a picture ends.
+const TO: &str = "Draws the run up to T; up to its end if left out";
+
 /// What help says below the commands: the program's statuses, and how to begin.
 const HELP: &str = "\
 Status:
@@ -235,6 +241,15 @@ fn with_trace<'a>(alloc: Global, command: Command<'a>) -> Result<Command<'a>, Al
     command.arg(text(alloc, "TRACE", TRACE))
 }
 
+// A level, a trace, a patience, what requests are charged, and the stretch of the run that is drawn.
+fn with_picture<'a>(alloc: Global, command: Command<'a>) -> Result<Command<'a>, AllocError>
+    ensures { IfOk result (AddsRules (rules_of of_kind.Picture) command.entry) }
+{
+    with_simulation(alloc, command)?
+        .arg(option(alloc, "from", "T", FROM))?
+        .arg(option(alloc, "to", "T", TO))
+}
+
 // A level and a trace, and which of its flows.
 fn with_flows<'a>(alloc: Global, command: Command<'a>) -> Result<Command<'a>, AllocError>
     ensures { IfOk result (AddsRules (rules_of of_kind.Flows) command.entry) }
@@ -358,6 +373,7 @@ fn with_arguments<'a>(
         Kind::Bounded => with_bounded(alloc, command),
         Kind::Comparison => with_comparison(alloc, command),
         Kind::Trace => with_trace(alloc, command),
+        Kind::Picture => with_picture(alloc, command),
         Kind::Flows => with_flows(alloc, command),
         Kind::AuditLog => with_audit_log(alloc, command),
         Kind::Objects => with_objects(alloc, command),

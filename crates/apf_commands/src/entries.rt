@@ -25,6 +25,8 @@ pub(crate) enum Kind {
     Comparison,
     /// `TRACE`
     Trace,
+    /// `CONFIG TRACE PATIENCE [--charge BY] [--from T] [--to T]`
+    Picture,
     /// `CONFIG TRACE [--flow NAME]`
     Flows,
     /// `AUDITLOG SCHEMA [--by WHO] [--user NAME] [--since INSTANT] [--until INSTANT]`

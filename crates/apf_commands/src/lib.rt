@@ -19,5 +19,5 @@ mod patience;
 mod trace_commands;
 mod words;
 
-pub use patience::read_patience;
+pub use patience::{read_patience, read_time};
 pub use words::{Action, Arguments, Asked, Chosen, read_words};

@@ -17,7 +17,8 @@ no clock runs, a dispatch is charged a number that is known before, and no level
 CONFIG is that of apf replay; apf replay --help says what it holds.
 TRACE is JSON Lines: one JSON object a line, each line ended by LF, of at most 65536 bytes, in any
 order of time. Of more than 131072 lines, each may come up to 131072 places late. timeline, picture,
-requests and hands take at most 10000 lines. At most 10000 requests may be there at once.
+requests and hands take at most 10000 lines, but picture --from T --to T any number. At most 10000
+requests may be there at once.
 Requests are numbered from 0. Times are whole microseconds from the trace's beginning:
   arrivesAt         when the request arrives, 0 to 1000000000000; must be there
   runsFor           how long it holds its seats, 0 to 10000000000; must be there
@@ -192,6 +193,12 @@ a row of their own: those whose requests waited longest in sum, of flows with eq
 most requests, and of these the earlier ones. The others share the last row. Times are microseconds
 in the files.
 
+With --from T or --to T it draws that stretch of the run alone. The whole run is simulated all the
+same, and may have any length. T is a time of the trace in the forms of PATIENCE, up to 200000000s.
+Drawn are the requests that are there at some moment of the stretch: those that arrived by its end,
+and were not over before its beginning. At most 10000 may be drawn. Their numbers are of the whole
+of each: a wait that began before the stretch counts from its beginning.
+
 It simulates this level by this project's rules, and not kube-apiserver. TRACE is JSON Lines, and
 PATIENCE is as 15s or in microseconds; apf simulate --help says what they and CONFIG hold.
 
@@ -199,10 +206,12 @@ Example, and that it is the picture of this repository:
   $ cd examples/noisy-client
   $ apf picture config.json trace.jsonl 8s >drawn.svg
   $ cmp drawn.svg picture.svg
+The five seconds in which the crawler's queues are full:
+  $ apf picture config.json trace.jsonl 8s --from 1s --to 6s >five-seconds.svg
 
 Status: 0 done, 1 a file's fault or output that can't be written, 2 a command line's fault,
 3 no memory.",
-        kind: Kind::Simulation,
+        kind: Kind::Picture,
     },
     Entry {
         name: "hands",

@@ -85,6 +85,16 @@ pub enum Arguments<'a> {
     Trace {
         trace: &'a str,
     },
+    /// As of a simulation, and the times for [`read_time`](crate::read_time) at which its picture begins and ends, if they are
+    /// given.
+    Picture {
+        config: &'a str,
+        trace: &'a str,
+        patience: &'a str,
+        charge: Option<&'a str>,
+        from: Option<&'a str>,
+        to: Option<&'a str>,
+    },
     /// The names of a configuration file and of a trace, and the distinguisher of the flows that are meant, if not all are.
     Flows {
         config: &'a str,
@@ -324,6 +334,21 @@ fn trace_of<'a>(matches: &ArgMatches<'a>) -> Arguments<'a>
     }
 }
 
+fn picture_of<'a>(matches: &ArgMatches<'a>) -> Arguments<'a>
+    requires { HasArguments of_kind.Picture (rows_of (found_of matches.now)) }
+    ensures kind { kind_of_arguments result ≡ of_kind.Picture }
+    ensures read { AreArguments (rows_of (found_of matches.now)) result }
+{
+    Arguments::Picture {
+        config: text_of(matches, "CONFIG"),
+        trace: text_of(matches, "TRACE"),
+        patience: text_of(matches, "PATIENCE"),
+        charge: charge_of(matches),
+        from: option_of(matches, "from"),
+        to: option_of(matches, "to"),
+    }
+}
+
 fn flows_of<'a>(matches: &ArgMatches<'a>) -> Arguments<'a>
     requires { HasArguments of_kind.Flows (rows_of (found_of matches.now)) }
     ensures kind { kind_of_arguments result ≡ of_kind.Flows }
@@ -414,6 +439,7 @@ fn arguments_of<'a>(kind: Kind, matches: &ArgMatches<'a>) -> Arguments<'a>
         Kind::Bounded => bounded_of(matches),
         Kind::Comparison => comparison_of(matches),
         Kind::Trace => trace_of(matches),
+        Kind::Picture => picture_of(matches),
         Kind::Flows => flows_of(matches),
         Kind::AuditLog => audit_log_of(matches),
         Kind::Objects => objects_of(matches),
@@ -467,7 +493,8 @@ fn judged<'a>(alloc: Global, action: Action<'a>) -> Result<Action<'a>, Error>
 /// Its texts and numbers are those that `clap` reads of the words. The second word names the command, and the command says
 /// of which kind its arguments are. `DECK` and `HAND` are whole decimal numbers of 32 bits, `HASH` is one of 64 bits,
 /// `WORKERS` is 1 to 64, `--rounds` 1 to 1,000,000 and 1 if absent, `--slots` 1 to 10,000 and 10,000 if absent. `--name` is
-/// 1 to 253 bytes of `a-z`, `0-9`, `.` and `-`, and `level` if absent. The other arguments are texts, `PATIENCE` and `--charge` too.
+/// 1 to 253 bytes of `a-z`, `0-9`, `.` and `-`, and `level` if absent. The other arguments are texts, `PATIENCE`, `--charge`,
+/// `--from` and `--to` too.
 ///
 /// # Errors
 ///

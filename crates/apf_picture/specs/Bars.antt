@@ -1,5 +1,5 @@
 -- The texts of the rows.
-use Rattle.std.specs.Prelude.{ℕ, ◌+◌, ◌-◌, ◌*◌, ◌/◌, List, [], ◌∷◌, ◌++◌, max, length, slice_get, Option, Some, None, codes, decimal}
+use Rattle.std.specs.Prelude.{ℕ, ◌+◌, ◌-◌, ◌*◌, ◌/◌, nat_lt, if◌then◌else◌, List, [], ◌∷◌, ◌++◌, max, length, slice_get, Option, Some, None, codes, decimal}
 use Rattle.std.specs.List.{flat_map, range_with_len}
 use Rattle.apf_picture.specs.declared.life.Fate.{Fate}
 use Rattle.apf_picture.specs.declared.life.Fate.TheVariants.{Executed, Rejected, GaveUp}
@@ -48,8 +48,12 @@ unfoldable pub given_up_tick : (end : ℕ) → Life → List ℕ
 given_up_tick end life =
     joined (codes "M" ∷ decimal (scaled_of life.until end 880) ∷ codes " 0l3 7h-6z" ∷ [])
 
+-- it has none if that is later than what is drawn
+abbrev pub given_up_shown : (end : ℕ) → Life → List ℕ
+given_up_shown end life = if nat_lt end life.until then [] else given_up_tick end life
+
 abbrev pub given_up_by : Fate → (end : ℕ) → Life → List ℕ
-given_up_by GaveUp end life = given_up_tick end life
+given_up_by GaveUp end life = given_up_shown end life
 given_up_by Executed end life = []
 given_up_by Rejected end life = []
 

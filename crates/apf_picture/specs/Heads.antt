@@ -1,5 +1,5 @@
 -- The texts of the title and of the description.
-use Rattle.std.specs.Prelude.{ℕ, List, [], ◌∷◌, ◌++◌, Option, Some, None, codes, decimal}
+use Rattle.std.specs.Prelude.{ℕ, ◌+◌, Bool, true, false, List, [], ◌∷◌, ◌++◌, Option, Some, None, codes, decimal}
 use Rattle.std.specs.List.{flat_map}
 use Rattle.apf_model.specs.declared.config.Config.{Config}
 use Rattle.apf_model.specs.declared.response.Response.{Response}
@@ -41,9 +41,20 @@ settings_by Reject config patience = reject_settings config.limit ++ patience_te
 abbrev pub settings_text : Config → (patience : ℕ) → List ℕ
 settings_text config patience = settings_by config.limit_response config patience
 
--- the numbers of all requests, and how long the run was
-unfoldable pub whole_text : Numbers → (end : ℕ) → List ℕ
-whole_text numbers end = numbers_text numbers ++ codes ", " ++ time_text end ++ codes " in all"
+-- how long the run was, or from when until when the stretch of it is that is drawn
+unfoldable pub run_text : (end : ℕ) → List ℕ
+run_text end = codes ", " ++ time_text end ++ codes " in all"
+
+unfoldable pub stretch_text : (from end : ℕ) → List ℕ
+stretch_text from end = codes ", from " ++ time_text from ++ codes " to " ++ time_text (from + end)
+
+abbrev pub length_text : (is_whole : Bool) → (from end : ℕ) → List ℕ
+length_text true from end = run_text end
+length_text false from end = stretch_text from end
+
+-- the numbers of all requests, and that
+unfoldable pub whole_text : Numbers → (is_whole : Bool) → (from end : ℕ) → List ℕ
+whole_text numbers is_whole from end = numbers_text numbers ++ length_text is_whole from end
 
 -- the most seats in use, how many queues were used, and the most requests that waited in one
 unfoldable pub facts_text : (used queues longest : ℕ) → List ℕ

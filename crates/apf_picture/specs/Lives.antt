@@ -1,5 +1,5 @@
 -- What is drawn of each request.
-use Rattle.std.specs.Prelude.{ℕ, ◌+◌, ◌-◌, ◌^◌, min, List, [], ◌∷◌, slice_index}
+use Rattle.std.specs.Prelude.{ℕ, ◌+◌, ◌-◌, ◌^◌, min, nat_le, if◌then◌else◌, List, [], ◌∷◌, slice_index, Option, None}
 use Rattle.apf_words.specs.declared.decision.Decision.{Decision}
 use Rattle.apf_words.specs.declared.decision.Decision.TheVariants.{Execute, QueueFull, Closed, Cancelled, ConcurrencyLimit}
 use Rattle.apf_traces.specs.declared.request.TraceRequest.{TraceRequest}
@@ -39,6 +39,27 @@ life_by request outcome row = record {
   seats = seats_by outcome.decision request.width;
   wait = outcome.wait;
   queue = outcome.queue;
+}
+
+-- a time as the stretch of this length shows it: how long after its beginning, and of what is later a microsecond behind its end
+abbrev pub seen_at : (from length time : ℕ) → ℕ
+seen_at from length time = if nat_le (time - from) length then time - from else length + 1
+
+-- the queue of a request that waited in the stretch, or after it
+abbrev pub queue_seen : (from : ℕ) → Life → Option ℕ
+queue_seen from life = if nat_le from life.until then life.queue else None
+
+-- a request as the stretch shows it
+abbrev pub life_seen : (from length : ℕ) → Life → Life
+life_seen from length life = record {
+  row = life.row;
+  fate = life.fate;
+  arrives = seen_at from length life.arrives;
+  until = seen_at from length life.until;
+  ends = seen_at from length life.ends;
+  seats = life.seats;
+  wait = life.wait;
+  queue = queue_seen from life;
 }
 
 -- each request of a trace in the row of its flow

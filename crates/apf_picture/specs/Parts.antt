@@ -8,21 +8,26 @@ use Rattle.apf_picture.specs.Scales.{scaled_of, unit_by, unit_length, unit_name}
 use Rattle.apf_picture.specs.Columns.{tops_in}
 use Rattle.apf_picture.specs.Words.{joined, tenths_text, two_text}
 
--- the axis: where a mark stands that is this many steps from the beginning
-abbrev pub mark_place : (end step mark : ℕ) → ℕ
-mark_place end step mark = scaled_of (mark * step) end 880
+-- the axis: how far behind the beginning the first mark stands, which is at a whole number of steps
+abbrev pub first_mark : (from step : ℕ) → ℕ
+first_mark from step = (step - from % step) % step
 
-unfoldable pub mark_line : (end step depth mark : ℕ) → List ℕ
-mark_line end step depth mark =
-    joined (codes "M" ∷ decimal (mark_place end step mark) ∷ codes " 0v" ∷ decimal depth ∷ [])
+-- the line of a mark that is at a place
+unfoldable pub mark_line : (end depth place : ℕ) → List ℕ
+mark_line end depth place =
+    joined (codes "M" ∷ decimal (scaled_of place end 880) ∷ codes " 0v" ∷ decimal depth ∷ [])
 
--- the line of each mark
-abbrev pub all_lines : (end step depth : ℕ) → List ℕ
-all_lines end step depth = flat_map (mark_line end step depth) (range_with_len 0 (end / step + 1))
+-- the line of each mark, of which the first is at a place
+abbrev pub marked_lines : (first end step depth : ℕ) → List ℕ
+marked_lines first end step depth = flat_map (λ mark. mark_line end depth (first + mark * step)) (range_with_len 0 ((end - first) / step + 1))
 
-unfoldable pub lines_text : (end step depth : ℕ) → List ℕ
-lines_text end step depth =
-    codes "<g transform=\"translate(48 124)\">\n<path class=\"line\" d=\"" ++ all_lines end step depth ++ codes "\"/>\n</g>\n"
+-- the same, if there is one
+abbrev pub all_lines : (from end step depth : ℕ) → List ℕ
+all_lines from end step depth = if nat_lt end (first_mark from step) then [] else marked_lines (first_mark from step) end step depth
+
+unfoldable pub lines_text : (from end step depth : ℕ) → List ℕ
+lines_text from end step depth =
+    codes "<g transform=\"translate(48 124)\">\n<path class=\"line\" d=\"" ++ all_lines from end step depth ++ codes "\"/>\n</g>\n"
 
 -- what stands before the time of a mark
 unfoldable pub mark_head : (x : ℕ) → List ℕ
@@ -46,23 +51,28 @@ abbrev pub mark_words : Unit → (step time : ℕ) → List ℕ
 mark_words unit step time =
     if step % unit_length unit == 0 then value_text (time / unit_length unit) (unit_name unit) else part_text unit time
 
-unfoldable pub mark_label : Unit → (end step mark : ℕ) → List ℕ
-mark_label unit end step mark = mark_head (mark_place end step mark) ++ mark_words unit step (mark * step) ++ codes "</text>\n"
+-- the time of a mark that is at a place
+unfoldable pub mark_label : Unit → (from end step place : ℕ) → List ℕ
+mark_label unit from end step place = mark_head (scaled_of place end 880) ++ mark_words unit step (from + place) ++ codes "</text>\n"
 
--- the time of each mark, in the units of the text of the end
-abbrev pub all_labels : (end step : ℕ) → List ℕ
-all_labels end step = flat_map (mark_label (unit_by end) end step) (range_with_len 0 (end / step + 1))
+-- the time of each mark, of which the first is at a place, in the units of the text of the length
+abbrev pub marked_labels : (first from end step : ℕ) → List ℕ
+marked_labels first from end step = flat_map (λ mark. mark_label (unit_by end) from end step (first + mark * step)) (range_with_len 0 ((end - first) / step + 1))
+
+-- the same, if there is one
+abbrev pub all_labels : (from end step : ℕ) → List ℕ
+all_labels from end step = if nat_lt end (first_mark from step) then [] else marked_labels (first_mark from step) from end step
 
 unfoldable pub labels_head : (y : ℕ) → List ℕ
 labels_head y = joined (codes "<g transform=\"translate(48 " ∷ decimal y ∷ codes ")\" text-anchor=\"middle\">\n" ∷ [])
 
 -- the times at a height
-unfoldable pub labels_text : (end step y : ℕ) → List ℕ
-labels_text end step y = labels_head y ++ all_labels end step ++ codes "</g>\n"
+unfoldable pub labels_text : (from end step y : ℕ) → List ℕ
+labels_text from end step y = labels_head y ++ all_labels from end step ++ codes "</g>\n"
 
 -- the lines, and the times above and below them
-unfoldable pub axis_text : (end step depth : ℕ) → List ℕ
-axis_text end step depth = lines_text end step depth ++ labels_text end step 118 ++ labels_text end step (depth + 138)
+unfoldable pub axis_text : (from end step depth : ℕ) → List ℕ
+axis_text from end step depth = lines_text from end step depth ++ labels_text from end step 118 ++ labels_text from end step (depth + 138)
 
 -- the seats: whether the value of a column is another one than that of the column before
 abbrev pub changes : List ℕ → ℕ → Bool

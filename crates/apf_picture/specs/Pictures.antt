@@ -1,4 +1,4 @@
--- What a picture shows of a run, and its text.
+-- What a picture shows of a run, or of a stretch of it, and its text.
 use Rattle.std.specs.Prelude.{◌≡◌, ℕ, ◌+◌, ◌-◌, min, List, [], ◌++◌, length, map, reverse, sum_by, All, is_some, codes}
 use Rattle.std.specs.List.{range_with_len}
 use Rattle.apf_picture.specs.declared.scene.Scene.{Scene}
@@ -9,7 +9,7 @@ use Rattle.apf_model.specs.declared.response.Response.TheVariants.{Queue, Reject
 use Rattle.apf_picture.specs.declared.columns.Strip.{Strip}
 use Rattle.apf_picture.specs.Scales.{IsStep, unit_of, unit_length}
 use Rattle.apf_picture.specs.Ranks.{own_rows, AreOwnFlows, rows_of}
-use Rattle.apf_picture.specs.Lives.{lives_by}
+use Rattle.apf_picture.specs.Lives.{life_seen, lives_by}
 use Rattle.apf_picture.specs.Columns.{AreUsedQueues, IsArea, IsStrip, IsMost, seats_at, most_waiting, row_in, queue_in, place_in}
 use Rattle.apf_picture.specs.Labels.{Called, label_at, shared_of, shown_schema}
 use Rattle.apf_picture.specs.Rows.{AreRows, numbers_of, label_in}
@@ -24,9 +24,13 @@ use Rattle.apf_picture.specs.Bars.{height_of, rows_text}
 abbrev pub flows_in : Scene → ℕ
 flows_in scene = length scene.flows.now.firsts.items
 
--- each request in the row of its flow
+-- how long the stretch is that is drawn
+abbrev pub length_of : Scene → ℕ
+length_of scene = scene.end - scene.from
+
+-- each request in the row of its flow, as the stretch shows it
 abbrev pub lives_of : Scene → (own : List ℕ) → List Life
-lives_of scene own = lives_by scene.trace.now scene.outcomes.now scene.flows.now.of.items (rows_of own (flows_in scene))
+lives_of scene own = map (life_seen scene.from (length_of scene)) (lives_by scene.trace.now scene.outcomes.now scene.flows.now.of.items (rows_of own (flows_in scene)))
 
 -- this many rows: those of their own, and the one that the others share
 abbrev pub rows_in : Scene → ℕ
@@ -40,8 +44,10 @@ label_in_scene scene own = label_at scene.trace.now scene.flows.now.firsts.items
 pub record IsPictureOf (scene : Scene) (picture : Picture) : Type 0 where
   pub config : picture.config ≡ scene.config
   pub patience : picture.patience ≡ scene.patience
-  pub end : picture.end ≡ scene.end
-  pub step : IsStep scene.end (unit_length (unit_of scene.end)) picture.step
+  pub from : picture.from ≡ scene.from
+  pub long : picture.long ≡ length_of scene
+  pub is_whole : picture.is_whole ≡ scene.is_whole
+  pub step : IsStep (length_of scene) (unit_length (unit_of (length_of scene))) picture.step
   pub flows : picture.flows ≡ flows_in scene
   pub schema : shown_schema picture.schema ≡ shared_of scene.trace.now scene.flows.now.firsts.items
   -- the flows that have a row of their own
@@ -54,13 +60,13 @@ pub record IsPictureOf (scene : Scene) (picture : Picture) : Type 0 where
   pub beginning : picture.beginning.items ≡ shared_beginning (map label_in picture.rows.items)
   pub cutting : IsCutting (map label_in picture.rows.items) (length picture.beginning.items) picture.cutting
   -- the seats in use by each row and those below it, from the last row to the first, and the most that ever are
-  pub areas : All (IsArea (lives_of scene own) scene.end) picture.areas.items
+  pub areas : All (IsArea (lives_of scene own) (length_of scene)) picture.areas.items
   pub area_rows : map row_in picture.areas.items ≡ reverse (range_with_len 0 (rows_in scene))
   pub used : IsMost (seats_at (lives_of scene own) own_rows) picture.used
   -- the queues in which requests waited, one below another, and their lengths
   pub queues : AreUsedQueues (lives_of scene own) (map queue_in picture.strips.items)
   pub places : map place_in picture.strips.items ≡ range_with_len 0 (length picture.strips.items)
-  pub strips : All (IsStrip (lives_of scene own) scene.end) picture.strips.items
+  pub strips : All (IsStrip (lives_of scene own) (length_of scene)) picture.strips.items
 
 -- what it shows, in a few words
 unfoldable pub title_text : Picture → List ℕ
@@ -76,7 +82,7 @@ title_element picture = codes "<title id=\"title\">" ++ whole_title picture ++ c
 -- what it shows, for who does not see it
 unfoldable pub level_text : Picture → List ℕ
 level_text picture =
-    codes "<desc id=\"desc\">" ++ whole_text picture.numbers picture.end ++ codes ". The level: " ++ settings_text picture.config picture.patience
+    codes "<desc id=\"desc\">" ++ whole_text picture.numbers picture.is_whole picture.from picture.long ++ codes ". The level: " ++ settings_text picture.config picture.patience
 
 unfoldable pub description_text : Picture → List ℕ
 description_text picture =
@@ -86,7 +92,7 @@ description_text picture =
 -- what stands above the parts
 unfoldable pub notes_text : Picture → List ℕ
 notes_text picture =
-    codes "</text>\n<text class=\"note\" x=\"48\" y=\"47\">" ++ whole_text picture.numbers picture.end ++ codes "</text>\n<text class=\"note\" x=\"48\" y=\"63\">" ++ settings_text picture.config picture.patience ++ codes "</text>\n"
+    codes "</text>\n<text class=\"note\" x=\"48\" y=\"47\">" ++ whole_text picture.numbers picture.is_whole picture.from picture.long ++ codes "</text>\n<text class=\"note\" x=\"48\" y=\"63\">" ++ settings_text picture.config picture.patience ++ codes "</text>\n"
 
 unfoldable pub below_title : Picture → List ℕ
 below_title picture = notes_text picture ++ beginning_line picture.beginning.items
@@ -109,8 +115,8 @@ queue_part picture = queue_part_by picture.config.limit_response picture.strips.
 -- the parts, of which that of the requests begins at a height, and the axis so long
 unfoldable pub parts_text : Picture → (below depth : ℕ) → List ℕ
 parts_text picture below depth =
-    axis_text picture.end picture.step depth ++ seats_text picture.areas.items picture.used picture.config.limit
-    ++ queue_part picture ++ rows_text picture.rows.items picture.cutting below picture.end
+    axis_text picture.from picture.long picture.step depth ++ seats_text picture.areas.items picture.used picture.config.limit
+    ++ queue_part picture ++ rows_text picture.rows.items picture.cutting below picture.long
 
 -- where the part of the requests begins, and where the last row ends
 abbrev pub below_by : Response → (strips : ℕ) → ℕ

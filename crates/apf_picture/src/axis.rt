@@ -1,44 +1,79 @@
-//! The axis of time: its marks above and below all parts, with a line from one to the other.
+//! The axis of time: its marks above and below all parts, with a line from one to the other. They stand at whole numbers of steps
+//! from the beginning of the run. A place on the axis is how long it is after the beginning of what is drawn, in microseconds.
 
 ghost use Rattle.std.specs.Prelude.{◌≡◌, ◌<◌, ◌≤◌, ◌+◌, ◌*◌, ◌^◌, length, OnOk};
 ghost use Rattle.std.specs.Io.KnownBytes.{Appends};
-ghost use Rattle.apf_picture.specs.Parts.{all_lines, lines_text, all_labels, labels_text, axis_text, mark_line, mark_head, value_text, part_text, mark_words, mark_label, labels_head};
+ghost use Rattle.apf_picture.specs.Parts.{first_mark as the_first_mark, marked_lines, all_lines, lines_text, marked_labels, all_labels, labels_text, axis_text, mark_line, mark_head, value_text, part_text, mark_words, mark_label, labels_head};
 
 use crate::scale::{COLUMNS, Unit, scaled};
 use crate::words::{write_tenths, write_two};
 use std::io;
 use std::io::Write;
 
-// Writes the line of a mark.
-#[tactic(auto, unfolding(crate::specs::Parts::mark_line))]
-fn write_line<W: Write>(out: &mut W, end: u64, step: u64, depth: u64, mark: u64) -> io::Result<()>
-    requires { mark * step ≤ end }
-    ensures { OnOk result (Appends (W.contents out.old) (W.contents out.new) (mark_line end step depth mark)) }
+// How far behind the beginning the first mark stands.
+fn first_mark(from: u64, step: u64) -> u64
+    requires { 0 < step }
+    ensures { result ≡ the_first_mark from step }
 {
-    let x = scaled(mark * step, end, COLUMNS);
+    (step - from % step) % step
+}
+
+// Writes the line of a mark at this place.
+#[tactic(auto, unfolding(crate::specs::Parts::mark_line))]
+fn write_line<W: Write>(out: &mut W, end: u64, depth: u64, place: u64) -> io::Result<()>
+    requires { place ≤ end }
+    ensures { OnOk result (Appends (W.contents out.old) (W.contents out.new) (mark_line end depth place)) }
+{
+    let x = scaled(place, end, COLUMNS);
     write!(out, "M{x} 0v{depth}")
 }
 
-// Writes the line of each mark.
-fn write_all_lines<W: Write>(out: &mut W, end: u64, step: u64, depth: u64) -> io::Result<()>
+// Writes the line of each mark, of which the first is at this place.
+fn write_marked_lines<W: Write>(
+    out: &mut W,
+    first: u64,
+    end: u64,
+    step: u64,
+    depth: u64,
+) -> io::Result<()>
+    requires first { first ≤ end }
     requires step { 0 < step }
     requires few { end ≤ step * 10 }
-    ensures { OnOk result (Appends (W.contents out.old) (W.contents out.new) (all_lines end step depth)) }
+    ensures { OnOk result (Appends (W.contents out.old) (W.contents out.new) (marked_lines first end step depth)) }
 {
-    for mark in 0..end / step + 1 {
-        write_line(out, end, step, depth, mark)?;
+    for mark in 0..(end - first) / step + 1 {
+        write_line(out, end, depth, first + mark * step)?;
     }
     Ok(())
 }
 
-#[tactic(auto, unfolding(crate::specs::Parts::lines_text))]
-fn write_lines<W: Write>(out: &mut W, end: u64, step: u64, depth: u64) -> io::Result<()>
+// Writes the line of each mark, if there is one.
+fn write_all_lines<W: Write>(
+    out: &mut W,
+    from: u64,
+    end: u64,
+    step: u64,
+    depth: u64,
+) -> io::Result<()>
     requires step { 0 < step }
     requires few { end ≤ step * 10 }
-    ensures { OnOk result (Appends (W.contents out.old) (W.contents out.new) (lines_text end step depth)) }
+    ensures { OnOk result (Appends (W.contents out.old) (W.contents out.new) (all_lines from end step depth)) }
+{
+    let first = first_mark(from, step);
+    if first > end {
+        return Ok(());
+    }
+    write_marked_lines(out, first, end, step, depth)
+}
+
+#[tactic(auto, unfolding(crate::specs::Parts::lines_text))]
+fn write_lines<W: Write>(out: &mut W, from: u64, end: u64, step: u64, depth: u64) -> io::Result<()>
+    requires step { 0 < step }
+    requires few { end ≤ step * 10 }
+    ensures { OnOk result (Appends (W.contents out.old) (W.contents out.new) (lines_text from end step depth)) }
 {
     out.write_all(b"<g transform=\"translate(48 124)\">\n<path class=\"line\" d=\"")?;
-    write_all_lines(out, end, step, depth)?;
+    write_all_lines(out, from, end, step, depth)?;
     out.write_all(b"\"/>\n</g>\n")
 }
 
@@ -105,28 +140,58 @@ fn write_words<W: Write>(out: &mut W, unit: Unit, step: u64, time: u64) -> io::R
     write_part(out, unit, time)
 }
 
-// Writes the time of a mark.
+// Writes the time of a mark at this place.
 #[tactic(auto, unfolding(crate::specs::Parts::mark_label))]
-fn write_label<W: Write>(out: &mut W, unit: Unit, end: u64, step: u64, mark: u64) -> io::Result<()>
-    requires { mark * step ≤ end }
-    ensures { OnOk result (Appends (W.contents out.old) (W.contents out.new) (mark_label unit end step mark)) }
+fn write_label<W: Write>(
+    out: &mut W,
+    unit: Unit,
+    from: u64,
+    end: u64,
+    step: u64,
+    place: u64,
+) -> io::Result<()>
+    requires low { place ≤ end }
+    requires late { from + end < 2 ^ 64 }
+    ensures { OnOk result (Appends (W.contents out.old) (W.contents out.new) (mark_label unit from end step place)) }
 {
-    write_mark(out, scaled(mark * step, end, COLUMNS))?;
-    write_words(out, unit, step, mark * step)?;
+    write_mark(out, scaled(place, end, COLUMNS))?;
+    write_words(out, unit, step, from + place)?;
     out.write_all(b"</text>\n")
 }
 
-// Writes the time of each mark.
-fn write_all_labels<W: Write>(out: &mut W, end: u64, step: u64) -> io::Result<()>
+// Writes the time of each mark, of which the first is at this place.
+fn write_marked_labels<W: Write>(
+    out: &mut W,
+    first: u64,
+    from: u64,
+    end: u64,
+    step: u64,
+) -> io::Result<()>
+    requires first { first ≤ end }
     requires step { 0 < step }
     requires few { end ≤ step * 10 }
-    ensures { OnOk result (Appends (W.contents out.old) (W.contents out.new) (all_labels end step)) }
+    requires late { from + end < 2 ^ 64 }
+    ensures { OnOk result (Appends (W.contents out.old) (W.contents out.new) (marked_labels first from end step)) }
 {
     let unit = Unit::longest(end);
-    for mark in 0..end / step + 1 {
-        write_label(out, unit, end, step, mark)?;
+    for mark in 0..(end - first) / step + 1 {
+        write_label(out, unit, from, end, step, first + mark * step)?;
     }
     Ok(())
+}
+
+// Writes the time of each mark, if there is one.
+fn write_all_labels<W: Write>(out: &mut W, from: u64, end: u64, step: u64) -> io::Result<()>
+    requires step { 0 < step }
+    requires few { end ≤ step * 10 }
+    requires late { from + end < 2 ^ 64 }
+    ensures { OnOk result (Appends (W.contents out.old) (W.contents out.new) (all_labels from end step)) }
+{
+    let first = first_mark(from, step);
+    if first > end {
+        return Ok(());
+    }
+    write_marked_labels(out, first, from, end, step)
 }
 
 // Writes what stands before the times at this height.
@@ -142,25 +207,33 @@ fn write_labels_head<W: Write>(out: &mut W, y: u64) -> io::Result<()>
 
 // Writes the times of the marks at this height.
 #[tactic(auto, unfolding(crate::specs::Parts::labels_text))]
-fn write_labels<W: Write>(out: &mut W, end: u64, step: u64, y: u64) -> io::Result<()>
+fn write_labels<W: Write>(out: &mut W, from: u64, end: u64, step: u64, y: u64) -> io::Result<()>
     requires step { 0 < step }
     requires few { end ≤ step * 10 }
-    ensures { OnOk result (Appends (W.contents out.old) (W.contents out.new) (labels_text end step y)) }
+    requires late { from + end < 2 ^ 64 }
+    ensures { OnOk result (Appends (W.contents out.old) (W.contents out.new) (labels_text from end step y)) }
 {
     write_labels_head(out, y)?;
-    write_all_labels(out, end, step)?;
+    write_all_labels(out, from, end, step)?;
     out.write_all(b"</g>\n")
 }
 
-/// Writes the axis of a run of this length, with lines this many pixels long.
+/// Writes the axis of the stretch of a run from this time on, of this length, with lines this many pixels long.
 #[tactic(auto, unfolding(crate::specs::Parts::axis_text))]
-pub(crate) fn write_axis<W: Write>(out: &mut W, end: u64, step: u64, depth: u64) -> io::Result<()>
+pub(crate) fn write_axis<W: Write>(
+    out: &mut W,
+    from: u64,
+    end: u64,
+    step: u64,
+    depth: u64,
+) -> io::Result<()>
     requires step { 0 < step }
     requires few { end ≤ step * 10 }
+    requires late { from + end < 2 ^ 64 }
     requires depth { depth < 2 ^ 41 }
-    ensures { OnOk result (Appends (W.contents out.old) (W.contents out.new) (axis_text end step depth)) }
+    ensures { OnOk result (Appends (W.contents out.old) (W.contents out.new) (axis_text from end step depth)) }
 {
-    write_lines(out, end, step, depth)?;
-    write_labels(out, end, step, 118)?;
-    write_labels(out, end, step, depth + 138)
+    write_lines(out, from, end, step, depth)?;
+    write_labels(out, from, end, step, 118)?;
+    write_labels(out, from, end, step, depth + 138)
 }

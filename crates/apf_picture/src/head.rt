@@ -2,7 +2,7 @@
 
 ghost use Rattle.std.specs.Prelude.{◌≡◌, ◌<◌, ◌≤◌, ◌+◌, ◌*◌, ◌^◌, length, OnOk};
 ghost use Rattle.std.specs.Io.KnownBytes.{Appends};
-ghost use Rattle.apf_picture.specs.Heads.{size_text, page_text, counts_text, schema_text, settings_text, queue_settings, reject_settings, whole_text, facts_text, shared_sentence, schema_sentence, subject, sentence, sentences, beginning_words, beginning_text, own_line, beginning_line};
+ghost use Rattle.apf_picture.specs.Heads.{size_text, page_text, counts_text, schema_text, settings_text, queue_settings, reject_settings, run_text, stretch_text, length_text, whole_text, facts_text, shared_sentence, schema_sentence, subject, sentence, sentences, beginning_words, beginning_text, own_line, beginning_line};
 ghost use Rattle.apf_picture.specs.Labels.{shown_schema};
 
 use crate::names::{write_name, write_whole_label, write_whole_name};
@@ -87,15 +87,54 @@ pub(crate) fn write_settings<W: Write>(
     }
 }
 
-/// Writes the numbers of all requests, and how long the run was.
-#[tactic(auto, unfolding(crate::specs::Heads::whole_text))]
-pub(crate) fn write_whole<W: Write>(out: &mut W, numbers: &Numbers, end: u64) -> io::Result<()>
-    ensures { OnOk result (Appends (W.contents out.old) (W.contents out.new) (whole_text numbers.now end)) }
+// Writes how long the run was.
+#[tactic(auto, unfolding(crate::specs::Heads::run_text))]
+fn write_run<W: Write>(out: &mut W, end: u64) -> io::Result<()>
+    ensures { OnOk result (Appends (W.contents out.old) (W.contents out.new) (run_text end)) }
 {
-    write_numbers(out, numbers)?;
     out.write_all(b", ")?;
     write_time(out, end)?;
     out.write_all(b" in all")
+}
+
+// Writes from when until when the stretch of the run is that is drawn.
+#[tactic(auto, unfolding(crate::specs::Heads::stretch_text))]
+fn write_stretch<W: Write>(out: &mut W, from: u64, end: u64) -> io::Result<()>
+    requires late { from + end < 2 ^ 64 }
+    ensures { OnOk result (Appends (W.contents out.old) (W.contents out.new) (stretch_text from end)) }
+{
+    out.write_all(b", from ")?;
+    write_time(out, from)?;
+    out.write_all(b" to ")?;
+    write_time(out, from + end)
+}
+
+// Writes how long the run was, or from when until when the stretch of it is that is drawn.
+fn write_length<W: Write>(out: &mut W, is_whole: bool, from: u64, end: u64) -> io::Result<()>
+    requires late { from + end < 2 ^ 64 }
+    ensures { OnOk result (Appends (W.contents out.old) (W.contents out.new) (length_text is_whole from end)) }
+{
+    if is_whole {
+        write_run(out, end)
+    } else {
+        write_stretch(out, from, end)
+    }
+}
+
+/// Writes the numbers of all requests, and how long the run was, or which stretch of it is drawn.
+#[tactic(auto, unfolding(crate::specs::Heads::whole_text))]
+pub(crate) fn write_whole<W: Write>(
+    out: &mut W,
+    numbers: &Numbers,
+    is_whole: bool,
+    from: u64,
+    end: u64,
+) -> io::Result<()>
+    requires late { from + end < 2 ^ 64 }
+    ensures { OnOk result (Appends (W.contents out.old) (W.contents out.new) (whole_text numbers.now is_whole from end)) }
+{
+    write_numbers(out, numbers)?;
+    write_length(out, is_whole, from, end)
 }
 
 /// Writes the most seats that were in use, how many queues were used, and the most requests that waited in one.

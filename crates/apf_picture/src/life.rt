@@ -1,7 +1,7 @@
 //! What is drawn of one request.
 
-ghost use Rattle.std.specs.Prelude.{◌≡◌, ◌<◌, ◌≤◌, length, vec_len, All, IfOk};
-ghost use Rattle.apf_picture.specs.Lives.{fate_of, later_by, seats_by, life_by, lives_by};
+ghost use Rattle.std.specs.Prelude.{◌≡◌, ◌<◌, ◌≤◌, length, map, vec_len, All, IfOk};
+ghost use Rattle.apf_picture.specs.Lives.{fate_of, later_by, seats_by, life_by, lives_by, life_seen, queue_seen, seen_at};
 
 use crate::scene::Outcome;
 use apf_traces::TraceRequest;
@@ -103,4 +103,52 @@ pub(crate) fn lives(
         lives.push(request_life(request, outcomes[number], row))?;
     }
     Ok(lives)
+}
+
+// A time as the stretch from this time on shows it, which is so long.
+fn seen_time(time: u64, from: u64, long: u64) -> u64
+    ensures { result ≡ seen_at from long time }
+{
+    let behind = time.saturating_sub(from);
+    if behind <= long { behind } else { long + 1 }
+}
+
+// The queue of a request that waited from this time on.
+fn seen_queue(life: &Life, from: u64) -> Option<u32>
+    ensures { result ≡ queue_seen from life.now }
+{
+    if from <= life.until { life.queue } else { None }
+}
+
+// A request as the stretch from this time on shows it, which is so long.
+fn seen_life(life: &Life, from: u64, long: u64) -> Life
+    ensures { result ≡ life_seen from long life.now }
+{
+    Life {
+        row: life.row,
+        fate: life.fate,
+        arrives: seen_time(life.arrives, from, long),
+        until: seen_time(life.until, from, long),
+        ends: seen_time(life.ends, from, long),
+        seats: life.seats,
+        wait: life.wait,
+        queue: seen_queue(life, from),
+    }
+}
+
+/// What the stretch from this time on shows of each request, which is so long.
+pub(crate) fn seen(
+    alloc: Global,
+    lives: &[Life],
+    from: u64,
+    long: u64,
+) -> Result<Vec<Life>, AllocError>
+    ensures seen { IfOk result (λ seen. seen.items ≡ map (life_seen from long) lives.now) }
+    ensures each { IfOk result (λ seen. vec_len seen ≡ length lives.now) }
+{
+    let mut seen = Vec::new(alloc);
+    for life in lives {
+        seen.push(seen_life(life, from, long))?;
+    }
+    Ok(seen)
 }

@@ -11,7 +11,7 @@ use crate::head::{
     write_schema_sentence, write_sentences, write_settings, write_size, write_whole,
 };
 use crate::label::shared_schema;
-use crate::life::lives;
+use crate::life::{lives, seen};
 use crate::queues::{high, write_queues};
 use crate::rank::{OWN_ROWS, own_flows};
 use crate::requests::{height, write_rows};
@@ -26,12 +26,15 @@ use std::alloc::{AllocError, Global};
 use std::io;
 use std::io::Write;
 
-/// A picture of a run.
+/// A picture of a run, or of a stretch of it.
 #[derive(Drop)]
 pub struct Picture {
     config: Config,
     patience: u64,
-    end: u64,
+    // The stretch that is drawn: when it begins, how long it is, and whether that is the whole run.
+    from: u64,
+    long: u64,
+    is_whole: bool,
     // The distance of the axis' marks.
     step: u64,
     flows: u32,
@@ -47,7 +50,8 @@ pub struct Picture {
     // The most seats in use.
     used: u64,
     ghost step_is_some: { 0 < step },
-    ghost few_marks: { end ≤ step * 10 },
+    ghost few_marks: { long ≤ step * 10 },
+    ghost late: { from + long < 2 ^ 64 },
     ghost few_rows: { vec_len rows ≤ 13 },
     ghost few_strips: { vec_len strips < 2 ^ 31 },
 }
@@ -64,7 +68,7 @@ impl Picture {
     ghost use Rattle.std.specs.Prelude.{All, IfOk};
     ghost use Rattle.apf_picture.specs.Pictures.{IsPictureOf, title_text, level_text, description_text, whole_title, title_element, notes_text, below_title, above_text, head_text, below_of, queue_part, parts_text, picture_text};
 
-    /// The picture of a run.
+    /// The picture of a run, or of a stretch of it.
     ///
     /// # Errors
     ///
@@ -83,7 +87,9 @@ impl Picture {
         let flows = firsts.len() as u32;
         let own = own_flows(alloc, scene.outcomes, of, flows)?;
         let rows_of = crate::rank::rows(alloc, own.as_slice(), flows)?;
+        let long = scene.end.saturating_sub(scene.from);
         let lives = lives(alloc, scene.trace, scene.outcomes, of, rows_of.as_slice())?;
+        let lives = seen(alloc, lives.as_slice(), scene.from, long)?;
         let schema = shared_schema(alloc, scene.trace, firsts)?;
         let rows = crate::row::rows(
             alloc,
@@ -98,16 +104,18 @@ impl Picture {
         Ok(Picture {
             config: scene.config,
             patience: scene.patience,
-            end: scene.end,
-            step: step(scene.end, Unit::of(scene.end).length()),
+            from: scene.from,
+            long,
+            is_whole: scene.is_whole,
+            step: step(long, Unit::of(long).length()),
             flows,
             schema,
             numbers: Numbers::of(lives.as_slice()),
             rows,
             beginning,
             cutting,
-            areas: areas(alloc, lives.as_slice(), flows.min(OWN_ROWS + 1), scene.end)?,
-            strips: strips(alloc, lives.as_slice(), scene.end)?,
+            areas: areas(alloc, lives.as_slice(), flows.min(OWN_ROWS + 1), long)?,
+            strips: strips(alloc, lives.as_slice(), long)?,
             used: most_seats(alloc, lives.as_slice())?,
         })
     }
@@ -129,7 +137,7 @@ impl Picture {
         ensures { OnOk result (Appends (W.contents out.old) (W.contents out.new) (level_text self.now)) }
     {
         out.write_all(b"<desc id=\"desc\">")?;
-        write_whole(out, &self.numbers, self.end)?;
+        write_whole(out, &self.numbers, self.is_whole, self.from, self.long)?;
         out.write_all(b". The level: ")?;
         write_settings(out, &self.config, self.patience)
     }
@@ -172,7 +180,7 @@ impl Picture {
         ensures { OnOk result (Appends (W.contents out.old) (W.contents out.new) (notes_text self.now)) }
     {
         out.write_all(b"</text>\n<text class=\"note\" x=\"48\" y=\"47\">")?;
-        write_whole(out, &self.numbers, self.end)?;
+        write_whole(out, &self.numbers, self.is_whole, self.from, self.long)?;
         out.write_all(b"</text>\n<text class=\"note\" x=\"48\" y=\"63\">")?;
         write_settings(out, &self.config, self.patience)?;
         out.write_all(b"</text>\n")
@@ -241,7 +249,7 @@ impl Picture {
         requires depth { depth < 2 ^ 41 }
         ensures { OnOk result (Appends (W.contents out.old) (W.contents out.new) (parts_text self.now below depth)) }
     {
-        write_axis(out, self.end, self.step, depth)?;
+        write_axis(out, self.from, self.long, self.step, depth)?;
         write_seats(
             out,
             self.areas.as_slice(),
@@ -249,7 +257,7 @@ impl Picture {
             u64::from(self.config.limit),
         )?;
         self.write_queue_part(out)?;
-        write_rows(out, self.rows.as_slice(), self.cutting, below, self.end)
+        write_rows(out, self.rows.as_slice(), self.cutting, below, self.long)
     }
 
     /// Writes the picture as an SVG.

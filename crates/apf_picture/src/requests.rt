@@ -2,7 +2,7 @@
 
 ghost use Rattle.std.specs.Prelude.{◌≡◌, ◌<◌, ◌≤◌, ◌+◌, ◌*◌, ◌^◌, length, sum_by, slice_get, Some, OnOk};
 ghost use Rattle.std.specs.Io.KnownBytes.{Appends};
-ghost use Rattle.apf_picture.specs.Bars.{bar_text, bar_by, bars_text, rejected_tick, rejected_text, given_up_tick, given_up_text, back_text, stroke_text, plot_head, plot_text, ticks_head, ticks_text, triangles_text, row_place, colour_text, row_head, height_of, row_words, row_drawing, row_text, all_rows, heading_place, rows_heading, rows_text};
+ghost use Rattle.apf_picture.specs.Bars.{bar_text, bar_by, bars_text, rejected_tick, rejected_text, given_up_tick, given_up_shown, given_up_text, back_text, stroke_text, plot_head, plot_text, ticks_head, ticks_text, triangles_text, row_place, colour_text, row_head, height_of, row_words, row_drawing, row_text, all_rows, heading_place, rows_heading, rows_text};
 ghost use Rattle.apf_picture.specs.Rows.{lives_in};
 
 use crate::cutting::Cutting;
@@ -78,6 +78,16 @@ fn write_given_up_tick<W: Write>(out: &mut W, life: &Life, end: u64) -> io::Resu
     write!(out, "M{x} 0l3 7h-6z")
 }
 
+// Writes the tick of a request that gave up, if that is no later than what is drawn.
+fn write_given_up_shown<W: Write>(out: &mut W, life: &Life, end: u64) -> io::Result<()>
+    ensures { OnOk result (Appends (W.contents out.old) (W.contents out.new) (given_up_shown end life.now)) }
+{
+    if life.until > end {
+        return Ok(());
+    }
+    write_given_up_tick(out, life, end)
+}
+
 // Writes the ticks of the rejected requests.
 fn write_rejected<W: Write>(out: &mut W, lives: &[Life], end: u64) -> io::Result<()>
     ensures { OnOk result (Appends (W.contents out.old) (W.contents out.new) (rejected_text lives.now end)) }
@@ -97,7 +107,7 @@ fn write_given_up<W: Write>(out: &mut W, lives: &[Life], end: u64) -> io::Result
 {
     for life in lives {
         match life.fate {
-            Fate::GaveUp => write_given_up_tick(out, life, end)?,
+            Fate::GaveUp => write_given_up_shown(out, life, end)?,
             Fate::Executed | Fate::Rejected => {}
         }
     }

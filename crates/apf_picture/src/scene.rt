@@ -15,16 +15,20 @@ pub struct Outcome {
     pub queue: Option<u32>,
 }
 
-/// A run of a level on the requests of a trace.
+/// A run of a level on the requests of a trace, or a stretch of it.
 #[derive(Clone, Copy)]
 pub struct Scene<'a> {
     /// What the level was opened with.
     pub config: Config,
     /// How long a request waits at most, in microseconds. 0: nobody gives up.
     pub patience: u64,
-    /// When the run ended, in microseconds.
+    /// When the stretch begins that is drawn, in microseconds: 0 of a whole run.
+    pub from: u64,
+    /// When it ends, in microseconds: of a whole run when the run ended.
     pub end: u64,
-    /// The requests, at most 10,000.
+    /// Whether that is the whole run.
+    pub is_whole: bool,
+    /// The requests that are there at some moment of the stretch, at most 10,000.
     pub trace: &'a [TraceRequest],
     /// The flows of the trace.
     pub flows: &'a Flows,

@@ -51,7 +51,9 @@ pub(crate) fn picture_of<R: Abort>(
     let scene = Scene {
         config: CONFIG,
         patience: 90,
+        from: 0,
         end,
+        is_whole: true,
         trace,
         flows: &flows,
         outcomes,

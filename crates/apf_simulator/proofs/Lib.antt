@@ -5,5 +5,6 @@ pub mod Handed
 pub mod Holding
 pub mod Laning
 pub mod Showing
+pub mod Windowed
 pub mod Turns
 pub mod Whole

@@ -12,7 +12,7 @@ use Rattle.std.proofs.lemmas.List.Sorted.{All-permutation, IsPermutation-map}
 use Rattle.apf_traces.specs.declared.request.TraceRequest.{TraceRequest}
 use Rattle.apf_stream.specs.declared.ended.Ended.{Ended}
 use Rattle.apf_simulator.specs.Fates.{fate_text, fates_header}
-use Rattle.apf_simulator.specs.Hearing.{AllTold, AreHeld, AreListed, AreParts, Fate, Holds, IsFate, IsHeldOf, Tells, TellsStill, came_more, line_before}
+use Rattle.apf_simulator.specs.Hearing.{AllTold, AreHeld, AreParts, Fate, IsFate, IsHeldOf, Tells, TellsStill, came_more, line_before}
 use Rattle.apf_simulator.specs.Turns.{Turn, came_by, told_by}
 use Rattle.apf_simulator.specs.declared.held.Held.{Held}
 use Rattle.apf_simulator.specs.declared.listed.Listed.{Listed}
@@ -68,7 +68,7 @@ tells_all before was now turns b held still none t = record {
 abbrev pub Takes : Option Came → List Ended → List Held → List Held → Type 0
 Takes came ends old new = (all : List Came) (told : List Ended) → AreHeld all told old → AreHeld (came_more all came) (told ++ ends) new
 
-held_then : (turns : List Turn) (came : Option Came) (ends : List Ended) (back : List Came) (old new : List Held) → Takes came ends old new → AreHeld back (told_by turns) old
+pub held_then : (turns : List Turn) (came : Option Came) (ends : List Ended) (back : List Came) (old new : List Held) → Takes came ends old new → AreHeld back (told_by turns) old
     → AreHeld (came_more back came) (told_by (turns ++ record { came = came; ends = ends } ∷ [])) new
 held_then turns came ends back old new takes held =
     subst (λ (l : List Ended). AreHeld (came_more back came) l new) (sym (told_then turns (record { came = came; ends = ends }))) (takes back (told_by turns) held)
@@ -86,25 +86,6 @@ tells_more before now turns b came ends old new takes t =
       told = subst (λ (l : List Ended). AllByRecursion (IsFate l) t.fates) (sym (told_then turns turn)) (fates_more (told_by turns) ends t.fates t.told);
       held_are = held_then turns came ends t.back old new takes t.held_are;
     }
-
--- one turn more, of which nothing is told
-pub holds_more : (before now : Option (List ℕ)) (turns : List Turn) (came : Option Came) (ends : List Ended) (old new : List Held) → Takes came ends old new → Keeps before now
-    → AreHeld (came_by turns) (told_by turns) old → Holds before now (turns ++ record { came = came; ends = ends } ∷ []) new
-holds_more before now turns came ends old new takes kept held =
-    let turn : Turn = record { came = came; ends = ends } in record {
-      kept = kept;
-      held_are = subst (λ (l : List Came). AreHeld l (told_by (turns ++ turn ∷ [])) new) (sym (came_then turns turn)) (held_then turns came ends (came_by turns) old new takes held);
-    }
-
--- who is held, in another order
-pub listed : (came : List Came) (told : List Ended) (held sorted : List Held) (l : Listed) → AreHeld came told held → IsPermutation held sorted → IsSortedBy line_before sorted → AreParts sorted l.requests.items l.ends.items → AreListed came told l
-listed came told held sorted l are same order parts = record {
-  held = sorted;
-  all = subst (λ (c : List Came). IsPermutation c (map came_of sorted)) are.are (IsPermutation-map came_of held sorted same);
-  order = order;
-  known = recursion_from_All (IsHeldOf told) sorted (All-permutation (IsHeldOf told) held sorted same (All-from_recursion (IsHeldOf told) held are.known));
-  parts = parts;
-}
 
 parts_many : (held : List Held) (requests : List TraceRequest) (ends : List Ended) → AreParts held requests ends → (length requests ≡ length held) × (length ends ≡ length held)
 parts_many [] [] [] parts = (refl, refl)

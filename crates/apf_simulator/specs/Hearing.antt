@@ -8,8 +8,10 @@ use Rattle.apf_traces.specs.declared.request.TraceRequest.{TraceRequest}
 use Rattle.apf_stream.specs.declared.ended.Ended.{Ended}
 use Rattle.apf_simulator.specs.Fates.{fate_text, fates_header}
 use Rattle.apf_simulator.specs.Turns.{Turn, came_by, told_by}
+use Rattle.apf_simulator.specs.Windows.{is_there, stays}
 use Rattle.std.specs.List.Sorted.{IsSortedBy}
 use Rattle.apf_simulator.specs.declared.held.Held.{Held}
+use Rattle.apf_simulator.specs.declared.held.TimeWindow.{TimeWindow}
 use Rattle.apf_simulator.specs.declared.listed.Listed.{Listed}
 
 -- a request that came, with what became of it
@@ -51,10 +53,19 @@ pub record Tells (before now : Option (List ℕ)) (turns : List Turn) (has_begun
   pub told : AllByRecursion (IsFate (told_by turns)) fates
   pub held_are : AreHeld back (told_by turns) held
 
--- nothing is written, and who came in these turns is held
-pub record Holds (before now : Option (List ℕ)) (turns : List Turn) (held : List Held) : Type 0 where
+-- it was not there in the window
+abbrev pub IsOutside : TimeWindow → Fate → Type 0
+IsOutside w f = is_there w f.came f.ended ≡ false
+
+-- nothing is written; of who came in these turns some are held, and the others are over and were not there in the window
+pub record Holds (window : TimeWindow) (before now : Option (List ℕ)) (turns : List Turn) (held : List Held) : Type 0 where
   pub kept : Keeps before now
-  pub held_are : AreHeld (came_by turns) (told_by turns) held
+  pub back : List (Arrival TraceRequest)
+  pub held_are : AreHeld back (told_by turns) held
+  pub out : List Fate
+  pub all : IsPermutation (came_by turns) (back ++ map (λ (f : Fate). f.came) out)
+  pub told : AllByRecursion (IsFate (told_by turns)) out
+  pub outside : AllByRecursion (IsOutside window) out
 
 -- what is written so far, where the names of the columns are written now if they were not before
 abbrev pub TellsStill : Option (List ℕ) → Bool → Option (List ℕ) → Bool → Type 0
@@ -92,10 +103,18 @@ AreParts (h ∷ held) (r ∷ requests) (e ∷ ends) = (h.came.item ≡ r) × (h.
 abbrev pub line_before : Held → Held → Bool
 line_before a b = nat_lt a.came.place.line b.came.place.line
 
--- those that came, each with what became of it, in the order of their lines
-pub record AreListed (came : List (Arrival TraceRequest)) (told : List Ended) (l : Listed) : Type 0 where
+-- it is not over, or was there in the window
+abbrev pub Stays : TimeWindow → Held → Type 0
+Stays w h = stays w h ≡ true
+
+-- Of those that came, just those are listed that were there in the window, each with what became of it, in the order of their lines. Of each of the others it was told what became of it, and it was not there.
+pub record AreListed (window : TimeWindow) (came : List (Arrival TraceRequest)) (told : List Ended) (l : Listed) : Type 0 where
   pub held : List Held
-  pub all : IsPermutation came (map (λ (h : Held). h.came) held)
+  pub out : List Fate
+  pub all : IsPermutation came (map (λ (h : Held). h.came) held ++ map (λ (f : Fate). f.came) out)
   pub order : IsSortedBy line_before held
   pub known : AllByRecursion (IsHeldOf told) held
+  pub there : AllByRecursion (Stays window) held
+  pub told_out : AllByRecursion (IsFate told) out
+  pub outside : AllByRecursion (IsOutside window) out
   pub parts : AreParts held l.requests.items l.ends.items

@@ -1,5 +1,6 @@
 pub mod Lanes
 pub mod Turns
+pub mod Windows
 pub mod Feeds
 pub mod Fates
 pub mod Calls

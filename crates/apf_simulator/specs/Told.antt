@@ -22,6 +22,7 @@ use Rattle.apf_traces.specs.declared.request.TraceRequest.{TraceRequest}
 use Rattle.apf_simulator.specs.Lanes.{IsLane, LaneView}
 use Rattle.apf_simulator.specs.Runs.{HasRunAll, HasRunToo}
 use Rattle.apf_simulator.specs.Turns.{Turn, came_by, told_by}
+use Rattle.apf_simulator.specs.declared.held.TimeWindow.{TimeWindow}
 use Rattle.apf_simulator.specs.declared.listed.Listed.{Listed}
 
 -- the whole trace ran, and the fate of each request was told
@@ -38,12 +39,12 @@ pub record HasToldCalls (config : Config) (patience : ℕ) (by : Option ChargedB
   pub ran : HasRunAll config patience by size was left turns lane
   pub written : Appends before after (script_text (calls_by turns))
 
--- the whole trace ran, and these are its requests, each with what became of it, and the time when the last was over
-pub record HasListed (config : Config) (patience : ℕ) (by : Option ChargedBy) (size : ℕ) (was left : Option (List ℕ)) (l : Listed) : Type 0 where
+-- the whole trace ran, and these are its requests that were there in the window, each with what became of it, and the time when the last of all was over
+pub record HasListed (window : TimeWindow) (config : Config) (patience : ℕ) (by : Option ChargedBy) (size : ℕ) (was left : Option (List ℕ)) (l : Listed) : Type 0 where
   pub turns : List Turn
   pub lane : LaneView
   pub ran : HasRunAll config patience by size was left turns lane
-  pub listed : AreListed (came_by turns) (told_by turns) l
+  pub listed : AreListed window (came_by turns) (told_by turns) l
   pub end : l.end ≡ lane.rows.all.sums.last
 
 -- both sides of the bound are printed only if they are asked for

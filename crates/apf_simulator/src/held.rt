@@ -5,7 +5,9 @@ ghost use Rattle.std.specs.VecDeque.{deque_len};
 ghost use Rattle.apf_times.specs.declared.window.Arrival.{Arrival as ArrivalOf};
 ghost use Rattle.apf_traces.specs.declared.request.TraceRequest.{TraceRequest as RequestOf};
 ghost use Rattle.apf_stream.specs.declared.ended.Ended.{Ended as EndedOf};
+ghost use Rattle.std.specs.List.{filter};
 ghost use Rattle.apf_simulator.specs.Hearing.{AreHeld, came_more, GoesToOne};
+ghost use Rattle.apf_simulator.specs.Windows.{stays};
 
 use crate::fault::SimulatorFault;
 use apf_stream::Ended;
@@ -26,6 +28,59 @@ pub struct Held {
 #[derive(Drop)]
 pub(crate) struct HeldList {
     held: VecDeque<Held>,
+}
+
+/// A stretch of a run: from a time on, up to another one, if there is one, in microseconds. Both belong to it.
+#[derive(Clone, Copy, Debug, PartialEq, Eq)]
+pub struct TimeWindow {
+    pub from: u64,
+    pub to: Option<u64>,
+}
+
+impl TimeWindow {
+    ghost use Rattle.std.specs.Prelude.{ℕ, ◌≡◌, None};
+    ghost use Rattle.apf_simulator.specs.Windows.{is_by, is_there, is_whole, stays_by};
+
+    /// The whole run.
+    pub fn whole() -> TimeWindow
+        ensures { result ≡ record { from = 0; to = None } }
+    {
+        TimeWindow { from: 0, to: None }
+    }
+
+    // Whether it is the whole run.
+    pub(crate) fn is_whole(self) -> bool
+        ensures { result ≡ is_whole self }
+    {
+        self.from == 0 && self.to.is_none()
+    }
+
+    // Whether the time is no later than its end.
+    fn is_by_end(self, time: u64) -> bool
+        ensures { result ≡ is_by time self.to }
+    {
+        match self.to {
+            Some(to) => time <= to,
+            None => true,
+        }
+    }
+
+    // Whether a request of which this became was there at some moment of it.
+    fn has(self, came: &Arrival<TraceRequest>, ended: &Ended) -> bool
+        ensures { result ≡ is_there self came.now ended.now }
+    {
+        self.is_by_end(came.item.arrives_at) && self.from <= ended.over_at
+    }
+
+    // Whether a request is held on: it is not over, or was there at some moment of it.
+    fn holds(self, held: &Held) -> bool
+        ensures { result ≡ stays_by self held.now.came held.now.ended }
+    {
+        match &held.ended {
+            Some(ended) => self.has(&held.came, ended),
+            None => true,
+        }
+    }
 }
 
 impl Model for HeldList {
@@ -114,6 +169,13 @@ impl HeldList {
         }
         self.end_all(ends)?;
         Ok(())
+    }
+
+    /// Lets those go that are over and were not there in the window.
+    pub(crate) fn keep(&mut self, window: TimeWindow)
+        ensures { self.new ≡ filter (stays window) self.old }
+    {
+        self.held.retain(|it| window.holds(it));
     }
 
     /// All of them, in the order in which they came.

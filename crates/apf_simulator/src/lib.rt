@@ -4,7 +4,8 @@
 //! - `lane`: a level with what its requests came to. `lanes`: one or two of them, on which the same requests run.
 //! - `listener`: who is told what runs on a lane. `held`: requests that came, with what became of those that were told.
 //! - `telling`: tells what became of each request, in the order in which they came. `fates`: the lines of that.
-//! - `timeline`: the script of the calls. `listed`: the requests with what became of each, in the order of their lines.
+//! - `timeline`: the script of the calls. `listed`: the requests that were there in a stretch of the run,
+//!   with what became of each, in the order of their lines.
 //! - `sides`: the line of both sides of the bound.
 //! - `counting`: each request that is told is counted.
 //! - `feeding`: runs each request of a trace on the lanes. `fault`: why a trace is not simulated.
@@ -32,6 +33,7 @@ mod timeline;
 
 pub use comparing::compare;
 pub use fault::SimulatorFault;
+pub use held::TimeWindow;
 pub use lane::{Lane, MOST_SLOTS};
 pub use lanes::Lanes;
 pub use listed::{Listed, MOST_LISTED};

@@ -1,4 +1,4 @@
-//! The requests of a trace, each with what became of it, in the order of their lines.
+//! The requests of a trace that were there in a stretch of the run, each with what became of it, in the order of their lines.
 
 ghost use Rattle.std.specs.Prelude.{◌≡◌, ◌≤◌, ◌++◌, ◌∷◌, ℕ, [], List, length, Option, IfOk, OnOk, IsPermutation};
 ghost use Rattle.std.specs.List.Sorted.{IsSortedBy};
@@ -6,7 +6,7 @@ ghost use Rattle.apf_simulator.specs.Hearing.{AreListed, AreParts, Holds, line_b
 ghost use Rattle.apf_simulator.specs.Turns.{Turn, came_by, told_by};
 
 use crate::fault::SimulatorFault;
-use crate::held::{Held, HeldList};
+use crate::held::{Held, HeldList, TimeWindow};
 use crate::listener::Listener;
 use apf_stream::Ended;
 use apf_times::Arrival;
@@ -17,19 +17,23 @@ use std::io::Write;
 /// How many requests may be listed: as many as a script may have.
 pub const MOST_LISTED: u32 = 10_000;
 
-/// The requests of a trace, each with what became of it, in the order of their lines.
+/// The requests of a trace that were there in a stretch of the run, each with what became of it, in the order of their lines.
 #[derive(Drop)]
 pub struct Listed {
     pub requests: Vec<TraceRequest>,
     pub ends: Vec<Ended>,
-    /// When the last of them was over, in microseconds.
+    /// When the last of all requests was over, in microseconds.
     pub end: u64,
 }
 
-/// Lists the requests that come.
+/// Lists the requests that come. Who is over and was not there in the window is let go once twice as many are held as may be
+/// listed: before the window begins, half of these are over. Of a whole run nobody is let go.
 #[derive(Drop)]
 pub(crate) struct Listing {
     held: HeldList,
+    window: TimeWindow,
+    // how many may be held
+    most: usize,
 }
 
 // Puts a request behind those before it, and what became of it.
@@ -76,26 +80,56 @@ fn put_in_order(held: &mut Vec<Held>)
 
 impl Listing {
     /// Nobody came.
-    pub(crate) fn new(alloc: Global) -> Listing
-        ensures { result.held ≡ [] }
+    pub(crate) fn new(alloc: Global, window: TimeWindow) -> Listing
+        ensures nobody { result.held ≡ [] }
+        ensures window { result.window ≡ window }
     {
+        let most = MOST_LISTED as usize;
         Listing {
             held: HeldList::new(alloc),
+            window,
+            most: if window.is_whole() { most } else { 2 * most },
         }
     }
 
-    /// All of them, where the last was over then.
+    // No more are held than may be.
+    fn make_room(&mut self) -> Result<(), SimulatorFault>
+        ensures held { OnOk result ((before now : Option (List ℕ)) (turns : List Turn) → Holds self.old.window before now turns self.old.held → Holds self.old.window before now turns self.new.held) }
+        ensures window { self.new.window ≡ self.old.window }
+    {
+        if self.held.len() <= self.most {
+            return Ok(());
+        }
+        self.held.keep(self.window);
+        if self.held.len() > self.most {
+            return Err(SimulatorFault::TooManyListed);
+        }
+        Ok(())
+    }
+
+    /// All that were there in the window, which is the list's own, where the last of all was over then.
     ///
     /// # Errors
     ///
     /// `NoMemory`; `StillWaits` if somebody was not over; and `TooManyListed`.
-    pub(crate) fn close(self, alloc: Global, end: u64) -> Result<Listed, SimulatorFault>
-        ensures listed { IfOk result (λ l. (before now : Option (List ℕ)) (turns : List Turn) → Holds before now turns self.held → AreListed (came_by turns) (told_by turns) l) }
+    pub(crate) fn close(
+        self,
+        alloc: Global,
+        window: TimeWindow,
+        end: u64,
+    ) -> Result<Listed, SimulatorFault>
+        ensures listed { IfOk result (λ l. (before now : Option (List ℕ)) (turns : List Turn) → Holds self.window before now turns self.held → AreListed window (came_by turns) (told_by turns) l) }
         ensures few { IfOk result (λ l. length l.requests.items ≤ 10000) }
         ensures each { IfOk result (λ l. length l.ends.items ≡ length l.requests.items) }
         ensures end { IfOk result (λ l. l.end ≡ end) }
     {
-        let mut held = self.held.into_vec();
+        if self.window != window {
+            // never, since a list's window stays
+            return Err(SimulatorFault::StillWaits);
+        }
+        let mut list = self.held;
+        list.keep(window);
+        let mut held = list.into_vec();
         if held.len() > MOST_LISTED as usize {
             return Err(SimulatorFault::TooManyListed);
         }
@@ -110,7 +144,7 @@ impl Listing {
 }
 
 impl Listener for Listing {
-    ghost heard = { λ before now turns listing. Holds before now turns listing.held };
+    ghost heard = { λ before now turns listing. Holds listing.window before now turns listing.held };
 
     fn hear<W: Write>(
         &mut self,
@@ -118,9 +152,7 @@ impl Listener for Listing {
         ends: &[Ended],
         _out: &mut W,
     ) -> Result<(), SimulatorFault> {
-        if self.held.len() > MOST_LISTED as usize {
-            return Err(SimulatorFault::TooManyListed);
-        }
+        self.make_room()?;
         self.held.take(came, ends)?;
         Ok(())
     }

@@ -14,6 +14,7 @@ ghost use Rattle.apf_simulator.specs.Turns.{Begins};
 use crate::charge::charge_or_usual;
 use crate::fault::SimulatorFault;
 use crate::feeding::{Next, feed_all, read_first};
+use crate::held::TimeWindow;
 use crate::lane::{Lane, MOST_SLOTS};
 use crate::lanes::Lanes;
 use crate::listed::{Listed, Listing};
@@ -263,8 +264,8 @@ pub fn write_timeline<R: Read, W: Write>(
     Ok(())
 }
 
-/// Runs a trace of at most 10,000 requests on the level of this config as `simulate` does, and lists its requests, each with what
-/// became of it. Nothing is written.
+/// Runs a trace on the level of this config as `simulate` does, and lists its requests that were there at some moment of the
+/// window, at most 10,000, each with what became of it. Nothing is written.
 ///
 /// # Errors
 ///
@@ -273,6 +274,7 @@ pub fn list<R: Read, W: Write>(
     alloc: Global,
     config: &Config,
     terms: Terms,
+    window: TimeWindow,
     reader: &mut TraceReader,
     input: &mut R,
     out: &mut W,
@@ -282,11 +284,11 @@ pub fn list<R: Read, W: Write>(
     ensures few { IfOk result (λ l. length l.requests.items ≤ 10000) }
     ensures each { IfOk result (λ l. length l.ends.items ≡ length l.requests.items) }
     ensures listed { IfOk result (λ l. HasRead [] [] (R.remaining input.old) reader.old
-        → HasListed config.now terms.patience terms.by reader.old.window.size (R.remaining input.old) (R.remaining input.new) l) }
+        → HasListed window config.now terms.patience terms.by reader.old.window.size (R.remaining input.old) (R.remaining input.new) l) }
     ensures kept { OnOk result (HasRead [] [] (R.remaining input.old) reader.old → Keeps (W.contents out.old) (W.contents out.new)) }
 {
-    let mut listing = Listing::new(alloc);
+    let mut listing = Listing::new(alloc, window);
     let end = run_to_end(alloc, config, terms, &mut listing, reader, input, out)?;
-    let listed = listing.close(alloc, end)?;
+    let listed = listing.close(alloc, window, end)?;
     Ok(listed)
 }

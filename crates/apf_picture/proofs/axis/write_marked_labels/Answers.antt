@@ -1,10 +1,10 @@
 -- The time of one mark more.
-use Rattle.std.proofs.Common.{arith}
+use Rattle.std.proofs.Common.{ℕ, ◌+◌, ◌*◌, arith}
 use Rattle.apf_picture.specs.Parts.{mark_label}
 use Rattle.apf_picture.proofs.Ranges.{appends_range}
-use Rattle.apf_picture.proofs.axis.write_all_labels.Goals as goal
+use Rattle.apf_picture.proofs.axis.write_marked_labels.Goals as goal
 
 pub loop-mark-preserved : goal.loop-mark-preserved
 loop-mark-preserved g c =
     let told = g.W.Write.contents in
-    appends_range (told c.args.out.now) (told c.loop-mark.out) (told c.write_label.new.out) (mark_label c.longest-unit.result c.args.end c.args.step) 0 (c.loop-mark.mark) c.loop-mark.mark (omega arith) c.loop-mark.invariant c.in_ok-write_label.ensures
+    appends_range (told c.args.out.now) (told c.loop-mark.out) (told c.write_label.new.out) (λ (mark : ℕ). mark_label c.longest-unit.result c.args.from c.args.end c.args.step (c.args.first + mark * c.args.step)) 0 (c.loop-mark.mark) c.loop-mark.mark (omega arith) c.loop-mark.invariant c.in_ok-write_label.ensures

@@ -35,8 +35,7 @@ const CHARGE: &str =
 const BOUND: &str = "Prints how far the seat-times of two queues came apart, and how far they may";
 
 /// What help says of where a picture begins.
-const FROM: &str =
-    "Draws the run from T on, as 90s or in microseconds; from its beginning if left out";
+const FROM: &str = "Draws the run from T on, as 90s; from its beginning if left out";
 
 /// What help says of where a picture ends.
 const TO: &str = "Draws the run up to T; up to its end if left out";

@@ -5,24 +5,15 @@
 //! - `percentiles`: worked percentiles, and random ones beside a plain count.
 //! - `waits`: worked waits, random ones beside a sorted list, and allocations refused.
 //! - `window`: windows by hand, random ones beside a plain list, and allocations refused.
-//! - `agenda`: worked orders, and random calls beside a plain list.
-//! - `calendar`: worked calendars, and random ones beside a plain scan.
-//! - `memory`: allocations refused.
 //! - `calls`: calls that test what is asked of callers. `draws`: random numbers. `asserts`: assertions as calls.
 #![tactic(auto)]
 
 #[cfg(test)]
-mod agenda;
-#[cfg(test)]
 mod asserts;
-#[cfg(test)]
-mod calendar;
 #[cfg(test)]
 mod calls;
 #[cfg(test)]
 mod draws;
-#[cfg(test)]
-mod memory;
 #[cfg(test)]
 mod percentiles;
 #[cfg(test)]

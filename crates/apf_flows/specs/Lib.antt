@@ -3,6 +3,3 @@ pub mod Known
 pub mod Json
 pub mod Names
 pub mod Requests
-pub mod Hands
-pub mod Dealt
-pub mod Holders

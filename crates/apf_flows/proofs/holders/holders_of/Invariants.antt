@@ -1,9 +1,0 @@
--- Each queue has the places of those of the flows so far that hold it.
-use Rattle.std.proofs.Common.{take}
-use Rattle.apf_flows.specs.Dealt.{flows_of}
-use Rattle.apf_flows.specs.Holders.{places_at}
-use Rattle.apf_flows.proofs.Held.{ArePlaces}
-use Rattle.apf_flows.proofs.holders.holders_of.Given as goal
-
-abbrev pub invariant-loop-place : goal.invariant-loop-place
-invariant-loop-place l = ArePlaces (flows_of l.flows) (flows_of (take l.place l.flows)) (places_at l.holders)

@@ -1,8 +1,0 @@
--- The queues so far were written, where the other hand has them.
-use Rattle.std.proofs.Common.{take}
-use Rattle.std.specs.Io.KnownBytes.{Appends}
-use Rattle.apf_flows.specs.Hands.{queues_text, shared}
-use Rattle.apf_flows.proofs.sharing.write_shared.Given as goal
-
-abbrev pub invariant-loop-queue : goal.invariant-loop-queue
-invariant-loop-queue g l = Appends (g.W.Write.contents l.initial.out) (g.W.Write.contents l.out) (queues_text (shared (take l.queue-index l.hand) l.other))

@@ -40,7 +40,7 @@ pub record HandsOut {T : Type 0} (from : List (Arrival T)) (first : Arrival T) (
   pub is_first : NoneBefore first v.held
   pub last : v.last ≡ Some first.place
 
--- One more came: it is held, or so many are held that the first of all is handed out.
+-- One more came: it is held, or, where the window holds its size, the first of all is handed out.
 abbrev pub IsPushed : {T : Type 0} → Arrival T → WindowView T → Option (Arrival T) → WindowView T → Type 0
 IsPushed x u None v = (length u.held < u.size) × IsPermutation (x ∷ u.held) v.held × (v.last ≡ u.last)
 IsPushed x u (Some first) v = (u.size ≤ length u.held) × HandsOut (x ∷ u.held) first v

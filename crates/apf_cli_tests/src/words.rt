@@ -134,11 +134,13 @@ fn reads_texts(rt: HostRuntime) -> Result<(), Fail> {
         picture,
         Action {
             command: "picture",
-            arguments: Arguments::Simulation {
+            arguments: Arguments::Picture {
                 config: "c",
                 trace: "t",
                 patience: "7s",
-                charge: None
+                charge: None,
+                from: None,
+                to: None
             }
         }
     );

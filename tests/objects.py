@@ -506,6 +506,20 @@ def event_of(asked):
     return event
 
 
+def drawn_list():
+    """The file of a drawn list of more than eight objects, and the cluster that they are."""
+    while True:
+        value = drawn_objects()
+        if value["kind"] == "List" and len(value["items"]) > 8:
+            return files("objects.json", json.dumps(value)), cluster_of(value)
+
+
+def matched_line(cluster, number, asked):
+    """What is printed of the request of this line of a log."""
+    schema = cluster[1][schema_of(cluster[1], asked)]
+    return f"{number} {schema['name']} {schema['level']} {json.dumps(distinguisher_of(schema, asked))}\n"
+
+
 def same(got, want):
     """An answer, with whether its output is this, which is long, in place of it."""
     status, out, err = got
@@ -515,12 +529,7 @@ def same(got, want):
 # ---- events in bulk
 
 for _ in range(20):
-    while True:
-        value = drawn_objects()
-        if value["kind"] == "List" and len(value["items"]) > 8:
-            break
-    objects = files("objects.json", json.dumps(value))
-    cluster = cluster_of(value)
+    objects, cluster = drawn_list()
     lines, want = [], []
     for number in range(1, 10001):
         asked = drawn_request()
@@ -528,8 +537,7 @@ for _ in range(20):
         if draw.random() < 0.02:
             event["stage"] = "RequestReceived"
         else:
-            schema = cluster[1][schema_of(cluster[1], asked)]
-            want.append(f"{number} {schema['name']} {schema['level']} {json.dumps(distinguisher_of(schema, asked))}\n")
+            want.append(matched_line(cluster, number, asked))
         lines.append(json.dumps(event) + "\n")
     log = files("log.jsonl", "".join(lines))
     status, out, err = run(program, ["match", objects, "--log", log])
@@ -540,18 +548,12 @@ for _ in range(20):
 # ---- a log that is longer than any file that is read whole, with lines of the largest size, from a file and from a pipe
 
 MOST_LINE = 1_048_576
-while True:
-    value = drawn_objects()
-    if value["kind"] == "List" and len(value["items"]) > 8:
-        break
-objects = files("objects.json", json.dumps(value))
-cluster = cluster_of(value)
+objects, cluster = drawn_list()
 lines, want = [], []
 for number in range(1, 25_001):
     asked = drawn_request()
     event = event_of(asked)
-    schema = cluster[1][schema_of(cluster[1], asked)]
-    want.append(f"{number} {schema['name']} {schema['level']} {json.dumps(distinguisher_of(schema, asked))}\n")
+    want.append(matched_line(cluster, number, asked))
     line = json.dumps(event)
     lines.append((line.ljust(MOST_LINE) if number % 300 == 0 else line) + "\n")
 log = files("log.jsonl", "".join(lines))

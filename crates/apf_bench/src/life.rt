@@ -45,7 +45,7 @@ fn follow<K: Naming, R: Wait>(
 ) -> bool
     requires { ask.width ≡ 1 }
 {
-    let (answer, _event) = request.arrive(rt, level, ask);
+    let answer = request.arrive(rt, level, ask);
     if answer != Answer::Waits {
         return false;
     }
@@ -68,7 +68,7 @@ fn serve_room<K: Naming, R: Wait>(
         return false;
     };
     for number in 0..REQUESTS {
-        if even.arrive(rt, level, shuffle.ask(number)).0 != Answer::Run {
+        if even.arrive(rt, level, shuffle.ask(number)) != Answer::Run {
             return false;
         }
         if even.finish(rt, level) != Answer::Released(false) {
@@ -90,7 +90,7 @@ fn serve_line<K: Naming, R: Wait>(
     let [even, odd] = slots else {
         return false;
     };
-    if even.arrive(rt, level, shuffle.ask(0)).0 != Answer::Run {
+    if even.arrive(rt, level, shuffle.ask(0)) != Answer::Run {
         return false;
     }
     for number in 1..REQUESTS {

@@ -27,8 +27,9 @@ use choices::{Shape, after, before, median};
 use course::Callers;
 use life::Traffic;
 use measures::{
-    measured_admission, measured_life, measured_line, measured_on_one_thread, tell_admission,
-    tell_life, tell_line, tell_on_one_thread,
+    measured_admission, measured_life, measured_line, measured_on_one_thread,
+    measured_room_for_life, tell_admission, tell_life, tell_line, tell_on_one_thread,
+    tell_room_for_life,
 };
 use shuffle::Shuffle;
 use std::process::ExitCode;
@@ -172,6 +173,22 @@ fn admit<R: Threads + Clock + Wait + Sync>(
     Ok(true)
 }
 
+// Measures requests that have room on a level for life. Says whether each executed.
+fn admit_for_life<R: Threads + Clock + Wait + Sync>(
+    rt: &HostRuntime,
+    runner: &R,
+    rounds: Rounds,
+) -> io::Result<bool> {
+    let Some(medians) = measured_room_for_life(runner, rt.alloc(), rounds.count) else {
+        println!(rt; "a request did not execute, or there was no memory or clock")?;
+        return Ok(false);
+    };
+    if rounds.are_told {
+        tell_room_for_life(rt, medians)?;
+    }
+    Ok(true)
+}
+
 // Measures requests in line. Says whether each waited, and executed.
 fn enqueue_all<R: Threads + Clock + Wait + Sync>(
     rt: &HostRuntime,
@@ -234,6 +251,7 @@ fn bench<R: Threads + Clock + Wait + Sync>(rt: &HostRuntime, runner: &R) -> io::
     };
     let agree = choose(rt, rounds)?
         && admit(rt, runner, rounds)?
+        && admit_for_life(rt, runner, rounds)?
         && enqueue_all(rt, runner, rounds)?
         && enqueue_all_for_life(rt, runner, rounds)?
         && serve_alone(rt, runner, rounds)?;

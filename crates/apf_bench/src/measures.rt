@@ -19,6 +19,12 @@ use std::sync::Wait;
 use std::thread::Threads;
 use std::time::Clock;
 
+// One thread.
+const ALONE: Callers = Callers {
+    threads: 1,
+    hints: 0,
+};
+
 // One queue, which everybody is dealt.
 const ONE: Shuffle = Shuffle { queues: 1, hand: 1 };
 
@@ -59,6 +65,15 @@ pub struct InLineForLife {
     life: u64,
 }
 
+/// How long a request with room took in one thread, in picoseconds.
+#[derive(Clone, Copy)]
+pub struct RoomForLife {
+    // Under one lock.
+    lock: u64,
+    // By a session whose slots are used again.
+    session: u64,
+}
+
 /// How long a request took on one thread, in picoseconds.
 #[derive(Clone, Copy)]
 pub struct OnOneThread {
@@ -66,6 +81,33 @@ pub struct OnOneThread {
     session: u64,
     // By a level that is one plain value.
     value: u64,
+}
+
+/// The medians of this many rounds, or `None` where a run fails.
+pub fn measured_room_for_life<R: Threads + Clock + Wait + Sync>(
+    rt: &R,
+    alloc: Global,
+    rounds: u32,
+) -> Option<RoomForLife> {
+    let mut locks = Vec::new(alloc);
+    let mut sessions = Vec::new(alloc);
+    for _ in 0..rounds {
+        locks.push(locked(rt, alloc, ALONE)?).ok()?;
+        sessions.push(by_life(rt, alloc, Traffic::Room, ONE)?).ok()?;
+    }
+    Some(RoomForLife {
+        lock: median(locks)?,
+        session: median(sessions)?,
+    })
+}
+
+/// Tells what a request with room took by a session whose slots are used again.
+pub fn tell_room_for_life(rt: &HostRuntime, medians: RoomForLife) -> io::Result<()> {
+    let (lock, session) = (medians.lock / 1_000, medians.session / 1_000);
+    let ratio = Ratio::of(medians.session, medians.lock);
+    println!(rt;
+        "with room for life, threads 1: under a lock {lock} ns, by a session {session} ns, ratio {ratio}"
+    )
 }
 
 /// The medians of this many rounds, or `None` where a run fails.

@@ -1,5 +1,6 @@
 pub mod LedgerView
 pub mod LedgerKept
+pub mod Rows
 pub mod RecentEvents
 pub mod Life
 pub mod Opening

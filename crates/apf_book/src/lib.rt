@@ -9,7 +9,7 @@
 //! - `ledger`: the queues, and the log that they are of.
 //! - `settling`: whether what requests take is settled.
 //! - `life`: the queues of slots, and every history that they are of.
-//! - `life_event`: their events, `life_stats` how many there were, `recent_events` the newest of them.
+//! - `life_event`: their events, `life_stats` how many there were, `recent_events` the newest of them, each in a `row`.
 //! - `stats`: the numbers of a log.
 //! - `stretch`: the services of two queues in a stretch of a log.
 //! - `overtaking`: the wait of a request in a log, and what is granted while it lasts.
@@ -35,6 +35,7 @@ mod life_event;
 mod life_stats;
 mod overtaking;
 mod recent_events;
+mod row;
 mod serving;
 mod settling;
 mod stats;

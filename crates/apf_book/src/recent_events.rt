@@ -8,6 +8,7 @@ ghost use Rattle.apf_book.specs.RecentEvents.{event_of, AreRecentEventsOf, AreLi
 
 use crate::life_event::LifeEvent;
 use crate::life_stats::LifeStats;
+use crate::row::Row;
 use circular_buffer::HeapCircularBuffer;
 use std::alloc::{AllocError, Allocator};
 use std::marker::Model;
@@ -26,7 +27,7 @@ pub struct Copied {
 // there are fewer than 2^61 events.
 #[derive(Drop)]
 pub struct RecentEvents<A: Allocator> {
-    newest: HeapCircularBuffer<LifeEvent, A>,
+    newest: HeapCircularBuffer<Row, A>,
     entered: u64,
     dispatched: u64,
     struck: u64,
@@ -69,7 +70,7 @@ impl<A: Allocator> RecentEvents<A> {
         ensures notes { (h : List Event) → AreRecentEventsOf h self.old → AreRecentEventsOf (event_of event ∷ h) self.new }
         ensures room { self.new.capacity ≡ self.old.capacity }
     {
-        let _oldest = self.newest.push_back(event);
+        let _oldest = self.newest.push_back(Row::of(event));
         match event {
             LifeEvent::Enter(_, _) => self.entered = self.entered.wrapping_add(1),
             LifeEvent::Full(_, _) => self.full = self.full.wrapping_add(1),
@@ -117,7 +118,7 @@ impl<A: Allocator> RecentEvents<A> {
 
 // Copies the events from this one on into the whole room.
 fn copy_run<A: Allocator>(
-    newest: &HeapCircularBuffer<LifeEvent, A>,
+    newest: &HeapCircularBuffer<Row, A>,
     skipped: usize,
     into: &mut [LifeEvent],
 )
@@ -126,9 +127,9 @@ fn copy_run<A: Allocator>(
 {
     let _kept = newest.len();
     for i in 0..into.len() {
-        let Some(event) = newest.get(skipped + i) else {
+        let Some(row) = newest.get(skipped + i) else {
             unreachable!()
         };
-        into[i] = *event;
+        into[i] = row.event();
     }
 }

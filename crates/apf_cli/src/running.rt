@@ -42,7 +42,7 @@ impl apf_run::Work for Turns {
 }
 
 impl apf_life_run::Work for Turns {
-    fn work(&self, _running: &apf_life_run::Running, units: u32) {
+    fn work(&self, _executing: &apf_life_run::Executing<'_>, units: u32) {
         turn(units);
     }
 }

@@ -38,8 +38,8 @@ fn serve<K: Naming, R: Wait>(rt: &R, alloc: Global, opening: Opening) -> Result<
 {
     let mut session = Session::<K>::open_for_life(rt, alloc, opening)?;
     // one request of each slot arrives: the first takes the seat, and the second waits in the queue
-    let (mut first, _event) = session.arrive(rt, 0, ASK);
-    let (mut second, _event) = session.arrive(rt, 1, ASK);
+    let mut first = session.arrive(rt, 0, ASK);
+    let mut second = session.arrive(rt, 1, ASK);
     for _turn in 0..3000 {
         first = go_on(rt, &mut session, 0, first);
         second = go_on(rt, &mut session, 1, second);
@@ -57,7 +57,7 @@ fn go_on<K: Naming, R: Wait>(rt: &R, session: &mut Session<K>, slot: u32, answer
         // it may have been dispatched meanwhile
         Answer::Waits => session.poll(rt, slot),
         // the slot is free, and its next request arrives
-        Answer::Over(_) | Answer::Released(_) => session.arrive(rt, slot, ASK).0,
+        Answer::Over(_) | Answer::Released(_) => session.arrive(rt, slot, ASK),
         other => other,
     }
 }

@@ -8,14 +8,14 @@ use Rattle.apf_files.specs.JsonFile.{value_of}
 use Rattle.apf_times.specs.Limits.{max_arrival, max_run}
 use Rattle.apf_audit.specs.AuditEvent.{max_name}
 use Rattle.apf_audit.specs.AuditLog.{max_line}
-use Rattle.apf_audit.specs.AuditFaults.{audit_fault_number, line_of}
+use Rattle.apf_audit.specs.AuditFaults.{audit_fault_number}
 use Rattle.apf_audit.specs.declared.fault.AuditFault.{AuditFault}
 use Rattle.apf_audit.specs.declared.fault.AuditFault.TheVariants as audit
 use Rattle.apf_explain.specs.declared.place.Part.TheVariants.{Fault}
 use Rattle.apf_explain.specs.declared.wanted.Wanted.TheVariants.{Text, Name, Instant, Wait}
 use Rattle.apf_explain.specs.Found.{found_text}
 use Rattle.apf_explain.specs.Lines.{place_text, unwanted_text, misplaced_text}
-use Rattle.apf_explain.specs.TraceLines.{numbered_line, required_text, too_long_text, IsColumnLine}
+use Rattle.apf_explain.specs.TraceLines.{required_text, too_long_text, IsColumnLine}
 
 -- the value at a key, if there is one
 abbrev pub found_at : List ℕ → Option Data → Option Data
@@ -103,16 +103,7 @@ IsPlacedEvent line fault None before after = ⊥
 IsPlacedEvent line fault (Some number) before after =
     IsAuditLineAt (place_text (codes "apf: audit") (Fault (audit_fault_number fault) number)) line fault before after
 
--- the fault of the line of this number was written
-abbrev pub IsNumberedEvent : List ℕ → AuditFault → Option ℕ → Option (List ℕ) → Option (List ℕ) → Type 0
-IsNumberedEvent bytes fault None before after = ⊥
-IsNumberedEvent bytes fault (Some number) before after = IsPlacedEvent (numbered_line number bytes) fault (Some number) before after
-
--- the line of an audit log's fault was written
-abbrev pub IsAuditLine : List ℕ → AuditFault → Option (List ℕ) → Option (List ℕ) → Type 0
-IsAuditLine bytes fault before after = IsNumberedEvent bytes fault (line_of fault) before after
-
--- the line of a log that is read in pieces, unless it is too long, so that it was not kept whole
+-- the line of a log, unless it is too long, so that it was not kept whole
 abbrev pub known_line : AuditFault → List ℕ → Option (List ℕ)
 known_line (audit.TooLong n) line = None
 known_line fault line = Some line

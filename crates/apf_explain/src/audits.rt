@@ -6,12 +6,12 @@ ghost use Rattle.serde_json.specs.View.{view};
 ghost use Rattle.apf_audit.specs.AuditFaults.{audit_fault_number, line_of};
 ghost use Rattle.apf_explain.specs.declared.place.Part.TheVariants.{Fault};
 ghost use Rattle.apf_explain.specs.Lines.{place_text};
-ghost use Rattle.apf_explain.specs.AuditLines.{found_at, is_text_at, is_object, not_event_text, user_text, wait_found, bad_run_text, late_text, behind_text, event_text, namespace_found, IsAuditLineAt, known_line, IsAuditLine, IsPlacedEvent};
+ghost use Rattle.apf_explain.specs.AuditLines.{found_at, is_text_at, is_object, not_event_text, user_text, wait_found, bad_run_text, late_text, behind_text, event_text, namespace_found, IsAuditLineAt, known_line, IsPlacedEvent};
 
 use crate::fault::ExplainFault;
 use crate::found::Found;
 use crate::json::{value_at, write_unwanted};
-use crate::lines::{line_value, numbered, write_not_json, write_required, write_too_long};
+use crate::lines::{line_value, write_not_json, write_required, write_too_long};
 use crate::place::{Part, Place};
 use crate::wanted::Wanted;
 use apf_audit::{AuditFault, MAX_LINE, MAX_NAME};
@@ -248,35 +248,6 @@ fn place_of(fault: AuditFault, number: u64) -> Place<'static>
     }
 }
 
-/// Writes the fault of an audit log as the one line of standard error.
-///
-/// `fault` is of a line of these bytes. The line names the key and the value that stands there in the line of the fault, and
-/// what has to stand there: see `every_audit_fault_is_shown`.
-///
-/// Of a line that is no JSON the column is told at which the reader stopped. Columns count bytes from 1.
-///
-/// # Errors
-///
-/// [`ExplainFault::NoMemory`] if memory was refused, here or, by the fault, to the reader, and then nothing is written.
-/// [`ExplainFault::CannotWrite`] if the writer failed.
-pub fn explain_audit_log<W: Write>(
-    alloc: Global,
-    bytes: &[u8],
-    fault: AuditFault,
-    out: &mut W,
-) -> Result<(), ExplainFault>
-    ensures line { OnOk result (IsAuditLine bytes.now fault (W.contents out.old) (W.contents out.new)) }
-    ensures refused { fault ≡ AuditFault.NoMemory → (result ≡ Err ExplainFault.NoMemory) × (out.new ≡ out.old) }
-    ensures memory { result ≡ Err ExplainFault.NoMemory → out.new ≡ out.old }
-{
-    let Some(number) = fault.line() else {
-        return Err(ExplainFault::NoMemory);
-    };
-    let place = place_of(fault, number);
-    let line = numbered(bytes, number);
-    write_line(alloc, out, place, line, fault)
-}
-
 // The line, unless it is too long, so that it was not kept whole.
 fn known_line(fault: AuditFault, line: &[u8]) -> Option<&[u8]>
     ensures { option_map (λ known. known.now) result ≡ known_line fault line.entry.now }
@@ -287,10 +258,11 @@ fn known_line(fault: AuditFault, line: &[u8]) -> Option<&[u8]>
     }
 }
 
-/// Writes the fault of an audit log that is read in pieces as the one line of standard error.
+/// Writes the fault of a line of an audit log as the one line of standard error. It names the key and the value that stands there
+/// in the line, and what has to stand there: see `every_audit_fault_is_shown`.
 ///
 /// `line` is the line that has the fault, without its LF. Of one that is too long it need not be whole, and its length is
-/// not told.
+/// not told. Of a line that is no JSON the column is told at which the reader stopped. Columns count bytes from 1.
 ///
 /// # Errors
 ///

@@ -45,7 +45,7 @@ mod script;
 mod traces;
 mod wanted;
 
-pub use audits::{explain_audit_line, explain_audit_log};
+pub use audits::explain_audit_line;
 pub use config::explain_config;
 pub use dealer::explain_dealer;
 pub use fault::ExplainFault;

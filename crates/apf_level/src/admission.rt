@@ -58,6 +58,7 @@ impl<K: Naming> Level<K> {
     ///
     /// It takes no lock, and makes the steps of `try_admit`. Where requests waited when its seats were given
     /// back, a dispatch is owed.
+    #[inline]
     pub fn attempt(&self, pass: &mut Pass) -> (Tried, Owes<K>)
         requires { IsFreshPass K.level pass.old }
         ensures kept { IsKeptBy result.0 pass.new }
@@ -71,6 +72,7 @@ impl<K: Naming> Level<K> {
     }
 
     // The same, with whether a dispatch is owed in the answer alone.
+    #[inline]
     fn try_once(&self, pass: &mut Pass) -> Tried
         requires { IsFreshPass K.level pass.old }
         ensures kept { IsKeptBy result pass.new }
@@ -87,6 +89,7 @@ impl<K: Naming> Level<K> {
 
     // Takes the seats, if nobody waits and they fit, and decides: what `attempt` does once it read that
     // nothing is decided.
+    #[inline]
     pub(crate) fn take(&self, pass: &mut Pass) -> (Tried, Owes<K>)
         requires { IsFreshPass K.level pass.old }
         ensures kept { IsKeptBy result.0 pass.new }
@@ -99,6 +102,7 @@ impl<K: Naming> Level<K> {
     }
 
     // The same, with whether a dispatch is owed in the answer alone.
+    #[inline]
     fn take_or_decide(&self, pass: &mut Pass) -> Tried
         requires { IsFreshPass K.level pass.old }
         ensures kept { IsKeptBy result pass.new }
@@ -158,6 +162,7 @@ impl<K: Naming> Level<K> {
 
     /// Gives the seats of a request that executes back, by one step on the level word. Where requests waited
     /// then, a dispatch is owed. The Pass stays in its place, that of a request that is over.
+    #[inline]
     pub fn give_back(&self, pass: &mut Pass) -> Owes<K>
         requires own { pass_gate pass.old ≡ K.level.gate }
         requires runs { IsRunning pass.old }

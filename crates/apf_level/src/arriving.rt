@@ -1,6 +1,7 @@
 //! The arrival of a request, and its wait.
 
-ghost use Rattle.std.specs.Prelude.{◌≡◌};
+ghost use Rattle.std.specs.Prelude.{◌≡◌, Option};
+ghost use Rattle.apf_history.specs.declared.events.Event.{Event};
 ghost use Rattle.apf_model.specs.declared.response.Response.TheVariants.{Queue};
 ghost use Rattle.apf_gate.specs.Tokens.{pass_gate};
 ghost use Rattle.apf_level.specs.Tokens.{IsOf, IsInLine};
@@ -35,8 +36,7 @@ impl<K: Naming> Level<K> {
         ensures after { AfterBegin pass result }
         ensures queues { SaysWaiting result → self.now.gate.shape.response ≡ Queue }
     {
-        let (begun, _event) = self.arrive(rt, &mut pass);
-        begun.with(pass)
+        self.arrive(rt, &mut pass).with(pass)
     }
 
     /// As `begin`. Answers also the event that the log got by the arrival: the request's Enter or Full, which
@@ -47,7 +47,7 @@ impl<K: Naming> Level<K> {
         ensures queues { SaysWaiting result.0 → self.now.gate.shape.response ≡ Queue }
         ensures logs { Logs K.level pass.pass.number result.0 result.1 }
     {
-        let (begun, event) = self.arrive(rt, &mut pass);
+        let (begun, event) = self.arrive_with_event(rt, &mut pass);
         (begun.with(pass), event)
     }
 
@@ -82,13 +82,44 @@ impl<K: Naming> Level<K> {
     }
 
     /// The request arrives: it takes its seats, or enters a queue, or is decided otherwise. On a level without
-    /// queues it never waits. Answers also the event that the log got by it: the request's Enter or Full, which
-    /// name its queue, or none, of a request that took its seats or was decided without a queue. The Pass stays
-    /// in its place, that of a request that executes, is over or waits, by the answer.
+    /// queues it never waits. The Pass stays in its place, that of a request that executes, is over or waits, by the answer.
     ///
     /// It takes the lock only where requests wait or it does not fit, or to dispatch where its decision was
     /// lost and requests waited when its seats were given back.
-    pub fn arrive<R: Wait>(&self, rt: &R, pass: &mut Pass) -> (Begun, Option<Event>)
+    #[inline]
+    pub fn arrive<R: Wait>(&self, rt: &R, pass: &mut Pass) -> Begun
+        requires { IsFreshPass K.level pass.old }
+        ensures left { IsLeftBy result pass.new }
+        ensures after { AfterBegin pass.old (begin_of result pass.new) }
+        ensures queues { SaysWaits result → self.now.gate.shape.response ≡ Queue }
+        ensures logs { (event : Option Event) × Logs K.level pass.old.pass.number (begin_of result pass.new) event }
+    {
+        let (begun, _event) = self.arrive_with_event(rt, pass);
+        begun
+    }
+
+    /// As `arrive`. Answers also the event that the log got by the arrival: the request's Enter or Full, which name its
+    /// queue, or none, of a request that took its seats or was decided without a queue.
+    #[inline(always)]
+    pub fn arrive_with_event<R: Wait>(&self, rt: &R, pass: &mut Pass) -> (Begun, Option<Event>)
+        requires { IsFreshPass K.level pass.old }
+        ensures left { IsLeftBy result.0 pass.new }
+        ensures after { AfterBegin pass.old (begin_of result.0 pass.new) }
+        ensures queues { SaysWaits result.0 → self.now.gate.shape.response ≡ Queue }
+        ensures logs { Logs K.level pass.old.pass.number (begin_of result.0 pass.new) result.1 }
+    {
+        let (tried, owes) = self.attempt(pass);
+        self.dispatch_if_owed(rt, owes);
+        match tried {
+            Tried::Run => (Begun::Run, None),
+            Tried::Over(decision, _waiting) => (Begun::Over(decision), None),
+            Tried::Blocked | Tried::Raced => self.arrive_late(rt, pass),
+        }
+    }
+
+    // The request, which did not take its seats at once, arrives: it tries again, until it loses no exchange.
+    #[inline(never)]
+    fn arrive_late<R: Wait>(&self, rt: &R, pass: &mut Pass) -> (Begun, Option<Event>)
         requires { IsFreshPass K.level pass.old }
         ensures left { IsLeftBy result.0 pass.new }
         ensures after { AfterBegin pass.old (begin_of result.0 pass.new) }
@@ -175,8 +206,7 @@ impl<K: Naming> Level<K> {
         ensures same { IsOf pass.old pass.new }
         ensures told { IsDecided result pass.new }
     {
-        let (begun, _event) = self.arrive(rt, pass);
-        match begun {
+        match self.arrive(rt, pass) {
             Begun::Run => return Begun::Run,
             Begun::Over(decision) => return Begun::Over(decision),
             Begun::Waits => {}

@@ -31,6 +31,7 @@ fn under_lock_of<K: Naming>(shared: Shared<K>) -> UnderLock
                 book,
                 board: _,
                 sleeps: _,
+                slept: _,
                 of: _,
             } = lock.into_inner();
             UnderLock::Book(book)

@@ -188,6 +188,7 @@ fn queued<K: Naming>(
         book,
         board,
         sleeps: vec![in alloc; false; asks.len()]?,
+        slept: false,
         of: PhantomData,
     };
     let lock = QueuedLock {

@@ -37,6 +37,8 @@ pub struct Queued<K: Naming> {
     pub board: Board,
     // Whether somebody may sleep until the request is decided.
     pub sleeps: Vec<bool>,
+    // Whether anybody ever slept: till then nobody has to be woken.
+    pub slept: bool,
     pub of: PhantomData<K>,
     ghost tied: { IsBookOf K.level book },
     ghost stopped: { IsStopped book.ledger book.desk.desk.knows },
@@ -80,14 +82,15 @@ fn publish<R: Wait>(rt: &R, book: &Book<Global>, board: &mut Board, before: usiz
     }
 }
 
-// Dispatches while the chosen head fits, wakes whoever was dispatched since the log had this length, and publishes
-// its numbers. Returns how many were dispatched now.
+// Dispatches while the chosen head fits, wakes whoever was dispatched since the log had this length, if anybody ever slept,
+// and publishes its numbers. Returns how many were dispatched now.
 fn serve<R: Wait>(
     rt: &R,
     gate: &Gate<Global>,
     book: &mut Book<Global>,
     board: &mut Board,
     sleeps: &[bool],
+    slept: bool,
     before: usize,
 ) -> u32
     requires own { desk_gate book.old.desk ≡ gate.now }
@@ -99,7 +102,7 @@ fn serve<R: Wait>(
     ensures shown { shown board.new.trace ≡ shown_of book.new.ledger.history }
 {
     let count = book.dispatch(rt, gate);
-    if count != 0 {
+    if slept && count != 0 {
         wake(gate, book, sleeps, before);
     }
     publish(rt, book, board, before);
@@ -113,6 +116,7 @@ fn strike_and_serve<K: Naming, R: Wait>(
     book: &mut Book<Global>,
     board: &mut Board,
     sleeps: &[bool],
+    slept: bool,
     request: u32,
 ) -> bool
     requires own { gate.now ≡ K.level.gate }
@@ -130,7 +134,7 @@ fn strike_and_serve<K: Naming, R: Wait>(
     let before = book.log().len();
     let struck = book.strike(gate, request);
     if struck {
-        serve(rt, gate, book, board, sleeps, before);
+        serve(rt, gate, book, board, sleeps, slept, before);
     }
     struck
 }
@@ -168,6 +172,7 @@ impl<K: Naming> Queued<K> {
             &mut self.book,
             &mut self.board,
             self.sleeps.as_slice(),
+            self.slept,
             before,
         );
         match arrived {
@@ -192,6 +197,7 @@ impl<K: Naming> Queued<K> {
             &mut self.book,
             &mut self.board,
             self.sleeps.as_slice(),
+            self.slept,
             before,
         )
     }
@@ -208,6 +214,7 @@ impl<K: Naming> Queued<K> {
             &mut self.book,
             &mut self.board,
             self.sleeps.as_slice(),
+            self.slept,
             request,
         )
     }
@@ -216,6 +223,7 @@ impl<K: Naming> Queued<K> {
     pub fn will_sleep(&mut self, request: u32) {
         if let Some(flag) = self.sleeps.get_mut(request as usize) {
             *flag = true;
+            self.slept = true;
         }
     }
 

@@ -124,3 +124,13 @@ logs_more k known known' r r' hand cost answer (Some event) more same logs =
 -- the hand and the cost are those that the request asked for
 pub is_asked : (sizes : Sizes) (trace : List Entry) (r hash cost : ℕ) → asked_in trace r ≡ Some (record { hash = hash; cost = cost }) → IsAskedBy sizes trace (hand_of sizes hash) cost r
 is_asked sizes trace r hash cost is = record { ask = record { hash = hash; cost = cost }; said = is; hand_is = refl; cost_is = refl }
+
+-- what its Pass knew when the request came to be late, it knew of more than when it arrived
+pub logs_before : (k : LifeId) (known known' : Knowledge) (r r' : ℕ) (hand : List ℕ) (cost : ℕ) (answer : Begin) (event : Option LifeEvent) → KnowsMore known known' → r' ≡ r → Logs k known'.trace r' hand cost answer event → Logs k known.trace r hand cost answer event
+logs_before k known known' r r' hand cost answer None more same logs = logs
+logs_before k known known' r r' hand cost answer (Some event) more same logs =
+    let here = subst (λ (i : ℕ). Logs k known'.trace i hand cost answer (Some event)) same logs in (
+      here.0,
+      came_more k known known' r hand cost (event_of event) (begun_pass answer).pass.knows.trace more here.1,
+      found_more known known' r (begun_pass answer).pass.knows.trace more here.2,
+    )

@@ -65,6 +65,7 @@ impl<K: Naming> Level<K> {
     ///
     /// It takes no lock, and makes the steps of `try_admit`. Where requests waited when its seats were given
     /// back, a dispatch is owed.
+    #[inline]
     pub fn attempt(&self, pass: &mut apf_gate::Pass) -> (Tried, Owes<K>)
         requires fresh { IsFreshPass K.level pass.old }
         ensures kept { IsKeptBy result.0 pass.new }
@@ -83,6 +84,7 @@ impl<K: Naming> Level<K> {
 
     // Takes the seats, if nobody waits and they fit, and decides: what `attempt` does once it read that
     // nothing is decided.
+    #[inline]
     pub(crate) fn take(&self, pass: &mut apf_gate::Pass) -> (Tried, Owes<K>)
         requires fresh { IsFreshPass K.level pass.old }
         ensures kept { IsKeptBy result.0 pass.new }
@@ -96,6 +98,7 @@ impl<K: Naming> Level<K> {
     }
 
     // The same, with whether a dispatch is owed in the answer alone.
+    #[inline]
     fn take_or_decide(&self, pass: &mut apf_gate::Pass) -> Tried
         requires fresh { IsFreshPass K.level pass.old }
         ensures kept { IsKeptBy result pass.new }
@@ -147,6 +150,7 @@ impl<K: Naming> Level<K> {
 
     /// Gives the seats of a request that executes back, by one step on the level word. Where requests waited
     /// then, a dispatch is owed. The slot's Pass stays in its place, that of a request that is over.
+    #[inline]
     pub fn give_back(&self, pass: &mut apf_gate::Pass) -> Owes<K>
         requires own { pass_gate pass.old ≡ K.level.gate }
         requires runs { IsRunning pass.old }

@@ -56,7 +56,7 @@ impl<K: Naming> Level<K> {
             hash,
             cost,
         } = pass;
-        let (begun, event) = self.arrive(rt, &mut pass, hash, cost);
+        let (begun, event) = self.arrive_with_event(rt, &mut pass, hash, cost);
         (begun.with(pass, event.is_some()), event)
     }
 
@@ -101,14 +101,67 @@ impl<K: Naming> Level<K> {
     }
 
     /// The request arrives, of a flow with this hash, and its dispatch is charged this cost: it takes its seats,
-    /// or enters a queue, or is decided otherwise. On a level without queues it never waits. Answers also the
-    /// event that the history got by it: the request's Enter or Full, which name its queue, or none, of a request
-    /// that took its seats or was decided without a queue. The slot's Pass stays in its place, that of a request
-    /// that executes, is over or waits, by the answer.
+    /// or enters a queue, or is decided otherwise. On a level without queues it never waits. Says also, of one that executes,
+    /// whether it entered a queue. The slot's Pass stays in its place, that of a request that executes, is over or waits, by
+    /// the answer.
     ///
     /// It takes the lock only where requests wait or it does not fit, or to dispatch where its decision was
     /// lost and requests waited when its seats were given back. Its hand of queues is dealt before the lock.
+    #[inline]
     pub fn arrive<R: Wait>(
+        &self,
+        rt: &R,
+        pass: &mut apf_gate::Pass,
+        hash: u64,
+        cost: u32,
+    ) -> (Begun, bool)
+        requires fresh { IsFreshPass K.level pass.old }
+        requires some_cost { 1 ≤ cost }
+        requires low_cost { cost ≤ max_cost }
+        requires asked { asked_in pass.old.pass.knows.trace pass.old.pass.number ≡ Some (record { hash = hash; cost = cost }) }
+        ensures left { IsLeftBy result.0 pass.new }
+        ensures goes_on { TraceGoesOn pass.old pass.new }
+        ensures after { AfterBegin pass.old (begin_of result.0 pass.new) }
+        ensures queues { SaysWaiting (begin_of result.0 pass.new) → self.now.shape.response ≡ Queue }
+        ensures entered { HasEnteredIf result.0 result.1 pass.new }
+        ensures logs { (event : Option LifeEvent) × Logs K.level pass.old.pass.knows.trace pass.old.pass.number (hand_of K.level.sizes hash) cost (begin_of result.0 pass.new) event }
+    {
+        let (begun, event) = self.arrive_with_event(rt, pass, hash, cost);
+        (begun, event.is_some())
+    }
+
+    /// As `arrive`. Answers the event that the history got by the arrival: the request's Enter or Full, which name its
+    /// queue, or none, of a request that took its seats or was decided without a queue.
+    #[inline(always)]
+    pub fn arrive_with_event<R: Wait>(
+        &self,
+        rt: &R,
+        pass: &mut apf_gate::Pass,
+        hash: u64,
+        cost: u32,
+    ) -> (Begun, Option<LifeEvent>)
+        requires fresh { IsFreshPass K.level pass.old }
+        requires some_cost { 1 ≤ cost }
+        requires low_cost { cost ≤ max_cost }
+        requires asked { asked_in pass.old.pass.knows.trace pass.old.pass.number ≡ Some (record { hash = hash; cost = cost }) }
+        ensures left { IsLeftBy result.0 pass.new }
+        ensures goes_on { TraceGoesOn pass.old pass.new }
+        ensures after { AfterBegin pass.old (begin_of result.0 pass.new) }
+        ensures queues { SaysWaiting (begin_of result.0 pass.new) → self.now.shape.response ≡ Queue }
+        ensures logs { Logs K.level pass.old.pass.knows.trace pass.old.pass.number (hand_of K.level.sizes hash) cost (begin_of result.0 pass.new) result.1 }
+    {
+        let (tried, owes) = self.attempt(pass);
+        self.dispatch_if_owed(rt, owes);
+        match tried {
+            Tried::Run => (Begun::Run, None),
+            Tried::Over(decision, _waiting) => (Begun::Over(decision), None),
+            Tried::Blocked | Tried::Raced => self.arrive_late(rt, pass, hash, cost),
+        }
+    }
+
+    // The request, which did not take its seats at once, arrives: it tries again, until it loses no exchange.
+    #[inline(never)]
+    fn arrive_late<R: Wait>(
         &self,
         rt: &R,
         pass: &mut apf_gate::Pass,
@@ -228,10 +281,10 @@ impl<K: Naming> Level<K> {
         ensures entered { HasEnteredIf result.0 result.1 pass.new }
         ensures logs { (event : Option LifeEvent) × Logs K.level pass.old.pass.knows.trace pass.old.pass.number (hand_of K.level.sizes hash) cost (begin_of result.0 pass.new) event }
     {
-        let (begun, event) = self.arrive(rt, pass, hash, cost);
+        let (begun, entered) = self.arrive(rt, pass, hash, cost);
         match begun {
-            Begun::Run => return (Begun::Run, event.is_some()),
-            Begun::Over(decision) => return (Begun::Over(decision), event.is_some()),
+            Begun::Run => return (Begun::Run, entered),
+            Begun::Over(decision) => return (Begun::Over(decision), entered),
             Begun::Waits => {}
         }
         let mut readings = 0;

@@ -60,6 +60,7 @@ fn close<K: Naming>(alloc: Global, shared: Shared<K>, slots: usize) -> Result<Cl
             let Queued {
                 book,
                 sleepers: _,
+                slept: _,
                 of: _,
             } = lock.into_inner();
             close_book(alloc, book, slots)

@@ -155,6 +155,7 @@ fn queued<K: Naming>(
     let queued = Queued {
         book,
         sleepers: first_tickets(alloc, slots)?,
+        slept: false,
         of: PhantomData,
     };
     let lock = QueuedLock {

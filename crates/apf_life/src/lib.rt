@@ -37,4 +37,4 @@ pub use level::{Level, LevelFault, Opened};
 pub use locked::Locked;
 pub use naming::Naming;
 pub use owing::{Owed, OwedStrike, Owes};
-pub use tokens::{Done, Pass, Running, Waiting};
+pub use tokens::{Done, Executing, Pass, Running, Waiting};

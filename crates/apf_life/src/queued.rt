@@ -41,6 +41,8 @@ pub struct Queued<K: Naming> {
     // For each slot the ticket of the request that somebody slept for last. At first it is that of the slot's first
     // request.
     pub sleepers: Vec<Ticket>,
+    // Whether anybody ever slept: till then nobody has to be woken.
+    pub slept: bool,
     pub of: PhantomData<K>,
     ghost has_queues: { K.level.gate.shape.response ≡ Queue },
     ghost tied: { IsBookOf K.level book },
@@ -82,13 +84,14 @@ fn wake_one(gate: &Gate<Global>, sleepers: &[Ticket], ticket: Ticket)
     }
 }
 
-// Dispatches while the chosen head fits, and wakes whoever was dispatched since there were this many events. Tells how
-// many were dispatched now.
+// Dispatches while the chosen head fits. If anybody ever slept, it wakes whoever was dispatched since there were this many
+// events. Tells how many were dispatched now.
 fn serve<R: Wait>(
     rt: &R,
     gate: &Gate<Global>,
     book: &mut LifeBook<Global>,
     sleepers: &[Ticket],
+    slept: bool,
     before: u64,
 ) -> u64
     requires own { desk_gate book.old.desk ≡ gate.now }
@@ -97,7 +100,7 @@ fn serve<R: Wait>(
     ensures served { (v : LifeView) → IsLifeKept v book.old → ServesLife v book.old result book.new }
 {
     let count = book.dispatch(rt, gate);
-    if count != 0 {
+    if slept && count != 0 {
         wake(gate, book, sleepers, before);
     }
     count
@@ -127,7 +130,14 @@ impl<K: Naming> Queued<K> {
         let arrived = self.book.arrive(rt, gate, pass, dealt, cost);
         // its Pass knows then what the Desk does, so that the answer can be said of the history as it stands here
         self.book.hear(gate, pass);
-        serve(rt, gate, &mut self.book, self.sleepers.as_slice(), before);
+        serve(
+            rt,
+            gate,
+            &mut self.book,
+            self.sleepers.as_slice(),
+            self.slept,
+            before,
+        );
         match arrived {
             Arrived::Queued(queue) => Enqueued::Entered(queue),
             Arrived::Full(queue) => Enqueued::Full(queue),
@@ -146,7 +156,14 @@ impl<K: Naming> Queued<K> {
         every_level_has_histories();
         self.book.has_a_history();
         let before = self.book.events();
-        serve(rt, gate, &mut self.book, self.sleepers.as_slice(), before)
+        serve(
+            rt,
+            gate,
+            &mut self.book,
+            self.sleepers.as_slice(),
+            self.slept,
+            before,
+        )
     }
 
     /// The Pass's request, which executes, took so much, in microseconds of a seat. If it was dispatched from a queue,
@@ -174,7 +191,14 @@ impl<K: Naming> Queued<K> {
         let before = self.book.events();
         self.book.settle(pass, amount);
         let waiting = gate.release(pass);
-        serve(rt, gate, &mut self.book, self.sleepers.as_slice(), before);
+        serve(
+            rt,
+            gate,
+            &mut self.book,
+            self.sleepers.as_slice(),
+            self.slept,
+            before,
+        );
         waiting
     }
 
@@ -189,7 +213,14 @@ impl<K: Naming> Queued<K> {
         self.book.has_a_history();
         let before = self.book.events();
         let struck = self.book.strike(gate, request);
-        serve(rt, gate, &mut self.book, self.sleepers.as_slice(), before);
+        serve(
+            rt,
+            gate,
+            &mut self.book,
+            self.sleepers.as_slice(),
+            self.slept,
+            before,
+        );
         struck
     }
 
@@ -214,7 +245,14 @@ impl<K: Naming> Queued<K> {
         // the Desk, which let it enter, knows that it is decided by nobody else
         self.book.hear(gate, pass);
         let _struck = self.book.withdraw(gate, pass);
-        serve(rt, gate, &mut self.book, self.sleepers.as_slice(), before);
+        serve(
+            rt,
+            gate,
+            &mut self.book,
+            self.sleepers.as_slice(),
+            self.slept,
+            before,
+        );
     }
 
     /// Somebody may sleep from now on until the request is decided.
@@ -223,6 +261,7 @@ impl<K: Naming> Queued<K> {
     {
         if let Some(sleeper) = self.sleepers.get_mut(request.slot() as usize) {
             *sleeper = request;
+            self.slept = true;
         }
     }
 

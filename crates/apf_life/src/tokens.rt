@@ -60,6 +60,42 @@ impl Model for Running {
     ghost invariant = { λ r. Executes r.entered r.pass };
 }
 
+/// The request of a slot that executes, lent: it is decided execute, and its seats stand.
+#[derive(Drop)]
+pub struct Executing<'a> {
+    pass: &'a apf_gate::Pass,
+}
+
+impl<'a> Model for Executing<'a> {
+    ghost use Rattle.apf_gate.specs.Tokens.{PassToken};
+    ghost use Rattle.apf_line.specs.Tokens.{IsRunning};
+
+    ghost Value = { PassToken };
+
+    ghost view = { λ e. e.pass.now };
+
+    ghost invariant = { λ e. IsRunning e.pass.now };
+}
+
+impl<'a> Executing<'a> {
+    /// That of this Pass.
+    pub fn of(pass: &'a apf_gate::Pass) -> Executing<'a>
+        requires { IsRunning pass.now }
+        ensures { result ≡ pass.now }
+    {
+        Executing { pass }
+    }
+
+    /// What names the request for ever.
+    pub fn ticket(&self) -> Ticket
+        ensures number { result.number ≡ self.now.pass.number }
+        ensures is_ticket { IsTicket self.now.pass.knows.shape result.number }
+        ensures runs { IsRunning self.now }
+    {
+        self.pass.ticket()
+    }
+}
+
 /// A slot whose request is decided and holds no seats, or that nobody held yet: its next request may come.
 #[derive(Drop)]
 pub struct Done {

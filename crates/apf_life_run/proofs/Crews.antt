@@ -10,7 +10,7 @@ use Rattle.apf_life_run.specs.Crews.{expected}
 pub none_held : (ws : List Load) → All IsIdle ws → held ws ≡ 0
 none_held [] none = refl
 none_held (w ∷ ws) none =
-    let here : length w.slots ≡ 0 = ap length (none 0 w (omega arith)).0 in
+    let here : length w.slots ≡ 0 = ap length (none 0 w (omega arith)) in
     let rest : held ws ≡ 0 = none_held ws (λ k d low. none (suc k) d (omega arith)) in
     omega (arith, here, rest)
 
@@ -31,9 +31,8 @@ one_more_expected (x ∷ hs) h =
 
 -- who has no slot has none of which a request came
 pub idle_ready : (ws : List Load) → All IsIdle ws → All IsReady ws
-idle_ready ws idle k d low = (λ i t few. absurd (let none = ap length (idle k d low).0 in omega (arith, few, none)), (idle k d low).1)
+idle_ready ws idle k d low = λ i t few. absurd (let none = ap length (idle k d low) in omega (arith, few, none))
 
 -- one more slot of which no request came
-pub still_ready : (old new : Load) (slot : PassToken) → new.slots ≡ old.slots ++ slot ∷ [] → new.over ≡ old.over → IsReady old → IsInRound 0 slot → IsReady new
-still_ready old new slot slots over ready first =
-    (subst (All (IsInRound 0)) (sym slots) (All-push (IsInRound 0) old.slots slot ready.0 first), over ∙ ready.1)
+pub still_ready : (old new : Load) (slot : PassToken) → new.slots ≡ old.slots ++ slot ∷ [] → IsReady old → IsInRound 0 slot → IsReady new
+still_ready old new slot slots ready first = subst (All (IsInRound 0)) (sym slots) (All-push (IsInRound 0) old.slots slot ready first)

@@ -41,11 +41,11 @@ pub one_more : (gate : GateId) (requests : List Request) (rounds : ℕ) (r : Ret
     → AreFinished gate requests rounds (record { dones = r.dones ++ w.slots; stations = r.stations ++ w.station ∷ [] })
 one_more gate requests rounds r w had is through =
     let stations : List StationToken = r.stations ++ w.station ∷ [] in record {
-      own = All-append (λ (t : PassToken). pass_gate t ≡ gate) r.dones w.slots had.own is.own_slots;
+      own = All-append (λ (t : PassToken). pass_gate t ≡ gate) r.dones w.slots had.own is.own;
       through = All-append (IsInRound rounds) r.dones w.slots had.through through;
       faithful = All-push (IsFaithful gate requests rounds) r.stations w.station had.faithful is.faithful;
       known = All-append (IsKnownTo requests stations) r.dones w.slots
           (all_as (IsKnownTo requests r.stations) (IsKnownTo requests stations) r.dones (known_more requests r.stations w.station) had.known)
-          (all_as (IsKnown requests w.station) (IsKnownTo requests stations) w.slots (known_by requests r.stations w.station) is.known_slots);
-      asked = All-append (HasAsked requests) r.dones w.slots had.asked is.asked_slots;
+          (all_as (IsKnown requests w.station) (IsKnownTo requests stations) w.slots (known_by requests r.stations w.station) is.known);
+      asked = All-append (HasAsked requests) r.dones w.slots had.asked is.asked;
     }

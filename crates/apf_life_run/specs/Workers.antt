@@ -5,14 +5,14 @@ use Rattle.apf_gate.specs.Records.{told_of}
 use Rattle.apf_gate.specs.Slots.{slot_of, round_of}
 use Rattle.apf_gate.specs.Traces.{asked_in}
 use Rattle.apf_gate.specs.Tokens.{GateId, PassToken, StationToken, pass_gate}
+use Rattle.apf_line.specs.Tokens.{IsDone}
 use Rattle.apf_run.specs.Plans.{closes_at}
 use Rattle.apf_life_run.specs.Plans.{number_in, ask_it_asks, IsFaithful}
 
--- its Station, the slots whose turn is yet to come in a round, and those whose turn was
+-- its Station, and the Passes of its slots
 pub record Load : Type 0 where
   pub station : StationToken
   pub slots : List PassToken
-  pub over : List PassToken
 
 -- this many requests of the slot came
 abbrev pub IsInRound : ℕ → PassToken → Type 0
@@ -37,23 +37,21 @@ abbrev pub HasAsked : List Request → PassToken → Type 0
 HasAsked requests t = (round : ℕ) → 1 ≤ round → round ≤ round_of t.pass.number
     → asked_in t.pass.knows.trace (number_in requests (slot_of t.pass.number) round) ≡ Some (ask_it_asks (slice_get requests (slot_of t.pass.number)))
 
--- all of it is of this gate, its Station is faithful, and knows its slots
+-- all of it is of this gate, its Station is faithful, and knows its slots. The request of each slot is over, or none came yet
 pub record IsLoadOf (gate : GateId) (requests : List Request) (rounds : ℕ) (load : Load) : Type 0 where
   pub faithful : IsFaithful gate requests rounds load.station
-  pub own_slots : All (λ (t : PassToken). pass_gate t ≡ gate) load.slots
-  pub own_over : All (λ (t : PassToken). pass_gate t ≡ gate) load.over
-  pub known_slots : All (IsKnown requests load.station) load.slots
-  pub known_over : All (IsKnown requests load.station) load.over
-  pub asked_slots : All (HasAsked requests) load.slots
-  pub asked_over : All (HasAsked requests) load.over
+  pub own : All (λ (t : PassToken). pass_gate t ≡ gate) load.slots
+  pub done : All IsDone load.slots
+  pub known : All (IsKnown requests load.station) load.slots
+  pub asked : All (HasAsked requests) load.slots
 
 -- it has no slot
 abbrev pub IsIdle : Load → Type 0
-IsIdle load = (load.slots ≡ []) × (load.over ≡ [])
+IsIdle load = load.slots ≡ []
 
 -- no request of its slots came
 abbrev pub IsReady : Load → Type 0
-IsReady load = All (IsInRound 0) load.slots × (load.over ≡ [])
+IsReady load = All (IsInRound 0) load.slots
 
 -- it went through this many rounds with this many slots
 abbrev pub IsThrough : ℕ → ℕ → Load → Type 0

@@ -25,14 +25,13 @@ pub struct Share {
     count: usize,
 }
 
-impl<K: Plan> Promise<Result<Worker<K>, AllocError>> for Share {
-    ghost use Rattle.std.specs.Prelude.{IfOk};
+impl<K: Plan> Promise<Worker<K>> for Share {
     ghost use Rattle.apf_life_run.specs.Workers.{IsThrough};
 
-    ghost kept_by = { λ p r. IfOk r (IsThrough K.rounds p.count) };
+    ghost kept_by = { λ p w. IsThrough K.rounds p.count w };
 }
 
-type Handle<K> = PromisedHandle<Result<Worker<K>, AllocError>, Share>;
+type Handle<K> = PromisedHandle<Worker<K>, Share>;
 
 // A worker for each Station, with memory for its share of this many slots.
 fn idle<K: Plan>(
@@ -60,7 +59,7 @@ fn idle<K: Plan>(
 #[tactic(auto, using(crate::proofs::Crews::none_held))]
 pub fn deal_out<K: Plan>(
     alloc: Global,
-    mut slots: Vec<Done>,
+    slots: Vec<Done>,
     stations: Vec<Station>,
 ) -> Result<Vec<Worker<K>>, AllocError>
     requires some { 0 < length stations.items }
@@ -71,7 +70,7 @@ pub fn deal_out<K: Plan>(
     ensures ready { IfOk result (λ v. All IsReady v.items) }
 {
     let mut workers = idle::<K>(alloc, slots.len(), stations)?;
-    while let Some(slot) = slots.pop() {
+    for slot in slots {
         let at = slot.ticket().slot() as usize % workers.len();
         workers[at].add(slot)?;
     }
@@ -97,10 +96,10 @@ fn start<'s, E, K: Plan, W: Work, R: Wait + Threads + Sync>(
     };
     let started = scope.spawn_with(
         share,
-        move || -> Result<Worker<K>, AllocError>
+        move || -> Worker<K>
             requires ready { IsReady worker }
             requires rounds { rounds ≡ K.rounds }
-            ensures { IfOk result (IsThrough K.rounds (length worker.slots)) }
+            ensures { IsThrough K.rounds (length worker.slots) result }
         { worker.work(rt, job, rounds) },
     );
     match started {
@@ -148,7 +147,7 @@ fn join_all<K: Plan, R: Threads>(
     ensures fault { IfErr result (λ f. f ≡ faults.NoMemory) }
 {
     for handle in handles {
-        finished = finished.with(handle.join(rt)?)?;
+        finished = finished.with(handle.join(rt))?;
     }
     Ok(finished)
 }

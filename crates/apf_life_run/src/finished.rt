@@ -1,12 +1,13 @@
 //! What the workers of a run in rounds gave back.
 
-ghost use Rattle.std.specs.Prelude.{◌≡◌, ◌+◌, [], length, All, IfOk};
+ghost use Rattle.std.specs.Prelude.{◌≡◌, ◌+◌, ◌++◌, [], length, All, IfOk, OnOk};
+ghost use Rattle.apf_line.specs.Tokens.{IsDone};
 ghost use Rattle.apf_life_run.specs.Workers.{IsInRound};
 ghost use Rattle.apf_life_run.specs.Runs.{AreFinished};
 
 use crate::plan::Plan;
 use crate::worker::Worker;
-use apf_gate::Station;
+use apf_gate::{Pass, Station};
 use apf_life::Done;
 use std::alloc::{AllocError, Global};
 use std::marker::{Model, PhantomData};
@@ -27,6 +28,17 @@ impl<K: Plan> Model for Finished<K> {
     ghost view = { λ f. record { dones = f.dones.items; stations = f.stations.items } };
 
     ghost invariant = { λ f. AreFinished K.level.gate K.requests K.rounds (record { dones = f.dones.items; stations = f.stations.items }) };
+}
+
+// Adds these slots, each of which is over.
+fn add_all(dones: &mut Vec<Done>, slots: Vec<Pass>) -> Result<(), AllocError>
+    requires { All IsDone slots.items }
+    ensures { OnOk result (dones.new.items ≡ dones.old.items ++ slots.items) }
+{
+    for slot in slots {
+        dones.push(Done::of(slot))?;
+    }
+    Ok(())
 }
 
 impl<K: Plan> Finished<K> {
@@ -60,8 +72,8 @@ impl<K: Plan> Finished<K> {
             mut stations,
             of,
         } = self;
-        let (station, mut more) = worker.into_parts();
-        dones.append(&mut more)?;
+        let (station, slots) = worker.into_parts();
+        add_all(&mut dones, slots)?;
         stations.push(station)?;
         Ok(Finished {
             dones,

@@ -19,7 +19,7 @@ mod plan;
 mod running;
 mod worker;
 
-pub use apf_life::{Report, Running};
+pub use apf_life::{Executing, Report};
 pub use book::write_book;
 pub use fault::RoundsFault;
 pub use running::run_rounds;

@@ -93,6 +93,13 @@ impl<K: Plan> Operator<K> {
         level.close(&mut self.station);
     }
 
+    /// It did what the requests ask for, and nothing else. It makes no step: the contract is the law.
+    pub fn is_faithful(&self)
+        ensures { IsFaithful K.level.gate K.requests K.rounds self.now }
+    {
+        let _ = &self.station;
+    }
+
     /// The Station.
     pub fn into_station(self) -> Station
         ensures same { result ≡ self }

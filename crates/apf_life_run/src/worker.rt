@@ -4,7 +4,9 @@ ghost use Rattle.std.specs.Prelude.{◌≡◌, ◌+◌, ◌<◌, ◌≤◌, [], 
 ghost use Rattle.apf_gate.specs.Slots.{IsTicket, slot_of, round_of, number_of};
 ghost use Rattle.apf_gate.specs.Tokens.{pass_gate};
 ghost use Rattle.apf_gate.specs.Traces.{asked_in};
+ghost use Rattle.apf_line.specs.Tokens.{IsDone};
 ghost use Rattle.apf_life.specs.Arrivals.{TraceGoesOn};
+ghost use Rattle.apf_life.specs.Calls.{IsFreshPass};
 ghost use Rattle.apf_life_run.specs.Plans.{HasWidth, IsNamedIn, AreOrders};
 ghost use Rattle.apf_life_run.specs.Workers.{IsInRound, IsFirstOf, KeepsKnowing, IsKnown, HasAsked, IsLoadOf, IsReady, IsThrough};
 
@@ -12,9 +14,8 @@ use crate::newest::Newest;
 use crate::operator::Operator;
 use crate::plan::Plan;
 use apf_files::Request;
-use apf_gate::{Station, Ticket};
-use apf_life::{Admit, Done, Level, Pass, Renewed, Running};
-use apf_life_session::release;
+use apf_gate::{Pass, Station, Ticket};
+use apf_life::{Begun, Done, Executing, Level};
 use apf_model::Ask;
 use std::alloc::{AllocError, Global};
 use std::marker::Model;
@@ -23,17 +24,15 @@ use std::sync::Wait;
 /// What the requests of a run do while they execute. All workers share it.
 pub trait Work: Sync {
     /// Does this many units of work for the request that executes. It is lent what says so: its seats stand.
-    fn work(&self, running: &Running, units: u32);
+    fn work(&self, executing: &Executing<'_>, units: u32);
 }
 
 /// A worker of the level that K names, with its share of the slots.
 #[derive(Drop)]
 pub struct Worker<K: Plan> {
     operator: Operator<K>,
-    // those whose turn is yet to come in a round, the first one last
-    slots: Vec<Done>,
-    // those whose turn was, the first one first
-    over: Vec<Done>,
+    // the Passes of its slots, which stay in their places
+    slots: Vec<Pass>,
 }
 
 impl<K: Plan> Model for Worker<K> {
@@ -41,9 +40,9 @@ impl<K: Plan> Model for Worker<K> {
 
     ghost Value = { Load };
 
-    ghost view = { λ w. record { station = w.operator; slots = w.slots.items; over = w.over.items } };
+    ghost view = { λ w. record { station = w.operator; slots = w.slots.items } };
 
-    ghost invariant = { λ w. IsLoadOf K.level.gate K.requests K.rounds (record { station = w.operator; slots = w.slots.items; over = w.over.items }) };
+    ghost invariant = { λ w. IsLoadOf K.level.gate K.requests K.rounds (record { station = w.operator; slots = w.slots.items }) };
 }
 
 /// What all workers of the level that K names share.
@@ -110,29 +109,26 @@ impl<'a, K: Plan, W: Work> Job<'a, K, W> {
     }
 
     // The slot goes on to its request of this round, and its worker notes that.
-    fn next(&self, slot: Done, request: Request, round: u32) -> Pass
-        requires own { pass_gate slot ≡ K.level.gate }
+    fn next(&self, slot: &mut Pass, request: Request, round: u32)
+        requires own { pass_gate slot.old ≡ K.level.gate }
+        requires done { IsDone slot.old }
         requires width { HasWidth request }
-        requires before { round_of slot.pass.number + 1 ≡ round }
+        requires before { round_of slot.old.pass.number + 1 ≡ round }
         requires in_rounds { round ≤ K.rounds }
-        ensures own { pass_gate result.token ≡ K.level.gate }
-        ensures number { result.token.pass.number ≡ number_of (slot_of slot.pass.number) round request.width }
-        ensures asks { (result.hash ≡ request.hash) × (result.cost ≡ request.width) }
-        ensures asked { asked_in result.token.pass.knows.trace result.token.pass.number ≡ Some (record { hash = request.hash; cost = request.width }) }
-        ensures goes_on { TraceGoesOn slot result.token }
+        ensures fresh { IsFreshPass K.level slot.new }
+        ensures number { slot.new.pass.number ≡ number_of (slot_of slot.old.pass.number) round request.width }
+        ensures asked { asked_in slot.new.pass.knows.trace slot.new.pass.number ≡ Some (record { hash = request.hash; cost = request.width }) }
+        ensures goes_on { TraceGoesOn slot.old slot.new }
     {
         let ask = Ask {
             width: request.width,
             hash: request.hash,
         };
-        match self.level.renew(slot, ask) {
-            Renewed::Fresh(pass) => {
-                self.newest.note(pass.ticket().slot(), round);
-                pass
-            }
+        if !self.level.renew_slot(slot, ask, request.width) {
             // a slot has more numbers than a run has rounds
-            Renewed::Spent(_slot) => unreachable!(),
+            unreachable!();
         }
+        self.newest.note(slot.ticket().slot(), round);
     }
 }
 
@@ -147,32 +143,40 @@ fn close_as_said<K: Plan>(level: &Level<K>, operator: &mut Operator<K>, request:
     }
 }
 
-// Waits until the request is decided. If it executes, it does its work, cancels and strikes whoever holds the slot that
-// it names, gives its seats back, and dispatches where requests wait.
+// Waits until the slot's request is decided. If it executes, it does its work, cancels and strikes whoever holds the slot
+// that it names, gives its seats back, and dispatches where requests wait.
 fn finish<K: Plan, W: Work, R: Wait>(
     rt: &R,
     job: &Job<'_, K, W>,
     operator: &mut Operator<K>,
     request: Request,
-    pass: Pass,
-) -> Done
-    requires own { pass_gate pass.token ≡ K.level.gate }
+    slot: &mut Pass,
+)
+    requires fresh { IsFreshPass K.level slot.old }
     requires planned { Contains K.requests request }
-    ensures own { pass_gate result ≡ K.level.gate }
-    ensures same { result.pass.number ≡ pass.token.pass.number }
-    ensures goes_on { TraceGoesOn pass.token result }
+    requires width { HasWidth request }
+    requires asked { asked_in slot.old.pass.knows.trace slot.old.pass.number ≡ Some (record { hash = request.hash; cost = request.width }) }
+    ensures own { pass_gate slot.new ≡ K.level.gate }
+    ensures done { IsDone slot.new }
+    ensures same { slot.new.pass.number ≡ slot.old.pass.number }
+    ensures goes_on { TraceGoesOn slot.old slot.new }
     ensures knows { KeepsKnowing operator.old operator.new }
 {
-    match job.level.admit(rt, pass) {
-        Admit::Run(running) => {
-            job.work.work(&running, request.work);
+    let (begun, _entered) = job
+        .level
+        .arrive_and_wait(rt, slot, request.hash, request.width);
+    match begun {
+        Begun::Run => {
+            job.work.work(&Executing::of(slot), request.work);
             if let Some(other) = job.named_by(request) {
                 let (_answer, owed) = operator.cancel(job.level, other);
                 job.level.strike_if_owed(rt, owed);
             }
-            release(rt, job.level, running)
+            let owes = job.level.give_back(slot);
+            job.level.dispatch_if_owed(rt, owes);
         }
-        Admit::Over(done, _decision) => done,
+        Begun::Over(_decision) => {}
+        Begun::Waits => unreachable!(),
     }
 }
 
@@ -182,27 +186,28 @@ fn handle<K: Plan, W: Work, R: Wait>(
     rt: &R,
     job: &Job<'_, K, W>,
     operator: &mut Operator<K>,
-    slot: Done,
+    slot: &mut Pass,
     round: u32,
-) -> Done
-    requires own { pass_gate slot ≡ K.level.gate }
-    requires before { round_of slot.pass.number + 1 ≡ round }
+)
+    requires own { pass_gate slot.old ≡ K.level.gate }
+    requires done { IsDone slot.old }
+    requires before { round_of slot.old.pass.number + 1 ≡ round }
     requires in_rounds { round ≤ K.rounds }
-    requires known { IsKnown K.requests operator.old slot }
-    requires asked { HasAsked K.requests slot }
-    ensures own { pass_gate result ≡ K.level.gate }
-    ensures round { round_of result.pass.number ≡ round }
-    ensures known { IsKnown K.requests operator.new result }
-    ensures asked { HasAsked K.requests result }
+    requires known { IsKnown K.requests operator.old slot.old }
+    requires asked { HasAsked K.requests slot.old }
+    ensures own { pass_gate slot.new ≡ K.level.gate }
+    ensures done { IsDone slot.new }
+    ensures round { round_of slot.new.pass.number ≡ round }
+    ensures known { IsKnown K.requests operator.new slot.new }
+    ensures asked { HasAsked K.requests slot.new }
     ensures knows { KeepsKnowing operator.old operator.new }
 {
     let request = job.asked(slot.ticket().slot());
     close_as_said(job.level, operator, request);
-    let pass = job.next(slot, request, round);
-    let ticket = pass.ticket();
-    let slot = finish(rt, job, operator, request, pass);
+    job.next(slot, request, round);
+    let ticket = slot.ticket();
+    finish(rt, job, operator, request, slot);
     operator.hear(rt, job.level, ticket);
-    slot
 }
 
 impl<K: Plan> Worker<K> {
@@ -212,16 +217,15 @@ impl<K: Plan> Worker<K> {
     ///
     /// `AllocError` if memory was refused.
     pub fn new(alloc: Global, operator: Operator<K>, share: usize) -> Result<Worker<K>, AllocError>
-        ensures { IfOk result (λ w. (w.slots ≡ []) × (w.over ≡ [])) }
+        ensures { IfOk result (λ w. w.slots ≡ []) }
     {
         Ok(Worker {
             operator,
             slots: Vec::with_capacity(alloc, share)?,
-            over: Vec::with_capacity(alloc, share)?,
         })
     }
 
-    /// Gives the worker a slot, which goes before those that it has.
+    /// Gives the worker a slot, which goes behind those that it has.
     ///
     /// # Errors
     ///
@@ -229,63 +233,41 @@ impl<K: Plan> Worker<K> {
     pub fn add(&mut self, slot: Done) -> Result<(), AllocError>
         requires first { IsFirstOf K.level.gate slot }
         ensures slots { OnOk result (self.new.slots ≡ self.old.slots ++ slot ∷ []) }
-        ensures over { self.new.over ≡ self.old.over }
     {
-        self.slots.push(slot)?;
+        self.slots.push(slot.into_pass())?;
         Ok(())
     }
 
     // Goes through its slots once more, which it did this many times before.
-    fn go_round<W: Work, R: Wait>(
-        self,
-        rt: &R,
-        job: &Job<'_, K, W>,
-        before: u32,
-    ) -> Result<Worker<K>, AllocError>
-        requires over { self.over ≡ [] }
+    fn go_round<W: Work, R: Wait>(self, rt: &R, job: &Job<'_, K, W>, before: u32) -> Worker<K>
         requires before { All (IsInRound before) self.slots }
         requires in_rounds { before < K.rounds }
         requires fits { before < u32.MAX }
-        ensures count { IfOk result (λ w. length w.slots ≡ length self.slots) }
-        ensures over { IfOk result (λ w. w.over ≡ []) }
-        ensures after { IfOk result (λ w. All (IsInRound (before + 1)) w.slots) }
+        ensures count { length result.slots ≡ length self.slots }
+        ensures after { All (IsInRound (before + 1)) result.slots }
     {
         let Worker {
             mut operator,
             mut slots,
-            mut over,
         } = self;
-        while let Some(slot) = slots.pop() {
-            over.push(handle(rt, job, &mut operator, slot, before + 1))?;
+        for place in 0..slots.len() {
+            handle(rt, job, &mut operator, &mut slots[place], before + 1);
+            operator.is_faithful();
         }
-        over.reverse();
-        Ok(Worker {
-            operator,
-            slots: over,
-            over: slots,
-        })
+        Worker { operator, slots }
     }
 
     /// Goes through its slots this many times, in their order each time.
-    ///
-    /// # Errors
-    ///
-    /// `AllocError` if memory was refused. Then no more requests come.
-    pub fn work<W: Work, R: Wait>(
-        self,
-        rt: &R,
-        job: &Job<'_, K, W>,
-        rounds: u32,
-    ) -> Result<Worker<K>, AllocError>
+    pub fn work<W: Work, R: Wait>(self, rt: &R, job: &Job<'_, K, W>, rounds: u32) -> Worker<K>
         requires ready { IsReady self }
         requires rounds { rounds ≤ K.rounds }
-        ensures { IfOk result (IsThrough rounds (length self.slots)) }
+        ensures { IsThrough rounds (length self.slots) result }
     {
         let mut worker = self;
         for before in 0..rounds {
-            worker = worker.go_round(rt, job, before)?;
+            worker = worker.go_round(rt, job, before);
         }
-        Ok(worker)
+        worker
     }
 
     /// How many slots it has.
@@ -295,17 +277,13 @@ impl<K: Plan> Worker<K> {
         self.slots.len()
     }
 
-    /// The Station, and the slots.
-    pub fn into_parts(self) -> (Station, Vec<Done>)
+    /// The Station, and the Passes of the slots.
+    pub fn into_parts(self) -> (Station, Vec<Pass>)
         ensures station { result.0 ≡ self.station }
         ensures slots { result.1.items ≡ self.slots }
         ensures load { IsLoadOf K.level.gate K.requests K.rounds self }
     {
-        let Worker {
-            operator,
-            slots,
-            over: _,
-        } = self;
+        let Worker { operator, slots } = self;
         (operator.into_station(), slots)
     }
 }

@@ -4,7 +4,7 @@ ghost use Rattle.std.specs.Prelude.{◌<◌, ◌≤◌};
 ghost use Rattle.apf_life_run.specs.Plans.{max_rounds};
 
 use crate::runs::{Fault, Pace, one_queue, run_text};
-use apf_life_run::{Running, Work};
+use apf_life_run::{Executing, Work};
 use std::alloc::{AllocError, Global};
 use std::process::Abort;
 use std::sync::Wait;
@@ -38,10 +38,10 @@ impl Counted {
 }
 
 impl Work for Counted {
-    fn work(&self, running: &Running, units: u32) {
+    fn work(&self, executing: &Executing<'_>, units: u32) {
         self.calls.fetch_add(1, Ordering::SeqCst);
         self.units.fetch_add(u64::from(units), Ordering::SeqCst);
-        let ticket = running.ticket();
+        let ticket = executing.ticket();
         let round = (ticket.number / (16384 * 32768)) as u64;
         if let Some(newest) = self.rounds.get(ticket.slot() as usize) {
             if newest.swap(round, Ordering::SeqCst) >= round {

@@ -3,7 +3,7 @@
 ghost use Rattle.std.specs.Prelude.{◌≡◌, ◌<◌, ◌≤◌, IfOk};
 ghost use Rattle.apf_life_run.specs.Plans.{max_rounds};
 
-use apf_life_run::{Report, RoundsFault, Running, Work, run_rounds};
+use apf_life_run::{Executing, Report, RoundsFault, Work, run_rounds};
 use apf_model::{Config, Response};
 use apf_run::{RequestFault, read_requests};
 use std::alloc::{AllocError, Global};
@@ -40,7 +40,7 @@ impl From<AllocError> for Fault {
 pub struct Nothing;
 
 impl Work for Nothing {
-    fn work(&self, _running: &Running, _units: u32) {}
+    fn work(&self, _executing: &Executing<'_>, _units: u32) {}
 }
 
 /// How many workers go how many times through their slots.

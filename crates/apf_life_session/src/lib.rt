@@ -18,7 +18,7 @@
 //! ```
 //! let mut session = Session::<K>::open_for_life(rt, alloc, opening)?;
 //! let ask = Ask { width: 1, hash: 7 };
-//! let (mut answer, _event) = session.arrive(rt, 0, ask);
+//! let mut answer = session.arrive(rt, 0, ask);
 //! // what the slot answered last says which call follows
 //! answer = match answer {
 //!     // here the request is served; then it gives its seat to whoever waits
@@ -26,7 +26,7 @@
 //!     // it may have been dispatched meanwhile
 //!     Answer::Waits => session.poll(rt, 0),
 //!     // the slot is free, and its next request arrives
-//!     Answer::Over(_) | Answer::Released(_) => session.arrive(rt, 0, ask).0,
+//!     Answer::Over(_) | Answer::Released(_) => session.arrive(rt, 0, ask),
 //!     other => other,
 //! };
 //! ```

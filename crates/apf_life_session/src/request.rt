@@ -101,9 +101,22 @@ impl<K: Naming> Request<K> {
     }
 
     /// The next request of a free slot arrives, which asks for this: it takes its seats, or enters a queue, or is
-    /// decided otherwise. Its dispatch is charged its width. Answers `Run`, `Waits` or `Over`, or `Spent`, and the
-    /// event that the history got by the arrival: the request's Enter or Full, which name its queue, or none.
-    pub fn arrive<R: Wait>(
+    /// decided otherwise. Its dispatch is charged its width. Answers `Run`, `Waits` or `Over`, or `Spent`.
+    #[inline]
+    pub fn arrive<R: Wait>(&mut self, rt: &R, level: &Level<K>, ask: Ask) -> Answer
+        requires some_width { 1 ≤ ask.width }
+        requires narrow { ask.width ≤ max_width }
+        ensures arrives { Arrives K.level ask.width self.old result self.new }
+        ensures logs { (event : Option LifeEvent) × LogsFor K.level self.new ask.hash ask.width result event }
+    {
+        let (answer, _event) = self.arrive_with_cost(rt, level, ask, ask.width);
+        answer
+    }
+
+    /// As `arrive`. Answers also the event that the history got by the arrival: the request's Enter or Full, which name its
+    /// queue, or none.
+    #[inline]
+    pub fn arrive_with_event<R: Wait>(
         &mut self,
         rt: &R,
         level: &Level<K>,
@@ -117,7 +130,8 @@ impl<K: Naming> Request<K> {
         self.arrive_with_cost(rt, level, ask, ask.width)
     }
 
-    /// As `arrive`, but its dispatch is charged this cost, of 1 to 4,294,967,295 in a unit of the caller's.
+    /// As `arrive_with_event`, but its dispatch is charged this cost, of 1 to 4,294,967,295 in a unit of the caller's.
+    #[inline(always)]
     pub fn arrive_with_cost<R: Wait>(
         &mut self,
         rt: &R,
@@ -138,7 +152,7 @@ impl<K: Naming> Request<K> {
         if !level.renew_slot(&mut self.pass, ask, cost) {
             return (Answer::Spent, None);
         }
-        let (begun, event) = level.arrive(rt, &mut self.pass, ask.hash, cost);
+        let (begun, event) = level.arrive_with_event(rt, &mut self.pass, ask.hash, cost);
         self.entered = event.is_some();
         match begun {
             Begun::Run => {
@@ -189,6 +203,7 @@ impl<K: Naming> Request<K> {
     /// The next request of a free slot, which asks for this, is admitted, if nobody waits and it fits. It takes no lock,
     /// and never enters a queue. Answers `Run`, `Tried` or `Busy`, or `Spent`. Where requests waited when its seats were
     /// given back, a dispatch is owed.
+    #[inline]
     pub fn try_arrive(&mut self, level: &Level<K>, ask: Ask) -> (Answer, Owes<K>)
         requires some_width { 1 ≤ ask.width }
         requires narrow { ask.width ≤ max_width }
@@ -241,6 +256,7 @@ impl<K: Naming> Request<K> {
 
     /// A request that executes gives its seats back, by one step. Answers `Released`. Where requests waited then, a
     /// dispatch is owed.
+    #[inline]
     pub fn release(&mut self, level: &Level<K>) -> (Answer, Owes<K>)
         ensures answers { Answers places.Runs self.old result.0 self.new }
         ensures steps { ReleasesAs self.old result.0 self.new }
@@ -255,6 +271,7 @@ impl<K: Naming> Request<K> {
     }
 
     /// A request that executes gives its seats back. Then requests that wait are dispatched. Answers `Released`.
+    #[inline]
     pub fn finish<R: Wait>(&mut self, rt: &R, level: &Level<K>) -> Answer
         ensures answers { Answers places.Runs self.old result self.new }
         ensures steps { ReleasesAs self.old result self.new }

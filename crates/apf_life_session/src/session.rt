@@ -1,6 +1,7 @@
 //! A level with its slots and its operators.
 
-ghost use Rattle.std.specs.Prelude.{◌≡◌, ◌<◌, ◌≤◌, [], ◌∷◌, length, map, slice_index_or, All, IfOk, IfErr, OnOk};
+ghost use Rattle.std.specs.Prelude.{◌≡◌, ◌<◌, ◌≤◌, [], ◌∷◌, length, map, slice_index_or, All, IfOk, IfErr, OnOk, Option};
+ghost use Rattle.apf_book.specs.declared.life_event.LifeEvent.{LifeEvent};
 ghost use Rattle.apf_words.specs.Limits.{max_width, max_limit};
 ghost use Rattle.apf_gate.specs.StationCalls.{TriesToCancel, ClosesTo};
 ghost use Rattle.apf_gate.specs.Slots.{IsTicket};
@@ -214,9 +215,26 @@ impl<K: Naming> Session<K> {
     }
 
     /// The next request of a free slot arrives, which asks for this, a width of 1 to 20,000 seats. Answers `Run`,
-    /// `Waits` or `Over`, or `Spent`, and the event that the history got by the arrival: the request's Enter or Full,
-    /// which name its queue, or none.
-    pub fn arrive<R: Wait>(&mut self, rt: &R, slot: u32, ask: Ask) -> (Answer, Option<LifeEvent>)
+    /// `Waits` or `Over`, or `Spent`.
+    pub fn arrive<R: Wait>(&mut self, rt: &R, slot: u32, ask: Ask) -> Answer
+        requires is_slot { slot < K.level.gate.shape.slots }
+        requires some_width { 1 ≤ ask.width }
+        requires narrow { ask.width ≤ max_width }
+        ensures calls { CallsOne (Arrives K.level ask.width) slot self.old.slots.items result self.new.slots.items }
+        ensures operators { self.new.operators.items ≡ self.old.operators.items }
+        ensures logs { (event : Option LifeEvent) × ((d : Token) → LogsFor K.level (slice_index_or self.new.slots.items slot d) ask.hash ask.width result event) }
+    {
+        self.slots[slot as usize].arrive(rt, &self.level, ask)
+    }
+
+    /// As `arrive`. Answers also the event that the history got by the arrival: the request's Enter or Full, which name its
+    /// queue, or none.
+    pub fn arrive_with_event<R: Wait>(
+        &mut self,
+        rt: &R,
+        slot: u32,
+        ask: Ask,
+    ) -> (Answer, Option<LifeEvent>)
         requires is_slot { slot < K.level.gate.shape.slots }
         requires some_width { 1 ≤ ask.width }
         requires narrow { ask.width ≤ max_width }
@@ -224,7 +242,7 @@ impl<K: Naming> Session<K> {
         ensures operators { self.new.operators.items ≡ self.old.operators.items }
         ensures logs { (d : Token) → LogsFor K.level (slice_index_or self.new.slots.items slot d) ask.hash ask.width result.0 result.1 }
     {
-        self.slots[slot as usize].arrive(rt, &self.level, ask)
+        self.slots[slot as usize].arrive_with_event(rt, &self.level, ask)
     }
 
     /// The next request of a free slot is admitted, if nobody waits and it fits. It never enters a queue. Answers `Run`,

@@ -108,7 +108,7 @@ fn decided<K: Naming, R: Wait>(
     if sleeps {
         return request.admit(rt, level, ask);
     }
-    let (mut answer, _event) = request.arrive(rt, level, ask);
+    let mut answer = request.arrive(rt, level, ask);
     for _turn in 0..MOST_TURNS {
         if answer != Answer::Waits {
             break;

@@ -57,7 +57,7 @@ fn arrive<K: Naming, R: Wait + Abort>(
         hash: u64::from(draw.below(7)),
     };
     if session.slots[slot as usize].place() != Place::Free {
-        let (answer, event) = session.arrive(rt, slot, ask);
+        let (answer, event) = session.arrive_with_event(rt, slot, ask);
         assert_eq!(rt; answer, Answer::Wrong);
         assert_eq!(rt; event, None);
         return;
@@ -65,7 +65,7 @@ fn arrive<K: Naming, R: Wait + Abort>(
     let Ok(dealer) = Dealer::new(QUEUES, HAND) else {
         panic!(rt; "deals")
     };
-    let (answer, event) = session.arrive(rt, slot, ask);
+    let (answer, event) = session.arrive_with_event(rt, slot, ask);
     let ticket = session.ticket(slot);
     past.comes(rt, ticket, ask.width, dealer.deal(ask.hash).as_slice());
     if let Answer::Over(decision) = answer {

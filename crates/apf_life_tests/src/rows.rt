@@ -57,13 +57,13 @@ fn one_after_another<K: Naming, R: Wait + Abort>(rt: &R, alloc: Global, opening:
     let Ok(mut session) = Session::<K>::open_for_life(rt, alloc, opening) else {
         panic!(rt; "opens")
     };
-    assert_eq!(rt; session.arrive(rt, 0, ONE), (Answer::Run, None));
+    assert_eq!(rt; session.arrive_with_event(rt, 0, ONE), (Answer::Run, None));
     let first = session.ticket(0);
     assert_eq!(rt; first.number, (32_768 + 1) * 16_384);
     assert_eq!(rt; session.finish(rt, 0), Answer::Released(false));
-    assert_eq!(rt; session.arrive(rt, 1, ONE), (Answer::Run, None));
+    assert_eq!(rt; session.arrive_with_event(rt, 1, ONE), (Answer::Run, None));
     let wide = Ask { width: 5, hash: 9 };
-    let (answer, event) = session.arrive(rt, 0, wide);
+    let (answer, event) = session.arrive_with_event(rt, 0, wide);
     assert_eq!(rt; answer, Answer::Waits);
     let second = session.ticket(0);
     assert_eq!(rt; second.number, (2 * 32_768 + 5) * 16_384);
@@ -73,7 +73,7 @@ fn one_after_another<K: Naming, R: Wait + Abort>(rt: &R, alloc: Global, opening:
     assert_eq!(rt; session.finish(rt, 1), Answer::Released(true));
     assert_eq!(rt; session.poll(rt, 0), Answer::Run);
     assert_eq!(rt; session.finish(rt, 0), Answer::Released(false));
-    assert_eq!(rt; session.arrive(rt, 0, ONE), (Answer::Run, None));
+    assert_eq!(rt; session.arrive_with_event(rt, 0, ONE), (Answer::Run, None));
     let report = ended(rt, alloc, session);
     assert_eq!(rt; report.words.counts().executed, 4);
     assert_eq!(rt; report.words.decision(0), Some(Decision::Execute));
@@ -94,20 +94,20 @@ fn struck_full_and_closed<K: Naming, R: Wait + Abort>(rt: &R, alloc: Global, ope
     let Ok(mut session) = Session::<K>::open_for_life(rt, alloc, opening) else {
         panic!(rt; "opens")
     };
-    assert_eq!(rt; session.arrive(rt, 0, ONE), (Answer::Run, None));
-    assert_eq!(rt; session.arrive(rt, 1, ONE).0, Answer::Waits);
-    assert_eq!(rt; session.arrive(rt, 2, ONE).0, Answer::Waits);
-    let (answer, event) = session.arrive(rt, 3, ONE);
+    assert_eq!(rt; session.arrive_with_event(rt, 0, ONE), (Answer::Run, None));
+    assert_eq!(rt; session.arrive(rt, 1, ONE), Answer::Waits);
+    assert_eq!(rt; session.arrive(rt, 2, ONE), Answer::Waits);
+    let (answer, event) = session.arrive_with_event(rt, 3, ONE);
     assert_eq!(rt; answer, Answer::Over(Decision::QueueFull));
     assert_eq!(rt; event, Some(LifeEvent::Full(session.ticket(3), 0)));
     let struck = session.ticket(1);
     assert_eq!(rt; session.cancel(rt, struck), Cancel::Is(Decision::Cancelled));
     assert_eq!(rt; session.poll(rt, 1), Answer::Over(Decision::Cancelled));
-    let (answer, _event) = session.arrive(rt, 1, ONE);
+    let answer = session.arrive(rt, 1, ONE);
     assert_eq!(rt; answer, Answer::Waits);
     assert_eq!(rt; session.close(), Close::First);
     assert_eq!(rt;
-        session.arrive(rt, 3, ONE),
+        session.arrive_with_event(rt, 3, ONE),
         (Answer::Over(Decision::Closed), None)
     );
     assert_eq!(rt; session.finish(rt, 0), Answer::Released(true));
@@ -142,8 +142,8 @@ fn late_reader<K: Naming, R: Wait + Abort>(rt: &R, alloc: Global, opening: Openi
         panic!(rt; "opens")
     };
     for _round in 0..10 {
-        assert_eq!(rt; session.arrive(rt, 0, ONE), (Answer::Run, None));
-        assert_eq!(rt; session.arrive(rt, 1, ONE).0, Answer::Waits);
+        assert_eq!(rt; session.arrive_with_event(rt, 0, ONE), (Answer::Run, None));
+        assert_eq!(rt; session.arrive(rt, 1, ONE), Answer::Waits);
         assert_eq!(rt; session.finish(rt, 0), Answer::Released(true));
         assert_eq!(rt; session.poll(rt, 1), Answer::Run);
         assert_eq!(rt; session.finish(rt, 1), Answer::Released(false));
@@ -170,13 +170,13 @@ fn rejected<K: Naming, R: Wait + Abort>(rt: &R, alloc: Global, opening: Opening)
     let Ok(mut session) = Session::<K>::open_for_life(rt, alloc, opening) else {
         panic!(rt; "opens")
     };
-    assert_eq!(rt; session.arrive(rt, 0, ONE), (Answer::Run, None));
+    assert_eq!(rt; session.arrive_with_event(rt, 0, ONE), (Answer::Run, None));
     let over = Answer::Over(Decision::ConcurrencyLimit);
     for _round in 0..3 {
-        assert_eq!(rt; session.arrive(rt, 1, ONE), (over, None));
+        assert_eq!(rt; session.arrive_with_event(rt, 1, ONE), (over, None));
     }
     assert_eq!(rt; session.finish(rt, 0), Answer::Released(false));
-    assert_eq!(rt; session.arrive(rt, 1, ONE), (Answer::Run, None));
+    assert_eq!(rt; session.arrive_with_event(rt, 1, ONE), (Answer::Run, None));
     let report = ended(rt, alloc, session);
     let counts = report.words.counts();
     assert_eq!(rt; (counts.executed, counts.concurrency_limit), (2, 3));
@@ -227,9 +227,9 @@ fn by_time<K: Naming, R: Wait + Abort>(
     let one = Ask { width: 1, hash: 0 };
     let other = Ask { width: 1, hash: 1 };
     assert_eq!(rt; session.finish_measured(rt, 0, 1), Answer::Wrong);
-    assert_eq!(rt; session.arrive(rt, 0, one), (Answer::Run, None));
+    assert_eq!(rt; session.arrive_with_event(rt, 0, one), (Answer::Run, None));
     for (slot, ask, queue) in [(1, one, 0), (2, one, 0), (3, other, 1), (4, other, 1)] {
-        let (answer, event) = session.arrive(rt, slot, ask);
+        let (answer, event) = session.arrive_with_event(rt, slot, ask);
         assert_eq!(rt; answer, Answer::Waits);
         assert_eq!(rt; event, Some(LifeEvent::Enter(session.ticket(slot), queue)));
     }

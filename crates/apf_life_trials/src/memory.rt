@@ -50,7 +50,7 @@ fn came<K: Naming, R: Wait>(rt: &R, session: &mut Session<K>, slot: u32) -> Told
     requires slots { K.level.gate.shape.slots ≡ 3 }
     requires slot { slot < 3 }
 {
-    let (answer, event) = session.arrive(rt, slot, Ask { width: 1, hash: 7 });
+    let (answer, event) = session.arrive_with_event(rt, slot, Ask { width: 1, hash: 7 });
     Told::Came(answer, event)
 }
 

@@ -6,3 +6,10 @@ pub mod Standing
 pub mod Lawful
 pub mod Promising
 pub mod Fair
+pub mod Tallies
+pub mod Running
+pub mod Holding
+pub mod Stages
+pub mod Placing
+pub mod Seating
+pub mod Sharing

@@ -5,4 +5,5 @@ pub mod Stopped
 pub mod Laws
 pub mod Promises
 pub mod SeatTime
+pub mod Seats
 pub mod Tries

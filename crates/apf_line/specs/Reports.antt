@@ -70,3 +70,8 @@ pub record EndedAs (k : LifeId) (v : LifeView) (slots : List PassToken) (station
 pub record Ended (k : LifeId) (slots : List PassToken) (stations : List StationToken) (r : Report) : Type 0 where
   pub view : LifeView
   pub ended_as : EndedAs k view slots stations r
+
+-- the same, of a level whose Desk did this
+pub record EndedBy (desk : DeskRecord) (k : LifeId) (v : LifeView) (slots : List PassToken) (stations : List StationToken) (r : Report) : Type 0 where
+  pub ended_as : EndedAs k v slots stations r
+  pub desk_is : ended_as.desk ≡ desk

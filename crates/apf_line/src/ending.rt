@@ -7,7 +7,7 @@ ghost use Rattle.apf_book.specs.Life.{LifeView};
 ghost use Rattle.apf_book.specs.LifeBook.{IsLifeKept, IsLived};
 ghost use Rattle.apf_line.specs.Levels.{LifeId, IsBookOf, IsIdleOf, nothing_yet};
 ghost use Rattle.apf_line.specs.Tokens.{IsDone};
-ghost use Rattle.apf_line.specs.Reports.{AreNewest, ClosesAs, EndedAs};
+ghost use Rattle.apf_line.specs.Reports.{AreNewest, ClosesAs, EndedAs, EndedBy};
 
 use crate::report::{Closing, Newest, Report};
 use apf_book::{LifeBook, LifeEvent, LifeStats};
@@ -28,6 +28,7 @@ pub fn close_book(
     requires room { book.notes.capacity ≡ 2 * slots }
     requires few { slots ≤ max_requests }
     ensures lived { IsLived book }
+    ensures desk { IfOk result (λ c. c.desk ≡ book.desk) }
     ensures closes { IfOk result (λ c. (k : LifeId) (v : LifeView) → IsBookOf k book → k.gate.shape.slots ≡ slots → IsLifeKept v book → ClosesAs k v c) }
 {
     book.has_a_history();
@@ -67,7 +68,8 @@ pub fn end_level(
     requires all_passes { length passes.items ≡ gate.shape.slots }
     requires all_stations { length stations.items ≡ gate.shape.stations }
     requires done { All IsDone passes.items }
-    ensures { IfOk result (λ r. (k : LifeId) (v : LifeView) → gate ≡ k.gate → ClosesAs k v closing → EndedAs k v passes.items stations.items r) }
+    ensures ended { IfOk result (λ r. (k : LifeId) (v : LifeView) → gate ≡ k.gate → ClosesAs k v closing → EndedAs k v passes.items stations.items r) }
+    ensures by_desk { IfOk result (λ r. (k : LifeId) (v : LifeView) → gate ≡ k.gate → ClosesAs k v closing → EndedBy closing.desk.desk k v passes.items stations.items r) }
 {
     every_end_for_life_agrees();
     every_legal_history_is_in_order();

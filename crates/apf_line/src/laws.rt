@@ -1,26 +1,30 @@
 //! What is true of every history of a level.
 
-ghost use Rattle.std.specs.Prelude.{◌≡◌, ◌+◌, ◌*◌, ◌<◌, ◌≤◌, ◌++◌, [], ◌∷◌, ℕ, List, length, slice_get, Contains, Some};
+ghost use Rattle.std.specs.Prelude.{◌≡◌, ◌⊎◌, ◌+◌, ◌*◌, ◌<◌, ◌≤◌, ◌++◌, [], ◌∷◌, ℕ, List, length, map, slice_get, Contains, Some};
 ghost use Rattle.apf_history.specs.declared.events.Event.{Event};
 ghost use Rattle.apf_history.specs.declared.events.Event.TheVariants.{Enter};
 ghost use Rattle.apf_history.specs.declared.events.LogEntry.{LogEntry};
 ghost use Rattle.apf_history.specs.declared.events.LogEntry.TheVariants.{Happens};
 ghost use Rattle.apf_history.specs.Standing.{EachNames};
 ghost use Rattle.apf_history.specs.Waits.{total_width, total_time};
-ghost use Rattle.apf_model.specs.World.{width};
+ghost use Rattle.apf_model.specs.World.{width, IsStanding};
+ghost use Rattle.apf_model.specs.Schedule.{IsSchedule};
 ghost use Rattle.apf_model.specs.History.{waiting};
 ghost use Rattle.apf_model.specs.Fair.{IsNeverEmpty, service, widest};
-ghost use Rattle.apf_model.specs.Charged.{events, log_of, seat_time, AreMeasures, AreJudged, IsNeverEmptyIn, SpendsWithin, HaveSeats};
+ghost use Rattle.apf_model.specs.Charged.{events, log_of, seat_time, AreMeasures, AreJudged, IsNeverEmptyIn, SpendsWithin, HaveSeats, IsAmong, runs};
 ghost use Rattle.apf_book.specs.Life.{LifeView};
+ghost use Rattle.apf_book.specs.Said.{saying, sayings};
 ghost use Rattle.apf_flow.specs.Deal.{hand_of};
 ghost use Rattle.apf_gate.specs.declared.record.Asked.{Asked};
 ghost use Rattle.apf_gate.specs.declared.record.Entry.{Entry};
-ghost use Rattle.apf_gate.specs.Traces.{asked_in};
+ghost use Rattle.apf_gate.specs.Gauges.{IsShape};
+ghost use Rattle.apf_gate.specs.Traces.{opening_of, moves, world_of, asked_in};
 ghost use Rattle.apf_gate.specs.Tokens.{PassToken, StationToken};
 ghost use Rattle.apf_line.specs.declared.report.Report.{Report};
 ghost use Rattle.apf_line.specs.Levels.{LifeId, IsHistoryOf};
 ghost use Rattle.apf_line.specs.Promises.{KeepsPromises};
 ghost use Rattle.apf_line.specs.Reports.{EndedAs};
+ghost use Rattle.apf_line.specs.Seats.{AreSeated, AreAllMeasured};
 ghost use Rattle.apf_line.specs.Stopped.{NoRequestIsForgotten};
 ghost use Rattle.apf_line.specs.Laws.{LevelHistories};
 
@@ -143,6 +147,66 @@ pub fn every_life_wait_is_bounded_in_seat_time()
     every_settled_log_stands();
     every_settled_log_balances();
     every_settled_wait_is_bounded();
+}
+
+/// At each place of a log of a level, those who execute from queues and are charged something else than they take hold
+/// their seats. So together they have no more than the largest limit so far, or than the widest request, if that is wider.
+///
+/// It is said of any steps of the level's gate that say the log's history, if each request that was settled, or charged
+/// more while it ran, held its seats then or later. Who was never settled holds them still, or takes what it is charged.
+/// Costs are those of the requests that arrived, as in `every_life_history_isolates`. It runs no code: the contract is the
+/// law.
+pub fn every_seated_log_has_its_seats()
+    ensures { (k : LifeId) (known trace : List Entry) (v : LifeView) (costs : List ℕ) (measure : ℕ → ℕ) (seats : ℕ)
+        → IsHistoryOf k known v → IsShape k.gate.shape → IsSchedule (opening_of k.gate.shape) (moves trace)
+        → map saying v.history ≡ sayings trace → AreSeated k.gate.shape trace v.log
+        → EachNames (λ r. width costs r ≡ width v.costs r) v.history
+        → ((r charge q : ℕ) → IsAmong r charge (runs costs v.log q) → IsStanding (world_of k.gate.shape trace) r ⊎ (charge ≡ measure r))
+        → (world_of k.gate.shape trace).largest ≤ seats → EachNames (λ r. width k.gate.shape.widths r ≤ seats) v.history
+        → HaveSeats seats (width k.gate.shape.widths) measure costs v.log }
+{
+    every_schedule_is_safe();
+    every_legal_history_is_in_order();
+    every_settled_log_stands();
+}
+
+/// A level that ended shared its seats by time, whatever was settled and whatever its requests were charged before. While a
+/// queue is never empty, the requests of another one take at most as much seat-time as its own, twice the largest cost, and
+/// three times what the level gives in its longest run: its seats times that time. While a request waits, those of another
+/// queue take at most as much more than those ahead of it.
+///
+/// The level's seats are any number that neither the largest limit so far nor the width of a request of its queues
+/// passes. No request ran longer than the longest run, and none was charged for a longer one. It is said of a log in which
+/// each request that was settled held its seats then or later, by the steps that the level's Desk knew. Measures are what
+/// requests took; of one that was never settled, what its queue was charged for it. It runs no code: the contract is the
+/// law.
+pub fn every_ended_level_shares_seat_time()
+    ensures never_empty { (k : LifeId) (v : LifeView) (slots : List PassToken) (stations : List StationToken) (r : Report) (e : EndedAs k v slots stations r)
+        (costs : List ℕ) (measure : ℕ → ℕ) (seats longest : ℕ) (later stretch earlier : List LogEntry) (q other : ℕ)
+        → AreSeated k.gate.shape e.desk.knows.trace v.log → AreAllMeasured measure costs v.log
+        → EachNames (λ i. width costs i ≡ width v.costs i) v.history
+        → (world_of k.gate.shape e.words_agree.trace).largest ≤ seats → EachNames (λ i. width k.gate.shape.widths i ≤ seats) v.history
+        → ((i : ℕ) → width costs i ≤ width k.gate.shape.widths i * longest) → ((i : ℕ) → measure i ≤ width k.gate.shape.widths i * longest)
+        → SpendsWithin longest (width k.gate.shape.widths) v.log
+        → v.log ≡ later ++ (stretch ++ earlier) → q < v.queues → other < v.queues
+        → IsNeverEmptyIn (stretch ++ earlier) (length stretch) q
+        → seat_time measure stretch other ≤ seat_time measure stretch q + 2 * widest costs + 3 * (seats * longest) }
+    ensures waits { (k : LifeId) (v : LifeView) (slots : List PassToken) (stations : List StationToken) (r : Report) (e : EndedAs k v slots stations r)
+        (costs : List ℕ) (measure : ℕ → ℕ) (seats longest : ℕ) (later stretch earlier : List LogEntry) (q one other : ℕ)
+        → AreSeated k.gate.shape e.desk.knows.trace v.log → AreAllMeasured measure costs v.log
+        → EachNames (λ i. width costs i ≡ width v.costs i) v.history
+        → (world_of k.gate.shape e.words_agree.trace).largest ≤ seats → EachNames (λ i. width k.gate.shape.widths i ≤ seats) v.history
+        → ((i : ℕ) → width costs i ≤ width k.gate.shape.widths i * longest) → ((i : ℕ) → measure i ≤ width k.gate.shape.widths i * longest)
+        → SpendsWithin longest (width k.gate.shape.widths) v.log
+        → v.log ≡ later ++ (stretch ++ Happens (Enter one q) ∷ earlier)
+        → Contains (waiting (events (stretch ++ Happens (Enter one q) ∷ earlier)) q) one
+        → q < v.queues → other < v.queues
+        → seat_time measure stretch other ≤ total_time measure (waiting (events earlier) q) + 2 * widest costs + 3 * (seats * longest) }
+{
+    every_schedule_is_safe();
+    every_seated_log_has_its_seats();
+    every_life_log_isolates();
+    every_life_wait_is_bounded_in_seat_time();
 }
 
 /// No chosen request is forgotten: of every state of a gate whose Desk's book is at rest, as a level's is whenever its

@@ -14,9 +14,10 @@ mod taken;
 
 pub use ending::{close_book, close_desk, end_level};
 pub use laws::{
-    every_level_has_histories, every_life_history_isolates, every_life_log_isolates,
-    every_life_wait_is_bounded, every_life_wait_is_bounded_in_seat_time, every_queue_was_dealt,
-    every_report_keeps_the_promises, no_life_request_is_forgotten,
+    every_ended_level_shares_seat_time, every_level_has_histories, every_life_history_isolates,
+    every_life_log_isolates, every_life_wait_is_bounded, every_life_wait_is_bounded_in_seat_time,
+    every_queue_was_dealt, every_report_keeps_the_promises, every_seated_log_has_its_seats,
+    no_life_request_is_forgotten,
 };
 pub use report::{Closing, Newest, Report};
 pub use taken::seat_time;

@@ -7,9 +7,7 @@ use Rattle.apf_objects.specs.Schemas.{SchemaSaid}
 use Rattle.apf_matching.specs.Matches.{allows, allows_path, allows_namespace, has_subject, has_target, is_resource, is_other, rule_matches, schema_matches}
 use Rattle.apf_matching.specs.Misses.{depth, further, furthest, furthest_from, resource_miss, path_miss, target_miss, rule_miss, schema_miss}
 use Rattle.apf_matching.specs.declared.miss.Miss.{Miss}
-use Rattle.apf_matching.specs.declared.request.Request.{Request}
-use Rattle.apf_matching.specs.declared.request.Target.{Target}
-use Rattle.apf_matching.specs.declared.request.Target.TheVariants.{Resource, Path}
+use Rattle.apf_matching.specs.Requests.{RequestSaid, TargetSaid, of_resource, of_path}
 
 chosen : (b : Bool) (one other : Miss) → is_none (if b then Some other else Some one) ≡ false
 chosen true one other = refl
@@ -58,19 +56,19 @@ one_resource verb api_group resource namespace rule =
 one_path : (verb path : Text) (rule : Paths) → is_none (path_miss verb path rule) ≡ is_other verb path rule
 one_path verb path rule = two (allows rule.verbs verb) (allows_path rule.paths path) _ _
 
-one_target : (rule : RuleSaid) (verb : Text) (target : Target) → is_none (target_miss rule verb target) ≡ has_target rule verb target
-one_target rule verb (Resource api_group resource namespace) =
-    any _ _ _ (one_resource verb api_group.now resource.now namespace.now) rule.resource_rules
-one_target rule verb (Path path) = any _ _ _ (one_path verb path.now) rule.path_rules
+one_target : (rule : RuleSaid) (verb : Text) (target : TargetSaid) → is_none (target_miss rule verb target) ≡ has_target rule verb target
+one_target rule verb (of_resource api_group name namespace) =
+    any _ _ _ (one_resource verb api_group name namespace) rule.resource_rules
+one_target rule verb (of_path text) = any _ _ _ (one_path verb text) rule.path_rules
 
 guarded : (a : Bool) (w : Miss) (inner : Option Miss) (b : Bool) → is_none inner ≡ b → is_none (if a then inner else Some w) ≡ (a && b)
 guarded true w inner b same = same
 guarded false w inner b same = refl
 
-one_rule : (request : Request) (rule : RuleSaid) → is_none (rule_miss request rule) ≡ rule_matches request rule
+one_rule : (request : RequestSaid) (rule : RuleSaid) → is_none (rule_miss request rule) ≡ rule_matches request rule
 unfolding rule_matches
-one_rule request rule = guarded (has_subject request rule.subjects) _ _ _ (one_target rule request.verb.now request.target)
+one_rule request rule = guarded (has_subject request rule.subjects) _ _ _ (one_target rule request.verb request.target)
 
-pub none_where_it_matches : (request : Request) (schema : SchemaSaid) → is_none (schema_miss request schema) ≡ schema_matches request schema
+pub none_where_it_matches : (request : RequestSaid) (schema : SchemaSaid) → is_none (schema_miss request schema) ≡ schema_matches request schema
 unfolding schema_miss schema_matches
 none_where_it_matches request schema = any _ (rule_miss request) (rule_matches request) (one_rule request) schema.rules

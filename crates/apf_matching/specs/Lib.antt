@@ -1,3 +1,4 @@
+pub mod Requests
 pub mod Matches
 pub mod Misses
 pub mod First

@@ -1,12 +1,9 @@
 -- Which requests a schema matches.
 use Rattle.std.specs.Prelude.{◌-◌, List, length, take, drop, Bool, false, ◌&&◌, ◌||◌, nat_eq, Option, Some, None, option_and_then, if◌then◌else◌, codes, bytes_eq}
-use Rattle.std.specs.Borrow.{Bor}
 use Rattle.std.specs.List.{list_any, starts_with, ends_with}
 use Rattle.apf_objects.specs.Rules.{Text, Who, user, group, account, Resources, Paths, RuleSaid}
 use Rattle.apf_objects.specs.Schemas.{SchemaSaid}
-use Rattle.apf_matching.specs.declared.request.Request.{Request}
-use Rattle.apf_matching.specs.declared.request.Target.{Target}
-use Rattle.apf_matching.specs.declared.request.Target.TheVariants.{Resource, Path}
+use Rattle.apf_matching.specs.Requests.{RequestSaid, TargetSaid, of_resource, of_path}
 
 -- the text is one of these
 abbrev pub is_among : List Text → Text → Bool
@@ -33,17 +30,17 @@ abbrev pub is_account : (namespace name of_user : Text) → Bool
 is_account namespace name of_user = is_named name (account_of namespace of_user)
 
 -- one of the groups has this name
-abbrev pub has_group : List (Bor Text) → Text → Bool
-has_group groups name = list_any (λ one. bytes_eq one.now name) groups
+abbrev pub has_group : List Text → Text → Bool
+has_group groups name = list_any (λ one. bytes_eq one name) groups
 
 -- a subject is about the request
-abbrev pub is_about : Request → Who → Bool
-is_about request (user name) = bytes_eq name (codes "*") || bytes_eq name request.user.now
-is_about request (group name) = bytes_eq name (codes "*") || has_group request.groups.now name
-is_about request (account namespace name) = is_account namespace name request.user.now
+abbrev pub is_about : RequestSaid → Who → Bool
+is_about request (user name) = bytes_eq name (codes "*") || bytes_eq name request.user
+is_about request (group name) = bytes_eq name (codes "*") || has_group request.groups name
+is_about request (account namespace name) = is_account namespace name request.user
 
 -- one of the subjects is
-abbrev pub has_subject : Request → List Who → Bool
+abbrev pub has_subject : RequestSaid → List Who → Bool
 has_subject request subjects = list_any (is_about request) subjects
 
 -- the path begins with the stem, and behind that is a `/` if the stem does not end with one
@@ -73,15 +70,14 @@ abbrev pub is_other : (verb path : Text) → Paths → Bool
 is_other verb path rule = allows rule.verbs verb && allows_path rule.paths path
 
 -- one of the rule's resource rules is about the request, or where it names no resource one of its non-resource rules
-abbrev pub has_target : RuleSaid → Text → Target → Bool
-has_target rule verb (Resource api_group resource namespace) =
-    list_any (is_resource verb api_group.now resource.now namespace.now) rule.resource_rules
-has_target rule verb (Path path) = list_any (is_other verb path.now) rule.path_rules
+abbrev pub has_target : RuleSaid → Text → TargetSaid → Bool
+has_target rule verb (of_resource api_group name namespace) = list_any (is_resource verb api_group name namespace) rule.resource_rules
+has_target rule verb (of_path text) = list_any (is_other verb text) rule.path_rules
 
 -- a rule matches a request of one of its subjects for one of its targets
-unfoldable pub rule_matches : Request → RuleSaid → Bool
-rule_matches request rule = has_subject request rule.subjects && has_target rule request.verb.now request.target
+unfoldable pub rule_matches : RequestSaid → RuleSaid → Bool
+rule_matches request rule = has_subject request rule.subjects && has_target rule request.verb request.target
 
 -- a schema matches what one of its rules matches
-unfoldable pub schema_matches : Request → SchemaSaid → Bool
+unfoldable pub schema_matches : RequestSaid → SchemaSaid → Bool
 schema_matches request schema = list_any (rule_matches request) schema.rules

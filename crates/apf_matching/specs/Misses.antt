@@ -5,9 +5,7 @@ use Rattle.apf_objects.specs.Schemas.{SchemaSaid}
 use Rattle.apf_matching.specs.Matches.{allows, allows_path, allows_namespace, has_subject}
 use Rattle.apf_matching.specs.declared.miss.Miss.{Miss}
 use Rattle.apf_matching.specs.declared.miss.Miss.TheVariants as the
-use Rattle.apf_matching.specs.declared.request.Request.{Request}
-use Rattle.apf_matching.specs.declared.request.Target.{Target}
-use Rattle.apf_matching.specs.declared.request.Target.TheVariants.{Resource, Path}
+use Rattle.apf_matching.specs.Requests.{RequestSaid, TargetSaid, of_resource, of_path}
 
 -- how far a request got
 abbrev pub depth : Miss → ℕ
@@ -52,16 +50,15 @@ path_miss verb path rule =
     if allows rule.verbs verb then (if allows_path rule.paths path then None else Some the.Path) else Some the.Verb
 
 -- the furthest miss of the rule's rules for such a target
-abbrev pub target_miss : RuleSaid → Text → Target → Option Miss
-target_miss rule verb (Resource api_group resource namespace) =
-    furthest the.Rules (resource_miss verb api_group.now resource.now namespace.now) rule.resource_rules
-target_miss rule verb (Path path) = furthest the.Rules (path_miss verb path.now) rule.path_rules
+abbrev pub target_miss : RuleSaid → Text → TargetSaid → Option Miss
+target_miss rule verb (of_resource api_group name namespace) = furthest the.Rules (resource_miss verb api_group name namespace) rule.resource_rules
+target_miss rule verb (of_path text) = furthest the.Rules (path_miss verb text) rule.path_rules
 
 -- the first thing of a rule that a request does not match
-abbrev pub rule_miss : Request → RuleSaid → Option Miss
+abbrev pub rule_miss : RequestSaid → RuleSaid → Option Miss
 rule_miss request rule =
-    if has_subject request rule.subjects then target_miss rule request.verb.now request.target else Some the.Subject
+    if has_subject request rule.subjects then target_miss rule request.verb request.target else Some the.Subject
 
 -- the first thing of a schema that a request does not match, of the rule that matches furthest
-unfoldable pub schema_miss : Request → SchemaSaid → Option Miss
+unfoldable pub schema_miss : RequestSaid → SchemaSaid → Option Miss
 schema_miss request schema = furthest the.NoRule (rule_miss request) schema.rules

@@ -17,7 +17,7 @@ mod request;
 mod subject;
 mod texts;
 
-pub use first::{distinguisher_of, schema_for};
+pub use first::{distinguisher_of, schema_among, schema_for};
 pub use laws::every_nominal_sum;
 pub use limits::{LevelLimits, MAX_SEATS, limits_of, sum_of_shares};
 pub use miss::{Miss, matches, miss_of};

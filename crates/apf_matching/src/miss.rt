@@ -3,6 +3,7 @@
 ghost use Rattle.std.specs.Prelude.{◌≡◌, map};
 ghost use Rattle.apf_matching.specs.Matches.{schema_matches};
 ghost use Rattle.apf_matching.specs.Misses as spec;
+ghost use Rattle.apf_matching.specs.Requests.{request_view};
 ghost use Rattle.apf_objects.specs.Rules.{resource_rule_view, path_rule_view, rule_view};
 ghost use Rattle.apf_objects.specs.Schemas.{schema_view};
 
@@ -141,7 +142,7 @@ fn paths_miss(verb: &str, path: &str, rules: &[PathRule]) -> Option<Miss>
 
 // The first thing of a rule that a request does not match.
 fn rule_miss(request: &Request<'_>, rule: &Rule) -> Option<Miss>
-    ensures { result ≡ spec.rule_miss request.now (rule_view rule.now) }
+    ensures { result ≡ spec.rule_miss (request_view request.now) (rule_view rule.now) }
 {
     if !has_subject(request, rule.subjects.as_slice()) {
         return Some(Miss::Subject);
@@ -163,7 +164,7 @@ fn rule_miss(request: &Request<'_>, rule: &Rule) -> Option<Miss>
 /// The first thing of a schema that a request does not match; none where the schema matches it.
 #[tactic(auto, unfolding(crate::specs::Misses::schema_miss))]
 pub fn miss_of(request: &Request<'_>, schema: &Schema) -> Option<Miss>
-    ensures { result ≡ spec.schema_miss request.now (schema_view schema.now) }
+    ensures { result ≡ spec.schema_miss (request_view request.now) (schema_view schema.now) }
 {
     let mut miss = Some(Miss::NoRule);
     let mut rest = schema.rules.as_slice();
@@ -177,7 +178,7 @@ pub fn miss_of(request: &Request<'_>, schema: &Schema) -> Option<Miss>
 /// Whether a schema matches a request.
 #[tactic(auto, using(crate::proofs::Agree::none_where_it_matches))]
 pub fn matches(request: &Request<'_>, schema: &Schema) -> bool
-    ensures { result ≡ schema_matches request.now (schema_view schema.now) }
+    ensures { result ≡ schema_matches (request_view request.now) (schema_view schema.now) }
 {
     miss_of(request, schema).is_none()
 }

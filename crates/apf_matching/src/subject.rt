@@ -2,6 +2,7 @@
 
 ghost use Rattle.std.specs.Prelude.{◌≡◌, map, option_map};
 ghost use Rattle.apf_matching.specs.Matches as spec;
+ghost use Rattle.apf_matching.specs.Requests.{request_view, texts_view};
 ghost use Rattle.apf_objects.specs.Rules.{subject_view};
 
 use crate::request::Request;
@@ -41,7 +42,7 @@ fn is_account(namespace: &str, name: &str, user: &str) -> bool
 
 // Whether a group is one of these.
 fn has_group(groups: &[&str], name: &str) -> bool
-    ensures { result ≡ spec.has_group groups.now name.now }
+    ensures { result ≡ spec.has_group (texts_view groups.now) name.now }
 {
     for group in groups {
         if *group == name {
@@ -53,7 +54,7 @@ fn has_group(groups: &[&str], name: &str) -> bool
 
 // Whether a subject is about this request.
 fn is_about(request: &Request<'_>, subject: &Subject) -> bool
-    ensures { result ≡ spec.is_about request.now (subject_view subject.now) }
+    ensures { result ≡ spec.is_about (request_view request.now) (subject_view subject.now) }
 {
     match subject {
         Subject::User(name) => name.as_str() == "*" || name.as_str() == request.user,
@@ -66,7 +67,7 @@ fn is_about(request: &Request<'_>, subject: &Subject) -> bool
 
 /// Whether one of the subjects is about this request.
 pub(crate) fn has_subject(request: &Request<'_>, subjects: &[Subject]) -> bool
-    ensures { result ≡ spec.has_subject request.now (map subject_view subjects.now) }
+    ensures { result ≡ spec.has_subject (request_view request.now) (map subject_view subjects.now) }
 {
     for subject in subjects {
         if is_about(request, subject) {

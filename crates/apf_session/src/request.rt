@@ -94,6 +94,7 @@ impl<K: Naming> Request<K> {
 
     /// Admits it, if nobody waits and it fits. It takes no lock. Answers `Run`, `Tried` or `Busy`. Where requests waited when
     /// its seats were given back, a dispatch is owed.
+    #[inline]
     pub fn try_admit(&mut self, level: &Level<K>) -> (Answer, Owes<K>)
         ensures answers { Answers places.Away self.old result.0 self.new }
         ensures steps { TriesAs self.old.token result.0 self.new.token }
@@ -117,6 +118,7 @@ impl<K: Naming> Request<K> {
     }
 
     /// It arrives: it takes its seats, or enters a queue, or is decided otherwise. Answers `Run`, `Waits` or `Over`.
+    #[inline]
     pub fn begin<R: Wait>(&mut self, rt: &R, level: &Level<K>) -> Answer
         ensures answers { Answers places.Away self.old result self.new }
         ensures kind { SaysWhere result }
@@ -124,8 +126,7 @@ impl<K: Naming> Request<K> {
         if self.place != Place::Away {
             return Answer::Wrong;
         }
-        let (begun, _event) = level.arrive(rt, &mut self.pass);
-        match begun {
+        match level.arrive(rt, &mut self.pass) {
             Begun::Run => {
                 self.place = Place::Runs;
                 Answer::Run
@@ -151,7 +152,7 @@ impl<K: Naming> Request<K> {
         if self.place != Place::Away {
             return (Answer::Wrong, None);
         }
-        let (begun, event) = level.arrive(rt, &mut self.pass);
+        let (begun, event) = level.arrive_with_event(rt, &mut self.pass);
         match begun {
             Begun::Run => {
                 self.place = Place::Runs;
@@ -214,6 +215,7 @@ impl<K: Naming> Request<K> {
 
     /// A request that executes gives its seats back, by one step. Answers `Released`. Where requests waited then, a dispatch
     /// is owed.
+    #[inline]
     pub fn release(&mut self, level: &Level<K>) -> (Answer, Owes<K>)
         ensures answers { Answers places.Runs self.old result.0 self.new }
         ensures steps { ReleasesAs self.old.token result.0 self.new.token }
@@ -228,6 +230,7 @@ impl<K: Naming> Request<K> {
     }
 
     /// A request that executes gives its seats back. Then requests that wait are dispatched. Answers `Released`.
+    #[inline]
     pub fn finish<R: Wait>(&mut self, rt: &R, level: &Level<K>) -> Answer
         ensures answers { Answers places.Runs self.old result self.new }
         ensures steps { ReleasesAs self.old.token result self.new.token }

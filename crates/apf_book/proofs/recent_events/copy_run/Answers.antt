@@ -11,11 +11,11 @@ loop-i-preserved g c =
     let was = c.loop-i.invariant in
     let i = c.loop-i.i in
     let k = c.args.skipped in
-    let event : LifeEvent = c.in-Some.event.now in
+    let event : LifeEvent = c.event.result in
     let room = was.room in
     let all = length-drop k c.args.newest.now.items in
     let there : i < length (drop k c.args.newest.now.items) = omega (arith, c.requires.there, c.loop-i-test.true, c.loop-i.auto.i-end, all) in
-    let is : slice_get c.args.newest.now.items (k + i) ≡ Some event = sym c.in-Some.ensures in
+    let is : slice_get c.args.newest.now.items (k + i) ≡ Some event = sym c.in-Some.ensures ∙ ap (λ (e : LifeEvent). Some e) (sym c.event.ensures) in
     record {
       room = length-set c.loop-i.into i event ∙ room;
       copied = take_more_set c.loop-i.into i event (omega (arith, c.loop-i-test.true, c.loop-i.auto.i-end, room))

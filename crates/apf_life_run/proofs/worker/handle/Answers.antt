@@ -13,27 +13,27 @@ use Rattle.apf_life_run.proofs.worker.handle.Goals as goal
 pub returns-clause-known : goal.returns-clause-known
 returns-clause-known g c =
     let requests : List Request = g.K.Plan.requests in
-    let at : c.slot.result ≡ slot_of c.args.slot.pass.number = c.slot.ensures ∙ ap slot_of c.ticket.ensures.number in
-    handled requests c.args.operator.now c.close_as_said.new.operator c.finish-slot.new.operator c.hear.new.self c.args.slot c.finish-slot.result c.asked-request.result c.args.round
+    let at : c.slot.result ≡ slot_of c.args.slot.now.pass.number = c.slot.ensures ∙ ap slot_of c.ticket.ensures.number in
+    handled requests c.args.operator.now c.close_as_said.new.operator c.finish.new.operator c.hear.new.self c.args.slot.now c.finish.new.slot c.asked-request.result c.args.round
     (subst (λ (i : ℕ). slice_get requests i ≡ Some c.asked-request.result) at c.asked-request.ensures.is) c.asked-request.ensures.width.1 c.requires.before
-    c.close_as_said.ensures.knows c.close_as_said.ensures.closed c.finish-slot.ensures.knows c.hear.ensures.knows
-    (c.finish-slot.ensures.same ∙ c.next-pass.ensures.number)
-    (subst (λ (r : ℕ). told_of c.hear.new.self.station.knows.told r ≢ None) (c.ticket-ticket.ensures.number ∙ sym c.finish-slot.ensures.same) c.hear.ensures.told)
+    c.close_as_said.ensures.knows c.close_as_said.ensures.closed c.finish.ensures.knows c.hear.ensures.knows
+    (c.finish.ensures.same ∙ c.next.ensures.number)
+    (subst (λ (r : ℕ). told_of c.hear.new.self.station.knows.told r ≢ None) (c.ticket-ticket.ensures.number ∙ sym c.finish.ensures.same) c.hear.ensures.told)
     c.requires.known
 
 pub returns-clause-asked : goal.returns-clause-asked
 returns-clause-asked g c =
     let requests : List Request = g.K.Plan.requests in
-    let at : c.slot.result ≡ slot_of c.args.slot.pass.number = c.slot.ensures ∙ ap slot_of c.ticket.ensures.number in
-    let next = c.next-pass.result.token in
-    let done = c.finish-slot.result in
-    one_more_asked requests c.args.slot done c.asked-request.result c.args.round
+    let at : c.slot.result ≡ slot_of c.args.slot.now.pass.number = c.slot.ensures ∙ ap slot_of c.ticket.ensures.number in
+    let next = c.next.new.slot in
+    let done = c.finish.new.slot in
+    one_more_asked requests c.args.slot.now done c.asked-request.result c.args.round
     (subst (λ (i : ℕ). slice_get requests i ≡ Some c.asked-request.result) at c.asked-request.ensures.is) c.asked-request.ensures.width.1 c.requires.before
-    (c.finish-slot.ensures.same ∙ c.next-pass.ensures.number) (
-      c.finish-slot.ensures.goes_on.0 ++ c.next-pass.ensures.goes_on.0,
-      append_assoc c.finish-slot.ensures.goes_on.0 c.next-pass.ensures.goes_on.0 c.args.slot.pass.knows.trace
-          ∙ (ap (λ (es : List Entry). c.finish-slot.ensures.goes_on.0 ++ es) c.next-pass.ensures.goes_on.1 ∙ c.finish-slot.ensures.goes_on.1),
+    (c.finish.ensures.same ∙ c.next.ensures.number) (
+      c.finish.ensures.goes_on.0 ++ c.next.ensures.goes_on.0,
+      append_assoc c.finish.ensures.goes_on.0 c.next.ensures.goes_on.0 c.args.slot.now.pass.knows.trace
+          ∙ (ap (λ (es : List Entry). c.finish.ensures.goes_on.0 ++ es) c.next.ensures.goes_on.1 ∙ c.finish.ensures.goes_on.1),
     )
-    (ap (asked_in done.pass.knows.trace) c.finish-slot.ensures.same
-    ∙ asked_still next.pass.knows.trace done.pass.knows.trace next.pass.number (record { hash = c.asked-request.result.hash; cost = c.asked-request.result.width }) c.finish-slot.ensures.goes_on c.next-pass.ensures.asked)
+    (ap (asked_in done.pass.knows.trace) c.finish.ensures.same
+    ∙ asked_still next.pass.knows.trace done.pass.knows.trace next.pass.number (record { hash = c.asked-request.result.hash; cost = c.asked-request.result.width }) c.finish.ensures.goes_on c.next.ensures.asked)
     c.requires.asked

@@ -10,7 +10,7 @@ invariant_of-result g c =
     let gate : GateId = g.K.Naming.level.gate in
     let requests : List Request = g.K.Plan.requests in
     let rounds : ℕ = g.K.Plan.rounds in
-    let dones : c.append.new.self.items ≡ c.self.inside.dones.items ++ c.args.worker.slots = search rules in
+    let dones : c.add_all.new.dones.items ≡ c.self.inside.dones.items ++ c.args.worker.slots = search rules in
     let stations : c.push.new.self.items ≡ c.self.inside.stations.items ++ c.args.worker.station ∷ [] = search rules in
     subst (λ (ds : List PassToken). AreFinished gate requests rounds (record { dones = ds; stations = c.push.new.self.items })) (sym dones)
     (subst (λ (ss : List StationToken). AreFinished gate requests rounds (record { dones = c.self.inside.dones.items ++ c.args.worker.slots; stations = ss })) (sym stations)

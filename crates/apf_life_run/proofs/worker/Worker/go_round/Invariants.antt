@@ -1,14 +1,14 @@
--- Those whose turn is yet to come went through the rounds before, and those whose turn was through one more. Together they are as many as the worker had.
-use Rattle.std.proofs.Common.{◌≡◌, ◌+◌, length, All}
+-- Those slots whose turn was went through one round more, and the others through the rounds before.
+use Rattle.std.proofs.Common.{◌≡◌, ◌+◌, length}
+use Rattle.std.specs.List.{AllWithin}
 use Rattle.apf_life_run.specs.Workers.{IsInRound, IsLoadOf}
 use Rattle.apf_life_run.proofs.worker.Worker.go_round.Given as goal
 
-abbrev pub invariant-loop-slot : goal.invariant-loop-slot
-invariant-loop-slot g l =
-    IsLoadOf g.K.Naming.level.gate g.K.Plan.requests g.K.Plan.rounds (record { station = l.operator; slots = l.slots.items; over = l.over.items })
-    × (length l.over.items + length l.slots.items ≡ length l.fn.self.slots)
-    × All (IsInRound l.fn.before) l.slots.items
-    × All (IsInRound (l.fn.before + 1)) l.over.items
-
-abbrev pub decreases-loop-slot : goal.decreases-loop-slot
-decreases-loop-slot g l = length l.slots.items
+abbrev pub invariant-loop-place : goal.invariant-loop-place
+invariant-loop-place g l =
+    record {
+      load : IsLoadOf g.K.Naming.level.gate g.K.Plan.requests g.K.Plan.rounds (record { station = l.operator; slots = l.slots.items });
+      count : length l.slots.items ≡ length l.fn.self.slots;
+      over : AllWithin (IsInRound (l.fn.before + 1)) l.slots.items 0 l.place;
+      left : AllWithin (IsInRound l.fn.before) l.slots.items l.place (length l.slots.items);
+    }

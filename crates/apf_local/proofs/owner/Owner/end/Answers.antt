@@ -28,4 +28,4 @@ returns c = of_each _ _ (λ r ends k v same queues kept.
     let gate : k.gate ≡ c.self.inside.gate = same ∙ ap (λ (o : OwnerView). o.gate) (sym c.self.view_is) in
     let own : IsBookOf k c.self.inside.book = record { gate = c.self.invariant.desk ∙ sym gate; queues = has.queues; limit = has.limit; hand = has.hand; settles = has.settles } in
     let closes = c.in_ok-closing.ensures.closes k v own slots here in
-    subst (λ (o : OwnerView). EndedAs k v o.passes o.stations r) c.self.view_is (ends k v (sym gate) closes)) c.end_level.result c.end_level.ensures
+    subst (λ (o : OwnerView). EndedAs k v o.passes o.stations r) c.self.view_is (ends k v (sym gate) closes)) c.end_level.result c.end_level.ensures.ended

@@ -3,7 +3,7 @@ use Rattle.std.proofs.Common.{◌≡◌, false}
 use Rattle.apf_level.specs.Admission.{IsTriedTold}
 use Rattle.apf_level.specs.Attempts.{tried_of, IsKeptBy, StaysOut}
 use Rattle.apf_level.specs.Tokens.{IsOf}
-use Rattle.apf_level.proofs.level.Level.arrive.Given as goal
+use Rattle.apf_level.proofs.level.Level.arrive_late.Given as goal
 
 abbrev pub invariant-loop : goal.invariant-loop
 invariant-loop g l =

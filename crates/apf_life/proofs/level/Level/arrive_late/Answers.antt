@@ -6,7 +6,7 @@ use Rattle.apf_life.specs.Admission.{begun_pass}
 use Rattle.apf_life.specs.InPlace.{begin_of}
 use Rattle.apf_life.proofs.Asks.{asked_more, blocked_more, found_since, keeps, logs_found, logs_more, on_of, on_then}
 use Rattle.apf_life.proofs.Knowing.{more_then}
-use Rattle.apf_life.proofs.level.Level.arrive.Goals as goal
+use Rattle.apf_life.proofs.level.Level.arrive_late.Goals as goal
 
 pub enqueue-requires-clause-asked : goal.enqueue-requires-clause-asked
 enqueue-requires-clause-asked g c = λ κs outlive.

@@ -3,7 +3,7 @@ use Rattle.std.proofs.Common.{◌≡◌, false}
 use Rattle.apf_gate.specs.Records.{KnowsMore}
 use Rattle.apf_life.specs.Attempts.{IsKeptBy, IsAttemptedTold, StaysOut, FoundIfBlocked}
 use Rattle.apf_line.specs.Tokens.{IsOf}
-use Rattle.apf_life.proofs.level.Level.arrive.Given as goal
+use Rattle.apf_life.proofs.level.Level.arrive_late.Given as goal
 
 abbrev pub invariant-loop : goal.invariant-loop
 invariant-loop g l =

@@ -13,6 +13,7 @@ import simulation
 import worked
 from harness import Files, Memory, Tally, build, processor_seconds, run
 from jsontext import json_text
+from level import hash_of
 from runs import Fates, comparison
 from simulation import BAD_PATIENCE, Run, config_of, flows_of, patience_of, words_of
 from trace import NOT_JSON, TRUNCATED, UNKNOWN_KEY, trace_of
@@ -345,6 +346,36 @@ def check_long_hands():
     tally.check(f"hands of eight times as many lines take as much memory: {most} KiB", most[1] < most[0] + 8_192, True)
 
 
+def check_hands_of_a_shared_name():
+    """`hands --flow` of a name that all schemas share takes as long as `hands` does and what it prints: each flow is looked at, and not each pair."""
+
+    def asked(level, many):
+        content = "".join('{"schema":"s%d","distinguisher":"one","arrivesAt":%d,"runsFor":0}\n' % (it, it) for it in range(many)).encode()
+        config = json.dumps(level).encode()
+        _, all_of_them = processor_seconds(lambda: printed("hands", [config, content]))
+        (status, out, err), took = processor_seconds(lambda: printed("hands", [config, content], "--flow=one"))
+        tally.check(f"hands of a name that {many} flows share: status and errors", (status, err), (0, b""))
+        return lines_of(out), took, all_of_them
+
+    # nobody has a queue, so there is a line for each flow and no more
+    many = 20_000
+    lines, took, all_of_them = asked({"limit": 6, "limitResponse": "Reject"}, many)
+    want = [f'flow {hash_of(f"s{it}", "one"):016x} hand of "s{it}" "one"' for it in range(many)]
+    tally.check(f"hands of a name that {many} flows share, who have no queues", lines == want, True)
+    tally.check(f"it takes {took:.2f} s, and that of all flows {all_of_them:.2f} s", took < 3 * all_of_them + 0.5, True)
+    # a hand of one queue is what the number of queues leaves of the hash
+    queues, many = 1_024, 2_000
+    lines, _, _ = asked({"limit": 6, "queues": queues, "handSize": 1}, many)
+    schemas = {hash_of(f"s{it}", "one"): f"s{it}" for it in range(many)}
+    want = []
+    for flow, schema in schemas.items():
+        want.append(f'flow {flow:016x} hand {flow % queues} of "{schema}" "one"')
+        others = [it for it in schemas if it != flow and it % queues == flow % queues]
+        want += [f'  shares {flow % queues} with {it:016x} "{schemas[it]}" "one"' for it in others]
+        want += [" ".join(["  covered by", *(f"{it:016x}" for it in others)])] if others else []
+    tally.check(f"hands of a name that {many} flows share: {len(want)} lines", lines == want, True)
+
+
 def check_long():
     """A trace of more lines than the reader holds: `fates` has a line for each request, in the order of the arrivals, and its numbers
     are those of `simulate`. A fault behind as many lines as are held back comes after a beginning of that; one before them
@@ -392,5 +423,6 @@ for command in ("fates", "compare"):
 check_standard_input()
 check_largest()
 check_long_hands()
+check_hands_of_a_shared_name()
 check_long()
 tally.end()

@@ -1,7 +1,7 @@
 -- The flows with the same queues are those that cover a hand, and the flow itself.
-use Rattle.std.proofs.Common.{◌≡◌, ◌≢◌, ℕ, suc, ◌+◌, ◌-◌, ◌<◌, ◌≤◌, List, [], ◌∷◌, ◌++◌, Bool, true, false, Decides, All, Option, None, Some, cond, not, length, get_or, filter, map, refl, sym, ◌∙◌, ap, ap₂, subst, append-nil, length-append, arith}
+use Rattle.std.proofs.Common.{◌≡◌, ℕ, suc, ◌+◌, ◌-◌, ◌<◌, List, [], ◌∷◌, ◌++◌, Bool, true, false, Option, cond, not, length, get_or, filter, map, refl, sym, ◌∙◌, ap, ap₂, subst, append-nil, arith}
 use Rattle.std.specs.Prelude.{◌&&◌, ◌||◌, ◌==◌, nat_eq, nat_lt, bytes_eq, if◌then◌else◌}
-use Rattle.std.specs.List.{AllByRecursion, IsDistinct, list_any, list_all}
+use Rattle.std.specs.List.{AllByRecursion, IsDistinct, list_any}
 use Rattle.std.proofs.lemmas.List.Elements.{filter-append, recursion_from_All}
 use Rattle.std.proofs.lemmas.Bool.Decides.{nat_tests}
 use Rattle.std.proofs.lemmas.List.{map-append}
@@ -10,11 +10,11 @@ use Rattle.std.proofs.lemmas.List.Sorted.{length_permutation}
 use Rattle.std.proofs.lemmas.Slice.Eq.{bytes_eq-Decides}
 use Rattle.apf_flow.specs.Sizes.{Sizes}
 use Rattle.apf_hands.specs.declared.dealt.Dealt.{Dealt}
-use Rattle.apf_hands.specs.Alike.{AreAlike, AreOrdered, IsOnce, hashes_for, held_text, others_of, with_queues}
-use Rattle.apf_hands.specs.Dealing.{HaveHands, IsDealt, size_by}
+use Rattle.apf_hands.specs.Alike.{AreAlike, IsOnce, hashes_for, held_text, held_whole_text, others_of, with_queues}
+use Rattle.apf_hands.specs.Dealing.{HaveHands, IsDealt}
 use Rattle.apf_hands.specs.Dealt.{flow_of, flows_of}
-use Rattle.apf_hands.specs.Hands.{Flow, all_sharers_text, covering, covering_text, covers, flow_text, hand_by, hand_text, shares_all}
-use Rattle.apf_hands.specs.Holders.{AreHolders, all_others_text}
+use Rattle.apf_hands.specs.Hands.{Flow, covering, covering_text, covers, covers_text, flow_text, hand_by, hand_text, shares_all, shares_text, whole_text}
+use Rattle.apf_hands.specs.Holders.{AreHolders}
 use Rattle.apf_hands.proofs.Held.{sharers_same}
 use Rattle.apf_hands.proofs.Ordered.{all_own, equal, not_both, own, same_queues}
 
@@ -248,3 +248,7 @@ module _ (flows : List Dealt) (hashes : List ℕ → List ℕ) (are : AreAlike f
   held_same places holders =
       ap₂ (λ (a b : List ℕ). hand_text (flow_of flow) ++ a ++ b) (sharers_same (flows_of flows) places holders flow.hand.items)
       (ap (λ (hs : List ℕ). covering_text hs) covering_same)
+
+  -- and with each other flow that shares a queue
+  pub whole_same : held_whole_text (hashes_for hashes flow.queues.items) (flows_of flows) (flow_of flow) ≡ whole_text (flows_of flows) (flow_of flow)
+  whole_same = ap (λ (hs : List ℕ). hand_text (flow_of flow) ++ shares_text (flow_of flow) (flows_of flows) ++ covers_text hs) covering_same

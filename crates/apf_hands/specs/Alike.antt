@@ -1,5 +1,5 @@
 -- The flows that have the same queues in their hands.
-use Rattle.std.specs.Prelude.{◌≡◌, ℕ, ◌-◌, List, [], ◌∷◌, ◌++◌, Vec, Bool, not, ◌==◌, length, filter, map, bytes_eq}
+use Rattle.std.specs.Prelude.{◌≡◌, ℕ, ◌-◌, List, [], ◌∷◌, ◌++◌, Vec, not, ◌==◌, length, filter, map, bytes_eq}
 use Rattle.std.specs.Borrow.{Bor}
 use Rattle.std.specs.BTreeMap.{BTreeMap, get_by}
 use Rattle.std.specs.Cmp.Lexicographic.{slice_cmp}
@@ -7,7 +7,7 @@ use Rattle.std.specs.List.Sorted.{IsPermutation, IsSorted}
 use Rattle.std.specs.Ordering.{nat_cmp}
 use Rattle.std.specs.declared.alloc.Global.{Global}
 use Rattle.apf_hands.specs.declared.dealt.Dealt.{Dealt}
-use Rattle.apf_hands.specs.Hands.{Flow, covering_text, hand_text}
+use Rattle.apf_hands.specs.Hands.{Flow, covering_text, covers_text, hand_text, shares_text}
 use Rattle.apf_hands.specs.Holders.{all_others_text, listed}
 
 -- these are the queues of a hand in ascending order
@@ -43,3 +43,7 @@ pub record IsOnce (hash : ℕ) (hashes : List ℕ) : Type 0 where
 -- the lines of a flow, by the places of the flows that hold each queue, and by the hashes of those with the queues of its hand
 abbrev pub held_text : (ℕ → List ℕ) → List ℕ → Flow → List ℕ
 held_text places hashes flow = hand_text flow ++ all_others_text places flow.hand ++ covering_text (others_of flow.hash hashes)
+
+-- the lines of a flow with each other flow that shares a queue, by the hashes of those with the queues of its hand
+abbrev pub held_whole_text : List ℕ → List Flow → Flow → List ℕ
+held_whole_text hashes flows flow = hand_text flow ++ shares_text flow flows ++ covers_text (others_of flow.hash hashes)

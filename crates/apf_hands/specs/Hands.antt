@@ -91,20 +91,6 @@ shares_text flow flows = flat_map (share_text flow) flows
 abbrev pub covers : (flow other : Flow) → Bool
 covers flow other = not (flow.hash == other.hash) && nat_lt 0 (length flow.hand) && shares_all flow.hand other.hand
 
-abbrev pub cover_text : (flow other : Flow) → List ℕ
-cover_text flow other = if covers flow other then codes " " ++ hash_text other.hash else []
-
--- the flows whose hands hold all queues of this one's, each with a space before it
-unfoldable pub all_covers_text : Flow → List Flow → List ℕ
-all_covers_text flow flows = flat_map (cover_text flow) flows
-
--- the line of those flows, and nothing where there are none
-unfoldable pub covers_line : Flow → List Flow → List ℕ
-covers_line flow flows = codes "  covered by" ++ all_covers_text flow flows ++ codes "\n"
-
-unfoldable pub covers_text : Flow → List Flow → List ℕ
-covers_text flow flows = if list_any (covers flow) flows then covers_line flow flows else []
-
 -- how many of the flows hold a queue
 abbrev pub holders_of : List Flow → ℕ → ℕ
 holders_of flows queue = count_by (λ flow. holds flow.hand queue) flows
@@ -149,6 +135,10 @@ unfoldable pub covering_text : List ℕ → List ℕ
 covering_text hashes = (if nat_lt 0 (length hashes) then named_line (take most_named hashes) else [])
     ++ (if nat_lt most_named (length hashes) then more_line (length hashes - most_named) else [])
 
+-- the line of all flows that cover a hand, and nothing where there are none
+unfoldable pub covers_text : List ℕ → List ℕ
+covers_text hashes = if nat_lt 0 (length hashes) then named_line hashes else []
+
 -- the lines of a flow: its hand, its shared queues, and who covers it
 abbrev pub flow_text : List Flow → Flow → List ℕ
 flow_text flows flow = hand_text flow ++ all_sharers_text flows flow.hand ++ covering_text (covering flow flows)
@@ -159,7 +149,7 @@ hands_text flows = flat_map (flow_text flows) flows
 
 -- the lines of one flow: its hand, each other flow that shares a queue, and all that cover it
 abbrev pub whole_text : List Flow → Flow → List ℕ
-whole_text flows flow = hand_text flow ++ shares_text flow flows ++ covers_text flow flows
+whole_text flows flow = hand_text flow ++ shares_text flow flows ++ covers_text (covering flow flows)
 
 -- the flow's first request has names, of which this is the distinguisher
 abbrev pub has_distinguisher : List ℕ → Option FlowNames → Bool

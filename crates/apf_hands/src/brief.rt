@@ -3,7 +3,7 @@
 ghost use Rattle.std.specs.Prelude.{OnOk, take};
 ghost use Rattle.std.specs.Io.KnownBytes.{Appends};
 ghost use Rattle.apf_hands.specs.Alike.{IsOnce, others_of};
-ghost use Rattle.apf_hands.specs.Hands.{sharers_line, most_named, named_text, named_line, more_line, covering_text};
+ghost use Rattle.apf_hands.specs.Hands.{sharers_line, named_text, named_line, more_line, covering_text, covers_text};
 ghost use Rattle.apf_hands.specs.Holders.{places_at, others_text, all_others_text};
 
 use crate::holders::{Holders, holding};
@@ -51,11 +51,11 @@ pub(crate) fn write_all_sharers<W: Write>(
     Ok(())
 }
 
-// Writes the first ten of these hashes but one, each with a space before it.
-fn write_named<W: Write>(out: &mut W, hash: u64, hashes: &[u64]) -> io::Result<()>
-    ensures { OnOk result (Appends (W.contents out.old) (W.contents out.new) (named_text (take most_named (others_of hash hashes.now)))) }
+// Writes the first of these hashes but one, at most so many, each with a space before it.
+fn write_named<W: Write>(out: &mut W, hash: u64, hashes: &[u64], most: usize) -> io::Result<()>
+    ensures { OnOk result (Appends (W.contents out.old) (W.contents out.new) (named_text (take most (others_of hash hashes.now)))) }
 {
-    let mut left = MOST_NAMED;
+    let mut left = most;
     for other in hashes {
         if left == 0 {
             return Ok(());
@@ -70,13 +70,13 @@ fn write_named<W: Write>(out: &mut W, hash: u64, hashes: &[u64]) -> io::Result<(
     Ok(())
 }
 
-// Writes the line that names the first of these flows but one.
+// Writes the line that names the first of these flows but one, at most so many.
 #[tactic(auto, unfolding(crate::specs::Hands::named_line))]
-fn write_named_line<W: Write>(out: &mut W, hash: u64, hashes: &[u64]) -> io::Result<()>
-    ensures { OnOk result (Appends (W.contents out.old) (W.contents out.new) (named_line (take most_named (others_of hash hashes.now)))) }
+fn write_named_line<W: Write>(out: &mut W, hash: u64, hashes: &[u64], most: usize) -> io::Result<()>
+    ensures { OnOk result (Appends (W.contents out.old) (W.contents out.new) (named_line (take most (others_of hash hashes.now)))) }
 {
     out.write_all(b"  covered by")?;
-    write_named(out, hash, hashes)?;
+    write_named(out, hash, hashes, most)?;
     out.write_all(b"\n")
 }
 
@@ -101,11 +101,28 @@ pub(crate) fn write_covering<W: Write>(out: &mut W, hash: u64, hashes: &[u64]) -
 {
     let count = hashes.len().saturating_sub(1);
     if count > MOST_NAMED {
-        write_named_line(out, hash, hashes)?;
+        write_named_line(out, hash, hashes, MOST_NAMED)?;
         return write_more_line(out, count - MOST_NAMED);
     }
     if count > 0 {
-        write_named_line(out, hash, hashes)?;
+        write_named_line(out, hash, hashes, MOST_NAMED)?;
+    }
+    Ok(())
+}
+
+/// Writes all flows that cover the hand of a flow. The hashes are those of the flows with the queues of that hand, among them its
+/// own.
+///
+/// # Errors
+///
+/// The writer's. Then nothing is known of how much was written.
+#[tactic(auto, unfolding(crate::specs::Hands::covers_text))]
+pub(crate) fn write_covers<W: Write>(out: &mut W, hash: u64, hashes: &[u64]) -> io::Result<()>
+    requires { IsOnce hash hashes.now }
+    ensures { OnOk result (Appends (W.contents out.old) (W.contents out.new) (covers_text (others_of hash hashes.now))) }
+{
+    if hashes.len() > 1 {
+        return write_named_line(out, hash, hashes, hashes.len());
     }
     Ok(())
 }

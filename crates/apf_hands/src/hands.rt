@@ -76,6 +76,7 @@ fn write_all<W: Write>(alloc: Global, out: &mut W, flows: &[Dealt<'_>]) -> Resul
     requires dealt { HaveHands flows.now }
     ensures ok { OnOk result (Appends (W.contents out.old) (W.contents out.new) (hands_text (flows_of_dealt flows.now))) }
     ensures no_dealer { IfErr result IsNoDealer }
+    ensures memory { result ≡ Err HandsFault.NoMemory → out.new ≡ out.old }
 {
     let holders = holders_of(alloc, flows)?;
     let alike = alike_of(alloc, flows)?;
@@ -96,13 +97,25 @@ fn has_name(first: &TraceRequest, distinguisher: &str) -> bool
     }
 }
 
-// Writes the lines of the flows of this distinguisher.
-fn write_part<W: Write>(out: &mut W, flows: &[Dealt<'_>], distinguisher: &str) -> io::Result<()>
-    ensures { OnOk result (Appends (W.contents out.old) (W.contents out.new) (part_text distinguisher.now (flows_of_dealt flows.now) (flows_of_dealt flows.now))) }
+// Writes the lines of the flows of this distinguisher. Of each those are looked at that share a queue with it, and not the others. All
+// memory is taken before the first byte.
+fn write_part<W: Write>(
+    alloc: Global,
+    out: &mut W,
+    flows: &[Dealt<'_>],
+    distinguisher: &str,
+) -> Result<(), HandsFault>
+    requires dealt { HaveHands flows.now }
+    ensures ok { OnOk result (Appends (W.contents out.old) (W.contents out.new) (part_text distinguisher.now (flows_of_dealt flows.now) (flows_of_dealt flows.now))) }
+    ensures no_dealer { IfErr result IsNoDealer }
+    ensures memory { result ≡ Err HandsFault.NoMemory → out.new ≡ out.old }
 {
+    let holders = holders_of(alloc, flows)?;
+    let alike = alike_of(alloc, flows)?;
     for flow in flows {
         if has_name(flow.first, distinguisher) {
-            write_whole(out, flow, flows)?;
+            let hashes = alike_to(&alike, flow.queues.as_slice());
+            write_whole(out, flow, flows, &holders, hashes)?;
         }
     }
     Ok(())
@@ -149,6 +162,9 @@ pub fn write_hands<W: Write>(
     // The dealer's fault is told, before anything is written, and no other fault is told as one.
     ensures dealer { IfSome (fault_by (sizes_of config.now)) (λ fault. (result ≡ Err (HandsFault.Dealer fault)) × (out.new ≡ out.old)) }
     ensures no_other { IfErr result (λ told. (fault : Fault) → told ≡ HandsFault.Dealer fault → fault_by (sizes_of config.now) ≡ Some fault) }
+
+    // Where memory was refused, nothing is written.
+    ensures memory { result ≡ Err HandsFault.NoMemory → out.new ≡ out.old }
 {
     let flows = dealt_flows(alloc, config, firsts)?;
     write_all(alloc, out, flows.as_slice())
@@ -177,10 +193,12 @@ pub fn write_hands_of<W: Write>(
     // The dealer's fault is told, before anything is written, and no other fault is told as one.
     ensures dealer { IfSome (fault_by (sizes_of config.now)) (λ fault. (result ≡ Err (HandsFault.Dealer fault)) × (out.new ≡ out.old)) }
     ensures no_other { IfErr result (λ told. (fault : Fault) → told ≡ HandsFault.Dealer fault → fault_by (sizes_of config.now) ≡ Some fault) }
+
+    // Where memory was refused, nothing is written.
+    ensures memory { result ≡ Err HandsFault.NoMemory → out.new ≡ out.old }
 {
     let flows = dealt_flows(alloc, config, firsts)?;
-    write_part(out, flows.as_slice(), distinguisher)?;
-    Ok(())
+    write_part(alloc, out, flows.as_slice(), distinguisher)
 }
 
 /// Whether one of the flows whose first requests these are has this distinguisher.

@@ -2,8 +2,9 @@
 //!
 //! - `firsts`: the first request of each flow, while the trace is read in pieces.
 //! - `dealt`: the flows with their hands of queues.
-//! - `sharing`: who shares the queues of one flow's hand, each by name.
 //! - `holders`: which flows hold each queue.
+//! - `sharers`: the flows that share a queue with one flow, in order.
+//! - `sharing`: who shares the queues of one flow's hand, each by name.
 //! - `alike`: which flows have the same queues in their hands.
 //! - `brief`: how many share the queues of a hand, and some of those that cover it.
 //! - `hands`: what is written of all hands, and of one flow's.
@@ -16,6 +17,7 @@ mod dealt;
 mod firsts;
 mod hands;
 mod holders;
+mod sharers;
 mod sharing;
 mod trace;
 

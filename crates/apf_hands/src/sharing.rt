@@ -1,12 +1,16 @@
 //! The queues of a hand, and who shares them.
 
 ghost use Rattle.std.specs.Prelude.{◌≡◌, OnOk, map};
-ghost use Rattle.std.specs.List.{list_any};
 ghost use Rattle.std.specs.Io.KnownBytes.{Appends};
-ghost use Rattle.apf_hands.specs.Hands.{shares_one, shares_all, shared, queues_text, covers, share_text, shares_text, all_covers_text, covers_line, covers_text, hand_text, whole_text};
+ghost use Rattle.apf_hands.specs.Alike.{IsOnce, held_whole_text};
+ghost use Rattle.apf_hands.specs.Hands.{shares_one, shared, queues_text, share_text, shares_text, hand_text};
+ghost use Rattle.apf_hands.specs.Holders.{AreHolders, places_at};
 ghost use Rattle.apf_hands.specs.Dealt.{flow_of, flows_of};
 
+use crate::brief::write_covers;
 use crate::dealt::Dealt;
+use crate::holders::Holders;
+use crate::sharers::{first_of, pass, rests_of};
 use apf_flows::{write_hash, write_names, write_of_names};
 use std::io;
 use std::io::Write;
@@ -16,13 +20,6 @@ fn has_shared(hand: &[u32], other: &[u32]) -> bool
     ensures { result ≡ shares_one hand.now other.now }
 {
     hand.iter().any(|queue| other.contains(queue))
-}
-
-// Whether each queue of the hand is in the other one.
-fn is_held(hand: &[u32], other: &[u32]) -> bool
-    ensures { result ≡ shares_all hand.now other.now }
-{
-    hand.iter().all(|queue| other.contains(queue))
 }
 
 // Writes queues, each with a space before it.
@@ -77,75 +74,38 @@ fn write_share<W: Write>(out: &mut W, flow: &Dealt<'_>, other: &Dealt<'_>) -> io
     out.write_all(b"\n")
 }
 
-// Writes the lines of all flows that share a queue.
-#[tactic(auto, unfolding(crate::specs::Hands::shares_text))]
-fn write_shares<W: Write>(out: &mut W, flow: &Dealt<'_>, flows: &[Dealt<'_>]) -> io::Result<()>
+// Writes the lines of all flows that share a queue. No other flow is looked at.
+fn write_shares<W: Write>(
+    out: &mut W,
+    flow: &Dealt<'_>,
+    flows: &[Dealt<'_>],
+    holders: &Holders,
+) -> io::Result<()>
+    requires { AreHolders (flows_of flows.now) (places_at holders.now) }
     ensures { OnOk result (Appends (W.contents out.old) (W.contents out.new) (shares_text (flow_of flow.now) (flows_of flows.now))) }
 {
-    for other in flows {
-        write_share(out, flow, other)?;
+    let mut rests = rests_of(holders, flow.hand.as_slice());
+    while let Some(place) = first_of(rests.as_slice()) {
+        write_share(out, flow, &flows[place])?;
+        pass(rests.as_mut_slice(), place);
     }
     Ok(())
 }
 
-// Whether another flow's hand holds all queues of this one's.
-fn is_cover(flow: &Dealt<'_>, other: &Dealt<'_>) -> bool
-    ensures { result ≡ covers (flow_of flow.now) (flow_of other.now) }
-{
-    let (hand, held) = (flow.hand.as_slice(), other.hand.as_slice());
-    flow.first.hash != other.first.hash && !hand.is_empty() && is_held(hand, held)
-}
-
-// Whether some flow's hand holds all queues of this one's.
-fn is_covered(flow: &Dealt<'_>, flows: &[Dealt<'_>]) -> bool
-    ensures { result ≡ list_any (λ other. covers (flow_of flow.now) (flow_of other)) flows.now }
-{
-    flows.iter().any(|other| is_cover(flow, other))
-}
-
-// Writes the flows whose hands hold all queues of this one's, each with a space before it.
-#[tactic(auto, unfolding(crate::specs::Hands::all_covers_text))]
-fn write_covers<W: Write>(out: &mut W, flow: &Dealt<'_>, flows: &[Dealt<'_>]) -> io::Result<()>
-    ensures { OnOk result (Appends (W.contents out.old) (W.contents out.new) (all_covers_text (flow_of flow.now) (flows_of flows.now))) }
-{
-    for other in flows {
-        if is_cover(flow, other) {
-            out.write_all(b" ")?;
-            write_hash(out, other.first.hash)?;
-        }
-    }
-    Ok(())
-}
-
-// Writes the line of the flows whose hands hold all queues of this one's.
-#[tactic(auto, unfolding(crate::specs::Hands::covers_line))]
-fn write_covers_line<W: Write>(out: &mut W, flow: &Dealt<'_>, flows: &[Dealt<'_>]) -> io::Result<()>
-    ensures { OnOk result (Appends (W.contents out.old) (W.contents out.new) (covers_line (flow_of flow.now) (flows_of flows.now))) }
-{
-    out.write_all(b"  covered by")?;
-    write_covers(out, flow, flows)?;
-    out.write_all(b"\n")
-}
-
-// Writes that line, if there are such flows.
-fn write_covered<W: Write>(out: &mut W, flow: &Dealt<'_>, flows: &[Dealt<'_>]) -> io::Result<()>
-    ensures { OnOk result (Appends (W.contents out.old) (W.contents out.new) (covers_text (flow_of flow.now) (flows_of flows.now))) }
-{
-    if is_covered(flow, flows) {
-        return write_covers_line(out, flow, flows);
-    }
-    Ok(())
-}
-
-/// Writes the lines of a flow, with each other flow that shares a queue, and all that cover its hand.
+/// Writes the lines of a flow, with each other flow that shares a queue, and all that cover its hand. The hashes are those of the
+/// flows with the queues of its hand.
 pub(crate) fn write_whole<W: Write>(
     out: &mut W,
     flow: &Dealt<'_>,
     flows: &[Dealt<'_>],
+    holders: &Holders,
+    hashes: &[u64],
 ) -> io::Result<()>
-    ensures { OnOk result (Appends (W.contents out.old) (W.contents out.new) (whole_text (flows_of flows.now) (flow_of flow.now))) }
+    requires holders { AreHolders (flows_of flows.now) (places_at holders.now) }
+    requires once { IsOnce flow.now.first.now.hash hashes.now }
+    ensures { OnOk result (Appends (W.contents out.old) (W.contents out.new) (held_whole_text hashes.now (flows_of flows.now) (flow_of flow.now))) }
 {
     write_hand(out, flow)?;
-    write_shares(out, flow, flows)?;
-    write_covered(out, flow, flows)
+    write_shares(out, flow, flows, holders)?;
+    write_covers(out, flow.first.hash, hashes)
 }

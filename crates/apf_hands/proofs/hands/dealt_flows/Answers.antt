@@ -1,5 +1,5 @@
 -- The flows that were dealt are those of the first requests.
-use Rattle.std.proofs.Common.{◌≡◌, ℕ, List, Option, map, ◌∙◌, ap, sym, subst}
+use Rattle.std.proofs.Common.{List, Option, map, ◌∙◌, ap, sym, subst}
 use Rattle.std.specs.Prelude.{nat_eq}
 use Rattle.std.specs.List.{IsDistinct}
 use Rattle.apf_flow.specs.Sizes.{Sizes}

@@ -1,9 +1,8 @@
 """Who is turned away, where requests are charged by time and where by seats: quiet flows of short requests beside five flows that ask for twice the
-level. First with an `apf serve` in the middle: the client keeps the clock, and everything else is the program's. Who comes in the first third is not
-counted there: nothing is known of any flow then. Then by `apf simulate`, where all are counted, and the requests come for 90 times as long as a loud
-one runs, if that is longer.
+level. First with an `apf serve` in the middle: the client keeps the clock, and everything else is the program's. Then by `apf simulate`. All requests are
+counted. They come for 90 times as long as a loud one runs, if that is longer than APF_SECONDS.
 
-APF_SEED draws other arrivals, and APF_SECONDS says how long they come.
+APF_SEED draws other arrivals.
 """
 
 import bisect
@@ -58,7 +57,6 @@ class Client:
         self.process = subprocess.Popen([program, "serve", LEVEL, "--charge", charge], stdin=subprocess.PIPE, stdout=subprocess.PIPE)
         self.process.stdout.readline()
         self.free, self.flow, self.runs_for = [*range(9_999, -1, -1)], {}, {}
-        self.is_counted = {}
         # who waits, each with its number among all that waited: its own may be another request's later
         self.waits, self.waited = {}, 0
         self.came, self.turned_away = {}, {}
@@ -79,8 +77,7 @@ class Client:
         flow = self.flow.pop(number)
         self.waits.pop(number, None)
         self.free.append(number)
-        if self.is_counted[number]:
-            self.turned_away[flow] = self.turned_away.get(flow, 0) + is_away
+        self.turned_away[flow] = self.turned_away.get(flow, 0) + is_away
 
     def line(self, at, kind, what):
         """The line that tells what is due."""
@@ -88,8 +85,7 @@ class Client:
             flow, runs_for = what
             number = self.free.pop()
             self.flow[number], self.runs_for[number] = flow, runs_for
-            self.is_counted[number] = at >= SECONDS * SECOND // 3
-            self.came[flow] = self.came.get(flow, 0) + self.is_counted[number]
+            self.came[flow] = self.came.get(flow, 0) + 1
             return number, b'arrive %d {"schema":"duel","distinguisher":"%s"}\n' % (number, flow.encode())
         number = what[0]
         return number, b"cancel %d\n" % number if kind == GIVE_UP else b"finish %d %d\n" % (number, self.runs_for[number])
@@ -150,15 +146,20 @@ def duel(runs_for, seconds):
     return sorted(quiet + arrivals_of(range(LOUD_FLOWS), "loud", runs_for, 98, runs_for, seconds))
 
 
+def seconds_of(runs_for):
+    """For how long requests come where the loud ones run this long."""
+    return max(SECONDS, 90 * runs_for // SECOND)
+
+
 def turned_away(runs_for, charge):
     """The part of the quiet flows' requests that is turned away beside requests that run this long."""
-    arrivals = duel(runs_for, SECONDS)
+    arrivals = duel(runs_for, seconds_of(runs_for))
     client = Client(charge)
     book, status = client.run(arrivals)
     came = sum(count for flow, count in client.came.items() if flow.startswith("quiet"))
     away = sum(count for flow, count in client.turned_away.items() if flow.startswith("quiet"))
-    tally.check(f"{runs_for} us by {charge}: nothing is left", (status, book.split("\n")[0], came), (0, "level open seats 0 waiting 0", sum(at >= SECONDS * SECOND // 3 and flow.startswith("quiet") for at, _, flow, _ in arrivals)))
-    print(f"loud requests of {runs_for // 1000} ms, charged by {charge}: {away} of {came} quiet requests turned away, {100 * away / came:.2f} %")
+    tally.check(f"{runs_for} us by {charge}: nothing is left", (status, book.split("\n")[0], came), (0, "level open seats 0 waiting 0", sum(flow.startswith("quiet") for _, _, flow, _ in arrivals)))
+    print(f"served for {seconds_of(runs_for)} s, loud requests of {runs_for // 1000} ms, charged by {charge}: {away} of {came} quiet requests turned away, {100 * away / came:.2f} %")
     return away / came
 
 
@@ -187,7 +188,7 @@ def simulated_for(seconds, runs_for, charge, of):
 def simulated(runs_for, charge):
     """The part that is turned away of all, and of those behind the first third. Of those in it some are there at its end. If nobody comes behind them,
     fewer of these are turned away, so the second part is at most this."""
-    seconds = max(SECONDS, 90 * runs_for // SECOND)
+    seconds = seconds_of(runs_for)
     came, away = simulated_for(seconds, runs_for, charge, seconds)
     came_first, away_first = simulated_for(seconds // 3, runs_for, charge, seconds)
     behind = (away - away_first) / (came - came_first)
@@ -196,10 +197,9 @@ def simulated(runs_for, charge):
 
 
 for milliseconds in (30, 100, 300, 1_000, 10_000):
-    away = turned_away(milliseconds * 1000, "time")
-    tally.check(f"with serve, loud requests of {milliseconds} ms: at most 1 % of the quiet ones are turned away", away <= 0.01, True)
-    away, behind = simulated(milliseconds * 1000, "time")
-    tally.check(f"by simulate, loud requests of {milliseconds} ms: at most 1 % of the quiet ones are turned away", away <= 0.01, True)
+    served, (away, behind) = turned_away(milliseconds * 1000, "time"), simulated(milliseconds * 1000, "time")
+    tally.check(f"with serve, loud requests of {milliseconds} ms: at most 1 % of the quiet ones are turned away", served <= 0.01, True)
+    tally.check(f"by simulate, loud requests of {milliseconds} ms: as many are", away, served)
     # those of 10 s hold all seats from the fifth second on, and the first of them end some seconds later: nearly all who are turned away come then
     tally.check(f"by simulate, loud requests of {milliseconds} ms: at most 0.1 % of those behind the first third", behind <= 0.001, True)
     # the same where dispatches are charged their seats: the test can tell

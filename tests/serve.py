@@ -1,5 +1,6 @@
-"""`apf serve` against an independent computation of it (lib/serve.py): random sessions word for word, long lines, clients that die or never read,
-what it says of a bad config and of bad words, its metrics, and its memory over many requests.
+"""`apf serve` against an independent computation of it (lib/serve.py): random sessions word for word, with both sides of the bound of those that are
+charged by time, long lines, clients that die or never read, what it says of a bad config and of bad words, its metrics, and its memory over many
+requests.
 
 APF_SEED draws other sessions, and APF_SESSIONS says how many. APF_REQUESTS says how many requests pass through a hundred numbers: 10000000 is the
 whole of what is promised, and takes two minutes.
@@ -21,6 +22,7 @@ import threading
 import time
 
 sys.path.insert(0, os.path.join(os.path.dirname(os.path.abspath(__file__)), "lib"))
+from bound import session_sides
 from explain import answer
 from harness import TOP, Files, Tally, build, build_serving, run
 from judge import Refused, config_of
@@ -258,7 +260,9 @@ KINDS += ["dispatch N queue", "strike N queue", "fault N bad line", "fault N bad
 KINDS += ["fault N truncated", "fault N the key", "fault N width is", "fault N cost is", "fault N hash"]
 # words that are numbers
 NUMBERS = re.compile(r"(?<![^ ])[0-9]+(?![^ ])")
-seen = dict.fromkeys([*KINDS, "a number that is used again"], 0)
+# the test of the bound can tell: with less it would fail
+BEYOND = "a queue whose requests take more than twice the largest cost more than those of one that is never empty"
+seen, nearest = dict.fromkeys([*KINDS, "a number that is used again", BEYOND], 0), (0, "")
 for number in range(SESSIONS):
     level, slots = config(), draw.choice([1, 2, 3, 5, 20, 100, 10_000])
     words = [] if slots == 10_000 and draw.random() < 0.5 else ["--slots", str(slots)]
@@ -277,6 +281,13 @@ for number in range(SESSIONS):
     for kind in KINDS:
         seen[kind] += f"\n{kind} " in shapes
     seen["a number that is used again"] += len(service.requests) > len(set(service.number.values()))
+    if charge == "time":
+        sides = session_sides(service)
+        tally.check(f"the bound of session {number} of {level}: {content}: {sides.line()}", sides.ahead <= sides.limit(), True)
+        if sides.pair:
+            nearest = max(nearest, (sides.ahead / sides.limit(), sides.line()))
+        seen[BEYOND] += sides.ahead > 2 * sides.largest
+print(f"of the sessions that came nearest: {nearest[1]}")
 for what, count in seen.items():
     tally.check(f"many sessions have a line with {what}: {count}", count >= min(60, SESSIONS // 30), True)
 

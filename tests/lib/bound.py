@@ -1,4 +1,5 @@
-"""How far apart the seat-times of queues come while one of them is never empty, and how far they may: an independent computation, from a run's own log."""
+"""How far apart the seat-times of queues come while one of them is never empty, and how far they may: an independent computation, from the log of a
+level that was simulated or served."""
 
 from typing import NamedTuple
 
@@ -26,35 +27,52 @@ class Sides(NamedTuple):
 
 
 def entries_of(level):
-    """The entries of a level's log, each with its kind, its request and its queue; a settlement stands where it was made."""
-    entries, settled = [], [*level.settlements]
+    """The entries of a level's log, each with its kind, its request, its queue, and what that is charged from then on where it is a change of a
+    charge; which stands where it was made."""
+    entries, changes = [], [*level.changes]
     for place, entry in enumerate([*level.log, None]):
-        while settled and settled[0][0] == place:
-            entries.append(("settle", *settled.pop(0)[1:]))
+        while changes and changes[0][0] == place:
+            entries.append(changes.pop(0)[1:])
         if entry:
-            entries.append(entry)
+            entries.append((*entry, None))
     return entries
 
 
 def sides(run):
-    """Of a run that is over: the pair that came furthest apart, and of those that came equally far the first."""
-    level = run.level
-    took = {it: taken(asked["width"], asked["runsFor"]) for it, asked in enumerate(run.trace)}
+    """Of a simulation that is over. What a request takes is known from its start."""
+    took = [taken(it["width"], it["runsFor"]) for it in run.trace]
+    return sides_of(run.level, [it["cost"] for it in run.asked], took)
+
+
+def session_sides(service):
+    """Of a session, by what its client told. Of whom it told no time when it ended, what it was charged is taken for what it took."""
+    level = service.level
+    costs = [it["cost"] for it in service.requests]
+    charged = {it: level.charged[it][1] for it in level.charged} | level.settled
+    return sides_of(level, costs, [charged.get(it, cost) for it, cost in enumerate(costs)])
+
+
+def sides_of(level, costs, took):
+    """Of a level's log whose requests have these costs and take this: the pair that came furthest apart, and of those that came equally far the
+    first."""
     queues = range(len(level.queues))
     waiting, service, charged, misjudged = [0] * len(queues), [0] * len(queues), {}, [0] * len(queues)
     largest, slack = 0, 0
     # of each queue that is not empty: how far each other one was ahead of it at the least since then; and how far it ever came from there
     least, furthest = {}, {}
-    for kind, request, queue in entries_of(level):
+    for kind, request, queue, charge in entries_of(level):
         if kind == "enter":
-            largest = max(largest, run.asked[request]["cost"])
+            largest = max(largest, costs[request])
             waiting[queue] += 1
         elif kind in ("dispatch", "strike"):
             waiting[queue] -= 1
         if kind == "dispatch":
             service[queue] += took[request]
-            charged[request] = run.asked[request]["cost"]
+            charged[request] = costs[request]
             misjudged[queue] += took[request] - charged[request]
+        elif kind == "spend":
+            misjudged[queue] -= charge - charged[request]
+            charged[request] = charge
         elif kind == "settle":
             misjudged[queue] -= took[request] - charged.pop(request)
         slack = max([slack, *map(abs, misjudged), max(misjudged, default=0) - min(misjudged, default=0)])

@@ -36,8 +36,9 @@ class Level:
         self.arrived, self.running, self.decided = set(), set(), {}
         # for each request that was dispatched and is not settled: its queue, and what that is charged for it. For each that is settled: what it took
         self.charged, self.settled = {}, {}
-        # each settlement: how many events there were before it, its request and its queue
-        self.settlements = []
+        # each change of a charge: how many events there were before it, whether it is the last one, its request and its queue, and what that is
+        # charged from then on
+        self.changes = []
         self.lines, self.log = [], []
 
     def width(self, request):
@@ -128,7 +129,7 @@ class Level:
             queue, amount = self.charged.pop(request)
             self.starts[queue] += took - amount
             self.settled[request] = took
-            self.settlements.append((len(self.log), request, queue))
+            self.changes.append((len(self.log), "settle", request, queue, took))
 
     def spend(self, request, took):
         """What a request took so far is charged, if that is more than what was."""
@@ -136,6 +137,7 @@ class Level:
             queue, amount = self.charged[request]
             self.starts[queue] += took - amount
             self.charged[request] = (queue, took)
+            self.changes.append((len(self.log), "spend", request, queue, took))
 
     def cancel(self, request):
         self.decided.setdefault(request, "cancelled")

@@ -8,8 +8,10 @@ use Rattle.apf_local.specs.declared.answer.Answer.TheVariants as answers
 use Rattle.apf_local.specs.declared.answer.Place.{Place}
 use Rattle.apf_local.specs.declared.answer.Place.TheVariants as places
 use Rattle.apf_local.specs.Levels.{LocalView, SameLocal, GoesOn, IsFinish}
+use Rattle.apf_local.specs.Seats.{KeepsSeats}
 use Rattle.apf_local.specs.Tries.{IsReading}
 use Rattle.apf_local.proofs.Logging.{servings_then, came_twice, still_on}
+use Rattle.apf_local.proofs.Seats.{keeps_same}
 use Rattle.apf_local.proofs.Slots.{owner_then}
 
 some_is : {A : Type 0} (a b : A) → ◌≡◌ {A = Option A} (Some a) (Some b) → a ≡ b
@@ -86,6 +88,7 @@ pub record AreGivenUp (old now : LocalView) (slots : ℕ) : Type 0 where
   pub free : (i : ℕ) → i < slots → slice_get now.places i ≡ Some places.Free
   pub idle : All (λ (p : Place). p ≡ places.Free) old.places → now ≡ old
   pub history : (v : LifeView) → IsLifeKept v old.owner.book → GoesOn v now.owner.book
+  pub seats : KeepsSeats old now
 
 pub none_given_up : (l : LocalView) → AreGivenUp l l 0
-none_given_up l = record { same = local_same l; count = refl; free = λ i low. absurd (omega (arith, low)); idle = λ all. refl; history = λ v kept. still_on v l.owner.book kept }
+none_given_up l = record { same = local_same l; count = refl; free = λ i low. absurd (omega (arith, low)); idle = λ all. refl; history = λ v kept. still_on v l.owner.book kept; seats = keeps_same l }

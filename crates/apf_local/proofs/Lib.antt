@@ -10,3 +10,4 @@ pub mod Slots
 pub mod Logging
 pub mod Giving
 pub mod Charged
+pub mod Seats

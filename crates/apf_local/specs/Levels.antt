@@ -28,6 +28,7 @@ use Rattle.apf_local.specs.declared.answer.Answer.{Answer}
 use Rattle.apf_local.specs.declared.answer.Answer.TheVariants as answers
 use Rattle.apf_local.specs.declared.answer.Place.{Place}
 use Rattle.apf_local.specs.declared.answer.Place.TheVariants as places
+use Rattle.apf_local.specs.declared.answer.Settlement.{Settlement}
 use Rattle.apf_local.specs.declared.admitting.Admitted.{Admitted}
 use Rattle.apf_local.specs.declared.admitting.Admitted.TheVariants as admitted
 use Rattle.apf_local.specs.declared.taking.Took.{Took}
@@ -186,17 +187,18 @@ IsFinish slot l answers.Wrong l' = (l' ≡ l) × (slice_get l.places slot ≢ So
 IsFinish slot l answers.Released l' = SlotMoves slot l l' Finishes
 IsFinish slot l answer l' = ⊥
 
--- of this very log: what a queue was charged for r is settled with this, and then Dispatches and Strikes alone came; or those alone, since nothing is kept of r, or it can be settled no more
-abbrev pub SettlesOn : LifeView → LifeBookView → ℕ → ℕ → LifeBookView → Type 0
-SettlesOn v b r m b' = ((c : Charge) × (charge_in b.queues r ≡ Some c) × (charge_of v.costs v.log r ≡ Some c) × GoesOn (then_settled v r c.queue c.amount m) b') ⊎ (CannotSettle b.queues r × GoesOn v b')
+-- of this very log: what a queue was charged for r is settled with this, which is told, and then Dispatches and Strikes alone came; or nothing is told, and those alone came, since nothing is kept of r, or it can be settled no more
+abbrev pub SettlesOn : LifeView → LifeBookView → ℕ → ℕ → Option Settlement → LifeBookView → Type 0
+SettlesOn v b r m None b' = CannotSettle b.queues r × GoesOn v b'
+SettlesOn v b r m (Some s) b' = (s.took ≡ m) × (charge_in b.queues r ≡ Some s.charge) × (charge_of v.costs v.log r ≡ Some s.charge) × GoesOn (then_settled v r s.charge.queue s.charge.amount m) b'
 
 -- of this very log: what a queue was charged for r was less than this, and is this from then on, and then Dispatches and Strikes alone came; or those alone, since nothing is kept of r, it was no less, or it can be changed no more
 abbrev pub SpendsOn : LifeView → LifeBookView → ℕ → ℕ → LifeBookView → Type 0
 SpendsOn v b r m b' = ((c : Charge) × (charge_in b.queues r ≡ Some c) × (charge_of v.costs v.log r ≡ Some c) × (c.amount < m) × GoesOn (then_spent v r c.queue c.amount m) b') ⊎ (CannotSpend b.queues r m × GoesOn v b')
 
--- each log has that the slot's request took so long before anything else
-abbrev pub SettlesSlot : ℕ → ℕ → LocalView → LocalView → Type 0
-SettlesSlot slot micros l l' = IsSlotOf l.owner.passes slot (λ (t : PassToken). (v : LifeView) → IsLifeKept v l.owner.book → SettlesOn v l.owner.book t.pass.number (seat_time_of (width l.owner.gate.shape.widths t.pass.number) micros) l'.owner.book)
+-- each log has that the slot's request took so long before anything else, if that is told
+abbrev pub SettlesSlot : ℕ → ℕ → Option Settlement → LocalView → LocalView → Type 0
+SettlesSlot slot micros told l l' = IsSlotOf l.owner.passes slot (λ (t : PassToken). (v : LifeView) → IsLifeKept v l.owner.book → SettlesOn v l.owner.book t.pass.number (seat_time_of (width l.owner.gate.shape.widths t.pass.number) micros) told l'.owner.book)
 
 -- each log has that the slot's request has taken so long, before anything else
 abbrev pub SpendsSlot : ℕ → ℕ → LocalView → LocalView → Type 0

@@ -3,3 +3,4 @@ pub mod Owners
 pub mod Levels
 pub mod Openings
 pub mod Tries
+pub mod Seats

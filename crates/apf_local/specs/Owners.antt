@@ -8,6 +8,7 @@ use Rattle.apf_model.specs.declared.response.Response.{Response}
 use Rattle.apf_model.specs.declared.response.Response.TheVariants.{Queue, Reject}
 use Rattle.apf_history.specs.declared.events.Event.TheVariants.{Strike}
 use Rattle.apf_model.specs.History.{has_arrived}
+use Rattle.apf_model.specs.Charged.{charge_of}
 use Rattle.apf_gate.specs.declared.answers.TryTake.TheVariants as tried
 use Rattle.apf_gate.specs.declared.record.State.TheVariants as states
 use Rattle.apf_gate.specs.declared.record.Entry.{Entry}
@@ -25,12 +26,13 @@ use Rattle.apf_gate.specs.Traces.{asked_in, GoesOn}
 use Rattle.apf_gate.specs.declared.record.Actor.TheVariants.{OfStation}
 use Rattle.apf_book.specs.declared.arrived.Arrived.{Arrived}
 use Rattle.apf_book.specs.declared.arrived.Arrived.TheVariants as arrived
-use Rattle.apf_book.specs.Life.{LifeView, IsAskedBy, then_came}
+use Rattle.apf_book.specs.Life.{LifeView, IsAskedBy, then_came, then_settled, charge_in, CannotSettle}
 use Rattle.apf_book.specs.LifeBook.{LifeBookView, IsLifeKept, arrived_in}
 use Rattle.apf_book.specs.LifeCalls.{SameLifeBook}
 use Rattle.apf_line.specs.Tokens.{IsDone, IsInLine, IsRunning}
 use Rattle.apf_line.specs.Tries.{FindsNoSeats, FoundNoSeatsSince}
 use Rattle.apf_local.specs.declared.answer.Ask.{Ask}
+use Rattle.apf_local.specs.declared.answer.Settlement.{Settlement}
 use Rattle.apf_local.specs.Worlds.{HasComeIn}
 use Rattle.apf_local.specs.declared.taking.Took.{Took}
 use Rattle.apf_local.specs.declared.taking.Took.TheVariants as took
@@ -144,14 +146,16 @@ pub record Enters (book : LifeBookView) (hand : List ℕ) (cost : ℕ) (answer :
   pub history : (v : LifeView) → IsLifeKept v book → IsLifeKept (arrived_in v before.pass.number hand cost answer) book'
   pub came : (q : ℕ) → answer ≡ arrived.Queued q → HasComeIn book' after.pass.number
 
--- the seats went back by one step, which found whether requests waited
+-- it heard what the Desk knows, and then its seats went back by one step, which found whether requests waited
 pub record GivesBack (waiting : Bool) (before after : PassToken) : Type 0 where
   pub number : after.pass.number ≡ before.pass.number
   pub is : IsDone after
   pub told : told_own after.pass ≡ Some Execute
+  pub heard : PassRecord
+  pub hears : (newer : List Entry) × (newer ++ before.pass.knows.trace ≡ heard.knows.trace)
   pub level : Level
   pub between : PassRecord
-  pub gives_back : PassSubtractsLevel before.pass level between
+  pub gives_back : PassSubtractsLevel heard level between
   pub goes_on : (newer : List Entry) × (newer ++ between.knows.trace ≡ after.pass.knows.trace)
   pub finds : waiting ≡ not (level.waiters == 0)
 
@@ -183,6 +187,11 @@ pub record Leaves (before after : PassToken) : Type 0 where
   pub is : IsDone after
   pub told : told_own after.pass ≡ Some Cancelled
   pub goes_on : (newer : List Entry) × (newer ++ before.pass.knows.trace ≡ after.pass.knows.trace)
+
+-- of this very log: what a queue was charged for r is settled with this, which is told; or nothing is told, nothing is kept of r or it can be settled no more, and the book stays as it was
+abbrev pub SettlesTold : LifeView → LifeBookView → ℕ → ℕ → Option Settlement → LifeBookView → Type 0
+SettlesTold v b r m None b' = (b' ≡ b) × CannotSettle b.queues r
+SettlesTold v b r m (Some s) b' = (s.took ≡ m) × (charge_in b.queues r ≡ Some s.charge) × (charge_of v.costs v.log r ≡ Some s.charge) × IsLifeKept (then_settled v r s.charge.queue s.charge.amount m) b'
 
 -- the Strike of this request came to this very history, or nothing did
 abbrev pub StrikesOne : ℕ → LifeView → LifeBookView → Type 0

@@ -1,5 +1,6 @@
 //! What a request asks for, and what the calls of a level answer.
 
+use apf_book::Charge;
 use apf_words::Decision;
 
 /// What a request asks for.
@@ -11,6 +12,15 @@ pub struct Ask {
     pub hash: u64,
     /// What its dispatch is charged, 1 to 4,294,967,295 in a unit of the caller's.
     pub cost: u32,
+}
+
+/// What a settlement changed. The unit is that of costs.
+#[derive(Clone, Copy, Debug, PartialEq, Eq)]
+pub struct Settlement {
+    /// The queue, and what it was charged for the request.
+    pub charge: Charge,
+    /// What it is charged in place of that: what the request took.
+    pub took: u64,
 }
 
 /// Where a slot's request is.

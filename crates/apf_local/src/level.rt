@@ -1,6 +1,6 @@
 //! A priority level as one plain value.
 
-ghost use Rattle.std.specs.Prelude.{◌≡◌, ◌≢◌, ◌↔◌, ◌≤◌, ◌<◌, ◌^◌, ℕ, length, slice_get, slice_set, true, false, All, Some, IfOk, IfErr, OnOk, IsTrue};
+ghost use Rattle.std.specs.Prelude.{◌≡◌, ◌≢◌, ◌↔◌, ◌≤◌, ◌<◌, ◌^◌, ℕ, length, slice_get, slice_set, true, false, All, Some, None, IfOk, IfErr, OnOk, IsTrue};
 ghost use Rattle.apf_words.specs.Limits.{max_width, max_cost, max_limit};
 ghost use Rattle.apf_flow.specs.Deal.{hand_of};
 ghost use Rattle.apf_gate.specs.Slots.{IsTicket};
@@ -9,17 +9,19 @@ ghost use Rattle.apf_gate.specs.StationSteps.{StationLoadsLevel};
 ghost use Rattle.apf_book.specs.Life.{LifeView, charge_in};
 ghost use Rattle.apf_book.specs.LifeBook.{IsLifeKept, IsLived};
 ghost use Rattle.apf_book.specs.RecentEvents.{AreLifeStats, CopiesLate};
-ghost use Rattle.apf_line.specs.Reports.{Ended, EndedAs};
+ghost use Rattle.apf_queue.specs.View.{queue_count};
+ghost use Rattle.apf_line.specs.Reports.{Ended, EndedAs, EndedBy};
 ghost use Rattle.apf_local.specs.declared.answer.Place.TheVariants as places;
 ghost use Rattle.apf_words.specs.declared.decision.Decision.{Decision};
 ghost use Rattle.apf_local.specs.Worlds.{IsDecidedIn};
 ghost use Rattle.apf_local.specs.Levels.{id_of, SameLocal, GoesOn, EndsFrom, IsArrival, IsFinish, SettlesSlot, SpendsSlot};
 ghost use Rattle.apf_local.specs.Owners.{IsSlotOf, Steps, Sets};
+ghost use Rattle.apf_local.specs.Seats.{AreSeatedIn, EndsSeated, HeldSlot, KeepsSeats};
 ghost use Rattle.apf_local.specs.Tries.{IsTry, IsReading, SlotsStay};
 ghost use Rattle.apf_local.specs.Openings.{IsOpened, CanOpen, IsOpenFault};
 
 use crate::admitting::admit;
-use crate::answer::{Answer, Ask, Place};
+use crate::answer::{Answer, Ask, Place, Settlement};
 use crate::fault::OpenFault;
 use crate::owner::Owner;
 use crate::reading::read_place;
@@ -102,6 +104,13 @@ impl LocalLevel {
         self.places.len()
     }
 
+    /// Its queues are those that its dealer deals. It makes no step: the contract is the law.
+    pub fn has_queues(&self)
+        ensures { queue_count self.now.owner.book.queues.queues ≡ self.now.sizes.deck }
+    {
+        let _ = &self.owner;
+    }
+
     /// Whether there may be a request of this ticket: a ticket that came from outside is tested so.
     pub fn knows(&self, ticket: Ticket) -> bool
         ensures { IsTrue result ↔ IsTicket self.now.owner.gate.shape ticket.number }
@@ -137,13 +146,15 @@ impl LocalLevel {
     }
 
     /// A request that executes gives its seats back, by one step. Then requests that wait are dispatched. Answers
-    /// `Released`, or `Wrong` of a slot whose request does not execute.
+    /// `Released`, or `Wrong` of a slot whose request does not execute. It held its seats when all had happened that the
+    /// history had before.
     pub fn finish(&mut self, slot: usize) -> Answer
         requires is_slot { slot < length self.old.places }
         ensures same { SameLocal self.old self.new }
         ensures operators { self.new.owner.stations ≡ self.old.owner.stations }
         ensures finishes { IsFinish slot self.old result self.new }
         ensures history { (v : LifeView) → IsLifeKept v self.old.owner.book → GoesOn v self.new.owner.book }
+        ensures held { result ≡ Answer.Released → HeldSlot slot self.old self.new }
     {
         every_level_has_histories();
         self.owner.has_a_history();
@@ -168,28 +179,31 @@ impl LocalLevel {
 
     /// As `finish`, of a request that ran this many microseconds. Before it gives its seats back, what it took is settled: if
     /// it was dispatched from a queue, that queue is charged its width times this time, 1 to 2^46 microseconds of a seat,
-    /// in place of what it was charged for it. A request that took its seats on arrival was never charged.
-    pub fn finish_measured(&mut self, slot: usize, micros: u64) -> Answer
+    /// in place of what it was charged for it. A request that took its seats on arrival was never charged. What was settled
+    /// is told, if anything was.
+    pub fn finish_measured(&mut self, slot: usize, micros: u64) -> (Answer, Option<Settlement>)
         requires is_slot { slot < length self.old.places }
         ensures same { SameLocal self.old self.new }
         ensures operators { self.new.owner.stations ≡ self.old.owner.stations }
-        ensures finishes { IsFinish slot self.old result self.new }
-        ensures settles { result ≡ Answer.Released → SettlesSlot slot micros self.old self.new }
+        ensures finishes { IsFinish slot self.old result.0 self.new }
+        ensures settles { result.0 ≡ Answer.Released → SettlesSlot slot micros result.1 self.old self.new }
+        ensures nothing { result.0 ≡ Answer.Wrong → result.1 ≡ None }
+        ensures held { result.0 ≡ Answer.Released → HeldSlot slot self.old self.new }
     {
         every_level_has_histories();
         self.owner.has_a_history();
         match self.places[slot] {
             Place::Runs => {}
-            Place::Free | Place::Waits => return Answer::Wrong,
+            Place::Free | Place::Waits => return (Answer::Wrong, None),
         }
         let amount = seat_time(self.owner.width(slot), micros);
-        self.owner.settle(slot, amount);
+        let settled = self.owner.settle(slot, amount);
         self.owner.has_a_history();
         self.owner.give_back(slot);
         let place = &mut self.places[slot];
         *place = Place::Free;
         self.owner.dispatch();
-        Answer::Released
+        (Answer::Released, settled)
     }
 
     /// The slot's request, which executes still, has run this many microseconds. If it was dispatched from a queue, and that
@@ -383,7 +397,8 @@ impl LocalLevel {
     }
 
     /// Ends the level, and tells what its words and its history say of all requests that ever held a slot. Before that each
-    /// request that waits is cancelled, and then each that executes gives its seats back.
+    /// request that waits is cancelled, and then each that executes gives its seats back. Each request of its log that was
+    /// settled, or charged more while it ran, held its seats then: see `every_call_keeps_seats`.
     ///
     /// # Errors
     ///
@@ -392,6 +407,7 @@ impl LocalLevel {
         ensures ended { IfOk result (EndsFrom self) }
         ensures idle { All (λ p. p ≡ places.Free) self.places → IfOk result (Ended (id_of self) self.owner.passes self.owner.stations) }
         ensures idle_of_each { All (λ p. p ≡ places.Free) self.places → IfOk result (λ r. (v : LifeView) → IsLifeKept v self.owner.book → EndedAs (id_of self) v self.owner.passes self.owner.stations r) }
+        ensures seated { IfOk result (λ r. (v : LifeView) → IsLifeKept v self.owner.book → AreSeatedIn self v.log → EndsSeated self v r) }
     {
         let mut level = self;
         level.give_up_all();
@@ -404,6 +420,7 @@ impl LocalLevel {
         ensures free { All (λ p. p ≡ places.Free) self.new.places }
         ensures idle { All (λ p. p ≡ places.Free) self.old.places → self.new ≡ self.old }
         ensures history { (v : LifeView) → IsLifeKept v self.old.owner.book → GoesOn v self.new.owner.book }
+        ensures seats { KeepsSeats self.old self.new }
     {
         self.cancel_waiting();
         for slot in 0..self.places.len() {
@@ -417,6 +434,7 @@ impl LocalLevel {
         ensures count { length self.new.places ≡ length self.old.places }
         ensures idle { All (λ p. p ≡ places.Free) self.old.places → self.new ≡ self.old }
         ensures history { (v : LifeView) → IsLifeKept v self.old.owner.book → GoesOn v self.new.owner.book }
+        ensures seats { KeepsSeats self.old self.new }
     {
         for slot in 0..self.places.len() {
             self.cancel_at(slot);
@@ -430,6 +448,7 @@ impl LocalLevel {
         ensures count { length self.new.places ≡ length self.old.places }
         ensures idle { slice_get self.old.places slot ≡ Some places.Free → self.new ≡ self.old }
         ensures history { (v : LifeView) → IsLifeKept v self.old.owner.book → GoesOn v self.new.owner.book }
+        ensures seats { KeepsSeats self.old self.new }
     {
         match self.places[slot] {
             Place::Free | Place::Runs => {}
@@ -444,6 +463,7 @@ impl LocalLevel {
         ensures frees { self.new.places ≡ slice_set self.old.places slot places.Free }
         ensures idle { slice_get self.old.places slot ≡ Some places.Free → self.new ≡ self.old }
         ensures history { (v : LifeView) → IsLifeKept v self.old.owner.book → GoesOn v self.new.owner.book }
+        ensures seats { KeepsSeats self.old self.new }
     {
         self.has_a_history();
         match self.places[slot] {
@@ -461,6 +481,7 @@ impl LocalLevel {
         ensures same { SameLocal self.old self.new }
         ensures frees { self.new.places ≡ slice_set self.old.places slot places.Free }
         ensures history { (v : LifeView) → IsLifeKept v self.old.owner.book → GoesOn v self.new.owner.book }
+        ensures seats { KeepsSeats self.old self.new }
     {
         let request = self.ticket(slot);
         self.cancel(request);
@@ -472,7 +493,7 @@ impl LocalLevel {
     // Ends a level whose slots are all free.
     fn end_idle(self, alloc: Global) -> Result<Report, AllocError>
         requires free { All (λ p. p ≡ places.Free) self.places }
-        ensures { IfOk result (λ r. (v : LifeView) → IsLifeKept v self.owner.book → EndedAs (id_of self) v self.owner.passes self.owner.stations r) }
+        ensures { IfOk result (λ r. (v : LifeView) → IsLifeKept v self.owner.book → EndedBy self.owner.book.desk.desk (id_of self) v self.owner.passes self.owner.stations r) }
     {
         self.owner.has_a_history();
         let LocalLevel {

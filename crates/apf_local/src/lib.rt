@@ -2,20 +2,23 @@
 //! takes a lock. Several levels stand in one `Vec`.
 //!
 //! - `level`: the level, by its slots.
-//! - `answer`: what a request asks for, and what the calls of the level answer. `fault`: why it is not opened.
+//! - `answer`: what a request asks for, what the calls of the level answer, and what a settlement changed. `fault`: why it is not opened.
 //! - `admitting`: the arrival of a request. `reading`: what one that waits reads. `taking`: what its Pass does of its own between two hearings.
 //! - `owner`: a gate, its book and all of its tokens in one hand, so that no exchange is ever lost.
+//! - `laws`: what is true of every call.
 #![tactic(auto)]
 
 mod admitting;
 mod answer;
 mod fault;
+mod laws;
 mod level;
 mod owner;
 mod reading;
 mod taking;
 
-pub use answer::{Answer, Ask, Place};
+pub use answer::{Answer, Ask, Place, Settlement};
 pub use apf_book::{Charge, Settling};
 pub use fault::OpenFault;
+pub use laws::every_call_keeps_seats;
 pub use level::LocalLevel;

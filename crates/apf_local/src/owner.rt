@@ -11,20 +11,21 @@ ghost use Rattle.apf_gate.specs.Tokens.{PassToken, pass_gate, desk_gate, station
 ghost use Rattle.apf_gate.specs.StationCalls.{TriesToCancel, ClosesTo};
 ghost use Rattle.apf_gate.specs.StationSteps.{StationLoadsLevel};
 ghost use Rattle.apf_book.specs.Life.{LifeView, IsAskedBy, charge_in, sizes_of};
-ghost use Rattle.apf_book.specs.LifeBook.{IsLifeKept, IsLived, ServesLife, StrikesLife, SettlesLife, SpendsLife};
+ghost use Rattle.apf_book.specs.LifeBook.{IsLifeKept, IsLived, ServesLife, StrikesLife, SpendsLife};
 ghost use Rattle.apf_model.specs.World.{width};
 ghost use Rattle.apf_book.specs.LifeCalls.{IsAsk};
 ghost use Rattle.apf_line.specs.Tokens.{IsDone, IsInLine, IsRunning};
 ghost use Rattle.apf_queue.specs.View.{queue_count, max_charge};
 ghost use Rattle.apf_book.specs.RecentEvents.{AreLifeStats, CopiesLate};
 ghost use Rattle.apf_line.specs.Levels.{LifeId};
-ghost use Rattle.apf_line.specs.Reports.{EndedAs};
+ghost use Rattle.apf_line.specs.Reports.{EndedBy};
+ghost use Rattle.apf_line.specs.Seats.{HeldSeats};
 ghost use Rattle.apf_line.specs.Stopped.{IsStopped};
 ghost use Rattle.apf_local.specs.Openings.{line_of, IsNewOwner, CanOpen, IsOpenFault, HasQueuesOf};
 ghost use Rattle.apf_local.specs.Worlds.{HasComeIn, IsDecidedIn};
-ghost use Rattle.apf_local.specs.Owners.{SameOwner, Moves, Stay, Begins, IsBlocked, IsUsedUp, Enters, GivesBack, Reads, IsToldOff, Leaves, StrikesOne, Steps, Sets, IsSlotOf};
+ghost use Rattle.apf_local.specs.Owners.{SameOwner, Moves, Stay, Begins, IsBlocked, IsUsedUp, Enters, GivesBack, Reads, IsToldOff, Leaves, SettlesTold, StrikesOne, Steps, Sets, IsSlotOf};
 
-use crate::answer::Ask;
+use crate::answer::{Ask, Settlement};
 use crate::fault::OpenFault;
 use crate::taking::{Took, take};
 use apf_book::{
@@ -201,7 +202,7 @@ impl Owner {
     pub fn end(self, alloc: Global, slots: usize) -> Result<Report, AllocError>
         requires done { All IsDone self.passes }
         requires slots { slots ≡ length self.passes }
-        ensures { IfOk result (λ r. (k : LifeId) (v : LifeView) → k.gate ≡ self.gate → HasQueuesOf k self.book → IsLifeKept v self.book → EndedAs k v self.passes self.stations r) }
+        ensures { IfOk result (λ r. (k : LifeId) (v : LifeView) → k.gate ≡ self.gate → HasQueuesOf k self.book → IsLifeKept v self.book → EndedBy self.book.desk.desk k v self.passes self.stations r) }
     {
         let Owner {
             alloc: _,
@@ -325,16 +326,23 @@ impl Owner {
     }
 
     /// The slot's request, which executes, has run, and took so much. If it was dispatched from a queue, that queue is
-    /// charged this in place of what it was charged for the request, once and for all. Says whether it was.
-    pub fn settle(&mut self, slot: usize, amount: u64) -> bool
+    /// charged this in place of what it was charged for the request, once and for all. Tells what was settled.
+    pub fn settle(&mut self, slot: usize, amount: u64) -> Option<Settlement>
         requires is_slot { slot < length self.old.passes }
         requires runs { IsSlotOf self.old.passes slot IsRunning }
         requires low { amount ≤ max_charge }
         ensures same { SameOwner self.old self.new }
         ensures stay { Stay self.old self.new }
-        ensures settles { IsSlotOf self.old.passes slot (λ t. (v : LifeView) → IsLifeKept v self.old.book → SettlesLife v self.old.book t.pass.number amount result self.new.book) }
+        ensures settles { IsSlotOf self.old.passes slot (λ t. (v : LifeView) → IsLifeKept v self.old.book → SettlesTold v self.old.book t.pass.number amount result self.new.book) }
     {
-        self.book.settle(&self.passes[slot], amount)
+        let charge = self.charge(slot)?;
+        if !self.book.settle(&self.passes[slot], amount) {
+            return None;
+        }
+        Some(Settlement {
+            charge,
+            took: amount,
+        })
     }
 
     /// The slot's request, which executes still, has taken so much so far. If it was dispatched from a queue, and that
@@ -350,7 +358,8 @@ impl Owner {
         self.book.spend(&self.passes[slot], amount)
     }
 
-    /// The slot's request gives its seats back. Says whether requests waited then.
+    /// The slot's request hears what the Desk knows, and gives its seats back. Says whether requests waited then. It held its
+    /// seats when all had happened that the histories of the book have.
     pub fn give_back(&mut self, slot: usize) -> bool
         requires is_slot { slot < length self.old.passes }
         requires runs { IsSlotOf self.old.passes slot IsRunning }
@@ -358,7 +367,9 @@ impl Owner {
         ensures gives { Moves slot self.old.passes self.new.passes (GivesBack result) }
         ensures operators { self.new.stations ≡ self.old.stations }
         ensures history { (v : LifeView) → IsLifeKept v self.old.book → IsLifeKept v self.new.book }
+        ensures held { IsSlotOf self.old.passes slot (λ t. (v : LifeView) → IsLifeKept v self.old.book → HeldSeats self.new.gate.shape self.new.book.desk.desk.knows.trace v.history t.pass.number) }
     {
+        self.book.hear(&self.gate, &mut self.passes[slot]);
         let waiting = self.gate.release(&mut self.passes[slot]);
         self.book.hear(&self.gate, &mut self.passes[slot]);
         waiting

@@ -13,6 +13,7 @@ use Rattle.apf_local.specs.declared.answer.Answer.{Answer}
 use Rattle.apf_local.specs.declared.answer.Answer.TheVariants as answers
 use Rattle.apf_local.specs.declared.answer.Ask.{Ask}
 use Rattle.apf_local.specs.declared.answer.Place.TheVariants.{Runs}
+use Rattle.apf_local.specs.declared.answer.Settlement.{Settlement}
 use Rattle.apf_local.specs.Levels.{LocalView, SameLocal, GoesOn, IsArrival, IsFinish, SettlesSlot, SpendsSlot}
 use Rattle.apf_line.specs.SeatTime.{seat_time_of}
 use Rattle.apf_local.specs.Owners.{Steps, Sets}
@@ -67,7 +68,7 @@ charges_after answer ran flow charges = charges
 -- what the request of slot n took is settled before it gives its seats back, where it is said how long it ran, and it executed. Where that is not said, nothing is settled
 abbrev pub SettlesBy : ℕ → Option ℕ → Answer → LocalView → LocalView → Type 0
 SettlesBy n None answer l l' = (v : LifeView) → IsLifeKept v l.owner.book → GoesOn v l'.owner.book
-SettlesBy n (Some micros) answer l l' = answer ≡ answers.Released → SettlesSlot n micros l l'
+SettlesBy n (Some micros) answer l l' = answer ≡ answers.Released → (told : Option Settlement) × SettlesSlot n micros told l l'
 
 -- what each queue was given, once a request of this width is settled that ran so long: what it took is in place of what was charged for it
 abbrev pub queues_after : Answer → Option ℕ → ℕ → Option Charge → List Given → List Given

@@ -172,7 +172,7 @@ fn release(level: &mut LocalLevel, slot: u32, ran: Option<u64>) -> Answer
     ensures settles { SettlesBy slot ran result level.old level.new }
 {
     match ran {
-        Some(micros) => level.finish_measured(slot as usize, micros),
+        Some(micros) => level.finish_measured(slot as usize, micros).0,
         None => level.finish(slot as usize),
     }
 }

@@ -1,11 +1,11 @@
 -- What the commands on a simulation print.
-use Rattle.std.specs.Prelude.{◌≡◌, ℕ, Bool, true, false, List, ◌++◌, Option, None}
+use Rattle.std.specs.Prelude.{◌≡◌, ℕ, Bool, true, false, List, ◌++◌, Option, Some, None}
 use Rattle.std.specs.Io.KnownBytes.{Appends}
 use Rattle.apf_charges.specs.declared.charges.ChargedBy.{ChargedBy}
 use Rattle.apf_model.specs.declared.config.Config.{Config}
 use Rattle.apf_bound.specs.declared.bound.Sides.{Sides}
 use Rattle.apf_line.specs.declared.report.Report.{Report}
-use Rattle.apf_local.specs.Levels.{EndsFrom}
+use Rattle.apf_local.specs.Levels.{EndsFrom, LocalView}
 use Rattle.apf_rows.specs.Comparisons.{IsOrder, comparison_text}
 use Rattle.apf_rows.specs.Tables.{IsTable}
 use Rattle.apf_rows.specs.declared.comparison.Place.{Place}
@@ -22,6 +22,7 @@ use Rattle.apf_traces.specs.declared.request.TraceRequest.{TraceRequest}
 use Rattle.apf_simulator.specs.Lanes.{IsLane, LaneView}
 use Rattle.apf_simulator.specs.Runs.{HasRunAll, HasRunToo}
 use Rattle.apf_simulator.specs.Turns.{Turn, came_by, told_by}
+use Rattle.apf_watched.specs.Followed.{AreSidesIn}
 use Rattle.apf_simulator.specs.declared.held.TimeWindow.{TimeWindow}
 use Rattle.apf_simulator.specs.declared.listed.Listed.{Listed}
 
@@ -47,10 +48,11 @@ pub record HasListed (window : TimeWindow) (config : Config) (patience : ℕ) (b
   pub listed : AreListed window (came_by turns) (told_by turns) l
   pub end : l.end ≡ lane.rows.all.sums.last
 
--- both sides of the bound are printed only if they are asked for
-abbrev pub AreAskedFor : Bool → Option Sides → Type 0
-AreAskedFor true sides = Unit {0}
-AreAskedFor false sides = sides ≡ None
+-- both sides of the bound are printed exactly if they are asked for: those of a log of the level
+abbrev pub AreAskedFor : Bool → LocalView → Option Sides → Type 0
+AreAskedFor true l None = ⊥
+AreAskedFor true l (Some s) = AreSidesIn l s
+AreAskedFor false l sides = sides ≡ None
 
 -- A lane's level has ended. What its flows came to was printed, and the book of the level, and both sides of the bound, if they were asked for
 pub record IsPrinted (limit patience : ℕ) (has_bound : Bool) (lane : LaneView) (before after : Option (List ℕ)) : Type 0 where
@@ -60,7 +62,7 @@ pub record IsPrinted (limit patience : ℕ) (has_bound : Bool) (lane : LaneView)
   pub ended : EndsFrom lane.state.level report
   pub of_book : AreOfBook table.all.sums report.words.counts
   pub sides : Option Sides
-  pub asked : AreAskedFor has_bound sides
+  pub asked : AreAskedFor has_bound lane.state.level sides
   pub written : Appends before after ((table_text limit patience table ++ totals_text (book_of report)) ++ sides_text sides)
 
 -- The whole trace ran; what its flows came to was printed, and the book of the level, which ended; and both sides of the bound, if they were asked for
@@ -74,7 +76,7 @@ pub record HasSimulated (config : Config) (patience : ℕ) (by : Option ChargedB
   pub ended : EndsFrom lane.state.level report
   pub of_book : AreOfBook table.all.sums report.words.counts
   pub sides : Option Sides
-  pub asked : AreAskedFor has_bound sides
+  pub asked : AreAskedFor has_bound lane.state.level sides
   pub written : Appends before after ((table_text config.limit patience table ++ totals_text (book_of report)) ++ sides_text sides)
 
 -- a level ended, and these are the numbers of its book

@@ -36,7 +36,8 @@ pub enum SimulatorFault {
     /// Nothing is due, and a request still waits. It has never been seen: that it can't be is not proved.
     #[error("a request waits while no seat is taken")]
     StillWaits,
-    /// The level decided other numbers of requests than its flows have. It has never been seen: that it can't be is not proved.
+    /// The level decided other numbers of requests than its flows have, or its log could not be followed for the bound. It has
+    /// never been seen: that it can't be is not proved.
     #[error("the level's book has other numbers than its flows")]
     OtherBook,
     /// The output is not written.

@@ -1,6 +1,6 @@
 //! A level with what its requests came to.
 
-ghost use Rattle.std.specs.Prelude.{◌≡◌, ◌+◌, ◌≤◌, [], ◌∷◌, ◌++◌, List, length, IfOk, IfErr, IsTrue, OnOk};
+ghost use Rattle.std.specs.Prelude.{◌≡◌, ◌+◌, ◌≤◌, [], ◌∷◌, ◌++◌, List, length, IfSome, IfOk, IfErr, IsTrue, OnOk};
 ghost use Rattle.apf_times.specs.Limits.{max_patience, max_wait};
 ghost use Rattle.apf_times.specs.declared.window.Arrival.{Arrival as ArrivalOf};
 ghost use Rattle.apf_traces.specs.declared.request.TraceRequest.{TraceRequest as RequestOf};
@@ -13,13 +13,14 @@ ghost use Rattle.apf_calendar.specs.Guests.{NothingBy};
 ghost use Rattle.apf_local.specs.Levels.{EndsFrom};
 ghost use Rattle.apf_local.specs.Openings.{CanOpen, IsOpenFault};
 ghost use Rattle.apf_rows.specs.Tables.{IsTable};
+ghost use Rattle.apf_watched.specs.Followed.{AreSidesIn};
 ghost use Rattle.apf_simulator.specs.Books.{AreOfBook};
 ghost use Rattle.apf_simulator.specs.Lanes.{GoesOn, IsLane, IsLived, IsOpening, most_slots};
 
 use crate::asked::asked_of;
 use crate::counting::{are_countable, count_all};
 use crate::fault::SimulatorFault;
-use apf_bound::{Bound, Sides};
+use apf_bound::Sides;
 use apf_calendar::MOST_TIME;
 use apf_charges::ChargedBy;
 use apf_gate::Counts;
@@ -30,7 +31,7 @@ use apf_rows::{Rows, Sums, Table};
 use apf_stream::{Asked, Ended, Stream, every_run_goes_on};
 use apf_times::Arrival;
 use apf_traces::TraceRequest;
-use std::alloc::Global;
+use std::alloc::{AllocError, Global};
 use std::marker::Model;
 
 /// How many requests may be there at once, at most.
@@ -116,14 +117,20 @@ impl Lane {
     }
 
     /// Keeps both sides of the bound from now on, if nobody came yet.
-    pub fn watch(&mut self, bound: Bound)
+    ///
+    /// # Errors
+    ///
+    /// `AllocError` if memory was refused. Then they are not kept.
+    pub fn watch(&mut self, alloc: Global) -> Result<(), AllocError>
         ensures { self.new ≡ self.old }
     {
-        self.stream.watch(bound);
+        self.stream.watch(alloc)
     }
 
     /// Both sides of the bound of all that was carried out, if they are kept.
-    pub fn sides(&self) -> Option<Sides> {
+    pub fn sides(&self) -> Option<Sides>
+        ensures { IfSome result (AreSidesIn self.now.state.level) }
+    {
         self.stream.sides()
     }
 

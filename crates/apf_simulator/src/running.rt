@@ -19,14 +19,11 @@ use crate::lane::{Lane, MOST_SLOTS};
 use crate::lanes::Lanes;
 use crate::listed::{Listed, Listing};
 use crate::listener::Listener;
-use crate::sides::queues_of;
 use crate::telling::Telling;
 use crate::timeline::Timeline;
-use apf_bound::Bound;
 use apf_charges::ChargedBy;
 use apf_model::Config;
 use apf_trace_reader::{TraceReader, WINDOW};
-use apf_words::MAX_QUEUES;
 use std::alloc::Global;
 use std::io::{Read, Write};
 
@@ -167,7 +164,7 @@ pub(crate) fn run_one<R: Read, L: Listener, W: Write>(
         → HasBeenHeard config.now terms.patience terms.by reader.old.window.size (R.remaining input.old) (R.remaining input.new) lane (λ turns. L.heard before (W.contents out.new) turns listener.new)) }
 {
     let (lane, first, opening) = open_for(alloc, config, terms, reader, input)?;
-    let lane = watched(alloc, config, terms, opening.by, lane)?;
+    let lane = watched(alloc, terms, opening.by, lane)?;
     let lane = run_lane(lane, listener, first, reader, input, out)?;
     Ok(lane)
 }
@@ -194,7 +191,6 @@ fn run_to_end<R: Read, L: Listener, W: Write>(
 // Keeps both sides of the bound of a lane to which nobody came, if they are asked for.
 fn watched(
     alloc: Global,
-    config: &Config,
     terms: Terms,
     by: ChargedBy,
     mut lane: Lane,
@@ -207,8 +203,7 @@ fn watched(
     if by == ChargedBy::Seats {
         return Err(SimulatorFault::BoundOfSeats);
     }
-    let bound = Bound::new(alloc, queues_of(config).min(MAX_QUEUES))?;
-    lane.watch(bound);
+    lane.watch(alloc)?;
     Ok(lane)
 }
 

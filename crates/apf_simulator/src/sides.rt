@@ -5,17 +5,8 @@ ghost use Rattle.std.specs.Io.KnownBytes.{Appends};
 ghost use Rattle.apf_simulator.specs.Books.{furthest_text, other_text, sides_line};
 
 use apf_bound::{Furthest, Sides};
-use apf_model::{Config, Response};
 use std::io;
 use std::io::Write;
-
-/// Of how many queues a level is: of none where it rejects what does not fit.
-pub(crate) fn queues_of(config: &Config) -> u32 {
-    match config.limit_response {
-        Response::Queue => config.queues,
-        Response::Reject => 0,
-    }
-}
 
 // Writes the pair of queues that came furthest apart, and by how much.
 #[tactic(auto, unfolding(crate::specs::Books::furthest_text))]

@@ -1,6 +1,6 @@
 //! Runs a trace on a level, and prints what its flows came to.
 
-ghost use Rattle.std.specs.Prelude.{◌≡◌, ◌≤◌, ◌++◌, [], None, OnOk};
+ghost use Rattle.std.specs.Prelude.{◌≡◌, ◌≤◌, ◌++◌, [], None, IfOk, OnOk};
 ghost use Rattle.std.specs.Io.KnownBytes.{Appends};
 ghost use Rattle.apf_times.specs.Limits.{max_patience};
 ghost use Rattle.apf_texts.specs.Texts.{totals_text};
@@ -74,10 +74,16 @@ fn write_bound<W: Write>(sides: &Option<Sides>, out: &mut W) -> Result<(), Simul
 }
 
 // Both sides of the bound of a lane, if they are asked for.
-fn sides_of(lane: &Lane, has_bound: bool) -> Option<Sides>
-    ensures { AreAskedFor has_bound result }
+fn sides_of(lane: &Lane, has_bound: bool) -> Result<Option<Sides>, SimulatorFault>
+    ensures { IfOk result (AreAskedFor has_bound lane.now.state.level) }
 {
-    if has_bound { lane.sides() } else { None }
+    if !has_bound {
+        return Ok(None);
+    }
+    match lane.sides() {
+        Some(sides) => Ok(Some(sides)),
+        None => Err(SimulatorFault::OtherBook),
+    }
 }
 
 // Ends the level of a lane, and prints what its flows came to, the level's book, and both sides of the bound.
@@ -90,7 +96,7 @@ fn print<W: Write>(
 ) -> Result<(), SimulatorFault>
     ensures { OnOk result (IsPrinted limit terms.patience terms.has_bound lane (W.contents out.old) (W.contents out.new)) }
 {
-    let sides = sides_of(&lane, terms.has_bound);
+    let sides = sides_of(&lane, terms.has_bound)?;
     let (table, report) = lane.close(alloc)?;
     write(&table, &report, limit, terms.patience, out)?;
     write_bound(&sides, out)?;

@@ -14,6 +14,7 @@ use Rattle.apf_charges.specs.Charging.{cost_for, charges_with}
 use Rattle.apf_local.specs.declared.answer.Answer.{Answer}
 use Rattle.apf_local.specs.declared.answer.Answer.TheVariants as answers
 use Rattle.apf_local.specs.declared.answer.Place.{Place}
+use Rattle.apf_local.specs.declared.answer.Settlement.{Settlement}
 use Rattle.apf_local.specs.declared.answer.Place.TheVariants as places
 use Rattle.apf_local.specs.Levels.{LocalView, SameLocal, GoesOn, IsArrival, IsFinish, SettlesSlot}
 use Rattle.apf_local.specs.Owners.{Steps}
@@ -95,7 +96,8 @@ pub record Arrives (slot : ℕ) (a : Asked) (s s' : State) (told : List Ended) :
 -- The request of the slot, which executes, gave its seats back. What it took was settled before that, and its flow learned it. It is told.
 pub record Returns (c : Carried) (since : ℕ) (s s' : State) (told : List Ended) : Type 0 where
   pub call : IsFinish c.slot s.level answers.Released s'.level
-  pub settles : SettlesSlot c.slot c.guest.times.runs_for s.level s'.level
+  pub settled : Option Settlement
+  pub settles : SettlesSlot c.slot c.guest.times.runs_for settled s.level s'.level
   pub same : SameLocal s.level s'.level
   pub operators : s'.level.owner.stations ≡ s.level.owner.stations
   pub slots : s'.slots ≡ s.slots

@@ -22,7 +22,7 @@ pub record State : Type 0 where
   pub charges : Charges
 
 abbrev pub state_of : Stream → State
-state_of s = record { level = s.level; slots = s.calendar; holds = s.holds.items; charges = s.charges }
+state_of s = record { level = s.level.level; slots = s.calendar; holds = s.holds.items; charges = s.charges }
 
 -- each number that a request asks for is in its range
 pub record IsAsked (a : Asked) : Type 0 where

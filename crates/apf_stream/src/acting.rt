@@ -43,8 +43,7 @@ impl Stream {
         let slot = carried.slot as usize;
         let hold = self.holds[slot];
         let runs_for = carried.guest.times.runs_for;
-        self.watch.settle(&hold);
-        self.level.finish_measured(slot, runs_for);
+        self.level.finish(slot, runs_for);
         self.charges.learn(hold.asked.hash, runs_for);
         let ended = Ended {
             hold,
@@ -104,7 +103,6 @@ impl Stream {
         for place in 0..count {
             if place < self.room.len() {
                 let event = self.room[place];
-                self.watch.see(self.holds.as_slice(), event);
                 self.hear(event, ends)?;
             }
         }
@@ -181,7 +179,8 @@ impl Stream {
             cost,
         };
         self.calendar.arrive(slot, asked.line, asked.times);
-        let (answer, event) = self.level.arrive(slot as usize, ask);
+        let runs_for = asked.times.runs_for;
+        let (answer, event) = self.level.arrive(slot as usize, ask, runs_for);
         let hold = Hold {
             asked,
             cost,

@@ -5,7 +5,6 @@
 //! - `asked`: what a request asks for, and what is noted of it while it is there. `ended`: what became of it.
 //! - `deed`: what is done with a request.
 //! - `stream`: a level, a calendar of its slots, and what is noted of who is there. `fault`: why a stream does not go on.
-//! - `watch`: follows the log of the level, for both sides of the bound.
 //! - `reading`: what a request that waits reads. `acting`: the calls of the level, and what follows of them.
 //! - `laws`: what is true of every run.
 #![tactic(auto)]
@@ -18,7 +17,6 @@ mod fault;
 mod laws;
 mod reading;
 mod stream;
-mod watch;
 
 pub use asked::{Asked, Hold};
 pub use deed::Deed;

@@ -26,7 +26,7 @@ impl Stream {
         ensures fewer { IfOk result (λ place. place ≢ places.Waits → left self.new.calendar.slots < left self.old.calendar.slots) }
         ensures no_more { IfOk result (λ place. left self.new.calendar.slots ≤ left self.old.calendar.slots) }
         ensures time { IfOk result (λ place. self.new.calendar.time ≡ self.old.calendar.time) }
-        ensures decided { IfOk result (λ place. IsSlotOf self.old.level.owner.passes slot (λ t. IsDecidedIn self.old.level.owner.book t.pass.number → place ≢ places.Waits)) }
+        ensures decided { IfOk result (λ place. IsSlotOf self.old.level.level.owner.passes slot (λ t. IsDecidedIn self.old.level.level.owner.book t.pass.number → place ≢ places.Waits)) }
     {
         let place = self.level.place(slot as usize);
         match place {

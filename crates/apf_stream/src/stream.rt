@@ -1,6 +1,6 @@
 //! A level, a calendar of its slots, and what is noted of who is there.
 
-ghost use Rattle.std.specs.Prelude.{◌≡◌, ◌≤◌, ◌++◌, [], replicate, length, IfOk, IfErr, OnOk};
+ghost use Rattle.std.specs.Prelude.{◌≡◌, ◌≤◌, ◌++◌, [], replicate, length, IfSome, IfOk, IfErr, OnOk};
 ghost use Rattle.apf_words.specs.Limits.{max_requests};
 ghost use Rattle.apf_times.specs.Limits.{max_patience, max_wait};
 ghost use Rattle.apf_charges.specs.Charging.{opening_charges};
@@ -9,24 +9,26 @@ ghost use Rattle.apf_local.specs.Openings.{IsOpened, CanOpen, IsOpenFault};
 ghost use Rattle.apf_local.specs.Levels.{EndsFrom};
 ghost use Rattle.apf_stream.specs.States.{state_of, settling_by};
 ghost use Rattle.apf_stream.specs.Ties.{AreTied};
+ghost use Rattle.apf_watched.specs.Followed.{AreSidesIn};
 
 use crate::asked::{Asked, Hold};
-use crate::watch::Watch;
 use apf_book::LifeEvent;
-use apf_bound::{Bound, Sides};
+use apf_bound::Sides;
 use apf_calendar::SlotCalendar;
 use apf_charges::{ChargedBy, Charges};
 use apf_gate::Ticket;
 use apf_line::Report;
-use apf_local::{LocalLevel, OpenFault, Settling};
+use apf_local::{OpenFault, Settling};
 use apf_model::Config;
 use apf_times::Times;
+use apf_watched::WatchedLevel;
 use std::alloc::{AllocError, Global};
 
 /// A level with a calendar of its slots. It is told each request as it arrives, and tells each one as it is over.
 #[derive(Drop)]
 pub struct Stream {
-    pub(crate) level: LocalLevel,
+    // both sides of the bound follow it, if they are kept
+    pub(crate) level: WatchedLevel,
     pub(crate) calendar: SlotCalendar<Global>,
     // of who is in each slot, or was there last
     pub(crate) holds: Vec<Hold>,
@@ -34,8 +36,6 @@ pub struct Stream {
     // the events that were read last, and up to which place they were read
     pub(crate) room: Vec<LifeEvent>,
     pub(crate) seen: u64,
-    // both sides of the bound, if they are kept
-    pub(crate) watch: Watch,
 }
 
 // What is noted of a slot in which nobody was yet.
@@ -81,14 +81,14 @@ impl Stream {
         requires some { 1 ≤ slots }
         requires few { slots ≤ max_requests }
         requires patience { patience ≤ max_patience }
-        ensures opened { IfOk result (λ s. IsOpened config.now slots (settling_by by) s.level) }
+        ensures opened { IfOk result (λ s. IsOpened config.now slots (settling_by by) s.level.level) }
         ensures calendar { IfOk result (λ s. s.calendar ≡ record { time = 0; patience = patience; slots = replicate slots None }) }
         ensures charges { IfOk result (λ s. s.charges ≡ opening_charges by) }
         ensures tied { IfOk result (λ s. AreTied (state_of s)) }
         ensures settings { OnOk result (CanOpen config.now slots) }
         ensures fault { IfErr result (IsOpenFault config.now slots) }
     {
-        let level = LocalLevel::open_settling(alloc, config, slots, settling_of(by))?;
+        let level = WatchedLevel::open(alloc, config, slots, settling_of(by))?;
         let calendar = SlotCalendar::new(alloc, slots, patience)?;
         let holds = vec![in alloc; NOBODY; slots as usize]?;
         let charges = Charges::new(alloc, by)?;
@@ -101,20 +101,25 @@ impl Stream {
             charges,
             room,
             seen: 0,
-            watch: Watch::off(),
         })
     }
 
     /// Keeps both sides of the bound from now on, if nobody came yet.
-    pub fn watch(&mut self, bound: Bound)
-        ensures same { state_of self.new ≡ state_of self.old }
+    ///
+    /// # Errors
+    ///
+    /// `AllocError` if memory was refused. Then they are not kept.
+    pub fn watch(&mut self, alloc: Global) -> Result<(), AllocError>
+        ensures { state_of self.new ≡ state_of self.old }
     {
-        self.watch = Watch::on(bound);
+        self.level.watch(alloc)
     }
 
     /// Both sides of the bound of all that was carried out, if they are kept.
-    pub fn sides(&self) -> Option<Sides> {
-        self.watch.sides()
+    pub fn sides(&self) -> Option<Sides>
+        ensures { IfSome result (AreSidesIn (state_of self.now).level) }
+    {
+        self.level.sides()
     }
 
     /// The time of what was carried out last, in microseconds.
@@ -132,7 +137,7 @@ impl Stream {
     ///
     /// `AllocError` if memory was refused. Then everything is given up.
     pub fn end(self, alloc: Global) -> Result<Report, AllocError>
-        ensures { IfOk result (EndsFrom self.level) }
+        ensures { IfOk result (EndsFrom self.level.level) }
     {
         let Stream {
             level,
@@ -141,7 +146,6 @@ impl Stream {
             charges: _,
             room: _,
             seen: _,
-            watch: _,
         } = self;
         level.end(alloc)
     }

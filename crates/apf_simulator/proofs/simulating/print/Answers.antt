@@ -9,7 +9,7 @@ returns g c = record {
   report = c.in_ok-table.report;
   ended = c.in_ok-table.ensures.report;
   of_book = c.in_ok-table.ensures.book;
-  sides = c.sides_of-sides.result;
-  asked = c.sides_of-sides.ensures;
+  sides = c.in_ok-sides.sides;
+  asked = c.in_ok-sides.ensures;
   written = Appends-trans (g.W.Write.contents c.args.out.now) (g.W.Write.contents c.write.new.out) (g.W.Write.contents c.write_bound.new.out) _ _ c.in_ok-write.ensures c.in_ok-write_bound.ensures;
 }

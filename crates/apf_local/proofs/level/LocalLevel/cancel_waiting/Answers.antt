@@ -6,6 +6,7 @@ use Rattle.apf_local.specs.declared.answer.Place.{Place}
 use Rattle.apf_local.specs.declared.answer.Place.TheVariants as places
 use Rattle.apf_local.specs.Levels.{LocalView}
 use Rattle.apf_local.proofs.Giving.{AreGivenUp, none_given_up, local_then, on_then}
+use Rattle.apf_local.proofs.Seats.{keeps_then}
 use Rattle.apf_local.proofs.level.LocalLevel.cancel_waiting.Goals as goal
 
 pub loop-slot-init : goal.loop-slot-init
@@ -28,4 +29,5 @@ loop-slot-preserved c =
           let each : All (λ (p : Place). p ≡ places.Free) now.places = subst (λ (l : LocalView). All (λ (p : Place). p ≡ places.Free) l.places) (sym was) all in
           c.cancel_at.ensures.idle (slice_get-get_or now.places slot places.Free inside ∙ ap (λ (p : Place). Some p) (each slot places.Free inside)) ∙ was;
       history = λ v kept. on_then v now.owner.book new.owner.book (far.history v kept) c.cancel_at.ensures.history;
+      seats = keeps_then old now new far.history far.seats c.cancel_at.ensures.seats;
     }

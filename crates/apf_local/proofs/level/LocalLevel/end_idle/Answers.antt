@@ -3,7 +3,7 @@ use Rattle.std.proofs.Common.{◌≡◌, ◌<◌, ℕ, length, get_or, Some, ref
 use Rattle.std.specs.Prelude.{slice_get, All}
 use Rattle.std.proofs.lemmas.Option.{slice_get-get_or}
 use Rattle.apf_book.specs.LifeBook.{IsLifeKept}
-use Rattle.apf_line.specs.Reports.{EndedAs}
+use Rattle.apf_line.specs.Reports.{EndedBy}
 use Rattle.apf_local.specs.declared.answer.Place.{Place}
 use Rattle.apf_local.specs.declared.answer.Place.TheVariants as places
 use Rattle.apf_local.specs.Levels.{LocalView, id_of}
@@ -22,4 +22,4 @@ pub returns : goal.returns
 returns c = of_each _ _ (λ r ends v is.
     let l : LocalView = record { owner = c.self.inside.owner; sizes = c.self.inside.dealer; places = c.self.inside.places.items } in
     let kept : IsLifeKept v l.owner.book = subst (λ (x : LocalView). IsLifeKept v x.owner.book) (sym c.self.view_is) is in
-    subst (λ (x : LocalView). EndedAs (id_of x) v x.owner.passes x.owner.stations r) c.self.view_is (ends (id_of l) v refl (record { queues = c.self.invariant.deck; limit = refl; hand = c.self.invariant.hand; settles = refl }) kept)) c.end.result c.end.ensures
+    subst (λ (x : LocalView). EndedBy x.owner.book.desk.desk (id_of x) v x.owner.passes x.owner.stations r) c.self.view_is (ends (id_of l) v refl (record { queues = c.self.invariant.deck; limit = refl; hand = c.self.invariant.hand; settles = refl }) kept)) c.end.result c.end.ensures

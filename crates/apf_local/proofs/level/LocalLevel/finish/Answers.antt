@@ -1,11 +1,13 @@
 -- A slot whose request gave its seats back.
-use Rattle.std.proofs.Common.{rules, ◌≡◌, ◌<◌, length, get_or, set, Some, refl, ap, ◌∙◌, subst}
+use Rattle.std.proofs.Common.{rules, ◌≡◌, ◌<◌, length, get_or, set, Some, refl, sym, ap, ◌∙◌, subst}
 use Rattle.std.specs.Prelude.{slice_get}
 use Rattle.std.proofs.lemmas.Option.{slice_get-get_or}
+use Rattle.apf_book.specs.LifeBook.{IsLifeKept}
 use Rattle.apf_local.specs.declared.answer.Place.{Place}
 use Rattle.apf_local.specs.declared.answer.Place.TheVariants as places
 use Rattle.apf_local.specs.Levels.{LocalView, SameLocal, SlotMoves, Finishes}
 use Rattle.apf_local.proofs.Beginning.{opened}
+use Rattle.apf_local.proofs.Seats.{held_then}
 use Rattle.apf_local.proofs.Slots.{owner_then, local_kept}
 use Rattle.apf_local.proofs.level.LocalLevel.finish.Goals as goal
 
@@ -47,3 +49,9 @@ returns-clause-finishes c =
       now_at = refl;
       does = record { ran = refl; place_is = refl; waiting = c.give_back.result; gives = moves.does };
     })
+
+pub returns-clause-held : goal.returns-clause-held
+returns-clause-held c = λ released t at v is.
+    let here : slice_get c.self.inside.owner.passes c.args.slot ≡ Some t = subst (λ (x : LocalView). slice_get x.owner.passes c.args.slot ≡ Some t) (sym c.self.view_is) at in
+    let kept : IsLifeKept v c.self.inside.owner.book = subst (λ (x : LocalView). IsLifeKept v x.owner.book) (sym c.self.view_is) is in
+    held_then c.give_back.new.self c.dispatch.new.self c.dispatch.ensures.same v.history t.pass.number (c.give_back.ensures.held t here v kept)

@@ -8,6 +8,7 @@ use Rattle.apf_local.specs.declared.answer.Place.{Place}
 use Rattle.apf_local.specs.declared.answer.Place.TheVariants as places
 use Rattle.apf_local.specs.Levels.{LocalView}
 use Rattle.apf_local.proofs.Giving.{AreGivenUp, get_set, get_still, get_or_of, local_then, on_then}
+use Rattle.apf_local.proofs.Seats.{keeps_then}
 use Rattle.apf_local.proofs.level.LocalLevel.give_up_all.Goals as goal
 
 pub loop-slot-init : goal.loop-slot-init
@@ -17,6 +18,7 @@ loop-slot-init c = record {
   free = λ i low. absurd (omega (arith, low));
   idle = c.cancel_waiting.ensures.idle;
   history = c.cancel_waiting.ensures.history;
+  seats = c.cancel_waiting.ensures.seats;
 }
 
 pub loop-slot-preserved : goal.loop-slot-preserved
@@ -40,6 +42,7 @@ loop-slot-preserved c =
           let each : All (λ (p : Place). p ≡ places.Free) now.places = subst (λ (l : LocalView). All (λ (p : Place). p ≡ places.Free) l.places) (sym was) all in
           c.give_up.ensures.idle (here ∙ ap (λ (p : Place). Some p) (each slot places.Free inside)) ∙ was;
       history = λ v kept. on_then v now.owner.book new.owner.book (far.history v kept) c.give_up.ensures.history;
+      seats = keeps_then old now new far.history far.seats c.give_up.ensures.seats;
     }
 
 pub returns-clause-free : goal.returns-clause-free

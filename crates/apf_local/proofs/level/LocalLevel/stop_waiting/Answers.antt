@@ -5,6 +5,7 @@ use Rattle.apf_local.specs.declared.answer.Place.{Place}
 use Rattle.apf_local.specs.declared.answer.Place.TheVariants as places
 use Rattle.apf_local.proofs.Giving.{get_set, local_then, on_then, reading_sets, finish_sets}
 use Rattle.apf_local.proofs.Places.{set_again}
+use Rattle.apf_local.proofs.Seats.{keeps_then, stays_seated, reading_seated, finishing_seated}
 use Rattle.apf_local.proofs.level.LocalLevel.stop_waiting.Goals as goal
 
 pub returns-then-eq-clause-same : goal.returns-then-eq-clause-same
@@ -29,3 +30,15 @@ returns-else-eq-clause-same c = local_then c.args.self.now c.cancel.new.self c.p
 
 pub returns-else-eq-clause-history : goal.returns-else-eq-clause-history
 returns-else-eq-clause-history c = λ v kept. on_then v c.cancel.new.self.owner.book c.place.new.self.owner.book (c.cancel.ensures.history v kept) c.place.ensures.history
+
+pub returns-then-eq-clause-seats : goal.returns-then-eq-clause-seats
+returns-then-eq-clause-seats c =
+    let a = c.args.self.now in let b = c.cancel.new.self in let d = c.place.new.self in let e = c.finish.new.self in
+    keeps_then a d e (λ v kept. on_then v b.owner.book d.owner.book (c.cancel.ensures.history v kept) c.place.ensures.history)
+    (keeps_then a b d c.cancel.ensures.history (stays_seated a b c.cancel.ensures.same c.cancel.ensures.slots) (reading_seated c.args.slot b d c.place.result c.place.ensures.same c.place.ensures.reads))
+    (finishing_seated c.args.slot d e c.finish.result c.finish.ensures.same c.finish.ensures.finishes c.finish.ensures.held)
+
+pub returns-else-eq-clause-seats : goal.returns-else-eq-clause-seats
+returns-else-eq-clause-seats c =
+    let a = c.args.self.now in let b = c.cancel.new.self in let d = c.place.new.self in
+    keeps_then a b d c.cancel.ensures.history (stays_seated a b c.cancel.ensures.same c.cancel.ensures.slots) (reading_seated c.args.slot b d c.place.result c.place.ensures.same c.place.ensures.reads)

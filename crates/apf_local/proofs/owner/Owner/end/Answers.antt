@@ -1,11 +1,12 @@
 -- How the level ended, of every history of its book.
 use Rattle.std.proofs.Common.{rules, ◌≡◌, refl, sym, ap, ◌∙◌, subst}
 use Rattle.apf_queue.specs.View.{queue_count}
-use Rattle.apf_gate.specs.Tokens.{GateId}
+use Rattle.apf_gate.specs.declared.record.DeskRecord.{DeskRecord}
+use Rattle.apf_gate.specs.Tokens.{GateId, DeskToken}
 use Rattle.apf_book.specs.Life.{settles_in}
 use Rattle.apf_book.specs.LifeBook.{LifeBookView, IsLifeKept}
 use Rattle.apf_line.specs.Levels.{LifeId, IsBookOf}
-use Rattle.apf_line.specs.Reports.{EndedAs}
+use Rattle.apf_line.specs.Reports.{EndedBy}
 use Rattle.apf_local.specs.Owners.{OwnerView}
 use Rattle.apf_local.specs.Openings.{HasQueuesOf}
 use Rattle.apf_local.proofs.Beginning.{of_each}
@@ -28,4 +29,5 @@ returns c = of_each _ _ (λ r ends k v same queues kept.
     let gate : k.gate ≡ c.self.inside.gate = same ∙ ap (λ (o : OwnerView). o.gate) (sym c.self.view_is) in
     let own : IsBookOf k c.self.inside.book = record { gate = c.self.invariant.desk ∙ sym gate; queues = has.queues; limit = has.limit; hand = has.hand; settles = has.settles } in
     let closes = c.in_ok-closing.ensures.closes k v own slots here in
-    subst (λ (o : OwnerView). EndedAs k v o.passes o.stations r) c.self.view_is (ends k v (sym gate) closes)) c.end_level.result c.end_level.ensures.ended
+    let here_desk : c.in_ok-closing.closing.desk.desk ≡ c.self.inside.book.desk.desk = ap (λ (d : DeskToken). d.desk) c.in_ok-closing.ensures.desk in
+    subst (λ (o : OwnerView). EndedBy o.book.desk.desk k v o.passes o.stations r) c.self.view_is (subst (λ (d : DeskRecord). EndedBy d k v c.self.inside.passes.items c.self.inside.stations.items r) here_desk (ends k v (sym gate) closes))) c.end_level.result c.end_level.ensures.by_desk

@@ -14,20 +14,21 @@ returns-clause-returns c =
     let s : State = state_of c.args.self.now in
     let slot = c.args.carried.slot in
     let is = c.requires.returning in
-    let e = c.finish_measured.ensures in
-    let sets = finish_sets slot s.level c.finish_measured.new.self c.finish_measured.result e.finishes is.place in
+    let e = c.finish.ensures in
+    let sets = finish_sets slot s.level c.finish.new.self.level c.finish.result.0 e.finishes is.place in
     let low : slot < length s.holds = let a = is.but.inside in let b = is.but.count.holds in omega arith in
-    let hold = c.index.result.now in
+    let hold = c.index-hold.result.now in
     record {
       told = served hold c.args.since c.args.carried.at ∷ [];
       returns = record {
-        call = subst (λ (a : Answer). IsFinish slot s.level a c.finish_measured.new.self) sets.0 e.finishes;
+        call = subst (λ (a : Answer). IsFinish slot s.level a c.finish.new.self.level) sets.0 e.finishes;
+        settled = c.finish.result.1;
         settles = e.settles sets.0;
         same = e.same;
         operators = e.operators;
         slots = refl;
         hold = hold;
-        noted = slice_get_read s.holds (length s.holds) slot hold refl low c.index.ensures;
+        noted = slice_get_read s.holds (length s.holds) slot hold refl low c.index-hold.ensures;
         told_is = refl;
         holds = refl;
         charges = c.learn.ensures;
@@ -40,5 +41,5 @@ returns-clause-tied c =
     let s : State = state_of c.args.self.now in
     let slot = c.args.carried.slot in
     let is = c.requires.returning in
-    let sets = finish_sets slot s.level c.finish_measured.new.self c.finish_measured.result c.finish_measured.ensures.finishes is.place in
-    returned_tied s (record { level = c.finish_measured.new.self; slots = s.slots; holds = s.holds; charges = c.learn.new.self }) slot c.args.carried.guest is sets.1 refl refl
+    let sets = finish_sets slot s.level c.finish.new.self.level c.finish.result.0 c.finish.ensures.finishes is.place in
+    returned_tied s (record { level = c.finish.new.self.level; slots = s.slots; holds = s.holds; charges = c.learn.new.self }) slot c.args.carried.guest is sets.1 refl refl

@@ -13,14 +13,14 @@ use Rattle.apf_stream.proofs.Readings.{waits_still}
 use Rattle.apf_stream.proofs.stream.Stream.give_up.Goals as goal
 
 pub read-requires : goal.read-requires
-read-requires c = record { waits = waits_still (state_of c.args.self.now) c.args.slot c.cancel.new.self c.requires.leaving c.cancel.ensures.slots }
+read-requires c = record { waits = waits_still (state_of c.args.self.now) c.args.slot c.cancel.new.self.level c.requires.leaving c.cancel.ensures.slots }
 
 -- the Pass of the slot
-token : (c : goal.In_ok-read) → (t : PassToken) × (slice_get c.args.self.now.level.owner.passes c.args.slot ≡ Some t)
+token : (c : goal.In_ok-read) → (t : PassToken) × (slice_get c.args.self.now.level.level.owner.passes c.args.slot ≡ Some t)
 token c =
     let stay = c.cancel.ensures.slots in
     let waits = ap (λ (l : List Place). slice_get l c.args.slot) stay.places ∙ c.requires.leaving.place in
-    let t = token_of c.args.slot c.cancel.new.self c.read.new.self.level c.in_ok-read.field-0 c.in_ok-read.ensures.reads.reads.reads waits in
+    let t = token_of c.args.slot c.cancel.new.self.level c.read.new.self.level.level c.in_ok-read.field-0 c.in_ok-read.ensures.reads.reads.reads waits in
     (t.0, ap (λ (l : List PassToken). slice_get l c.args.slot) (sym stay.passes) ∙ t.1)
 
 -- one that is decided does not wait
@@ -30,7 +30,7 @@ over c =
     let stay = c.cancel.ensures.slots in
     let number = c.ticket-ticket.ensures.number t.0 t.1 in
     c.in_ok-read.ensures.decided t.0 (ap (λ (l : List PassToken). slice_get l c.args.slot) stay.passes ∙ t.1)
-    (subst (λ (k : ℕ). IsDecidedIn c.cancel.new.self.owner.book k) number (c.cancel.ensures.ends c.args.slot c.requires.leaving.place t.0 t.1 (sym number)))
+    (subst (λ (k : ℕ). IsDecidedIn c.cancel.new.self.level.owner.book k) number (c.cancel.ensures.ends c.args.slot c.requires.leaving.place t.0 t.1 (sym number)))
 
 pub returns-clause-cancels : goal.returns-clause-cancels
 returns-clause-cancels c =
@@ -41,11 +41,11 @@ returns-clause-cancels c =
     record {
       told = r.told;
       cancels = record {
-        cancelled = c.cancel.new.self;
+        cancelled = c.cancel.new.self.level;
         answer = c.cancel.result;
         token = t.0;
         of_slot = t.1;
-        cancels = subst (λ (k : ℕ). Steps s.level.owner.stations c.cancel.new.self.owner.stations (λ station station'. TriesToCancel station k c.cancel.result station')) (c.ticket-ticket.ensures.number t.0 t.1) e.cancels;
+        cancels = subst (λ (k : ℕ). Steps s.level.owner.stations c.cancel.new.self.level.owner.stations (λ station station'. TriesToCancel station k c.cancel.result station')) (c.ticket-ticket.ensures.number t.0 t.1) e.cancels;
         same = e.same;
         stays = e.slots;
         history = e.history;

@@ -11,7 +11,7 @@ use Rattle.apf_stream.proofs.stream.Stream.read.Goals as goal
 pub returns-in-Waits-clause-reads : goal.returns-in-Waits-clause-reads
 returns-in-Waits-clause-reads c =
     let s : State = state_of c.args.self.now in
-    let l' = c.place-place.new.self in
+    let l' = c.place-place.new.self.level in
     let e = c.place-place.ensures in
     let serves : Serves s.level l' = record { same = e.same; operators = e.operators; history = e.history } in
     reads_waits s c.args.slot c.requires.waits l' c.place-place.result e.reads serves c.args.ends.now.items c.in-Waits.is
@@ -19,7 +19,7 @@ returns-in-Waits-clause-reads c =
 pub returns-in-Waits-clause-still : goal.returns-in-Waits-clause-still
 returns-in-Waits-clause-still c =
     let s : State = state_of c.args.self.now in
-    let l' = c.place-place.new.self in
+    let l' = c.place-place.new.self.level in
     let e = c.place-place.ensures in
     let serves : Serves s.level l' = record { same = e.same; operators = e.operators; history = e.history } in
     tied_waits s c.args.slot c.requires.waits l' c.place-place.result e.reads serves c.in-Waits.is
@@ -27,7 +27,7 @@ returns-in-Waits-clause-still c =
 pub returns-in_ok-start-in-Runs-clause-reads : goal.returns-in_ok-start-in-Runs-clause-reads
 returns-in_ok-start-in-Runs-clause-reads c =
     let s : State = state_of c.args.self.now in
-    let l' = c.place-place.new.self in
+    let l' = c.place-place.new.self.level in
     let e = c.place-place.ensures in
     let serves : Serves s.level l' = record { same = e.same; operators = e.operators; history = e.history } in
     reads_runs s c.args.slot c.requires.waits l' c.place-place.result e.reads serves c.start.new.self c.args.ends.now.items c.in-Runs.is c.in_ok-start-in-Runs.ensures.started
@@ -35,7 +35,7 @@ returns-in_ok-start-in-Runs-clause-reads c =
 pub returns-in_ok-start-in-Runs-clause-tied : goal.returns-in_ok-start-in-Runs-clause-tied
 returns-in_ok-start-in-Runs-clause-tied c isnt =
     let s : State = state_of c.args.self.now in
-    let l' = c.place-place.new.self in
+    let l' = c.place-place.new.self.level in
     let e = c.place-place.ensures in
     let serves : Serves s.level l' = record { same = e.same; operators = e.operators; history = e.history } in
     tied_runs s c.args.slot c.requires.waits l' c.place-place.result e.reads serves c.start.new.self c.in-Runs.is c.in_ok-start-in-Runs.ensures.started
@@ -43,7 +43,7 @@ returns-in_ok-start-in-Runs-clause-tied c isnt =
 pub returns-in_ok-start-in-Runs-clause-still : goal.returns-in_ok-start-in-Runs-clause-still
 returns-in_ok-start-in-Runs-clause-still c tied =
     let s : State = state_of c.args.self.now in
-    let l' = c.place-place.new.self in
+    let l' = c.place-place.new.self.level in
     let e = c.place-place.ensures in
     let serves : Serves s.level l' = record { same = e.same; operators = e.operators; history = e.history } in
     tied_runs s c.args.slot c.requires.waits l' c.place-place.result e.reads serves c.start.new.self c.in-Runs.is c.in_ok-start-in-Runs.ensures.started
@@ -57,7 +57,7 @@ returns-in_ok-start-in-Runs-clause-no_more c = let f = starts_fewer c.args.self.
 pub returns-in_ok-tell-in-Free-clause-reads : goal.returns-in_ok-tell-in-Free-clause-reads
 returns-in_ok-tell-in-Free-clause-reads c =
     let s : State = state_of c.args.self.now in
-    let l' = c.place-place.new.self in
+    let l' = c.place-place.new.self.level in
     let e = c.place-place.ensures in
     let serves : Serves s.level l' = record { same = e.same; operators = e.operators; history = e.history } in
     let w = c.requires.waits in
@@ -70,7 +70,7 @@ returns-in_ok-tell-in-Free-clause-reads c =
 pub returns-in_ok-tell-in-Free-clause-tied : goal.returns-in_ok-tell-in-Free-clause-tied
 returns-in_ok-tell-in-Free-clause-tied c isnt =
     let s : State = state_of c.args.self.now in
-    let l' = c.place-place.new.self in
+    let l' = c.place-place.new.self.level in
     let e = c.place-place.ensures in
     let serves : Serves s.level l' = record { same = e.same; operators = e.operators; history = e.history } in
     tied_free s c.args.slot c.requires.waits l' c.place-place.result e.reads serves c.leave.new.self c.in-Free.is c.leave.ensures
@@ -78,7 +78,7 @@ returns-in_ok-tell-in-Free-clause-tied c isnt =
 pub returns-in_ok-tell-in-Free-clause-still : goal.returns-in_ok-tell-in-Free-clause-still
 returns-in_ok-tell-in-Free-clause-still c tied =
     let s : State = state_of c.args.self.now in
-    let l' = c.place-place.new.self in
+    let l' = c.place-place.new.self.level in
     let e = c.place-place.ensures in
     let serves : Serves s.level l' = record { same = e.same; operators = e.operators; history = e.history } in
     tied_free s c.args.slot c.requires.waits l' c.place-place.result e.reads serves c.leave.new.self c.in-Free.is c.leave.ensures

@@ -16,7 +16,7 @@ pub unreachable-requires : goal.unreachable-requires
 unreachable-requires c =
     let s : State = state_of c.args.self.now in
     let hold : Hold = record { asked = c.args.asked; cost = c.cost_of-cost.result; queue = c.queue_in.result } in
-    let no = never s c.args.slot c.args.asked c.requires.tied c.requires.free c.arrive-answer.new.self hold c.arrive-answer.result.0 c.arrive-answer.result.1 refl c.arrive-answer.ensures.arrives in
+    let no = never s c.args.slot c.args.asked c.requires.tied c.requires.free c.arrive-answer.new.self.level hold c.arrive-answer.result.0 c.arrive-answer.result.1 refl c.arrive-answer.ensures.arrives in
     ⊎_elim (λ e. no (λ x. absurd (cc)) (ap place_by_answer e)) (⊎_elim (λ e. no (λ x. absurd (cc)) (ap place_by_answer e)) (λ e. no (λ x. absurd (cc)) (ap place_by_answer e))) c.in-Busy.is
 
 pub start-requires : goal.start-requires
@@ -34,7 +34,7 @@ returns-in_ok-start-in-Run-clause-arrives c =
     let slot = c.args.slot in
     let comer = with_comer s slot c.args.asked c.requires.tied c.requires.free in
     let starts : Starts comer slot c.start.new.self = subst (λ (v : SlotsView). Starts v slot c.start.new.self) c.arrive.ensures c.in_ok-start-in-Run.ensures.started in
-    arrived s slot c.args.asked c.requires.tied c.requires.free c.arrive-answer.new.self hold answer c.arrive-answer.result.1 refl e.arrives c.start.new.self [] c.requires.forward c.requires.over c.cost_of-cost.ensures.cost c.queue_in.ensures e.same e.operators
+    arrived s slot c.args.asked c.requires.tied c.requires.free c.arrive-answer.new.self.level hold answer c.arrive-answer.result.1 refl e.arrives c.start.new.self [] c.requires.forward c.requires.over c.cost_of-cost.ensures.cost c.queue_in.ensures e.same e.operators
     (subst (λ (a : Answer). FollowsAnswer a slot hold comer c.start.new.self []) (sym c.in-Run.is) (starts, refl))
     c.args.ends.now.items c.args.ends.now.items (sym (append-nil c.args.ends.now.items))
 
@@ -45,7 +45,7 @@ returns-in_ok-start-in-Run-clause-tied c =
     let slot = c.args.slot in
     let comer = with_comer s slot c.args.asked c.requires.tied c.requires.free in
     let starts : Starts comer slot c.start.new.self = subst (λ (v : SlotsView). Starts v slot c.start.new.self) c.arrive.ensures c.in_ok-start-in-Run.ensures.started in
-    tied_runs s slot c.args.asked c.requires.tied c.requires.free c.arrive-answer.new.self hold c.arrive-answer.result.0 c.arrive-answer.result.1 refl c.arrive-answer.ensures.arrives c.start.new.self c.in-Run.is starts
+    tied_runs s slot c.args.asked c.requires.tied c.requires.free c.arrive-answer.new.self.level hold c.arrive-answer.result.0 c.arrive-answer.result.1 refl c.arrive-answer.ensures.arrives c.start.new.self c.in-Run.is starts
 
 pub returns-in-Waits-clause-arrives : goal.returns-in-Waits-clause-arrives
 returns-in-Waits-clause-arrives c =
@@ -56,8 +56,8 @@ returns-in-Waits-clause-arrives c =
     let slot = c.args.slot in
     let comer = with_comer s slot c.args.asked c.requires.tied c.requires.free in
     let before = c.args.ends.now.items in
-    subst (λ (v : SlotsView). ArrivesAs slot c.args.asked s before (record { level = c.arrive-answer.new.self; slots = v; holds = set s.holds slot hold; charges = s.charges }) before) (sym c.arrive.ensures)
-    (arrived s slot c.args.asked c.requires.tied c.requires.free c.arrive-answer.new.self hold answer c.arrive-answer.result.1 refl e.arrives comer [] c.requires.forward c.requires.over c.cost_of-cost.ensures.cost c.queue_in.ensures e.same e.operators
+    subst (λ (v : SlotsView). ArrivesAs slot c.args.asked s before (record { level = c.arrive-answer.new.self.level; slots = v; holds = set s.holds slot hold; charges = s.charges }) before) (sym c.arrive.ensures)
+    (arrived s slot c.args.asked c.requires.tied c.requires.free c.arrive-answer.new.self.level hold answer c.arrive-answer.result.1 refl e.arrives comer [] c.requires.forward c.requires.over c.cost_of-cost.ensures.cost c.queue_in.ensures e.same e.operators
     (subst (λ (a : Answer). FollowsAnswer a slot hold comer comer []) (sym c.in-Waits.is) (refl, refl))
     before before (sym (append-nil before)))
 
@@ -66,13 +66,13 @@ returns-in-Waits-clause-tied c =
     let s : State = state_of c.args.self.now in
     let hold : Hold = record { asked = c.args.asked; cost = c.cost_of-cost.result; queue = c.queue_in.result } in
     let slot = c.args.slot in
-    subst (λ (v : SlotsView). AreTied (record { level = c.arrive-answer.new.self; slots = v; holds = set s.holds slot hold; charges = s.charges })) (sym c.arrive.ensures)
-    (tied_waits s slot c.args.asked c.requires.tied c.requires.free c.arrive-answer.new.self hold c.arrive-answer.result.0 c.arrive-answer.result.1 refl c.arrive-answer.ensures.arrives c.in-Waits.is)
+    subst (λ (v : SlotsView). AreTied (record { level = c.arrive-answer.new.self.level; slots = v; holds = set s.holds slot hold; charges = s.charges })) (sym c.arrive.ensures)
+    (tied_waits s slot c.args.asked c.requires.tied c.requires.free c.arrive-answer.new.self.level hold c.arrive-answer.result.0 c.arrive-answer.result.1 refl c.arrive-answer.ensures.arrives c.in-Waits.is)
 
 pub returns-in_ok-tell-in-Over-clause-tied : goal.returns-in_ok-tell-in-Over-clause-tied
 returns-in_ok-tell-in-Over-clause-tied c =
     let s : State = state_of c.args.self.now in
     let hold : Hold = record { asked = c.args.asked; cost = c.cost_of-cost.result; queue = c.queue_in.result } in
     let slot = c.args.slot in
-    subst (λ (v : SlotsView). AreTied (record { level = c.arrive-answer.new.self; slots = v; holds = set s.holds slot hold; charges = s.charges })) (sym (c.leave.ensures ∙ ap (λ (v : SlotsView). with_slot v slot None) c.arrive.ensures))
-    (tied_over s slot c.args.asked c.requires.tied c.requires.free c.arrive-answer.new.self hold c.arrive-answer.result.0 c.arrive-answer.result.1 refl c.arrive-answer.ensures.arrives c.in-Over.decision c.in-Over.is)
+    subst (λ (v : SlotsView). AreTied (record { level = c.arrive-answer.new.self.level; slots = v; holds = set s.holds slot hold; charges = s.charges })) (sym (c.leave.ensures ∙ ap (λ (v : SlotsView). with_slot v slot None) c.arrive.ensures))
+    (tied_over s slot c.args.asked c.requires.tied c.requires.free c.arrive-answer.new.self.level hold c.arrive-answer.result.0 c.arrive-answer.result.1 refl c.arrive-answer.ensures.arrives c.in-Over.decision c.in-Over.is)

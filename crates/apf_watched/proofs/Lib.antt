@@ -1,0 +1,4 @@
+mod Told
+mod Logs
+mod Arriving
+mod Finishing

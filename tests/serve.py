@@ -2,8 +2,9 @@
 charged by time, long lines, clients that die or never read, what it says of a bad config and of bad words, its metrics, and its memory over many
 requests.
 
-APF_SEED draws other sessions, and APF_SESSIONS says how many. APF_REQUESTS says how many requests pass through a hundred numbers: 10000000 is the
-whole of what is promised, and takes two minutes.
+APF_SEED draws other sessions, and APF_SESSIONS says how many. With APF_BOUNDS both sides of the bound are printed for each of them, and else for the
+one that came nearest. APF_REQUESTS says how many requests pass through a hundred numbers: 10000000 is the whole of what is promised, and takes two
+minutes.
 """
 
 import contextlib
@@ -284,6 +285,8 @@ for number in range(SESSIONS):
     if charge == "time":
         sides = session_sides(service)
         tally.check(f"the bound of session {number} of {level}: {content}: {sides.line()}", sides.ahead <= sides.limit(), True)
+        if os.environ.get("APF_BOUNDS"):
+            print(f"session {number}: {sides.line()}")
         if sides.pair:
             nearest = max(nearest, (sides.ahead / sides.limit(), sides.line()))
         seen[BEYOND] += sides.ahead > 2 * sides.largest

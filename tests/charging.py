@@ -1,5 +1,5 @@
 """Who is turned away, where requests are charged by time and where by seats: quiet flows of short requests beside five flows that ask for twice the
-level. First with an `apf serve` in the middle: the client keeps the clock, and everything else is the program's. Then by `apf simulate`. All requests are
+level. First with an `apf serve` in the middle: the client, tests/lib/client.c, keeps the clock, and everything else is the program's. Then by `apf simulate`. All requests are
 counted. They come for 90 times as long as a loud one runs, if that is longer than APF_SECONDS.
 
 APF_SEED draws other arrivals.
@@ -7,7 +7,6 @@ APF_SEED draws other arrivals.
 
 import bisect
 import functools
-import heapq
 import itertools
 import json
 import math
@@ -18,10 +17,11 @@ import sys
 
 sys.path.insert(0, os.path.join(os.path.dirname(os.path.abspath(__file__)), "lib"))
 from harness import Files, Tally, build
+from in_c import compiled
 
 tally = Tally()
 files = Files()
-program = build()
+program, client = build(), compiled(files, "client")
 seed = int(os.environ.get("APF_SEED", "1040"))
 SECONDS = int(os.environ.get("APF_SECONDS", "90"))
 print(f"seed {seed}")
@@ -29,8 +29,6 @@ LEVEL = files("level.json", json.dumps({"limit": 49, "queues": 128, "handSize": 
 SECOND = 1_000_000
 PATIENCE = 15 * SECOND
 SHORT, QUIET_FLOWS, LOUD_FLOWS = 10_000, 10, 5
-# at one time finishes come first, then those who give up, then arrivals
-FINISH, GIVE_UP, ARRIVE = range(3)
 # no request runs for less
 SOONEST = SHORT * 3 // 4
 
@@ -45,98 +43,9 @@ def arrivals_of(flows, name, runs_for, seats, beside, seconds):
         # a million are drawn: an exponential time between two, as `expovariate` has it, and then the run, as `uniform` has it
         at = -math.log(1 - draw()) * each
         while at < seconds * SECOND:
-            arrivals.append((int(at), ARRIVE, who, int(runs_for * (0.75 + 0.5 * draw()))))
+            arrivals.append((int(at), who, int(runs_for * (0.75 + 0.5 * draw()))))
             at -= math.log(1 - draw()) * each
     return arrivals
-
-
-class Client:
-    """A server that has one level, and a clock of its own."""
-
-    def __init__(self, charge):
-        self.process = subprocess.Popen([program, "serve", LEVEL, "--charge", charge], stdin=subprocess.PIPE, stdout=subprocess.PIPE)
-        self.process.stdout.readline()
-        self.free, self.flow, self.runs_for = [*range(9_999, -1, -1)], {}, {}
-        # who waits, each with its number among all that waited: its own may be another request's later
-        self.waits, self.waited = {}, 0
-        self.came, self.turned_away = {}, {}
-
-    def ask(self, lines):
-        """The answers to these lines: of each, what is answered, and those who were dispatched by it. A line that is no command comes behind them."""
-        self.process.stdin.write(b"".join(lines) + b"\n")
-        self.process.stdin.flush()
-        answers = []
-        while (told := self.process.stdout.readline().split())[0] != b"fault":
-            if told[0] == b"dispatch":
-                answers[-1][1].append(int(told[1]))
-            elif told[0] != b"strike":
-                answers.append((told, []))
-        return answers
-
-    def end(self, number, is_away):
-        flow = self.flow.pop(number)
-        self.waits.pop(number, None)
-        self.free.append(number)
-        self.turned_away[flow] = self.turned_away.get(flow, 0) + is_away
-
-    def line(self, at, kind, what):
-        """The line that tells what is due."""
-        if kind == ARRIVE:
-            flow, runs_for = what
-            number = self.free.pop()
-            self.flow[number], self.runs_for[number] = flow, runs_for
-            self.came[flow] = self.came.get(flow, 0) + 1
-            return number, b'arrive %d {"schema":"duel","distinguisher":"%s"}\n' % (number, flow.encode())
-        number = what[0]
-        return number, b"cancel %d\n" % number if kind == GIVE_UP else b"finish %d %d\n" % (number, self.runs_for[number])
-
-    def run(self, arrivals):
-        """Carries out what is due, to the end, with these arrivals in their order: of each flow, how many came and how many were turned away.
-
-        No request runs for less than SOONEST, so what is due in less than that after the first of all is in its order, whatever the answers are, and is asked
-        together. Whether somebody still waits who would give up is known once all that was due before is answered."""
-        # besides the arrivals, the first of which did not come yet, what else is due
-        due, place = [], 0
-        while due or place < len(arrivals):
-            asked, last = [], None
-            while (due or place < len(arrivals)) and len(asked) < 500:
-                is_arrival = not due or place < len(arrivals) and arrivals[place] < due[0]
-                at, kind, *what = arrivals[place] if is_arrival else due[0]
-                last = last or at + SOONEST
-                is_over = kind == GIVE_UP and self.waits.get(what[0]) != what[1]
-                if at >= last or kind == GIVE_UP and asked and not is_over:
-                    break
-                if is_arrival:
-                    place += 1
-                else:
-                    heapq.heappop(due)
-                if not is_over:
-                    asked.append((at, kind, *self.line(at, kind, what)))
-            answers = self.ask([line for *_, line in asked]) if asked else []
-            if len(answers) != len(asked):
-                tally.check(f"the lines {asked} have an answer each", answers, len(asked))
-                tally.end()
-            for (at, kind, number, _), (answer, starts) in zip(asked, answers):
-                if kind == ARRIVE:
-                    if answer[2] == b"execute":
-                        starts = [number]
-                    elif answer[2] == b"queued":
-                        self.waited += 1
-                        self.waits[number] = self.waited
-                        heapq.heappush(due, (at + PATIENCE, GIVE_UP, number, self.waited))
-                    else:
-                        self.end(number, True)
-                elif kind == GIVE_UP:
-                    if answer[2] == b"cancelled":
-                        self.end(number, True)
-                else:
-                    self.end(number, False)
-                for other in starts:
-                    self.waits.pop(other, None)
-                    heapq.heappush(due, (at + self.runs_for[other], FINISH, other))
-        self.process.stdin.close()
-        book = self.process.stdout.read().decode()
-        return book, self.process.wait()
 
 
 @functools.lru_cache(maxsize=1)
@@ -153,13 +62,23 @@ def seconds_of(runs_for):
 
 def turned_away(runs_for, charge):
     """The part of the quiet flows' requests that is turned away beside requests that run this long."""
-    arrivals = duel(runs_for, seconds_of(runs_for))
-    client = Client(charge)
-    book, status = client.run(arrivals)
-    came = sum(count for flow, count in client.came.items() if flow.startswith("quiet"))
-    away = sum(count for flow, count in client.turned_away.items() if flow.startswith("quiet"))
-    tally.check(f"{runs_for} us by {charge}: nothing is left", (status, book.split("\n")[0], came), (0, "level open seats 0 waiting 0", sum(flow.startswith("quiet") for _, _, flow, _ in arrivals)))
-    print(f"served for {seconds_of(runs_for)} s, loud requests of {runs_for // 1000} ms, charged by {charge}: {away} of {came} quiet requests turned away, {100 * away / came:.2f} %")
+    seconds = seconds_of(runs_for)
+    lines, _, quiet = trace_of(runs_for, seconds)
+    told = files("told", b"")
+    served = subprocess.Popen([program, "serve", LEVEL, "--charge", charge], stdin=subprocess.PIPE, stdout=subprocess.PIPE)
+    words = [client, files("duel.jsonl", "".join(lines)), str(PATIENCE), str(SOONEST), told]
+    asking = subprocess.Popen(words, stdin=served.stdout, stdout=served.stdin)
+    # the two pipes are theirs
+    served.stdin.close()
+    served.stdout.close()
+    statuses = asking.wait(), served.wait()
+    with open(told) as file:
+        ends = [line.split() for line in file]
+    came, away = (sum(int(it[place]) for it in ends if it[0].startswith("quiet-")) for place in (1, 2))
+    tally.check(f"{runs_for} us by {charge}: nothing is left", (statuses, ends[LOUD_FLOWS + QUIET_FLOWS :][:1], came), ((0, 0), ["level open seats 0 waiting 0".split()], quiet[-1]))
+    if statuses != (0, 0):
+        tally.end()
+    print(f"served for {seconds} s, loud requests of {runs_for // 1000} ms, charged by {charge}: {away} of {came} quiet requests turned away, {100 * away / came:.2f} %")
     return away / came
 
 
@@ -168,8 +87,8 @@ def trace_of(runs_for, seconds):
     """The lines of the trace of these arrivals, in the order of their times, with these times and the numbers of quiet requests among the first ones."""
     arrivals = duel(runs_for, seconds)
     form = '{"schema":"duel","distinguisher":"%s","arrivesAt":%d,"runsFor":%d}\n'
-    quiet = [*itertools.accumulate((flow.startswith("quiet") for _, _, flow, _ in arrivals), initial=0)]
-    return [form % (flow, at, ran) for at, _, flow, ran in arrivals], [it[0] for it in arrivals], quiet
+    quiet = [*itertools.accumulate([flow.startswith("quiet") for _, flow, _ in arrivals], initial=0)]
+    return [form % (flow, at, ran) for at, flow, ran in arrivals], [it[0] for it in arrivals], quiet
 
 
 def simulated_for(seconds, runs_for, charge, of):

@@ -2,6 +2,7 @@
 independent computation by examples that were worked by hand, and by rules that need no run. Then what the program prints of 300
 drawn traces. Last how long a request waits before it gives up, as a command line says it, for each command that takes it."""
 
+import collections
 import json
 import os
 import random
@@ -71,7 +72,7 @@ def happenings(one, other):
     trace, decided = one.trace, one.level.decided
     flows = [(flow, figures[0], figures[1]) for flow, figures in changes(one, other).items()]
     apart = [abs(first - second) for _, first, second in flows]
-    hands = [{*hand} for hand in simulation.dealt_of(one.config, trace).values()]
+    hands = [{*hand} for hand in simulation.dealt_of(one.config, flows_of(trace)).values()]
     covers = [[other is not hand and other >= hand for other in hands if hand] for hand in hands]
     happens = {
         "a trace that is not in the order of the arrivals": [it["arrivesAt"] for it in trace] != sorted(it["arrivesAt"] for it in trace),
@@ -314,7 +315,8 @@ def check_long_hands():
     times = random.Random(seed)
     form = '{"schema":"%s","distinguisher":"%s","arrivesAt":%d,"runsFor":0}\n'
     flows = [(f"schema-{number % 8}", "shared" if number < 8 else f"flow-{number}") for number in range(2_000)]
-    lines = [form % (*flows[min(number, times.randrange(2_000))], max(0, 100_000 + 5 * number - times.randrange(400_000))) for number in range(140_000)]
+    draws = zip(times.choices(range(2_000), k=140_000), times.choices(range(400_000), k=140_000))
+    lines = [form % (*flows[min(number, flow)], max(0, 100_000 + 5 * number - early)) for number, (flow, early) in enumerate(draws)]
     content = "".join(lines).encode()
     trace = trace_of(content, in_pieces=True)
     tally.check("the flows come in another order than they arrive", [it["arrivesAt"] for it in trace] != sorted(it["arrivesAt"] for it in trace), True)
@@ -367,10 +369,12 @@ def check_hands_of_a_shared_name():
     queues, many = 1_024, 2_000
     lines, _, _ = asked({"limit": 6, "queues": queues, "handSize": 1}, many)
     schemas = {hash_of(f"s{it}", "one"): f"s{it}" for it in range(many)}
-    want = []
+    want, sharers = [], collections.defaultdict(list)
+    for flow in schemas:
+        sharers[flow % queues].append(flow)
     for flow, schema in schemas.items():
         want.append(f'flow {flow:016x} hand {flow % queues} of "{schema}" "one"')
-        others = [it for it in schemas if it != flow and it % queues == flow % queues]
+        others = [it for it in sharers[flow % queues] if it != flow]
         want += [f'  shares {flow % queues} with {it:016x} "{schemas[it]}" "one"' for it in others]
         want += [" ".join(["  covered by", *(f"{it:016x}" for it in others)])] if others else []
     tally.check(f"hands of a name that {many} flows share: {len(want)} lines", lines == want, True)
@@ -382,7 +386,8 @@ def check_long():
     comes alone. `timeline` and `picture` refuse this many requests."""
     times = random.Random(seed)
     form = '{"hash":%d,"arrivesAt":%d,"runsFor":%d}\n'
-    drawn = [(times.randrange(200), 10 * number + times.randrange(5_000), times.randrange(150)) for number in range(300_000)]
+    draws = zip(*(times.choices(range(most), k=300_000) for most in (200, 5_000, 150)))
+    drawn = [(flow, 10 * number + late, runs) for number, (flow, late, runs) in enumerate(draws)]
     content = "".join(form % it for it in drawn).encode()
     config = b'{"limit":6,"queues":8,"handSize":2,"queueLengthLimit":10}'
     (status, out, err), took = processor_seconds(lambda: printed("fates", [config, content], "1ms"))

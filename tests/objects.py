@@ -1,6 +1,8 @@
 """The commands `objects` and `match` on the built program, against an independent reader and matcher: 200,000 random events, objects drawn at random,
 good and faulty, and the faults of the command line and of the log."""
 
+import functools
+import itertools
 import json
 import os
 import random
@@ -13,6 +15,7 @@ sys.path.insert(0, os.path.join(HERE, "lib"))
 from harness import TOP, Files, Memory, Tally, build, run
 from explain import NO_OBJECTS, TRACE_AS_OBJECTS, not_json
 from level import hand_of, hash_of
+from matching import distinguisher_of, miss_of, schema_of
 
 tally = Tally()
 program = build()
@@ -242,91 +245,7 @@ def listing(cluster, seats):
     return "".join(it + "\n" for it in said)
 
 
-# ---- the independent matcher
-
-
-def stands(texts, text):
-    return "*" in texts or text in texts
-
-
-def is_subject(subject, asked):
-    if subject[0] == "User":
-        return subject[1] in ("*", asked["user"])
-    if subject[0] == "Group":
-        return subject[1] == "*" or subject[1] in asked["groups"]
-    front = f"system:serviceaccount:{subject[1]}:"
-    return asked["user"].startswith(front) and subject[2] in ("*", asked["user"][len(front):])
-
-
-def is_path(url, path):
-    if url in ("*", path):
-        return True
-    stem = url[:-1]
-    return url.endswith("*") and path.startswith(stem if stem.endswith("/") else stem + "/")
-
-
-def miss_of(schema, asked):
-    """The first thing that does not match, of the rule that matches furthest, and nothing where the schema matches."""
-    best = "rules", 0
-    found = []
-    for subjects, resources, paths in schema["rules"]:
-        if not any(is_subject(it, asked) for it in subjects):
-            found.append(("subject", 1))
-            continue
-        here = [("rules", 2)]
-        if asked["path"] is None:
-            for verbs, groups, names, scope, namespaces in resources:
-                if not stands(verbs, asked["verb"]):
-                    here.append(("verb", 3))
-                elif not stands(groups, asked["group"]):
-                    here.append(("API group", 4))
-                elif not stands(names, asked["resource"]):
-                    here.append(("resource", 5))
-                elif not (stands(namespaces, asked["namespace"]) if asked["namespace"] else scope):
-                    here.append(("namespace", 6))
-                else:
-                    return None
-        else:
-            for verbs, urls in paths:
-                if not stands(verbs, asked["verb"]):
-                    here.append(("verb", 3))
-                elif not any(is_path(it, asked["path"]) for it in urls):
-                    here.append(("path", 4))
-                else:
-                    return None
-        found.append(max(here, key=lambda it: it[1]))
-    return max([best, *found], key=lambda it: it[1])[0]
-
-
-def matches(schema, asked):
-    """Whether the schema matches, and nothing of why not."""
-    for subjects, resources, paths in schema["rules"]:
-        for subject in subjects:
-            if is_subject(subject, asked):
-                break
-        else:
-            continue
-        if asked["path"] is None:
-            for verbs, groups, names, scope, namespaces in resources:
-                if stands(verbs, asked["verb"]) and stands(groups, asked["group"]) and stands(names, asked["resource"]):
-                    if stands(namespaces, asked["namespace"]) if asked["namespace"] else scope:
-                        return True
-        else:
-            for verbs, urls in paths:
-                if stands(verbs, asked["verb"]) and any(is_path(it, asked["path"]) for it in urls):
-                    return True
-    return False
-
-
-def schema_of(live, asked):
-    for place, schema in enumerate(live):
-        if matches(schema, asked):
-            return place
-    return next(i for i, it in enumerate(live) if it["name"] == "catch-all")
-
-
-def distinguisher_of(schema, asked):
-    return {"user": asked["user"], "namespace": asked["namespace"] if asked["path"] is None else "", "nothing": ""}[schema["by"]]
+# ---- the independent matcher, with what it says of a request
 
 
 def explained(cluster, asked):
@@ -480,13 +399,26 @@ def judged(name, value):
         tally.check(f"{name}: the line {line!r} names {at}, {key}, {wanted}", ([f" at object {at}" in line] * (at is not None), key in line, line.rstrip("\n").endswith(wanted)), ([True] * (at is not None), True, True))
 
 
+# the lists of up to three groups, by their lengths
+GROUP_LISTS = [[*map(list, itertools.permutations(GROUPS, count))] for count in range(4)]
+
+
+def one_of(them):
+    """One of a few, which is drawn hundreds of thousands of times."""
+    return them[int(draw.random() * len(them))]
+
+
 def drawn_request():
-    asked = {"user": draw.choice(USERS[:-1]), "groups": draw.sample(GROUPS, draw.randint(0, 3)), "verb": draw.choice(VERBS), "path": None}
+    asked = {"user": one_of(USERS[:-1]), "groups": one_of(one_of(GROUP_LISTS)), "verb": one_of(VERBS), "path": None}
     if draw.random() < 0.35:
-        asked["path"] = draw.choice(PATHS[:-1])
+        asked["path"] = one_of(PATHS[:-1])
     else:
-        asked.update(group=draw.choice(APIS), resource=draw.choice(RESOURCES), namespace=draw.choice(SPACES))
+        asked.update(group=one_of(APIS), resource=one_of(RESOURCES), namespace=one_of(SPACES))
     return asked
+
+
+# a text as JSON
+quoted = functools.cache(json.dumps)
 
 
 def event_of(asked):
@@ -517,7 +449,7 @@ def drawn_list():
 def matched_line(cluster, number, asked):
     """What is printed of the request of this line of a log."""
     schema = cluster[1][schema_of(cluster[1], asked)]
-    return f"{number} {schema['name']} {schema['level']} {json.dumps(distinguisher_of(schema, asked))}\n"
+    return f"{number} {schema['name']} {schema['level']} {quoted(distinguisher_of(schema, asked))}\n"
 
 
 def same(got, want):
@@ -566,7 +498,17 @@ with subprocess.Popen([program, "match", objects, "--log", "-"], stdin=subproces
     told = process.stdout.read(), process.stderr.read()
 tally.check("the same from a pipe", same((process.returncode, *told), matched), (0, True, b""))
 tally.check(f"it is read in pieces: {memory.most()} KiB", memory.most() < 32_768, True)
-last = lines[0][:-1]
+last, whole_log = lines[0][:-1], os.path.getsize(log)
+
+
+def behind(more):
+    """The log with this behind its lines, in their file."""
+    os.truncate(log, whole_log)
+    with open(log, "a") as file:
+        file.write(more)
+    return log
+
+
 for name, more, fault in (
     ("a line that is too long", last.ljust(MOST_LINE + 1) + "\n", b"1 at line 25001: the line has more than 1048576 bytes"),
     ("a last line that is too long", last.ljust(MOST_LINE + 1), b"1 at line 25001: the line has more than 1048576 bytes"),
@@ -575,7 +517,7 @@ for name, more, fault in (
     ("a line that is no event", '{"verb":"get"}\n' + lines[1], b"3 at line 25001: "),
     ("an event without a user", '{"stage":"ResponseComplete","verb":"get"}\n' + lines[1], b"4 at line 25001: "),
 ):
-    status, out, err = run(program, ["match", objects, "--log", files("log.jsonl", "".join(lines) + more)])
+    status, out, err = run(program, ["match", objects, "--log", behind(more)])
     tally.check(f"{name}, behind the others", (status, out == matched, err.startswith(b"apf: audit fault " + fault)), (1, True, True))
 schema, level, distinguisher = want[0].rstrip("\n").split(" ", 3)[1:]
 for name, more, line in (
@@ -583,7 +525,7 @@ for name, more, line in (
     ("a last line of the largest size without LF", last.ljust(MOST_LINE), f"25001 {schema} {level} {distinguisher}\n"),
     ("a last line that is still written", last[:40], ""),
 ):
-    got = run(program, ["match", objects, "--log", files("log.jsonl", "".join(lines) + more)])
+    got = run(program, ["match", objects, "--log", behind(more)])
     tally.check(name, same(got, matched + line.encode()), (0, True, b""))
 
 # ---- single requests, with what did not match

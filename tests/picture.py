@@ -1,6 +1,7 @@
 """The picture of a run. First an independent computation of the SVG (lib/picture.py), judged on drawn traces by what an XML reader
 finds in it: numbers, names, bars, ticks, rows, queues, seats and colours. Then what the program prints."""
 
+import functools
 import itertools
 import json
 import os
@@ -62,11 +63,16 @@ def steps(path):
     return heights
 
 
+@functools.lru_cache(maxsize=1)
+def seats_taken(made):
+    """By the calls of the run: when each request started, when it was finished, and its seats."""
+    ended = {it: time for time, kind, it in made.calls if kind == 0}
+    return [(start, ended[it], made.trace[it]["width"]) for it, start in made.started.items()]
+
+
 def seats_in_use(made, time):
-    """By the calls of the run: what had been started and not finished when the time came to its end."""
-    done = [call for call in made.calls if call[0] <= time]
-    ended = {it for _, kind, it in done if kind == 0}
-    return sum(made.trace[it]["width"] for it, start in made.started.items() if start <= time and it not in ended)
+    """What had been started and not finished when the time came to its end."""
+    return sum([width for start, end, width in seats_taken(made) if start <= time < end])
 
 
 def most_in_use(made):

@@ -133,7 +133,7 @@ def line_in(service):
     """A line that does something mostly: those arrive that are not there, and those finish that run."""
     kind = draw.random()
     running = [number for number, request in service.there.items() if request in service.level.running]
-    waiting = [number for number in service.there if number not in running]
+    waiting = [number for number, request in service.there.items() if request not in service.level.running]
     if kind < 0.44:
         for number in draw.sample(range(service.slots), min(8, service.slots)):
             if number not in service.there:
@@ -192,6 +192,8 @@ def compared(out):
 
 def first_difference(got, want):
     """Where two outputs differ first, with what stands around it."""
+    if got == want:
+        return "no difference"
     got, want = compared(got), compared(want)
     at = next((at for at, (one, two) in enumerate(zip(got, want)) if one != two), min(len(got), len(want)))
     return "no difference" if got == want else f"line {at + 1}: {got[at - 1 : at + 2]}, and not {want[at - 1 : at + 2]}"

@@ -8,7 +8,7 @@ import sys
 import time
 
 sys.path.insert(0, os.path.join(os.path.dirname(os.path.abspath(__file__)), "lib"))
-from books import BOOK, faults
+from books import BOOK, Rules, faults
 from harness import Files, Tally, build, run
 
 tally = Tally()
@@ -101,9 +101,10 @@ for name, config in [
     ("limit 10,000, Reject", {"limit": 10_000, "limitResponse": "Reject"}),
 ]:
     words = ["run", files("config", json.dumps(config)), files("many", json.dumps(many)), "64"]
+    rules = Rules(config, many, 64)
     for _ in range(rounds):
         status, out, err = run(program, words)
-        tally.check(f"64 workers, {name}", (status, faults(config, many, 64, out.decode(errors="replace")), err), (0, [], b""))
+        tally.check(f"64 workers, {name}", (status, rules.faults(out.decode(errors="replace")), err), (0, [], b""))
 print(f"{4 * rounds} runs of 10,000 requests by 64 workers took {time.monotonic() - began:.1f} s")
 
 

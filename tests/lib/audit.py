@@ -36,7 +36,7 @@ WAIT = 10_000_000_000
 # BAD_ARRIVAL is judged when a request is handed out
 TOO_LONG, NOT_JSON, NOT_EVENT, BAD_USER, BAD_RECEIVED, BAD_STAGE, BAD_WAIT, BAD_RUN = range(1, 9)
 BAD_ARRIVAL, BAD_NAMESPACE, TOO_LATE = 10, 12, 13
-# what makes a flow, the name of a user or its beginning with `*`, and microseconds from 1970 on
+# what makes a flow, or a call that answers it of an event and its user, the name of a user or its beginning with `*`, and microseconds from 1970 on
 Choice = collections.namedtuple("Choice", "by user since until", defaults=("user", None, None, None))
 EVERY = Choice()
 # bytes of a line, without its LF
@@ -50,6 +50,15 @@ DURATION = re.compile(r"(-?)(?:(\d+)h)?(?:(\d+)m)?(?:(\d+(?:\.\d+)?)(s|ms|µs|us
 # of a second
 UNITS = {"s": 1, "ms": Fraction(1, 10**3), "µs": Fraction(1, 10**6), "us": Fraction(1, 10**6), "ns": Fraction(1, 10**9)}
 EPOCH = datetime.datetime(1970, 1, 1, tzinfo=datetime.timezone.utc)
+
+
+class Flow(str):
+    """What tells a flow from others of its schema, with the name of that."""
+
+    def __new__(cls, schema, distinguisher):
+        flow = super().__new__(cls, distinguisher)
+        flow.schema = schema
+        return flow
 
 
 class AuditFault(Refused):
@@ -211,7 +220,10 @@ def request_of(event, line, text, choice):
     user = text_at(event, "impersonatedUser" if "impersonatedUser" in event else "user", "username")
     if user is None or len(user.encode()) > NAME:
         raise AuditFault(BAD_USER, line, text)
-    flow = user if choice.by == "user" else namespace_of(event)
+    if callable(choice.by):
+        flow = choice.by(event, user)
+    else:
+        flow = user if choice.by == "user" else namespace_of(event)
     if flow is None:
         raise AuditFault(BAD_NAMESPACE, line, text)
     times = [instant(text_at(event, key)) for key in ("requestReceivedTimestamp", "stageTimestamp")]
@@ -338,11 +350,12 @@ def read_of(content, choice=EVERY, window=WINDOW):
 
 
 def text_of(requests, schema):
-    """The lines of the trace of requests that are handed out."""
+    """The lines of the trace of requests that are handed out, of this schema or of that of their flows."""
     start = requests[0][0] if requests else 0
-    schema = json_text(schema)
     form = '{{"schema":{},"distinguisher":{},"arrivesAt":{},"runsFor":{}}}\n'
-    return "".join(form.format(schema, json_text(user), received - start, run) for received, run, user, _ in requests)
+    return "".join(
+        form.format(json_text(getattr(user, "schema", schema)), json_text(user), received - start, run) for received, run, user, _ in requests
+    )
 
 
 def turned_away(content, choice=EVERY):

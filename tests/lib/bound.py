@@ -80,6 +80,9 @@ def sides_of(level, costs, took):
             if not waiting[one]:
                 least.pop(one, None)
                 continue
+            # seat-times grow by dispatches alone
+            if one in least and kind != "dispatch":
+                continue
             ahead = [service[other] - service[one] for other in queues]
             before = least.setdefault(one, ahead)
             for other in queues:

@@ -97,6 +97,8 @@ def can_wait_for_a_number():
 HAS_PIPES_ALONE = not can_wait_for_a_number()
 written = None if HAS_PIPES_ALONE else Written()
 NOTHING = os.open(os.devnull, os.O_RDONLY)
+# what each program is given, which is not looked up anew for each of thousands
+ENVIRONMENT = dict(os.environ)
 
 
 def run(program, words, **how):
@@ -109,7 +111,7 @@ def run(program, words, **how):
         os.lseek(file, 0, os.SEEK_SET)
     given = [(os.POSIX_SPAWN_DUP2, file, place) for place, file in enumerate([NOTHING, *written.files])]
     # Python ignores these signals, and what it starts does not
-    process = os.posix_spawnp(program, [program, *words], os.environ, file_actions=given, setsigdef=[signal.SIGPIPE, signal.SIGXFSZ])
+    process = os.posix_spawnp(program, [program, *words], ENVIRONMENT, file_actions=given, setsigdef=[signal.SIGPIPE, signal.SIGXFSZ])
     ending = os.pidfd_open(process)
     is_over = select.select([ending], [], [], LONGEST)[0]
     os.close(ending)

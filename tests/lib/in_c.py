@@ -1,4 +1,4 @@
-"""What is written in C in this folder: long traces and logs, and a simulation of traces."""
+"""What is written in C in this folder: long traces and logs, a simulation of traces, and a client that keeps the clock."""
 
 import os
 import shutil

@@ -1,5 +1,6 @@
 """A text as the program writes it between quotes: as JSON has it, escaped where JSON must, and where a terminal would obey a character."""
 
+import functools
 import json
 import re
 
@@ -8,6 +9,15 @@ OBEYED = re.compile("[\x7f-\x9f\u061c\u200e\u200f\u202a-\u202e\u2066-\u2069]")
 
 
 def json_text(value):
-    """A text, or an object of texts and numbers, as JSON."""
+    """A text, or an object of texts and numbers, as JSON. The last texts are kept, as names stand on many lines."""
+    return of_text(value) if isinstance(value, str) else written(value)
+
+
+@functools.lru_cache(maxsize=1024)
+def of_text(value):
+    return written(value)
+
+
+def written(value):
     text = json.dumps(value, ensure_ascii=False, separators=(",", ":"))
     return OBEYED.sub(lambda it: f"\\u{ord(it[0]):04x}", text)

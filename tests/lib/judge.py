@@ -255,8 +255,8 @@ def flow_of(value):
     if "hash" in value:
         is_alone = "schema" not in value and "distinguisher" not in value
         return value["hash"] if is_alone and whole_in(value["hash"], 0, (1 << 64) - 1) else None
-    texts = value.get("schema"), value.get("distinguisher")
-    return texts if all(isinstance(it, str) for it in texts) else None
+    schema, distinguisher = value.get("schema"), value.get("distinguisher")
+    return (schema, distinguisher) if isinstance(schema, str) and isinstance(distinguisher, str) else None
 
 
 def request_of(value, place, count):
@@ -323,7 +323,8 @@ def command_of(line, place, count):
 def script_of(content, count):
     judge_size("script", content)
     *lines, rest = content.split(b"\n")
-    commands = []
+    # most lines of a long script stand in it more than once
+    commands, known = [], {}
     for place, line in enumerate([*lines, rest], 1):
         is_last = place > len(lines)
         if is_last and not line:
@@ -332,7 +333,9 @@ def script_of(content, count):
             raise Refused(f"apf: script fault 1 at line {place}: too many lines")
         if is_last:
             raise Refused(f"apf: script fault 2 at line {place}: truncated")
-        commands.append(command_of(line, place, count))
+        if line not in known:
+            known[line] = command_of(line, place, count)
+        commands.append(known[line])
     return commands
 
 

@@ -18,6 +18,7 @@ def hand_of(deck, hand, number):
     return dealt
 
 
+@functools.lru_cache(maxsize=4096)
 def hash_of(schema, distinguisher):
     digest = hashlib.sha256(schema.encode() + b"\0" + distinguisher.encode()).digest()
     return int.from_bytes(digest[:8], "little")
@@ -46,13 +47,14 @@ class Level:
 
     def cost(self, request):
         """What its dispatch is charged: the width of a request without a cost."""
-        return self.requests[request].get("cost", self.width(request))
+        asked = self.requests[request]
+        return asked["cost"] if "cost" in asked else asked["width"]
 
     def seats(self):
-        return sum(self.width(request) for request in self.running)
+        return sum([self.requests[request]["width"] for request in self.running])
 
     def waiting(self):
-        return sum(len(queue) for queue in self.queues)
+        return sum(map(len, self.queues))
 
     def fits(self, request):
         seats = self.seats()
@@ -64,7 +66,8 @@ class Level:
             self.lines.append(f"{kind} {request} queue {queue}")
 
     def dispatch(self):
-        while busy := [queue for queue, waiting in enumerate(self.queues) if waiting]:
+        # where no seat is free nobody fits
+        while self.seats() < self.limit and (busy := [queue for queue, waiting in enumerate(self.queues) if waiting]):
             finish = {queue: self.starts[queue] + self.cost(self.queues[queue][0]) for queue in busy}
             least = min(finish.values())
             # of those that finish first, the next one behind the last that was served

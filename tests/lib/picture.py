@@ -1,5 +1,8 @@
 """What `picture` prints: an independent computation of the whole SVG, slow on purpose."""
 
+import bisect
+import collections
+import functools
 import html
 import itertools
 import os
@@ -224,6 +227,21 @@ class Stretch:
         return self.whole.wait(self.inside[it])
 
 
+class Heights:
+    """How much is there at each time, of what begins, ends and has a weight: the weights of what began by then and did not end."""
+
+    def __init__(self, spans):
+        changes = collections.Counter()
+        for begin, end, weight in spans:
+            changes[begin] += weight
+            changes[end] -= weight
+        self.times = sorted(changes)
+        self.sums = [*itertools.accumulate((changes[time] for time in self.times), initial=0)]
+
+    def at(self, time):
+        return self.sums[bisect.bisect_right(self.times, time)]
+
+
 class Picture:
     """The picture of a run (simulation.py), or of a stretch of it: from a time on, or from its beginning, up to another one, or to its end."""
 
@@ -244,8 +262,8 @@ class Picture:
         self.queues = sorted(set(self.entered.values()))
         self.times = [self.begin + column * self.end // COLUMNS for column in range(COLUMNS)]
         # when requests execute, and how wide they are: of the rows up to each one; and when they wait, of each queue
-        self.executing = [self.executing_in(self.rows[: row + 1]) for row in range(OWN_ROWS + 1)]
-        self.waiting = {queue: [(self.begins(it), self.until(it)) for it, other in self.entered.items() if other == queue] for queue in self.queues}
+        self.executing = [Heights(self.executing_in(self.rows[: row + 1])) for row in range(OWN_ROWS + 1)]
+        self.waiting = {queue: Heights([(self.begins(it), self.until(it), 1) for it, other in self.entered.items() if other == queue]) for queue in self.queues}
         self.areas = [[self.seats(row, time) for time in self.times] for row in range(len(self.rows))]
         self.lengths = [[self.length(queue, time) for time in self.times] for queue in self.queues]
         # over time, and not at the columns alone: more are in use, or wait, only where one begins to
@@ -273,11 +291,11 @@ class Picture:
 
     def seats(self, row, time):
         """The seats in use at the time by the rows up to this one."""
-        return sum(width for begin, end, width in self.executing[row] if begin <= time < end)
+        return self.executing[row].at(time)
 
     def length(self, queue, time):
         """How many stand in the queue at the time."""
-        return sum(1 for begin, end in self.waiting[queue] if begin <= time < end)
+        return self.waiting[queue].at(time)
 
     # in words
 
@@ -354,10 +372,14 @@ class Picture:
     def high(self):
         return min(12 * len(self.queues), 240)
 
+    @functools.cached_property
+    def shades(self):
+        """Of each queue, the shade of each column, and none behind the last."""
+        return [[*(max(1, scaled(it, self.longest, SHADES)) if it else 0 for it in lengths), None] for lengths in self.lengths]
+
     def runs(self, wanted):
         """The runs of columns of one shade: where each begins and how long it is."""
-        for place, lengths in enumerate(self.lengths):
-            shades = [max(1, scaled(it, self.longest, SHADES)) if it else 0 for it in lengths] + [None]
+        for place, shades in enumerate(self.shades):
             begin = 0
             for column in range(1, COLUMNS + 1):
                 if shades[column] != shades[begin]:

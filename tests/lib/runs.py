@@ -185,9 +185,13 @@ class Fates:
     def is_within(self, limit, executed):
         """Whether at each start the seats in use fit, or are those of one request. Runs of no time use none."""
         spans = [(int(it["start"]), int(it["end"]), request["width"]) for it, request in executed]
-        for time in {start for start, end, _ in spans if start < end}:
-            widths = [width for start, end, width in spans if start <= time < end]
-            if sum(widths) > limit and len(widths) > 1:
+        spans = [it for it in spans if it[0] < it[1]]
+        # by their times; at one time those that end come first, and those that start are all there before it is looked at
+        changes = sorted([(end, 0, -width, -1) for _, end, width in spans] + [(start, 1, width, 1) for start, _, width in spans])
+        seats = there = 0
+        for (time, is_start, width, one), (next_time, *_) in zip(changes, [*changes[1:], (None,)]):
+            seats, there = seats + width, there + one
+            if is_start and next_time != time and seats > limit and there > 1:
                 return False
         return True
 

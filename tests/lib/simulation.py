@@ -110,12 +110,19 @@ class Run:
         return self.calls[-1][0] if self.calls else 0
 
 
+class Flows:
+    """The flows of the last trace that was asked for, as several answers are told of one trace, which nobody changes."""
+
+    trace, flows = None, {}
+
+
 def flows_of(trace):
     """The numbers of each flow's requests, by the flow's hash, in the order of the flows' first requests."""
-    flows = {}
-    for number, request in enumerate(trace):
-        flows.setdefault(request["hash"], []).append(number)
-    return flows
+    if Flows.trace is not trace:
+        Flows.trace, Flows.flows = trace, {}
+        for number, request in enumerate(trace):
+            Flows.flows.setdefault(request["hash"], []).append(number)
+    return Flows.flows
 
 
 def names_of(trace, members):
@@ -221,26 +228,31 @@ def requests(trace):
     return ["[", *(f"{line}," for line in lines[:-1]), *lines[-1:], "]"]
 
 
-def dealt_of(config, trace):
+def dealt_of(config, flows):
     """The queues of each flow's hand, in the order in which they were dealt. A level that rejects deals none."""
     queues = config["queues"] if config["limitResponse"] == "Queue" else 0
-    return {flow: hand_of(queues, config["handSize"] if queues else 0, flow) for flow in flows_of(trace)}
+    return {flow: hand_of(queues, config["handSize"] if queues else 0, flow) for flow in flows}
 
 
 def hands(config, trace):
     """Each hand, with how many other flows have each of its queues, and the first ten of those that have all of them."""
-    dealt, lines = dealt_of(config, trace), []
+    flows, lines = flows_of(trace), []
+    dealt = dealt_of(config, flows)
     queues_of = {flow: set(hand) for flow, hand in dealt.items()}
-    holders = collections.Counter(queue for queues in queues_of.values() for queue in queues)
-    for flow, members in flows_of(trace).items():
+    # the flows that have each queue, in their order
+    holders = collections.defaultdict(list)
+    for flow, queues in queues_of.items():
+        for queue in queues:
+            holders[queue].append(flow)
+    for flow, members in flows.items():
         own = queues_of[flow]
         lines.append(" ".join([f"flow {flow:016x} hand", *map(str, dealt[flow])]) + of_names(trace, members))
         for queue in dealt[flow]:
-            if sharers := holders[queue] - 1:
+            if sharers := len(holders[queue]) - 1:
                 lines.append(f"  shares {queue} with {sharers} flows")
-        covers = [f"{it:016x}" for it, queues in queues_of.items() if own and queues >= own and it != flow]
+        covers = [it for it in min((holders[queue] for queue in own), key=len, default=[]) if queues_of[it] >= own and it != flow]
         if covers:
-            lines.append(" ".join(["  covered by", *covers[:10]]))
+            lines.append(" ".join(["  covered by", *(f"{it:016x}" for it in covers[:10])]))
         if covers[10:]:
             lines.append(f"  covered by {len(covers[10:])} more")
     return lines
@@ -248,7 +260,8 @@ def hands(config, trace):
 
 def hands_of(config, trace, name):
     """The hands of the flows of a distinguisher, and all who share a queue with each."""
-    flows, dealt, lines = flows_of(trace), dealt_of(config, trace), []
+    flows, lines = flows_of(trace), []
+    dealt = dealt_of(config, flows)
     for flow, members in flows.items():
         if (trace[members[0]]["names"] or (None, None))[1] != name:
             continue

@@ -16,6 +16,7 @@ BYTES = 65_536
 # each fault's number is its place in the order in which a line is judged
 TOO_MANY, TOO_LONG, NOT_JSON, NOT_OBJECT, UNKNOWN_KEY, BAD_ARRIVAL, BAD_RUN, BAD_FLOW, BAD_WIDTH, BAD_COST, TRUNCATED = range(1, 12)
 KEYS = ("arrivesAt", "runsFor", "schema", "distinguisher", "hash", "width", "cost")
+KNOWN = frozenset(KEYS)
 # key: lowest, highest, and the fault of another value; the two times must be there
 TIMES = {"arrivesAt": (0, 1_000_000_000_000, BAD_ARRIVAL), "runsFor": (0, 10_000_000_000, BAD_RUN)}
 SEATS = {"width": (1, 20_000, BAD_WIDTH), "cost": (1, 4_294_967_295, BAD_COST)}
@@ -92,8 +93,8 @@ def value_of(line):
     return Json(line).whole()
 
 
-# the last lines are kept, as large traces of the tests repeat one
-@functools.lru_cache(maxsize=16)
+# the last lines are kept, as large traces of the tests repeat one, and a drawn one is read in pieces and as a whole
+@functools.lru_cache(maxsize=512)
 def read_of(line):
     """The JSON value of a line, its first fault, and its request where it has none."""
     value = value_of(line)
@@ -105,7 +106,7 @@ def value_fault(value):
     """The first fault of a line's value, or None. A flow is named as in the requests file: by its hash alone, or by both texts alone."""
     if not isinstance(value, dict):
         return NOT_OBJECT
-    if any(key not in KEYS for key in value):
+    if not value.keys() <= KNOWN:
         return UNKNOWN_KEY
     for key, (low, high, fault) in TIMES.items():
         if not whole_in(value.get(key), low, high):
@@ -132,8 +133,8 @@ def request_of(value):
     }
 
 
-# the last one is kept, as several commands are tried on it; what it answers is not changed
-@functools.lru_cache(maxsize=1)
+# the last ones are kept, as several commands are tried on one; what it answers is not changed
+@functools.lru_cache(maxsize=2)
 def trace_of(content, in_pieces=False):
     """The requests of a trace. One that is read in pieces may have any number of lines, and no line that is too long is kept."""
     requests = []

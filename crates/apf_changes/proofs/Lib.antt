@@ -1,0 +1,13 @@
+pub mod Cuts
+pub mod Numerals
+pub mod Parts
+pub mod Firsts
+pub mod Places
+pub mod Nominal
+pub mod Changing
+pub mod Rescheduling
+pub mod Kept
+pub mod Rated
+pub mod Written
+pub mod Ordered
+pub mod Ranges

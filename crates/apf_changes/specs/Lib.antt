@@ -1,0 +1,10 @@
+pub mod Faults
+pub mod Changes
+pub mod Texts
+pub mod Amounts
+pub mod Reading
+pub mod Lists
+pub mod Scenarios
+pub mod Levels
+pub mod Schemas
+pub mod Applying

@@ -72,6 +72,8 @@ impl Demand {
         requires forward { self.old.since ≤ at }
         requires short { at ≤ self.old.began + max_period }
         ensures began { self.new.began ≡ self.old.began }
+        ensures since { self.new.since ≡ at }
+        ensures seats { self.new.seats ≡ seats }
         ensures asked { (stretches : List Stretch) → AreAsked stretches self.old.seats self.old.since self.old
             → AreAsked (stretches ++ record { seats = self.old.seats; micros = at - self.old.since } ∷ []) seats at self.new }
     {
@@ -86,7 +88,8 @@ impl Demand {
 
     /// For how many seats the requests ask now.
     pub fn seats(&self) -> u64
-        ensures { result ≡ self.now.seats }
+        ensures value { result ≡ self.now.seats }
+        ensures few { result ≤ max_asked }
     {
         self.seats
     }

@@ -1,5 +1,5 @@
 -- What has the least number is due first.
-use Rattle.std.proofs.Common.{◌≡◌, ℕ, ◌*◌, ◌^◌, ◌<◌, ◌≤◌, inl, inr, false, List, length, get_or, Option, Some, None, refl, sym, ap, ◌∙◌, subst, arith}
+use Rattle.std.proofs.Common.{◌≡◌, ℕ, ◌*◌, ◌^◌, ◌<◌, ◌≤◌, inl, inr, false, List, length, get_or, Option, Some, None, ap, ◌∙◌, subst, arith}
 use Rattle.std.specs.Prelude.{slice_get}
 use Rattle.std.proofs.lemmas.Bool.{cases_lt}
 use Rattle.std.proofs.lemmas.Bool.Decides.{nat_tests}
@@ -10,7 +10,7 @@ use Rattle.apf_times.specs.Dues.{is_before, turn}
 use Rattle.apf_calendar.specs.declared.guest.Guest.{Guest}
 use Rattle.apf_calendar.specs.declared.calendar.Carried.{Carried}
 use Rattle.apf_calendar.specs.Guests.{SlotsView, IsIn, IsFirstDue, IsNext, NothingBy, due_of, then_of}
-use Rattle.apf_calendar.specs.Kept.{AreKept, IsKeptGuest, key, key_if, key_in, free_in}
+use Rattle.apf_calendar.specs.Kept.{AreKept, IsKeptGuest, key, key_if, key_in}
 use Rattle.apf_calendar.proofs.Dues.{due_small}
 use Rattle.apf_calendar.proofs.Puts.{later_kept, then_kept}
 use Rattle.apf_calendar.proofs.Keys.{least_is_first, key_low}

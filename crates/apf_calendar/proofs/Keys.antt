@@ -1,10 +1,10 @@
 -- The numbers of what is due have its order.
-use Rattle.std.proofs.Common.{◌≡◌, ℕ, ◌+◌, ◌*◌, ◌^◌, ◌<◌, ◌≤◌, ◌⊎◌, false, true, inl, inr, refl, ap, arith, nat_cmp, is_lt}
+use Rattle.std.proofs.Common.{◌≡◌, ℕ, ◌+◌, ◌*◌, ◌^◌, ◌<◌, ◌≤◌, false, refl, arith, nat_cmp, is_lt}
 use Rattle.std.specs.Ordering.{ordering_then}
 use Rattle.std.proofs.lemmas.Bool.Decides.{nat_tests}
 use Rattle.apf_least.specs.Least.{no_number}
 use Rattle.apf_times.specs.declared.due.Due.{Due}
-use Rattle.apf_times.specs.Dues.{is_before, due_cmp, turn}
+use Rattle.apf_times.specs.Dues.{is_before, turn}
 use Rattle.apf_calendar.specs.Kept.{key}
 
 -- by time, then by turn, then by line

@@ -6,8 +6,6 @@ use Rattle.apf_times.specs.Courses.{AreInRange}
 use Rattle.apf_times.specs.Dues.{turn}
 use Rattle.apf_times.specs.Limits.{max_patience, max_wait}
 use Rattle.apf_calendar.specs.declared.guest.Guest.{Guest}
-use Rattle.apf_calendar.specs.declared.guest.Stay.{Stay}
-use Rattle.apf_calendar.specs.declared.guest.Stay.TheVariants.{Waits, Impatient, Holds}
 use Rattle.apf_calendar.specs.Guests.{SlotsView, due_of, IsIn}
 
 -- what is due as one number, so that what comes first has the least: by time, then by kind, then by line

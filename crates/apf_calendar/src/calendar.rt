@@ -274,6 +274,16 @@ impl<A: Allocator> SlotCalendar<A> {
         );
     }
 
+    /// Time goes on to this one, in microseconds: nothing is due up to then.
+    pub fn go_on(&mut self, at: u64)
+        requires low { at ≤ max_wait }
+        requires forward { self.old.time ≤ at }
+        requires over { NothingBy self.old at }
+        ensures { self.new ≡ record { time = at; patience = self.old.patience; slots = self.old.slots } }
+    {
+        self.time = at;
+    }
+
     /// The request of this slot, which waits, is given its seats now.
     ///
     /// # Errors

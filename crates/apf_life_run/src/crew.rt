@@ -11,6 +11,7 @@ use crate::fault::RoundsFault;
 use crate::finished::Finished;
 use crate::operator::Operator;
 use crate::plan::Plan;
+use crate::watch::Watch;
 use crate::worker::{Job, Work, Worker};
 use apf_gate::Station;
 use apf_life::Done;
@@ -100,7 +101,11 @@ fn start<'s, E, K: Plan, W: Work, R: Wait + Threads + Sync>(
             requires ready { IsReady worker }
             requires rounds { rounds ≡ K.rounds }
             ensures { IsThrough K.rounds (length worker.slots) result }
-        { worker.work(rt, job, rounds) },
+        {
+            let worked = worker.work(rt, job, rounds);
+            job.end();
+            worked
+        },
     );
     match started {
         Ok(handle) => Ok(handle),
@@ -152,19 +157,41 @@ fn join_all<K: Plan, R: Threads>(
     Ok(finished)
 }
 
-/// Lets each worker go this many rounds through its slots, in a thread of its own, and adds what they give back.
+// Lets one look on until so many workers came to their ends.
+fn look_on<K: Plan, W: Work, V: Watch, R: Wait>(
+    rt: &R,
+    job: &Job<'_, K, W>,
+    workers: u32,
+    watch: &mut V,
+) {
+    if !watch.looks() {
+        return;
+    }
+    for _ in rt.forever() {
+        if job.are_ended(workers) {
+            return;
+        }
+        if watch.pause() {
+            watch.look(job.came(), job.waiting(rt));
+        }
+    }
+}
+
+/// Lets each worker go this many rounds through its slots, in a thread of its own, and adds what they give back. One may look on
+/// meanwhile.
 ///
 /// # Errors
 ///
 /// `RoundsFault::Worker` of the first worker that could not be started, or `RoundsFault::NoMemory`. Those that were
 /// started go on to their ends.
-pub fn work_all<K: Plan, W: Work, R: Wait + Threads + Sync>(
+pub fn work_all<K: Plan, W: Work, V: Watch, R: Wait + Threads + Sync>(
     rt: &R,
     alloc: Global,
     job: &Job<'_, K, W>,
     rounds: u32,
     workers: Vec<Worker<K>>,
     finished: Finished<K>,
+    watch: &mut V,
 ) -> Result<Finished<K>, RoundsFault>
     requires few { length workers.items ≤ max_stations }
     requires none { (finished.dones ≡ []) × (finished.stations ≡ []) }
@@ -187,7 +214,9 @@ pub fn work_all<K: Plan, W: Work, R: Wait + Threads + Sync>(
             ensures stations { IfOk result (λ f. length f.stations ≡ length workers.items) }
             ensures fault { IfErr result (IsCrewFault (length workers.items)) }
         {
+            let count = workers.len() as u32;
             start_all(scope, rt, job, rounds, workers, &mut handles)?;
+            look_on(rt, job, count, watch);
             join_all(rt, handles, finished)
         },
     )

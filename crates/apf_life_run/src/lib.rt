@@ -4,7 +4,7 @@
 //! - `opening`: the gate of a run. `plan`: which level, which requests and how many rounds a run is of.
 //! - `newest`: which request holds a slot now, as its worker notes it.
 //! - `operator`: a worker's Station, and `worker` a worker with its share of the slots. `crew`: all workers, dealt out,
-//!   started and joined. `finished`: what they gave back.
+//!   started and joined. `finished`: what they gave back. `watch`: who looks at a run meanwhile.
 //! - `running`: runs requests by workers, in rounds. `book`: writes what such a run reports.
 #![tactic(auto)]
 
@@ -17,10 +17,12 @@ mod opening;
 mod operator;
 mod plan;
 mod running;
+mod watch;
 mod worker;
 
 pub use apf_life::{Executing, Report};
 pub use book::write_book;
 pub use fault::RoundsFault;
 pub use running::run_rounds;
+pub use watch::{Nobody, Watch};
 pub use worker::Work;

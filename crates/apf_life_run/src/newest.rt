@@ -1,6 +1,6 @@
 //! Which request holds a slot now.
 
-ghost use Rattle.std.specs.Prelude.{◌≡◌, ◌<◌, ◌≤◌, IfOk, IfSome};
+ghost use Rattle.std.specs.Prelude.{◌≡◌, ◌<◌, ◌≤◌, ◌*◌, IfOk, IfSome};
 ghost use Rattle.apf_words.specs.Limits.{max_requests, max_width};
 ghost use Rattle.apf_life_run.specs.Plans.{IsOfRounds};
 
@@ -59,6 +59,17 @@ impl<K: Plan> Newest<K> {
         requires round { round ≤ K.rounds }
     {
         self.rounds[slot as usize].store(u64::from(round), SeqCst);
+    }
+
+    /// How many requests came until now: the round of each slot, of all slots.
+    pub fn came(&self) -> u64
+        ensures { result ≤ self.now * K.rounds }
+    {
+        let mut came: u64 = 0;
+        for round in &self.rounds {
+            came = came.saturating_add(round.load(SeqCst));
+        }
+        came
     }
 
     /// The ticket of the slot's newest request, whose width is this. None if no request of the slot came yet.

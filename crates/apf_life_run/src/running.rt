@@ -12,6 +12,7 @@ use crate::finished::Finished;
 use crate::newest::Newest;
 use crate::opening::Opening;
 use crate::plan::Plan;
+use crate::watch::Watch;
 use crate::worker::{Job, Work};
 use apf_files::Request;
 use apf_life::{Level, Opened, Report};
@@ -30,7 +31,7 @@ use std::thread::Threads;
 /// cancels and strikes the request that holds the slot that it names then (one that is not there, or of which no
 /// request came yet, is nobody), gives the seats back, and dispatches where requests wait.
 ///
-/// All memory is taken before the first worker starts, and at the end.
+/// All memory is taken before the first worker starts, and at the end. `watch` may look at the run meanwhile.
 ///
 /// # Errors
 ///
@@ -38,7 +39,7 @@ use std::thread::Threads;
 /// level's (the dealer's, then the queues'); and `Worker`, of a worker that could not be started (those that were go on
 /// to their ends). Whenever memory is refused, in the gate or the level too, it is `NoMemory`, and that may come before
 /// anything is judged.
-pub fn run_rounds<W: Work, R: Wait + Threads + Sync>(
+pub fn run_rounds<W: Work, V: Watch, R: Wait + Threads + Sync>(
     rt: &R,
     alloc: Global,
     config: &Config,
@@ -46,6 +47,7 @@ pub fn run_rounds<W: Work, R: Wait + Threads + Sync>(
     workers: u32,
     rounds: u32,
     work: &W,
+    watch: &mut V,
 ) -> Result<Report, RoundsFault>
     requires some { 0 < workers }
     requires some_rounds { 1 ≤ rounds }
@@ -56,16 +58,17 @@ pub fn run_rounds<W: Work, R: Wait + Threads + Sync>(
     ensures fault { IfErr result (IsRoundsFault config.now (length requests.now) workers) }
 {
     let opening = Opening::new(alloc, config, requests.len(), workers)?;
-    run_named::<Brand, W, R>(rt, alloc, opening, requests, rounds, work)
+    run_named::<Brand, W, V, R>(rt, alloc, opening, requests, rounds, work, watch)
 }
 
-fn run_named<K: Plan, W: Work, R: Wait + Threads + Sync>(
+fn run_named<K: Plan, W: Work, V: Watch, R: Wait + Threads + Sync>(
     rt: &R,
     alloc: Global,
     opening: Opening,
     requests: &[Request],
     rounds: u32,
     work: &W,
+    watch: &mut V,
 ) -> Result<Report, RoundsFault>
     requires level { K.level ≡ level_of opening.gate opening.config }
     requires plan { K.requests ≡ requests.now }
@@ -95,7 +98,8 @@ fn run_named<K: Plan, W: Work, R: Wait + Threads + Sync>(
     let finished = Finished::new(alloc, slots.len(), stations.len())?;
     let workers = deal_out(alloc, slots, stations)?;
     let job = Job::new(&level, requests, &newest, work);
-    let finished = work_all(rt, alloc, &job, rounds, workers, finished)?;
+    let finished = work_all(rt, alloc, &job, rounds, workers, finished, watch)?;
+    drop(job);
     let (dones, stations) = finished.into_parts();
     Ok(level.end(alloc, dones, stations)?)
 }

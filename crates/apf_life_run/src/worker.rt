@@ -1,6 +1,6 @@
 //! A worker of a run in rounds: its Station, and its share of the slots.
 
-ghost use Rattle.std.specs.Prelude.{◌≡◌, ◌+◌, ◌<◌, ◌≤◌, [], ◌∷◌, ◌++◌, length, slice_get, true, Some, Contains, All, IfOk, IfSome, OnOk};
+ghost use Rattle.std.specs.Prelude.{◌≡◌, ◌+◌, ◌*◌, ◌<◌, ◌≤◌, [], ◌∷◌, ◌++◌, length, slice_get, true, Some, Contains, All, IfOk, IfSome, OnOk};
 ghost use Rattle.apf_gate.specs.Slots.{IsTicket, slot_of, round_of, number_of};
 ghost use Rattle.apf_gate.specs.Tokens.{pass_gate};
 ghost use Rattle.apf_gate.specs.Traces.{asked_in};
@@ -20,6 +20,8 @@ use apf_model::Ask;
 use std::alloc::{AllocError, Global};
 use std::marker::Model;
 use std::sync::Wait;
+use std::sync::atomic::AtomicU32;
+use std::sync::atomic::Ordering::SeqCst;
 
 /// What the requests of a run do while they execute. All workers share it.
 pub trait Work: Sync {
@@ -52,6 +54,8 @@ pub struct Job<'a, K: Plan, W: Work> {
     requests: &'a [Request],
     newest: &'a Newest<K>,
     work: &'a W,
+    // how many workers came to their ends
+    ended: AtomicU32,
 }
 
 impl<'a, K: Plan, W: Work> Model for Job<'a, K, W> {
@@ -81,7 +85,34 @@ impl<'a, K: Plan, W: Work> Job<'a, K, W> {
             requests,
             newest,
             work,
+            ended: AtomicU32::new(0),
         }
+    }
+
+    /// A worker came to its end.
+    pub fn end(&self) {
+        self.ended.fetch_add(1, SeqCst);
+    }
+
+    /// Whether so many workers came to their ends.
+    pub fn are_ended(&self, workers: u32) -> bool {
+        self.ended.load(SeqCst) >= workers
+    }
+
+    /// How many requests came until now, of all rounds.
+    pub fn came(&self) -> u64
+        ensures { result ≤ length K.requests * K.rounds }
+    {
+        self.newest.came()
+    }
+
+    /// How many requests wait now. It takes the level's lock.
+    pub fn waiting<R: Wait>(&self, rt: &R) -> u64 {
+        let stats = self.level.lock(rt).stats();
+        stats
+            .entered
+            .saturating_sub(stats.dispatched)
+            .saturating_sub(stats.struck)
     }
 
     // What is asked in the slot.

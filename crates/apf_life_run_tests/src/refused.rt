@@ -6,7 +6,7 @@ ghost use Rattle.apf_life_run.specs.Plans.{HasWidth};
 use crate::runs::{Fault, Nothing, one_queue};
 use apf_gate::GateFault;
 use apf_life::LevelFault;
-use apf_life_run::{RoundsFault, run_rounds};
+use apf_life_run::{Nobody, RoundsFault, run_rounds};
 use apf_life_session::OpenFault;
 use apf_model::{Config, Response};
 use apf_run::Request;
@@ -49,6 +49,7 @@ fn ran<R: Wait + Threads + Sync>(rt: &R, alloc: Global, config: &Config, workers
         workers,
         2,
         &Nothing,
+        &mut Nobody,
     ) {
         Ok(report) => Told::Executed(report.words.counts().executed),
         Err(RoundsFault::Gate(fault)) => Told::Gate(fault),
@@ -115,6 +116,7 @@ fn too_many_requests(rt: HostRuntime) -> Result<(), Fault> {
         1,
         1,
         &Nothing,
+        &mut Nobody,
     );
     assert_eq!(rt; ran.err(), Some(RoundsFault::Gate(GateFault::TooMany)));
     Ok(())

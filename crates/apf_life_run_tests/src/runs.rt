@@ -3,7 +3,7 @@
 ghost use Rattle.std.specs.Prelude.{◌≡◌, ◌<◌, ◌≤◌, IfOk};
 ghost use Rattle.apf_life_run.specs.Plans.{max_rounds};
 
-use apf_life_run::{Executing, Report, RoundsFault, Work, run_rounds};
+use apf_life_run::{Executing, Nobody, Report, RoundsFault, Work, run_rounds};
 use apf_model::{Config, Response};
 use apf_run::{RequestFault, read_requests};
 use std::alloc::{AllocError, Global};
@@ -83,5 +83,6 @@ pub fn run_text<W: Work, R: Wait + Threads + Sync>(
         pace.workers,
         pace.rounds,
         work,
+        &mut Nobody,
     )?)
 }

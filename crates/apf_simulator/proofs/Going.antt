@@ -77,7 +77,7 @@ lane_by [] opening came told u v is lane =
     (subst (λ (l : List Came). IsLane opening l (told ++ []) u) (sym (append-nil came)) (subst (λ (l : List Ended). IsLane opening came l u) (sym (append-nil told)) lane))
 lane_by (t ∷ turns) opening came told u v is lane =
     let m = is.0 in
-    let next : IsLane opening (came ++ came_in t) (told ++ t.ends) m = subst (λ (l : List Ended). IsLane opening (came ++ came_in t) (told ++ l) m) is.1.told (is.1.goes opening came told lane) in
+    let next : IsLane opening (came ++ came_in t) (told ++ t.ends) m = subst (λ (l : List Ended). IsLane opening (came ++ came_in t) (told ++ l) m) is.1.told (is.1.goes [] opening came told lane) in
     let all = lane_by turns opening (came ++ came_in t) (told ++ t.ends) m v is.2 next in
     subst (λ (l : List Came). IsLane opening l (told ++ told_by (t ∷ turns)) v) (append_assoc came (came_in t) (came_by turns))
     (subst (λ (l : List Ended). IsLane opening ((came ++ came_in t) ++ came_by turns) l v) (append_assoc told t.ends (told_by turns)) all)

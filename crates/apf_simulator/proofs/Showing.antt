@@ -1,21 +1,16 @@
 -- What is told of requests in their order.
 use Rattle.std.proofs.Common.{◌≡◌, ℕ, suc, List, [], ◌∷◌, ◌++◌, length, map, Bool, true, Option, Some, refl, sym, ap, ◌∙◌, subst, append_assoc, arith}
-use Rattle.std.specs.Prelude.{IsPermutation}
 use Rattle.std.specs.List.{AllByRecursion, flat_map}
-use Rattle.std.specs.List.Sorted.{IsSortedBy}
 use Rattle.std.specs.Option.{option_to_list}
-use Rattle.std.specs.Io.KnownBytes.{Appends, Keeps}
+use Rattle.std.specs.Io.KnownBytes.{Appends}
 use Rattle.std.proofs.KnownBytes.{Appends-trans}
 use Rattle.std.proofs.lemmas.List.{append-nil, flat_map_more, map-append}
-use Rattle.std.proofs.lemmas.List.Elements.{All-from_recursion, recursion_from_All}
-use Rattle.std.proofs.lemmas.List.Sorted.{All-permutation, IsPermutation-map}
 use Rattle.apf_traces.specs.declared.request.TraceRequest.{TraceRequest}
 use Rattle.apf_stream.specs.declared.ended.Ended.{Ended}
 use Rattle.apf_simulator.specs.Fates.{fate_text, fates_header}
-use Rattle.apf_simulator.specs.Hearing.{AllTold, AreHeld, AreParts, Fate, IsFate, IsHeldOf, Tells, TellsStill, came_more, line_before}
-use Rattle.apf_simulator.specs.Turns.{Turn, came_by, told_by}
+use Rattle.apf_simulator.specs.Hearing.{AllTold, AreHeld, AreParts, Fate, IsFate, Tells, TellsStill, came_more}
+use Rattle.apf_simulator.specs.Turns.{Turn, told_by}
 use Rattle.apf_simulator.specs.declared.held.Held.{Held}
-use Rattle.apf_simulator.specs.declared.listed.Listed.{Listed}
 use Rattle.apf_simulator.proofs.Going.{came_then, told_then}
 use Rattle.apf_simulator.proofs.Holding.{Came, came_of, fates_more}
 

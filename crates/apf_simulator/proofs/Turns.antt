@@ -20,7 +20,7 @@ in_turn was p before at one other was_is is late in_time = let a = after_place p
 
 -- a lane that goes on is lived
 lived_one : (more : List (Arrival TraceRequest)) (v v' : LaneView) → GoesOn more v v' → IsLived v → IsLived v'
-lived_one more v v' goes l = record { opening = l.opening; came = l.came ++ more; told = l.told ++ v'.ends; lane = goes l.opening l.came l.told l.lane }
+lived_one more v v' goes l = record { under = l.under; opening = l.opening; came = l.came ++ more; told = l.told ++ v'.ends; lane = goes l.under l.opening l.came l.told l.lane }
 
 pub lived : (more : List (Arrival TraceRequest)) (one : LaneView) (other : Option LaneView) (one' : LaneView) (other' : Option LaneView) → GoOn more one other one' other' → AreLivedBoth one other → AreLivedBoth one' other'
 lived more one None one' None goes l = lived_one more one one' goes l

@@ -60,7 +60,7 @@ simulated config patience by has_bound size was left before mid after lane h p =
       lane = lane;
       ran = h.ran;
       table = p.table;
-      of_all = p.of_all gone.opening (came_by h.turns) (told_by h.turns) (lane_by h.turns gone.opening [] [] gone.start lane gone.turns_are gone.nobody);
+      of_all = p.of_all [] gone.opening (came_by h.turns) (told_by h.turns) (lane_by h.turns gone.opening [] [] gone.start lane gone.turns_are gone.nobody);
       report = p.report;
       ended = p.ended;
       of_book = p.of_book;
@@ -98,10 +98,10 @@ compared config other_config slots patience by charged first size was left befor
         gone = record { opening = o.state; opened = other_opened.0; start = o; nobody = other_opened.1; turns_are = too.2; is_over = over.1 };
       };
       table = p.table;
-      of_all = p.table_is.of_all start.state (came_by g.turns) (told_by g.turns) (lane_by g.turns start.state [] [] start one g.lanes.0 opened.1);
+      of_all = p.table_is.of_all [] start.state (came_by g.turns) (told_by g.turns) (lane_by g.turns start.state [] [] start one g.lanes.0 opened.1);
       ends = p.table_is.ends;
       other_table = p.other_table;
-      other_of_all = subst (λ (l : List Came). IsTable l (told_by too.0) p.other_table) too.1 (p.other_is.of_all o.state (came_by too.0) (told_by too.0) (lane_by too.0 o.state [] [] o other too.2 other_opened.1));
+      other_of_all = subst (λ (l : List Came). IsTable l (told_by too.0) p.other_table) too.1 (p.other_is.of_all [] o.state (came_by too.0) (told_by too.0) (lane_by too.0 o.state [] [] o other too.2 other_opened.1));
       other_ends = p.other_is.ends;
       order = p.order;
       ordered = p.ordered;

@@ -9,7 +9,7 @@ use Rattle.std.proofs.lemmas.List.{map-append}
 use Rattle.std.proofs.lemmas.List.Elements.{All-filter, All-from_recursion, filter_passes, recursion_from_All}
 use Rattle.std.proofs.lemmas.List.Sorted.{All-permutation, IsPermutation-append_comm, IsPermutation-append_left, IsPermutation-append_right, IsPermutation-filter_both, IsPermutation-map, IsPermutation-trans}
 use Rattle.apf_stream.specs.declared.ended.Ended.{Ended}
-use Rattle.apf_simulator.specs.Hearing.{AreHeld, AreListed, AreParts, Fate, Holds, IsFate, IsHeldOf, IsOutside, Stays, line_before}
+use Rattle.apf_simulator.specs.Hearing.{AreListed, AreParts, Fate, Holds, IsFate, IsHeldOf, IsOutside, Stays, line_before}
 use Rattle.apf_simulator.specs.Turns.{Turn, came_by, told_by}
 use Rattle.apf_simulator.specs.Windows.{is_there, stays, stays_by}
 use Rattle.apf_simulator.specs.declared.held.Held.{Held}

@@ -1,5 +1,5 @@
 -- A level that the requests of a trace come to, with what they came to.
-use Rattle.std.specs.Prelude.{◌≡◌, ℕ, Bool, true, false, List, [], ◌++◌, length, map, max, min, replicate, Option, Some, None}
+use Rattle.std.specs.Prelude.{◌≡◌, ℕ, Bool, true, false, List, [], ◌∷◌, ◌++◌, length, map, max, min, replicate, Option, Some, None}
 use Rattle.std.specs.List.{AllByRecursion}
 use Rattle.apf_model.specs.declared.config.Config.{Config}
 use Rattle.apf_charges.specs.Charging.{opening_charges}
@@ -9,8 +9,9 @@ use Rattle.apf_local.specs.Openings.{IsOpened}
 use Rattle.apf_times.specs.declared.window.Arrival.{Arrival}
 use Rattle.apf_traces.specs.declared.request.TraceRequest.{TraceRequest}
 use Rattle.apf_stream.specs.declared.asked.Asked.{Asked}
+use Rattle.apf_stream.specs.declared.deed.NewLimit.{NewLimit}
 use Rattle.apf_stream.specs.declared.ended.Ended.{Ended}
-use Rattle.apf_stream.specs.Runs.{AreOf, HasRun}
+use Rattle.apf_stream.specs.Runs.{AreOf, HasRunUnder}
 use Rattle.apf_stream.specs.States.{IsAsked, State, settling_by}
 use Rattle.apf_stream.specs.Ties.{AreTied}
 use Rattle.apf_rows.specs.Accounts.{IsInReach}
@@ -55,28 +56,38 @@ pub record LaneView : Type 0 where
   -- how many came
   pub came : ℕ
 
--- From a level to which nobody came, these came, and these were told. Each was counted in its row.
-pub record IsLane (opening : State) (came : List (Arrival TraceRequest)) (told : List Ended) (v : LaneView) : Type 0 where
+-- From a level to which nobody came, these came, these limits were set, and these were told. Each was counted in its row.
+pub record IsLaneUnder (under : List NewLimit) (opening : State) (came : List (Arrival TraceRequest)) (told : List Ended) (v : LaneView) : Type 0 where
   pub tied : AreTied opening
   pub nobody : AreOf [] opening
-  pub run : HasRun (map asked_by came) opening [] v.state told
+  pub run : HasRunUnder under (map asked_by came) opening [] v.state told
   pub still : AreTied v.state
   pub asked : AllByRecursion IsAsked (map asked_by came)
   pub met : HaveMet came v.rows
   pub are : AreRows told v.rows
   pub number : v.came ≡ length came
 
--- some came, and some were told
+-- the same, and the limit stayed
+abbrev pub IsLane : State → List (Arrival TraceRequest) → List Ended → LaneView → Type 0
+IsLane = IsLaneUnder []
+
+-- some came, some limits were set, and some were told
 pub record IsLived (v : LaneView) : Type 0 where
+  pub under : List NewLimit
   pub opening : State
   pub came : List (Arrival TraceRequest)
   pub told : List Ended
-  pub lane : IsLane opening came told v
+  pub lane : IsLaneUnder under opening came told v
 
--- whatever it was of before: these came more, and some were told more
+-- whatever it was of before: these came more, some were told more, and the limit stayed
 abbrev pub GoesOn : List (Arrival TraceRequest) → LaneView → LaneView → Type 0
-GoesOn more v v' = (opening : State) (came : List (Arrival TraceRequest)) (told : List Ended) → IsLane opening came told v
-    → IsLane opening (came ++ more) (told ++ v'.ends) v'
+GoesOn more v v' = (under : List NewLimit) (opening : State) (came : List (Arrival TraceRequest)) (told : List Ended) → IsLaneUnder under opening came told v
+    → IsLaneUnder under opening (came ++ more) (told ++ v'.ends) v'
+
+-- whatever it was of before: this limit was set, and some were told more
+abbrev pub GoesOnUnder : NewLimit → LaneView → LaneView → Type 0
+GoesOnUnder new v v' = (under : List NewLimit) (opening : State) (came : List (Arrival TraceRequest)) (told : List Ended) → IsLaneUnder under opening came told v
+    → IsLaneUnder (under ++ new ∷ []) opening came (told ++ v'.ends) v'
 
 -- a request that was told can be counted: it is in reach, and its flow came
 pub record IsCounted (v : RowsView) (e : Ended) : Type 0 where
@@ -85,11 +96,12 @@ pub record IsCounted (v : RowsView) (e : Ended) : Type 0 where
 
 -- those that came are met, and these were told last
 pub record IsTold (s : State) (v : RowsView) (ends : List Ended) : Type 0 where
+  pub under : List NewLimit
   pub opening : State
   pub came : List (Arrival TraceRequest)
   pub told : List Ended
   pub tied : AreTied opening
   pub nobody : AreOf [] opening
-  pub run : HasRun (map asked_by came) opening [] s (told ++ ends)
+  pub run : HasRunUnder under (map asked_by came) opening [] s (told ++ ends)
   pub asked : AllByRecursion IsAsked (map asked_by came)
   pub met : HaveMet came v

@@ -7,4 +7,5 @@ pub mod Calls
 pub mod Hearing
 pub mod Runs
 pub mod Books
+pub mod Faults
 pub mod Told

@@ -16,10 +16,11 @@ use Rattle.apf_simulator.specs.Books.{AreOfBook, book_of, sides_text}
 use Rattle.apf_simulator.specs.Calls.{calls_by, script_text}
 use Rattle.apf_simulator.specs.Hearing.{AllTold, AreListed}
 use Rattle.apf_stream.specs.States.{State}
+use Rattle.apf_stream.specs.declared.deed.NewLimit.{NewLimit}
 use Rattle.apf_stream.specs.declared.ended.Ended.{Ended}
 use Rattle.apf_times.specs.declared.window.Arrival.{Arrival}
 use Rattle.apf_traces.specs.declared.request.TraceRequest.{TraceRequest}
-use Rattle.apf_simulator.specs.Lanes.{IsLane, LaneView}
+use Rattle.apf_simulator.specs.Lanes.{IsLaneUnder, LaneView}
 use Rattle.apf_simulator.specs.Runs.{HasRunAll, HasRunToo}
 use Rattle.apf_simulator.specs.Turns.{Turn, came_by, told_by}
 use Rattle.apf_watched.specs.Followed.{AreSidesIn}
@@ -57,7 +58,7 @@ AreAskedFor false l sides = sides ≡ None
 -- A lane's level has ended. What its flows came to was printed, and the book of the level, and both sides of the bound, if they were asked for
 pub record IsPrinted (limit patience : ℕ) (has_bound : Bool) (lane : LaneView) (before after : Option (List ℕ)) : Type 0 where
   pub table : Table
-  pub of_all : (opening : State) (came : List (Arrival TraceRequest)) (told : List Ended) → IsLane opening came told lane → IsTable came told table
+  pub of_all : (under : List NewLimit) (opening : State) (came : List (Arrival TraceRequest)) (told : List Ended) → IsLaneUnder under opening came told lane → IsTable came told table
   pub report : Report
   pub ended : EndsFrom lane.state.level report
   pub of_book : AreOfBook table.all.sums report.words.counts
@@ -87,7 +88,7 @@ pub record EndsWith (lane : LaneView) (t : Table) : Type 0 where
 
 -- the requests that ran on a lane, and what its flows came to
 pub record IsTableOf (lane : LaneView) (t : Table) : Type 0 where
-  pub of_all : (opening : State) (came : List (Arrival TraceRequest)) (told : List Ended) → IsLane opening came told lane → IsTable came told t
+  pub of_all : (under : List NewLimit) (opening : State) (came : List (Arrival TraceRequest)) (told : List Ended) → IsLaneUnder under opening came told lane → IsTable came told t
   pub ends : EndsWith lane t
 
 -- what the flows of two lanes came to was printed side by side

@@ -1,5 +1,5 @@
 -- Which requests are there in a stretch of a run.
-use Rattle.std.specs.Prelude.{◌≡◌, ℕ, Bool, true, false, ◌&&◌, ◌==◌, nat_le, Option, Some, None, is_none}
+use Rattle.std.specs.Prelude.{ℕ, Bool, true, ◌&&◌, ◌==◌, nat_le, Option, Some, None, is_none}
 use Rattle.apf_times.specs.declared.window.Arrival.{Arrival}
 use Rattle.apf_traces.specs.declared.request.TraceRequest.{TraceRequest}
 use Rattle.apf_stream.specs.declared.ended.Ended.{Ended}

@@ -16,6 +16,7 @@ use crate::feeding::{Next, read_first};
 use crate::lane::Lane;
 use crate::lanes::Lanes;
 use crate::listener::Nobody;
+use crate::progress::{Progress, WithProgress};
 use crate::running::{Opening, Terms, opening_for, run};
 use apf_model::Config;
 use apf_rows::{Table, order_of, write_comparison};
@@ -85,8 +86,9 @@ fn write<W: Write>(
 }
 
 // Runs the trace on the lanes of two levels to which nobody came.
-fn run_both<R: Read, W: Write>(
+fn run_both<P: Progress, R: Read, W: Write>(
     mut lanes: Lanes,
+    progress: &mut P,
     first: Next,
     reader: &mut TraceReader,
     input: &mut R,
@@ -100,7 +102,11 @@ fn run_both<R: Read, W: Write>(
         → HaveGone was (R.remaining input.new) None reader.new lanes.one lanes.other o.0 (Some o.1) (λ turns. Keeps (W.contents out.old) (W.contents out.new) × Begins first turns None)) }
     ensures size { reader.new.window.size ≡ reader.old.window.size }
 {
-    run(&mut lanes, &mut Nobody, first, reader, input, out)?;
+    let mut nobody = WithProgress {
+        listener: Nobody,
+        progress,
+    };
+    run(&mut lanes, &mut nobody, first, reader, input, out)?;
     let Lanes { one, other } = lanes;
     match other {
         Some(other) => Ok((one, other)),
@@ -110,15 +116,17 @@ fn run_both<R: Read, W: Write>(
 }
 
 /// Runs a trace on the levels of two configs, each as `simulate` does, and prints both side by side: a line of names, a line
-/// for each flow, those first whose longest wait changes most, and the line of all requests.
+/// for each flow, those first whose longest wait changes most, and the line of all requests. `progress` is told how far the run
+/// is on the one level.
 ///
 /// # Errors
 ///
 /// As of `simulate`: the one level's fault before the other's.
-pub fn compare<R: Read, W: Write>(
+pub fn compare<P: Progress, R: Read, W: Write>(
     alloc: Global,
     configs: (&Config, &Config),
     terms: Terms,
+    progress: &mut P,
     reader: &mut TraceReader,
     input: &mut R,
     out: &mut W,
@@ -131,7 +139,7 @@ pub fn compare<R: Read, W: Write>(
     let first = read_first(reader, input)?;
     let opening = opening_for(terms, reader);
     let lanes = open_both(alloc, configs.0, configs.1, terms.patience, opening)?;
-    let (one, other) = run_both(lanes, first, reader, input, out)?;
+    let (one, other) = run_both(lanes, progress, first, reader, input, out)?;
     print(alloc, one, other, out)?;
     Ok(())
 }

@@ -1,11 +1,12 @@
 //! Each request that is told is counted.
 
-ghost use Rattle.std.specs.Prelude.{◌≡◌, [], ◌∷◌, ◌++◌, List, All, OnOk};
+ghost use Rattle.std.specs.Prelude.{◌≡◌, [], ◌∷◌, ◌++◌, List, All, IfErr, OnOk};
 ghost use Rattle.apf_times.specs.declared.window.Arrival.{Arrival as ArrivalOf};
 ghost use Rattle.apf_traces.specs.declared.request.TraceRequest.{TraceRequest as RequestOf};
 ghost use Rattle.apf_stream.specs.declared.ended.Ended.{Ended as EndedOf};
 ghost use Rattle.apf_stream.specs.States.{state_of};
 ghost use Rattle.apf_rows.specs.Rows.{AreRows, HaveMet};
+ghost use Rattle.apf_simulator.specs.Faults.{IsOfRun};
 ghost use Rattle.apf_simulator.specs.Lanes.{IsCounted, IsTold};
 
 use crate::fault::SimulatorFault;
@@ -31,6 +32,7 @@ fn count(rows: &mut Rows, ended: &Ended) -> Result<(), SimulatorFault>
     ensures added { OnOk result ((told : List EndedOf) → AreRows told rows.old → AreRows (told ++ ended.now ∷ []) rows.new) }
     ensures met { (came : List (ArrivalOf RequestOf)) → HaveMet came rows.old → HaveMet came rows.new }
     ensures flows { rows.new.flows ≡ rows.old.flows }
+    ensures fault { IfErr result IsOfRun }
 {
     if rows.sums().requests == u64::MAX {
         return Err(SimulatorFault::TooMany);
@@ -44,6 +46,7 @@ pub(crate) fn count_all(rows: &mut Rows, ends: &[Ended]) -> Result<(), Simulator
     requires { All (IsCounted rows.old) ends.now }
     ensures added { OnOk result ((told : List EndedOf) → AreRows told rows.old → AreRows (told ++ ends.now) rows.new) }
     ensures met { (came : List (ArrivalOf RequestOf)) → HaveMet came rows.old → HaveMet came rows.new }
+    ensures fault { IfErr result IsOfRun }
 {
     for ended in ends {
         count(rows, ended)?;

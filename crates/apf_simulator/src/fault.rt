@@ -1,5 +1,9 @@
 //! Why a trace is not simulated.
 
+ghost use Rattle.std.specs.Prelude.{◌≡◌};
+ghost use Rattle.apf_simulator.specs.Faults.{of_opening, of_stream};
+ghost use Rattle.apf_simulator.specs.declared.fault.SimulatorFault.TheVariants.{NoMemory, Read};
+
 use apf_local::OpenFault;
 use apf_stream::StreamFault;
 use apf_trace_reader::ReadFault;
@@ -59,6 +63,8 @@ impl SimulatorFault {
 }
 
 impl From<StreamFault> for SimulatorFault {
+    ghost from_gives = { λ fault told. told ≡ of_stream fault };
+
     fn from(fault: StreamFault) -> Self {
         match fault {
             StreamFault::NoMemory => Self::NoMemory,
@@ -69,12 +75,16 @@ impl From<StreamFault> for SimulatorFault {
 }
 
 impl From<ReadFault> for SimulatorFault {
+    ghost from_gives = { λ fault told. told ≡ Read fault };
+
     fn from(fault: ReadFault) -> Self {
         Self::Read(fault)
     }
 }
 
 impl From<OpenFault> for SimulatorFault {
+    ghost from_gives = { λ fault told. told ≡ of_opening fault };
+
     fn from(fault: OpenFault) -> Self {
         match fault {
             OpenFault::NoMemory => Self::NoMemory,
@@ -84,6 +94,8 @@ impl From<OpenFault> for SimulatorFault {
 }
 
 impl From<AllocError> for SimulatorFault {
+    ghost from_gives = { λ _ told. told ≡ NoMemory };
+
     fn from(_refused: AllocError) -> Self {
         Self::NoMemory
     }

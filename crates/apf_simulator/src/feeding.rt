@@ -51,7 +51,7 @@ fn arrive<L: Listener, W: Write>(
         → L.heard before (W.contents out.new) (turns ++ record { came = Some came; ends = lanes.new.one.ends } ∷ []) listener.new) }
 {
     lanes.arrive(&came)?;
-    listener.hear(Some(came), lanes.one.ends(), out)
+    listener.hear(Some(came), &lanes.one, out)
 }
 
 // The request arrives on each lane, and is heard of. Answers the one that comes behind it.

@@ -6,6 +6,7 @@
 //! - `telling`: tells what became of each request, in the order in which they came. `fates`: the lines of that.
 //! - `timeline`: the script of the calls. `listed`: the requests that were there in a stretch of the run,
 //!   with what became of each, in the order of their lines.
+//! - `progress`: who is told how far the run is.
 //! - `sides`: the line of both sides of the bound.
 //! - `counting`: each request that is told is counted.
 //! - `feeding`: runs each request of a trace on the lanes. `fault`: why a trace is not simulated.
@@ -25,6 +26,7 @@ mod lane;
 mod lanes;
 mod listed;
 mod listener;
+mod progress;
 mod running;
 mod sides;
 mod simulating;
@@ -37,5 +39,6 @@ pub use held::TimeWindow;
 pub use lane::{Lane, MOST_SLOTS};
 pub use lanes::Lanes;
 pub use listed::{Listed, MOST_LISTED};
+pub use progress::Progress;
 pub use running::{Terms, list, write_fates, write_timeline};
 pub use simulating::simulate;

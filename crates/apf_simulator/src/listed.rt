@@ -7,6 +7,7 @@ ghost use Rattle.apf_simulator.specs.Turns.{Turn, came_by, told_by};
 
 use crate::fault::SimulatorFault;
 use crate::held::{Held, HeldList, TimeWindow};
+use crate::lane::Lane;
 use crate::listener::Listener;
 use apf_stream::Ended;
 use apf_times::Arrival;
@@ -149,11 +150,11 @@ impl Listener for Listing {
     fn hear<W: Write>(
         &mut self,
         came: Option<Arrival<TraceRequest>>,
-        ends: &[Ended],
+        lane: &Lane,
         _out: &mut W,
     ) -> Result<(), SimulatorFault> {
         self.make_room()?;
-        self.held.take(came, ends)?;
+        self.held.take(came, lane.ends())?;
         Ok(())
     }
 }

@@ -5,7 +5,7 @@ ghost use Rattle.std.specs.Io.KnownBytes.{Keeps};
 ghost use Rattle.apf_simulator.specs.Turns.{Turn};
 
 use crate::fault::SimulatorFault;
-use apf_stream::Ended;
+use crate::lane::Lane;
 use apf_times::Arrival;
 use apf_traces::TraceRequest;
 use std::io::Write;
@@ -18,7 +18,7 @@ pub(crate) trait Listener {
     // what the output had before, and has now, where it was told of these turns
     ghost heard: { Option (List ℕ) → Option (List ℕ) → List Turn → Self → Type 0 };
 
-    /// A request came, or nobody comes any more; and these were told by that.
+    /// A request came to the lane, or nobody comes any more; and by that the lane told who is over.
     ///
     /// # Errors
     ///
@@ -26,11 +26,11 @@ pub(crate) trait Listener {
     fn hear<W: Write>(
         &mut self,
         came: Option<Arrival<TraceRequest>>,
-        ends: &[Ended],
+        lane: &Lane,
         out: &mut W,
     ) -> Result<(), SimulatorFault>
         ensures { OnOk result ((before : Option (List ℕ)) (turns : List Turn) → heard before (W.contents out.old) turns self.old
-            → heard before (W.contents out.new) (turns ++ record { came = came; ends = ends.now } ∷ []) self.new) };
+            → heard before (W.contents out.new) (turns ++ record { came = came; ends = lane.now.ends } ∷ []) self.new) };
 }
 
 /// Nobody listens.
@@ -43,7 +43,7 @@ impl Listener for Nobody {
     fn hear<W: Write>(
         &mut self,
         _came: Option<Arrival<TraceRequest>>,
-        _ends: &[Ended],
+        _lane: &Lane,
         _out: &mut W,
     ) -> Result<(), SimulatorFault> {
         Ok(())

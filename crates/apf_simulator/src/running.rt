@@ -19,6 +19,7 @@ use crate::lane::{Lane, MOST_SLOTS};
 use crate::lanes::Lanes;
 use crate::listed::{Listed, Listing};
 use crate::listener::Listener;
+use crate::progress::{Progress, WithProgress};
 use crate::telling::Telling;
 use crate::timeline::Timeline;
 use apf_charges::ChargedBy;
@@ -62,7 +63,7 @@ pub(crate) fn run<R: Read, L: Listener, W: Write>(
 {
     feed_all(lanes, listener, first, reader, input, out)?;
     lanes.finish()?;
-    listener.hear(None, lanes.one.ends(), out)?;
+    listener.hear(None, &lanes.one, out)?;
     Ok(())
 }
 
@@ -214,10 +215,11 @@ fn watched(
 /// # Errors
 ///
 /// As of `simulate`.
-pub fn write_fates<R: Read, W: Write>(
+pub fn write_fates<P: Progress, R: Read, W: Write>(
     alloc: Global,
     config: &Config,
     terms: Terms,
+    progress: &mut P,
     reader: &mut TraceReader,
     input: &mut R,
     out: &mut W,
@@ -227,9 +229,13 @@ pub fn write_fates<R: Read, W: Write>(
     ensures { OnOk result (HasRead [] [] (R.remaining input.old) reader.old
         → HasToldFates config.now terms.patience terms.by reader.old.window.size (R.remaining input.old) (R.remaining input.new) (W.contents out.old) (W.contents out.new)) }
 {
-    let mut telling = Telling::new(alloc, WINDOW);
-    run_to_end(alloc, config, terms, &mut telling, reader, input, out)?;
-    telling.finish(out)?;
+    let telling = Telling::new(alloc, WINDOW);
+    let mut both = WithProgress {
+        listener: telling,
+        progress,
+    };
+    run_to_end(alloc, config, terms, &mut both, reader, input, out)?;
+    both.listener.finish(out)?;
     Ok(())
 }
 
@@ -240,10 +246,11 @@ pub fn write_fates<R: Read, W: Write>(
 /// # Errors
 ///
 /// As of `simulate`, and `TooManyListed`. Then nothing is printed.
-pub fn write_timeline<R: Read, W: Write>(
+pub fn write_timeline<P: Progress, R: Read, W: Write>(
     alloc: Global,
     config: &Config,
     terms: Terms,
+    progress: &mut P,
     reader: &mut TraceReader,
     input: &mut R,
     out: &mut W,
@@ -253,9 +260,13 @@ pub fn write_timeline<R: Read, W: Write>(
     ensures { OnOk result (HasRead [] [] (R.remaining input.old) reader.old
         → HasToldCalls config.now terms.patience terms.by reader.old.window.size (R.remaining input.old) (R.remaining input.new) (W.contents out.old) (W.contents out.new)) }
 {
-    let mut timeline = Timeline::new(alloc);
-    run_to_end(alloc, config, terms, &mut timeline, reader, input, out)?;
-    timeline.write(out)?;
+    let timeline = Timeline::new(alloc);
+    let mut both = WithProgress {
+        listener: timeline,
+        progress,
+    };
+    run_to_end(alloc, config, terms, &mut both, reader, input, out)?;
+    both.listener.write(out)?;
     Ok(())
 }
 
@@ -265,11 +276,12 @@ pub fn write_timeline<R: Read, W: Write>(
 /// # Errors
 ///
 /// As of `simulate`, and `TooManyListed`.
-pub fn list<R: Read, W: Write>(
+pub fn list<P: Progress, R: Read, W: Write>(
     alloc: Global,
     config: &Config,
     terms: Terms,
     window: TimeWindow,
+    progress: &mut P,
     reader: &mut TraceReader,
     input: &mut R,
     out: &mut W,
@@ -282,8 +294,12 @@ pub fn list<R: Read, W: Write>(
         → HasListed window config.now terms.patience terms.by reader.old.window.size (R.remaining input.old) (R.remaining input.new) l) }
     ensures kept { OnOk result (HasRead [] [] (R.remaining input.old) reader.old → Keeps (W.contents out.old) (W.contents out.new)) }
 {
-    let mut listing = Listing::new(alloc, window);
-    let end = run_to_end(alloc, config, terms, &mut listing, reader, input, out)?;
-    let listed = listing.close(alloc, window, end)?;
+    let listing = Listing::new(alloc, window);
+    let mut both = WithProgress {
+        listener: listing,
+        progress,
+    };
+    let end = run_to_end(alloc, config, terms, &mut both, reader, input, out)?;
+    let listed = both.listener.close(alloc, window, end)?;
     Ok(listed)
 }

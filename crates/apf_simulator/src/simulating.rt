@@ -12,6 +12,7 @@ ghost use Rattle.apf_simulator.specs.Told.{AreAskedFor, HasSimulated, IsPrinted}
 use crate::fault::SimulatorFault;
 use crate::lane::Lane;
 use crate::listener::Nobody;
+use crate::progress::{Progress, WithProgress};
 use crate::running::{Terms, run_one};
 use crate::sides::write_sides;
 use apf_bound::Sides;
@@ -109,16 +110,17 @@ fn print<W: Write>(
 /// The reader has read nothing. Requests come in the order of their arrivals, as it hands them out. At one time finishes come
 /// first, then the ends of patience, then arrivals, each by their lines. A request that waits as long as the patience gives up.
 /// A dispatch is charged what its request's line says; else by time the width times how long the flow's requests ran that
-/// finished until then, or by seats the width.
+/// finished until then, or by seats the width. `progress` is told how far the run is, and that it ends before anything is printed.
 ///
 /// # Errors
 ///
 /// The trace's first fault, or that of the input; the level's; and those of what runs on it. `BoundOfSeats` if both sides are
 /// asked for where requests are charged their seats. Then nothing is printed. And `CannotWrite`.
-pub fn simulate<R: Read, W: Write>(
+pub fn simulate<P: Progress, R: Read, W: Write>(
     alloc: Global,
     config: &Config,
     terms: Terms,
+    progress: &mut P,
     reader: &mut TraceReader,
     input: &mut R,
     out: &mut W,
@@ -128,7 +130,11 @@ pub fn simulate<R: Read, W: Write>(
     ensures { OnOk result (HasRead [] [] (R.remaining input.old) reader.old
         → HasSimulated config.now terms.patience terms.by terms.has_bound reader.old.window.size (R.remaining input.old) (R.remaining input.new) (W.contents out.old) (W.contents out.new)) }
 {
-    let lane = run_one(alloc, config, terms, &mut Nobody, reader, input, out)?;
+    let mut nobody = WithProgress {
+        listener: Nobody,
+        progress,
+    };
+    let lane = run_one(alloc, config, terms, &mut nobody, reader, input, out)?;
     print(alloc, lane, config.limit, terms, out)?;
     Ok(())
 }

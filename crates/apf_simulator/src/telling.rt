@@ -9,6 +9,7 @@ ghost use Rattle.apf_simulator.specs.Turns.{Turn};
 use crate::fates::{write_fate, write_header};
 use crate::fault::SimulatorFault;
 use crate::held::HeldList;
+use crate::lane::Lane;
 use crate::listener::Listener;
 use apf_stream::Ended;
 use apf_times::Arrival;
@@ -105,10 +106,10 @@ impl Listener for Telling {
     fn hear<W: Write>(
         &mut self,
         came: Option<Arrival<TraceRequest>>,
-        ends: &[Ended],
+        lane: &Lane,
         out: &mut W,
     ) -> Result<(), SimulatorFault> {
-        self.held.take(came, ends)?;
+        self.held.take(came, lane.ends())?;
         self.tell(self.back, out)?;
         Ok(())
     }

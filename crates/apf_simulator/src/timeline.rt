@@ -7,6 +7,7 @@ ghost use Rattle.std.specs.Io.KnownBytes.{Appends, Keeps};
 ghost use Rattle.apf_simulator.specs.Calls.{arrival_call, call_by, call_text, calls_by, end_call, script_text};
 
 use crate::fault::SimulatorFault;
+use crate::lane::Lane;
 use crate::listed::MOST_LISTED;
 use crate::listener::Listener;
 use apf_stream::Ended;
@@ -124,10 +125,10 @@ impl Listener for Timeline {
     fn hear<W: Write>(
         &mut self,
         came: Option<Arrival<TraceRequest>>,
-        ends: &[Ended],
+        lane: &Lane,
         _out: &mut W,
     ) -> Result<(), SimulatorFault> {
-        self.end_all(ends)?;
+        self.end_all(lane.ends())?;
         match came {
             Some(came) => self.arrive(&came),
             None => Ok(()),

@@ -4,9 +4,7 @@ use Rattle.std.specs.Prelude.{slice_get}
 use Rattle.std.specs.List.{AllByRecursion}
 use Rattle.std.proofs.lemmas.Bool.{cases_eq}
 use Rattle.std.proofs.lemmas.Option.{slice_get_within}
-use Rattle.std.proofs.lemmas.List.{append-nil}
 use Rattle.std.proofs.lemmas.List.Elements.{Contains-append_left, Contains-append_right}
-use Rattle.apf_words.specs.declared.decision.Decision.{Decision}
 use Rattle.apf_words.specs.declared.decision.Decision.TheVariants.{Cancelled}
 use Rattle.apf_local.specs.declared.answer.Answer.{Answer}
 use Rattle.apf_local.specs.declared.answer.Answer.TheVariants as answers
@@ -14,14 +12,14 @@ use Rattle.apf_local.specs.declared.answer.Place.{Place}
 use Rattle.apf_local.specs.declared.answer.Place.TheVariants as places
 use Rattle.apf_calendar.specs.declared.calendar.Carried.{Carried}
 use Rattle.apf_calendar.specs.declared.guest.Guest.{Guest}
-use Rattle.apf_calendar.specs.declared.guest.Stay.TheVariants.{Waits, Holds}
-use Rattle.apf_calendar.specs.Guests.{SlotsView, IsIn, Starts, then_of}
+use Rattle.apf_calendar.specs.declared.guest.Stay.TheVariants.{Waits}
+use Rattle.apf_calendar.specs.Guests.{SlotsView, IsIn, then_of}
 use Rattle.apf_stream.specs.declared.asked.Asked.{Asked}
 use Rattle.apf_stream.specs.declared.asked.Hold.{Hold}
 use Rattle.apf_stream.specs.declared.deed.Deed.{Deed}
-use Rattle.apf_stream.specs.declared.deed.Deed.TheVariants.{Arrive, Finish, GiveUp, Read}
+use Rattle.apf_stream.specs.declared.deed.Deed.TheVariants.{Arrive, Finish, GiveUp, Read, SetLimit}
 use Rattle.apf_stream.specs.declared.ended.Ended.{Ended}
-use Rattle.apf_stream.specs.Deeds.{Arrives, Finishes, FollowsAnswer, FollowsPlace, GivesUp, IsDeed, Reads, unserved, served, with_slots}
+use Rattle.apf_stream.specs.Deeds.{Arrives, Finishes, FollowsAnswer, FollowsPlace, GivesUp, IsDeed, unserved, served}
 use Rattle.apf_stream.specs.Runs.{AreOf, IsRun, arrivals}
 use Rattle.apf_stream.specs.States.{State}
 use Rattle.apf_stream.specs.Ties.{AreTied, WaitsAt}
@@ -146,6 +144,7 @@ deed_come came (Arrive slot a) s s' told r tied all = by_answer (came ++ a ∷ [
 deed_come came (Finish c) s s' told f tied all = more_come came [] s' told (finish_come came c s s' told f all)
 deed_come came (GiveUp c) s s' told f tied all = more_come came [] s' told (gives_up_come came c s s' told f tied all)
 deed_come came (Read slot) s s' told (place, r) tied all = more_come came [] s' told (by_place came s s' slot r.hold told all (read_waits_at slot s s' told place r tied) r.noted r.holds place r.follows)
+deed_come came (SetLimit n) s s' told r tied all = more_come came [] s' told (record { there = same_there came s s' all (ap (λ (v : SlotsView). v.slots) r.slots) r.holds; asked = none_asked came told r.nobody })
 
 both : (came : List Asked) (xs ys : List Ended) → AreAsked came xs → AreAsked came ys → AreAsked came (xs ++ ys)
 unfolding AreAsked

@@ -29,11 +29,11 @@ use Rattle.apf_calendar.specs.declared.calendar.Carried.{Carried}
 use Rattle.apf_calendar.specs.declared.guest.Guest.{Guest}
 use Rattle.apf_calendar.specs.declared.guest.Stay.{Stay}
 use Rattle.apf_calendar.specs.declared.guest.Stay.TheVariants.{Waits, Impatient, Holds}
-use Rattle.apf_calendar.specs.Guests.{CarriesOut, IsIn, IsWaiting, SlotsView, due_in, then_in, then_of, unless_never}
+use Rattle.apf_calendar.specs.Guests.{CarriesOut, IsIn, IsWaiting, NothingBy, SlotsView, due_in, then_in, then_of, unless_never}
 use Rattle.apf_stream.specs.declared.asked.Asked.{Asked}
 use Rattle.apf_stream.specs.declared.asked.Hold.{Hold}
 use Rattle.apf_stream.specs.declared.deed.Deed.{Deed}
-use Rattle.apf_stream.specs.declared.deed.Deed.TheVariants.{Arrive, Finish, GiveUp, Read}
+use Rattle.apf_stream.specs.declared.deed.Deed.TheVariants.{Arrive, Finish, GiveUp, Read, SetLimit}
 use Rattle.apf_stream.specs.declared.ended.Ended.{Ended}
 use Rattle.apf_stream.specs.Deeds.{Arrives, Finishes, FollowsAnswer, FollowsPlace, GivesUp, IsDeed, unserved, served}
 use Rattle.apf_stream.specs.Runs.{AreOf, IsHonoured, IsRun, IsWithin}
@@ -267,11 +267,21 @@ gives_up_honours patience c s s' told f tied same good =
     let r = f.cancels.read in
     by_place patience between s'.slots c.slot r.hold told (ap (λ (v : SlotsView). v.patience) f.carries.then ∙ same) now (waits_then c s s' told f tied) r.noted f.cancels.place r.follows
 
+-- time goes on to when the limit is set
+later_good : (s : State) (at : ℕ) → s.slots.time ≤ at → NothingBy s.slots at → AreTied s → AreGood s.slots → AreGood (record { time = at; patience = s.slots.patience; slots = s.slots.slots })
+later_good s at forward over tied good i g is =
+    good_later s.slots.patience g.line s.slots.time at g.times g.stay (patient s tied i g is) forward (λ e due. let x = over i g e is due in omega arith) (good i g is)
+
 deed_honours : (patience : ℕ) (d : Deed) (s s' : State) (told : List Ended) → IsDeed d s s' told → AreTied s → s.slots.patience ≡ patience → AreGood s.slots → Honours patience s'.slots told
 deed_honours patience (Arrive slot a) s s' told r tied same good = by_answer patience slot a s s' told r tied same good r.answer refl r.follows
 deed_honours patience (Finish c) s s' told f tied same good = finish_honours patience c s s' told f tied same good
 deed_honours patience (GiveUp c) s s' told f tied same good = gives_up_honours patience c s s' told f tied same good
 deed_honours patience (Read slot) s s' told (place, r) tied same good = by_place patience s s'.slots slot r.hold told same good (read_waits_at slot s s' told place r tied) r.noted place r.follows
+deed_honours patience (SetLimit n) s s' told r tied same good = record {
+  same = ap (λ (v : SlotsView). v.patience) r.slots ∙ same;
+  good = subst AreGood (sym r.slots) (later_good s n.at r.forward r.over tied good);
+  honoured = nobody_told patience told r.nobody;
+}
 
 both : (patience : ℕ) (xs ys : List Ended) → AllByRecursion (IsHonoured patience) xs → AllByRecursion (IsHonoured patience) ys → AllByRecursion (IsHonoured patience) (xs ++ ys)
 both patience [] ys a b = b

@@ -16,15 +16,17 @@ use Rattle.apf_calendar.specs.Guests.{SlotsView, IsIn, Starts, then_in}
 use Rattle.apf_stream.specs.declared.asked.Asked.{Asked}
 use Rattle.apf_stream.specs.declared.asked.Hold.{Hold}
 use Rattle.apf_stream.specs.declared.deed.Deed.{Deed}
-use Rattle.apf_stream.specs.declared.deed.Deed.TheVariants.{Arrive, Finish, GiveUp, Read}
+use Rattle.apf_stream.specs.declared.deed.Deed.TheVariants.{Arrive, Finish, GiveUp, Read, SetLimit}
+use Rattle.apf_stream.specs.declared.deed.NewLimit.{NewLimit}
 use Rattle.apf_stream.specs.declared.ended.Ended.{Ended}
-use Rattle.apf_stream.specs.Deeds.{Arrives, Finishes, FollowsAnswer, FollowsPlace, GivesUp, IsDeed, Reads, unserved, served, with_slots}
+use Rattle.apf_stream.specs.Deeds.{Arrives, Finishes, FollowsAnswer, FollowsPlace, GivesUp, IsDeed, Reads, SetsLimit, unserved, served, with_slots}
 use Rattle.apf_stream.specs.Runs.{IsRun, arrivals, came_of, is_guest, is_line, there_of, told_of}
 use Rattle.apf_stream.specs.States.{State}
 use Rattle.apf_stream.specs.Ties.{AreTied, IsReturning, WaitsAt}
 use Rattle.apf_stream.proofs.Arriving.{tied_over, tied_runs, tied_waits}
 use Rattle.apf_stream.proofs.Calling.{call_due}
 use Rattle.apf_stream.proofs.Places.{finish_sets, get_set, none_is, some_is}
+use Rattle.apf_stream.proofs.Tying.{still_at}
 use Rattle.apf_stream.proofs.Readings.{returned_tied, tied_free, tied_runs as read_runs, tied_waits as read_waits, waits_of, waits_still}
 
 -- one slot changes
@@ -216,18 +218,35 @@ read_waits_at slot s s' told place r tied =
     let low = slice_get_within s.level.places slot places.Waits r.waited in
     waits_of s slot tied (let n = tied.count.places in omega arith) r.waited
 
+-- a limit that is set
+pub set_tied : (n : NewLimit) (s s' : State) (told : List Ended) → SetsLimit n s s' told → AreTied s → AreTied s'
+set_tied n s s' told r tied =
+    let places = r.stays.places in
+    let slots = ap (λ (v : SlotsView). v.slots) r.slots in
+    let a = ap (λ (l : List Place). length l) places in
+    let b = ap (λ (l : List (Option Guest)). length l) slots in
+    let c = ap (λ (l : List Hold). length l) r.holds in
+    let were = tied.count.places in
+    let held = tied.count.holds in
+    record {
+      count = record { places = omega arith; holds = omega arith };
+      each = λ i. still_at s s' i (ap (λ (l : List Place). slice_get l i) places) (ap (λ (l : List (Option Guest)). slice_get l i) slots) (ap (λ (l : List Hold). slice_get l i) r.holds) (tied.each i);
+    }
+
 -- one deed
 pub deed_tied : (d : Deed) (s s' : State) (told : List Ended) → IsDeed d s s' told → AreTied s → AreTied s'
 deed_tied (Arrive slot a) s s' told r tied = arrives_tied slot a s s' told r tied r.answer refl (follows_as slot a s s' told r tied r.answer refl)
 deed_tied (Finish c) s s' told f tied = finish_tied c s s' told f tied
 deed_tied (GiveUp c) s s' told f tied = gives_up_tied c s s' told f tied
 deed_tied (Read slot) s s' told (place, r) tied = reads_tied slot s s' told (read_waits_at slot s s' told place r tied) place r place refl tied
+deed_tied (SetLimit n) s s' told r tied = set_tied n s s' told r tied
 
 pub deed_once : (d : Deed) (s s' : State) (told : List Ended) → IsDeed d s s' told → AreTied s → (line : ℕ) → told_of line told + there_of line s'.slots.slots ≡ came_of line (arrivals (d ∷ [])) + there_of line s.slots.slots
 deed_once (Arrive slot a) s s' told r tied line = let o = arrives_once slot a s s' told r tied r.answer (follows_as slot a s s' told r tied r.answer refl) line in omega arith
 deed_once (Finish c) s s' told f tied line = let o = finish_once c s s' told f tied line in omega arith
 deed_once (GiveUp c) s s' told f tied line = let o = gives_up_once c s s' told f tied line in omega arith
 deed_once (Read slot) s s' told (place, r) tied line = let o = reads_once slot s s' told (read_waits_at slot s s' told place r tied) place r place refl line in omega arith
+deed_once (SetLimit n) s s' told r tied line = let t = ap (told_of line) r.nobody in let v = ap (λ (x : SlotsView). there_of line x.slots) r.slots in omega arith
 
 -- all of them
 pub run_tied : (ds : List Deed) (s s' : State) (told : List Ended) → IsRun ds s s' told → AreTied s → AreTied s'
@@ -239,6 +258,7 @@ came_one line (Arrive slot a) ds = omega arith
 came_one line (Finish c) ds = omega arith
 came_one line (GiveUp c) ds = omega arith
 came_one line (Read slot) ds = omega arith
+came_one line (SetLimit n) ds = omega arith
 
 pub run_once : (ds : List Deed) (s s' : State) (told : List Ended) → IsRun ds s s' told → AreTied s → (line : ℕ) → told_of line told + there_of line s'.slots.slots ≡ came_of line (arrivals ds) + there_of line s.slots.slots
 run_once [] s s' told run tied line = let t = ap (told_of line) run.1 in let v = ap (λ (x : State). there_of line x.slots.slots) run.0 in omega arith

@@ -1,6 +1,5 @@
 -- Time goes on from deed to deed, and who is told is over by then.
-use Rattle.std.proofs.Common.{◌≡◌, ℕ, ◌+◌, ◌≤◌, List, [], ◌∷◌, ◌++◌, Option, Some, None, refl, sym, ap, ◌∙◌, subst, arith}
-use Rattle.std.specs.Prelude.{IfSome}
+use Rattle.std.proofs.Common.{◌≡◌, ℕ, ◌≤◌, List, [], ◌∷◌, ◌++◌, Some, sym, ap, ◌∙◌, subst, arith}
 use Rattle.std.specs.List.{AllByRecursion}
 use Rattle.apf_words.specs.declared.decision.Decision.{Decision}
 use Rattle.apf_words.specs.declared.decision.Decision.TheVariants.{Cancelled}
@@ -14,12 +13,11 @@ use Rattle.apf_calendar.specs.declared.calendar.Carried.{Carried}
 use Rattle.apf_calendar.specs.declared.guest.Stay.{Stay}
 use Rattle.apf_calendar.specs.declared.guest.Stay.TheVariants.{Holds}
 use Rattle.apf_calendar.specs.Guests.{SlotsView, Starts, due_in}
-use Rattle.apf_stream.specs.declared.asked.Asked.{Asked}
 use Rattle.apf_stream.specs.declared.asked.Hold.{Hold}
 use Rattle.apf_stream.specs.declared.deed.Deed.{Deed}
-use Rattle.apf_stream.specs.declared.deed.Deed.TheVariants.{Arrive, Finish, GiveUp, Read}
+use Rattle.apf_stream.specs.declared.deed.Deed.TheVariants.{Arrive, Finish, GiveUp, Read, SetLimit}
 use Rattle.apf_stream.specs.declared.ended.Ended.{Ended}
-use Rattle.apf_stream.specs.Deeds.{Arrives, Finishes, FollowsAnswer, FollowsPlace, GivesUp, IsDeed, Reads, unserved, served}
+use Rattle.apf_stream.specs.Deeds.{Finishes, FollowsAnswer, FollowsPlace, GivesUp, IsDeed, unserved}
 use Rattle.apf_stream.specs.Runs.{IsOverBy, IsRun}
 use Rattle.apf_stream.specs.States.{State}
 use Rattle.apf_stream.proofs.Places.{some_is}
@@ -91,6 +89,10 @@ deed_over (Arrive slot a) s s' told r =
 deed_over (Finish c) s s' told f = finish_over c s s' told f
 deed_over (GiveUp c) s s' told f = gives_up_over c s s' told f
 deed_over (Read slot) s s' told (place, r) = by_place place slot r.hold s.slots s'.slots told r.follows
+deed_over (SetLimit n) s s' told r =
+    let e = ap (λ (x : SlotsView). x.time) r.slots in
+    let w = r.forward in
+    record { forward = omega arith; over = none_told s'.slots.time told r.nobody }
 
 later : (a b : ℕ) (told : List Ended) → a ≤ b → AllByRecursion (IsOverBy a) told → AllByRecursion (IsOverBy b) told
 later a b [] low all = tt

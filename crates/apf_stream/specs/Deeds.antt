@@ -17,7 +17,7 @@ use Rattle.apf_local.specs.declared.answer.Place.{Place}
 use Rattle.apf_local.specs.declared.answer.Settlement.{Settlement}
 use Rattle.apf_local.specs.declared.answer.Place.TheVariants as places
 use Rattle.apf_local.specs.Levels.{LocalView, SameLocal, GoesOn, IsArrival, IsFinish, SettlesSlot}
-use Rattle.apf_local.specs.Owners.{Steps}
+use Rattle.apf_local.specs.Owners.{Sets, Steps}
 use Rattle.apf_local.specs.Tries.{IsReading, SlotsStay}
 use Rattle.apf_calendar.specs.declared.calendar.Carried.{Carried}
 use Rattle.apf_calendar.specs.declared.guest.Stay.TheVariants.{Waits, Holds}
@@ -25,7 +25,8 @@ use Rattle.apf_calendar.specs.Guests.{SlotsView, IsFree, NothingBy, CarriesOut, 
 use Rattle.apf_stream.specs.declared.asked.Asked.{Asked}
 use Rattle.apf_stream.specs.declared.asked.Hold.{Hold}
 use Rattle.apf_stream.specs.declared.deed.Deed.{Deed}
-use Rattle.apf_stream.specs.declared.deed.Deed.TheVariants.{Arrive, Finish, GiveUp, Read}
+use Rattle.apf_stream.specs.declared.deed.Deed.TheVariants.{Arrive, Finish, GiveUp, Read, SetLimit}
+use Rattle.apf_stream.specs.declared.deed.NewLimit.{NewLimit}
 use Rattle.apf_stream.specs.declared.ended.Ended.{Ended}
 use Rattle.apf_stream.specs.States.{State, ask_of}
 
@@ -144,9 +145,24 @@ pub record GivesUp (c : Carried) (s s' : State) (told : List Ended) : Type 0 whe
   pub waited : c.guest.stay ≡ Waits
   pub cancels : Cancels c.slot (with_slots s between) s' told
 
+-- the operator set the limit, when nothing else was due up to then, and made no other step. Dispatches and Strikes alone came to each history of the level
+pub record SetsLimit (n : NewLimit) (s s' : State) (told : List Ended) : Type 0 where
+  pub forward : s.slots.time ≤ n.at
+  pub over : NothingBy s.slots n.at
+  pub old : ℕ
+  pub sets : Steps s.level.owner.stations s'.level.owner.stations (Sets n.limit old)
+  pub same : SameLocal s.level s'.level
+  pub stays : SlotsStay s.level s'.level
+  pub history : (v : LifeView) → IsLifeKept v s.level.owner.book → GoesOn v s'.level.owner.book
+  pub slots : s'.slots ≡ record { time = n.at; patience = s.slots.patience; slots = s.slots.slots }
+  pub holds : s'.holds ≡ s.holds
+  pub charges : s'.charges ≡ s.charges
+  pub nobody : told ≡ []
+
 -- one deed leads from a state to the next, and this is told by it
 abbrev pub IsDeed : Deed → State → State → List Ended → Type 0
 IsDeed (Arrive slot a) s s' told = Arrives slot a s s' told
 IsDeed (Finish c) s s' told = Finishes c s s' told
 IsDeed (GiveUp c) s s' told = GivesUp c s s' told
 IsDeed (Read slot) s s' told = (place : Place) × Reads slot place s s' told
+IsDeed (SetLimit n) s s' told = SetsLimit n s s' told

@@ -4,7 +4,8 @@ use Rattle.apf_words.specs.declared.decision.Decision.{Decision}
 use Rattle.apf_words.specs.declared.decision.Decision.TheVariants.{Execute, Cancelled}
 use Rattle.apf_times.specs.declared.course.Times.{Times}
 use Rattle.apf_stream.specs.declared.deed.Deed.{Deed}
-use Rattle.apf_stream.specs.declared.deed.Deed.TheVariants.{Arrive, Finish, GiveUp, Read}
+use Rattle.apf_stream.specs.declared.deed.Deed.TheVariants.{Arrive, Finish, GiveUp, Read, SetLimit}
+use Rattle.apf_stream.specs.declared.deed.NewLimit.{NewLimit}
 use Rattle.apf_stream.specs.declared.ended.Ended.{Ended}
 use Rattle.apf_stream.specs.declared.asked.Asked.{Asked}
 use Rattle.apf_stream.specs.declared.asked.Hold.{Hold}
@@ -30,14 +31,29 @@ arrivals (Arrive slot a ∷ deeds) = a ∷ arrivals deeds
 arrivals (Finish c ∷ deeds) = arrivals deeds
 arrivals (GiveUp c ∷ deeds) = arrivals deeds
 arrivals (Read slot ∷ deeds) = arrivals deeds
+arrivals (SetLimit n ∷ deeds) = arrivals deeds
 
--- by deeds of which just these are arrivals it went from the first state to the second, and just what they tell was put behind what was told before
-pub record HasRun (came : List Asked) (s : State) (before : List Ended) (s' : State) (after : List Ended) : Type 0 where
+-- which limits are set by these deeds
+abbrev pub limits : List Deed → List NewLimit
+limits [] = []
+limits (Arrive slot a ∷ deeds) = limits deeds
+limits (Finish c ∷ deeds) = limits deeds
+limits (GiveUp c ∷ deeds) = limits deeds
+limits (Read slot ∷ deeds) = limits deeds
+limits (SetLimit n ∷ deeds) = n ∷ limits deeds
+
+-- By deeds of which just these are arrivals, and just these set the limit, it went from the first state to the second. Just what they tell was put behind what was told before
+pub record HasRunUnder (under : List NewLimit) (came : List Asked) (s : State) (before : List Ended) (s' : State) (after : List Ended) : Type 0 where
   pub deeds : List Deed
   pub told : List Ended
   pub run : IsRun deeds s s' told
   pub came_are : arrivals deeds ≡ came
+  pub limits_are : limits deeds ≡ under
   pub told_are : after ≡ before ++ told
+
+-- the same, and the limit stayed
+abbrev pub HasRun : List Asked → State → List Ended → State → List Ended → Type 0
+HasRun came s before s' after = HasRunUnder [] came s before s' after
 
 -- one, if it is this line
 abbrev pub is_line : ℕ → ℕ → ℕ

@@ -1,14 +1,17 @@
 //! The calls of the level for what is due, and what follows of them.
 
 ghost use Rattle.std.specs.Prelude.{◌≡◌, ◌<◌, ◌≤◌, ◌∷◌, ℕ, [], true, false, IfOk, OnOk, if◌then◌else◌};
+ghost use Rattle.apf_words.specs.Limits.{max_limit};
+ghost use Rattle.apf_times.specs.Limits.{max_wait};
 ghost use Rattle.apf_calendar.specs.Guests.{IsFree, NothingBy};
 ghost use Rattle.apf_stream.specs.States.{IsAsked, state_of};
-ghost use Rattle.apf_stream.specs.Deeds.{queue_in as the_queue_in};
+ghost use Rattle.apf_stream.specs.Deeds.{SetsLimit, queue_in as the_queue_in};
 ghost use Rattle.apf_stream.specs.Measures.{left};
-ghost use Rattle.apf_stream.specs.Runs.{ArrivesAs, CallsAs, CancelsAs, HasRun, ReturnsAs};
+ghost use Rattle.apf_stream.specs.Runs.{ArrivesAs, CallsAs, CancelsAs, HasRun, HasRunUnder, ReturnsAs};
 ghost use Rattle.apf_stream.specs.Ties.{AreTied, IsCallDue, IsReturning, WaitsAt};
 
 use crate::asked::{Asked, Hold};
+use crate::deed::NewLimit;
 use crate::ended::{Ended, tell};
 use crate::fault::StreamFault;
 use crate::stream::Stream;
@@ -226,6 +229,7 @@ impl Stream {
         ensures run { IfOk result (λ came. HasRun (if came then asked ∷ [] else []) (state_of self.old) ends.old.items (state_of self.new) ends.new.items) }
         ensures forward { OnOk result (self.new.calendar.time ≤ asked.times.arrives_at) }
         ensures full { IfOk result (λ came. came ≡ false → (i : ℕ) → IsFree self.new.calendar i → ⊥) }
+        ensures over { IfOk result (λ came. came ≡ false → NothingBy self.new.calendar asked.times.arrives_at) }
     {
         self.advance(asked.times.arrives_at, ends)?;
         let Some(slot) = self.calendar.free_slot() else {
@@ -234,5 +238,44 @@ impl Stream {
         self.take(slot, asked, ends)?;
         self.follow(ends)?;
         Ok(true)
+    }
+
+    // The limit is set, now that nothing else is due up to then.
+    fn set_now(&mut self, new: NewLimit)
+        requires tied { AreTied (state_of self.old) }
+        requires low { new.at ≤ max_wait }
+        requires some_limit { 1 ≤ new.limit }
+        requires small_limit { new.limit ≤ max_limit }
+        requires forward { self.old.calendar.time ≤ new.at }
+        requires over { NothingBy self.old.calendar new.at }
+        ensures sets { SetsLimit new (state_of self.old) (state_of self.new) [] }
+        ensures tied { AreTied (state_of self.new) }
+        ensures time { self.new.calendar.time ≡ new.at }
+    {
+        self.calendar.go_on(new.at);
+        self.level.set_limit(new.limit);
+    }
+
+    /// The limit is set, no earlier than anything that was carried out. Before that all is carried out that is due up to then.
+    /// Behind it who waits and fits now is dispatched, and has its seats from then on. Whoever is over is put behind those that
+    /// were told before.
+    ///
+    /// # Errors
+    ///
+    /// Those of `advance`. Then nothing is known of the stream but that it can be let go.
+    pub fn set_limit(&mut self, new: NewLimit, ends: &mut Vec<Ended>) -> Result<(), StreamFault>
+        requires tied { AreTied (state_of self.old) }
+        requires low { new.at ≤ max_wait }
+        requires some_limit { 1 ≤ new.limit }
+        requires small_limit { new.limit ≤ max_limit }
+        requires forward { self.old.calendar.time ≤ new.at }
+        ensures tied { OnOk result (AreTied (state_of self.new)) }
+        ensures run { OnOk result (HasRunUnder (new ∷ []) [] (state_of self.old) ends.old.items (state_of self.new) ends.new.items) }
+        ensures time { OnOk result (self.new.calendar.time ≡ new.at) }
+    {
+        self.advance(new.at, ends)?;
+        self.set_now(new);
+        self.follow(ends)?;
+        Ok(())
     }
 }

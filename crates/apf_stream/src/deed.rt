@@ -14,4 +14,15 @@ pub enum Deed {
     GiveUp(Carried),
     /// The request of this slot, which waited, reads its decision.
     Read(u32),
+    /// The limit is set.
+    SetLimit(NewLimit),
+}
+
+/// A limit that is set.
+#[derive(Clone, Copy, Debug, PartialEq, Eq)]
+pub struct NewLimit {
+    /// When, in microseconds.
+    pub at: u64,
+    /// In seats, 1 to 10,000.
+    pub limit: u32,
 }

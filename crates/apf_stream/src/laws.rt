@@ -4,9 +4,10 @@ ghost use Rattle.std.specs.Prelude.{◌≡◌, ◌+◌, ◌++◌, ◌≤◌, ℕ
 ghost use Rattle.std.specs.List.{AllByRecursion};
 ghost use Rattle.apf_stream.specs.declared.asked.Asked.{Asked};
 ghost use Rattle.apf_stream.specs.declared.deed.Deed.{Deed};
+ghost use Rattle.apf_stream.specs.declared.deed.NewLimit.{NewLimit};
 ghost use Rattle.apf_stream.specs.declared.ended.Ended.{Ended};
 ghost use Rattle.apf_stream.specs.States.{State};
-ghost use Rattle.apf_stream.specs.Runs.{AreOf, HasRun, IsHonoured, IsOverBy, IsRun, arrivals, came_of, there_of, told_of};
+ghost use Rattle.apf_stream.specs.Runs.{AreOf, HasRunUnder, IsHonoured, IsOverBy, IsRun, arrivals, came_of, there_of, told_of};
 ghost use Rattle.apf_stream.specs.Ties.{AreTied};
 
 /// Each request that came, or was there, is told once or is there still, and nobody else: of each line, as many were told and
@@ -46,10 +47,10 @@ pub fn every_request_is_honoured()
         → AllByRecursion (IsHonoured s.slots.patience) told }
 {}
 
-/// A run goes on: who came in both came, and what was told in both is told.
+/// A run goes on: who came in both came, the limits of both were set, and what was told in both is told.
 ///
 /// It runs no code: the contract is the law.
 pub fn every_run_goes_on()
-    ensures { (came more : List Asked) (a b c : State) (first second third : List Ended)
-        → HasRun came a first b second → HasRun more b second c third → HasRun (came ++ more) a first c third }
+    ensures { (under further : List NewLimit) (came more : List Asked) (a b c : State) (first second third : List Ended)
+        → HasRunUnder under came a first b second → HasRunUnder further more b second c third → HasRunUnder (under ++ further) (came ++ more) a first c third }
 {}

@@ -19,7 +19,7 @@ mod reading;
 mod stream;
 
 pub use asked::{Asked, Hold};
-pub use deed::Deed;
+pub use deed::{Deed, NewLimit};
 pub use ended::Ended;
 pub use fault::StreamFault;
 pub use laws::{

@@ -1,8 +1,11 @@
 //! A level, a calendar of its slots, and what is noted of who is there.
 
-ghost use Rattle.std.specs.Prelude.{◌≡◌, ◌≤◌, ◌++◌, [], replicate, length, IfSome, IfOk, IfErr, OnOk};
+ghost use Rattle.std.specs.Prelude.{◌≡◌, ◌<◌, ◌≤◌, ◌-◌, ◌^◌, ◌++◌, [], replicate, length, count_by, IfSome, IfOk, IfErr, OnOk};
 ghost use Rattle.apf_words.specs.Limits.{max_requests};
 ghost use Rattle.apf_times.specs.Limits.{max_patience, max_wait};
+ghost use Rattle.apf_book.specs.Life.{LifeView};
+ghost use Rattle.apf_book.specs.LifeBook.{IsLifeKept};
+ghost use Rattle.apf_model.specs.Outcome.{is_enter, is_dispatch, is_strike};
 ghost use Rattle.apf_charges.specs.Charging.{opening_charges};
 ghost use Rattle.apf_calendar.specs.Guests.{NothingBy};
 ghost use Rattle.apf_local.specs.Openings.{IsOpened, CanOpen, IsOpenFault};
@@ -128,6 +131,18 @@ impl Stream {
         ensures low { result ≤ max_wait }
     {
         self.calendar.time()
+    }
+
+    /// How many requests wait: those that entered a queue, and were neither dispatched nor struck.
+    pub fn waiting(&self) -> u64
+        ensures { (v : LifeView) → IsLifeKept v self.now.level.level.owner.book → length v.history < 2 ^ 64
+            → result ≡ count_by is_enter v.history - count_by is_dispatch v.history - count_by is_strike v.history }
+    {
+        let stats = self.level.stats();
+        stats
+            .entered
+            .saturating_sub(stats.dispatched)
+            .saturating_sub(stats.struck)
     }
 
     /// Ends the level, and tells what its words and its history say of all requests that ever came. Before that each request

@@ -1,10 +1,10 @@
 -- A request that arrived on a level whose log was told.
-use Rattle.std.proofs.Common.{rules, ◌≡◌, ◌≢◌, ◌⊎◌, inl, inr, ◌<◌, ◌+◌, ◌==◌, ◌^◌, ℕ, zero, suc, if◌then◌else◌, List, [], ◌∷◌, ◌++◌, length, set, Option, Some, None, Bool, true, false, refl, sym, ap, ◌∙◌, subst, arith}
-use Rattle.std.specs.Prelude.{slice_get, slice_set}
-use Rattle.std.proofs.lemmas.Bool.{cases_eq, or_left, or_right}
+use Rattle.std.proofs.Common.{rules, ◌≡◌, ◌≢◌, ◌⊎◌, inl, inr, ◌<◌, ◌==◌, ◌^◌, ℕ, zero, suc, if◌then◌else◌, List, [], ◌∷◌, ◌++◌, length, set, Option, Some, None, Bool, true, false, refl, sym, ap, ◌∙◌, subst}
+use Rattle.std.specs.Prelude.{slice_get}
+use Rattle.std.proofs.lemmas.Bool.{or_left, or_right}
 use Rattle.std.proofs.lemmas.List.{append_assoc, get_or-set_same, get_or-set_other, length-set}
 use Rattle.apf_history.specs.declared.events.Event.{Event}
-use Rattle.apf_history.specs.declared.events.Event.TheVariants.{Enter, Full, Dispatch, Strike}
+use Rattle.apf_history.specs.declared.events.Event.TheVariants.{Enter, Full}
 use Rattle.apf_history.specs.declared.events.LogEntry.{LogEntry}
 use Rattle.apf_history.specs.declared.events.LogEntry.TheVariants.{Happens, Spends, Settles}
 use Rattle.apf_history.specs.Numbered.{put, width}
@@ -13,7 +13,7 @@ use Rattle.apf_gate.specs.Slots.{slot_of}
 use Rattle.apf_book.specs.declared.life_event.LifeEvent.{LifeEvent}
 use Rattle.apf_book.specs.declared.life_event.LifeEvent.TheVariants as life
 use Rattle.apf_book.specs.Life.{LifeView, asked, then_came}
-use Rattle.apf_book.specs.LifeBook.{LifeBookView, IsLifeKept, then_came_all}
+use Rattle.apf_book.specs.LifeBook.{IsLifeKept, then_came_all}
 use Rattle.apf_book.specs.RecentEvents.{event_of}
 use Rattle.apf_bound.specs.Kept.{BoundView, IsKeptOf, queues_of}
 use Rattle.apf_local.specs.declared.answer.Answer.{Answer}

@@ -1,5 +1,5 @@
 -- A request that finished on a level whose log was told, and a level to which nothing happened.
-use Rattle.std.proofs.Common.{◌≡◌, ◌<◌, ◌^◌, ℕ, zero, suc, List, [], ◌∷◌, length, Option, Some, None, true, refl, sym, ap, ◌∙◌, subst}
+use Rattle.std.proofs.Common.{◌≡◌, ℕ, zero, suc, List, [], ◌∷◌, length, Option, Some, None, true, refl, sym, ap, ◌∙◌, subst}
 use Rattle.std.specs.Prelude.{slice_get, replicate, IfSome}
 use Rattle.apf_history.specs.declared.events.Event.{Event}
 use Rattle.apf_history.specs.declared.events.LogEntry.{LogEntry}
@@ -9,7 +9,7 @@ use Rattle.apf_history.specs.Charged.{events, runs, IsAmong, FollowsChoices}
 use Rattle.apf_gate.specs.declared.ticket.Ticket.{Ticket}
 use Rattle.apf_book.specs.Life.{LifeView, then_settled}
 use Rattle.apf_book.specs.LifeBook.{IsLifeKept}
-use Rattle.apf_bound.specs.Kept.{BoundView, IsKeptOf, queues_of}
+use Rattle.apf_bound.specs.Kept.{IsKeptOf}
 use Rattle.apf_local.specs.declared.answer.Settlement.{Settlement}
 use Rattle.apf_local.specs.declared.answer.Answer.{Answer}
 use Rattle.apf_local.specs.declared.answer.Answer.TheVariants as answers
@@ -18,7 +18,7 @@ use Rattle.apf_local.specs.Owners.{IsSlotOf}
 use Rattle.apf_local.specs.Levels.{LocalView, GoesOn, IsFinish, SettlesOn, SettlesSlot}
 use Rattle.apf_watched.specs.declared.note.Note.{Note}
 use Rattle.apf_watched.specs.declared.watch.Watch.{Watch}
-use Rattle.apf_watched.specs.Followed.{ReadsAll, TellsSettlement, IsSettled, IsToldOf, IsFollowedBy, IsFollowed}
+use Rattle.apf_watched.specs.Followed.{ReadsAll, TellsSettlement, IsSettled, IsFollowedBy, IsFollowed}
 use Rattle.apf_watched.proofs.Logs.{arrived_more, followed_on}
 use Rattle.apf_watched.proofs.Arriving.{gone_on}
 

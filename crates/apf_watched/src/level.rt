@@ -1,25 +1,25 @@
 //! A level whose calls are followed by both sides of the bound.
 
 ghost use Rattle.std.specs.Prelude.{◌≡◌, ◌≢◌, ◌≤◌, ◌<◌, ◌^◌, ℕ, None, length, slice_get, Some, IfOk, IfErr, IfSome, OnOk};
-ghost use Rattle.apf_words.specs.Limits.{max_width, max_cost};
+ghost use Rattle.apf_words.specs.Limits.{max_limit, max_width, max_cost};
 ghost use Rattle.apf_flow.specs.Deal.{hand_of};
 ghost use Rattle.apf_gate.specs.Slots.{IsTicket};
 ghost use Rattle.apf_gate.specs.StationCalls.{TriesToCancel};
 ghost use Rattle.apf_book.specs.Life.{LifeView};
 ghost use Rattle.apf_book.specs.LifeBook.{IsLifeKept};
-ghost use Rattle.apf_book.specs.RecentEvents.{CopiesLate};
+ghost use Rattle.apf_book.specs.RecentEvents.{AreLifeStats, CopiesLate};
 ghost use Rattle.apf_words.specs.declared.decision.Decision.{Decision};
 ghost use Rattle.apf_local.specs.declared.answer.Place.TheVariants as places;
 ghost use Rattle.apf_local.specs.Worlds.{IsDecidedIn};
 ghost use Rattle.apf_local.specs.Levels.{SameLocal, GoesOn, EndsFrom, IsArrival, IsFinish, SettlesSlot};
 ghost use Rattle.apf_local.specs.Openings.{IsOpened, CanOpen, IsOpenFault, line_of};
-ghost use Rattle.apf_local.specs.Owners.{IsSlotOf, Steps};
+ghost use Rattle.apf_local.specs.Owners.{IsSlotOf, Sets, Steps};
 ghost use Rattle.apf_local.specs.Seats.{AreSeatedIn, EndsSeated};
 ghost use Rattle.apf_local.specs.Tries.{IsReading, SlotsStay};
 ghost use Rattle.apf_watched.specs.Followed.{AreSidesIn};
 
 use crate::watch::{Watch, following, noting, settling, watch_of};
-use apf_book::{Copied, LifeEvent};
+use apf_book::{Copied, LifeEvent, LifeStats};
 use apf_bound::Sides;
 use apf_gate::{Cancel, Ticket};
 use apf_line::{Report, seat_time};
@@ -131,6 +131,13 @@ impl WatchedLevel {
         self.level.ticket(slot)
     }
 
+    /// As `LocalLevel::stats`.
+    pub fn stats(&self) -> LifeStats
+        ensures { (v : LifeView) → IsLifeKept v self.now.level.owner.book → length v.history < 2 ^ 64 → AreLifeStats result v.history }
+    {
+        self.level.stats()
+    }
+
     /// As `LocalLevel::copy_events`.
     pub fn copy_events(&self, from: u64, into: &mut [LifeEvent]) -> Copied
         ensures { (v : LifeView) → IsLifeKept v self.now.level.owner.book → length v.history < 2 ^ 64 → CopiesLate self.now.level.owner.book.notes.capacity v.history from into.old result into.new }
@@ -198,6 +205,20 @@ impl WatchedLevel {
         let answer = self.level.cancel(request);
         self.watch = following(self.watch.take(), &self.level);
         answer
+    }
+
+    /// As `LocalLevel::set_limit`.
+    pub fn set_limit(&mut self, limit: u32) -> u32
+        requires some_limit { 1 ≤ limit }
+        requires small_limit { limit ≤ max_limit }
+        ensures same { SameLocal self.old.level self.new.level }
+        ensures slots { SlotsStay self.old.level self.new.level }
+        ensures sets { Steps self.old.level.owner.stations self.new.level.owner.stations (Sets limit result) }
+        ensures history { (v : LifeView) → IsLifeKept v self.old.level.owner.book → GoesOn v self.new.level.owner.book }
+    {
+        let old = self.level.set_limit(limit);
+        self.watch = following(self.watch.take(), &self.level);
+        old
     }
 
     /// As `LocalLevel::end`.

@@ -1,4 +1,4 @@
-use Rattle.std.proofs.Common.{◌≡◌, ◌+◌, ◌≤◌, Some, refl, arith}
+use Rattle.std.proofs.Common.{refl, arith}
 use Rattle.apf_times.specs.Dues.{finish, giving_up}
 use Rattle.apf_calendar.proofs.Dues.{due_holds, due_waits}
 use Rattle.apf_calendar.proofs.calendar.due_at.Goals as goal

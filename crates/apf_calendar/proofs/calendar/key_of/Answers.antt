@@ -1,6 +1,6 @@
-use Rattle.std.proofs.Common.{◌≡◌, ◌+◌, ◌≤◌, Some, refl, arith}
-use Rattle.apf_times.specs.Dues.{finish, giving_up}
-use Rattle.apf_calendar.proofs.Dues.{due_holds, due_waits}
+use Rattle.std.proofs.Common.{arith}
+use Rattle.apf_times.specs.Dues.{finish}
+use Rattle.apf_calendar.proofs.Dues.{due_holds}
 use Rattle.apf_calendar.proofs.calendar.key_of.Goals as goal
 
 pub overflow_add-since : goal.overflow_add-since

@@ -1,6 +1,6 @@
 -- One event more was told.
-use Rattle.std.proofs.Common.{rules, ◌≡◌, ℕ, ◌+◌, List, true}
-use Rattle.std.specs.Prelude.{take, get_or}
+use Rattle.std.proofs.Common.{rules, ◌≡◌, ◌+◌, true}
+use Rattle.std.specs.Prelude.{take}
 use Rattle.std.proofs.lemmas.List.{take_more}
 use Rattle.apf_watched.proofs.Told.{told_more}
 use Rattle.apf_watched.proofs.telling.tell_all.Goals as goal

@@ -1,7 +1,6 @@
 -- The request was noted in its slot.
-use Rattle.std.proofs.Common.{List, Option, refl, ap, ◌∙◌}
+use Rattle.std.proofs.Common.{Option, refl, ap, ◌∙◌}
 use Rattle.apf_gate.specs.declared.ticket.Ticket.{Ticket}
-use Rattle.apf_watched.specs.declared.note.Note.{Note}
 use Rattle.apf_watched.specs.Notes.{with_note}
 use Rattle.apf_watched.proofs.watch.noting.Goals as goal
 

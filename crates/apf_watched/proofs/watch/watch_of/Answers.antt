@@ -1,5 +1,5 @@
 -- Nothing came to the log yet.
-use Rattle.std.proofs.Common.{rules, ◌≡◌, ℕ, List, [], Option, Some, length, refl, sym, ◌∙◌, subst}
+use Rattle.std.proofs.Common.{rules, ◌≡◌, ℕ, List, [], Option, Some, length, sym, ◌∙◌, subst}
 use Rattle.std.specs.Prelude.{slice_get}
 use Rattle.apf_history.specs.declared.events.LogEntry.{LogEntry}
 use Rattle.apf_bound.specs.Kept.{IsKeptOf}

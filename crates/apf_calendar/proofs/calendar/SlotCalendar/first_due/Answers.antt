@@ -1,5 +1,4 @@
-use Rattle.std.proofs.Common.{◌≡◌, ◌<◌, ℕ, length, Some, None, refl, sym, subst, ◌∙◌, ap, arith}
-use Rattle.std.specs.Prelude.{slice_get}
+use Rattle.std.proofs.Common.{length, Some, refl, subst, ◌∙◌, ap, arith}
 use Rattle.std.proofs.lemmas.Option.{slice_get_read}
 use Rattle.apf_calendar.specs.Guests.{SlotsView, IsIn, IsNext, NothingBy}
 use Rattle.apf_calendar.proofs.Firsts.{nothing_due, inside, not_free, something, is_first}

@@ -1,4 +1,4 @@
-use Rattle.std.proofs.Common.{◌≡◌, List, Option, sym, subst}
+use Rattle.std.proofs.Common.{List, Option, sym, subst}
 use Rattle.apf_calendar.specs.declared.guest.Guest.{Guest}
 use Rattle.apf_calendar.specs.Kept.{AreKept}
 use Rattle.apf_calendar.proofs.Puts.{opening_kept}

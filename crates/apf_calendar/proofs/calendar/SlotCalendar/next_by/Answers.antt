@@ -1,4 +1,4 @@
-use Rattle.std.proofs.Common.{◌≡◌, ◌≤◌, ◌<◌, length, Option, Some, sym, subst, ◌∙◌, ap, arith}
+use Rattle.std.proofs.Common.{Option, Some, sym, subst, ◌∙◌, ap, arith}
 use Rattle.std.proofs.lemmas.Option.{slice_get_within}
 use Rattle.apf_calendar.specs.declared.guest.Guest.{Guest}
 use Rattle.apf_calendar.specs.Guests.{SlotsView, IsNext, NothingBy, then_of, with_slot}

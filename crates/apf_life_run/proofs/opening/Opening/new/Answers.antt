@@ -1,5 +1,4 @@
-use Rattle.std.proofs.Common.{rules, true, ◌∙◌, length, refl, All, sym, ap, subst}
-use Rattle.apf_gate.specs.Gauges.{max_numbers}
+use Rattle.std.proofs.Common.{rules, ◌∙◌, length, All, sym, ap, subst}
 use Rattle.apf_gate.specs.declared.record.Shape.{Shape}
 use Rattle.apf_session.specs.Openings.{IsNew}
 use Rattle.apf_life_run.specs.Workers.{IsFirstOf}

@@ -1,5 +1,5 @@
 -- What was settled was told, and what came to the log was read.
-use Rattle.std.proofs.Common.{◌≡◌, Option, Some, ◌∙◌, sym, ap}
+use Rattle.std.proofs.Common.{◌≡◌, Some, ◌∙◌, sym, ap}
 use Rattle.apf_flow.specs.Sizes.{Sizes}
 use Rattle.apf_watched.specs.declared.watch.Watch.{Watch}
 use Rattle.apf_watched.specs.Followed.{IsSettled}

@@ -1,5 +1,5 @@
 -- Both sides are those of the log that was told.
-use Rattle.std.proofs.Common.{◌≡◌, ℕ, List, sym, subst}
+use Rattle.std.proofs.Common.{ℕ, List, sym, subst}
 use Rattle.apf_history.specs.declared.events.Event.{Event}
 use Rattle.apf_history.specs.History.{IsLegal}
 use Rattle.apf_history.specs.Charged.{IsSettled, FollowsChoices}

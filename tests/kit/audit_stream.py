@@ -11,9 +11,10 @@ import tempfile
 
 HERE = os.path.dirname(os.path.dirname(os.path.abspath(__file__)))
 sys.path.insert(0, os.path.join(HERE, "lib"))
-from audit import WINDOW, Choice, read_of, text_of
+from audit import WINDOW, Choice, Flow, namespace_of, read_of, text_at, text_of
 from audits import NOON, Logs
 from harness import Tally, build_crate
+from matching import distinguisher_of, schema_of
 
 tally = Tally()
 program = build_crate("apf_audit_trials")
@@ -27,11 +28,11 @@ MANY = int(os.environ.get("APF_EVENTS", "200000"))
 print(f"seed {seed}")
 
 
-def ran(size, by, pieces):
+def ran(size, by, pieces, *more):
     """What the program prints of the log, its status, the most memory that it had up to the log's end, in KiB, and its seconds of a processor. It prints
     while it is given more, so what it prints goes to a file."""
     most = 0
-    with tempfile.TemporaryFile() as out, subprocess.Popen([program, str(size), by], stdin=subprocess.PIPE, stdout=out) as process:
+    with tempfile.TemporaryFile() as out, subprocess.Popen([program, str(size), by, *more], stdin=subprocess.PIPE, stdout=out) as process:
         try:
             for piece in pieces:
                 process.stdin.write(piece)
@@ -110,6 +111,101 @@ for number in range(LOGS):
     met["cut"] = met.get("cut", 0) + (last[-1] == "true")
 for kind in ("good", "unnamed", "cut", "fault 2", "fault 3", "fault 4", "fault 10", "fault 13"):
     tally.check(f"{kind} is met", met.get(kind, 0) > 0, True)
+
+
+# ---- each request has the schema of a cluster that it is of, and a flow within it
+
+
+def asked_of(event, user):
+    """What an event of this user says of its request."""
+    who = event["impersonatedUser"] if "impersonatedUser" in event else event["user"]
+    groups = [it for it in who["groups"] if isinstance(it, str)] if isinstance(who.get("groups"), list) else []
+    asked = {"user": user, "groups": groups, "verb": event["verb"], "path": None}
+    if "objectRef" not in event:
+        asked["path"] = (text_at(event, "requestURI") or "").split("?")[0]
+        return asked
+    parts = [text_at(event, "objectRef", key) or "" for key in ("resource", "subresource", "apiGroup", "namespace")]
+    asked.update(resource="/".join(parts[:2]) if parts[1] else parts[0], group=parts[2], namespace=parts[3])
+    return asked
+
+
+def drawn_schemas():
+    """Schemas in their order, of users, groups, resources and paths of few names; the last one takes what no other does."""
+    schemas = []
+    for number in range(draw.randint(0, 6)):
+        subjects = [draw.choice([("User", draw.choice("abcd*")), ("Group", draw.choice(["g", "h", "*"]))]) for _ in range(draw.randint(1, 2))]
+        verbs = draw.choice([["*"], ["get"], ["list", "create"]])
+        resources = [(verbs, [draw.choice(["", "apps", "*"])], [draw.choice(["pods", "pods/status", "nodes", "*"])], draw.random() < 0.5,
+                      draw.choice([[], ["x"], ["*"]])) for _ in range(draw.randint(0, 2))]
+        paths = [(verbs, [draw.choice(["/healthz", "/api*", "*"])]) for _ in range(draw.randint(0, 2))]
+        schemas.append({"name": f"s{number}", "level": "l", "by": draw.choice(["user", "namespace", "nothing"]), "rules": [(subjects, resources, paths)]})
+    everything = [(["*"], ["*"], ["*"], True, ["*"])], [(["*"], ["*"])]
+    return [*schemas, {"name": "catch-all", "level": "l", "by": "user", "rules": [([("User", "*")], *everything)]}]
+
+
+def object_of(schema, precedence):
+    kinds = {"User": lambda name: {"kind": "User", "user": {"name": name}}, "Group": lambda name: {"kind": "Group", "group": {"name": name}}}
+    rules = [
+        {
+            "subjects": [kinds[kind](name) for kind, name in subjects],
+            "resourceRules": [
+                {"verbs": verbs, "apiGroups": groups, "resources": names, "clusterScope": scope, "namespaces": spaces}
+                for verbs, groups, names, scope, spaces in resources
+            ],
+            "nonResourceRules": [{"verbs": verbs, "nonResourceURLs": urls} for verbs, urls in paths],
+        }
+        for subjects, resources, paths in schema["rules"]
+    ]
+    spec = {"priorityLevelConfiguration": {"name": "l"}, "matchingPrecedence": precedence, "rules": rules}
+    if schema["by"] != "nothing":
+        spec["distinguisherMethod"] = {"type": {"user": "ByUser", "namespace": "ByNamespace"}[schema["by"]]}
+    return {"apiVersion": "flowcontrol.apiserver.k8s.io/v1", "kind": "FlowSchema", "metadata": {"name": schema["name"]}, "spec": spec}
+
+
+def routed_event(received):
+    """An event whose request may be any schema's."""
+    event = drawn_event(received)
+    event["verb"] = draw.choice(["get", "list", "create", "delete"])
+    groups = draw.choice([[], ["g"], ["h", "g"], ["k"], ["g", 7, None], "g", None])
+    for who in ("user", "impersonatedUser"):
+        if isinstance(event.get(who), dict):
+            event[who]["groups"] = groups if draw.random() < 0.8 else []
+    if draw.random() < 0.3:
+        del event["objectRef"]
+        event["requestURI"] = draw.choice(["/healthz", "/healthz?verbose=1", "/api", "/api/v1?x=?", "/apis", "", 7])
+    else:
+        event["objectRef"].update(draw.choice([{}, {"resource": "pods"}, {"resource": "pods", "subresource": "status"}, {"resource": "nodes", "apiGroup": "apps"}]))
+        if draw.random() < 0.2:
+            event["objectRef"]["namespace"] = draw.choice(["", 7, "n" * 5000])
+    return event
+
+
+LEVEL = {"apiVersion": "flowcontrol.apiserver.k8s.io/v1", "kind": "PriorityLevelConfiguration", "metadata": {"name": "l"},
+         "spec": {"type": "Limited", "limited": {"limitResponse": {"type": "Reject"}}}}
+routed = {}
+with tempfile.TemporaryDirectory() as room:
+    name = os.path.join(room, "objects.json")
+    for number in range(LOGS // 2):
+        schemas = drawn_schemas()
+        items = [LEVEL, *(object_of(it, 1 + place) for place, it in enumerate(schemas))]
+        draw.shuffle(items)
+        # the server's own schema `exempt` comes first, and takes requests of a group that nobody is in here
+        with open(name, "w") as file:
+            json.dump({"kind": "List", "items": items}, file)
+
+        def by(event, user):
+            schema = schemas[schema_of(schemas, asked_of(event, user))]
+            if schema["by"] == "namespace" and namespace_of(event) is None:
+                return None
+            flow = Flow(schema["name"], distinguisher_of(schema, asked_of(event, user)))
+            routed[flow.schema] = routed.get(flow.schema, 0) + 1
+            return flow
+
+        lines = [logs.line(routed_event(place)) + b"\n" for place in range(draw.choice([1, 10, 40]))]
+        content = b"".join(lines)
+        status, said, *_ = ran(WINDOW, "schema", [content], name)
+        tally.check(f"schemas {number}: {content[-300:]!r}", (status, said), wanted(content, by, WINDOW))
+tally.check("each schema has requests", all(routed.get(it, 0) > 20 for it in ("s0", "s1", "s2", "s3", "catch-all")), True)
 
 
 def instant(micros):

@@ -1,15 +1,20 @@
 -- What the JSON value of a line of an audit log says.
-use Rattle.std.specs.Prelude.{◌≡◌, ℕ, ◌≤◌, List, [], ◌∷◌, length, Bool, true, false, ◌&&◌, ◌||◌, ◌==◌, not, nat_le, if◌then◌else◌, Option, Some, None, option_and_then, is_none, Result, Ok, Err, codes, bytes_eq, string_bytes}
+use Rattle.std.specs.Prelude.{◌≡◌, ℕ, ◌≤◌, List, [], ◌∷◌, length, map, Bool, true, false, ◌&&◌, ◌||◌, ◌==◌, not, nat_le, if◌then◌else◌, Option, Some, None, option_and_then, is_none, Result, Ok, Err, codes, bytes_eq, string_bytes}
 use Rattle.std.specs.Option.{option_map_or}
 use Rattle.serde_json.specs.Data.{Data}
 use Rattle.serde_json.specs.Find.{get, as_str}
 use Rattle.apf_files.specs.FirstFault.{◌>>=◌, or_fault}
 use Rattle.apf_files.specs.JsonFile.{text_at, whole_of}
 use Rattle.apf_times.specs.Limits.{max_run}
-use Rattle.apf_audit.specs.Choice.{is_chosen}
+use Rattle.apf_objects.specs.Schemas.{schema_view}
+use Rattle.apf_objects.specs.declared.schema.Distinguisher.{Distinguisher}
+use Rattle.apf_objects.specs.declared.schema.Distinguisher.TheVariants.{User as by_user, Namespace as by_namespace, Nothing as by_nothing}
+use Rattle.apf_matching.specs.First.{schema_of as schema_of_request}
+use Rattle.apf_routing.specs.Events.{request_of}
+use Rattle.apf_audit.specs.Choice.{distinguisher_by, is_chosen}
 use Rattle.apf_audit.specs.Times.{instant_of, wait_of, run_of}
 use Rattle.apf_audit.specs.declared.choice.By.{By}
-use Rattle.apf_audit.specs.declared.choice.By.TheVariants.{User, Namespace}
+use Rattle.apf_audit.specs.declared.choice.By.TheVariants.{User, Namespace, Schema}
 use Rattle.apf_audit.specs.declared.choice.Choice.{Choice}
 use Rattle.apf_audit.specs.declared.event.Outcome.{Outcome}
 use Rattle.apf_audit.specs.declared.event.Outcome.TheVariants.{Chosen, Unnamed, LeftOut, Unfinished}
@@ -28,6 +33,8 @@ pub record Event : Type 0 where
   pub received : ℕ
   pub turned_away : Bool
   pub runs_for : ℕ
+  -- the place of its schema, where a schema makes a flow
+  pub schema : Option ℕ
   pub flow : List ℕ
 
 -- what the code takes of an event
@@ -37,6 +44,7 @@ event taken = record {
   received = taken.received;
   turned_away = taken.turned_away;
   runs_for = taken.runs_for;
+  schema = taken.schema;
   flow = string_bytes taken.distinguisher;
 }
 
@@ -96,10 +104,17 @@ namespace_by (Some d) = option_and_then short (as_str d)
 unfoldable pub namespace_of : Data → Option (List ℕ)
 namespace_of d = namespace_by (option_and_then (get (codes "namespace")) (get (codes "objectRef") d))
 
--- the name of the flow of an event of this user
-abbrev pub flow_of : By → List ℕ → Data → Option (List ℕ)
-flow_of User user d = Some user
-flow_of Namespace user d = namespace_of d
+-- the place of the schema that the request of an event of this user is of, where a schema makes a flow
+abbrev pub schema_of : By → List ℕ → Data → Option ℕ
+schema_of User user d = None
+schema_of Namespace user d = None
+schema_of (Schema cluster) user d = schema_of_request (request_of user d) (map schema_view cluster.now.schemas.items)
+
+-- the name of the flow of an event of this user, by what makes a flow
+abbrev pub flow_of : Distinguisher → List ℕ → Data → Option (List ℕ)
+flow_of by_user user d = Some user
+flow_of by_namespace user d = namespace_of d
+flow_of by_nothing user d = Some []
 
 -- the code of a status is that of a request that was turned away
 abbrev pub is_refusal : Option Data → Bool
@@ -135,18 +150,18 @@ unfoldable pub run_at : ℕ → ℕ → Data → Result ℕ AuditFault
 run_at line received d = run_by (was_turned_away d) line received d
 
 -- the same with what else is taken of it
-unfoldable pub ran_at : ℕ → ℕ → List ℕ → Data → Result Event AuditFault
-ran_at line received flow d = do
+unfoldable pub ran_at : ℕ → ℕ → Option ℕ → List ℕ → Data → Result Event AuditFault
+ran_at line received schema flow d = do
   runs_for ← run_at line received d
-  Ok (record { line = line; received = received; turned_away = was_turned_away d; runs_for = runs_for; flow = flow })
+  Ok (record { line = line; received = received; turned_away = was_turned_away d; runs_for = runs_for; schema = schema; flow = flow })
 
 -- what is taken of an event, none where it is not chosen, or its first fault
 unfoldable pub taken_of : Choice → ℕ → Data → Result (Option Event) AuditFault
 taken_of choice line d = do
   user ← or_fault (BadUser line) (user_of d)
-  flow ← or_fault (BadNamespace line) (flow_of choice.by user d)
+  flow ← or_fault (BadNamespace line) (flow_of (distinguisher_by choice.by (schema_of choice.by user d)) user d)
   received ← or_fault (BadReceived line) (instant_at (codes "requestReceivedTimestamp") d)
-  if is_chosen choice user received then ran_at line received flow d >>= (λ e. Ok (Some e)) else Ok None
+  if is_chosen choice user received then ran_at line received (schema_of choice.by user d) flow d >>= (λ e. Ok (Some e)) else Ok None
 
 -- what is taken of the value of a line, by whether it is taken; nothing of one without a user's name
 abbrev pub event_by : Choice → ℕ → Data → Option Bool → Result (Option Event) AuditFault

@@ -3,18 +3,22 @@
 ghost use Rattle.std.specs.Prelude.{◌≡◌};
 ghost use Rattle.apf_audit.specs.Choice as spec;
 
+use apf_objects::{Cluster, Distinguisher};
+
 /// What makes a flow of the trace.
 #[derive(Clone, Copy, Debug, PartialEq, Eq)]
-pub enum By {
+pub enum By<'a> {
     /// The name of the user.
     User,
     /// The namespace of the object.
     Namespace,
+    /// The schema of this cluster that the request is of, and what makes a flow within that.
+    Schema(&'a Cluster),
 }
 
-impl By {
+impl By<'_> {
     /// What makes a flow, by its word: `user` or `namespace`.
-    pub fn named(word: &str) -> Option<By>
+    pub fn named(word: &str) -> Option<By<'static>>
         ensures { result ≡ spec.by_named word.now }
     {
         if word == "user" {
@@ -27,11 +31,37 @@ impl By {
     }
 }
 
+// What makes a flow within the schema at this place of a cluster.
+fn within(cluster: &Cluster, place: Option<usize>) -> Distinguisher
+    ensures { result ≡ spec.within cluster.now.schemas.items place }
+{
+    let Some(place) = place else {
+        return Distinguisher::Nothing;
+    };
+    match cluster.schemas.get(place) {
+        Some(schema) => schema.distinguisher,
+        None => Distinguisher::Nothing,
+    }
+}
+
+impl By<'_> {
+    /// What makes a flow within the schema at this place.
+    pub(crate) fn distinguisher(self, place: Option<usize>) -> Distinguisher
+        ensures { result ≡ spec.distinguisher_by self.entry place }
+    {
+        match self {
+            By::User => Distinguisher::User,
+            By::Namespace => Distinguisher::Namespace,
+            By::Schema(cluster) => within(cluster, place),
+        }
+    }
+}
+
 /// Which requests of a log are chosen, and what makes a flow.
 #[derive(Clone, Copy, Debug, PartialEq, Eq)]
 pub struct Choice<'a> {
     /// What makes a flow.
-    pub by: By,
+    pub by: By<'a>,
     /// The name of the user, or its beginning with `*` behind it; none takes every user.
     pub user: Option<&'a str>,
     /// The requests that were received at this instant or later, in microseconds from 1970 on.

@@ -10,6 +10,8 @@ use crate::choice::{By, Choice};
 use crate::fault::AuditFault;
 use crate::times::{read_instant, run_of, wait_of};
 use apf_files::text_at;
+use apf_objects::Distinguisher;
+use apf_routing::schema_of_event;
 use serde_json::Value;
 use std::alloc::Global;
 
@@ -29,7 +31,10 @@ pub struct Taken {
     pub turned_away: bool,
     /// How long it ran once it had its seats, in microseconds, 0 to 10,000,000,000; 0 if it was turned away.
     pub runs_for: u64,
-    /// The name of its flow: of the user who made the request, or the namespace.
+    /// The place of its schema, where a schema makes a flow.
+    pub schema: Option<usize>,
+    /// The name of its flow: of the user who made the request, or the namespace; or the empty text where nothing makes a flow within
+    /// a schema.
     pub distinguisher: String,
 }
 
@@ -143,15 +148,37 @@ fn namespace_of(value: &Value) -> Option<&str>
     }
 }
 
+// The place of the schema that the request of an event of this user is of, where a schema makes a flow.
+fn schema_of(
+    alloc: Global,
+    by: By<'_>,
+    user: &str,
+    value: &Value,
+) -> Result<Option<usize>, AuditFault>
+    ensures ok { IfOk result (λ place. place ≡ spec.schema_of by.entry user.now (view value.now)) }
+    ensures err { IfErr result (λ fault. fault ≡ AuditFault.NoMemory) }
+{
+    match by {
+        By::User | By::Namespace => Ok(None),
+        By::Schema(cluster) => {
+            match schema_of_event(alloc, cluster.schemas.as_slice(), user, value) {
+                Ok(place) => Ok(place),
+                Err(_) => Err(AuditFault::NoMemory),
+            }
+        }
+    }
+}
+
 // The name of the flow of an event of this user.
-fn flow_of<'a>(by: By, user: &'a str, value: &'a Value) -> Option<&'a str>
+fn flow_of<'a>(by: Distinguisher, user: &'a str, value: &'a Value) -> Option<&'a str>
     requires { length user.now ≤ spec.max_name }
     ensures value { option_map (λ text. text.now) result ≡ spec.flow_of by user.entry.now (view value.now) }
     ensures short { IfSome result (λ name. length name.now ≤ spec.max_name) }
 {
     match by {
-        By::User => Some(user),
-        By::Namespace => namespace_of(value),
+        Distinguisher::User => Some(user),
+        Distinguisher::Namespace => namespace_of(value),
+        Distinguisher::Nothing => Some(""),
     }
 }
 
@@ -206,21 +233,22 @@ fn run_at(value: &Value, line: u64, received: u64) -> Result<u64, AuditFault>
     run_of(received, completed, wait).ok_or(AuditFault::BadRun(line))
 }
 
-// What is taken of an event of this flow that was received at this time.
+// What is taken of an event of this schema and flow that was received at this time.
 #[tactic(auto, unfolding(crate::specs::AuditEvent::ran_at))]
 fn ran_at(
     alloc: Global,
     value: &Value,
     line: u64,
     received: u64,
+    schema: Option<usize>,
     flow: &str,
 ) -> Result<Taken, AuditFault>
     requires { length flow.now ≤ spec.max_name }
-    ensures ok { IfOk result (λ taken. spec.ran_at line received flow.now (view value.now) ≡ Ok (spec.event taken)) }
+    ensures ok { IfOk result (λ taken. spec.ran_at line received schema flow.now (view value.now) ≡ Ok (spec.event taken)) }
     ensures ranges { IfOk result spec.IsTakenInRange }
     ensures line { IfOk result (λ taken. taken.line ≡ line) }
     ensures err { IfErr result (λ fault. fault ≢ AuditFault.NoMemory
-        → spec.ran_at line received flow.now (view value.now) ≡ Err fault) }
+        → spec.ran_at line received schema flow.now (view value.now) ≡ Err fault) }
 {
     let runs_for = run_at(value, line, received)?;
     let Ok(distinguisher) = String::from_str(alloc, flow) else {
@@ -231,6 +259,7 @@ fn ran_at(
         received,
         turned_away: was_turned_away(value),
         runs_for,
+        schema,
         distinguisher,
     })
 }
@@ -252,14 +281,16 @@ fn taken_of(
         → spec.taken_of choice.now line (view value.now) ≡ Err fault) }
 {
     let user = user_of(value).ok_or(AuditFault::BadUser(line))?;
-    let flow = flow_of(choice.by, user, value).ok_or(AuditFault::BadNamespace(line))?;
+    let schema = schema_of(alloc, choice.by, user, value)?;
+    let by = choice.by.distinguisher(schema);
+    let flow = flow_of(by, user, value).ok_or(AuditFault::BadNamespace(line))?;
     let received = instant_at(value, "requestReceivedTimestamp").ok_or(AuditFault::BadReceived(
         line,
     ))?;
     if !choice.has(user, received) {
         return Ok(Outcome::LeftOut);
     }
-    Ok(Outcome::Chosen(ran_at(alloc, value, line, received, flow)?))
+    Ok(Outcome::Chosen(ran_at(alloc, value, line, received, schema, flow)?))
 }
 
 /// What the value of line `line` gives.

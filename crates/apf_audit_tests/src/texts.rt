@@ -12,6 +12,7 @@ fn a_writer_that_fails(rt: HostRuntime) -> Result<(), Fail> {
         received: 1_795_608_000_000_000,
         turned_away: false,
         runs_for: 7,
+        schema: None,
         distinguisher: String::from_str(rt.alloc(), "\t/\u{7f}")?,
     };
     let mut room = [0u8; 200];

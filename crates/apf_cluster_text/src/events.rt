@@ -12,8 +12,8 @@ use crate::log_lines::{Found, LogLines};
 use apf_audit::is_begun;
 use apf_files::{text_at, value_of};
 use apf_flows::{write_escaped, write_text};
-use apf_matching::{Request, Target, distinguisher_of, schema_for};
-use apf_objects::Cluster;
+use apf_objects::{Cluster, Distinguisher, Schema};
+use apf_routing::{place_in, text_or_empty};
 use serde_json::Value;
 use std::alloc::Global;
 use std::io;
@@ -38,133 +38,65 @@ pub enum LogFault {
     CannotWrite,
 }
 
-// The text at a key, and the empty text where there is none.
-fn text_or_empty<'a>(value: &'a Value, key: &str) -> &'a str {
-    text_at(value, key).unwrap_or("")
-}
-
-// The texts among the members of the array at a key.
-fn texts_at<'a>(alloc: Global, value: &'a Value, key: &str) -> Result<Vec<&'a str>, LogFault>
-    ensures { IfErr result IsOfMachine }
-{
-    let mut texts = Vec::new(alloc);
-    let Some(array) = value.get(key) else {
-        return Ok(texts);
-    };
-    let Some(items) = array.as_array() else {
-        return Ok(texts);
-    };
-    for item in items.as_slice() {
-        if let Some(text) = item.as_str()
-            && texts.push(text).is_err()
-        {
-            return Err(LogFault::NoMemory);
-        }
-    }
-    Ok(texts)
-}
-
-// The path of a request: what is in front of `?`.
-fn path_of(uri: &str) -> &str {
-    match uri.split_once("?") {
-        Some((path, _)) => path,
-        None => uri,
+// What tells the flow of the request of an event from others of its schema.
+fn distinguisher_in<'a>(by: Distinguisher, user: &'a str, event: &'a Value) -> &'a str {
+    match (by, event.get("objectRef")) {
+        (Distinguisher::User, _) => user,
+        (Distinguisher::Namespace, Some(object)) => text_or_empty(object, "namespace"),
+        (Distinguisher::Namespace, None) => "",
+        (Distinguisher::Nothing, _) => "",
     }
 }
 
-// The resource, with its subresource behind it.
-fn resource_of(alloc: Global, object: &Value) -> Result<String, LogFault>
-    ensures { IfErr result IsOfMachine }
-{
-    let resource = text_or_empty(object, "resource");
-    let subresource = text_or_empty(object, "subresource");
-    let named = if subresource == "" {
-        String::from_str(alloc, resource)
-    } else {
-        format!(in alloc; "{resource}/{subresource}")
-    };
-    match named {
-        Ok(resource) => Ok(resource),
-        Err(_) => Err(LogFault::NoMemory),
-    }
-}
-
-// Writes the line of a request.
+// Writes the line of a request of this schema.
 fn write_request<W: Write>(
     out: &mut W,
-    cluster: &Cluster,
-    request: &Request<'_>,
+    schema: &Schema,
+    distinguisher: &str,
     line: u64,
-) -> io::Result<()>
-    requires { HasCatchAll cluster.now }
-{
-    let schema = &cluster.schemas[schema_for(request, cluster)];
+) -> io::Result<()> {
     write!(out, "{line} ")?;
     write_escaped(out, schema.name.as_str())?;
     out.write_all(b" ")?;
     write_escaped(out, schema.level.as_str())?;
     out.write_all(b" ")?;
-    write_text(out, distinguisher_of(request, schema))?;
+    write_text(out, distinguisher)?;
     out.write_all(b"\n")
 }
 
-// Writes the line of the request of an event of this user, whose value is the other one.
+// Writes the line of the request of an event of this user.
 fn write_of_user<W: Write>(
     alloc: Global,
     out: &mut W,
     cluster: &Cluster,
     event: &Value,
     user: &str,
-    of_user: &Value,
     line: u64,
 ) -> Result<(), LogFault>
     requires { HasCatchAll cluster.now }
     ensures { IfErr result IsOfMachine }
 {
-    let groups = texts_at(alloc, of_user, "groups")?;
-    let verb = text_or_empty(event, "verb");
-    let written = match event.get("objectRef") {
-        Some(object) => {
-            let resource = resource_of(alloc, object)?;
-            let target = Target::Resource {
-                api_group: text_or_empty(object, "apiGroup"),
-                resource: resource.as_str(),
-                namespace: text_or_empty(object, "namespace"),
-            };
-            let request = Request {
-                user,
-                groups: groups.as_slice(),
-                verb,
-                target,
-            };
-            write_request(out, cluster, &request, line)
-        }
-        None => {
-            let request = Request {
-                user,
-                groups: groups.as_slice(),
-                verb,
-                target: Target::Path(path_of(text_or_empty(event, "requestURI"))),
-            };
-            write_request(out, cluster, &request, line)
-        }
+    let Ok(place) = place_in(alloc, cluster, user, event) else {
+        return Err(LogFault::NoMemory);
     };
-    match written {
+    let schema = &cluster.schemas[place];
+    let distinguisher = distinguisher_in(schema.distinguisher, user, event);
+    match write_request(out, schema, distinguisher, line) {
         Ok(()) => Ok(()),
         Err(_) => Err(LogFault::CannotWrite),
     }
 }
 
-// The name of the user of an event, with the value that has it: of the one who is impersonated, if there is such a one.
+// The name of the user of an event: of the one who is impersonated, if there is such a one.
 #[tactic(auto, unfolding(apf_audit::specs::AuditEvent::text_within))]
-fn user_of(event: &Value) -> Option<(&str, &Value)>
-    ensures { option_map (λ user. user.0.now) result ≡ name_by (view event.now) (get (codes "impersonatedUser") (view event.now)) }
+fn user_of(event: &Value) -> Option<&str>
+    ensures { option_map (λ user. user.now) result ≡ name_by (view event.now) (get (codes "impersonatedUser") (view event.now)) }
 {
     let of_user = match event.get("impersonatedUser") {
         Some(user) => user,
         None => event.get("user")?,
     };
-    Some((text_at(of_user, "username")?, of_user))
+    text_at(of_user, "username")
 }
 
 // Writes the line of an event, if it is of a request that is complete.
@@ -189,10 +121,10 @@ fn write_event<W: Write>(
     if stage != "ResponseComplete" {
         return Ok(());
     }
-    let Some((user, of_user)) = user_of(event) else {
+    let Some(user) = user_of(event) else {
         return Err(LogFault::BadUser(line));
     };
-    write_of_user(alloc, out, cluster, event, user, of_user, line)
+    write_of_user(alloc, out, cluster, event, user, line)
 }
 
 // Writes the line of the event of this line of a log, if it has one. The line is not too long.

@@ -6,13 +6,13 @@ use Rattle.serde_json.specs.Find.{get, as_str}
 use Rattle.apf_files.specs.FirstFault.{◌>>=◌, or_fault}
 use Rattle.apf_files.specs.JsonFile.{text_at, value_of}
 use Rattle.apf_traces.specs.TraceFile.{Line}
-use Rattle.apf_audit.specs.AuditEvent.{event_by, event_of, flow_of, instant_at, is_taken, is_unnamed, name_by, name_found, namespace_by, namespace_of, ran_at, run_at, run_by, short, taken_by, taken_of, text_within, user_of, wait_at, wait_by, was_turned_away, max_name}
+use Rattle.apf_audit.specs.AuditEvent.{event_by, event_of, flow_of, instant_at, is_taken, is_unnamed, name_by, name_found, namespace_by, namespace_of, ran_at, run_at, run_by, schema_of, short, taken_by, taken_of, text_within, user_of, wait_at, wait_by, was_turned_away, max_name}
 use Rattle.apf_audit.specs.AuditFaults.{line_of}
 use Rattle.apf_audit.specs.AuditLog.{is_unfinished, judged_by, judged_line, max_line}
-use Rattle.apf_audit.specs.Choice.{is_chosen}
+use Rattle.apf_audit.specs.Choice.{distinguisher_by, is_chosen}
 use Rattle.apf_audit.specs.Times.{instant_of, run_of}
-use Rattle.apf_audit.specs.declared.choice.By.{By}
-use Rattle.apf_audit.specs.declared.choice.By.TheVariants.{User, Namespace}
+use Rattle.apf_objects.specs.declared.schema.Distinguisher.{Distinguisher}
+use Rattle.apf_objects.specs.declared.schema.Distinguisher.TheVariants.{User, Namespace, Nothing}
 use Rattle.apf_audit.specs.declared.choice.Choice.{Choice}
 use Rattle.apf_audit.specs.declared.fault.AuditFault.{AuditFault}
 use Rattle.apf_audit.specs.declared.fault.AuditFault.TheVariants.{TooLong, NotUtf8Json, NotEvent, BadUser, BadNamespace, BadReceived, BadStage, BadWait, BadRun, BadArrival, NoMemory, TooLate}
@@ -74,10 +74,11 @@ namespace_shown : (o : Option Data) → namespace_by o ≡ None → IsUnwantedTh
 namespace_shown None h = absurd cc
 namespace_shown (Some v) h = rw h refl
 
-flow_shown : (by : By) (user : List ℕ) (d : Data) → flow_of by user d ≡ None
+flow_shown : (by : Distinguisher) (user : List ℕ) (d : Data) → flow_of by user d ≡ None
     → IsUnwantedThere (Name max_name) (option_and_then (get (codes "namespace")) (get (codes "objectRef") d))
 unfolding namespace_of
 flow_shown User user d h = absurd cc
+flow_shown Nothing user d h = absurd cc
 flow_shown Namespace user d h = namespace_shown (option_and_then (get (codes "namespace")) (get (codes "objectRef") d)) h
 
 wait_shown : (o : Option Data) → wait_by o ≡ None → IsUnwantedThere Wait o
@@ -112,29 +113,31 @@ run_by_shown false n received d fault from h =
       },
     ))))
 
-ran_shown : (n received : ℕ) (flow : List ℕ) (d : Data) (fault : AuditFault) → instant_at (codes "requestReceivedTimestamp") d ≡ Some received
-    → ran_at n received flow d ≡ Err fault → IsEventAt n d fault
+ran_shown : (n received : ℕ) (schema : Option ℕ) (flow : List ℕ) (d : Data) (fault : AuditFault) → instant_at (codes "requestReceivedTimestamp") d ≡ Some received
+    → ran_at n received schema flow d ≡ Err fault → IsEventAt n d fault
 unfolding ran_at run_at
-ran_shown n received flow d fault from h =
+ran_shown n received schema flow d fault from h =
     stepped (run_by (was_turned_away d) n received d) _ fault h (λ e. run_by_shown (was_turned_away d) n received d fault from e) (λ _ h1. absurd cc)
 
-chosen_shown : (b : Bool) (n received : ℕ) (flow : List ℕ) (d : Data) (fault : AuditFault) → instant_at (codes "requestReceivedTimestamp") d ≡ Some received
-    → cond b (ran_at n received flow d >>= (λ e. Ok (Some e))) (Ok None) ≡ Err fault → IsEventAt n d fault
-chosen_shown true n received flow d fault from h =
-    stepped (ran_at n received flow d) _ fault h (λ e. ran_shown n received flow d fault from e) (λ _ h1. absurd cc)
-chosen_shown false n received flow d fault from h = absurd cc
+chosen_shown : (b : Bool) (n received : ℕ) (schema : Option ℕ) (flow : List ℕ) (d : Data) (fault : AuditFault) → instant_at (codes "requestReceivedTimestamp") d ≡ Some received
+    → cond b (ran_at n received schema flow d >>= (λ e. Ok (Some e))) (Ok None) ≡ Err fault → IsEventAt n d fault
+chosen_shown true n received schema flow d fault from h =
+    stepped (ran_at n received schema flow d) _ fault h (λ e. ran_shown n received schema flow d fault from e) (λ _ h1. absurd cc)
+chosen_shown false n received schema flow d fault from h = absurd cc
 
 taken_shown : (choice : Choice) (n : ℕ) (d : Data) (fault : AuditFault) → is_unnamed d ≡ false → taken_of choice n d ≡ Err fault → IsEventAt n d fault
 unfolding taken_of
 taken_shown choice n d fault there h =
     stepped (or_fault (BadUser n) (user_of d)) _ fault h
     (λ e. at_step n d (user_of d) (BadUser n) fault e (λ no. (refl, user_shown d there no))) (λ user h1.
-    stepped (or_fault (BadNamespace n) (flow_of choice.by user d)) _ fault h1
-    (λ e. at_step n d (flow_of choice.by user d) (BadNamespace n) fault e (λ no. (refl, flow_shown choice.by user d no))) (λ flow h2.
+    let schema = schema_of choice.by user d in
+    let by = distinguisher_by choice.by schema in
+    stepped (or_fault (BadNamespace n) (flow_of by user d)) _ fault h1
+    (λ e. at_step n d (flow_of by user d) (BadNamespace n) fault e (λ no. (refl, flow_shown by user d no))) (λ flow h2.
     stepped_by (or_fault (BadReceived n) (instant_at (codes "requestReceivedTimestamp") d)) _ fault h2
     (λ e. at_step n d (instant_at (codes "requestReceivedTimestamp") d) (BadReceived n) fault e
     (λ no. (refl, instant_by (codes "requestReceivedTimestamp") d (get (codes "requestReceivedTimestamp") d) refl no))) (λ received from h3.
-    chosen_shown (is_chosen choice user received) n received flow d fault (ok_there (BadReceived n) (instant_at (codes "requestReceivedTimestamp") d) received from) h3)))
+    chosen_shown (is_chosen choice user received) n received schema flow d fault (ok_there (BadReceived n) (instant_at (codes "requestReceivedTimestamp") d) received from) h3)))
 
 event_shown : (choice : Choice) (n : ℕ) (d : Data) (fault : AuditFault) → event_of choice n d ≡ Err fault → IsEventAt n d fault
 unfolding event_of is_taken

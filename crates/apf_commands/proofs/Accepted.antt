@@ -10,7 +10,7 @@ use Rattle.clap.specs.Faults.{entered_fault, fault_of, is_simple_and_free, level
 use Rattle.clap.proofs.OnLiterals.{clap_on_literals}
 use Rattle.apf_commands.specs.Commands.{Named, apf_app, command_shape, commands, kind_named, rules_of, shape_for}
 use Rattle.apf_commands.specs.declared.entries.Kind.{Kind}
-use Rattle.apf_commands.specs.declared.entries.Kind.TheVariants.{Flow, Deck, Script, Workers, Level, Simulation, Bounded, Comparison, Trace, Picture, Flows, AuditLog, Objects, Match}
+use Rattle.apf_commands.specs.declared.entries.Kind.TheVariants.{Flow, Deck, Script, Workers, Level, Simulation, Bounded, Comparison, Trace, Picture, Flows, AuditLog, Objects, Match, Cluster}
 use Rattle.apf_commands.specs.Arguments.{HasArguments, IsCommand}
 use Rattle.apf_commands.proofs.Taken.{Each, MayStop, OwnIds, found, is_plain_rule, walk_holds}
 use Rattle.apf_commands.proofs.Named.{each_own}
@@ -193,6 +193,37 @@ match_given name words e =
     let objects = given.0 refl refl in
     record { objects = (objects.text, objects.first) }
 
+cluster_given : (name : Text) (words : List Text) → IsFaultFree (of_kind name Cluster) words → HasArguments Cluster (rows_after (of_kind name Cluster).rules [] words)
+unfolding apf_app
+cluster_given name words e =
+    let plain : IsPlainShape (of_kind name Cluster) = record { rules = refl; own_ids = (refl, (refl, (refl, (refl, (refl, (refl, (refl, tt))))))); negates = refl } in
+    let given = all_given (of_kind name Cluster) plain words e in
+    let met = all_met (of_kind name Cluster) plain words e in
+    let filled = all_filled (of_kind name Cluster) plain words e in
+    let objects = given.0 refl refl in
+    let log = given.1.0 refl refl in
+    let patience = given.1.1.0 refl refl in
+    let json = filled.1.1.1.1.1.0 refl refl in
+    let reads = bool_reads json.text json.accepted in
+    record {
+      objects = (objects.text, objects.first);
+      log = (log.text, log.first);
+      patience = (patience.text, patience.first);
+      seats = elim met.1.1.1.0 [
+        | inl none ↦ (600, (inr (none, refl), omega arith, omega arith))
+        | inr seats ↦
+            let counts = signed_reads 32 1 1000000 seats.text (lit< tt) seats.accepted in
+            (counts.0, (inl (_, seats.one, counts.1), counts.2, counts.3))
+      ];
+      flows = elim met.1.1.1.1.0 [
+        | inl none ↦ (12, (inr (none, refl), omega arith))
+        | inr flows ↦
+            let counts = signed_reads 32 0 1000000 flows.text (lit< tt) flows.accepted in
+            (counts.0, (inl (_, flows.one, counts.1), counts.3))
+      ];
+      json = (reads.0, json.one ∙ ap (λ t. Some t) reads.1);
+    }
+
 picture_given : (name : Text) (words : List Text) → IsFaultFree (of_kind name Picture) words → HasArguments Picture (rows_after (of_kind name Picture).rules [] words)
 unfolding apf_app
 picture_given name words e =
@@ -218,6 +249,7 @@ arguments_given Flows name words e = flows_given name words e
 arguments_given AuditLog name words e = audit_log_given name words e
 arguments_given Objects name words e = objects_given name words e
 arguments_given Match name words e = match_given name words e
+arguments_given Cluster name words e = cluster_given name words e
 
 -- a walk that stops at a name of this command leaves it words with no fault only where they are those of one of these
 abbrev IsEntered : Shape → Type 0

@@ -9,7 +9,7 @@ use Rattle.apf_commands.specs.Commands.{Named, has_kind_in, is_same, kind_in, sh
 use Rattle.clap.proofs.WalkLemmas.{both}
 use Rattle.apf_commands.proofs.Taken.{Each, each_passes}
 use Rattle.apf_commands.specs.declared.entries.Kind.{Kind}
-use Rattle.apf_commands.specs.declared.entries.Kind.TheVariants.{Flow, Deck, Script, Workers, Level, Simulation, Bounded, Comparison, Trace, Picture, Flows, AuditLog, Objects, Match}
+use Rattle.apf_commands.specs.declared.entries.Kind.TheVariants.{Flow, Deck, Script, Workers, Level, Simulation, Bounded, Comparison, Trace, Picture, Flows, AuditLog, Objects, Match, Cluster}
 
 -- one more command
 pub with_commands_last : (cs : List Named) (c : Named) (app : App) → with_commands (cs ++ c ∷ []) app ≡ with_subcommand (with_commands cs app) (shape_for c)
@@ -51,6 +51,7 @@ is_same_self Flows = refl
 is_same_self AuditLog = refl
 is_same_self Objects = refl
 is_same_self Match = refl
+is_same_self Cluster = refl
 
 -- a command that is found has its kind
 pub kind_had : (name : Text) (kind : Kind) (commands : List Named) → kind_in commands name ≡ Some kind → has_kind_in commands kind name ≡ true

@@ -1,10 +1,10 @@
 -- The arguments that a command has once `clap` has accepted its words, which the readers require.
 use Rattle.std.specs.Prelude.{◌≡◌, ℕ, Bool, List, Some, codes}
 use Rattle.clap.specs.Words.{Row, Text}
-use Rattle.apf_commands.specs.Meaning.{IsFlag, IsNumber, IsRoundCount, IsSeatCount, IsSlotCount, IsText, IsWorkerCount}
+use Rattle.apf_commands.specs.Meaning.{IsFlag, IsFlowCount, IsNumber, IsRoundCount, IsSeatCount, IsSlotCount, IsText, IsWorkerCount}
 use Rattle.apf_commands.specs.Commands.{kind_named}
 use Rattle.apf_commands.specs.declared.entries.Kind.{Kind}
-use Rattle.apf_commands.specs.declared.entries.Kind.TheVariants.{Flow, Deck, Script, Workers, Level, Simulation, Bounded, Comparison, Trace, Picture, Flows, AuditLog, Objects, Match}
+use Rattle.apf_commands.specs.declared.entries.Kind.TheVariants.{Flow, Deck, Script, Workers, Level, Simulation, Bounded, Comparison, Trace, Picture, Flows, AuditLog, Objects, Match, Cluster}
 
 -- the argument has a text
 abbrev pub HasText : List Row → Text → Type 0
@@ -96,6 +96,15 @@ pub record HasObjects (rows : List Row) : Type 0 where
 pub record HasMatch (rows : List Row) : Type 0 where
   pub objects : HasText rows (codes "OBJECTS")
 
+-- the arguments of a whole cluster
+pub record HasCluster (rows : List Row) : Type 0 where
+  pub objects : HasText rows (codes "OBJECTS")
+  pub log : HasText rows (codes "AUDITLOG")
+  pub patience : HasText rows (codes "PATIENCE")
+  pub seats : (n : ℕ) × IsSeatCount rows n
+  pub flows : (n : ℕ) × IsFlowCount rows n
+  pub json : HasFlag rows (codes "json")
+
 -- the arguments of a kind
 abbrev pub HasArguments : Kind → List Row → Type 0
 HasArguments Flow rows = HasFlow rows
@@ -112,6 +121,7 @@ HasArguments Flows rows = HasFlows rows
 HasArguments AuditLog rows = HasAuditLog rows
 HasArguments Objects rows = HasObjects rows
 HasArguments Match rows = HasMatch rows
+HasArguments Cluster rows = HasCluster rows
 
 -- the command is one of the program's, with its arguments
 pub record IsCommand (name : Text) (rows : List Row) : Type 0 where

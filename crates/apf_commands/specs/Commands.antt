@@ -9,7 +9,7 @@ use Rattle.clap.specs.declared.builder.value_parser.ValueParser.{ValueParser}
 use Rattle.clap.specs.declared.builder.value_parser.ValueParser.TheVariants.{Signed, Unsigned}
 use Rattle.apf_commands.specs.declared.entries.Entry.{Entry}
 use Rattle.apf_commands.specs.declared.entries.Kind.{Kind}
-use Rattle.apf_commands.specs.declared.entries.Kind.TheVariants.{Flow, Deck, Script, Workers, Level, Simulation, Bounded, Comparison, Trace, Picture, Flows, AuditLog, Objects, Match}
+use Rattle.apf_commands.specs.declared.entries.Kind.TheVariants.{Flow, Deck, Script, Workers, Level, Simulation, Bounded, Comparison, Trace, Picture, Flows, AuditLog, Objects, Match, Cluster}
 
 -- a command: its name, and the kind of its arguments
 abbrev pub Named : Type 0
@@ -26,7 +26,7 @@ abbrev pub trace_commands : List Named
 trace_commands =
     (codes "simulate", Bounded) ∷ (codes "timeline", Simulation) ∷ (codes "compare", Comparison) ∷ (codes "fates", Simulation)
     ∷ (codes "requests", Trace) ∷ (codes "picture", Picture) ∷ (codes "hands", Flows) ∷ (codes "trace", AuditLog)
-    ∷ (codes "objects", Objects) ∷ (codes "match", Match) ∷ []
+    ∷ (codes "objects", Objects) ∷ (codes "match", Match) ∷ (codes "cluster", Cluster) ∷ []
 
 -- the program's commands
 unfoldable pub commands : List Named
@@ -61,6 +61,7 @@ is_same Flows Flows = true
 is_same AuditLog AuditLog = true
 is_same Objects Objects = true
 is_same Match Match = true
+is_same Cluster Cluster = true
 is_same _ _ = false
 
 -- one of these commands of this name has this kind
@@ -129,6 +130,10 @@ slot_count = Signed (pos 1) (pos 10000)
 abbrev pub seat_count : ValueParser
 seat_count = Signed (pos 1) (pos 1000000)
 
+-- how many flows may be told
+abbrev pub flow_count : ValueParser
+flow_count = Signed (pos 0) (pos 1000000)
+
 -- the arguments of a kind, in their order
 abbrev pub rules_of : Kind → List Rule
 rules_of Flow = text_rule (codes "SCHEMA") ∷ text_rule (codes "DISTINGUISHER") ∷ []
@@ -158,6 +163,9 @@ rules_of Match =
     text_rule (codes "OBJECTS") ∷ option_rule (codes "user") ∷ option_rule (codes "groups") ∷ option_rule (codes "verb")
     ∷ option_rule (codes "resource") ∷ option_rule (codes "api-group") ∷ option_rule (codes "namespace") ∷ option_rule (codes "path")
     ∷ option_rule (codes "log") ∷ []
+rules_of Cluster =
+    text_rule (codes "OBJECTS") ∷ text_rule (codes "AUDITLOG") ∷ text_rule (codes "PATIENCE") ∷ number_option_rule (codes "seats") seat_count
+    ∷ number_option_rule (codes "flows") flow_count ∷ flag_rule (codes "json") ∷ []
 
 -- a command that takes these arguments
 abbrev pub command_shape : Text → List Rule → Shape

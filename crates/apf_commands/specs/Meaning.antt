@@ -14,7 +14,7 @@ use Rattle.apf_commands.specs.declared.words.Action.{Action}
 use Rattle.apf_commands.specs.declared.words.Arguments.{Arguments}
 use Rattle.apf_commands.specs.declared.words.Asked.{Asked}
 use Rattle.apf_commands.specs.declared.words.Chosen.{Chosen}
-use Rattle.apf_commands.specs.declared.words.Arguments.TheVariants.{Flow, Deck, Script, Workers, Level, Simulation, Bounded, Comparison, Trace, Picture, Flows, AuditLog, Objects, Match}
+use Rattle.apf_commands.specs.declared.words.Arguments.TheVariants.{Flow, Deck, Script, Workers, Level, Simulation, Bounded, Comparison, Trace, Picture, Flows, AuditLog, Objects, Match, Cluster}
 
 -- the argument's text
 abbrev pub IsText : List Row → Text → Text → Type 0
@@ -63,6 +63,10 @@ IsSlotCount rows n = IsNumberOr 32 10000 rows (codes "slots") n × (1 ≤ n) × 
 -- the number of a server's seats is in its range, and 600 where none is given
 abbrev pub IsSeatCount : List Row → ℕ → Type 0
 IsSeatCount rows n = IsNumberOr 32 600 rows (codes "seats") n × (1 ≤ n) × (n ≤ 1000000)
+
+-- the number of flows that are told is in its range, and 12 where none is given
+abbrev pub IsFlowCount : List Row → ℕ → Type 0
+IsFlowCount rows n = IsNumberOr 32 12 rows (codes "flows") n × (n ≤ 1000000)
 
 -- the texts of the options that say a request
 pub record AreAsked (rows : List Row) (asked : Asked) : Type 0 where
@@ -124,6 +128,12 @@ AreArguments rows (Objects objects seats) = IsText rows (codes "OBJECTS") object
     × IsSeatCount rows seats
 AreArguments rows (Match objects asked) = IsText rows (codes "OBJECTS") objects.now
     × AreAsked rows asked
+AreArguments rows (Cluster objects log patience seats flows json) = IsText rows (codes "OBJECTS") objects.now
+    × IsText rows (codes "AUDITLOG") log.now
+    × IsText rows (codes "PATIENCE") patience.now
+    × IsSeatCount rows seats
+    × IsFlowCount rows flows
+    × IsFlag rows (codes "json") json
 
 -- the kind of arguments
 abbrev pub kind_of : Arguments → Kind
@@ -141,6 +151,7 @@ kind_of (Flows a b c) = of_kind.Flows
 kind_of (AuditLog a b c) = of_kind.AuditLog
 kind_of (Objects a b) = of_kind.Objects
 kind_of (Match a b) = of_kind.Match
+kind_of (Cluster a b c d e f) = of_kind.Cluster
 
 -- a command of this name with these rows asks for the action: it is named so, and its arguments are of the kind that the command has
 pub record AsksFor (name : Text) (rows : List Row) (action : Action) : Type 0 where
@@ -166,6 +177,7 @@ HasSlots _ = Unit {0}
 -- a server whose limits are told has 1 to 1,000,000 seats
 abbrev pub HasSeats : Arguments → Type 0
 HasSeats (Objects objects seats) = (1 ≤ seats) × (seats ≤ 1000000)
+HasSeats (Cluster objects log patience seats flows json) = (1 ≤ seats) × (seats ≤ 1000000)
 HasSeats _ = Unit {0}
 
 -- a level that stays open has a name that a level may have

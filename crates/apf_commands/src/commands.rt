@@ -23,6 +23,12 @@ const TRACE: &str = "Trace file of requests with their times";
 /// What help says of a cluster's objects.
 const OBJECTS: &str = "FlowSchemas and PriorityLevelConfigurations, as kubectl get -o json prints";
 
+/// What help says of an audit log.
+const AUDITLOG: &str = "Audit log, one JSON event a line";
+
+/// What help says of the seats of a server.
+const SEATS: &str = "Seats of the server, 1 to 1000000; 600 if left out";
+
 /// What help says of the patience.
 const PATIENCE: &str =
     "When a request gives up: 15s, 500ms, 1.5m, or 0 to 1000000000 microseconds; 0: never";
@@ -270,7 +276,7 @@ fn with_audit_log<'a>(alloc: Global, command: Command<'a>) -> Result<Command<'a>
     ensures { IfOk result (AddsRules (rules_of of_kind.AuditLog) command.entry) }
 {
     command
-        .arg(text(alloc, "AUDITLOG", "Audit log, one JSON event a line"))?
+        .arg(text(alloc, "AUDITLOG", AUDITLOG))?
         .arg(text(alloc, "SCHEMA", "Name of the flow schema of its requests"))?
         .arg(option(
             alloc,
@@ -305,13 +311,7 @@ fn with_objects<'a>(alloc: Global, command: Command<'a>) -> Result<Command<'a>, 
     let seats = value_parser!(u32).range(1..=1_000_000);
     command
         .arg(text(alloc, "OBJECTS", OBJECTS))?
-        .arg(number_option(
-            alloc,
-            "seats",
-            seats,
-            "N",
-            "Seats of the server, 1 to 1000000; 600 if left out",
-        ))
+        .arg(number_option(alloc, "seats", seats, "N", SEATS))
 }
 
 // A cluster's objects, and a request or an audit log of requests.
@@ -355,6 +355,27 @@ fn with_match<'a>(alloc: Global, command: Command<'a>) -> Result<Command<'a>, Al
         ))
 }
 
+// A cluster's objects, an audit log, a patience, the seats of the server, and what is printed.
+fn with_cluster<'a>(alloc: Global, command: Command<'a>) -> Result<Command<'a>, AllocError>
+    ensures { IfOk result (AddsRules (rules_of of_kind.Cluster) command.entry) }
+{
+    let seats = value_parser!(u32).range(1..=1_000_000);
+    let flows = value_parser!(u32).range(0..=1_000_000);
+    command
+        .arg(text(alloc, "OBJECTS", OBJECTS))?
+        .arg(text(alloc, "AUDITLOG", AUDITLOG))?
+        .arg(text(alloc, "PATIENCE", PATIENCE))?
+        .arg(number_option(alloc, "seats", seats, "N", SEATS))?
+        .arg(number_option(
+            alloc,
+            "flows",
+            flows,
+            "N",
+            "Flows that have a line, 0 to 1000000; 12 if left out",
+        ))?
+        .arg(flag(alloc, "json", "Prints JSON, one object a line"))
+}
+
 // A command with the arguments of this kind behind its own.
 fn with_arguments<'a>(
     alloc: Global,
@@ -378,6 +399,7 @@ fn with_arguments<'a>(
         Kind::AuditLog => with_audit_log(alloc, command),
         Kind::Objects => with_objects(alloc, command),
         Kind::Match => with_match(alloc, command),
+        Kind::Cluster => with_cluster(alloc, command),
     }
 }
 

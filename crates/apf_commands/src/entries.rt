@@ -35,6 +35,8 @@ pub(crate) enum Kind {
     Objects,
     /// `OBJECTS [--user U] [--groups G,..] [--verb V] [--resource R] [--api-group A] [--namespace N] [--path P] [--log LOG]`
     Match,
+    /// `OBJECTS AUDITLOG PATIENCE [--seats N] [--flows N] [--json]`
+    Cluster,
 }
 
 /// A command of the program.

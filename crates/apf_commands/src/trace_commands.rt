@@ -5,7 +5,7 @@ ghost use Rattle.apf_commands.specs.Commands.{trace_commands, listed};
 
 use crate::entries::{Entry, Kind};
 
-static ENTRIES: [Entry; 10] = [
+static ENTRIES: [Entry; 11] = [
     Entry {
         name: "simulate",
         about: "Simulate requests with times and print each flow's waits and the book",
@@ -347,6 +347,38 @@ Examples:
 Status: 0 done, 1 a file's fault or output that can't be written, 2 a command line's fault,
 3 no memory.",
         kind: Kind::Match,
+    },
+    Entry {
+        name: "cluster",
+        about: "Simulate the requests of an audit log on all levels of a cluster",
+        help: "\
+Each request of the log runs on the level of its schema, with one seat, as apf simulate has it run:
+it waits, gives up after PATIENCE and is charged by time. apf match says which schema that is. All
+levels run at once. A level has its nominal limit all along, one seat at least, and lends nothing.
+OBJECTS is that of apf objects, AUDITLOG that of apf trace.
+
+Prints a line of names, and a line for each level, in the order of the objects:
+  LEVEL NOMINAL REQUESTS EXECUTED REJECTED TIMED-OUT LOG-429S USED MEDIAN P99 LONGEST
+  NOMINAL      the level's part of the seats, as apf objects prints it
+  TIMED-OUT    how many requests waited for as long as PATIENCE
+  LOG-429S     how many the server of the log turned away, by the log itself
+  USED         the part of the level's seats that was in use until the last request of all was
+               over; - on a level that is exempt, or where no time went by
+  MEDIAN ..    the median, the 99th percentile and the longest of the waits of those executed, with
+               a ~ where a percentile is shortened
+Where flows waited or were turned away, a line of names, and a line for each of the first 12:
+  LEVEL REQUESTS EXECUTED REJECTED TIMED-OUT MEDIAN P99 LONGEST SCHEMA DISTINGUISHER
+Those come first that waited longest, and of one wait those of which most requests were lost.
+
+With --json each line is a JSON object, with times in microseconds, and seatTime in place of USED:
+  {\"level\": ..}   of a level          {\"flowOf\": ..}   of a flow of that level
+
+Example:
+  $ apf cluster examples/cluster/objects.json examples/audit/audit.log 15s | grep -v ' 0 0 0 0 '
+
+Status: 0 done, 1 a file's fault or output that can't be written, 2 a command line's fault,
+3 no memory.",
+        kind: Kind::Cluster,
     },
 ];
 

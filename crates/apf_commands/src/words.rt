@@ -117,6 +117,16 @@ pub enum Arguments<'a> {
         objects: &'a str,
         asked: Asked<'a>,
     },
+    /// The names of a file of objects and of an audit log, the words of a patience, how many seats the server has, 1 to 1,000,000, how
+    /// many flows are told, 0 to 1,000,000, and whether JSON is asked for.
+    Cluster {
+        objects: &'a str,
+        log: &'a str,
+        patience: &'a str,
+        seats: u32,
+        flows: u32,
+        json: bool,
+    },
 }
 
 /// A request, in the words of a command line, or an audit log of requests.
@@ -423,6 +433,21 @@ fn match_of<'a>(matches: &ArgMatches<'a>) -> Arguments<'a>
     }
 }
 
+fn cluster_of<'a>(matches: &ArgMatches<'a>) -> Arguments<'a>
+    requires { HasArguments of_kind.Cluster (rows_of (found_of matches.now)) }
+    ensures kind { kind_of_arguments result ≡ of_kind.Cluster }
+    ensures read { AreArguments (rows_of (found_of matches.now)) result }
+{
+    Arguments::Cluster {
+        objects: text_of(matches, "OBJECTS"),
+        log: text_of(matches, "AUDITLOG"),
+        patience: text_of(matches, "PATIENCE"),
+        seats: u32_or(matches, "seats", 600),
+        flows: u32_or(matches, "flows", 12),
+        json: flag_of(matches, "json"),
+    }
+}
+
 // The arguments of this kind.
 fn arguments_of<'a>(kind: Kind, matches: &ArgMatches<'a>) -> Arguments<'a>
     requires { HasArguments kind (rows_of (found_of matches.now)) }
@@ -444,6 +469,7 @@ fn arguments_of<'a>(kind: Kind, matches: &ArgMatches<'a>) -> Arguments<'a>
         Kind::AuditLog => audit_log_of(matches),
         Kind::Objects => objects_of(matches),
         Kind::Match => match_of(matches),
+        Kind::Cluster => cluster_of(matches),
     }
 }
 

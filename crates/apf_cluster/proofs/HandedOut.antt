@@ -1,0 +1,114 @@
+-- What was handed out, and what came of it.
+use Rattle.std.proofs.Common.{◌≡◌, ◌≤◌, ◌-◌, ℕ, List, [], ◌∷◌, ◌++◌, length, map, Bool, true, false, cond, Option, Some, None, Ok, Err, refl, sym, ap, ◌∙◌, subst, arith}
+use Rattle.std.specs.Prelude.{IsSome, is_some, nat_le, option_map}
+use Rattle.std.specs.List.{AllZip}
+use Rattle.std.specs.Option.{option_to_list}
+use Rattle.std.specs.Io.KnownBytes.{Consumes}
+use Rattle.std.proofs.KnownBytes.{Consumes-trans}
+use Rattle.std.proofs.lemmas.List.{append-nil, length-map}
+use Rattle.std.proofs.lemmas.Slice.Zip.{AllZip-long}
+use Rattle.apf_objects.specs.Cluster.{ClusterSaid}
+use Rattle.apf_objects.specs.Levels.{LevelSaid, level_view}
+use Rattle.apf_objects.specs.declared.level.Level.{Level}
+use Rattle.apf_matching.specs.Limits.{sum_of_shares}
+use Rattle.apf_simulator.specs.Lanes.{IsLived}
+use Rattle.apf_audit.specs.AuditEvent.{Event, event}
+use Rattle.apf_audit.specs.declared.choice.Choice.{Choice}
+use Rattle.apf_audit.specs.declared.event.Taken.{Taken}
+use Rattle.apf_audit_reader.specs.Reading.{Answers, AnswersEach, AreAll, HasRead}
+use Rattle.apf_audit_reader.specs.Views.{ReaderView}
+use Rattle.apf_cluster.specs.Requests.{level_of, start_of}
+use Rattle.apf_cluster.specs.Runs.{AreInTime, AreLived, AreOpened, AreTables, Course, HasCome, HasFed, HasRunLog, HaveGone, HaveLevels, IsClosed, IsLevelTable, IsOpenedLane, TakesOne, all_of}
+use Rattle.apf_cluster.specs.declared.closing.LevelTable.{LevelTable}
+use Rattle.apf_cluster.specs.declared.lanes.LevelLane.{LevelLane}
+use Rattle.apf_cluster.proofs.Coming.{closed, one_more, opened}
+use Rattle.apf_cluster.proofs.Zips.{all_of_zip, all_then, from_zip, then_zip}
+
+-- the first was handed out, or nothing is there
+pub first_fed : (choice : Choice) (was left : Option (List ℕ)) (next : Option Taken) (v : ReaderView) → (more : List ℕ) × Consumes was left more × Answers choice more [] left (Ok next) v
+    → HasFed choice was left [] (option_map event next) v
+first_fed choice was left None v a = record { bytes = a.0; given = a.1; read = a.2.0; all = λ is. (a.2.1, a.2.2) }
+first_fed choice was left (Some x) v a = record { bytes = a.0; given = a.1; read = a.2; all = λ is. let no : ◌≡◌ {A = Option Event} (Some (event x)) None = is in absurd cc }
+
+fed_by : (choice : Choice) (was mid left : Option (List ℕ)) (told : List Event) (e : Event) (next : Option Taken) (v v' : ReaderView) → (f : HasFed choice was mid told (Some e) v)
+    → (more : List ℕ) × Consumes mid left more × Answers choice (f.bytes ++ more) (told ++ e ∷ []) left (Ok next) v' → HasFed choice was left (told ++ e ∷ []) (option_map event next) v'
+fed_by choice was mid left told e None v v' f a = record {
+  bytes = f.bytes ++ a.0;
+  given = Consumes-trans was mid left f.bytes a.0 f.given a.1;
+  read = subst (λ (l : List Event). HasRead choice (f.bytes ++ a.0) l left v') (sym (append-nil (told ++ e ∷ []))) a.2.0;
+  all = λ is. (a.2.1, a.2.2);
+}
+fed_by choice was mid left told e (Some y) v v' f a = record {
+  bytes = f.bytes ++ a.0;
+  given = Consumes-trans was mid left f.bytes a.0 f.given a.1;
+  read = a.2;
+  all = λ is. let no : ◌≡◌ {A = Option Event} (Some (event y)) None = is in absurd cc;
+}
+
+-- one was handed out, and the next one is read
+pub more_fed : (choice : Choice) (was mid left : Option (List ℕ)) (told : List Event) (e : Event) (next : Option Taken) (v v' : ReaderView) → AnswersEach choice mid left v (Ok next) v'
+    → HasFed choice was mid told (Some e) v → HasFed choice was left (told ++ e ∷ []) (option_map event next) v'
+more_fed choice was mid left told e next v v' answers f = fed_by choice was mid left told e next v v' f (answers f.bytes (told ++ e ∷ []) f.read)
+
+-- when the first was received stays so
+start_stays : (told : List Event) (e : Event) (more : List Event) → start_of ((told ++ e ∷ []) ++ more) ≡ start_of (told ++ e ∷ [])
+start_stays [] e more = refl
+start_stays (x ∷ told) e more = refl
+
+-- the lanes of the levels at hand, with all their shares
+pub all_opened : (seats patience all : ℕ) (given levels : List Level) (lanes : List LevelLane) → given ≡ levels → all ≡ sum_of_shares (map level_view given)
+    → AreOpened seats patience all (map level_view given) lanes → AreOpened seats patience (sum_of_shares (map level_view levels)) (map level_view levels) lanes
+all_opened seats patience all given levels lanes same shares are =
+    subst (λ (n : ℕ). AreOpened seats patience n (map level_view levels) lanes) (shares ∙ ap (λ (l : List Level). sum_of_shares (map level_view l)) same)
+    (subst (λ (l : List Level). AreOpened seats patience all (map level_view l) lanes) same are)
+
+pub as_many : (seats patience all : ℕ) (levels : List Level) (lanes : List LevelLane) → AreOpened seats patience all (map level_view levels) lanes → length lanes ≡ length levels
+as_many seats patience all levels lanes are = AllZip-long (IsOpenedLane seats patience all) (map level_view levels) lanes are ∙ length-map levels level_view
+
+pub new_in_time : (seats patience all : ℕ) (levels : List LevelSaid) (lanes : List LevelLane) → AreOpened seats patience all levels lanes → AreInTime 0 lanes
+new_in_time seats patience all levels lanes are = all_of_zip (IsOpenedLane seats patience all) (λ (v : LevelLane). v.lane.state.slots.time ≤ 0) (λ l v o. omega (arith, o.time)) levels lanes are
+
+pub new_lived : (seats patience all : ℕ) (levels : List LevelSaid) (lanes : List LevelLane) → AreOpened seats patience all levels lanes → AreLived lanes
+new_lived seats patience all levels lanes are =
+    all_of_zip (IsOpenedLane seats patience all) (λ (v : LevelLane). IsLived v.lane) (λ l v o. record { under = []; opening = v.lane.state; came = []; told = []; lane = o.nobody }) levels lanes are
+
+-- nobody came yet
+pub none_gone : (choice : Choice) (w : Course) (was left : Option (List ℕ)) (next : Option Event) (v : ReaderView) (lanes : List LevelLane)
+    → HasFed choice was left [] next v → AreOpened w.seats w.patience (all_of w) w.cluster.levels lanes → w.start ≡ start_of (option_to_list next) → HaveGone choice w was left next v lanes
+none_gone choice w was left next v lanes fed are start = record {
+  told = [];
+  fed = fed;
+  come = from_zip (IsOpenedLane w.seats w.patience (all_of w)) (HasCome w []) (λ i l x o. opened w i l x o) 0 w.cluster.levels lanes are;
+  levels = tt;
+  start = start;
+}
+
+-- the request of one event more came to its lane
+pub gone_on : (choice : Choice) (w : Course) (was mid left : Option (List ℕ)) (e : Event) (next : Option Event) (v v' : ReaderView) (lanes lanes' : List LevelLane)
+    → ((told : List Event) → HasFed choice was mid told (Some e) v → HasFed choice was left (told ++ e ∷ []) next v')
+    → TakesOne w.cluster w.start e lanes lanes' → HaveGone choice w was mid (Some e) v lanes → HaveGone choice w was left next v' lanes'
+gone_on choice w was mid left e next v v' lanes lanes' fed takes g = record {
+  told = g.told ++ e ∷ [];
+  fed = fed g.told g.fed;
+  come = one_more w g.told e lanes lanes' takes g.come;
+  levels = all_then (λ (x : Event). IsSome (level_of w.cluster x)) g.told e g.levels (ap (λ (o : Option ℕ). is_some o) takes.level);
+  start = g.start ∙ sym (start_stays g.told e (option_to_list next));
+}
+
+-- the whole log was read, and each lane was closed
+pub ran_log : (choice : Choice) (c : ClusterSaid) (seats patience start size : ℕ) (was left : Option (List ℕ)) (v : ReaderView) (lanes : List LevelLane) (tables : List LevelTable) → v.window.size ≡ size
+    → HaveGone choice (record { cluster = c; seats = seats; patience = patience; start = start }) was left None v lanes → AllZip IsClosed lanes tables → HasRunLog choice c seats patience size was left tables
+ran_log choice c seats patience start size was left v lanes tables same g d =
+    let w : Course = record { cluster = c; seats = seats; patience = patience; start = start } in
+    let whole = g.fed.all refl in
+    let first : start ≡ start_of g.told = g.start ∙ ap start_of (append-nil g.told) in
+    record {
+      bytes = g.fed.bytes;
+      given = g.fed.given;
+      told = g.told;
+      all = subst (λ (n : ℕ). AreAll choice n g.fed.bytes g.told) same whole.0;
+      ended = whole.1;
+      levels = g.levels;
+      tables_are = subst (λ (s : ℕ). AreTables (record { cluster = c; seats = seats; patience = patience; start = s }) g.told tables) first
+          (then_zip (HasCome w g.told) IsClosed (IsLevelTable w g.told) (λ i l x t h is. closed w g.told i l x t h is) 0 c.levels lanes tables g.come d);
+    }

@@ -1,0 +1,28 @@
+-- One more came, or nobody does any more.
+use Rattle.std.proofs.Common.{List, Option, Some, None, ap, sym, ◌∙◌, subst}
+use Rattle.std.specs.Prelude.{option_map}
+use Rattle.apf_audit.specs.AuditEvent.{Event, event}
+use Rattle.apf_audit.specs.declared.event.Taken.{Taken}
+use Rattle.apf_cluster.specs.Runs.{HaveGone, course_of}
+use Rattle.apf_cluster.proofs.HandedOut.{gone_on}
+use Rattle.apf_cluster.proofs.feeding.feed.Goals as goal
+
+pub returns-in-None-clause-gone : goal.returns-in-None-clause-gone
+returns-in-None-clause-gone g c = λ seats patience was gone.
+    subst (λ (n : Option Taken). HaveGone c.args.way.choice.now (course_of c.args.way seats patience) was (g.R.Read.remaining c.requests.input) (option_map event n) c.requests.reader c.requests.lanes.items)
+    c.in-None.is (c.requests.invariant.gone seats patience was gone)
+
+pub requests-preserved : goal.requests-preserved
+requests-preserved g c =
+    let e = c.in_ok-next-in-Some.ensures in
+    let i = c.requests.invariant in
+    record {
+      count = e.count ∙ i.count;
+      in_time = e.in_time;
+      lived = e.lived;
+      gone = λ seats patience was gone.
+          gone_on c.args.way.choice.now (course_of c.args.way seats patience) was (g.R.Read.remaining c.requests.input) (g.R.Read.remaining c.turn.new.input) (event c.in-Some.taken) (option_map event c.in_ok-next-in-Some.next) c.requests.reader c.turn.new.reader c.requests.lanes.items c.turn.new.lanes.items
+          (λ told. e.fed was told) e.takes
+          (subst (λ (n : Option Taken). HaveGone c.args.way.choice.now (course_of c.args.way seats patience) was (g.R.Read.remaining c.requests.input) (option_map event n) c.requests.reader c.requests.lanes.items) c.in-Some.is (i.gone seats patience was gone));
+      size = e.size ∙ i.size;
+    }

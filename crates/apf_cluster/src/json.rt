@@ -1,0 +1,246 @@
+//! What is printed for programs: one JSON object a line.
+
+ghost use Rattle.std.specs.Prelude.{◌≡◌, OnOk, length, map, slice_get};
+ghost use Rattle.std.specs.List.{flat_map, range_with_len};
+ghost use Rattle.std.specs.Io.KnownBytes.{Appends};
+ghost use Rattle.apf_objects.specs.Levels.{level_view};
+ghost use Rattle.apf_cluster.specs.Json as spec;
+
+use crate::closing::LevelTable;
+use crate::order::FlowPlace;
+use apf_flows::write_text;
+use apf_objects::Level;
+use apf_rows::{Figures, Line, Sums};
+use apf_traces::FlowNames;
+use std::io;
+use std::io::Write;
+
+// Writes how many requests there were, and how they were decided.
+#[tactic(auto, unfolding(crate::specs::Json::counts_object))]
+fn write_counts<W: Write>(out: &mut W, sums: &Sums) -> io::Result<()>
+    ensures { OnOk result (Appends (W.contents out.old) (W.contents out.new) (spec.counts_object sums.now)) }
+{
+    let requests = sums.requests;
+    let executed = sums.executed;
+    let rejected = sums.rejected;
+    let cancelled = sums.cancelled;
+    write!(
+        out,
+        ",\"requests\":{requests},\"executed\":{executed},\"rejected\":{rejected},\"timedOut\":{cancelled}"
+    )
+}
+
+// Writes what requests used.
+#[tactic(auto, unfolding(crate::specs::Json::used_object))]
+fn write_used<W: Write>(out: &mut W, sums: &Sums) -> io::Result<()>
+    ensures { OnOk result (Appends (W.contents out.old) (W.contents out.new) (spec.used_object sums.now)) }
+{
+    let seat_time = sums.seat_time;
+    write!(out, ",\"seatTime\":{seat_time}")
+}
+
+// Writes whether percentiles are exact.
+fn write_exact<W: Write>(out: &mut W, is_exact: bool) -> io::Result<()>
+    ensures { OnOk result (Appends (W.contents out.old) (W.contents out.new) (spec.exact_object is_exact)) }
+{
+    if is_exact {
+        out.write_all(b",\"exact\":true")
+    } else {
+        out.write_all(b",\"exact\":false")
+    }
+}
+
+// Writes how long requests waited, and ends the line.
+#[tactic(auto, unfolding(crate::specs::Json::waits_object))]
+fn write_waits<W: Write>(out: &mut W, figures: &Figures) -> io::Result<()>
+    ensures { OnOk result (Appends (W.contents out.old) (W.contents out.new) (spec.waits_object figures.now)) }
+{
+    let median = figures.median;
+    let high = figures.high;
+    let longest = figures.sums.longest;
+    writeln!(
+        out,
+        ",\"median\":{median},\"p99\":{high},\"longest\":{longest}}}"
+    )
+}
+
+// Writes what they used, and how long they waited, and ends the line.
+#[tactic(auto, unfolding(crate::specs::Json::figures_object))]
+fn write_figures<W: Write>(out: &mut W, figures: &Figures) -> io::Result<()>
+    ensures { OnOk result (Appends (W.contents out.old) (W.contents out.new) (spec.figures_object figures.now)) }
+{
+    write_used(out, &figures.sums)?;
+    write_exact(out, figures.is_exact)?;
+    write_waits(out, figures)
+}
+
+// Writes the nominal limit of a level.
+#[tactic(auto, unfolding(crate::specs::Json::nominal_object))]
+fn write_nominal<W: Write>(out: &mut W, nominal: u64) -> io::Result<()>
+    ensures { OnOk result (Appends (W.contents out.old) (W.contents out.new) (spec.nominal_object nominal)) }
+{
+    write!(out, ",\"nominal\":{nominal}")
+}
+
+// Writes how many requests the server of the log turned away.
+#[tactic(auto, unfolding(crate::specs::Json::refused_object))]
+fn write_refused<W: Write>(out: &mut W, turned_away: u64) -> io::Result<()>
+    ensures { OnOk result (Appends (W.contents out.old) (W.contents out.new) (spec.refused_object turned_away)) }
+{
+    write!(out, ",\"log429s\":{turned_away}")
+}
+
+// Writes the object of a level.
+#[tactic(auto, unfolding(crate::specs::Json::level_object))]
+fn write_level<W: Write>(out: &mut W, level: &Level, table: &LevelTable) -> io::Result<()>
+    ensures { OnOk result (Appends (W.contents out.old) (W.contents out.new) (spec.level_object (level_view level.now) table.now)) }
+{
+    out.write_all(b"{\"level\":")?;
+    write_text(out, level.name.as_str())?;
+    write_nominal(out, table.nominal)?;
+    write_refused(out, table.turned_away)?;
+    write_counts(out, &table.table.all.sums)?;
+    write_figures(out, &table.table.all)
+}
+
+// Writes the name of a schema.
+#[tactic(auto, unfolding(crate::specs::Json::schema_object))]
+fn write_schema<W: Write>(out: &mut W, schema: &str) -> io::Result<()>
+    ensures { OnOk result (Appends (W.contents out.old) (W.contents out.new) (spec.schema_object schema.now)) }
+{
+    out.write_all(b",\"schema\":")?;
+    write_text(out, schema)
+}
+
+// Writes what tells a flow from others of its schema.
+#[tactic(auto, unfolding(crate::specs::Json::distinguisher_object))]
+fn write_distinguisher<W: Write>(out: &mut W, distinguisher: &str) -> io::Result<()>
+    ensures { OnOk result (Appends (W.contents out.old) (W.contents out.new) (spec.distinguisher_object distinguisher.now)) }
+{
+    out.write_all(b",\"distinguisher\":")?;
+    write_text(out, distinguisher)
+}
+
+// Writes two names.
+fn write_two_names<W: Write>(out: &mut W, names: &FlowNames) -> io::Result<()>
+    ensures { OnOk result (Appends (W.contents out.old) (W.contents out.new) (spec.two_names names.now)) }
+{
+    write_schema(out, names.schema.as_str())?;
+    write_distinguisher(out, names.distinguisher.as_str())
+}
+
+// Writes the two names of a flow, if it has some.
+fn write_names<W: Write>(out: &mut W, names: &Option<FlowNames>) -> io::Result<()>
+    ensures { OnOk result (Appends (W.contents out.old) (W.contents out.new) (spec.names_object names.now)) }
+{
+    match names {
+        Some(names) => write_two_names(out, names),
+        None => Ok(()),
+    }
+}
+
+// Writes the object of a flow.
+#[tactic(auto, unfolding(crate::specs::Json::flow_object))]
+fn write_flow<W: Write>(out: &mut W, level: &Level, line: &Line) -> io::Result<()>
+    ensures { OnOk result (Appends (W.contents out.old) (W.contents out.new) (spec.flow_object (level_view level.now) line.now)) }
+{
+    out.write_all(b"{\"flowOf\":")?;
+    write_text(out, level.name.as_str())?;
+    write_names(out, &line.names)?;
+    write_counts(out, &line.figures.sums)?;
+    write_figures(out, &line.figures)
+}
+
+// Writes the object of the flow of this number, if it is there.
+fn write_numbered<W: Write>(
+    out: &mut W,
+    level: &Level,
+    lines: &[Line],
+    flow: usize,
+) -> io::Result<()>
+    ensures { OnOk result (Appends (W.contents out.old) (W.contents out.new) (spec.flow_by (level_view level.now) (slice_get lines.now flow))) }
+{
+    let Some(line) = lines.get(flow) else {
+        return Ok(());
+    };
+    write_flow(out, level, line)
+}
+
+// Writes the object of the flow of a place, if it is there.
+fn write_place<W: Write>(
+    out: &mut W,
+    levels: &[Level],
+    tables: &[LevelTable],
+    place: &FlowPlace,
+) -> io::Result<()>
+    ensures { OnOk result (Appends (W.contents out.old) (W.contents out.new) (spec.flow_at (map level_view levels.now) tables.now place.now)) }
+{
+    let Some(level) = levels.get(place.level) else {
+        return Ok(());
+    };
+    let Some(table) = tables.get(place.level) else {
+        return Ok(());
+    };
+    write_numbered(out, level, table.table.lines.as_slice(), place.flow)
+}
+
+// Writes the objects of the flows of these places.
+fn write_places<W: Write>(
+    out: &mut W,
+    levels: &[Level],
+    tables: &[LevelTable],
+    places: &[FlowPlace],
+) -> io::Result<()>
+    ensures { OnOk result (Appends (W.contents out.old) (W.contents out.new) (flat_map (spec.flow_at (map level_view levels.now) tables.now) places.now)) }
+{
+    for place in places {
+        write_place(out, levels, tables, place)?;
+    }
+    Ok(())
+}
+
+// Writes the object of the level at this place, if it is there.
+fn write_at<W: Write>(
+    out: &mut W,
+    levels: &[Level],
+    tables: &[LevelTable],
+    place: usize,
+) -> io::Result<()>
+    ensures { OnOk result (Appends (W.contents out.old) (W.contents out.new) (spec.level_at (map level_view levels.now) tables.now place)) }
+{
+    let Some(level) = levels.get(place) else {
+        return Ok(());
+    };
+    let Some(table) = tables.get(place) else {
+        return Ok(());
+    };
+    write_level(out, level, table)
+}
+
+// Writes the objects of the levels.
+fn write_levels<W: Write>(out: &mut W, levels: &[Level], tables: &[LevelTable]) -> io::Result<()>
+    ensures { OnOk result (Appends (W.contents out.old) (W.contents out.new) (flat_map (spec.level_at (map level_view levels.now) tables.now) (range_with_len 0 (length tables.now)))) }
+{
+    for place in 0..tables.len() {
+        write_at(out, levels, tables, place)?;
+    }
+    Ok(())
+}
+
+/// Writes for programs what the requests of each level came to: a JSON object a line for each level, and for the flow of each of
+/// these places. A level or a flow that is not there has no line.
+///
+/// # Errors
+///
+/// The writer's. Then nothing is known of how much was written.
+pub fn write_objects<W: Write>(
+    out: &mut W,
+    levels: &[Level],
+    tables: &[LevelTable],
+    places: &[FlowPlace],
+) -> io::Result<()>
+    ensures { OnOk result (Appends (W.contents out.old) (W.contents out.new) (spec.objects_text (map level_view levels.now) tables.now places.now)) }
+{
+    write_levels(out, levels, tables)?;
+    write_places(out, levels, tables, places)
+}

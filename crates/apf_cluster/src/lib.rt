@@ -1,0 +1,28 @@
+//! Runs the requests of an audit log, as they come, on the levels of a cluster, and tells what became of them.
+//!
+//! - `shape`: what a level is opened with. `fault`: why a log is not simulated.
+//! - `asking`: the request of an event, and the level that it is of.
+//! - `lanes`: a lane for each level. `feeding`: each request of a log arrives on the lane of its level.
+//! - `closing`: what the requests of each level came to. `running`: a whole log.
+//! - `order`: the flows that waited or were turned away, in the order in which they are told. `units`: numbers as people read them.
+//! - `tables`: what is printed for people. `json`: what is printed for programs.
+#![tactic(auto)]
+
+mod asking;
+mod closing;
+mod fault;
+mod feeding;
+mod json;
+mod lanes;
+mod order;
+mod running;
+mod shape;
+mod tables;
+mod units;
+
+pub use closing::LevelTable;
+pub use fault::ClusterFault;
+pub use json::write_objects;
+pub use order::{FlowPlace, flows_in_order};
+pub use running::{ClusterTerms, run_log};
+pub use tables::write_tables;

@@ -1,0 +1,82 @@
+//! A whole log.
+
+ghost use Rattle.std.specs.Prelude.{◌≡◌, ◌≤◌, length, option_map, vec_len, IfOk};
+ghost use Rattle.std.specs.Option.{option_to_list};
+ghost use Rattle.apf_audit.specs.AuditEvent.{event};
+ghost use Rattle.apf_matching.specs.Limits.{max_seats};
+ghost use Rattle.apf_objects.specs.Cluster.{cluster_view};
+ghost use Rattle.apf_times.specs.Limits.{max_patience};
+ghost use Rattle.apf_cluster.specs.Requests.{start_of as first_of};
+ghost use Rattle.apf_cluster.specs.Runs.{HasRunLog, IsFresh, choice_by};
+
+use crate::closing::{LevelTable, close_all};
+use crate::fault::ClusterFault;
+use crate::feeding::{Way, feed};
+use crate::lanes::open_lanes;
+use apf_audit::{By, Choice, Taken};
+use apf_audit_reader::AuditReader;
+use apf_matching::sum_of_shares;
+use apf_objects::Cluster;
+use std::alloc::Global;
+use std::io::Read;
+
+/// A server, and how its requests wait.
+#[derive(Clone, Copy)]
+pub struct ClusterTerms {
+    /// The seats of the server, which its levels share: at most 1,000,000.
+    pub seats: u32,
+    /// How long a request waits before it gives up, in microseconds, or 0 if it does not: at most 1,000,000,000.
+    pub patience: u64,
+}
+
+// When the first request was received, if there is one.
+fn start_of(first: &Option<Taken>) -> u64
+    ensures { result ≡ first_of (option_to_list (option_map event first.now)) }
+{
+    match first {
+        Some(taken) => taken.received,
+        None => 0,
+    }
+}
+
+/// Runs the requests of an audit log on the levels of a cluster, each request on that of its schema, in one thread. Answers what
+/// the requests of each level came to, in the order of the levels.
+///
+/// The reader has read nothing. A level has its nominal limit, by its shares of the server's seats, all along, but one seat at
+/// least; one that is exempt holds no request back. A request takes one seat. It runs, waits, gives up and is charged as on the
+/// level of `simulate`, where requests are charged by time.
+///
+/// # Errors
+///
+/// The log's first fault, or that of the input; `Open` with the first level that is not opened; `Level` with what runs on one.
+pub fn run_log<R: Read>(
+    alloc: Global,
+    cluster: &Cluster,
+    terms: ClusterTerms,
+    reader: &mut AuditReader,
+    input: &mut R,
+) -> Result<Vec<LevelTable>, ClusterFault>
+    requires levels { vec_len cluster.now.levels ≤ 1000 }
+    requires seats { terms.seats ≤ max_seats }
+    requires patience { terms.patience ≤ max_patience }
+    ensures each { IfOk result (λ tables. length tables.items ≡ length cluster.now.levels.items) }
+    ensures ran { IfOk result (λ tables. IsFresh reader.old
+        → HasRunLog (choice_by cluster.entry) (cluster_view cluster.now) terms.seats terms.patience reader.old.window.size (R.remaining input.old) (R.remaining input.new) tables.items) }
+{
+    let levels = cluster.levels.as_slice();
+    let mut lanes = open_lanes(alloc, levels, terms, sum_of_shares(levels))?;
+    let choice = Choice {
+        by: By::Schema(cluster),
+        user: None,
+        since: None,
+        until: None,
+    };
+    let first = reader.next(&choice, input)?;
+    let way = Way {
+        cluster,
+        choice: &choice,
+        start: start_of(&first),
+    };
+    feed(alloc, way, &mut lanes, first, reader, input)?;
+    close_all(alloc, lanes)
+}

@@ -8,10 +8,11 @@ use apf_cli::{FileFault, Files, act, cause_of};
 use std::alloc::{AllocError, Global};
 use std::fs::File;
 use std::io;
-use std::io::{BufWriter, Read};
+use std::io::{BufWriter, IsTerminal, Read};
 use std::process::ExitCode;
 use std::sync::Wait;
 use std::thread::Threads;
+use std::time::Clock;
 
 // The machine's files.
 #[derive(Drop)]
@@ -35,6 +36,19 @@ impl Files for Disk<'_> {
         let file = File::open(self.rt, name).map_err(fault_of)?;
         self.opened = Some(file);
         Ok(())
+    }
+
+    fn size(&self) -> Option<u64> {
+        let metadata = self.opened.as_ref()?.metadata().ok()?;
+        if metadata.is_file() {
+            Some(metadata.len())
+        } else {
+            None
+        }
+    }
+
+    fn is_shown(&self) -> bool {
+        self.rt.stdout().is_terminal()
     }
 
     fn read_some(&mut self, into: &mut [u8]) -> io::Result<usize> {
@@ -88,7 +102,7 @@ impl From<io::Error> for Unread {
 }
 
 // The status, or why there is none: what the output needs of memory is taken before anything else.
-fn run<R: Wait + Threads + Sync>(rt: &HostRuntime, waiter: &R) -> Result<u8, Unread> {
+fn run<R: Wait + Threads + Sync + Clock>(rt: &HostRuntime, waiter: &R) -> Result<u8, Unread> {
     let alloc = rt.alloc();
     let mut out = BufWriter::new(alloc, io::writer(rt)).map_err(|_| Unread::NoMemory)?;
     let owned: Vec<String> = std::env::args(rt)?.collect(alloc)?;

@@ -2,7 +2,7 @@
 use Rattle.std.proofs.Common.{◌≡◌, ℕ, List, Option, Some, None, ◌∙◌}
 use Rattle.std.specs.Io.KnownBytes.{Appends, Keeps}
 use Rattle.apf_commands.specs.declared.words.Arguments.{Arguments}
-use Rattle.apf_commands.specs.declared.words.Arguments.TheVariants.{Flow, Deck, Script, Workers, Level, Simulation, Bounded, Comparison, Trace, Picture, Flows, AuditLog, Objects, Match}
+use Rattle.apf_commands.specs.declared.words.Arguments.TheVariants.{Flow, Deck, Script, Workers, Level, Simulation, Bounded, Comparison, Trace, Picture, Flows, AuditLog, Objects, Match, Cluster}
 use Rattle.apf_cli.specs.Runs.{PrintsOf}
 
 appends_kept : (old mid new : Option (List ℕ)) (text : List ℕ) → Appends old mid text → Keeps mid new → Appends old new text
@@ -30,3 +30,4 @@ prints_kept holds (Flows config trace flow) old mid new h k = tt
 prints_kept holds (AuditLog log schema chosen) old mid new h k = tt
 prints_kept holds (Objects cluster seats) old mid new h k = tt
 prints_kept holds (Match cluster attributes) old mid new h k = tt
+prints_kept holds (Cluster objects log patience seats flows json) old mid new h k = tt

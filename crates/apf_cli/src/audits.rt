@@ -17,7 +17,7 @@ use std::io::{Read, Write};
 const MOST_SCHEMA: usize = 4096;
 
 // What makes a flow, by the words of a command line: users if none are given.
-fn by_of(word: Option<&str>) -> Result<By, Fault>
+fn by_of(word: Option<&str>) -> Result<By<'static>, Fault>
     ensures ok { IfOk result (IsByFor word.entry) }
     ensures err { IfErr result (λ fault. (fault ≡ Fault.BadBy) × IsNoByFor word.entry) }
 {
@@ -60,8 +60,8 @@ pub(crate) struct Printed {
     pub(crate) turned_away: u64,
 }
 
-// The fault of the log of this name, whose line has these bytes.
-fn log_fault(alloc: Global, log: &str, line: &[u8], fault: ReadFault) -> Fault {
+/// The fault of the log of this name, whose line has these bytes.
+pub(crate) fn log_fault(alloc: Global, log: &str, line: &[u8], fault: ReadFault) -> Fault {
     match fault {
         ReadFault::Log(fault) => audit_line_fault(alloc, line, fault),
         ReadFault::CannotRead(error) => named(

@@ -71,8 +71,12 @@ fn objects_fault(
     }
 }
 
-// Reads the objects.
-fn read_cluster<F: Files>(alloc: Global, files: &mut F, name: &str) -> Result<Cluster, Fault>
+/// Reads the objects.
+pub(crate) fn read_cluster<F: Files>(
+    alloc: Global,
+    files: &mut F,
+    name: &str,
+) -> Result<Cluster, Fault>
     ensures catch_all { IfOk result HasCatchAll }
     ensures few { IfOk result (λ cluster. vec_len cluster.levels ≤ most_levels) }
 {

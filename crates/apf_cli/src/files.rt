@@ -118,6 +118,12 @@ pub trait Files {
     /// `CannotRead`, or `NoMemory`.
     fn open(&mut self, name: &str) -> Result<(), FileFault>;
 
+    /// How many bytes the file has that was opened last, if that is known.
+    fn size(&self) -> Option<u64>;
+
+    /// Whether standard output is a terminal.
+    fn is_shown(&self) -> bool;
+
     /// Reads the next bytes of the file that was opened last, or of standard input if none was, as many as there are and
     /// there is room for. Tells how many; none at its end.
     ///
@@ -143,6 +149,11 @@ impl<'a, F: Files> Source<'a, F> {
             files,
             is_ended: false,
         }
+    }
+
+    /// How many bytes the file has that was opened last, if that is known.
+    pub(crate) fn size(&self) -> Option<u64> {
+        self.files.size()
     }
 
     /// Whether its end was reached: the newest call read nothing.

@@ -7,13 +7,16 @@
 //!   `telling` says it of other files.
 //! - `streaming`: simulates a trace that is read in pieces, and `pictures` draws that. `traces`: does the other commands on a trace.
 //!   `audits`: does that on an audit log.
+//! - `clusters`: prints a cluster's objects, and what they match. `cluster_runs`: simulates a whole cluster.
 //! - `running`: runs requests by workers. `serving`: serves a level over standard input.
-//! - `measuring`: how large an output will be, before its first byte. `notes`: the lines beside an output.
+//! - `measuring`: how large an output will be, before its first byte. `notes`: the lines beside an output. `progress`: the line of
+//!   how far a command is.
 //! - `program`: does the others, and answers the status.
 //! - `faults`: the lines on standard error.
 #![tactic(auto)]
 
 mod audits;
+mod cluster_runs;
 mod clusters;
 mod explaining;
 mod faults;
@@ -22,6 +25,7 @@ mod measuring;
 mod notes;
 mod pictures;
 mod program;
+mod progress;
 mod reading;
 mod running;
 mod serving;

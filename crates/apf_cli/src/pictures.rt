@@ -13,7 +13,8 @@ use apf_picture::{Outcome, Picture, Scene};
 use apf_simulator::TimeWindow;
 use apf_stream::Ended;
 use std::alloc::{AllocError, Global};
-use std::io::Write;
+use std::io::{IsTerminal, Write};
+use std::time::Clock;
 
 // What a picture shows of each request: its decision, its wait, and the queue that it entered.
 fn outcomes_of(alloc: Global, ends: &[Ended]) -> Result<Vec<Outcome>, AllocError>
@@ -75,18 +76,20 @@ fn window_of(drawn: Drawn<'_>) -> Result<TimeWindow, Fault>
 /// The faults of the patience and of what requests are charged, then those of the stretch, then those of the files in the order
 /// config, trace, then those of the level, then those of what runs on it, then those of the output; and `TooManyListed`, or of a
 /// stretch `TooManyDrawn`.
-pub(crate) fn print_picture<F: Files, O: Write>(
+pub(crate) fn print_picture<F: Files, O: Write, C: Clock, E: Write + IsTerminal>(
     alloc: Global,
     files: &mut F,
     names: (&str, &str),
     way: Way<'_>,
     drawn: Drawn<'_>,
     out: &mut O,
+    clock: &C,
+    err: &mut E,
 ) -> Result<(), Fault> {
     let terms = terms_of(way)?;
     let window = window_of(drawn)?;
     let is_whole = drawn.from.is_none() && drawn.to.is_none();
-    let listed = match simulated(alloc, files, names, terms, window, out) {
+    let listed = match simulated(alloc, files, names, terms, window, out, clock, err) {
         Ok(listed) => listed,
         Err(Fault::TooManyListed) if !is_whole => return Err(Fault::TooManyDrawn),
         Err(fault) => return Err(fault),

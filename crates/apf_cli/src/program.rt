@@ -8,6 +8,7 @@ ghost use Rattle.apf_commands.specs.Commands.{is_script_command, is_simulation_c
 ghost use Rattle.apf_commands.specs.Meaning.{IsInRange, words_fault};
 
 use crate::audits::print_trace;
+use crate::cluster_runs::{Simulated, print_cluster_run};
 use crate::clusters::{print_cluster, print_matches};
 use crate::explaining::print_explanation;
 use crate::faults::{Fault, Sizes};
@@ -28,6 +29,7 @@ use std::alloc::{AllocError, Global};
 use std::io::{IsTerminal, Write};
 use std::sync::Wait;
 use std::thread::Threads;
+use std::time::Clock;
 
 // Where output goes.
 const OUTPUT: &str =
@@ -102,27 +104,31 @@ fn print_scripted<F: Files, O: Write, R: Wait>(
 }
 
 // Does what a command on a simulation asks for, and prints what it says.
-fn print_simulated<F: Files, O: Write>(
+fn print_simulated<F: Files, O: Write, R: Clock, E: Write + IsTerminal>(
+    rt: &R,
     alloc: Global,
     command: &str,
     files: &mut F,
     names: (&str, &str),
     way: Way<'_>,
     out: &mut O,
+    err: &mut E,
 ) -> Result<(), Fault>
     requires { is_simulation_command command.now ≡ true }
 {
     if command == "timeline" {
-        print_timeline(alloc, files, names, way, out)
+        print_timeline(alloc, files, names, way, out, rt, err)
     } else if command == "fates" {
-        print_fates(alloc, files, names, way, out)
+        // it prints as it goes on
+        let is_shared = files.is_shown();
+        print_fates(alloc, files, names, way, out, rt, err, is_shared)
     } else {
         unreachable!()
     }
 }
 
 // Does what a command asks for, and prints what it says. Where commands have arguments of one kind, its name says which it is.
-fn print_action<F: Files, O: Write, E: Write + IsTerminal, R: Wait + Threads + Sync>(
+fn print_action<F: Files, O: Write, E: Write + IsTerminal, R: Wait + Threads + Sync + Clock>(
     rt: &R,
     alloc: Global,
     action: Action<'_>,
@@ -157,7 +163,17 @@ fn print_action<F: Files, O: Write, E: Write + IsTerminal, R: Wait + Threads + S
         } => {
             let is_whole = err.is_terminal();
             let pace = (workers, rounds);
-            print_run(rt, alloc, files, (config, requests), pace, is_whole, out)
+            print_run(
+                rt,
+                alloc,
+                files,
+                (config, requests),
+                pace,
+                is_whole,
+                out,
+                rt,
+                err,
+            )
         }
         Arguments::Level {
             config,
@@ -180,7 +196,7 @@ fn print_action<F: Files, O: Write, E: Write + IsTerminal, R: Wait + Threads + S
             charge,
         } => {
             let way = Way { patience, charge };
-            print_simulated(alloc, command, files, (config, trace), way, out)?;
+            print_simulated(rt, alloc, command, files, (config, trace), way, out, err)?;
             note_patience(patience, err);
             Ok(())
         }
@@ -192,7 +208,7 @@ fn print_action<F: Files, O: Write, E: Write + IsTerminal, R: Wait + Threads + S
             bound,
         } => {
             let way = Way { patience, charge };
-            print_simulation(alloc, files, (config, trace), way, bound, out)?;
+            print_simulation(alloc, files, (config, trace), way, bound, out, rt, err)?;
             note_patience(patience, err);
             Ok(())
         }
@@ -204,7 +220,7 @@ fn print_action<F: Files, O: Write, E: Write + IsTerminal, R: Wait + Threads + S
             charge,
         } => {
             let way = Way { patience, charge };
-            print_comparison(alloc, files, (config, other, trace), way, out)?;
+            print_comparison(alloc, files, (config, other, trace), way, out, rt, err)?;
             note_patience(patience, err);
             Ok(())
         }
@@ -219,7 +235,7 @@ fn print_action<F: Files, O: Write, E: Write + IsTerminal, R: Wait + Threads + S
         } => {
             let way = Way { patience, charge };
             let drawn = Drawn { from, to };
-            print_picture(alloc, files, (config, trace), way, drawn, out)?;
+            print_picture(alloc, files, (config, trace), way, drawn, out, rt, err)?;
             note_patience(patience, err);
             Ok(())
         }
@@ -235,11 +251,29 @@ fn print_action<F: Files, O: Write, E: Write + IsTerminal, R: Wait + Threads + S
         } => print_trace(alloc, files, (log, schema), &chosen, out, err),
         Arguments::Objects { objects, seats } => print_cluster(alloc, files, objects, seats, out),
         Arguments::Match { objects, asked } => print_matches(alloc, files, objects, &asked, out),
+        Arguments::Cluster {
+            objects,
+            log,
+            patience,
+            seats,
+            flows,
+            json,
+        } => {
+            let way = Simulated {
+                patience,
+                seats,
+                flows,
+                json,
+            };
+            print_cluster_run(alloc, files, (objects, log), way, out, err)?;
+            note_patience(patience, err);
+            Ok(())
+        }
     }
 }
 
 // The same, with all of it written.
-fn perform<F: Files, O: Write, E: Write + IsTerminal, R: Wait + Threads + Sync>(
+fn perform<F: Files, O: Write, E: Write + IsTerminal, R: Wait + Threads + Sync + Clock>(
     rt: &R,
     alloc: Global,
     action: Action<'_>,
@@ -303,7 +337,7 @@ fn print_refusal<O: Write, E: Write>(
 }
 
 // Does what the words ask for, or prints what `clap` says of them.
-fn attempt<F: Files, O: Write, E: Write + IsTerminal, R: Wait + Threads + Sync>(
+fn attempt<F: Files, O: Write, E: Write + IsTerminal, R: Wait + Threads + Sync + Clock>(
     rt: &R,
     alloc: Global,
     words: &[&str],
@@ -331,7 +365,7 @@ fn attempt<F: Files, O: Write, E: Write + IsTerminal, R: Wait + Threads + Sync>(
 ///
 /// Where there is nothing to say of the words themselves, status 0 means that their command was performed. What is stated of that
 /// is what `run` prints: the book of a run of the files that it names.
-pub fn act<F: Files, O: Write, E: Write + IsTerminal, R: Wait + Threads + Sync>(
+pub fn act<F: Files, O: Write, E: Write + IsTerminal, R: Wait + Threads + Sync + Clock>(
     rt: &R,
     alloc: Global,
     words: &[&str],

@@ -6,14 +6,16 @@ ghost use Rattle.apf_life_run.specs.Plans.{max_rounds};
 
 use crate::faults::Fault;
 use crate::files::{Files, judge_names};
+use crate::progress::{Amount, ProgressLine};
 use crate::reading::{Explained, level_fault, read_level};
 use apf_life_run::{RoundsFault, run_rounds};
 use apf_run::{Report, RunFault, run, write_book};
 use std::alloc::Global;
 use std::hint;
-use std::io::Write;
+use std::io::{IsTerminal, Write};
 use std::sync::Wait;
 use std::thread::Threads;
+use std::time::Clock;
 
 impl From<RoundsFault> for Fault {
     fn from(fault: RoundsFault) -> Fault {
@@ -66,13 +68,15 @@ fn ran<F: Files, R: Wait + Threads + Sync>(
 }
 
 // Reads the two files, and brings this many requests in the place of each one to their ends, by this many workers.
-fn ran_in_rounds<F: Files, R: Wait + Threads + Sync>(
+fn ran_in_rounds<F: Files, C: Clock, E: Write + IsTerminal, R: Wait + Threads + Sync>(
     rt: &R,
     alloc: Global,
     files: &mut F,
     names: (&str, &str),
     workers: u32,
     rounds: u32,
+    clock: &C,
+    err: &mut E,
 ) -> Result<apf_life_run::Report, Explained>
     requires workers { 0 < workers }
     requires some { 1 ≤ rounds }
@@ -80,7 +84,9 @@ fn ran_in_rounds<F: Files, R: Wait + Threads + Sync>(
     ensures { IfOk result (IsRunInRounds F.holds names.entry.0.now names.entry.1.now workers rounds) }
 {
     let (config, requests) = read_level(alloc, files, names.0, names.1)?;
-    match run_rounds(
+    let amount = Amount::of(Some(u64::from(rounds) * requests.len() as u64));
+    let mut line = ProgressLine::new(clock, err, false, &amount);
+    let ran = run_rounds(
         rt,
         alloc,
         &config,
@@ -88,7 +94,10 @@ fn ran_in_rounds<F: Files, R: Wait + Threads + Sync>(
         workers,
         rounds,
         &Turns,
-    ) {
+        &mut line,
+    );
+    line.clear();
+    match ran {
         Ok(report) => Ok(report),
         Err(fault) => Err(level_fault(alloc, names.0, &config, fault.into())),
     }
@@ -115,7 +124,7 @@ fn print_batch<F: Files, O: Write, R: Wait + Threads + Sync>(
 }
 
 // The same in rounds, and prints the book of the report.
-fn print_rounds<F: Files, O: Write, R: Wait + Threads + Sync>(
+fn print_rounds<F: Files, O: Write, C: Clock, E: Write + IsTerminal, R: Wait + Threads + Sync>(
     rt: &R,
     alloc: Global,
     files: &mut F,
@@ -123,13 +132,15 @@ fn print_rounds<F: Files, O: Write, R: Wait + Threads + Sync>(
     pace: (u32, u32),
     is_whole: bool,
     out: &mut O,
+    clock: &C,
+    err: &mut E,
 ) -> Result<(), Fault>
     requires workers { 0 < pace.0 }
     requires some { 1 ≤ pace.1 }
     requires few { pace.1 ≤ max_rounds }
     ensures { OnOk result (PrintsRounds F.holds names.entry.0.now names.entry.1.now pace.0 pace.1 (O.contents out.old) (O.contents out.new)) }
 {
-    let report = match ran_in_rounds(rt, alloc, files, names, pace.0, pace.1) {
+    let report = match ran_in_rounds(rt, alloc, files, names, pace.0, pace.1, clock, err) {
         Ok(report) => report,
         Err(explained) => return Err(explained.told(alloc, is_whole)),
     };
@@ -137,9 +148,16 @@ fn print_rounds<F: Files, O: Write, R: Wait + Threads + Sync>(
 }
 
 /// Reads the two files, lets this many workers go this many times through the requests, and prints the book. A single round is
-/// run as a batch. `is_whole` says whether the line of a fault has the one behind it that says it to a person.
+/// run as a batch. More rounds show on the screen how far they are. `is_whole` says whether the line of a fault has the one behind
+/// it that says it to a person.
 #[tactic(auto, using(crate::proofs::Paces::batch_prints, crate::proofs::Paces::rounds_print))]
-pub(crate) fn print_run<F: Files, O: Write, R: Wait + Threads + Sync>(
+pub(crate) fn print_run<
+    F: Files,
+    O: Write,
+    C: Clock,
+    E: Write + IsTerminal,
+    R: Wait + Threads + Sync,
+>(
     rt: &R,
     alloc: Global,
     files: &mut F,
@@ -147,6 +165,8 @@ pub(crate) fn print_run<F: Files, O: Write, R: Wait + Threads + Sync>(
     pace: (u32, u32),
     is_whole: bool,
     out: &mut O,
+    clock: &C,
+    err: &mut E,
 ) -> Result<(), Fault>
     requires workers { 0 < pace.0 }
     requires some { 1 ≤ pace.1 }
@@ -158,6 +178,6 @@ pub(crate) fn print_run<F: Files, O: Write, R: Wait + Threads + Sync>(
         print_batch(rt, alloc, files, names, pace.0, is_whole, out)?;
         return Ok(());
     }
-    print_rounds(rt, alloc, files, names, pace, is_whole, out)?;
+    print_rounds(rt, alloc, files, names, pace, is_whole, out, clock, err)?;
     Ok(())
 }

@@ -4,6 +4,7 @@ ghost use Rattle.std.specs.Prelude.{◌≡◌, ◌≤◌, IfOk, vec_len};
 
 use crate::faults::Fault;
 use crate::files::{Files, Input, Source, judge_names, open_input};
+use crate::progress::{Amount, Counted, ProgressLine};
 use crate::reading::{config_of, level_fault};
 use crate::telling::{named, unread_trace_fault};
 use crate::traces::{Way, charge_of, patience_of};
@@ -14,10 +15,29 @@ use apf_simulator::{
 };
 use apf_trace_reader::{TraceReader, WINDOW};
 use std::alloc::Global;
-use std::io::Write;
+use std::io::{IsTerminal, Write};
+use std::time::Clock;
 
 // A level's config, and the name of its file.
 type Level<'a> = (&'a str, &'a Config);
+
+/// The fault of what runs on a level.
+pub(crate) fn lane_fault(fault: SimulatorFault) -> Fault {
+    match fault {
+        SimulatorFault::Crowded(line, at) => Fault::Crowded(line, at),
+        SimulatorFault::TooFar => Fault::TooFar,
+        SimulatorFault::TooMany => Fault::TooMany,
+        SimulatorFault::TooManyListed => Fault::TooManyListed,
+        SimulatorFault::BoundOfSeats => Fault::BoundOfSeats,
+        SimulatorFault::OtherBook => Fault::OtherBook,
+        SimulatorFault::CannotWrite => Fault::CannotWrite,
+        SimulatorFault::NoMemory => Fault::NoMemory,
+        SimulatorFault::Read(_)
+        | SimulatorFault::Open(_)
+        | SimulatorFault::OpenOther(_)
+        | SimulatorFault::StillWaits => Fault::StillWaits,
+    }
+}
 
 // The fault of a trace of this name that is read in pieces, and of what runs on these levels.
 fn fault_of<F: Files>(
@@ -36,15 +56,7 @@ fn fault_of<F: Files>(
         SimulatorFault::OpenOther(fault) => {
             level_fault(alloc, levels.1.0, levels.1.1, fault.into()).told(alloc, true)
         }
-        SimulatorFault::Crowded(line, at) => Fault::Crowded(line, at),
-        SimulatorFault::TooFar => Fault::TooFar,
-        SimulatorFault::TooMany => Fault::TooMany,
-        SimulatorFault::TooManyListed => Fault::TooManyListed,
-        SimulatorFault::BoundOfSeats => Fault::BoundOfSeats,
-        SimulatorFault::StillWaits => Fault::StillWaits,
-        SimulatorFault::OtherBook => Fault::OtherBook,
-        SimulatorFault::CannotWrite => Fault::CannotWrite,
-        SimulatorFault::NoMemory => Fault::NoMemory,
+        fault => lane_fault(fault),
     }
 }
 
@@ -79,13 +91,15 @@ pub(crate) fn open_trace<'a, F: Files>(
 /// The faults of the patience and of what requests are charged, then those of the files in the order config, trace, then
 /// those of the level, then those of what runs on it, then those of the output; and with a bound `BoundOfSeats` if requests are
 /// charged their seats.
-pub(crate) fn print_simulation<F: Files, O: Write>(
+pub(crate) fn print_simulation<'n, F: Files, O: Write, C: Clock, E: Write + IsTerminal>(
     alloc: Global,
     files: &mut F,
-    names: (&str, &str),
+    names: (&'n str, &'n str),
     way: Way<'_>,
     has_bound: bool,
     out: &mut O,
+    clock: &'n C,
+    err: &'n mut E,
 ) -> Result<(), Fault> {
     let mut terms = terms_of(way)?;
     terms.has_bound = has_bound;
@@ -94,9 +108,27 @@ pub(crate) fn print_simulation<F: Files, O: Write>(
     }
     judge_names(&[names.0, names.1])?;
     let config = config_of(alloc, files, names.0)?;
+    let amount = Amount::of(None);
     let mut input = open_trace(alloc, files, names.1)?;
     let mut reader = TraceReader::new(alloc, WINDOW)?;
-    match simulate(alloc, &config, terms, &mut reader, &mut input, out) {
+    let mut line = ProgressLine::new(clock, err, false, &amount);
+    amount.is_of(input.size());
+    let mut read = Counted {
+        input: &mut input,
+        amount: &amount,
+        is_counted: line.is_seen(),
+    };
+    let ran = simulate(
+        alloc,
+        &config,
+        terms,
+        &mut line,
+        &mut reader,
+        &mut read,
+        out,
+    );
+    line.clear();
+    match ran {
         Ok(()) => Ok(()),
         Err(fault) => {
             let level = (names.0, &config);
@@ -111,19 +143,40 @@ pub(crate) fn print_simulation<F: Files, O: Write>(
 /// # Errors
 ///
 /// As of `print_simulation`.
-pub(crate) fn print_fates<F: Files, O: Write>(
+pub(crate) fn print_fates<'n, F: Files, O: Write, C: Clock, E: Write + IsTerminal>(
     alloc: Global,
     files: &mut F,
-    names: (&str, &str),
+    names: (&'n str, &'n str),
     way: Way<'_>,
     out: &mut O,
+    clock: &'n C,
+    err: &'n mut E,
+    is_shared: bool,
 ) -> Result<(), Fault> {
     let terms = terms_of(way)?;
     judge_names(&[names.0, names.1])?;
     let config = config_of(alloc, files, names.0)?;
+    let amount = Amount::of(None);
     let mut input = open_trace(alloc, files, names.1)?;
     let mut reader = TraceReader::new(alloc, WINDOW)?;
-    match write_fates(alloc, &config, terms, &mut reader, &mut input, out) {
+    let mut line = ProgressLine::new(clock, err, is_shared, &amount);
+    amount.is_of(input.size());
+    let mut read = Counted {
+        input: &mut input,
+        amount: &amount,
+        is_counted: line.is_seen(),
+    };
+    let ran = write_fates(
+        alloc,
+        &config,
+        terms,
+        &mut line,
+        &mut reader,
+        &mut read,
+        out,
+    );
+    line.clear();
+    match ran {
         Ok(()) => Ok(()),
         Err(fault) => {
             let level = (names.0, &config);
@@ -137,19 +190,39 @@ pub(crate) fn print_fates<F: Files, O: Write>(
 /// # Errors
 ///
 /// As of `print_simulation`, and `TooManyListed`.
-pub(crate) fn print_timeline<F: Files, O: Write>(
+pub(crate) fn print_timeline<'n, F: Files, O: Write, C: Clock, E: Write + IsTerminal>(
     alloc: Global,
     files: &mut F,
-    names: (&str, &str),
+    names: (&'n str, &'n str),
     way: Way<'_>,
     out: &mut O,
+    clock: &'n C,
+    err: &'n mut E,
 ) -> Result<(), Fault> {
     let terms = terms_of(way)?;
     judge_names(&[names.0, names.1])?;
     let config = config_of(alloc, files, names.0)?;
+    let amount = Amount::of(None);
     let mut input = open_trace(alloc, files, names.1)?;
     let mut reader = TraceReader::new(alloc, WINDOW)?;
-    match write_timeline(alloc, &config, terms, &mut reader, &mut input, out) {
+    let mut line = ProgressLine::new(clock, err, false, &amount);
+    amount.is_of(input.size());
+    let mut read = Counted {
+        input: &mut input,
+        amount: &amount,
+        is_counted: line.is_seen(),
+    };
+    let ran = write_timeline(
+        alloc,
+        &config,
+        terms,
+        &mut line,
+        &mut reader,
+        &mut read,
+        out,
+    );
+    line.clear();
+    match ran {
         Ok(()) => Ok(()),
         Err(fault) => {
             let level = (names.0, &config);
@@ -167,13 +240,15 @@ pub(crate) type Simulated = (Config, Listed);
 /// # Errors
 ///
 /// As of `print_simulation`, and `TooManyListed`.
-pub(crate) fn simulated<F: Files, O: Write>(
+pub(crate) fn simulated<'n, F: Files, O: Write, C: Clock, E: Write + IsTerminal>(
     alloc: Global,
     files: &mut F,
-    names: (&str, &str),
+    names: (&'n str, &'n str),
     terms: Terms,
     window: TimeWindow,
     out: &mut O,
+    clock: &'n C,
+    err: &'n mut E,
 ) -> Result<Simulated, Fault>
     requires { terms.patience ≤ 1000000000 }
     ensures few { IfOk result (λ o. vec_len o.1.requests ≤ 10000) }
@@ -181,9 +256,28 @@ pub(crate) fn simulated<F: Files, O: Write>(
 {
     judge_names(&[names.0, names.1])?;
     let config = config_of(alloc, files, names.0)?;
+    let amount = Amount::of(None);
     let mut input = open_trace(alloc, files, names.1)?;
     let mut reader = TraceReader::new(alloc, WINDOW)?;
-    match list(alloc, &config, terms, window, &mut reader, &mut input, out) {
+    let mut line = ProgressLine::new(clock, err, false, &amount);
+    amount.is_of(input.size());
+    let mut read = Counted {
+        input: &mut input,
+        amount: &amount,
+        is_counted: line.is_seen(),
+    };
+    let ran = list(
+        alloc,
+        &config,
+        terms,
+        window,
+        &mut line,
+        &mut reader,
+        &mut read,
+        out,
+    );
+    line.clear();
+    match ran {
         Ok(listed) => Ok((config, listed)),
         Err(fault) => {
             let level = (names.0, &config);
@@ -199,20 +293,40 @@ pub(crate) fn simulated<F: Files, O: Write>(
 ///
 /// The faults of the patience and of what requests are charged, then those of the files in the order of their names, then
 /// those of the one level and of the other, then those of what runs on them, then those of the output.
-pub(crate) fn print_comparison<F: Files, O: Write>(
+pub(crate) fn print_comparison<'n, F: Files, O: Write, C: Clock, E: Write + IsTerminal>(
     alloc: Global,
     files: &mut F,
-    names: (&str, &str, &str),
+    names: (&'n str, &'n str, &'n str),
     way: Way<'_>,
     out: &mut O,
+    clock: &'n C,
+    err: &'n mut E,
 ) -> Result<(), Fault> {
     let terms = terms_of(way)?;
     judge_names(&[names.0, names.1, names.2])?;
     let one = config_of(alloc, files, names.0)?;
     let other = config_of(alloc, files, names.1)?;
+    let amount = Amount::of(None);
     let mut input = open_trace(alloc, files, names.2)?;
     let mut reader = TraceReader::new(alloc, WINDOW)?;
-    match compare(alloc, (&one, &other), terms, &mut reader, &mut input, out) {
+    let mut line = ProgressLine::new(clock, err, false, &amount);
+    amount.is_of(input.size());
+    let mut read = Counted {
+        input: &mut input,
+        amount: &amount,
+        is_counted: line.is_seen(),
+    };
+    let ran = compare(
+        alloc,
+        (&one, &other),
+        terms,
+        &mut line,
+        &mut reader,
+        &mut read,
+        out,
+    );
+    line.clear();
+    match ran {
         Ok(()) => Ok(()),
         Err(fault) => {
             let levels = ((names.0, &one), (names.1, &other));

@@ -10,6 +10,7 @@ use std::io::Read;
 use std::process::Abort;
 use std::sync::Wait;
 use std::thread::Threads;
+use std::time::Clock;
 
 pub const BOOK_OF_NOTHING: &str = "level open seats 0 waiting 0\n\
     executed 0 rejected 0 cancelled 0 undecided 0\n\
@@ -68,6 +69,14 @@ impl Files for Memory<'_> {
         Ok(())
     }
 
+    fn size(&self) -> Option<u64> {
+        Some(self.rest.len() as u64)
+    }
+
+    fn is_shown(&self) -> bool {
+        false
+    }
+
     // Where no file was opened, there is nothing: the commands of `serve` end at once.
     fn read_some(&mut self, into: &mut [u8]) -> io::Result<usize> {
         self.rest.read(into)
@@ -75,7 +84,7 @@ impl Files for Memory<'_> {
 }
 
 /// The program answers this status, and writes this and no more, where standard error is a terminal or none.
-pub fn check<R: Abort + Wait + Threads + Sync>(
+pub fn check<R: Abort + Wait + Threads + Sync + Clock>(
     rt: &R,
     files: Memory<'_>,
     words: &[&str],

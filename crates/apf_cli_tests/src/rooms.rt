@@ -7,6 +7,7 @@ use std::alloc::{AllocError, Global};
 use std::process::Abort;
 use std::sync::Wait;
 use std::thread::Threads;
+use std::time::Clock;
 
 const CONFIG: &str = "{\"limit\":2,\"queues\":2,\"handSize\":1,\"queueLengthLimit\":2}";
 
@@ -44,7 +45,7 @@ fn files_of(alloc: Global, trace: &'static str) -> Memory<'static> {
 }
 
 // With room for so much of the output, the program says that it can't write, and what it wrote is the beginning.
-fn writes_a_beginning<R: Abort + Wait + Threads + Sync>(
+fn writes_a_beginning<R: Abort + Wait + Threads + Sync + Clock>(
     rt: &R,
     files: Memory<'_>,
     words: &[&str],
@@ -65,7 +66,7 @@ fn writes_a_beginning<R: Abort + Wait + Threads + Sync>(
 }
 
 // The same at each place that this number divides.
-fn fails_at_places<R: Abort + Wait + Threads + Sync>(
+fn fails_at_places<R: Abort + Wait + Threads + Sync + Clock>(
     rt: &R,
     files: Memory<'_>,
     words: &[&str],

@@ -1,0 +1,180 @@
+"""The line of how far a command is, which a person sees at a terminal: what it says by the trace and by `fates`, how often it comes, and that nothing else
+is touched by it."""
+
+import json
+import os
+import pty
+import re
+import subprocess
+import sys
+import time
+
+sys.path.insert(0, os.path.join(os.path.dirname(os.path.abspath(__file__)), "lib"))
+from harness import Files, Tally, build, run
+from in_c import compiled, level_of
+
+tally = Tally()
+program = build()
+files = Files()
+# a run of so many takes a second or so
+MANY = int(os.environ.get("APF_REQUESTS", "500000"))
+# how long a line stands, in seconds
+PAUSE = 0.25
+LINE = re.compile(rb"(\d+) requests(?:, (\d+) s of the trace)?, (\d+) a second, (\d+) wait(?:, (\d+) %)?")
+
+
+class Seen:
+    """A program whose standard error is a terminal, and standard output a file, or that terminal too."""
+
+    def __init__(self, words, shares=False, hangs_up=False, stdin=subprocess.DEVNULL):
+        ours, theirs = pty.openpty()
+        begin = time.monotonic()
+        self.path = files("printed", "")
+        with open(self.path, "wb") as file:
+            process = subprocess.Popen([program, *words], stdin=stdin, stdout=theirs if shares else file, stderr=theirs)
+        os.close(theirs)
+        pieces = []
+        # a terminal that hangs up does so at the first line
+        while not (hangs_up and pieces):
+            try:
+                got = os.read(ours, 65_536)
+            except OSError:
+                got = b""
+            if not got:
+                break
+            pieces.append(got)
+        os.close(ours)
+        self.shown = b"".join(pieces)
+        self.status = process.wait()
+        self.seconds = time.monotonic() - begin
+
+    def printed(self):
+        with open(self.path, "rb") as file:
+            return file.read()
+
+    def lines(self):
+        """What stood on the line, one after the other, but for blanks."""
+        return [it.rstrip(b" ") for it in re.split(rb"\r(?!\n)", self.shown) if it.strip(b" ")]
+
+    def screen(self):
+        """The rows of the terminal at the end."""
+        rows, at = [b""], 0
+        for byte in self.shown:
+            if byte == 13:
+                at = 0
+            elif byte == 10:
+                rows.append(b"")
+                at = 0
+            else:
+                rows[-1] = rows[-1][:at].ljust(at) + bytes([byte]) + rows[-1][at + 1 :]
+                at += 1
+        return [it.rstrip(b" ") for it in rows]
+
+
+def numbers_of(line):
+    """The requests, the seconds of the trace, how many come a second, who waits, and the hundredths."""
+    found = LINE.fullmatch(line)
+    return found and [it if it is None else int(it) for it in found.groups()]
+
+
+def judge_pace(name, seen):
+    """The lines are whole, come no more than four times a second, and what comes a second is what came since the line before."""
+    told = [numbers_of(it) for it in seen.lines()]
+    tally.check(f"{name}: the status", seen.status, 0)
+    tally.check(f"{name}: lines come, each is whole", told != [] and None not in told, True)
+    told = [it for it in told if it]
+    tally.check(f"{name}: at most four a second: {len(told)} in {seen.seconds:.2f} s", len(told) <= seen.seconds / PAUSE, True)
+    came = [0, *(it[0] for it in told)]
+    tally.check(f"{name}: they go on", came, sorted(came))
+    # by the rate and who came, how long it was since the line before, at least and at most
+    least = [(after - before) / (it[2] + 1) for before, after, it in zip(came, came[1:], told)]
+    most = [(after - before) / it[2] for before, after, it in zip(came, came[1:], told) if it[2]]
+    tally.check(f"{name}: the rates are of a quarter of a second or more", [it for it in most if it < PAUSE], [])
+    tally.check(f"{name}: the rates are of no more time than there was", sum(least) <= seen.seconds, True)
+    tally.check(f"{name}: the line is cleared", seen.screen(), [b""])
+    return told
+
+
+def trace_of(many):
+    """A trace, with its requests' arrivals in their order."""
+    text = subprocess.run([compiled(files, "long"), "trace", "7", str(many), "200", "100", "0"], stdout=subprocess.PIPE, check=True).stdout
+    arrivals = [(int(it), number) for number, it in enumerate(re.findall(rb'"arrivesAt":(\d+)', text))]
+    tally.check("each request has an arrival", len(arrivals), many)
+    return files("trace", text), sorted(arrivals)
+
+
+def judge_waits(name, told, arrivals, fates):
+    """Who waits once so many came, by what became of each: at its moment a request may go on before or after that."""
+    rows = [it.split(b" ", 7) for it in fates.splitlines()[1:]]
+    queued = [(int(arrival), int(end if start == b"-" else start)) for _, _, arrival, queue, start, end, *_ in rows if queue != b"-"]
+    for came, _, _, waits, _ in told:
+        now = arrivals[came - 1][0]
+        fewest = sum(1 for arrival, until in queued if arrival < now < until)
+        most = sum(1 for arrival, until in queued if arrival <= now <= until)
+        tally.check(f"{name}: who waits once {came} came: {fewest} to {most}", fewest <= waits <= most, True)
+    tally.check(f"{name}: some wait", any(until > arrival for arrival, until in queued), True)
+
+
+def check_simulation():
+    config = files("config", json.dumps(level_of(100, 64, 8, 50)))
+    path, arrivals = trace_of(MANY)
+    words = ["simulate", config, path, "500ms"]
+    status, plain, errors = run(program, words)
+    tally.check("without a terminal: nothing on standard error", (status, errors), (0, b""))
+    seen = Seen(words)
+    told = judge_pace("simulate", seen)
+    tally.check("simulate prints the same", seen.printed() == plain, True)
+    tally.check("simulate: the seconds of the trace", [it[1] for it in told], [arrivals[it[0] - 1][0] // 1_000_000 for it in told])
+    tally.check("simulate: the hundredths are of who came", [it for it in told if abs(it[4] - 100 * it[0] / MANY) > 3], [])
+    _, fates, _ = run(program, ["fates", *words[1:]])
+    judge_waits("simulate", told, arrivals, fates)
+    for command, more, want in [
+        ("fates", [], fates),
+        ("compare", [], run(program, ["compare", config, *words[1:]])[1]),
+        ("picture", ["--from", "0", "--to", "1ms"], run(program, ["picture", *words[1:], "--from", "0", "--to", "1ms"])[1]),
+    ]:
+        seen = Seen([command, *([config] if command == "compare" else []), *words[1:], *more])
+        judge_pace(command, seen)
+        tally.check(f"{command} prints the same", seen.printed() == want, True)
+    # a trace whose size is not known
+    with open(path, "rb") as file:
+        cat = subprocess.Popen(["cat"], stdin=file, stdout=subprocess.PIPE)
+        seen = Seen(["simulate", config, "-", "500ms"], stdin=cat.stdout)
+        cat.stdout.close()
+        cat.wait()
+    told = judge_pace("by a pipe", seen)
+    tally.check("by a pipe: no hundredths", [it for it in told if it[4] is not None], [])
+    # one terminal for both: the line goes before anything is printed, and fates, which prints as it goes on, has none
+    shared = Seen(words, shares=True)
+    tally.check("one terminal: lines come", shared.lines() != [] and LINE.match(shared.lines()[0]) is not None, True)
+    tally.check("one terminal: what is printed stands there alone", shared.screen() == [*plain.splitlines(), b""], True)
+    seen = Seen(["fates", *words[1:]], shares=True)
+    tally.check("one terminal: fates prints its lines alone", seen.shown.replace(b"\r\n", b"\n") == fates, True)
+    # a terminal that is gone
+    gone = Seen(words, hangs_up=True)
+    tally.check("a line came, and the next can't be written: nothing changes", (gone.shown != b"", gone.status, gone.printed() == plain), (True, 0, True))
+
+
+def check_rounds():
+    config = files("config", json.dumps(level_of(2, 2, 1, 50)))
+    requests = files("requests", json.dumps([{"hash": it, "work": 100} for it in range(50)]))
+    rounds, seconds = 100, 0
+    while seconds < 0.7 and rounds < 1_000_000:
+        rounds *= 2
+        begin = time.monotonic()
+        status, plain, errors = run(program, ["run", config, requests, "3", "--rounds", str(rounds)])
+        seconds = time.monotonic() - begin
+        tally.check("run without a terminal: nothing on standard error", (status, errors), (0, b""))
+    seen = Seen(["run", config, requests, "3", "--rounds", str(2 * rounds)])
+    told = judge_pace("run --rounds", seen)
+    all_of_them = 100 * rounds
+    tally.check("run --rounds: no seconds of a trace", [it for it in told if it[1] is not None], [])
+    tally.check("run --rounds: no more than there are", [it for it in told if it[0] > all_of_them], [])
+    tally.check("run --rounds: the hundredths", [it[4] for it in told], [100 * it[0] // all_of_them for it in told])
+    tally.check("run --rounds: each worker waits for one at most", [it for it in told if it[3] > 3], [])
+    tally.check("run --rounds: the book is of all", re.search(rb"^executed (\d+) rejected 0 ", seen.printed(), re.M)[1], str(all_of_them).encode())
+
+
+check_simulation()
+check_rounds()
+tally.end()

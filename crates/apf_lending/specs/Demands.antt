@@ -1,5 +1,5 @@
 -- What the requests of a level asked for.
-use Rattle.std.specs.Prelude.{ℕ, ◌+◌, ◌*◌, ◌-◌, ◌/◌, ◌≡◌, ◌≤◌, ◌<◌, List, [], ◌∷◌, max}
+use Rattle.std.specs.Prelude.{ℕ, zero, suc, ◌++◌, ◌+◌, ◌*◌, ◌-◌, ◌/◌, ◌≡◌, ◌≤◌, ◌<◌, List, [], ◌∷◌, max}
 use Rattle.apf_lending.specs.declared.demand.Observed.{Observed}
 
 -- the longest period in microseconds, and the most seats that requests ask for at once
@@ -60,6 +60,11 @@ pub record AreAsked (stretches : List Stretch) (seats since : ℕ) (d : DemandVi
   pub high : d.high ≡ high_of stretches
   pub area : d.area ≡ area_of stretches
   pub squares : d.squares ≡ squares_of stretches
+
+-- these, and then these seats for so long, which is a stretch of its own only if it lasts
+abbrev pub then_asked : List Stretch → (seats micros : ℕ) → List Stretch
+then_asked stretches seats zero = stretches
+then_asked stretches seats (suc n) = stretches ++ record { seats = seats; micros = suc n } ∷ []
 
 -- r is the square root of n, rounded down
 pub record IsRoot (n r : ℕ) : Type 0 where

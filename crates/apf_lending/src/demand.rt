@@ -1,7 +1,7 @@
 //! What the requests of a level asked for in a period.
 
 ghost use Rattle.std.specs.Prelude.{◌≡◌, ◌+◌, ◌-◌, ◌*◌, ◌/◌, ◌<◌, ◌≤◌, ◌^◌, ◌++◌, ◌∷◌, [], List, max};
-ghost use Rattle.apf_lending.specs.Demands.{AreAsked, IsObserved, IsRoot, Stretch, max_asked, max_period, smoothed_with};
+ghost use Rattle.apf_lending.specs.Demands.{AreAsked, IsObserved, IsRoot, Stretch, max_asked, max_period, smoothed_with, then_asked};
 
 use crate::root::root_of;
 use std::marker::Model;
@@ -66,7 +66,26 @@ impl Demand {
         }
     }
 
-    /// From this time on the requests ask for these seats, no earlier than the last change and no later than a period may last.
+    // The requests asked for the same seats up to this time.
+    fn go_on(&mut self, at: u64)
+        requires forward { self.old.since ≤ at }
+        requires short { at ≤ self.old.began + max_period }
+        ensures began { self.new.began ≡ self.old.began }
+        ensures since { self.new.since ≡ at }
+        ensures seats { self.new.seats ≡ self.old.seats }
+        ensures asked { (stretches : List Stretch) → AreAsked stretches self.old.seats self.old.since self.old
+            → AreAsked (stretches ++ record { seats = self.old.seats; micros = at - self.old.since } ∷ []) self.old.seats at self.new }
+    {
+        let micros = u128::from(at - self.since);
+        let asked = u128::from(self.seats);
+        self.area += asked * micros;
+        self.squares += asked * asked * micros;
+        self.high = self.high.max(self.seats);
+        self.since = at;
+    }
+
+    /// From this time on the requests ask for these seats, no earlier than the last change and no later than a period may last. What
+    /// they asked for at one time counts only by the last change.
     pub fn change(&mut self, at: u64, seats: u64)
         requires few { seats ≤ max_asked }
         requires forward { self.old.since ≤ at }
@@ -75,14 +94,11 @@ impl Demand {
         ensures since { self.new.since ≡ at }
         ensures seats { self.new.seats ≡ seats }
         ensures asked { (stretches : List Stretch) → AreAsked stretches self.old.seats self.old.since self.old
-            → AreAsked (stretches ++ record { seats = self.old.seats; micros = at - self.old.since } ∷ []) seats at self.new }
+            → AreAsked (then_asked stretches self.old.seats (at - self.old.since)) seats at self.new }
     {
-        let micros = u128::from(at - self.since);
-        let asked = u128::from(self.seats);
-        self.area += asked * micros;
-        self.squares += asked * asked * micros;
-        self.high = self.high.max(self.seats);
-        self.since = at;
+        if self.since < at {
+            self.go_on(at);
+        }
         self.seats = seats;
     }
 
@@ -92,6 +108,20 @@ impl Demand {
         ensures few { result ≤ max_asked }
     {
         self.seats
+    }
+
+    /// When that changed last, in microseconds.
+    pub fn since(&self) -> u64
+        ensures { result ≡ self.now.since }
+    {
+        self.since
+    }
+
+    /// When the period began, in microseconds.
+    pub fn began(&self) -> u64
+        ensures { result ≡ self.now.began }
+    {
+        self.began
     }
 
     /// What the requests asked for, from the beginning of the period to the last change, which came later.

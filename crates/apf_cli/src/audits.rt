@@ -6,12 +6,14 @@ ghost use Rattle.apf_cli.specs.Choices.{IsInstantFor, IsNoInstantFor, IsByFor, I
 use crate::faults::{Bound, Fault};
 use crate::files::{Files, Input, cause_of, open_input};
 use crate::notes::{note_cut, note_nothing_chosen, note_turned_away, note_unnamed};
+use crate::progress::{Amount, Followed, ProgressLine};
 use crate::telling::{audit_line_fault, named};
 use apf_audit::{By, Choice, arrives_at, read_instant, write_request};
 use apf_audit_reader::{AuditReader, ReadFault, WINDOW};
 use apf_commands::Chosen;
 use std::alloc::Global;
-use std::io::{Read, Write};
+use std::io::{IsTerminal, Read, Write};
+use std::time::Clock;
 
 /// The most bytes of the name of a flow schema, so that each line of the trace has at most 65,536.
 const MOST_SCHEMA: usize = 4096;
@@ -118,25 +120,38 @@ fn print_requests<I: Read, O: Write>(
 ///
 /// `LongSchema` if its name has more than 4096 bytes, `BadBy` and `BadInstant` if the choice is none; then the first fault of
 /// the log, behind the lines of the requests before it; those of the output.
-pub(crate) fn print_trace<F: Files, O: Write, E: Write>(
+pub(crate) fn print_trace<'n, F: Files, O: Write, C: Clock, E: Write + IsTerminal>(
     alloc: Global,
     files: &mut F,
     names: (&str, &str),
     chosen: &Chosen<'_>,
     out: &mut O,
-    err: &mut E,
+    clock: &'n C,
+    err: &'n mut E,
 ) -> Result<(), Fault> {
     let (log, schema) = names;
     if schema.len() > MOST_SCHEMA {
         return Err(Fault::LongSchema);
     }
     let choice = choice_of(chosen)?;
+    // it prints as it goes on
+    let is_shared = files.is_shown();
+    let amount = Amount::of(None);
     let mut input = match open_input(files, Input::AuditLog, log) {
         Ok(input) => input,
         Err(fault) => return Err(named(alloc, log, fault)),
     };
     let mut reader = AuditReader::new(alloc, WINDOW)?;
-    let printed = print_requests(alloc, &mut reader, &mut input, names, &choice, out)?;
+    let mut line = ProgressLine::new(clock, &mut *err, is_shared, &amount);
+    amount.is_of(input.size());
+    let mut followed = Followed {
+        input: &mut input,
+        line: &mut line,
+    };
+    let printed = print_requests(alloc, &mut reader, &mut followed, names, &choice, out);
+    line.clear();
+    drop(line);
+    let printed = printed?;
     note_unnamed(reader.unnamed(), err);
     note_cut(reader.is_cut(), err);
     note_turned_away(printed, err);

@@ -7,20 +7,23 @@ use crate::audits::log_fault;
 use crate::clusters::read_cluster;
 use crate::faults::Fault;
 use crate::files::{Files, Input, judge_names, open_input};
-use crate::notes::{note_cut, note_unnamed};
+use crate::notes::{note_cut, note_patience, note_unnamed};
+use crate::progress::{Amount, Followed, ProgressLine};
 use crate::streaming::lane_fault;
 use crate::telling::named;
 use crate::traces::patience_of;
 use apf_audit_reader::{AuditReader, WINDOW};
 use apf_cluster::{
-    ClusterFault, ClusterTerms, LevelTable, flows_in_order, run_log, write_objects, write_tables,
+    ClusterFault, ClusterTerms, LevelTable, TraceFault, flows_in_order, level_named, run_log,
+    write_objects, write_tables, write_trace,
 };
 use apf_flows::write_text;
 use apf_local::OpenFault;
 use apf_objects::Cluster;
 use std::alloc::{AllocError, Global};
 use std::io;
-use std::io::Write;
+use std::io::{IsTerminal, Write};
+use std::time::Clock;
 
 /// How a cluster is simulated, and what is printed, by the words of a command line.
 #[derive(Clone, Copy)]
@@ -32,6 +35,8 @@ pub(crate) struct Simulated<'a> {
     pub(crate) flows: u32,
     /// Whether JSON is printed.
     pub(crate) json: bool,
+    /// Whether each level keeps its nominal limit.
+    pub(crate) no_lending: bool,
 }
 
 // Writes why the level at this place was not opened.
@@ -57,13 +62,10 @@ fn told(alloc: Global, cluster: &Cluster, place: usize, fault: &OpenFault) -> Fa
     }
 }
 
-// The fault of a line of a log that is of no level.
-fn misread(alloc: Global, number: u64) -> Fault {
+// The fault in its own words.
+fn in_words(alloc: Global, fault: &ClusterFault) -> Fault {
     let mut line = Vec::new(alloc);
-    match writeln!(
-        &mut line,
-        "apf: line {number} is of no level, or out of order"
-    ) {
+    match writeln!(&mut line, "apf: {fault}") {
         Ok(()) => Fault::Told(line),
         Err(_) => Fault::NoMemory,
     }
@@ -81,7 +83,7 @@ fn fault_of(
         ClusterFault::Read(fault) => log_fault(alloc, log, line, fault),
         ClusterFault::Open(place, fault) => told(alloc, cluster, place, &fault),
         ClusterFault::Level(fault) => lane_fault(fault),
-        ClusterFault::Misread(number) => misread(alloc, number),
+        ClusterFault::Misread(_) | ClusterFault::Untimely => in_words(alloc, &fault),
         ClusterFault::TooMany => Fault::TooMany,
         ClusterFault::NoMemory => Fault::NoMemory,
     }
@@ -107,26 +109,28 @@ fn write<O: Write>(
     written.map_err(|_| Fault::CannotWrite)
 }
 
-/// Simulates the requests of an audit log on the levels of a cluster, and prints what they came to, by level and by flow. The names
-/// are those of the objects and of the log, which is read in pieces, so that it may have any length.
-///
-/// # Errors
-///
-/// The faults of the patience, then those of the files in the order objects, log, then those of the levels and of what runs on them,
-/// then those of the output.
-pub(crate) fn print_cluster_run<F: Files, O: Write, E: Write>(
+// Simulates the requests of an audit log on the levels of a cluster, and prints what they came to, by level and by flow. The names
+// are those of the objects and of the log, which is read in pieces, so that it may have any length.
+//
+// # Errors
+//
+// The faults of the patience, then those of the files in the order objects, log, then those of the levels and of what runs on them,
+// then those of the output.
+fn print_cluster_run<'n, F: Files, O: Write, C: Clock, E: Write + IsTerminal>(
     alloc: Global,
     files: &mut F,
     names: (&str, &str),
     way: Simulated<'_>,
     out: &mut O,
-    err: &mut E,
+    clock: &'n C,
+    err: &'n mut E,
 ) -> Result<(), Fault>
     requires { way.seats ≤ max_seats }
 {
     let patience = patience_of(way.patience)?;
     judge_names(&[names.0, names.1])?;
     let cluster = read_cluster(alloc, files, names.0)?;
+    let amount = Amount::of(None);
     let mut input = match open_input(files, Input::AuditLog, names.1) {
         Ok(input) => input,
         Err(fault) => return Err(named(alloc, names.1, fault)),
@@ -135,8 +139,18 @@ pub(crate) fn print_cluster_run<F: Files, O: Write, E: Write>(
     let terms = ClusterTerms {
         seats: way.seats,
         patience,
+        lends: !way.no_lending,
     };
-    let tables = match run_log(alloc, &cluster, terms, &mut reader, &mut input) {
+    let mut line = ProgressLine::new(clock, &mut *err, false, &amount);
+    amount.is_of(input.size());
+    let mut followed = Followed {
+        input: &mut input,
+        line: &mut line,
+    };
+    let ran = run_log(alloc, &cluster, terms, &mut reader, &mut followed);
+    line.clear();
+    drop(line);
+    let tables = match ran {
         Ok(tables) => tables,
         Err(fault) => return Err(fault_of(alloc, &cluster, names.1, reader.line(), fault)),
     };
@@ -144,4 +158,99 @@ pub(crate) fn print_cluster_run<F: Files, O: Write, E: Write>(
     note_unnamed(reader.unnamed(), err);
     note_cut(reader.is_cut(), err);
     Ok(())
+}
+
+// The fault of a level that is not there.
+fn no_level(alloc: Global, name: &str) -> Fault {
+    let mut line = Vec::new(alloc);
+    let written = line
+        .write_all(b"apf: there is no level ")
+        .and_then(|()| write_text(&mut line, name))
+        .and_then(|()| line.write_all(b"\n"));
+    match written {
+        Ok(()) => Fault::Told(line),
+        Err(_) => Fault::NoMemory,
+    }
+}
+
+// Prints the requests of an audit log that are of the level of this name, as a trace. The names are those of the objects and of the
+// log, which is read in pieces, so that it may have any length.
+//
+// # Errors
+//
+// The faults of the patience, then those of the files in the order objects, log; a level that is not there before those of the log;
+// the log's first fault behind the lines of the requests before it; those of the output.
+fn print_level_trace<'n, F: Files, O: Write, C: Clock, E: Write + IsTerminal>(
+    alloc: Global,
+    files: &mut F,
+    names: (&str, &str),
+    words: (&str, &str),
+    out: &mut O,
+    clock: &'n C,
+    err: &'n mut E,
+) -> Result<(), Fault> {
+    let (patience, level) = words;
+    patience_of(patience)?;
+    judge_names(&[names.0, names.1])?;
+    let cluster = read_cluster(alloc, files, names.0)?;
+    let Some(place) = level_named(cluster.levels.as_slice(), level) else {
+        return Err(no_level(alloc, level));
+    };
+    // it prints as it goes on
+    let is_shared = files.is_shown();
+    let amount = Amount::of(None);
+    let mut input = match open_input(files, Input::AuditLog, names.1) {
+        Ok(input) => input,
+        Err(fault) => return Err(named(alloc, names.1, fault)),
+    };
+    let mut reader = AuditReader::new(alloc, WINDOW)?;
+    let mut line = ProgressLine::new(clock, &mut *err, is_shared, &amount);
+    amount.is_of(input.size());
+    let mut followed = Followed {
+        input: &mut input,
+        line: &mut line,
+    };
+    let written = write_trace(&cluster, place, &mut reader, &mut followed, out);
+    line.clear();
+    drop(line);
+    match written {
+        Ok(()) => {}
+        Err(TraceFault::CannotWrite) => return Err(Fault::CannotWrite),
+        Err(TraceFault::Cluster(fault)) => {
+            return Err(fault_of(alloc, &cluster, names.1, reader.line(), fault));
+        }
+    }
+    note_unnamed(reader.unnamed(), err);
+    note_cut(reader.is_cut(), err);
+    Ok(())
+}
+
+/// Simulates the requests of an audit log on the levels of a cluster, or prints those of the level of this name as a trace.
+///
+/// # Errors
+///
+/// `LevelAndTrace` if one of the two is asked for without the other; then those of what is done.
+pub(crate) fn print_cluster_command<F: Files, O: Write, C: Clock, E: Write + IsTerminal>(
+    alloc: Global,
+    files: &mut F,
+    names: (&str, &str),
+    way: Simulated<'_>,
+    traced: (Option<&str>, bool),
+    out: &mut O,
+    clock: &C,
+    err: &mut E,
+) -> Result<(), Fault>
+    requires { way.seats ≤ max_seats }
+{
+    match traced {
+        (Some(level), true) => {
+            print_level_trace(alloc, files, names, (way.patience, level), out, clock, err)
+        }
+        (None, false) => {
+            print_cluster_run(alloc, files, names, way, out, clock, err)?;
+            note_patience(way.patience, err);
+            Ok(())
+        }
+        (Some(_), false) | (None, true) => Err(Fault::LevelAndTrace),
+    }
 }

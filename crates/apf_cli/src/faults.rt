@@ -82,6 +82,8 @@ pub enum Fault {
     NoRequest,
     /// A request and an audit log are both named.
     RequestAndLog,
+    /// A level is named and no trace is asked for, or the other way round.
+    LevelAndTrace,
     /// The level was not opened, for another cause than the dealer's. What the readers accept has none.
     Level(ReplayFault),
     /// In a simulation nothing is due any more, and a request still waits. It has never been seen.
@@ -132,6 +134,7 @@ impl Fault {
             | Fault::BoundOfSeats
             | Fault::NoRequest
             | Fault::RequestAndLog
+            | Fault::LevelAndTrace
             | Fault::BadTime(_)
             | Fault::EndsBefore
             | Fault::BadInstant(_) => 2,
@@ -309,6 +312,7 @@ impl fmt::Display for Fault {
                 "apf: a request needs --user, --verb and one of --resource and --path, and --api-group and --namespace go with --resource",
             ),
             Fault::RequestAndLog => f.write_str("apf: --log goes with no other option"),
+            Fault::LevelAndTrace => f.write_str("apf: --level and --trace go together"),
             Fault::Level(fault) => write!(f, "apf: the level can't be opened: {fault}"),
             Fault::StillWaits => f.write_str("apf: a request still waits, and no seat is taken"),
             Fault::OtherBook => {

@@ -8,7 +8,7 @@ ghost use Rattle.apf_commands.specs.Commands.{is_script_command, is_simulation_c
 ghost use Rattle.apf_commands.specs.Meaning.{IsInRange, words_fault};
 
 use crate::audits::print_trace;
-use crate::cluster_runs::{Simulated, print_cluster_run};
+use crate::cluster_runs::{Simulated, print_cluster_command};
 use crate::clusters::{print_cluster, print_matches};
 use crate::explaining::print_explanation;
 use crate::faults::{Fault, Sizes};
@@ -243,12 +243,12 @@ fn print_action<F: Files, O: Write, E: Write + IsTerminal, R: Wait + Threads + S
             config,
             trace,
             flow,
-        } => print_hands(alloc, files, (config, trace), flow, out, err),
+        } => print_hands(alloc, files, (config, trace), flow, out, rt, err),
         Arguments::AuditLog {
             log,
             schema,
             chosen,
-        } => print_trace(alloc, files, (log, schema), &chosen, out, err),
+        } => print_trace(alloc, files, (log, schema), &chosen, out, rt, err),
         Arguments::Objects { objects, seats } => print_cluster(alloc, files, objects, seats, out),
         Arguments::Match { objects, asked } => print_matches(alloc, files, objects, &asked, out),
         Arguments::Cluster {
@@ -258,16 +258,27 @@ fn print_action<F: Files, O: Write, E: Write + IsTerminal, R: Wait + Threads + S
             seats,
             flows,
             json,
+            no_lending,
+            level,
+            trace,
         } => {
             let way = Simulated {
                 patience,
                 seats,
                 flows,
                 json,
+                no_lending,
             };
-            print_cluster_run(alloc, files, (objects, log), way, out, err)?;
-            note_patience(patience, err);
-            Ok(())
+            print_cluster_command(
+                alloc,
+                files,
+                (objects, log),
+                way,
+                (level, trace),
+                out,
+                rt,
+                err,
+            )
         }
     }
 }

@@ -50,6 +50,11 @@ impl Amount {
             .set(self.lines.get().saturating_add(lines as u64));
     }
 
+    // How many hundredths so many are of all, if that is known.
+    fn part(&self, done: u64) -> Option<u64> {
+        percent_of(u128::from(done), self.all.get()?)
+    }
+
     // How many hundredths of all are done, where the requests of so many lines came: the lines that were read are taken to be of one
     // length.
     fn percent(&self, came: u64) -> Option<u64> {
@@ -68,22 +73,25 @@ fn percent_of(part: u128, all: u64) -> Option<u64>
     Some(percent.min(100) as u64)
 }
 
-// When the newest line was shown, and how many requests had come then. Before that: when the command began.
+// When the newest line was shown, and how many requests had come then, or how many lines were read. Before that: when the command
+// began.
 #[derive(Clone, Copy)]
 struct Shown {
     at: Instant,
-    requests: u64,
+    count: u64,
 }
 
 /// How far a command is.
 #[derive(Clone, Copy)]
 pub(crate) struct Distance {
-    /// How many requests came.
-    pub(crate) requests: u64,
+    /// How many requests came, or how many lines were read.
+    pub(crate) count: u64,
+    /// Which of the two.
+    pub(crate) unit: &'static str,
     /// The time of a simulation, in microseconds.
     pub(crate) time: Option<u64>,
-    /// How many requests wait.
-    pub(crate) waiting: u64,
+    /// How many requests wait, where some can.
+    pub(crate) waiting: Option<u64>,
     /// How many hundredths are done, if that is known.
     pub(crate) percent: Option<u64>,
 }
@@ -101,20 +109,24 @@ pub(crate) struct ProgressLine<'a, C: Clock, E: Write> {
     width: usize,
 }
 
-// Writes how far a command is, where so many requests come a second.
+// Writes how far a command is, where so many come a second.
 fn write_distance<W: Write>(out: &mut W, distance: Distance, rate: u64) -> io::Result<()> {
     let Distance {
-        requests,
+        count,
+        unit,
         time,
         waiting,
         percent,
     } = distance;
-    write!(out, "{requests} requests")?;
+    write!(out, "{count} {unit}")?;
     if let Some(time) = time {
         let seconds = time / 1_000_000;
         write!(out, ", {seconds} s of the trace")?;
     }
-    write!(out, ", {rate} a second, {waiting} wait")?;
+    write!(out, ", {rate} a second")?;
+    if let Some(waiting) = waiting {
+        write!(out, ", {waiting} wait")?;
+    }
     if let Some(percent) = percent {
         write!(out, ", {percent} %")?;
     }
@@ -147,7 +159,7 @@ impl<'a, C: Clock, E: Write + IsTerminal> ProgressLine<'a, C, E> {
             clock,
             err: if is_seen { Some(err) } else { None },
             amount,
-            shown: at.map(|at| Shown { at, requests: 0 }),
+            shown: at.map(|at| Shown { at, count: 0 }),
             width: 0,
         }
     }
@@ -187,10 +199,10 @@ impl<C: Clock, E: Write> ProgressLine<'_, C, E> {
     // Shows how far the command is, now, which is so long after the newest line.
     fn show(&mut self, distance: Distance, now: Instant, since: Duration) {
         let before = match self.shown {
-            Some(shown) => shown.requests,
+            Some(shown) => shown.count,
             None => 0,
         };
-        let rate = rate_of(distance.requests.saturating_sub(before), since);
+        let rate = rate_of(distance.count.saturating_sub(before), since);
         let mut text = [b' '; MOST_WIDTH];
         let mut rest = text.as_mut_slice();
         // what does not fit is left out
@@ -199,8 +211,27 @@ impl<C: Clock, E: Write> ProgressLine<'_, C, E> {
         self.put(&text[..width]);
         self.shown = Some(Shown {
             at: now,
-            requests: distance.requests,
+            count: distance.count,
         });
+    }
+
+    /// These bytes more were read of an input, of which lines are counted.
+    pub(crate) fn read(&mut self, bytes: &[u8]) {
+        if !self.is_seen() {
+            return;
+        }
+        self.amount.add(bytes);
+        let Some((now, since)) = self.due() else {
+            return;
+        };
+        let distance = Distance {
+            count: self.amount.lines.get(),
+            unit: "lines",
+            time: None,
+            waiting: None,
+            percent: self.amount.part(self.amount.bytes.get()),
+        };
+        self.show(distance, now, since);
     }
 
     /// Clears the line.
@@ -218,9 +249,10 @@ impl<C: Clock, E: Write> Progress for ProgressLine<'_, C, E> {
             return;
         };
         let distance = Distance {
-            requests: lane.came(),
+            count: lane.came(),
+            unit: "requests",
             time: Some(lane.time()),
-            waiting: lane.waiting(),
+            waiting: Some(lane.waiting()),
             percent: self.amount.percent(lane.came()),
         };
         self.show(distance, now, since);
@@ -245,15 +277,12 @@ impl<C: Clock, E: Write> Watch for ProgressLine<'_, C, E> {
         let Some((now, since)) = self.due() else {
             return;
         };
-        let percent = match self.amount.all.get() {
-            Some(all) => percent_of(u128::from(came), all),
-            None => None,
-        };
         let distance = Distance {
-            requests: came,
+            count: came,
+            unit: "requests",
             time: None,
-            waiting,
-            percent,
+            waiting: Some(waiting),
+            percent: self.amount.part(came),
         };
         self.show(distance, now, since);
     }
@@ -275,6 +304,23 @@ impl<R: Read> Read for Counted<'_, '_, R> {
             if let Some(read) = buf.get(..count) {
                 self.amount.add(read);
             }
+        }
+        Ok(count)
+    }
+}
+
+/// An input that shows how far it was read.
+#[derive(Drop)]
+pub(crate) struct Followed<'r, 'l, 'c, R: Read, C: Clock, E: Write> {
+    pub(crate) input: &'r mut R,
+    pub(crate) line: &'l mut ProgressLine<'c, C, E>,
+}
+
+impl<R: Read, C: Clock, E: Write> Read for Followed<'_, '_, '_, R, C, E> {
+    fn read(&mut self, buf: &mut [u8]) -> io::Result<usize> {
+        let count = self.input.read(buf)?;
+        if let Some(read) = buf.get(..count) {
+            self.line.read(read);
         }
         Ok(count)
     }

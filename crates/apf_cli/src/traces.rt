@@ -9,6 +9,7 @@ use crate::faults::Fault;
 use crate::files::{Files, Input, Source, judge_names, read_input};
 use crate::measuring::Measure;
 use crate::notes::note_no_flow;
+use crate::progress::{Amount, Followed, ProgressLine};
 use crate::reading::{config_of, level_fault};
 use crate::streaming::open_trace;
 use crate::telling::{named, trace_fault, unread_trace_fault};
@@ -20,7 +21,8 @@ use apf_run::Config;
 use apf_trace_reader::{TraceReader, WINDOW};
 use apf_traces::{TraceRequest, read_trace};
 use std::alloc::Global;
-use std::io::Write;
+use std::io::{IsTerminal, Write};
+use std::time::Clock;
 
 /// In which way a trace is simulated, by the words of a command line.
 #[derive(Clone, Copy)]
@@ -123,19 +125,30 @@ fn hands_fault<F: Files>(
 /// # Errors
 ///
 /// The faults of the files in the order config, trace, then the dealer's, then those of the output.
-pub(crate) fn print_hands<F: Files, O: Write, E: Write>(
+pub(crate) fn print_hands<'n, F: Files, O: Write, C: Clock, E: Write + IsTerminal>(
     alloc: Global,
     files: &mut F,
     names: (&str, &str),
     flow: Option<&str>,
     out: &mut O,
-    err: &mut E,
+    clock: &'n C,
+    err: &'n mut E,
 ) -> Result<(), Fault> {
     judge_names(&[names.0, names.1])?;
     let config = config_of(alloc, files, names.0)?;
+    let amount = Amount::of(None);
     let mut input = open_trace(alloc, files, names.1)?;
     let mut reader = TraceReader::new(alloc, WINDOW)?;
-    match write_flows(alloc, &config, &mut reader, &mut input, flow, out) {
+    let mut line = ProgressLine::new(clock, &mut *err, false, &amount);
+    amount.is_of(input.size());
+    let mut followed = Followed {
+        input: &mut input,
+        line: &mut line,
+    };
+    let written = write_flows(alloc, &config, &mut reader, &mut followed, flow, out);
+    line.clear();
+    drop(line);
+    match written {
         Ok(is_found) => {
             if let Some(name) = flow
                 && !is_found

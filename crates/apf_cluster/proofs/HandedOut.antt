@@ -1,6 +1,6 @@
 -- What was handed out, and what came of it.
-use Rattle.std.proofs.Common.{◌≡◌, ◌≤◌, ◌-◌, ℕ, List, [], ◌∷◌, ◌++◌, length, map, Bool, true, false, cond, Option, Some, None, Ok, Err, refl, sym, ap, ◌∙◌, subst, arith}
-use Rattle.std.specs.Prelude.{IsSome, is_some, nat_le, option_map}
+use Rattle.std.proofs.Common.{◌≡◌, ◌≤◌, ◌*◌, ℕ, suc, List, [], ◌∷◌, ◌++◌, length, map, Option, Some, None, Ok, refl, sym, ap, ◌∙◌, subst, arith}
+use Rattle.std.specs.Prelude.{IsSome, option_map}
 use Rattle.std.specs.List.{AllZip}
 use Rattle.std.specs.Option.{option_to_list}
 use Rattle.std.specs.Io.KnownBytes.{Consumes}
@@ -18,10 +18,12 @@ use Rattle.apf_audit.specs.declared.event.Taken.{Taken}
 use Rattle.apf_audit_reader.specs.Reading.{Answers, AnswersEach, AreAll, HasRead}
 use Rattle.apf_audit_reader.specs.Views.{ReaderView}
 use Rattle.apf_cluster.specs.Requests.{level_of, start_of}
-use Rattle.apf_cluster.specs.Runs.{AreInTime, AreLived, AreOpened, AreTables, Course, HasCome, HasFed, HasRunLog, HaveGone, HaveLevels, IsClosed, IsLevelTable, IsOpenedLane, TakesOne, all_of}
+use Rattle.apf_cluster.specs.Lending.{Adjustment, period}
+use Rattle.apf_cluster.specs.Runs.{AreAdjusted, AreInTime, AreLived, AreOpened, AreTables, Course, HasCome, HasFed, HasRunLog, HaveGone, IsClosed, IsLevelTable, IsOpenedLane, Reaches, all_of}
 use Rattle.apf_cluster.specs.declared.closing.LevelTable.{LevelTable}
 use Rattle.apf_cluster.specs.declared.lanes.LevelLane.{LevelLane}
-use Rattle.apf_cluster.proofs.Coming.{closed, one_more, opened}
+use Rattle.apf_cluster.specs.declared.running.ClusterTerms.{ClusterTerms}
+use Rattle.apf_cluster.proofs.Coming.{closed, opened}
 use Rattle.apf_cluster.proofs.Zips.{all_of_zip, all_then, from_zip, then_zip}
 
 -- the first was handed out, or nothing is there
@@ -51,57 +53,77 @@ pub more_fed : (choice : Choice) (was mid left : Option (List ℕ)) (told : List
 more_fed choice was mid left told e next v v' answers f = fed_by choice was mid left told e next v v' f (answers f.bytes (told ++ e ∷ []) f.read)
 
 -- when the first was received stays so
-start_stays : (told : List Event) (e : Event) (more : List Event) → start_of ((told ++ e ∷ []) ++ more) ≡ start_of (told ++ e ∷ [])
+pub start_stays : (told : List Event) (e : Event) (more : List Event) → start_of ((told ++ e ∷ []) ++ more) ≡ start_of (told ++ e ∷ [])
 start_stays [] e more = refl
 start_stays (x ∷ told) e more = refl
 
 -- the lanes of the levels at hand, with all their shares
-pub all_opened : (seats patience all : ℕ) (given levels : List Level) (lanes : List LevelLane) → given ≡ levels → all ≡ sum_of_shares (map level_view given)
-    → AreOpened seats patience all (map level_view given) lanes → AreOpened seats patience (sum_of_shares (map level_view levels)) (map level_view levels) lanes
-all_opened seats patience all given levels lanes same shares are =
-    subst (λ (n : ℕ). AreOpened seats patience n (map level_view levels) lanes) (shares ∙ ap (λ (l : List Level). sum_of_shares (map level_view l)) same)
-    (subst (λ (l : List Level). AreOpened seats patience all (map level_view l) lanes) same are)
+pub all_opened : (terms : ClusterTerms) (all : ℕ) (given levels : List Level) (lanes : List LevelLane) → given ≡ levels → all ≡ sum_of_shares (map level_view given)
+    → AreOpened terms all (map level_view given) lanes → AreOpened terms (sum_of_shares (map level_view levels)) (map level_view levels) lanes
+all_opened terms all given levels lanes same shares are =
+    subst (λ (n : ℕ). AreOpened terms n (map level_view levels) lanes) (shares ∙ ap (λ (l : List Level). sum_of_shares (map level_view l)) same)
+    (subst (λ (l : List Level). AreOpened terms all (map level_view l) lanes) same are)
 
-pub as_many : (seats patience all : ℕ) (levels : List Level) (lanes : List LevelLane) → AreOpened seats patience all (map level_view levels) lanes → length lanes ≡ length levels
-as_many seats patience all levels lanes are = AllZip-long (IsOpenedLane seats patience all) (map level_view levels) lanes are ∙ length-map levels level_view
+pub as_many : (terms : ClusterTerms) (all : ℕ) (levels : List Level) (lanes : List LevelLane) → AreOpened terms all (map level_view levels) lanes → length lanes ≡ length levels
+as_many terms all levels lanes are = AllZip-long (IsOpenedLane terms all) (map level_view levels) lanes are ∙ length-map levels level_view
 
-pub new_in_time : (seats patience all : ℕ) (levels : List LevelSaid) (lanes : List LevelLane) → AreOpened seats patience all levels lanes → AreInTime 0 lanes
-new_in_time seats patience all levels lanes are = all_of_zip (IsOpenedLane seats patience all) (λ (v : LevelLane). v.lane.state.slots.time ≤ 0) (λ l v o. omega (arith, o.time)) levels lanes are
+pub new_in_time : (terms : ClusterTerms) (all : ℕ) (levels : List LevelSaid) (lanes : List LevelLane) → AreOpened terms all levels lanes → AreInTime 0 lanes
+new_in_time terms all levels lanes are = all_of_zip (IsOpenedLane terms all) (λ (v : LevelLane). v.lane.state.slots.time ≤ 0) (λ l v o. omega (arith, o.time)) levels lanes are
 
-pub new_lived : (seats patience all : ℕ) (levels : List LevelSaid) (lanes : List LevelLane) → AreOpened seats patience all levels lanes → AreLived lanes
-new_lived seats patience all levels lanes are =
-    all_of_zip (IsOpenedLane seats patience all) (λ (v : LevelLane). IsLived v.lane) (λ l v o. record { under = []; opening = v.lane.state; came = []; told = []; lane = o.nobody }) levels lanes are
+pub new_lived : (terms : ClusterTerms) (all : ℕ) (levels : List LevelSaid) (lanes : List LevelLane) → AreOpened terms all levels lanes → AreLived lanes
+new_lived terms all levels lanes are =
+    all_of_zip (IsOpenedLane terms all) (λ (v : LevelLane). IsLived v.lane) (λ l v o. record { under = []; opening = v.lane.state; came = []; told = []; lane = o.nobody }) levels lanes are
 
 -- nobody came yet
 pub none_gone : (choice : Choice) (w : Course) (was left : Option (List ℕ)) (next : Option Event) (v : ReaderView) (lanes : List LevelLane)
-    → HasFed choice was left [] next v → AreOpened w.seats w.patience (all_of w) w.cluster.levels lanes → w.start ≡ start_of (option_to_list next) → HaveGone choice w was left next v lanes
+    → HasFed choice was left [] next v → AreOpened w.terms (all_of w) w.cluster.levels lanes → w.start ≡ start_of (option_to_list next) → HaveGone choice w was left next v lanes 0
 none_gone choice w was left next v lanes fed are start = record {
   told = [];
   fed = fed;
-  come = from_zip (IsOpenedLane w.seats w.patience (all_of w)) (HasCome w []) (λ i l x o. opened w i l x o) 0 w.cluster.levels lanes are;
+  reaches = record {
+    adjustments = [];
+    many = refl;
+    divided = tt;
+    come = from_zip (IsOpenedLane w.terms (all_of w)) (HasCome w [] []) (λ i l x o. opened w i l x o) 0 w.cluster.levels lanes are;
+  };
   levels = tt;
   start = start;
 }
 
 -- the request of one event more came to its lane
-pub gone_on : (choice : Choice) (w : Course) (was mid left : Option (List ℕ)) (e : Event) (next : Option Event) (v v' : ReaderView) (lanes lanes' : List LevelLane)
+pub gone_on : (choice : Choice) (w : Course) (was mid left : Option (List ℕ)) (e : Event) (next : Option Event) (v v' : ReaderView) (lanes lanes' : List LevelLane) (periods periods' : ℕ)
     → ((told : List Event) → HasFed choice was mid told (Some e) v → HasFed choice was left (told ++ e ∷ []) next v')
-    → TakesOne w.cluster w.start e lanes lanes' → HaveGone choice w was mid (Some e) v lanes → HaveGone choice w was left next v' lanes'
-gone_on choice w was mid left e next v v' lanes lanes' fed takes g = record {
+    → ((told : List Event) → Reaches w told lanes periods → Reaches w (told ++ e ∷ []) lanes' periods') → IsSome (level_of w.cluster e)
+    → HaveGone choice w was mid (Some e) v lanes periods → HaveGone choice w was left next v' lanes' periods'
+gone_on choice w was mid left e next v v' lanes lanes' periods periods' fed reaches level g = record {
   told = g.told ++ e ∷ [];
   fed = fed g.told g.fed;
-  come = one_more w g.told e lanes lanes' takes g.come;
-  levels = all_then (λ (x : Event). IsSome (level_of w.cluster x)) g.told e g.levels (ap (λ (o : Option ℕ). is_some o) takes.level);
+  reaches = reaches g.told g.reaches;
+  levels = all_then (λ (x : Event). IsSome (level_of w.cluster x)) g.told e g.levels level;
   start = g.start ∙ sym (start_stays g.told e (option_to_list next));
 }
 
+-- each lane was closed
+pub tables_of : (w : Course) (told : List Event) (periods end : ℕ) (lanes : List LevelLane) (tables : List LevelTable) → end ≡ period * suc periods → Reaches w told lanes periods → AllZip (IsClosed end) lanes tables
+    → (adjustments : List Adjustment) × AreAdjusted w adjustments × AreTables w told adjustments tables
+tables_of w told periods end lanes tables is r d =
+    let past = r.adjustments in (
+      past,
+      r.divided,
+      then_zip (HasCome w told past) (IsClosed (period * suc (length past))) (IsLevelTable w told past) (λ i l x t h is. closed w told past i l x t h is) 0 w.cluster.levels lanes tables r.come
+          (subst (λ (n : ℕ). AllZip (IsClosed n) lanes tables) (is ∙ ap (λ (n : ℕ). period * suc n) (sym r.many)) d),
+    )
+
 -- the whole log was read, and each lane was closed
-pub ran_log : (choice : Choice) (c : ClusterSaid) (seats patience start size : ℕ) (was left : Option (List ℕ)) (v : ReaderView) (lanes : List LevelLane) (tables : List LevelTable) → v.window.size ≡ size
-    → HaveGone choice (record { cluster = c; seats = seats; patience = patience; start = start }) was left None v lanes → AllZip IsClosed lanes tables → HasRunLog choice c seats patience size was left tables
-ran_log choice c seats patience start size was left v lanes tables same g d =
-    let w : Course = record { cluster = c; seats = seats; patience = patience; start = start } in
+pub ran_log : (choice : Choice) (c : ClusterSaid) (terms : ClusterTerms) (start size : ℕ) (was left : Option (List ℕ)) (v : ReaderView) (lanes : List LevelLane) (periods : ℕ) (tables : List LevelTable) → v.window.size ≡ size
+    → HaveGone choice (record { cluster = c; terms = terms; start = start }) was left None v lanes periods
+    → ((told : List Event) → Reaches (record { cluster = c; terms = terms; start = start }) told lanes periods
+    → (adjustments : List Adjustment) × AreAdjusted (record { cluster = c; terms = terms; start = start }) adjustments × AreTables (record { cluster = c; terms = terms; start = start }) told adjustments tables)
+    → HasRunLog choice c terms size was left tables
+ran_log choice c terms start size was left v lanes periods tables same g closes =
     let whole = g.fed.all refl in
     let first : start ≡ start_of g.told = g.start ∙ ap start_of (append-nil g.told) in
+    let ends = closes g.told g.reaches in
     record {
       bytes = g.fed.bytes;
       given = g.fed.given;
@@ -109,6 +131,7 @@ ran_log choice c seats patience start size was left v lanes tables same g d =
       all = subst (λ (n : ℕ). AreAll choice n g.fed.bytes g.told) same whole.0;
       ended = whole.1;
       levels = g.levels;
-      tables_are = subst (λ (s : ℕ). AreTables (record { cluster = c; seats = seats; patience = patience; start = s }) g.told tables) first
-          (then_zip (HasCome w g.told) IsClosed (IsLevelTable w g.told) (λ i l x t h is. closed w g.told i l x t h is) 0 c.levels lanes tables g.come d);
+      adjustments = ends.0;
+      divided = ends.1;
+      tables_are = subst (λ (s : ℕ). AreTables (record { cluster = c; terms = terms; start = s }) g.told ends.0 tables) first ends.2;
     }

@@ -1,5 +1,5 @@
 -- Lists place by place.
-use Rattle.std.proofs.Common.{◌≡◌, ◌≢◌, ◌∙◌, ℕ, zero, suc, ◌+◌, ◌<◌, List, [], ◌∷◌, ◌++◌, Bool, true, false, cond, Option, Some, None, set, refl, sym, ap, subst, arith, length, add-zero}
+use Rattle.std.proofs.Common.{◌≡◌, ◌≢◌, ℕ, zero, suc, ◌+◌, ◌<◌, List, [], ◌∷◌, ◌++◌, Bool, cond, Some, set, refl, sym, ap, subst, arith, length, add-zero}
 use Rattle.std.specs.Prelude.{slice_get, count_by}
 use Rattle.std.specs.List.{AllByRecursion, AllZip}
 use Rattle.std.proofs.lemmas.List.Sums.{sum_by-append}
@@ -42,6 +42,26 @@ at_place {A} {B} R S g y y' changes stays i zero (x ∷ xs) (z ∷ ys) at there 
     (subst (λ (k : ℕ). S k x y') (sym here) (changes x first), behind R S g stays (suc i) xs ys (omega (arith, at)) h.1)
 at_place R S g y y' changes stays i (suc p) (x ∷ xs) (z ∷ ys) at there h =
     (stays i x z (λ e. omega (arith, e, at)) h.0, at_place R S g y y' changes stays (suc i) p xs ys (omega (arith, at)) there h.1)
+
+-- each in the place of another
+pub step_from : {A B : Type 0} (R : ℕ → A → B → Type 0) (K : ℕ → B → B → Type 0) (S : ℕ → A → B → Type 0) → ((i : ℕ) (x : A) (y z : B) → R i x y → K i y z → S i x z)
+    → (i : ℕ) (xs : List A) (ys zs : List B) → length zs ≡ length ys → ((p : ℕ) (y z : B) → slice_get ys p ≡ Some y → slice_get zs p ≡ Some z → K (i + p) y z) → ZipFrom R i xs ys → ZipFrom S i xs zs
+step_from R K S go i [] [] [] same each h = tt
+step_from R K S go i [] [] (z ∷ zs) same each h = absurd (omega (arith, same))
+step_from R K S go i [] (y ∷ ys) zs same each h = absurd h
+step_from R K S go i (x ∷ xs) [] zs same each h = absurd h
+step_from R K S go i (x ∷ xs) (y ∷ ys) [] same each h = absurd (omega (arith, same))
+step_from {A} {B} R K S go i (x ∷ xs) (y ∷ ys) (z ∷ zs) same each h = (
+  go i x y z h.0 (subst (λ (n : ℕ). K n y z) (add-zero i) (each 0 y z refl refl)),
+  step_from R K S go (suc i) xs ys zs (omega (arith, same)) (λ p one other here there. let next : i + suc p ≡ suc i + p = omega arith in subst (λ (n : ℕ). K n one other) next (each (suc p) one other here there)) h.1,
+)
+
+-- what has a place in one list has it in another as long
+pub get_as_well : {A : Type 0} (ys zs : List A) (p : ℕ) (y : A) → length ys ≡ length zs → slice_get ys p ≡ Some y → (z : A) × (slice_get zs p ≡ Some z)
+get_as_well [] zs p y same here = absurd cc
+get_as_well (x ∷ ys) [] p y same here = absurd (omega (arith, same))
+get_as_well (x ∷ ys) (z ∷ zs) zero y same here = (z, refl)
+get_as_well (x ∷ ys) (z ∷ zs) (suc p) y same here = get_as_well ys zs p y (omega (arith, same)) here
 
 -- how long they are
 pub long : {A B : Type 0} (R : ℕ → A → B → Type 0) (i : ℕ) (xs : List A) (ys : List B) → ZipFrom R i xs ys → length ys ≡ length xs

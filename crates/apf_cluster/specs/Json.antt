@@ -1,9 +1,10 @@
 -- What is printed of the levels of a cluster and of their flows for programs.
-use Rattle.std.specs.Prelude.{ℕ, Bool, true, false, List, [], ◌++◌, length, slice_get, Option, Some, None, codes, decimal, string_bytes}
+use Rattle.std.specs.Prelude.{ℕ, Bool, true, false, List, [], ◌++◌, length, slice_get, Option, Some, None, codes, decimal, string_bytes, if◌then◌else◌}
 use Rattle.std.specs.List.{flat_map, range_with_len}
 use Rattle.apf_flows.specs.Json.{json_text}
 use Rattle.apf_traces.specs.declared.request.FlowNames.{FlowNames}
 use Rattle.apf_objects.specs.Levels.{LevelSaid}
+use Rattle.apf_objects.specs.declared.level.LevelSettings.{LevelSettings}
 use Rattle.apf_rows.specs.declared.account.Figures.{Figures}
 use Rattle.apf_rows.specs.declared.sums.Sums.{Sums}
 use Rattle.apf_rows.specs.declared.table.Line.{Line}
@@ -37,6 +38,14 @@ figures_object f = used_object f.sums ++ (exact_object f.is_exact ++ waits_objec
 unfoldable pub nominal_object : ℕ → List ℕ
 nominal_object nominal = codes ",\"nominal\":" ++ decimal nominal
 
+-- the least limit that a level had, and the greatest
+unfoldable pub range_object : (least greatest : ℕ) → List ℕ
+range_object least greatest = codes ",\"leastLimit\":" ++ decimal least ++ codes ",\"greatestLimit\":" ++ decimal greatest
+
+-- none where the level is exempt
+abbrev pub limits_object : LevelSettings → LevelTable → List ℕ
+limits_object settings t = if settings.is_exempt then [] else range_object t.least t.greatest
+
 -- how many the server of the log turned away
 unfoldable pub refused_object : ℕ → List ℕ
 refused_object turned_away = codes ",\"log429s\":" ++ decimal turned_away
@@ -44,7 +53,7 @@ refused_object turned_away = codes ",\"log429s\":" ++ decimal turned_away
 -- the object of a level
 unfoldable pub level_object : LevelSaid → LevelTable → List ℕ
 level_object l t =
-    codes "{\"level\":" ++ (json_text l.name ++ (nominal_object t.nominal ++ (refused_object t.turned_away ++ (counts_object t.table.all.sums ++ figures_object t.table.all))))
+    codes "{\"level\":" ++ (json_text l.name ++ (nominal_object t.nominal ++ (limits_object l.settings t ++ (refused_object t.turned_away ++ (counts_object t.table.all.sums ++ figures_object t.table.all)))))
 
 -- the name of a schema
 unfoldable pub schema_object : List ℕ → List ℕ

@@ -1,5 +1,5 @@
 -- The request of an audit event, and the level that it is of.
-use Rattle.std.specs.Prelude.{◌≡◌, ℕ, ◌-◌, List, [], ◌∷◌, map, Bool, true, false, nat_eq, Option, Some, None, option_and_then, slice_get, bytes_eq}
+use Rattle.std.specs.Prelude.{ℕ, ◌-◌, List, [], ◌∷◌, Bool, false, nat_eq, Option, Some, None, option_and_then, slice_get, bytes_eq}
 use Rattle.std.specs.List.{filter}
 use Rattle.apf_flow.specs.Flow.{flow_hash_of}
 use Rattle.apf_times.specs.declared.window.Arrival.{Arrival}

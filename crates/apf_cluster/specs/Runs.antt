@@ -1,5 +1,5 @@
 -- The requests of a log run on the levels of a cluster.
-use Rattle.std.specs.Prelude.{◌≡◌, ℕ, zero, suc, ◌+◌, ◌≤◌, List, [], ◌∷◌, ◌++◌, length, map, count_by, slice_get, slice_set, Bool, Option, Some, None, IsSome, if◌then◌else◌}
+use Rattle.std.specs.Prelude.{◌≡◌, ℕ, suc, ◌+◌, ◌*◌, ◌≤◌, min, max, not, ◌&&◌, true, false, List, [], ◌∷◌, ◌++◌, length, map, count_by, slice_get, slice_set, Bool, Option, Some, None, IsSome, if◌then◌else◌}
 use Rattle.std.specs.Borrow.{Bor}
 use Rattle.std.specs.List.{AllByRecursion, AllZip}
 use Rattle.std.specs.Option.{option_to_list}
@@ -10,23 +10,30 @@ use Rattle.apf_traces.specs.declared.request.TraceRequest.{TraceRequest}
 use Rattle.apf_objects.specs.Cluster.{ClusterSaid, cluster_view}
 use Rattle.apf_objects.specs.Levels.{LevelSaid}
 use Rattle.apf_objects.specs.declared.cluster.Cluster.{Cluster}
-use Rattle.apf_matching.specs.Limits.{nominal_of, sum_of_shares}
+use Rattle.apf_matching.specs.Limits.{limits_of, sum_of_shares}
+use Rattle.apf_matching.specs.declared.limits.LevelLimits.{LevelLimits}
+use Rattle.apf_lending.specs.declared.claim.Claim.{Claim}
+use Rattle.apf_lender.specs.Periods.{AskingView, IsNew}
+use Rattle.apf_lender.specs.declared.bounds.Bounds.{Bounds}
 use Rattle.apf_audit.specs.AuditEvent.{Event}
 use Rattle.apf_audit.specs.declared.choice.By.TheVariants.{Schema}
 use Rattle.apf_audit.specs.declared.choice.Choice.{Choice}
 use Rattle.apf_audit_reader.specs.Reading.{AreAll, HasRead}
 use Rattle.apf_audit_reader.specs.Views.{ReaderView}
 use Rattle.apf_stream.specs.States.{State}
+use Rattle.apf_stream.specs.declared.deed.NewLimit.{NewLimit}
 use Rattle.apf_stream.specs.declared.ended.Ended.{Ended}
 use Rattle.apf_rows.specs.Tables.{IsTable}
 use Rattle.apf_simulator.specs.Feeds.{IsOver}
-use Rattle.apf_simulator.specs.Lanes.{GoesOn, IsLane, IsLived, IsOpening, LaneView}
+use Rattle.apf_simulator.specs.Lanes.{IsLane, IsLaneUnder, IsLived, IsOpening, LaneView}
 use Rattle.apf_simulator.specs.Told.{EndsWith, IsTableOf}
-use Rattle.apf_cluster.specs.Shapes.{config_of, slots_of}
+use Rattle.apf_cluster.specs.Lending.{Adjustment, HasClaimed, IsAdjustment, IsAsked, asked_at, bounds_of, greatest_of, greatest_set, least_set, or_none, period, set_limits}
+use Rattle.apf_cluster.specs.Shapes.{config_of, limit_of, slots_of}
 use Rattle.apf_cluster.specs.Requests.{level_of, of_level, request_of, said, start_of}
 use Rattle.apf_cluster.specs.declared.feeding.Way.{Way}
 use Rattle.apf_cluster.specs.declared.closing.LevelTable.{LevelTable}
 use Rattle.apf_cluster.specs.declared.lanes.LevelLane.{LevelLane}
+use Rattle.apf_cluster.specs.declared.running.ClusterTerms.{ClusterTerms}
 
 -- requests came to each lane by turns of it
 abbrev pub AreLived : List LevelLane → Type 0
@@ -43,25 +50,108 @@ ZipFrom R i [] (y ∷ ys) = ⊥
 ZipFrom R i (x ∷ xs) [] = ⊥
 ZipFrom R i (x ∷ xs) (y ∷ ys) = R i x y × ZipFrom R (suc i) xs ys
 
--- the nominal limit of a level, where all levels have this many shares
-abbrev pub nominal : (seats all : ℕ) → LevelSaid → ℕ
-nominal seats all l = nominal_of seats l.settings.shares all
+-- the limits of a level, where all levels have this many shares
+abbrev pub limits_in : ClusterTerms → (all : ℕ) → LevelSaid → LevelLimits
+limits_in terms all l = limits_of l.settings terms.seats all
 
--- a level of its own config, to which nobody came
-abbrev pub IsOpeningOf : (seats patience all : ℕ) → LevelSaid → State → Type 0
-IsOpeningOf seats patience all l s = IsOpening (config_of l.settings (nominal seats all l)) (slots_of (config_of l.settings (nominal seats all l))) patience Time s
+-- between which limits it is lent seats
+abbrev pub bounds_in : ClusterTerms → (all : ℕ) → LevelSaid → Bounds
+bounds_in terms all l = bounds_of l.settings (limits_in terms all l)
+
+-- a level is set other limits if seats are lent, and it holds requests back
+abbrev pub is_lent : ClusterTerms → LevelSaid → Bool
+is_lent terms l = terms.lends && not l.settings.is_exempt
+
+-- A level of its own config, to which nobody came. It has slots for its greatest limit
+abbrev pub IsOpeningOf : ClusterTerms → (all : ℕ) → LevelSaid → State → Type 0
+IsOpeningOf terms all l s =
+    IsOpening (config_of l.settings (limits_in terms all l).nominal) (slots_of (config_of l.settings (greatest_of (limits_in terms all l)))) terms.patience Time s
+
+-- the limits of two lanes are the same
+pub record AreSameLimits (v v' : LevelLane) : Type 0 where
+  pub lent : v'.is_lent ≡ v.is_lent
+  pub nominal : v'.nominal ≡ v.nominal
+  pub least : v'.least ≡ v.least
+  pub greatest : v'.greatest ≡ v.greatest
+
+-- and how many of their requests the server of the log turned away
+pub record IsOfLevel (v v' : LevelLane) : Type 0 where
+  pub limits : AreSameLimits v v'
+  pub turned_away : v'.turned_away ≡ v.turned_away
+
+-- From a level to which nobody came these came to the lane of this place, it was set these limits, and these were told. It claimed by that, by these adjustments
+pub record IsRunning (under : List NewLimit) (i : ℕ) (bounds : Bounds) (adjustments : List Adjustment) (opening : State) (came : List (Arrival TraceRequest)) (told : List Ended) (v : LevelLane) : Type 0 where
+  pub lane : IsLaneUnder under opening came told v.lane
+  pub asked : IsAsked i bounds adjustments came told v.asking
+
+-- whatever it was of before: some were told more
+abbrev pub RunsOn : LevelLane → LevelLane → Type 0
+RunsOn v v' = (under : List NewLimit) (i : ℕ) (bounds : Bounds) (adjustments : List Adjustment) (opening : State) (came : List (Arrival TraceRequest)) (told : List Ended)
+    → IsRunning under i bounds adjustments opening came told v → (more : List Ended) × IsRunning under i bounds adjustments opening came (told ++ more) v'
+
+-- whatever it was of before: this came more, and some were told more
+abbrev pub TakesOn : Arrival TraceRequest → LevelLane → LevelLane → Type 0
+TakesOn x v v' = (under : List NewLimit) (i : ℕ) (bounds : Bounds) (adjustments : List Adjustment) (opening : State) (came : List (Arrival TraceRequest)) (told : List Ended)
+    → IsRunning under i bounds adjustments opening came told v → (more : List Ended) × IsRunning under i bounds adjustments opening (came ++ x ∷ []) (told ++ more) v'
+
+-- whatever it was of before: this limit was set, and some were told more
+abbrev pub SetsOn : NewLimit → LevelLane → LevelLane → Type 0
+SetsOn new v v' = (under : List NewLimit) (i : ℕ) (bounds : Bounds) (adjustments : List Adjustment) (opening : State) (came : List (Arrival TraceRequest)) (told : List Ended)
+    → IsRunning under i bounds adjustments opening came told v → (more : List Ended) × IsRunning (under ++ new ∷ []) i bounds adjustments opening came (told ++ more) v'
+
+-- whatever it was of before: a period ended at this time, this is what the level claims, and some were told more
+abbrev pub EndsOn : ℕ → Claim → LevelLane → LevelLane → Type 0
+EndsOn at claim v v' = (under : List NewLimit) (i : ℕ) (bounds : Bounds) (adjustments : List Adjustment) (opening : State) (came : List (Arrival TraceRequest)) (told : List Ended) (a : Adjustment)
+    → IsRunning under i bounds adjustments opening came told v → at ≡ period * suc (length adjustments) → slice_get a.claims i ≡ Some claim
+    → (more : List Ended) × IsRunning under i bounds (a ∷ adjustments) opening came (told ++ more) v'
+
+-- the limit of the lane was set
+pub record IsSet (new : NewLimit) (v v' : LevelLane) : Type 0 where
+  pub goes : SetsOn new v v'
+  pub lent : v'.is_lent ≡ v.is_lent
+  pub nominal : v'.nominal ≡ v.nominal
+  pub least : v'.least ≡ min new.limit v.least
+  pub greatest : v'.greatest ≡ max new.limit v.greatest
+  pub turned_away : v'.turned_away ≡ v.turned_away
+
+-- if the level is lent seats; else nothing is done
+abbrev pub IsSetBy : Bool → NewLimit → LevelLane → LevelLane → Type 0
+IsSetBy false new v v' = v' ≡ v
+IsSetBy true new v v' = IsSet new v v'
+
+-- the period of each level ended at this time, and this is what each claims
+pub record AreEnded (at : ℕ) (lanes lanes' : List LevelLane) (claims : List Claim) : Type 0 where
+  pub many : length claims ≡ length lanes
+  pub still : length lanes' ≡ length lanes
+  pub each : (i : ℕ) (v v' : LevelLane) → slice_get lanes i ≡ Some v → slice_get lanes' i ≡ Some v'
+      → (claim : Claim) × (slice_get claims i ≡ Some claim) × EndsOn at claim v v' × IsOfLevel v v'
+
+-- each lane went on
+pub record HaveGoneOn (lanes lanes' : List LevelLane) : Type 0 where
+  pub still : length lanes' ≡ length lanes
+  pub each : (i : ℕ) (v v' : LevelLane) → slice_get lanes i ≡ Some v → slice_get lanes' i ≡ Some v' → RunsOn v v' × IsOfLevel v v'
+
+-- each lane of a level that is lent seats was set its limit at this time
+pub record AreSet (at : ℕ) (limits : List ℕ) (lanes lanes' : List LevelLane) : Type 0 where
+  pub still : length lanes' ≡ length lanes
+  pub each : (i : ℕ) (v v' : LevelLane) → slice_get lanes i ≡ Some v → slice_get lanes' i ≡ Some v'
+      → IsSetBy v.is_lent (record { at = at; limit = limit_of (or_none (slice_get limits i)) }) v v'
 
 -- a level's lane, to which nobody came
-pub record IsOpenedLane (seats patience all : ℕ) (l : LevelSaid) (v : LevelLane) : Type 0 where
-  pub opened : IsOpeningOf seats patience all l v.lane.state
+pub record IsOpenedLane (terms : ClusterTerms) (all : ℕ) (l : LevelSaid) (v : LevelLane) : Type 0 where
+  pub opened : IsOpeningOf terms all l v.lane.state
   pub nobody : IsLane v.lane.state [] [] v.lane
   pub time : v.lane.state.slots.time ≡ 0
-  pub limit : v.nominal ≡ nominal seats all l
+  pub asks : IsNew (bounds_in terms all l) 0 v.asking
+  pub lent : v.is_lent ≡ is_lent terms l
+  pub nominal : v.nominal ≡ (limits_in terms all l).nominal
+  pub least : v.least ≡ limit_of (limits_in terms all l).nominal
+  pub greatest : v.greatest ≡ limit_of (limits_in terms all l).nominal
   pub none : v.turned_away ≡ 0
 
 -- a lane for each of these levels, to which nobody came
-abbrev pub AreOpened : (seats patience all : ℕ) → List LevelSaid → List LevelLane → Type 0
-AreOpened seats patience all levels lanes = AllZip (IsOpenedLane seats patience all) levels lanes
+abbrev pub AreOpened : ClusterTerms → (all : ℕ) → List LevelSaid → List LevelLane → Type 0
+AreOpened terms all levels lanes = AllZip (IsOpenedLane terms all) levels lanes
 
 -- this came to the lane at this place, and the others stayed as they were
 pub record GoesOnAt (place : ℕ) (x : Arrival TraceRequest) (turned_away : Bool) (lanes lanes' : List LevelLane) : Type 0 where
@@ -69,8 +159,8 @@ pub record GoesOnAt (place : ℕ) (x : Arrival TraceRequest) (turned_away : Bool
   pub there : slice_get lanes place ≡ Some before
   pub after : LevelLane
   pub is : lanes' ≡ slice_set lanes place after
-  pub goes : GoesOn (x ∷ []) before.lane after.lane
-  pub limit : after.nominal ≡ before.nominal
+  pub goes : TakesOn x before after
+  pub same : AreSameLimits before after
   pub counted : after.turned_away ≡ before.turned_away + (if turned_away then 1 else 0)
 
 -- the request of an event came to the lane of its level
@@ -81,11 +171,10 @@ pub record TakesOne (c : ClusterSaid) (start : ℕ) (e : Event) (lanes lanes' : 
   pub is : said came ≡ request_of c start e
   pub goes : GoesOnAt place came e.turned_away lanes lanes'
 
--- a cluster of a server with this many seats, where a request waits as long as the patience, and the first was received at this time
+-- a cluster of a server, and when the first request was received
 pub record Course : Type 0 where
   pub cluster : ClusterSaid
-  pub seats : ℕ
-  pub patience : ℕ
+  pub terms : ClusterTerms
   pub start : ℕ
 
 -- the shares of all levels together
@@ -93,23 +182,37 @@ abbrev pub all_of : Course → ℕ
 all_of w = sum_of_shares w.cluster.levels
 
 -- the course of what is fed
-abbrev pub course_of : Way → (seats patience : ℕ) → Course
-course_of way seats patience = record { cluster = cluster_view way.cluster.now; seats = seats; patience = patience; start = way.start }
+abbrev pub course_of : Way → Course
+course_of way = record { cluster = cluster_view way.cluster.now; terms = way.terms; start = way.start }
 
--- Of these events, those that are of the level at this place came to its lane, which was opened for it, in their order. It told these
-pub record HasCome (w : Course) (told : List Event) (i : ℕ) (l : LevelSaid) (v : LevelLane) : Type 0 where
+-- Of these events, those that are of the level at this place came to its lane, which was opened for it, in their order. It claimed at the end of each period, and was set the limits of these adjustments
+pub record HasCome (w : Course) (told : List Event) (adjustments : List Adjustment) (i : ℕ) (l : LevelSaid) (v : LevelLane) : Type 0 where
   pub opening : State
-  pub opened : IsOpeningOf w.seats w.patience (all_of w) l opening
+  pub opened : IsOpeningOf w.terms (all_of w) l opening
   pub came : List (Arrival TraceRequest)
   pub out : List Ended
-  pub lane : IsLane opening came out v.lane
+  pub runs : IsRunning (set_limits (is_lent w.terms l) i adjustments) i (bounds_in w.terms (all_of w) l) adjustments opening came out v
   pub are : map said came ≡ map (request_of w.cluster w.start) (of_level w.cluster i told)
-  pub limit : v.nominal ≡ nominal w.seats (all_of w) l
+  pub lent : v.is_lent ≡ is_lent w.terms l
+  pub nominal : v.nominal ≡ (limits_in w.terms (all_of w) l).nominal
+  pub least : v.least ≡ least_set (is_lent w.terms l) i (limit_of (limits_in w.terms (all_of w) l).nominal) adjustments
+  pub greatest : v.greatest ≡ greatest_set (is_lent w.terms l) i (limit_of (limits_in w.terms (all_of w) l).nominal) adjustments
   pub turned_away : v.turned_away ≡ count_by (λ (e : Event). e.turned_away) (of_level w.cluster i told)
 
 -- the same of each level
-abbrev pub HaveCome : Course → List Event → List LevelLane → Type 0
-HaveCome w told lanes = ZipFrom (HasCome w told) 0 w.cluster.levels lanes
+abbrev pub HaveCome : Course → List Event → List Adjustment → List LevelLane → Type 0
+HaveCome w told adjustments lanes = ZipFrom (HasCome w told adjustments) 0 w.cluster.levels lanes
+
+-- each of these was a division of the seats by what all levels claimed
+abbrev pub AreAdjusted : Course → List Adjustment → Type 0
+AreAdjusted w adjustments = AllByRecursion (IsAdjustment w.terms.seats (length w.cluster.levels)) adjustments
+
+-- these came, and so many periods ended
+pub record Reaches (w : Course) (told : List Event) (lanes : List LevelLane) (periods : ℕ) : Type 0 where
+  pub adjustments : List Adjustment
+  pub many : length adjustments ≡ periods
+  pub divided : AreAdjusted w adjustments
+  pub come : HaveCome w told adjustments lanes
 
 -- what the input gave so far: these were handed out, and this comes next; nobody does once all were
 pub record HasFed (choice : Choice) (was left : Option (List ℕ)) (told : List Event) (next : Option Event) (v : ReaderView) : Type 0 where
@@ -123,54 +226,72 @@ abbrev pub HaveLevels : ClusterSaid → List Event → Type 0
 HaveLevels c told = AllByRecursion (λ e. IsSome (level_of c e)) told
 
 -- what was handed out so far came to the lanes
-pub record HaveGone (choice : Choice) (w : Course) (was left : Option (List ℕ)) (next : Option Event) (v : ReaderView) (lanes : List LevelLane) : Type 0 where
+pub record HaveGone (choice : Choice) (w : Course) (was left : Option (List ℕ)) (next : Option Event) (v : ReaderView) (lanes : List LevelLane) (periods : ℕ) : Type 0 where
   pub told : List Event
   pub fed : HasFed choice was left told next v
-  pub come : HaveCome w told lanes
+  pub reaches : Reaches w told lanes periods
   pub levels : HaveLevels w.cluster told
   pub start : w.start ≡ start_of (told ++ option_to_list next)
 
--- all that is due was carried out on a level's lane, and its level was ended
-pub record IsClosed (v : LevelLane) (t : LevelTable) : Type 0 where
-  pub over : LaneView
-  pub goes : GoesOn [] v.lane over
-  pub is_over : IsOver over
-  pub table : IsTableOf over t.table
-  pub limit : t.nominal ≡ v.nominal
-  pub turned_away : t.turned_away ≡ v.turned_away
+-- nobody asks for seats from this time on
+pub record IsQuiet (end : ℕ) (v : AskingView) : Type 0 where
+  pub nobody : v.demand.seats ≡ 0
+  pub since : v.demand.since ≤ end
+
+-- all that is due was carried out on a level's lane, nobody asks for seats from this time on, and its level was ended
+pub record IsClosed (end : ℕ) (v : LevelLane) (t : LevelTable) : Type 0 where
+  pub over : LevelLane
+  pub runs : RunsOn v over
+  pub same : IsOfLevel v over
+  pub is_over : IsOver over.lane
+  pub quiet : IsQuiet end over.asking
+  pub table : IsTableOf over.lane t.table
+  pub nominal : t.nominal ≡ over.nominal
+  pub least : t.least ≡ over.least
+  pub greatest : t.greatest ≡ over.greatest
+  pub turned_away : t.turned_away ≡ over.turned_away
 
 -- Of these events, those that are of the level at this place ran on it, in their order, until nothing was due, and this is what they came to.
-pub record IsLevelTable (w : Course) (told : List Event) (i : ℕ) (l : LevelSaid) (t : LevelTable) : Type 0 where
+-- At the end of each period the level claimed by what its requests asked for, and it was set the limits of these adjustments. Nobody asks for anything behind the last of these periods and the next one.
+pub record IsLevelTable (w : Course) (told : List Event) (adjustments : List Adjustment) (i : ℕ) (l : LevelSaid) (t : LevelTable) : Type 0 where
   pub opening : State
-  pub opened : IsOpeningOf w.seats w.patience (all_of w) l opening
+  pub opened : IsOpeningOf w.terms (all_of w) l opening
   pub came : List (Arrival TraceRequest)
   pub out : List Ended
   pub lane : LaneView
-  pub ran : IsLane opening came out lane
+  pub ran : IsLaneUnder (set_limits (is_lent w.terms l) i adjustments) opening came out lane
   pub is_over : IsOver lane
   pub are : map said came ≡ map (request_of w.cluster w.start) (of_level w.cluster i told)
+  pub lately : ℕ
+  pub claimed : HasClaimed i (bounds_in w.terms (all_of w) l) (asked_at came out) adjustments lately
+  pub quiet : (time : ℕ) → period * suc (length adjustments) ≤ time → asked_at came out time ≡ 0
   pub table : IsTable came out t.table
   pub ends : EndsWith lane t.table
-  pub limit : t.nominal ≡ nominal w.seats (all_of w) l
+  pub nominal : t.nominal ≡ (limits_in w.terms (all_of w) l).nominal
+  pub least : t.least ≡ least_set (is_lent w.terms l) i (limit_of (limits_in w.terms (all_of w) l).nominal) adjustments
+  pub greatest : t.greatest ≡ greatest_set (is_lent w.terms l) i (limit_of (limits_in w.terms (all_of w) l).nominal) adjustments
   pub turned_away : t.turned_away ≡ count_by (λ (e : Event). e.turned_away) (of_level w.cluster i told)
 
 -- what the requests of each level came to
-abbrev pub AreTables : Course → List Event → List LevelTable → Type 0
-AreTables w told tables = ZipFrom (IsLevelTable w told) 0 w.cluster.levels tables
+abbrev pub AreTables : Course → List Event → List Adjustment → List LevelTable → Type 0
+AreTables w told adjustments tables = ZipFrom (IsLevelTable w told adjustments) 0 w.cluster.levels tables
 
 -- every request, by the schemas of this cluster
 abbrev pub choice_by : Bor Cluster → Choice
 choice_by cluster = record { by = Schema cluster; user = None; since = None; until = None }
 
--- The whole log was read. Each of its requests is of one level, and came to its lane, and this is what they came to.
-pub record HasRunLog (choice : Choice) (c : ClusterSaid) (seats patience size : ℕ) (was left : Option (List ℕ)) (tables : List LevelTable) : Type 0 where
+-- The whole log was read. Each of its requests is of one level, and came to its lane, and this is what they came to. The seats were divided anew at the end of each period.
+pub record HasRunLog (choice : Choice) (c : ClusterSaid) (terms : ClusterTerms) (size : ℕ) (was left : Option (List ℕ)) (tables : List LevelTable) : Type 0 where
   pub bytes : List ℕ
   pub given : Consumes was left bytes
   pub told : List Event
   pub all : AreAll choice size bytes told
   pub ended : IsAtEnd left
   pub levels : HaveLevels c told
-  pub tables_are : AreTables (record { cluster = c; seats = seats; patience = patience; start = start_of told }) told tables
+  -- the last one comes first
+  pub adjustments : List Adjustment
+  pub divided : AreAdjusted (record { cluster = c; terms = terms; start = start_of told }) adjustments
+  pub tables_are : AreTables (record { cluster = c; terms = terms; start = start_of told }) told adjustments tables
 
 -- nothing was read
 abbrev pub IsFresh : ReaderView → Type 0

@@ -43,9 +43,21 @@ waits_text f = percentile_text f.is_exact f.median ++ (percentile_text f.is_exac
 abbrev pub bound_of : LevelSettings → ℕ → ℕ
 bound_of settings nominal = if settings.is_exempt then 0 else limit_of nominal
 
--- how much of so many seats was used up to this time, in per cent, less what is below one
+-- how much of so many seats was used up to this time, in per cent, less what is below one, and at most 10,000 times as much
 abbrev pub part_text : (seat_time possible : ℕ) → List ℕ
-part_text seat_time possible = if nat_eq possible 0 then codes " -" else codes " " ++ decimal (min seat_time possible * 100 / possible) ++ codes "%"
+part_text seat_time possible = if nat_eq possible 0 then codes " -" else codes " " ++ decimal (min seat_time (possible * 10000) * 100 / possible) ++ codes "%"
+
+-- the least and the greatest of two limits, or one where they are the same
+abbrev pub range_text : (least greatest : ℕ) → List ℕ
+range_text least greatest = if nat_eq least greatest then codes " " ++ decimal least else codes " " ++ decimal least ++ codes ".." ++ decimal greatest
+
+-- the limits that a level had: none where it is exempt
+abbrev pub limits_text : LevelSettings → LevelTable → List ℕ
+limits_text settings t = if settings.is_exempt then codes " -" else range_text t.least t.greatest
+
+-- the nominal limit of a level, and the limits that it had
+unfoldable pub seats_text : LevelSettings → LevelTable → List ℕ
+seats_text settings t = (codes " " ++ decimal t.nominal) ++ limits_text settings t
 
 unfoldable pub used_text : (seat_time seats end : ℕ) → List ℕ
 used_text seat_time seats end = part_text seat_time (seats * end)
@@ -57,7 +69,7 @@ spent_text settings t end = (codes " " ++ decimal t.turned_away) ++ used_text t.
 -- the line of a level
 unfoldable pub level_text : LevelSaid → LevelTable → ℕ → List ℕ
 level_text l t end =
-    escapes_of l.name ++ ((codes " " ++ decimal t.nominal) ++ (counts_text t.table.all.sums ++ (spent_text l.settings t end ++ (waits_text t.table.all ++ codes "\n"))))
+    escapes_of l.name ++ (seats_text l.settings t ++ (counts_text t.table.all.sums ++ (spent_text l.settings t end ++ (waits_text t.table.all ++ codes "\n"))))
 
 -- the line of a flow
 unfoldable pub flow_text : LevelSaid → Line → List ℕ
@@ -94,7 +106,7 @@ flow_at levels tables place = flow_in place.flow (slice_get levels place.level) 
 
 -- the names of the columns of the levels
 unfoldable pub level_names : List ℕ
-level_names = codes "level nominal requests executed rejected timed-out log-429s used median p99 longest\n"
+level_names = codes "level nominal limits requests executed rejected timed-out log-429s used median p99 longest\n"
 
 -- the names of the columns of the flows
 unfoldable pub flow_names : List ℕ

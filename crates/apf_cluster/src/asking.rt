@@ -49,8 +49,8 @@ pub(crate) fn request_of(
     Ok(Arrival { place, item })
 }
 
-// The place of the level of this name.
-fn level_named(levels: &[Level], name: &str) -> Option<usize>
+/// The place of the level of this name.
+pub fn level_named(levels: &[Level], name: &str) -> Option<usize>
     ensures value { result ≡ spec.level_named name.now (map level_view levels.now) }
     ensures within { IfSome result (λ i. i < length levels.now) }
 {

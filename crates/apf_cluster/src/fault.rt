@@ -2,6 +2,7 @@
 
 use apf_audit::AuditFault;
 use apf_audit_reader::ReadFault;
+use apf_lender::Untimely;
 use apf_local::OpenFault;
 use apf_simulator::SimulatorFault;
 use std::alloc::AllocError;
@@ -23,6 +24,9 @@ pub enum ClusterFault {
     /// it can't be is not proved.
     #[error("line {0} is of no level, or out of order")]
     Misread(u64),
+    /// A level was told what its requests ask for out of its time. It has never been seen: that it can't be is not proved.
+    #[error("what a level asks for was told out of its time")]
+    Untimely,
     /// There are more requests than can be counted, 2^64 - 1.
     #[error("there are more requests than can be counted")]
     TooMany,
@@ -63,6 +67,12 @@ impl From<SimulatorFault> for ClusterFault {
             SimulatorFault::TooMany => Self::TooMany,
             _ => Self::Level(fault),
         }
+    }
+}
+
+impl From<Untimely> for ClusterFault {
+    fn from(_told: Untimely) -> Self {
+        Self::Untimely
     }
 }
 

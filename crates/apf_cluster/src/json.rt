@@ -9,7 +9,7 @@ ghost use Rattle.apf_cluster.specs.Json as spec;
 use crate::closing::LevelTable;
 use crate::order::FlowPlace;
 use apf_flows::write_text;
-use apf_objects::Level;
+use apf_objects::{Level, LevelSettings};
 use apf_rows::{Figures, Line, Sums};
 use apf_traces::FlowNames;
 use std::io;
@@ -82,6 +82,28 @@ fn write_nominal<W: Write>(out: &mut W, nominal: u64) -> io::Result<()>
     write!(out, ",\"nominal\":{nominal}")
 }
 
+// Writes the least limit that a level had, and the greatest.
+#[tactic(auto, unfolding(crate::specs::Json::range_object))]
+fn write_range<W: Write>(out: &mut W, least: u32, greatest: u32) -> io::Result<()>
+    ensures { OnOk result (Appends (W.contents out.old) (W.contents out.new) (spec.range_object least greatest)) }
+{
+    write!(out, ",\"leastLimit\":{least},\"greatestLimit\":{greatest}")
+}
+
+// Writes the limits that a level had: nothing where it is exempt.
+fn write_limits<W: Write>(
+    out: &mut W,
+    settings: &LevelSettings,
+    table: &LevelTable,
+) -> io::Result<()>
+    ensures { OnOk result (Appends (W.contents out.old) (W.contents out.new) (spec.limits_object settings.now table.now)) }
+{
+    if settings.is_exempt {
+        return Ok(());
+    }
+    write_range(out, table.least, table.greatest)
+}
+
 // Writes how many requests the server of the log turned away.
 #[tactic(auto, unfolding(crate::specs::Json::refused_object))]
 fn write_refused<W: Write>(out: &mut W, turned_away: u64) -> io::Result<()>
@@ -98,6 +120,7 @@ fn write_level<W: Write>(out: &mut W, level: &Level, table: &LevelTable) -> io::
     out.write_all(b"{\"level\":")?;
     write_text(out, level.name.as_str())?;
     write_nominal(out, table.nominal)?;
+    write_limits(out, &level.settings, table)?;
     write_refused(out, table.turned_away)?;
     write_counts(out, &table.table.all.sums)?;
     write_figures(out, &table.table.all)

@@ -1,20 +1,27 @@
 //! A lane for each level.
 
-ghost use Rattle.std.specs.Prelude.{◌≡◌, ◌<◌, ◌≤◌, ◌+◌, [], ◌∷◌, ℕ, length, map, All, IfOk, OnOk, slice_set, if◌then◌else◌};
+ghost use Rattle.std.specs.Prelude.{◌≡◌, ◌<◌, ◌≤◌, ◌+◌, ℕ, length, map, IfOk, OnOk, if◌then◌else◌};
 ghost use Rattle.apf_matching.specs.Limits.{max_seats, sum_of_shares as sum_of};
 ghost use Rattle.apf_objects.specs.Levels.{level_view};
-ghost use Rattle.apf_times.specs.Limits.{max_patience};
+ghost use Rattle.apf_times.specs.Limits.{max_patience, max_wait};
 ghost use Rattle.apf_traces.specs.TraceValue.{IsRequestInRange};
-ghost use Rattle.apf_simulator.specs.Lanes.{GoesOn, IsLived};
-ghost use Rattle.apf_cluster.specs.Runs.{AreInTime, AreLived, AreOpened, GoesOnAt, IsOpenedLane};
+ghost use Rattle.apf_words.specs.Limits.{max_limit};
+ghost use Rattle.apf_lending.specs.Claims.{IsClaim};
+ghost use Rattle.apf_stream.specs.declared.deed.NewLimit.{NewLimit as NewLimitOf};
+ghost use Rattle.apf_simulator.specs.Lanes.{IsLived};
+ghost use Rattle.apf_cluster.specs.Runs.{AreInTime, AreLived, AreOpened, AreSameLimits, EndsOn, GoesOnAt, IsOfLevel, IsOpenedLane, IsSet, RunsOn, TakesOn, bounds_in};
 
+use crate::demand::{bounds_of, come, end_period, greatest_of, leave_all};
 use crate::fault::ClusterFault;
 use crate::running::ClusterTerms;
-use crate::shape::{config_of, slots_of};
+use crate::shape::{config_of, limit_of, slots_of};
 use apf_charges::ChargedBy;
+use apf_lender::Asking;
+use apf_lending::Claim;
 use apf_matching::limits_of;
 use apf_objects::Level;
 use apf_simulator::Lane;
+use apf_stream::NewLimit;
 use apf_times::Arrival;
 use apf_traces::TraceRequest;
 use std::alloc::Global;
@@ -23,8 +30,15 @@ use std::alloc::Global;
 #[derive(Drop)]
 pub(crate) struct LevelLane {
     pub(crate) lane: Lane,
+    /// For how many seats its requests ask.
+    pub(crate) asking: Asking,
+    /// Whether it is set another limit at the end of each period.
+    pub(crate) is_lent: bool,
     /// The nominal limit of the level.
     pub(crate) nominal: u64,
+    /// The least limit that it had, and the greatest.
+    pub(crate) least: u32,
+    pub(crate) greatest: u32,
     /// How many of its requests the server of the log turned away.
     pub(crate) turned_away: u64,
 }
@@ -41,15 +55,21 @@ fn open_lane(
     requires most { all ≤ 4294967295000 }
     requires seats { terms.seats ≤ max_seats }
     requires patience { terms.patience ≤ max_patience }
-    ensures { IfOk result (IsOpenedLane terms.seats terms.patience all (level_view level.now)) }
+    ensures { IfOk result (IsOpenedLane terms all (level_view level.now)) }
 {
-    let nominal = limits_of(&level.settings, terms.seats, all).nominal;
-    let config = config_of(&level.settings, nominal);
-    let slots = slots_of(&config);
+    let limits = limits_of(&level.settings, terms.seats, all);
+    let config = config_of(&level.settings, limits.nominal);
+    let slots = slots_of(&config_of(&level.settings, greatest_of(limits)));
+    let limit = limit_of(limits.nominal);
+    let bounds = bounds_of(&level.settings, limits);
     match Lane::open(alloc, &config, slots, terms.patience, ChargedBy::Time) {
         Ok(lane) => Ok(LevelLane {
             lane,
-            nominal,
+            asking: Asking::new(bounds, 0),
+            is_lent: terms.lends && !level.settings.is_exempt,
+            nominal: limits.nominal,
+            least: limit,
+            greatest: limit,
             turned_away: 0,
         }),
         Err(fault) => Err(ClusterFault::of_level(place, fault)),
@@ -67,7 +87,7 @@ pub(crate) fn open_lanes(
     requires most { all ≤ 4294967295000 }
     requires seats { terms.seats ≤ max_seats }
     requires patience { terms.patience ≤ max_patience }
-    ensures { IfOk result (λ lanes. AreOpened terms.seats terms.patience all (map level_view levels.now) lanes.items) }
+    ensures { IfOk result (λ lanes. AreOpened terms all (map level_view levels.now) lanes.items) }
 {
     let mut lanes = Vec::with_capacity(alloc, levels.len())?;
     let mut rest = levels;
@@ -91,6 +111,40 @@ fn counted(number: u64, holds: bool) -> Result<u64, ClusterFault>
     number.checked_add(1).ok_or(ClusterFault::TooMany)
 }
 
+/// Carries out all that is due on the lane of this level up to this time. Whoever is over asks for no seats any more.
+///
+/// # Errors
+///
+/// Those of a lane's `advance`, or `Untimely`.
+pub(crate) fn advance_on(level: &mut LevelLane, at: u64) -> Result<(), ClusterFault>
+    requires lived { IsLived level.old.lane }
+    requires forward { level.old.lane.state.slots.time ≤ at }
+    ensures goes { OnOk result (RunsOn level.old level.new) }
+    ensures time { OnOk result (level.new.lane.state.slots.time ≤ at) }
+    ensures lived { OnOk result (IsLived level.new.lane) }
+    ensures same { OnOk result (IsOfLevel level.old level.new) }
+{
+    level.lane.advance(at)?;
+    leave_all(&mut level.asking, level.lane.ends())?;
+    Ok(())
+}
+
+// A request arrives on the lane of this level, where all is carried out that was due before that.
+fn come_on(level: &mut LevelLane, came: &Arrival<TraceRequest>) -> Result<(), ClusterFault>
+    requires range { IsRequestInRange came.now.item }
+    requires forward { level.old.lane.state.slots.time ≤ came.now.item.arrives_at }
+    requires lived { IsLived level.old.lane }
+    ensures goes { OnOk result (TakesOn came.now level.old level.new) }
+    ensures time { OnOk result (level.new.lane.state.slots.time ≤ came.now.item.arrives_at) }
+    ensures lived { OnOk result (IsLived level.new.lane) }
+    ensures same { OnOk result (IsOfLevel level.old level.new) }
+{
+    come(&mut level.asking, came)?;
+    level.lane.arrive(came)?;
+    leave_all(&mut level.asking, level.lane.ends())?;
+    Ok(())
+}
+
 // A request arrives on the lane of this level.
 fn arrive_on(
     level: &mut LevelLane,
@@ -100,14 +154,15 @@ fn arrive_on(
     requires range { IsRequestInRange came.now.item }
     requires forward { level.old.lane.state.slots.time ≤ came.now.item.arrives_at }
     requires lived { IsLived level.old.lane }
-    ensures goes { OnOk result (GoesOn (came.now ∷ []) level.old.lane level.new.lane) }
+    ensures goes { OnOk result (TakesOn came.now level.old level.new) }
     ensures time { OnOk result (level.new.lane.state.slots.time ≤ came.now.item.arrives_at) }
     ensures lived { OnOk result (IsLived level.new.lane) }
-    ensures limit { OnOk result (level.new.nominal ≡ level.old.nominal) }
+    ensures same { OnOk result (AreSameLimits level.old level.new) }
     ensures counted { OnOk result (level.new.turned_away ≡ level.old.turned_away + (if turned_away then 1 else 0)) }
 {
+    advance_on(level, came.item.arrives_at)?;
+    come_on(level, came)?;
     level.turned_away = counted(level.turned_away, turned_away)?;
-    level.lane.arrive(came)?;
     Ok(())
 }
 
@@ -131,4 +186,41 @@ pub(crate) fn arrive(
     ensures lived { OnOk result (AreLived lanes.new.items) }
 {
     arrive_on(&mut lanes[place], came, turned_away)
+}
+
+// The period of this level ends at this time, where all is carried out that was due by then. Answers what it claims for the next one.
+pub(crate) fn end_on(level: &mut LevelLane, at: u64) -> Result<Claim, ClusterFault>
+    requires lived { IsLived level.old.lane }
+    requires forward { level.old.lane.state.slots.time ≤ at }
+    ensures goes { IfOk result (λ claim. EndsOn at claim level.old level.new) }
+    ensures range { IfOk result IsClaim }
+    ensures time { OnOk result (level.new.lane.state.slots.time ≤ at) }
+    ensures lived { OnOk result (IsLived level.new.lane) }
+    ensures same { OnOk result (IsOfLevel level.old level.new) }
+{
+    advance_on(level, at)?;
+    let claim = end_period(&mut level.asking, at)?;
+    Ok(claim)
+}
+
+/// This level is set a limit, no earlier than anything that was carried out.
+///
+/// # Errors
+///
+/// Those of a lane's `set_limit`, or `Untimely`.
+pub(crate) fn set_on(level: &mut LevelLane, new: NewLimit) -> Result<(), ClusterFault>
+    requires lived { IsLived level.old.lane }
+    requires low { new.at ≤ max_wait }
+    requires some_limit { 1 ≤ new.limit }
+    requires small_limit { new.limit ≤ max_limit }
+    requires forward { level.old.lane.state.slots.time ≤ new.at }
+    ensures set { OnOk result (IsSet new level.old level.new) }
+    ensures time { OnOk result (level.new.lane.state.slots.time ≤ new.at) }
+    ensures lived { OnOk result (IsLived level.new.lane) }
+{
+    level.lane.set_limit(new)?;
+    leave_all(&mut level.asking, level.lane.ends())?;
+    level.least = level.least.min(new.limit);
+    level.greatest = level.greatest.max(new.limit);
+    Ok(())
 }

@@ -1,18 +1,20 @@
 //! A whole log.
 
-ghost use Rattle.std.specs.Prelude.{◌≡◌, ◌≤◌, length, option_map, vec_len, IfOk};
+ghost use Rattle.std.specs.Prelude.{◌≡◌, ◌≤◌, ◌*◌, List, suc, length, option_map, vec_len, IfOk};
 ghost use Rattle.std.specs.Option.{option_to_list};
-ghost use Rattle.apf_audit.specs.AuditEvent.{event};
+ghost use Rattle.apf_audit.specs.AuditEvent.{Event, event};
 ghost use Rattle.apf_matching.specs.Limits.{max_seats};
 ghost use Rattle.apf_objects.specs.Cluster.{cluster_view};
 ghost use Rattle.apf_times.specs.Limits.{max_patience};
 ghost use Rattle.apf_cluster.specs.Requests.{start_of as first_of};
-ghost use Rattle.apf_cluster.specs.Runs.{HasRunLog, IsFresh, choice_by};
+ghost use Rattle.apf_cluster.specs.Lending.{Adjustment, period};
+ghost use Rattle.apf_cluster.specs.Runs.{AreAdjusted, AreInTime, AreLived, AreTables, HasRunLog, IsFresh, Reaches, choice_by, course_of};
 
 use crate::closing::{LevelTable, close_all};
 use crate::fault::ClusterFault;
 use crate::feeding::{Way, feed};
-use crate::lanes::open_lanes;
+use crate::lanes::{LevelLane, open_lanes};
+use crate::lending::{end_after, pass_all};
 use apf_audit::{By, Choice, Taken};
 use apf_audit_reader::AuditReader;
 use apf_matching::sum_of_shares;
@@ -27,10 +29,12 @@ pub struct ClusterTerms {
     pub seats: u32,
     /// How long a request waits before it gives up, in microseconds, or 0 if it does not: at most 1,000,000,000.
     pub patience: u64,
+    /// Whether seats are lent to the levels anew every ten seconds.
+    pub lends: bool,
 }
 
-// When the first request was received, if there is one.
-fn start_of(first: &Option<Taken>) -> u64
+/// When the first request was received, if there is one.
+pub(crate) fn start_of(first: &Option<Taken>) -> u64
     ensures { result ≡ first_of (option_to_list (option_map event first.now)) }
 {
     match first {
@@ -39,12 +43,32 @@ fn start_of(first: &Option<Taken>) -> u64
     }
 }
 
+// Periods end as long as somebody is there. Then each lane is closed.
+fn close_after(
+    alloc: Global,
+    way: Way<'_>,
+    lanes: Vec<LevelLane>,
+    periods: u64,
+) -> Result<Vec<LevelTable>, ClusterFault>
+    requires count { length lanes.items ≤ 1000 }
+    requires next { AreInTime (period * suc periods) lanes.items }
+    requires lived { AreLived lanes.items }
+    ensures tables { IfOk result (λ tables. (told : List Event) → Reaches (course_of way.entry) told lanes.items periods
+        → (adjustments : List Adjustment) × AreAdjusted (course_of way.entry) adjustments × AreTables (course_of way.entry) told adjustments tables.items) }
+    ensures count { IfOk result (λ tables. length tables.items ≡ length lanes.items) }
+{
+    let mut lanes = lanes;
+    let ended = pass_all(alloc, way, &mut lanes, periods)?;
+    close_all(alloc, lanes, end_after(ended)?)
+}
+
 /// Runs the requests of an audit log on the levels of a cluster, each request on that of its schema, in one thread. Answers what
 /// the requests of each level came to, in the order of the levels.
 ///
-/// The reader has read nothing. A level has its nominal limit, by its shares of the server's seats, all along, but one seat at
-/// least; one that is exempt holds no request back. A request takes one seat. It runs, waits, gives up and is charged as on the
-/// level of `simulate`, where requests are charged by time.
+/// The reader has read nothing. A level begins with its nominal limit, by its shares of the server's seats, but one seat at least;
+/// one that is exempt holds no request back. Every ten seconds of the log, as long as somebody is there, the seats are divided anew
+/// by what the requests of each level asked for, if they are lent. A request takes one seat. It runs, waits, gives up and is charged
+/// as on the level of `simulate`, where requests are charged by time.
 ///
 /// # Errors
 ///
@@ -61,7 +85,7 @@ pub fn run_log<R: Read>(
     requires patience { terms.patience ≤ max_patience }
     ensures each { IfOk result (λ tables. length tables.items ≡ length cluster.now.levels.items) }
     ensures ran { IfOk result (λ tables. IsFresh reader.old
-        → HasRunLog (choice_by cluster.entry) (cluster_view cluster.now) terms.seats terms.patience reader.old.window.size (R.remaining input.old) (R.remaining input.new) tables.items) }
+        → HasRunLog (choice_by cluster.entry) (cluster_view cluster.now) terms reader.old.window.size (R.remaining input.old) (R.remaining input.new) tables.items) }
 {
     let levels = cluster.levels.as_slice();
     let mut lanes = open_lanes(alloc, levels, terms, sum_of_shares(levels))?;
@@ -75,8 +99,9 @@ pub fn run_log<R: Read>(
     let way = Way {
         cluster,
         choice: &choice,
+        terms,
         start: start_of(&first),
     };
-    feed(alloc, way, &mut lanes, first, reader, input)?;
-    close_all(alloc, lanes)
+    let periods = feed(alloc, way, &mut lanes, first, reader, input)?;
+    close_after(alloc, way, lanes, periods)
 }

@@ -60,6 +60,46 @@ fn bound_of(settings: &LevelSettings, nominal: u64) -> u32
     }
 }
 
+// Writes the least and the greatest of two limits, or one where they are the same.
+fn write_range<W: Write>(out: &mut W, least: u32, greatest: u32) -> io::Result<()>
+    ensures { OnOk result (Appends (W.contents out.old) (W.contents out.new) (spec.range_text least greatest)) }
+{
+    if least == greatest {
+        write!(out, " {least}")
+    } else {
+        write!(out, " {least}..{greatest}")
+    }
+}
+
+// Writes the limits that a level had: none where it is exempt.
+fn write_limits<W: Write>(
+    out: &mut W,
+    settings: &LevelSettings,
+    table: &LevelTable,
+) -> io::Result<()>
+    ensures { OnOk result (Appends (W.contents out.old) (W.contents out.new) (spec.limits_text settings.now table.now)) }
+{
+    if settings.is_exempt {
+        out.write_all(b" -")
+    } else {
+        write_range(out, table.least, table.greatest)
+    }
+}
+
+// Writes the nominal limit of a level, and the limits that it had.
+#[tactic(auto, unfolding(crate::specs::Texts::seats_text))]
+fn write_seats<W: Write>(
+    out: &mut W,
+    settings: &LevelSettings,
+    table: &LevelTable,
+) -> io::Result<()>
+    ensures { OnOk result (Appends (W.contents out.old) (W.contents out.new) (spec.seats_text settings.now table.now)) }
+{
+    let nominal = table.nominal;
+    write!(out, " {nominal}")?;
+    write_limits(out, settings, table)
+}
+
 // Writes how much of these seats was used up to this time, in per cent, less what is below one.
 #[tactic(auto, unfolding(crate::specs::Texts::used_text))]
 fn write_used<W: Write>(out: &mut W, seat_time: u128, seats: u32, end: u64) -> io::Result<()>
@@ -69,7 +109,7 @@ fn write_used<W: Write>(out: &mut W, seat_time: u128, seats: u32, end: u64) -> i
     if possible == 0 {
         return out.write_all(b" -");
     }
-    let percent = seat_time.min(possible) * 100 / possible;
+    let percent = seat_time.min(possible * 10_000) * 100 / possible;
     write!(out, " {percent}%")
 }
 
@@ -94,9 +134,8 @@ fn write_spent<W: Write>(
 fn write_level<W: Write>(out: &mut W, level: &Level, table: &LevelTable, end: u64) -> io::Result<()>
     ensures { OnOk result (Appends (W.contents out.old) (W.contents out.new) (spec.level_text (level_view level.now) table.now end)) }
 {
-    let nominal = table.nominal;
     write_escaped(out, level.name.as_str())?;
-    write!(out, " {nominal}")?;
+    write_seats(out, &level.settings, table)?;
     write_counts(out, &table.table.all.sums)?;
     write_spent(out, &level.settings, table, end)?;
     write_waits(out, &table.table.all)?;
@@ -203,7 +242,7 @@ fn write_level_names<W: Write>(out: &mut W) -> io::Result<()>
     ensures { OnOk result (Appends (W.contents out.old) (W.contents out.new) spec.level_names) }
 {
     out.write_all(
-        b"level nominal requests executed rejected timed-out log-429s used median p99 longest\n",
+        b"level nominal limits requests executed rejected timed-out log-429s used median p99 longest\n",
     )
 }
 

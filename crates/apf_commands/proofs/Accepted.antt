@@ -196,7 +196,7 @@ match_given name words e =
 cluster_given : (name : Text) (words : List Text) → IsFaultFree (of_kind name Cluster) words → HasArguments Cluster (rows_after (of_kind name Cluster).rules [] words)
 unfolding apf_app
 cluster_given name words e =
-    let plain : IsPlainShape (of_kind name Cluster) = record { rules = refl; own_ids = (refl, (refl, (refl, (refl, (refl, (refl, (refl, tt))))))); negates = refl } in
+    let plain : IsPlainShape (of_kind name Cluster) = record { rules = refl; own_ids = (refl, (refl, (refl, (refl, (refl, (refl, (refl, (refl, (refl, (refl, tt)))))))))); negates = refl } in
     let given = all_given (of_kind name Cluster) plain words e in
     let met = all_met (of_kind name Cluster) plain words e in
     let filled = all_filled (of_kind name Cluster) plain words e in
@@ -205,6 +205,10 @@ cluster_given name words e =
     let patience = given.1.1.0 refl refl in
     let json = filled.1.1.1.1.1.0 refl refl in
     let reads = bool_reads json.text json.accepted in
+    let fixed = filled.1.1.1.1.1.1.0 refl refl in
+    let reads_fixed = bool_reads fixed.text fixed.accepted in
+    let traced = filled.1.1.1.1.1.1.1.1.0 refl refl in
+    let reads_traced = bool_reads traced.text traced.accepted in
     record {
       objects = (objects.text, objects.first);
       log = (log.text, log.first);
@@ -222,6 +226,8 @@ cluster_given name words e =
             (counts.0, (inl (_, flows.one, counts.1), counts.3))
       ];
       json = (reads.0, json.one ∙ ap (λ t. Some t) reads.1);
+      no_lending = (reads_fixed.0, fixed.one ∙ ap (λ t. Some t) reads_fixed.1);
+      trace = (reads_traced.0, traced.one ∙ ap (λ t. Some t) reads_traced.1);
     }
 
 picture_given : (name : Text) (words : List Text) → IsFaultFree (of_kind name Picture) words → HasArguments Picture (rows_after (of_kind name Picture).rules [] words)

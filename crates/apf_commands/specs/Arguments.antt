@@ -104,6 +104,8 @@ pub record HasCluster (rows : List Row) : Type 0 where
   pub seats : (n : ℕ) × IsSeatCount rows n
   pub flows : (n : ℕ) × IsFlowCount rows n
   pub json : HasFlag rows (codes "json")
+  pub no_lending : HasFlag rows (codes "no-lending")
+  pub trace : HasFlag rows (codes "trace")
 
 -- the arguments of a kind
 abbrev pub HasArguments : Kind → List Row → Type 0

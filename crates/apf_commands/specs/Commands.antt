@@ -134,6 +134,11 @@ seat_count = Signed (pos 1) (pos 1000000)
 abbrev pub flow_count : ValueParser
 flow_count = Signed (pos 0) (pos 1000000)
 
+-- a cluster, the log of its requests, and the seats of its server
+abbrev pub cluster_log_rules : List Rule
+cluster_log_rules =
+    text_rule (codes "OBJECTS") ∷ text_rule (codes "AUDITLOG") ∷ text_rule (codes "PATIENCE") ∷ number_option_rule (codes "seats") seat_count ∷ []
+
 -- the arguments of a kind, in their order
 abbrev pub rules_of : Kind → List Rule
 rules_of Flow = text_rule (codes "SCHEMA") ∷ text_rule (codes "DISTINGUISHER") ∷ []
@@ -165,7 +170,8 @@ rules_of Match =
     ∷ option_rule (codes "log") ∷ []
 rules_of Cluster =
     text_rule (codes "OBJECTS") ∷ text_rule (codes "AUDITLOG") ∷ text_rule (codes "PATIENCE") ∷ number_option_rule (codes "seats") seat_count
-    ∷ number_option_rule (codes "flows") flow_count ∷ flag_rule (codes "json") ∷ []
+    ∷ number_option_rule (codes "flows") flow_count ∷ flag_rule (codes "json") ∷ flag_rule (codes "no-lending") ∷ option_rule (codes "level")
+    ∷ flag_rule (codes "trace") ∷ []
 
 -- a command that takes these arguments
 abbrev pub command_shape : Text → List Rule → Shape

@@ -128,12 +128,15 @@ AreArguments rows (Objects objects seats) = IsText rows (codes "OBJECTS") object
     × IsSeatCount rows seats
 AreArguments rows (Match objects asked) = IsText rows (codes "OBJECTS") objects.now
     × AreAsked rows asked
-AreArguments rows (Cluster objects log patience seats flows json) = IsText rows (codes "OBJECTS") objects.now
+AreArguments rows (Cluster objects log patience seats flows json no_lending level trace) = IsText rows (codes "OBJECTS") objects.now
     × IsText rows (codes "AUDITLOG") log.now
     × IsText rows (codes "PATIENCE") patience.now
     × IsSeatCount rows seats
     × IsFlowCount rows flows
     × IsFlag rows (codes "json") json
+    × IsFlag rows (codes "no-lending") no_lending
+    × IsOption rows (codes "level") level
+    × IsFlag rows (codes "trace") trace
 
 -- the kind of arguments
 abbrev pub kind_of : Arguments → Kind
@@ -151,7 +154,7 @@ kind_of (Flows a b c) = of_kind.Flows
 kind_of (AuditLog a b c) = of_kind.AuditLog
 kind_of (Objects a b) = of_kind.Objects
 kind_of (Match a b) = of_kind.Match
-kind_of (Cluster a b c d e f) = of_kind.Cluster
+kind_of (Cluster a b c d e f g h i) = of_kind.Cluster
 
 -- a command of this name with these rows asks for the action: it is named so, and its arguments are of the kind that the command has
 pub record AsksFor (name : Text) (rows : List Row) (action : Action) : Type 0 where
@@ -177,7 +180,7 @@ HasSlots _ = Unit {0}
 -- a server whose limits are told has 1 to 1,000,000 seats
 abbrev pub HasSeats : Arguments → Type 0
 HasSeats (Objects objects seats) = (1 ≤ seats) × (seats ≤ 1000000)
-HasSeats (Cluster objects log patience seats flows json) = (1 ≤ seats) × (seats ≤ 1000000)
+HasSeats (Cluster objects log patience seats flows json no_lending level trace) = (1 ≤ seats) × (seats ≤ 1000000)
 HasSeats _ = Unit {0}
 
 -- a level that stays open has a name that a level may have

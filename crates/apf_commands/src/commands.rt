@@ -2,7 +2,7 @@
 ghost use Rattle.std.specs.Prelude.{◌≡◌, IfOk, false, map};
 ghost use Rattle.clap.specs.Words.{app_of, rule_of, shape_of};
 ghost use Rattle.clap.specs.declared.builder.command.Command.TheViews.{out-Command};
-ghost use Rattle.apf_commands.specs.Commands.{AddsRules, apf_app, listed, with_commands, rules_of, shape_for, flag_rule, text_rule, number_rule, option_rule, number_option_rule};
+ghost use Rattle.apf_commands.specs.Commands.{AddsRules, apf_app, cluster_log_rules, listed, with_commands, rules_of, shape_for, flag_rule, text_rule, number_rule, option_rule, number_option_rule};
 ghost use Rattle.apf_commands.specs.declared.entries.Kind.TheVariants as of_kind;
 
 use crate::entries::{Entry, Kind};
@@ -355,17 +355,24 @@ fn with_match<'a>(alloc: Global, command: Command<'a>) -> Result<Command<'a>, Al
         ))
 }
 
-// A cluster's objects, an audit log, a patience, the seats of the server, and what is printed.
-fn with_cluster<'a>(alloc: Global, command: Command<'a>) -> Result<Command<'a>, AllocError>
-    ensures { IfOk result (AddsRules (rules_of of_kind.Cluster) command.entry) }
+// A cluster's objects, an audit log, a patience, and the seats of the server.
+fn with_cluster_log<'a>(alloc: Global, command: Command<'a>) -> Result<Command<'a>, AllocError>
+    ensures { IfOk result (AddsRules cluster_log_rules command.entry) }
 {
     let seats = value_parser!(u32).range(1..=1_000_000);
-    let flows = value_parser!(u32).range(0..=1_000_000);
     command
         .arg(text(alloc, "OBJECTS", OBJECTS))?
         .arg(text(alloc, "AUDITLOG", AUDITLOG))?
         .arg(text(alloc, "PATIENCE", PATIENCE))?
-        .arg(number_option(alloc, "seats", seats, "N", SEATS))?
+        .arg(number_option(alloc, "seats", seats, "N", SEATS))
+}
+
+// The same, and what is simulated and printed.
+fn with_cluster<'a>(alloc: Global, command: Command<'a>) -> Result<Command<'a>, AllocError>
+    ensures { IfOk result (AddsRules (rules_of of_kind.Cluster) command.entry) }
+{
+    let flows = value_parser!(u32).range(0..=1_000_000);
+    with_cluster_log(alloc, command)?
         .arg(number_option(
             alloc,
             "flows",
@@ -373,7 +380,19 @@ fn with_cluster<'a>(alloc: Global, command: Command<'a>) -> Result<Command<'a>, 
             "N",
             "Flows that have a line, 0 to 1000000; 12 if left out",
         ))?
-        .arg(flag(alloc, "json", "Prints JSON, one object a line"))
+        .arg(flag(alloc, "json", "Prints JSON, one object a line"))?
+        .arg(flag(alloc, "no-lending", "Keeps each level at its nominal limit"))?
+        .arg(option(
+            alloc,
+            "level",
+            "NAME",
+            "Level whose requests are printed, with --trace",
+        ))?
+        .arg(flag(
+            alloc,
+            "trace",
+            "Prints the requests of a level as a trace, and simulates nothing",
+        ))
 }
 
 // A command with the arguments of this kind behind its own.

@@ -354,16 +354,21 @@ Status: 0 done, 1 a file's fault or output that can't be written, 2 a command li
         help: "\
 Each request of the log runs on the level of its schema, with one seat, as apf simulate has it run:
 it waits, gives up after PATIENCE and is charged by time. apf match says which schema that is. All
-levels run at once. A level has its nominal limit all along, one seat at least, and lends nothing.
-OBJECTS is that of apf objects, AUDITLOG that of apf trace.
+levels run at once. A level begins with its nominal limit, one seat at least. Every ten seconds the
+seats are divided anew by what the requests of each level asked for in that time and before: a level
+lends what it does not need, down to its least limit, and borrows up to its greatest. With
+--no-lending each level keeps its nominal limit. OBJECTS is that of apf objects, AUDITLOG that of
+apf trace.
 
 Prints a line of names, and a line for each level, in the order of the objects:
-  LEVEL NOMINAL REQUESTS EXECUTED REJECTED TIMED-OUT LOG-429S USED MEDIAN P99 LONGEST
+  LEVEL NOMINAL LIMITS REQUESTS EXECUTED REJECTED TIMED-OUT LOG-429S USED MEDIAN P99 LONGEST
   NOMINAL      the level's part of the seats, as apf objects prints it
+  LIMITS       the least and the greatest limit that the level had, or one where they are the same;
+               - on a level that is exempt
   TIMED-OUT    how many requests waited for as long as PATIENCE
   LOG-429S     how many the server of the log turned away, by the log itself
-  USED         the part of the level's seats that was in use until the last request of all was
-               over; - on a level that is exempt, or where no time went by
+  USED         the seats that were in use until the last request of all was over, beside the nominal
+               limit; - on a level that is exempt, or where no time went by
   MEDIAN ..    the median, the 99th percentile and the longest of the waits of those executed, with
                a ~ where a percentile is shortened
 Where flows waited or were turned away, a line of names, and a line for each of the first 12:
@@ -372,6 +377,9 @@ Those come first that waited longest, and of one wait those of which most reques
 
 With --json each line is a JSON object, with times in microseconds, and seatTime in place of USED:
   {\"level\": ..}   of a level          {\"flowOf\": ..}   of a flow of that level
+
+With --level NAME --trace the requests of the level NAME are printed as a trace, for simulate, fates
+and picture, and nothing is simulated. Their times are from the first request of the whole log.
 
 Example:
   $ apf cluster examples/cluster/objects.json examples/audit/audit.log 15s | grep -v ' 0 0 0 0 '

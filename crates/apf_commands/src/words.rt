@@ -118,7 +118,8 @@ pub enum Arguments<'a> {
         asked: Asked<'a>,
     },
     /// The names of a file of objects and of an audit log, the words of a patience, how many seats the server has, 1 to 1,000,000, how
-    /// many flows are told, 0 to 1,000,000, and whether JSON is asked for.
+    /// many flows are told, 0 to 1,000,000, whether JSON is asked for, whether no seats are lent, the name of a level, and whether its
+    /// requests are asked for as a trace.
     Cluster {
         objects: &'a str,
         log: &'a str,
@@ -126,6 +127,9 @@ pub enum Arguments<'a> {
         seats: u32,
         flows: u32,
         json: bool,
+        no_lending: bool,
+        level: Option<&'a str>,
+        trace: bool,
     },
 }
 
@@ -445,6 +449,9 @@ fn cluster_of<'a>(matches: &ArgMatches<'a>) -> Arguments<'a>
         seats: u32_or(matches, "seats", 600),
         flows: u32_or(matches, "flows", 12),
         json: flag_of(matches, "json"),
+        no_lending: flag_of(matches, "no-lending"),
+        level: option_of(matches, "level"),
+        trace: flag_of(matches, "trace"),
     }
 }
 

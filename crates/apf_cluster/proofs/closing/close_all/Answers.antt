@@ -18,5 +18,5 @@ close-requires c =
 
 pub loop-level-preserved : goal.loop-level-preserved
 loop-level-preserved c =
-    subst (AllZip IsClosed (c.loop-level.yielded ++ c.in-Some.level ∷ [])) (sym c.in-Ok.ensures.items)
-    (all_zipped_more IsClosed c.loop-level.yielded c.loop-level.tables.items c.in-Some.level c.in_ok-table.table c.loop-level.invariant c.in_ok-table.ensures)
+    subst (AllZip (IsClosed c.args.end) (c.loop-level.yielded ++ c.in-Some.level ∷ [])) (sym c.in-Ok.ensures.items)
+    (all_zipped_more (IsClosed c.args.end) c.loop-level.yielded c.loop-level.tables.items c.in-Some.level c.in_ok-table.table c.loop-level.invariant c.in_ok-table.ensures)

@@ -4,4 +4,4 @@ use Rattle.apf_cluster.specs.Runs.{IsClosed}
 use Rattle.apf_cluster.proofs.closing.close_all.Given as goal
 
 abbrev pub invariant-loop-level : goal.invariant-loop-level
-invariant-loop-level l = AllZip IsClosed l.yielded l.tables.items
+invariant-loop-level l = AllZip (IsClosed l.end) l.yielded l.tables.items

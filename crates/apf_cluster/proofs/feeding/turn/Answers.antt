@@ -1,12 +1,7 @@
 -- One came, and the next one is read.
-use Rattle.std.proofs.Common.{length, ap, ◌∙◌}
-use Rattle.std.proofs.Math.ListN.{length-set}
 use Rattle.apf_audit.specs.AuditEvent.{event}
 use Rattle.apf_cluster.proofs.HandedOut.{more_fed}
 use Rattle.apf_cluster.proofs.feeding.turn.Goals as goal
-
-pub returns-clause-count : goal.returns-clause-count
-returns-clause-count g c = ap length c.in_ok-last.ensures.takes.goes.is ∙ length-set _ _ _
 
 pub returns-clause-fed : goal.returns-clause-fed
 returns-clause-fed g c = λ was told fed.

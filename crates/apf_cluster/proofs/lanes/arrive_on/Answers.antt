@@ -1,7 +1,9 @@
--- The lane went on.
-use Rattle.std.proofs.Common.{[], ◌∷◌}
-use Rattle.apf_cluster.proofs.Lived.{lived_on}
+use Rattle.std.proofs.Common.{refl}
+use Rattle.apf_cluster.specs.declared.lanes.LevelLane.{LevelLane}
+use Rattle.apf_cluster.proofs.GoingOn.{takes_then}
 use Rattle.apf_cluster.proofs.lanes.arrive_on.Goals as goal
 
-pub returns-clause-lived : goal.returns-clause-lived
-returns-clause-lived c = lived_on (c.args.came.now ∷ []) c.args.level.now.lane c.arrive.new.self c.in_ok-arrive.ensures.goes c.requires.lived
+pub returns-clause-goes : goal.returns-clause-goes
+returns-clause-goes c =
+    let done : LevelLane = c.come_on.new.level in
+    takes_then c.args.came.now c.args.level.now c.advance_on.new.level done (record done { turned_away = c.in_ok-level.field-0 }) c.in_ok-advance_on.ensures.goes c.in_ok-come_on.ensures.goes refl refl

@@ -22,9 +22,9 @@ loop-level-preserved c =
     record {
       shares = omega (arith, shares);
       opened = λ more are.
-          subst (λ (ls : List LevelLane). AreOpened t.seats t.patience all (map level_view c.args.levels.now) ls)
+          subst (λ (ls : List LevelLane). AreOpened t all (map level_view c.args.levels.now) ls)
           (sym (ap (λ (ls : List LevelLane). ls ++ more) c.in-Ok.ensures.items ∙ append_assoc lanes (lane ∷ []) more))
-          (c.loop-level.invariant.opened (lane ∷ more) (subst (λ (rest : List Level). AreOpened t.seats t.patience all (map level_view rest) (lane ∷ more)) (sym split) (c.in_ok-lane.ensures, are)));
+          (c.loop-level.invariant.opened (lane ∷ more) (subst (λ (rest : List Level). AreOpened t all (map level_view rest) (lane ∷ more)) (sym split) (c.in_ok-lane.ensures, are)));
     }
 
 pub returns : goal.returns
@@ -32,5 +32,5 @@ returns c =
     let t = c.args.terms in
     let all = c.args.all in
     let none : length c.loop-level.rest.now ≡ 0 = search rules in
-    subst (λ (lanes : List LevelLane). AreOpened t.seats t.patience all (map level_view c.args.levels.now) lanes) (append-nil c.loop-level.lanes.items)
-    (c.loop-level.invariant.opened [] (subst (λ (rest : List Level). AreOpened t.seats t.patience all (map level_view rest) []) (sym (empty_by c.loop-level.rest.now none)) tt))
+    subst (λ (lanes : List LevelLane). AreOpened t all (map level_view c.args.levels.now) lanes) (append-nil c.loop-level.lanes.items)
+    (c.loop-level.invariant.opened [] (subst (λ (rest : List Level). AreOpened t all (map level_view rest) []) (sym (empty_by c.loop-level.rest.now none)) tt))

@@ -9,8 +9,8 @@ use Rattle.apf_cluster.proofs.lanes.open_lanes.Given as goal
 abbrev pub invariant-loop-level : goal.invariant-loop-level
 invariant-loop-level l = record {
   shares : sum_of_shares (map level_view l.rest) ≤ l.all;
-  opened : (more : List LevelLane) → AreOpened l.terms.seats l.terms.patience l.all (map level_view l.rest) more
-      → AreOpened l.terms.seats l.terms.patience l.all (map level_view l.levels) (l.lanes.items ++ more);
+  opened : (more : List LevelLane) → AreOpened l.terms l.all (map level_view l.rest) more
+      → AreOpened l.terms l.all (map level_view l.levels) (l.lanes.items ++ more);
 }
 
 abbrev pub decreases-loop-level : goal.decreases-loop-level

@@ -1,40 +1,50 @@
 -- The whole log was read, and each request came to the lane of its level.
-use Rattle.std.proofs.Common.{◌≡◌, ℕ, List, [], length, map, None, ap, ◌∙◌}
+use Rattle.std.proofs.Common.{◌≡◌, List, [], length, map, ap, ◌∙◌, arith}
 use Rattle.std.specs.Prelude.{option_map}
-use Rattle.std.specs.List.{AllZip}
 use Rattle.std.proofs.lemmas.Result.{IfOk-weaker}
-use Rattle.std.proofs.lemmas.Slice.Zip.{AllZip-long}
 use Rattle.apf_objects.specs.Cluster.{cluster_view}
 use Rattle.apf_objects.specs.Levels.{level_view}
 use Rattle.apf_objects.specs.declared.level.Level.{Level}
 use Rattle.apf_matching.specs.Limits.{sum_of_shares}
 use Rattle.apf_audit.specs.AuditEvent.{event}
-use Rattle.apf_cluster.specs.Runs.{AreOpened, Course, IsClosed, choice_by}
+use Rattle.apf_cluster.specs.Runs.{AreOpened, Course, choice_by}
 use Rattle.apf_cluster.proofs.HandedOut.{all_opened, as_many, first_fed, new_in_time, new_lived, none_gone, ran_log}
 use Rattle.apf_cluster.proofs.running.run_log.Goals as goal
 
 pub feed-requires-clause-count : goal.feed-requires-clause-count
 feed-requires-clause-count g c =
-    as_many c.args.terms.seats c.args.terms.patience c.sum_of_shares.result c.as_slice-levels.result.now c.in_ok-lanes.lanes.items c.in_ok-lanes.ensures ∙ ap (λ (l : List Level). length l) c.as_slice-levels.ensures.value
+    as_many c.args.terms c.sum_of_shares.result c.as_slice-levels.result.now c.in_ok-lanes.lanes.items c.in_ok-lanes.ensures ∙ ap (λ (l : List Level). length l) c.as_slice-levels.ensures.value
+
+pub feed-requires-clause-few : goal.feed-requires-clause-few
+feed-requires-clause-few g c =
+    let many = as_many c.args.terms c.sum_of_shares.result c.as_slice-levels.result.now c.in_ok-lanes.lanes.items c.in_ok-lanes.ensures ∙ ap (λ (l : List Level). length l) c.as_slice-levels.ensures.value in
+    let few = c.requires.levels in
+    omega (arith, many, few)
 
 pub feed-requires-clause-in_time : goal.feed-requires-clause-in_time
 feed-requires-clause-in_time g c =
-    new_in_time c.args.terms.seats c.args.terms.patience c.sum_of_shares.result (map level_view c.as_slice-levels.result.now) c.in_ok-lanes.lanes.items c.in_ok-lanes.ensures
+    new_in_time c.args.terms c.sum_of_shares.result (map level_view c.as_slice-levels.result.now) c.in_ok-lanes.lanes.items c.in_ok-lanes.ensures
 
 pub feed-requires-clause-lived : goal.feed-requires-clause-lived
 feed-requires-clause-lived g c =
-    new_lived c.args.terms.seats c.args.terms.patience c.sum_of_shares.result (map level_view c.as_slice-levels.result.now) c.in_ok-lanes.lanes.items c.in_ok-lanes.ensures
+    new_lived c.args.terms c.sum_of_shares.result (map level_view c.as_slice-levels.result.now) c.in_ok-lanes.lanes.items c.in_ok-lanes.ensures
+
+pub close_after-requires-clause-count : goal.close_after-requires-clause-count
+close_after-requires-clause-count g c =
+    let many = as_many c.args.terms c.sum_of_shares.result c.as_slice-levels.result.now c.in_ok-lanes.lanes.items c.in_ok-lanes.ensures ∙ ap (λ (l : List Level). length l) c.as_slice-levels.ensures.value in
+    let few = c.requires.levels in
+    let same = c.in_ok-periods.ensures.count in
+    omega (arith, many, few, same)
 
 pub returns-clause-each : goal.returns-clause-each
 returns-clause-each g c =
-    let count = as_many c.args.terms.seats c.args.terms.patience c.sum_of_shares.result c.as_slice-levels.result.now c.in_ok-lanes.lanes.items c.in_ok-lanes.ensures ∙ ap (λ (l : List Level). length l) c.as_slice-levels.ensures.value in
-    IfOk-weaker c.close_all.result (λ tables. AllZip IsClosed c.feed.new.lanes.items tables.items) (λ tables. length tables.items ≡ length c.args.cluster.now.levels.items)
-    (λ tables are. AllZip-long IsClosed c.feed.new.lanes.items tables.items are ∙ (c.in_ok-feed.ensures.count ∙ count)) c.close_all.ensures
+    let count = as_many c.args.terms c.sum_of_shares.result c.as_slice-levels.result.now c.in_ok-lanes.lanes.items c.in_ok-lanes.ensures ∙ ap (λ (l : List Level). length l) c.as_slice-levels.ensures.value in
+    IfOk-weaker c.close_after.result _ (λ tables. length tables.items ≡ length c.args.cluster.now.levels.items)
+    (λ tables are. are ∙ (c.in_ok-periods.ensures.count ∙ count)) c.close_after.ensures.count
 
 pub returns-clause-ran : goal.returns-clause-ran
 returns-clause-ran g c =
-    let seats = c.args.terms.seats in
-    let patience = c.args.terms.patience in
+    let terms = c.args.terms in
     let choice = choice_by c.args.cluster in
     let said = cluster_view c.args.cluster.now in
     let was = g.R.Read.remaining c.args.input.now in
@@ -42,13 +52,13 @@ returns-clause-ran g c =
     let left = g.R.Read.remaining c.feed.new.input in
     let lanes = c.in_ok-lanes.lanes.items in
     let start = c.start_of.result in
-    let opened : AreOpened seats patience (sum_of_shares (map level_view c.args.cluster.now.levels.items)) (map level_view c.args.cluster.now.levels.items) lanes =
-    all_opened seats patience c.sum_of_shares.result c.as_slice-levels.result.now c.args.cluster.now.levels.items lanes c.as_slice-levels.ensures.value c.sum_of_shares.ensures.value c.in_ok-lanes.ensures in
-    let w : Course = record { cluster = said; seats = seats; patience = patience; start = start } in
-    IfOk-weaker c.close_all.result (λ tables. AllZip IsClosed c.feed.new.lanes.items tables.items) _
-    (λ tables are. λ fresh.
+    let opened : AreOpened terms (sum_of_shares (map level_view c.args.cluster.now.levels.items)) (map level_view c.args.cluster.now.levels.items) lanes =
+    all_opened terms c.sum_of_shares.result c.as_slice-levels.result.now c.args.cluster.now.levels.items lanes c.as_slice-levels.ensures.value c.sum_of_shares.ensures.value c.in_ok-lanes.ensures in
+    let w : Course = record { cluster = said; terms = terms; start = start } in
+    IfOk-weaker c.close_after.result _ _
+    (λ tables closes. λ fresh.
     let fed = first_fed choice was mid c.in_ok-first.first c.next.new.self (c.in_ok-first.ensures.answers.of_each [] [] (fresh choice was)) in
     let none = none_gone choice w was mid (option_map event c.in_ok-first.first) c.next.new.self lanes fed opened c.start_of.ensures in
-    ran_log choice said seats patience start c.args.reader.now.window.size was left c.feed.new.reader c.feed.new.lanes.items tables.items (c.in_ok-feed.ensures.size ∙ c.in_ok-first.ensures.size)
-    (c.in_ok-feed.ensures.gone seats patience was none) are)
-    c.close_all.ensures
+    ran_log choice said terms start c.args.reader.now.window.size was left c.feed.new.reader c.feed.new.lanes.items c.in_ok-periods.periods tables.items (c.in_ok-periods.ensures.size ∙ c.in_ok-first.ensures.size)
+    (c.in_ok-periods.ensures.gone was none) closes)
+    c.close_after.ensures.tables

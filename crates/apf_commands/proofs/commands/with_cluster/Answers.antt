@@ -8,10 +8,8 @@ use Rattle.apf_commands.proofs.commands.with_cluster.Goals as goal
 
 pub returns : goal.returns
 returns c =
-    let range : c.range-seats.result ≡ Signed (pos 1) (pos 1000000) = rw (c.value_parser.ensures, c.new.ensures.start, c.new.ensures.end) at c.range-seats.ensures in
-    let many : c.range-flows.result ≡ Signed (pos 0) (pos 1000000) = rw (c.value_parser-2.ensures, c.new-2.ensures.start, c.new-2.ensures.end) at c.range-flows.ensures in
-    let seats = c.number_option.ensures.rule ∙ ap (number_option_rule (codes "seats")) range in
-    let flows = c.number_option-2.ensures.rule ∙ ap (number_option_rule (codes "flows")) many in
-    IfOk-weaker c.arg-6.result _ _
-    (λ r h app made. added (added (added (added (added (added made c.text.ensures.rule c.text.ensures.local c.in_ok-arg.ensures) c.text-2.ensures.rule c.text-2.ensures.local c.in_ok-arg-2.ensures) c.text-3.ensures.rule c.text-3.ensures.local c.in_ok-arg-3.ensures) seats c.number_option.ensures.local c.in_ok-arg-4.ensures) flows c.number_option-2.ensures.local c.in_ok-arg-5.ensures) c.flag.ensures.rule c.flag.ensures.local h)
-    c.arg-6.ensures
+    let many : c.range-flows.result ≡ Signed (pos 0) (pos 1000000) = rw (c.value_parser.ensures, c.new.ensures.start, c.new.ensures.end) at c.range-flows.ensures in
+    let flows = c.number_option.ensures.rule ∙ ap (number_option_rule (codes "flows")) many in
+    IfOk-weaker c.arg-5.result _ _
+    (λ r h app made. added (added (added (added (added (c.in_ok-with_cluster_log.ensures app made) flows c.number_option.ensures.local c.in_ok-arg.ensures) c.flag.ensures.rule c.flag.ensures.local c.in_ok-arg-2.ensures) c.flag-2.ensures.rule c.flag-2.ensures.local c.in_ok-arg-3.ensures) c.option.ensures.rule c.option.ensures.local c.in_ok-arg-4.ensures) c.flag-3.ensures.rule c.flag-3.ensures.local h)
+    c.arg-5.ensures

@@ -1,0 +1,15 @@
+use Rattle.std.proofs.Common.{List, [], subst}
+use Rattle.apf_stream.specs.declared.ended.Ended.{Ended}
+use Rattle.apf_cluster.specs.Lending.{AreOver}
+use Rattle.apf_cluster.specs.declared.lanes.LevelLane.{LevelLane}
+use Rattle.apf_cluster.proofs.Lived.{lived_on}
+use Rattle.apf_cluster.proofs.GoingOn.{runs_on}
+use Rattle.apf_cluster.proofs.closing.finish.Goals as goal
+
+pub returns-clause-runs : goal.returns-clause-runs
+returns-clause-runs c =
+    let v : LevelLane = c.args.level.now in
+    runs_on v (record v { lane = c.finish.new.self; asking = c.leave_all.new.asking }) c.in_ok-finish.ensures.goes (subst (λ (l : List Ended). AreOver l v.asking c.leave_all.new.asking) c.ends.ensures c.in_ok-leave_all.ensures)
+
+pub returns-clause-lived : goal.returns-clause-lived
+returns-clause-lived c = lived_on [] c.args.level.now.lane c.finish.new.self c.in_ok-finish.ensures.goes c.requires

@@ -397,6 +397,36 @@ def check_late():
         tally.check("the fault is that it is late", said.startswith(f"apf: audit fault 13 at line {count + 1}: ") or not late, True)
 
 
+def check_estimates():
+    """How long a request is said to run that was turned away, by hand: by those of its flow that were read until it is handed out, which are as many as the
+    window holds and one more than were handed out before; of many runs by their first digits; and of flows beyond the most by all."""
+
+    def event(user, micros, code=200):
+        return event_of(f'"user":{{"username":"{user}"}},"responseStatus":{{"code":{code}}}', completed=f"12:00:0{micros // 10**6}.{micros % 10**6:06d}")
+
+    def runs_of(lines):
+        """All are received at one time, so they are printed in their order."""
+        status, out, err = printed("".join(lines).encode(), "s")
+        away = sum('"code":429' in it for it in lines)
+        said = f"apf: {away} of {len(lines)} requests were turned away with status 429: each gets the median runsFor of those of its flow that ran, or of all that ran\n"
+        tally.check(f"{len(lines)} events, {away} of them turned away", (status, err.decode()), (0, said))
+        return [int(it.rpartition(b":")[2][:-1]) for it in out.splitlines()]
+
+    # 999,999 has twenty binary digits, of which the first eight are those of 244
+    away, ran = event("a", 0, 429), event("a", 999_999)
+    for count, run_for in ((10_000, 999_999), (10_001, 244 << 12)):
+        tally.check(f"the median of {count} runs", runs_of([away, *count * [ran]]), [run_for, *count * [999_999]])
+    # of the first one 65,535 runs of the shorter kind were read, and 65,533 of the longer one; then one more of these each time
+    short, long = 1 << 20, 1 << 21
+    runs = runs_of([*5 * [away], *65_535 * [event("a", short)], *65_541 * [event("a", long)]])
+    tally.check("the median of those that were read until then", runs[:5], [short, short, short, long, long])
+    tally.check("those that ran", runs[5:], [*65_535 * [short], *65_541 * [long]])
+    # the last flow that has a median of its own, and the first one that has not
+    users = [*(event(f"user-{it}", 1_024) for it in range(99_999)), event("last", 4_096), event("late", 16_384)]
+    runs = runs_of([*users, event("last", 0, 429), event("late", 0, 429), event("nobody", 0, 429)])
+    tally.check("the medians of 100,002 flows", runs[99_999:], [4_096, 16_384, 4_096, 1_024, 1_024])
+
+
 def check_widest_trace():
     """Each byte of both names becomes six, and the line is one of a trace."""
     name = NAME * "\x01"
@@ -455,6 +485,7 @@ def check_command():
     check_bad_choices()
     check_unnamed()
     check_late()
+    check_estimates()
     check_widest_trace()
 
 

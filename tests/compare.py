@@ -417,6 +417,82 @@ def check_long():
         tally.check(f"{command} of 10,000 requests", (status, bool(out), err), (0, True, b""))
 
 
+def check_memory_of_fates():
+    """What `fates` holds is what the reader does, as many lines that are held back, and who is there: a longer trace takes no more."""
+    config, most = files("level", b'{"limit":6,"queues":8,"handSize":2}'), []
+    for many in (270_000, 400_000):
+        with subprocess.Popen([program, "fates", config, "-", "1s"], stdin=subprocess.PIPE, stdout=open(files("told", b""), "wb")) as process:
+            memory = Memory(process)
+            for begin in range(0, many, 10_000):
+                process.stdin.write(b"".join(b'{"hash":5,"arrivesAt":%d,"runsFor":9}\n' % it for it in range(begin, begin + 10_000)))
+            process.stdin.close()
+        most.append(memory.most())
+        with open(os.path.join(files.folder.name, "told"), "rb") as told:
+            tally.check(f"fates of {many} requests from a pipe", (process.returncode, told.read().count(b"\n")), (0, many + 1))
+    tally.check(f"fates of half as many again take as much memory: {most} KiB", most[1] < most[0] + 4_096, True)
+
+
+def check_others():
+    """`compare` of more flows than have a line each: those that come later have one together, behind the flows. Of more than 10,000 waits, on one of the levels
+    or on both, percentiles are marked. One flow waits, or finds no room, by what `fates` prints. All others come where there is room."""
+    most, many, form = 100_000, 10_300, b'{"hash":%d,"arrivesAt":%d,"runsFor":%d}\n'
+    lines = [form % (it, it, it % 3) for it in range(most)]
+    # three requests of the two flows that come last stand between the others
+    lines[70:70] = [form % (most + it // 2, 10**6 + it, 7) for it in range(3)]
+    lines += [form % (5, 2 * 10**6 + 10 * it, 900 + it % 7) for it in range(many)]
+    content = b"".join(lines)
+    configs = [b'{"limit":90,"queues":2,"handSize":1,"queueLengthLimit":5000}', b'{"limit":60,"limitResponse":"Reject"}']
+    waits = []
+    for config in configs:
+        rows = [row.split(" ") for row in lines_of(printed("fates", [config, content], 0)[1])[1 + most + 3 :]]
+        tally.check(f"fates of the flow that comes again on {config}", (len(rows), {row[1] for row in rows}), (many, {f"{5:016x}"}))
+        waits.append([0, *(int(row[4]) - int(row[2]) for row in rows if row[6] == "execute")])
+
+    def line(name, requests, more):
+        """Of a row with these waits, and as many of no time more."""
+        each = [[*it, *[0] * more] for it in waits]
+        columns = [[simulation.shown_rank(it, 50) for it in each], [simulation.shown_rank(it, 99) for it in each], map(max, each), [requests - len(it) for it in each]]
+        return " ".join(map(str, [name, requests, *(it for pair in columns for it in pair), 0, 0]))
+
+    nothing = " 0" * 10
+    want = [line(f"{5:016x}", many + 1, 0), *(f"{it:016x} 1{nothing}" for it in range(most) if it != 5), f"others 3{nothing}", line("whole", many + most + 3, most + 2)]
+    status, out, err = printed("compare", [*configs, content], 0)
+    apart = [it for it in zip(lines_of(out)[1:], want) if it[0] != it[1]]
+    tally.check("compare of 100,002 flows", (status, err, len(lines_of(out)), apart[:3]), (0, b"", most + 3, []))
+    tally.check("one level has more than 10,000 waits of that flow, and the other has fewer", [len(it) > 10_000 for it in waits], [True, False])
+
+
+def check_crowd():
+    """Where one request more than may be there would be there, its line and its time are told, also where it is so on one of two levels. Nothing is printed
+    but what `fates` had printed before: of a trace of no more lines than are held back that is nothing."""
+    form = b'{"hash":%d,"arrivesAt":%d,"runsFor":%d}\n'
+    quick = [form % (it % 7, it, 0) for it in range(5_000)]
+    crowd = [form % (it % 100, 10**6 + it // 100, 10**7) for it in range(10_001)]
+    many = b'{"limit":5000,"queues":64,"handSize":8,"queueLengthLimit":500}'
+    few = b'{"limit":5000,"limitResponse":"Reject"}'
+    lines = [*quick, *crowd]
+    # the line of the crowd that comes last stands first
+    moved = [lines[-1], *lines[:-1]]
+    for name, line, trace in (("behind others", 15_001, lines), ("on the first line", 1, moved)):
+        content, said = b"".join(trace), f"apf: at line {line}, at 1000100, more than 10000 requests are there at once\n".encode()
+        for command, configs, more in [
+            ("simulate", [many], []),
+            ("fates", [many], []),
+            ("picture", [many], ["--to", "1"]),
+            ("compare", [many, few], []),
+            ("compare", [few, many], []),
+        ]:
+            paths = [files(f"file {place}", it) for place, it in enumerate([*configs, content])]
+            tally.check(f"{command} {more} of a crowd, {name}", run(program, [command, *paths, "0", *more]), (1, b"", said))
+        # the level that rejects has room for all
+        tally.check(f"compare of a crowd that is turned away, {name}", printed("compare", [few, few, content], 0)[0], 0)
+    status, out, err = printed("fates", [many, b"".join([*[form % (it % 7, it, 0) for it in range(150_000)], *crowd])], 0)
+    tally.check("fates of a crowd behind more lines than are held back", (status, err), (1, b"apf: at line 160001, at 1000100, more than 10000 requests are there at once\n"))
+    want = [f"{it} {it % 7:016x} {it} - {it} {it} execute" for it in range(150_000)]
+    told = lines_of(out)[1:]
+    tally.check(f"fates of a crowd: {len(told)} lines are printed before", (0 < len(told), told == want[: len(told)]), (True, True))
+
+
 check_examples()
 check_rules()
 check_drawn()
@@ -430,4 +506,7 @@ check_largest()
 check_long_hands()
 check_hands_of_a_shared_name()
 check_long()
+check_memory_of_fates()
+check_others()
+check_crowd()
 tally.end()

@@ -1,5 +1,5 @@
 """Drawn traces by a simulation in C, tests/lib/simulate.c. First it is compared with the independent computation in Python by small traces. Then `simulate` with
-it, by 3,000 drawn traces of up to 10,000 requests."""
+it, by 3,000 drawn traces of up to 10,000 requests, and by traces whose lines come as late as they may. Where one comes later, each command says so."""
 
 import itertools
 import json
@@ -10,7 +10,7 @@ import sys
 
 sys.path.insert(0, os.path.join(os.path.dirname(os.path.abspath(__file__)), "lib"))
 import simulation
-from harness import Files, Tally, build
+from harness import Files, Tally, build, run
 from in_c import compiled, level_of, run_of
 from simulation import Run, words_of
 from trace import request_of
@@ -24,6 +24,8 @@ draw = random.Random(seed)
 TRACES = int(os.environ.get("APF_TRACES", "3000"))
 SMALL = int(os.environ.get("APF_SMALL", "500"))
 model = compiled(files, "simulate")
+# how many places late a line may come
+WINDOW = 131_072
 print(f"seed {seed}")
 
 
@@ -168,6 +170,34 @@ def check_drawn():
         tally.check(f"in many runs there is {what}: {count}", count >= SEEN[what] * TRACES // 3000, True)
 
 
+def check_late():
+    """Of more lines than the reader holds each may come so many places late: the simulation in C has sorted them all. One more place is too late, and then
+    nothing is printed."""
+    level, first = level_of(20, 8, 2, 10), '{"hash":99,"arrivesAt":0,"runsFor":500}\n'
+    lines = [f'{{"hash":{it % 40},"arrivesAt":{10 * it},"runsFor":{it % 401}}}\n' for it in range(1, WINDOW + 3)]
+    late = {
+        "the first request on a line so many places late": [*lines[:WINDOW], first, *lines[WINDOW:]],
+        "as many lines and one, in the order of the latest": lines[WINDOW::-1],
+    }
+    runs = stored([(level, 1000, None, it) for it in late.values()])
+    for name, told, foreseen in zip(late, printed(runs), modelled(runs)):
+        tally.check(f"{name}: it is simulated", foreseen[-1], "status 0")
+        tally.check(f"{name}: simulate", told, foreseen)
+    config = files("config", json.dumps(level))
+    too_late = {
+        "one place more": ([*lines[: WINDOW + 1], first], 0),
+        "one line more, in the order of the latest": (lines[::-1], 10),
+    }
+    each = [["simulate", config], ["compare", config, config], ["fates", config], ["timeline", config], ["picture", config], ["hands", config]]
+    for name, (lines, arrival) in too_late.items():
+        trace = files("trace", "".join(lines))
+        said = f"apf: trace fault 13 at line {WINDOW + 2}: this request arrives at {arrival}, and more than {WINDOW} requests of lines before it arrive later\n"
+        for words in each if lines[-1] == first else each[:1]:
+            patience = [] if words[0] == "hands" else ["0"]
+            tally.check(f"{name}: {words[0]}", run(program, [*words, trace, *patience]), (1, b"", said.encode()))
+
+
 check_model()
 check_drawn()
+check_late()
 tally.end()

@@ -1,8 +1,9 @@
-"""Long traces: `simulate` of ten traces of a million requests, which are made while they are read, with a simulation in C, tests/lib/simulate.c."""
+"""Long traces: `simulate` of twenty traces of a million requests, which are made while they are read, with a simulation in C, tests/lib/simulate.c."""
 
 import json
 import os
 import sys
+from concurrent.futures import ThreadPoolExecutor
 
 sys.path.insert(0, os.path.join(os.path.dirname(os.path.abspath(__file__)), "lib"))
 from harness import Files, Memory, Tally, build
@@ -45,30 +46,51 @@ LONG = [
     ("a cost that is read late", level_of(20, 8, 2, 40), 200_000, USUAL, 200, 21, READ + 1),
     ("one queue", level_of(30, 1, 1, 9000), 2_000_000, USUAL, 200, 31, 0),
     ("150,000 flows", level_of(30, 256, 6, 20), 1_000_000, USUAL, 150_000, 31, 0),
+    ("one seat", level_of(1, 8, 2, 100), 5_000_000, USUAL, 200, 1, 0),
+    ("a hand of all queues", level_of(40, 8, 8, 30), 1_000_000, USUAL, 200, 42, 0),
+    ("1,024 queues", level_of(60, 1024, 4, 4), 500_000, USUAL, 200, 66, 0),
+    ("twice the work", level_of(50, 64, 6, 50), 1_000_000, USUAL, 200, 100, 0),
+    ("half the work", level_of(50, 64, 6, 50), 1_000_000, USUAL, 200, 25, 0),
+    ("hardly any patience", level_of(50, 64, 6, 50), 1_000, USUAL, 200, 55, 0),
+    ("one flow", level_of(25, 16, 2, 60), 1_000_000, USUAL, 1, 27, 0),
+    ("5,000 flows by seats", level_of(80, 128, 8, 10), 2_000_000, "seats", 5_000, 85, 0),
+    ("20,000 flows", level_of(245, 128, 6), 15_000_000, "time", 20_000, 250, 0),
+    ("a level that rejects most", level_of(10, 0), 0, USUAL, 200, 40, 0),
 ]
 
 
+def looked_at(number):
+    """Of a trace of many requests, made while it is read, nearly in order: what was looked at, what came and what has to come by the simulation in C; and
+    what is printed of it."""
+    name, config, patience, charge, flows, seats, cost = LONG[number]
+    makes_it = [makes, "trace", *map(str, (seed + number, MANY, flows, seats, cost))]
+    want, judged = told_of(makes_it, [model, files(f"runs{number}", run_of(config, patience, charge, "/dev/stdin"))])
+    making, running = through([makes_it, [program, "simulate", files(f"config{number}", json.dumps(config)), "-", *words_of(patience, charge)]])
+    memory = Memory(running)
+    got = running.stdout.read().decode()
+    statuses = making.wait(), running.wait()
+    lines, foreseen = got.splitlines(), want.splitlines()[:-1]
+    apart = [it for it in zip(lines, foreseen) if it[0] != it[1]]
+    others = [line for line in foreseen if line.startswith("others ")]
+    found = [
+        ("the statuses of the simulation in C", judged, [0, 0]),
+        ("the statuses", statuses, (0, 0)),
+        (f"the lines of {MANY} requests", (len(lines), apart[:3]), (len(foreseen), [])),
+        ("percentiles of many waits", "~" in want or MANY < 1_000_000, True),
+        ("the others have a line", len(others), 1 if flows > 100_000 and MANY >= 1_000_000 else 0),
+    ]
+    if flows <= 200:
+        found.append((f"at most {MOST_MEMORY} KiB: {memory.most()}", memory.most() <= MOST_MEMORY, True))
+    return name, found, f"{memory.most()} KiB; {foreseen[-3]}; {foreseen[-2]}; {foreseen[-1]}"
+
+
 def check_long():
-    """Traces of many requests, made while they are read, nearly in order, by the simulation in C."""
-    for number, (name, config, patience, charge, flows, seats, cost) in enumerate(LONG):
-        makes_it = [makes, "trace", *map(str, (seed + number, MANY, flows, seats, cost))]
-        want, statuses = told_of(makes_it, [model, files("runs", run_of(config, patience, charge, "/dev/stdin"))])
-        tally.check(f"{name}: the statuses of the simulation in C", statuses, [0, 0])
-        making, running = through([makes_it, [program, "simulate", files("config", json.dumps(config)), "-", *words_of(patience, charge)]])
-        memory = Memory(running)
-        got = running.stdout.read().decode()
-        statuses = making.wait(), running.wait()
-        tally.check(f"{name}: the statuses", statuses, (0, 0))
-        lines, foreseen = got.splitlines(), want.splitlines()[:-1]
-        apart = [it for it in zip(lines, foreseen) if it[0] != it[1]]
-        tally.check(f"{name}: the lines of {MANY} requests", (len(lines), apart[:3]), (len(foreseen), []))
-        print(f"{MANY} requests, {name}: {memory.most()} KiB; {foreseen[-3]}; {foreseen[-2]}; {foreseen[-1]}")
-        if flows == 200:
-            tally.check(f"{name}: at most {MOST_MEMORY} KiB: {memory.most()}", memory.most() <= MOST_MEMORY, True)
-            tally.check(f"{name}: percentiles of many waits", "~" in want, MANY >= 1_000_000)
-        else:
-            others = [line for line in foreseen if line.startswith("others ")]
-            tally.check(f"{name}: the others have a line", len(others), 1 if MANY >= 1_000_000 else 0)
+    """Each of them, two side by side."""
+    with ThreadPoolExecutor(2) as pool:
+        for name, found, line in pool.map(looked_at, range(len(LONG))):
+            for what, got, want in found:
+                tally.check(f"{name}: {what}", got, want)
+            print(f"{MANY} requests, {name}: {line}")
 
 
 check_long()

@@ -1,6 +1,6 @@
-"""Each allocation of a command refused in turn: the answer is the one with ample memory, or out of memory, and no other. What `match --log` printed of a log's
-first lines stands where memory ends later. A live level ends without memory only before its first line; behind that, a line whose object finds none is a
-fault."""
+"""Each allocation of a command refused in turn: the answer is the one with ample memory, or out of memory, and no other. Of a longer run the large
+allocations are refused. What `match --log` printed of a log's first lines stands where memory ends later. A live level ends without memory only before its
+first line; behind that, a line whose object finds none is a fault."""
 
 import json
 import os
@@ -131,6 +131,22 @@ for words, status in (
     tally.check(f"{name} was refused memory, and ends with a run that meets no refusal", (WANT in refused, ends, got), (True, True, ample))
     if words[0] == "run":
         tally.check(f"{name} had a worker that could not start", any(it != WANT for it in refused), True)
+
+# a longer run: of a flow that has more than 10,000 waits these are counted from then on, and the list of who waits, the rows and the lines that are held
+# back grow. The allocations of at least 16 KiB are those that grow with the run, and these are refused
+longer = files("longer", "".join(f'{{"hash":{5 if it % 100 else 6 + it},"arrivesAt":{7 * it // 10 * 1000},"runsFor":{900 + it % 7}}}\n' for it in range(10_150)))
+narrow = files("narrow", '{"limit":1,"queues":2,"handSize":1,"queueLengthLimit":5000}')
+for words, marks in ((["simulate", narrow, longer, "0"], True), (["fates", narrow, longer, "0"], False), (["compare", narrow, roomy, longer, "0"], True), (["hands", narrow, longer], False)):
+    name = f"{words[0]} of 10,150 requests"
+    ample = run(program, words)
+    tally.check(f"{name} with ample memory, and percentiles of more than 10,000 waits", (ample[0], b"~" in ample[1]), (0, marks))
+    number, was_refused = 0, True
+    with Refusing(files, preloaded, program, words, least=16_384) as runs:
+        while was_refused and number < 1_000:
+            number += 1
+            got, was_refused = runs.without(number)
+            tally.check(f"{name} without large allocation {number}", got, WANT if was_refused else ample)
+    tally.check(f"{name}: {number - 1} large allocations were refused, and then none", (number > 5, was_refused), (True, False))
 
 # of a live level, where one allocation is refused and where two are: arrivals that execute, wait and are rejected, faults of each kind, and a line that is nearly too long
 LINES = [b'arrive 0 {"schema":"a","distinguisher":"b"}', b'arrive 1 {"hash":0,"width":2,"cost":3}', b'arrive 2 {"schema":"a","distinguisher":"%s"}' % (b"x" * 65_000), b'try 3 {"hash":0}']

@@ -10,7 +10,7 @@ import sys
 import time
 
 sys.path.insert(0, os.path.join(os.path.dirname(os.path.abspath(__file__)), "lib"))
-from harness import Files, Tally, build, run
+from harness import TOP, Files, Tally, build, run
 from in_c import compiled, level_of
 
 tally = Tally()
@@ -20,7 +20,7 @@ files = Files()
 MANY = int(os.environ.get("APF_REQUESTS", "500000"))
 # how long a line stands, in seconds
 PAUSE = 0.25
-LINE = re.compile(rb"(\d+) requests(?:, (\d+) s of the trace)?, (\d+) a second, (\d+) wait(?:, (\d+) %)?")
+LINE = re.compile(rb"(\d+) (?:requests|lines)(?:, (\d+) s of the trace)?, (\d+) a second(?:, (\d+) wait)?(?:, (\d+) %)?")
 
 
 class Seen:
@@ -175,6 +175,39 @@ def check_rounds():
     tally.check("run --rounds: the book is of all", re.search(rb"^executed (\d+) rejected 0 ", seen.printed(), re.M)[1], str(all_of_them).encode())
 
 
+def judge_lines(name, words, many):
+    """A command that has no level, or many: the lines that were read, and nobody who waits."""
+    status, plain, notes = run(program, words)
+    tally.check(f"{name} without a terminal: the status", status, 0)
+    seen = Seen(words)
+    # what it notes of the log comes behind the line
+    behind = notes.replace(b"\n", b"\r\n")
+    tally.check(f"{name}: the notes come last", seen.shown.endswith(behind), True)
+    seen.shown = seen.shown.removesuffix(behind)
+    told = judge_pace(name, seen)
+    tally.check(f"{name}: lines are told, and no time of a trace, and nobody who waits", [it for it in seen.lines() if b" lines, " not in it or it.count(b",") > 2], [])
+    tally.check(f"{name}: no more lines than there are", [it for it in told if it[0] > many], [])
+    tally.check(f"{name}: the hundredths are of what was read", [it for it in told if abs(it[4] - 100 * it[0] / many) > 3], [])
+    tally.check(f"{name} prints the same", seen.printed() == plain, True)
+    return plain + notes
+
+
+def check_lines():
+    config = files("config", json.dumps(level_of(100, 64, 8, 50)))
+    path, _ = trace_of(MANY)
+    judge_lines("hands", ["hands", config, path], MANY)
+    log = files("log", subprocess.run([compiled(files, "long"), "log", "7", str(MANY // 4), files("sums", "")], stdout=subprocess.PIPE, check=True).stdout)
+    with open(log, "rb") as file:
+        many = sum(1 for _ in file)
+    objects = os.path.join(TOP, "examples", "cluster", "objects.json")
+    plain = judge_lines("trace", ["trace", log, "service-accounts"], many)
+    judge_lines("cluster", ["cluster", objects, log, "15s"], many)
+    # what prints as it goes on shows none where both are one terminal
+    shown = Seen(["trace", log, "service-accounts"], shares=True).shown.replace(b"\r\n", b"\n")
+    tally.check("one terminal: trace prints its lines and its notes alone", (LINE.search(shown), len(shown)), (None, len(plain)))
+
+
 check_simulation()
+check_lines()
 check_rounds()
 tally.end()

@@ -1,5 +1,6 @@
 /* Refuses one allocation of a program: the one whose number, from 1, is in APF_REFUSE. Where APF_TOGETHER is set, it refuses that many
- * in a row. When it refuses, it makes the file that APF_REFUSED names. A test tool, loaded before the C library.
+ * in a row. When it refuses, it makes the file that APF_REFUSED names. Where APF_LEAST is set, those of fewer bytes are not counted. A test tool, loaded
+ * before the C library.
  *
  * Where APF_RUNS names two files that are open, as "ASKS ANSWERS", the program is loaded once, and runs from its first
  * line on in a child for each number that is asked for: the one of the allocation that is refused then. An ask is eight
@@ -21,9 +22,9 @@ extern void *__libc_memalign(size_t alignment, size_t size);
 
 static long count;
 
-static int refuses(void) {
-    const char *which = getenv("APF_REFUSE"), *together = getenv("APF_TOGETHER");
-    if (!which)
+static int refuses(size_t size) {
+    const char *which = getenv("APF_REFUSE"), *together = getenv("APF_TOGETHER"), *least = getenv("APF_LEAST");
+    if (!which || (least && size < (size_t)atol(least)))
         return 0;
     long behind = __atomic_add_fetch(&count, 1, __ATOMIC_SEQ_CST) - atol(which);
     if (behind < 0 || behind >= (together ? atol(together) : 1))
@@ -36,14 +37,14 @@ static int refuses(void) {
     return 1;
 }
 
-void *malloc(size_t size) { return refuses() ? NULL : __libc_malloc(size); }
-void *calloc(size_t n, size_t size) { return refuses() ? NULL : __libc_calloc(n, size); }
-void *realloc(void *old, size_t size) { return refuses() ? NULL : __libc_realloc(old, size); }
-void *aligned_alloc(size_t alignment, size_t size) { return refuses() ? NULL : __libc_memalign(alignment, size); }
-void *memalign(size_t alignment, size_t size) { return refuses() ? NULL : __libc_memalign(alignment, size); }
+void *malloc(size_t size) { return refuses(size) ? NULL : __libc_malloc(size); }
+void *calloc(size_t n, size_t size) { return refuses(n * size) ? NULL : __libc_calloc(n, size); }
+void *realloc(void *old, size_t size) { return refuses(size) ? NULL : __libc_realloc(old, size); }
+void *aligned_alloc(size_t alignment, size_t size) { return refuses(size) ? NULL : __libc_memalign(alignment, size); }
+void *memalign(size_t alignment, size_t size) { return refuses(size) ? NULL : __libc_memalign(alignment, size); }
 
 int posix_memalign(void **to, size_t alignment, size_t size) {
-    if (refuses())
+    if (refuses(size))
         return ENOMEM;
     void *made = __libc_memalign(alignment, size);
     if (!made)

@@ -19,10 +19,11 @@ def shim(files):
 
 
 class Refusing:
-    """A program with these words and this standard input in this folder, for the length of a block. `together` allocations are refused in a row."""
+    """A program with these words and this standard input in this folder, for the length of a block. `together` allocations are refused in a row. Those of
+    fewer than `least` bytes are neither counted nor refused."""
 
-    def __init__(self, files, shim, program, words, content=b"", cwd=None, together=1):
-        self.words, self.shim, self.cwd, self.together = [program, *words], shim, cwd, together
+    def __init__(self, files, shim, program, words, content=b"", cwd=None, together=1, least=0):
+        self.words, self.shim, self.cwd, self.together, self.least = [program, *words], shim, cwd, together, least
         self.marker = os.path.join(files.folder.name, "refused")
         self.content = files("content", content)
 
@@ -30,6 +31,7 @@ class Refusing:
         asks, self.asks = os.pipe()
         self.answers, answers = os.pipe()
         environment = {**os.environ, "LD_PRELOAD": self.shim, "APF_REFUSED": self.marker, "APF_RUNS": f"{asks} {answers}", "APF_TOGETHER": str(self.together)}
+        environment["APF_LEAST"] = str(self.least)
         with open(self.content, "rb") as content:
             self.process = subprocess.Popen(self.words, stdin=content, pass_fds=(asks, answers), env=environment, cwd=self.cwd, start_new_session=True)
         os.close(asks)

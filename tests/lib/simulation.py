@@ -49,10 +49,10 @@ def words_of(patience=None, charge=None):
 
 
 class Run:
-    """A trace on a level of one thread, from its first call to its last. With a patience of 0 no request gives up. What requests are charged is
-    "time", "seats", or as usual."""
+    """A trace on a level of one thread, from its first call to its last, or until a time. With a patience of 0 no request gives up. What requests are
+    charged is "time", "seats", or as usual."""
 
-    def __init__(self, config, trace, patience, charge=None):
+    def __init__(self, config, trace, patience, charge=None, until=None):
         self.config, self.trace, self.patience = config, trace, patience
         self.means = Means() if (charge or usual_charge(trace)) == "time" else None
         # what each request asks of the level: its cost is there once it arrived
@@ -64,7 +64,11 @@ class Run:
         self.started, self.waited_until = {}, {}
         # each call that was made: its time, its kind and its request
         self.calls = []
-        while due := self.due():
+        self.go_on(until)
+
+    def go_on(self, until=None):
+        """Carries out what is due, to its end or until a call would come at this time, or later. Behind a time may stand a kind of call."""
+        while (due := self.due()) and (until is None or min(due) < until):
             self.carry_out(*min(due))
 
     def due(self):
@@ -91,12 +95,21 @@ class Run:
             self.means.learn(asked["hash"], asked["runsFor"])
         getattr(self.level, WORDS[kind])(request)
         self.calls.append((time, kind, request))
-        for other in self.level.running - before:
-            self.started[other] = self.waited_until[other] = time
+        self.seat(before, time)
         if kind == CANCEL:
             self.waited_until[request] = time
         if kind == ARRIVE:
             self.coming.remove(request)
+
+    def seat(self, before, time):
+        """Who has seats now, and had none before, took them at this time."""
+        for other in self.level.running - before:
+            self.started[other] = self.waited_until[other] = time
+
+    def set_limit(self, time, limit):
+        before = set(self.level.running)
+        self.level.set_limit(limit)
+        self.seat(before, time)
 
     def wait(self, request):
         """How long it waited for its seats, or until it gave up. A request that is rejected does not wait."""

@@ -1,0 +1,334 @@
+"""Clusters and their logs for tests: drawn ones, and what `apf cluster` says of them by the independent matcher, one independent level for each level of a
+cluster, and the independent lending of seats."""
+
+import json
+
+from audit import Choice, Flow, namespace_of, read_of, text_at
+from audits import NOON, Logs
+from jsontext import json_text
+from lending import MOST, Lender, bounds_of, limit_of
+from level import hash_of
+from matching import distinguisher_of, schema_of
+from simulation import Run, flows_of, nearest_rank, shown_rank
+
+API = "flowcontrol.apiserver.k8s.io/v1"
+
+
+# ---- what is drawn
+
+
+def level_of(name, shares, queuing=None, exempt=False, lendable=0, borrowing=None):
+    """A level as the reader of objects has it: its name, whether it is exempt, its shares, what it lends and borrows in per cent, without a limit where
+    the second is None, and queues, hand and length where requests wait."""
+    return {"name": name, "exempt": exempt, "shares": shares, "queuing": queuing, "lendable": lendable, "borrowing": borrowing}
+
+
+def level_object(level):
+    part = {"nominalConcurrencyShares": level["shares"], "lendablePercent": level["lendable"]}
+    if level["exempt"]:
+        spec = {"type": "Exempt", "exempt": part}
+    else:
+        part["limitResponse"] = {"type": "Reject"}
+        if level["queuing"]:
+            part["limitResponse"] = {"type": "Queue", "queuing": dict(zip(("queues", "handSize", "queueLengthLimit"), level["queuing"]))}
+        if level["borrowing"] is not None:
+            part["borrowingLimitPercent"] = level["borrowing"]
+        spec = {"type": "Limited", "limited": part}
+    return {"apiVersion": API, "kind": "PriorityLevelConfiguration", "metadata": {"name": level["name"]}, "spec": spec}
+
+
+def schema_object(schema, precedence):
+    kinds = {"User": lambda name: {"kind": "User", "user": {"name": name}}, "Group": lambda name: {"kind": "Group", "group": {"name": name}}}
+    rules = [
+        {
+            "subjects": [kinds[kind](name) for kind, name in subjects],
+            "resourceRules": [
+                {"verbs": verbs, "apiGroups": groups, "resources": names, "clusterScope": scope, "namespaces": spaces}
+                for verbs, groups, names, scope, spaces in resources
+            ],
+            "nonResourceRules": [{"verbs": verbs, "nonResourceURLs": urls} for verbs, urls in paths],
+        }
+        for subjects, resources, paths in schema["rules"]
+    ]
+    spec = {"priorityLevelConfiguration": {"name": schema["level"]}, "matchingPrecedence": precedence, "rules": rules}
+    if schema["by"] != "nothing":
+        spec["distinguisherMethod"] = {"type": {"user": "ByUser", "namespace": "ByNamespace"}[schema["by"]]}
+    return {"apiVersion": API, "kind": "FlowSchema", "metadata": {"name": schema["name"]}, "spec": spec}
+
+
+# what takes each request
+EVERYTHING = [(["*"], ["*"], ["*"], True, ["*"])], [(["*"], ["*"])]
+
+
+def whole_cluster(levels, schemas, order=lambda schemas: None):
+    """The objects, the levels with the server's own, and the schemas with the server's own behind them."""
+    given = [schema_object(it, 2 + place) for place, it in enumerate(schemas)]
+    order(given)
+    objects = {"kind": "List", "items": [*map(level_object, levels), *given]}
+    names = [it["name"] for it in levels]
+    own = [level_of("exempt", 0, exempt=True), level_of("catch-all", 5)]
+    # nobody is in the group that the server's own schema `exempt` takes; `catch-all` takes what no other does
+    last = {"name": "catch-all", "level": "catch-all", "by": "user", "rules": [([("Group", "system:authenticated")], *EVERYTHING)]}
+    return objects, [*levels, *(it for it in own if it["name"] not in names)], [*schemas, last]
+
+
+class Clusters:
+    """Draws of one seed."""
+
+    def __init__(self, draw):
+        self.draw, self.logs = draw, Logs(draw)
+
+    def lending(self):
+        """What a level lends and borrows."""
+        return {"lendable": self.draw.choice([0, 0, 33, 50, 90, 100]), "borrowing": self.draw.choice([None, None, 0, 25, 150, 2_147_483_647])}
+
+    def levels(self):
+        levels = []
+        for name in self.draw.sample(["low", "high", "node", "system", 'o"\u202e'], self.draw.randint(1, 4)):
+            queuing = self.draw.choice([None, (1, 1, 1), (8, 2, 3), (64, 6, 2), (16, 4, 50), (1024, 6, 10_000)])
+            exempt = self.draw.random() < 0.1
+            shares = self.draw.choice([0, 1, 5, 30, 100])
+            levels.append(level_of(name, shares, None if exempt else queuing, exempt, **self.lending()))
+        return levels
+
+    def schemas(self, levels):
+        """Schemas in their order, of users, groups, resources and paths of few names."""
+        draw, schemas = self.draw, []
+        for number in range(draw.randint(0, 6)):
+            subjects = [draw.choice([("User", draw.choice("abcd*")), ("Group", draw.choice(["g", "h", "*"]))]) for _ in range(draw.randint(1, 2))]
+            verbs = draw.choice([["*"], ["get"], ["list", "create"]])
+            places = draw.choice([[], ["x"], ["*"]])
+            resources = [(verbs, ["*"], [draw.choice(["pods", "nodes", "*"])], draw.random() < 0.5, places) for _ in range(draw.randint(0, 2))]
+            paths = [(verbs, [draw.choice(["/healthz", "/api*", "*"])]) for _ in range(draw.randint(0, 2))]
+            by = draw.choice(["user", "namespace", "nothing"])
+            schemas.append({"name": f"s{number}", "level": draw.choice(levels)["name"], "by": by, "rules": [(subjects, resources, paths)]})
+        return schemas
+
+    def cluster(self):
+        levels = self.levels()
+        return whole_cluster(levels, self.schemas(levels), self.draw.shuffle)
+
+    def event(self, received, run_for, user):
+        """An event, which may be turned away, have no user's name, or not be taken."""
+        draw = self.draw
+        event = self.logs.event((NOON + received, run_for, user, None))
+        event["verb"] = draw.choice(["get", "list", "create", "delete"])
+        groups = draw.choice([[], ["g"], ["h", "g"], ["system:authenticated"]])
+        for who in ("user", "impersonatedUser"):
+            if isinstance(event.get(who), dict):
+                event[who]["groups"] = groups
+        kind = draw.random()
+        if kind < 0.2:
+            event["responseStatus"] = {"code": 429}
+        elif kind < 0.23:
+            event.pop("impersonatedUser", None)
+            event["user"] = {}
+        elif kind < 0.26:
+            event["stage"] = "RequestReceived"
+        event["objectRef"] = {"resource": draw.choice(["pods", "nodes"]), **draw.choice([{}, {"namespace": "x"}, {"namespace": "y"}])}
+        if draw.random() < 0.2:
+            del event["objectRef"]
+            event["requestURI"] = draw.choice(["/healthz", "/api/v1?x=?", "/version"])
+        return event
+
+    def lines(self, events):
+        """A log with these events, each of which may come late, and which may still be written."""
+        lines = [self.logs.line(it) + b"\n" for it in events]
+        for place in range(len(lines) - 1):
+            if self.draw.random() < 0.1:
+                lines[place], lines[place + 1] = lines[place + 1], lines[place]
+        if lines and self.draw.random() < 0.1:
+            lines.append(b'{"stage":"ResponseComp')
+        return b"".join(lines)
+
+    def log(self, paces):
+        """A log of few users, with one of these paces."""
+        draw, pace = self.draw, self.draw.choice(paces)
+        time, events = 0, []
+        for _ in range(draw.choice([0, 1, 20, 150, 400])):
+            time += draw.choice([0, 0, 1, pace // 2, pace])
+            run_for = draw.choice([0, 1, pace, 10 * pace, draw.randrange(20 * pace)])
+            events.append(self.event(time, run_for, draw.choice("abcd")))
+        return self.lines(events)
+
+
+# ---- the independent cluster
+
+
+def asked_of(event, user):
+    """What an event of this user says of its request."""
+    who = event["impersonatedUser"] if "impersonatedUser" in event else event["user"]
+    groups = [it for it in who["groups"] if isinstance(it, str)] if isinstance(who.get("groups"), list) else []
+    asked = {"user": user, "groups": groups, "verb": event["verb"], "path": None}
+    if "objectRef" not in event:
+        asked["path"] = (text_at(event, "requestURI") or "").split("?")[0]
+        return asked
+    parts = [text_at(event, "objectRef", key) or "" for key in ("resource", "subresource", "apiGroup", "namespace")]
+    asked.update(resource="/".join(parts[:2]) if parts[1] else parts[0], group=parts[2], namespace=parts[3])
+    return asked
+
+
+def config_of(level, nominal):
+    limit = MOST if level["exempt"] else limit_of(nominal)
+    if level["exempt"] or not level["queuing"]:
+        return {"limit": limit, "queues": 1, "handSize": 1, "queueLengthLimit": 1, "limitResponse": "Reject"}
+    queues, hand, length = level["queuing"]
+    return {"limit": limit, "queues": queues, "handSize": hand, "queueLengthLimit": length, "limitResponse": "Queue"}
+
+
+def request_of(received, run_for, flow):
+    """A request as a line of a trace has it."""
+    names = flow.schema, str(flow)
+    return {"arrivesAt": received, "runsFor": run_for, "flow": names, "hash": hash_of(*names), "names": names, "width": 1, "cost": None}
+
+
+class Part:
+    """What the requests of a level came to: its run, how many of them the log's server turned away, and the limits that it had, none if it is exempt."""
+
+    def __init__(self, level, nominal, requests, start, patience, until):
+        self.level, self.nominal = level, nominal
+        self.turned_away = sum(away for *_, away in requests)
+        trace = [request_of(received - start, run_for, flow) for received, run_for, flow, _ in requests]
+        self.run = Run(config_of(level, nominal), trace, patience, "time", until)
+        self.limits = [] if level["exempt"] else [limit_of(nominal)]
+
+    def figures(self, members):
+        run = self.run
+        decisions = [run.level.decided[it] for it in members]
+        executed, cancelled = decisions.count("execute"), decisions.count("cancelled")
+        waits = [run.wait(it) for it in members if it in run.started]
+        return {
+            "requests": len(members),
+            "executed": executed,
+            "rejected": len(members) - executed - cancelled,
+            "timedOut": cancelled,
+            "seatTime": sum(map(run.seat_time, members)),
+            "waits": waits,
+            "waited": sum(map(run.wait, members)),
+            "longest": max(waits, default=0),
+        }
+
+    def whole(self):
+        return self.figures(range(len(self.run.trace)))
+
+
+def read_by(schemas, content):
+    """What is read of a log, each request with its schema and its distinguisher."""
+
+    def by(event, user):
+        asked = asked_of(event, user)
+        schema = schemas[schema_of(schemas, asked)]
+        if schema["by"] == "namespace" and namespace_of(event) is None:
+            return None
+        return Flow(schema["name"], distinguisher_of(schema, asked))
+
+    return read_of(content, Choice(by=by))
+
+
+def parts_of(levels, schemas, read, seats, patience, lends):
+    """What the levels come to by what was read of a log, each with its nominal limit all along, or with seats that are lent; and who lends them."""
+    start = read.requests[0][0] if read.requests else 0
+    of = {it["name"]: it["level"] for it in schemas}
+    parts = []
+    for level in levels:
+        mine = [it for it in read.requests if of[it[2].schema] == level["name"]]
+        parts.append(Part(level, bounds_of(level, levels, seats).nominal, mine, start, patience, (0,) if lends else None))
+    if not lends:
+        return parts, None
+    lender = Lender(levels, [it.run for it in parts], seats)
+    for part, limits in zip(parts, lender.limits):
+        part.limits = limits
+    return parts, lender
+
+
+# ---- what is printed
+
+
+def unit(time):
+    if time < 1000:
+        return f"{time}us"
+    return f"{time // 1000}ms" if time < 10_000_000 else f"{time // 1_000_000}s"
+
+
+def shown(waits, percent):
+    rank = shown_rank(waits, percent)
+    return "~" * rank.startswith("~") + unit(int(rank.lstrip("~")))
+
+
+def counts(figures):
+    return [figures[key] for key in ("requests", "executed", "rejected", "timedOut")]
+
+
+def times(figures):
+    return [shown(figures["waits"], 50), shown(figures["waits"], 99), unit(figures["longest"])]
+
+
+def name_text(name):
+    return json_text(name)[1:-1]
+
+
+def told_flows(parts):
+    """The flows that waited or were turned away, those first that waited longest, each with its part and its names."""
+    found = []
+    for place, part in enumerate(parts):
+        for number, members in enumerate(flows_of(part.run.trace).values()):
+            figures = part.figures(members)
+            lost = figures["rejected"] + figures["timedOut"]
+            if figures["waited"] or lost:
+                found.append(((-figures["longest"], -lost, place, number), part, figures, part.run.trace[members[0]]["names"]))
+    return [it[1:] for it in sorted(found, key=lambda it: it[0])]
+
+
+def limits_text(limits):
+    """The least and the greatest limit that a level had."""
+    if not limits:
+        return "-"
+    return f"{limits[0]}" if len({*limits}) == 1 else f"{min(limits)}..{max(limits)}"
+
+
+def table(parts, flows):
+    end = max((it.run.end() for it in parts), default=0)
+    said = ["level nominal limits requests executed rejected timed-out log-429s used median p99 longest"]
+    for part in parts:
+        figures = part.whole()
+        possible = 0 if part.level["exempt"] else limit_of(part.nominal) * end
+        used = f"{100 * figures['seatTime'] // possible}%" if possible else "-"
+        front = [name_text(part.level["name"]), part.nominal, limits_text(part.limits)]
+        said.append(" ".join(map(str, [*front, *counts(figures), part.turned_away, used, *times(figures)])))
+    told = told_flows(parts)[:flows]
+    if told:
+        said += ["", "flow-of requests executed rejected timed-out median p99 longest schema distinguisher"]
+    for part, figures, names in told:
+        said.append(" ".join(map(str, [name_text(part.level["name"]), *counts(figures), *times(figures), *map(json_text, names)])))
+    return "".join(f"{it}\n" for it in said)
+
+
+def as_json(figures):
+    waits = figures["waits"]
+    kept = {key: figures[key] for key in ("requests", "executed", "rejected", "timedOut", "seatTime")}
+    return {**kept, "exact": len(waits) <= 10_000, "median": nearest_rank(waits, 50), "p99": nearest_rank(waits, 99), "longest": figures["longest"]}
+
+
+def objects_of(parts, flows):
+    """Each object as its keys and values, in their order."""
+    said = []
+    for part in parts:
+        limits = {"leastLimit": min(part.limits), "greatestLimit": max(part.limits)} if part.limits else {}
+        said.append({"level": part.level["name"], "nominal": part.nominal, **limits, "log429s": part.turned_away, **as_json(part.whole())})
+    for part, figures, names in told_flows(parts)[:flows]:
+        said.append({"flowOf": part.level["name"], "schema": names[0], "distinguisher": names[1], **as_json(figures)})
+    return [[*it.items()] for it in said]
+
+
+def objects_in(out):
+    """The same, as a program printed them."""
+    return [[*json.loads(line).items()] for line in out.splitlines()]
+
+
+def notes_of(read):
+    said = b""
+    if read.unnamed:
+        said += f"apf: events without a user's name, as of a failed login, are left out: {read.unnamed}\n".encode()
+    if read.is_cut:
+        said += b"apf: the last line is left out: it has no LF at its end, and is not whole JSON\n"
+    return said

@@ -1,0 +1,176 @@
+"""How a server lends seats among its levels: an independent computation, written from the rules, with fractions, and slow on purpose. Nothing is kept of
+what requests ask for: it is made anew at the end of each period, from the times at which they came and were over.
+
+A level is a dict: `exempt`, `shares`, `lendable` and `borrowing`, both in per cent, the second of them None where there is no limit.
+"""
+
+import collections
+import itertools
+import math
+from fractions import Fraction
+
+from simulation import ARRIVE
+
+# in microseconds
+PERIOD = 10_000_000
+# the most seats of a level, and the most requests that are there at once
+MOST = 10_000
+
+Bounds = collections.namedtuple("Bounds", "least nominal most")
+# the target is in thousandths of a seat
+Claim = collections.namedtuple("Claim", "least current most target")
+Observed = collections.namedtuple("Observed", "high mean deviation")
+
+
+def half_up(number):
+    return math.floor(number + Fraction(1, 2))
+
+
+def bounds_of(level, levels, seats):
+    """The limits of a level of these, where the server has so many seats."""
+    total = sum(it["shares"] for it in levels)
+    nominal = math.ceil(Fraction(seats * level["shares"], total)) if total else 0
+    borrowed = seats if level["borrowing"] is None else half_up(Fraction(nominal * level["borrowing"], 100))
+    return Bounds(nominal - half_up(Fraction(nominal * level["lendable"], 100)), nominal, nominal + borrowed)
+
+
+def limit_of(seats):
+    """The limit that a level is set."""
+    return min(max(seats, 1), MOST)
+
+
+# ---- what requests ask for
+
+
+def stays_of(run):
+    """From when until when each request is there that arrived and was not rejected, without an end as long as none is known."""
+    coming = set(run.coming)
+    for request, asked in enumerate(run.trace):
+        decision = run.level.decided.get(request)
+        if request in run.started:
+            yield asked["arrivesAt"], run.started[request] + asked["runsFor"]
+        elif decision == "cancelled":
+            yield asked["arrivesAt"], run.waited_until[request]
+        elif decision is None and request not in coming:
+            yield asked["arrivesAt"], math.inf
+
+
+def stretches_of(stays, begin, end):
+    """For how many seats is asked from the one time to the other, and for how long."""
+    changes = collections.Counter({begin: 0, end: 0})
+    for came, over in stays:
+        came, over = max(came, begin), min(over, end)
+        if came < over:
+            changes[came] += 1
+            changes[over] -= 1
+    times = sorted(changes)
+    asked = itertools.accumulate(changes[it] for it in times)
+    return [(seats, later - time) for seats, time, later in zip(asked, times, times[1:])]
+
+
+def observed_of(stretches):
+    """The most seats at once; the mean and the deviation, in thousandths of a seat."""
+    length = sum(micros for _, micros in stretches)
+    mean = math.floor(Fraction(1000 * sum(seats * micros for seats, micros in stretches), length))
+    squares = math.floor(Fraction(1_000_000 * sum(seats * seats * micros for seats, micros in stretches), length))
+    return Observed(max(seats for seats, _ in stretches), mean, math.isqrt(max(squares - mean * mean, 0)))
+
+
+def smoothed_of(before, observed):
+    lately = observed.mean + observed.deviation
+    return max(lately, (977 * before + 23 * lately) // 1000)
+
+
+def claim_of(level, bounds, high, smoothed):
+    current = max(bounds.least, min(bounds.nominal, high))
+    if level["exempt"]:
+        return Claim(current, current, current, 0)
+    return Claim(bounds.least, current, bounds.most, max(1000 * current, smoothed))
+
+
+# ---- how the seats are divided
+
+
+def share(claim, factor):
+    """What a level has by this factor."""
+    return min(claim.most, max(claim.current, factor * claim.target))
+
+
+def factor_of(seats, claims):
+    """The factor by which all have these seats together: between two factors at which a level ceases to follow it, what all have grows evenly."""
+    ends = {Fraction(at, claim.target) for claim in claims if claim.target for at in (claim.current, claim.most)}
+    below, had = Fraction(0), sum(claim.current for claim in claims)
+    for end in sorted(ends):
+        have = sum(share(claim, end) for claim in claims)
+        if have >= seats:
+            return below + (end - below) * (seats - had) / (have - had)
+        below, had = end, have
+    raise ValueError("they have no more than that by any factor")
+
+
+def way_of(seats, claims):
+    """How the seats are divided."""
+    if seats <= sum(it.least for it in claims):
+        return "least"
+    if seats <= sum(it.current for it in claims):
+        return "part"
+    return "most" if sum(it.most if it.target else it.current for it in claims) < seats else "factor"
+
+
+def division(seats, claims):
+    """The limit of each level."""
+    way = way_of(seats, claims)
+    if way == "least":
+        return [it.least for it in claims]
+    if way == "most":
+        return [it.most for it in claims]
+    if way == "factor":
+        factor = factor_of(seats, claims)
+        return [half_up(share(it, factor)) for it in claims]
+    least, current = sum(it.least for it in claims), sum(it.current for it in claims)
+    return [it.least + half_up((it.current - it.least) * Fraction(seats - least, current - least)) for it in claims]
+
+
+# ---- levels side by side
+
+
+class Lender:
+    """Runs levels side by side that have come to no call yet, each to its end, and sets them their limits every ten seconds. `limits` are those that each
+    of them had, none of a level that is exempt."""
+
+    def __init__(self, levels, runs, seats):
+        self.levels, self.runs, self.seats = levels, runs, seats
+        self.bounds = [bounds_of(it, levels, seats) for it in levels]
+        self.limits = [[] if level["exempt"] else [limit_of(own.nominal)] for level, own in zip(levels, self.bounds)]
+        self.smoothed = [0] * len(levels)
+        # at which times the limits were set, and what each level claimed
+        self.adjusted = []
+        last = max((it["arrivesAt"] for run in runs for it in run.trace), default=0)
+        time = PERIOD
+        while time <= last or self.is_anybody_there(time):
+            self.adjust(time)
+            time += PERIOD
+        for run in runs:
+            run.go_on()
+
+    def go_on(self, time):
+        """Carries out what comes in front of the end of a period at this time: all that is due, but for requests that arrive then."""
+        for run in self.runs:
+            run.go_on((time, ARRIVE))
+
+    def is_anybody_there(self, time):
+        self.go_on(time)
+        return any(run.level.running or run.level.waiting() for run in self.runs)
+
+    def adjust(self, time):
+        self.go_on(time)
+        claims = []
+        for place, run in enumerate(self.runs):
+            observed = observed_of(stretches_of(stays_of(run), time - PERIOD, time))
+            self.smoothed[place] = smoothed_of(self.smoothed[place], observed)
+            claims.append(claim_of(self.levels[place], self.bounds[place], observed.high, self.smoothed[place]))
+        self.adjusted.append((time, claims))
+        for level, run, limits, seats in zip(self.levels, self.runs, self.limits, division(self.seats, claims)):
+            if not level["exempt"]:
+                limits.append(limit_of(seats))
+                run.set_limit(time, limit_of(seats))

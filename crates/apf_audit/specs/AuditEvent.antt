@@ -1,5 +1,5 @@
 -- What the JSON value of a line of an audit log says.
-use Rattle.std.specs.Prelude.{◌≡◌, ℕ, ◌≤◌, List, [], ◌∷◌, length, map, Bool, true, false, ◌&&◌, ◌||◌, ◌==◌, not, nat_le, if◌then◌else◌, Option, Some, None, option_and_then, is_none, Result, Ok, Err, codes, bytes_eq, string_bytes}
+use Rattle.std.specs.Prelude.{◌≡◌, ℕ, ◌≤◌, List, [], ◌∷◌, length, map, Bool, true, false, ◌&&◌, ◌||◌, ◌==◌, not, nat_le, if◌then◌else◌, Option, Some, None, option_and_then, option_map, is_none, IfSome, Result, Ok, Err, codes, bytes_eq, string_bytes}
 use Rattle.std.specs.Option.{option_map_or}
 use Rattle.serde_json.specs.Data.{Data}
 use Rattle.serde_json.specs.Find.{get, as_str}
@@ -7,15 +7,17 @@ use Rattle.apf_files.specs.FirstFault.{◌>>=◌, or_fault}
 use Rattle.apf_files.specs.JsonFile.{text_at, whole_of}
 use Rattle.apf_times.specs.Limits.{max_run}
 use Rattle.apf_objects.specs.Schemas.{schema_view}
+use Rattle.apf_objects.specs.declared.schema.Schema.{Schema as FlowSchema}
 use Rattle.apf_objects.specs.declared.schema.Distinguisher.{Distinguisher}
 use Rattle.apf_objects.specs.declared.schema.Distinguisher.TheVariants.{User as by_user, Namespace as by_namespace, Nothing as by_nothing}
 use Rattle.apf_matching.specs.First.{schema_of as schema_of_request}
 use Rattle.apf_routing.specs.Events.{request_of}
-use Rattle.apf_audit.specs.Choice.{distinguisher_by, is_chosen}
+use Rattle.apf_audit.specs.Choice.{distinguisher_by, is_chosen, within}
 use Rattle.apf_audit.specs.Times.{instant_of, wait_of, run_of}
 use Rattle.apf_audit.specs.declared.choice.By.{By}
-use Rattle.apf_audit.specs.declared.choice.By.TheVariants.{User, Namespace, Schema}
+use Rattle.apf_audit.specs.declared.choice.By.TheVariants.{User, Namespace, Schema, Schemas}
 use Rattle.apf_audit.specs.declared.choice.Choice.{Choice}
+use Rattle.apf_audit.specs.declared.event.Beside.{Beside}
 use Rattle.apf_audit.specs.declared.event.Outcome.{Outcome}
 use Rattle.apf_audit.specs.declared.event.Outcome.TheVariants.{Chosen, Unnamed, LeftOut, Unfinished}
 use Rattle.apf_audit.specs.declared.event.Taken.{Taken}
@@ -25,6 +27,19 @@ use Rattle.apf_audit.specs.declared.fault.AuditFault.TheVariants.{NotEvent, BadU
 -- the name of a user, or of a namespace, has at most this many bytes
 abbrev pub max_name : ℕ
 max_name = 4096
+
+-- what a request is by the schemas of a second cluster
+pub record BesideSaid : Type 0 where
+  -- the name of whose request it is
+  pub user : List ℕ
+  -- the place of its schema
+  pub schema : Option ℕ
+  -- the name of its flow
+  pub flow : List ℕ
+
+-- what the code takes of a second cluster
+abbrev pub beside_said : Beside → BesideSaid
+beside_said beside = record { user = string_bytes beside.user; schema = beside.schema; flow = string_bytes beside.distinguisher }
 
 -- what is taken of an event: the time of its arrival in microseconds from 1970 on, whether it was turned away, how long it ran, 0 if it
 -- was turned away, and the bytes of its flow's name
@@ -36,6 +51,8 @@ pub record Event : Type 0 where
   -- the place of its schema, where a schema makes a flow
   pub schema : Option ℕ
   pub flow : List ℕ
+  -- what it is by the schemas of a second cluster, where there is one
+  pub beside : Option BesideSaid
 
 -- what the code takes of an event
 abbrev pub event : Taken → Event
@@ -46,6 +63,7 @@ event taken = record {
   runs_for = taken.runs_for;
   schema = taken.schema;
   flow = string_bytes taken.distinguisher;
+  beside = option_map beside_said taken.beside;
 }
 
 -- the text at a key of the object at another, if there is one
@@ -104,17 +122,37 @@ namespace_by (Some d) = option_and_then short (as_str d)
 unfoldable pub namespace_of : Data → Option (List ℕ)
 namespace_of d = namespace_by (option_and_then (get (codes "namespace")) (get (codes "objectRef") d))
 
+-- the place of the one of these schemas that the request of an event of this user is of
+abbrev pub place_among : List FlowSchema → List ℕ → Data → Option ℕ
+place_among schemas user d = schema_of_request (request_of user d) (map schema_view schemas)
+
 -- the place of the schema that the request of an event of this user is of, where a schema makes a flow
 abbrev pub schema_of : By → List ℕ → Data → Option ℕ
 schema_of User user d = None
 schema_of Namespace user d = None
-schema_of (Schema cluster) user d = schema_of_request (request_of user d) (map schema_view cluster.now.schemas.items)
+schema_of (Schema cluster) user d = place_among cluster.now.schemas.items user d
+schema_of (Schemas first second) user d = place_among first.now.schemas.items user d
 
 -- the name of the flow of an event of this user, by what makes a flow
 abbrev pub flow_of : Distinguisher → List ℕ → Data → Option (List ℕ)
 flow_of by_user user d = Some user
 flow_of by_namespace user d = namespace_of d
 flow_of by_nothing user d = Some []
+
+-- what the request of an event of this user is by the schema at this place of these
+abbrev pub said_at : List FlowSchema → Option ℕ → List ℕ → Data → Option BesideSaid
+said_at schemas place user d = option_map (λ flow. record { user = user; schema = place; flow = flow }) (flow_of (within schemas place) user d)
+
+-- what it is by these schemas
+abbrev pub said_by : List FlowSchema → List ℕ → Data → Option BesideSaid
+said_by schemas user d = said_at schemas (place_among schemas user d) user d
+
+-- what it is by the schemas of a second cluster, if there is one; or none where a trace can't have the namespace that this asks for
+abbrev pub beside_of : By → List ℕ → Data → Option (Option BesideSaid)
+beside_of User user d = Some None
+beside_of Namespace user d = Some None
+beside_of (Schema cluster) user d = Some None
+beside_of (Schemas first second) user d = option_map (λ said. Some said) (said_by second.now.schemas.items user d)
 
 -- the code of a status is that of a request that was turned away
 abbrev pub is_refusal : Option Data → Bool
@@ -150,18 +188,27 @@ unfoldable pub run_at : ℕ → ℕ → Data → Result ℕ AuditFault
 run_at line received d = run_by (was_turned_away d) line received d
 
 -- the same with what else is taken of it
-unfoldable pub ran_at : ℕ → ℕ → Option ℕ → List ℕ → Data → Result Event AuditFault
-ran_at line received schema flow d = do
+unfoldable pub ran_at : ℕ → ℕ → Option ℕ → List ℕ → Option BesideSaid → Data → Result Event AuditFault
+ran_at line received schema flow beside d = do
   runs_for ← run_at line received d
-  Ok (record { line = line; received = received; turned_away = was_turned_away d; runs_for = runs_for; schema = schema; flow = flow })
+  Ok (record {
+    line = line;
+    received = received;
+    turned_away = was_turned_away d;
+    runs_for = runs_for;
+    schema = schema;
+    flow = flow;
+    beside = beside;
+  })
 
 -- what is taken of an event, none where it is not chosen, or its first fault
 unfoldable pub taken_of : Choice → ℕ → Data → Result (Option Event) AuditFault
 taken_of choice line d = do
   user ← or_fault (BadUser line) (user_of d)
   flow ← or_fault (BadNamespace line) (flow_of (distinguisher_by choice.by (schema_of choice.by user d)) user d)
+  beside ← or_fault (BadNamespace line) (beside_of choice.by user d)
   received ← or_fault (BadReceived line) (instant_at (codes "requestReceivedTimestamp") d)
-  if is_chosen choice user received then ran_at line received (schema_of choice.by user d) flow d >>= (λ e. Ok (Some e)) else Ok None
+  if is_chosen choice user received then ran_at line received (schema_of choice.by user d) flow beside d >>= (λ e. Ok (Some e)) else Ok None
 
 -- what is taken of the value of a line, by whether it is taken; nothing of one without a user's name
 abbrev pub event_by : Choice → ℕ → Data → Option Bool → Result (Option Event) AuditFault
@@ -207,10 +254,16 @@ is_still_written Unnamed = false
 is_still_written LeftOut = false
 is_still_written Unfinished = true
 
--- the run and the name are such that a trace can have them
+-- the names of the user and of the flow are such that a trace can have them
+pub record IsBesideInRange (beside : Beside) : Type 0 where
+  pub user : length (string_bytes beside.user) ≤ max_name
+  pub name : length (string_bytes beside.distinguisher) ≤ max_name
+
+-- the run and the names are such that a trace can have them
 pub record IsTakenInRange (taken : Taken) : Type 0 where
   pub run : taken.runs_for ≤ max_run
   pub name : length (string_bytes taken.distinguisher) ≤ max_name
+  pub beside : IfSome taken.beside IsBesideInRange
 
 abbrev pub IsInRangeIfChosen : Outcome → Type 0
 IsInRangeIfChosen (Chosen taken) = IsTakenInRange taken

@@ -6,7 +6,7 @@ use Rattle.apf_objects.specs.declared.schema.Distinguisher.{Distinguisher}
 use Rattle.apf_objects.specs.declared.schema.Distinguisher.TheVariants as what
 use Rattle.apf_objects.specs.declared.schema.Schema.{Schema}
 use Rattle.apf_audit.specs.declared.choice.By.{By}
-use Rattle.apf_audit.specs.declared.choice.By.TheVariants.{User, Namespace, Schema as BySchema}
+use Rattle.apf_audit.specs.declared.choice.By.TheVariants.{User, Namespace, Schema as BySchema, Schemas as BySchemas}
 use Rattle.apf_audit.specs.declared.choice.Choice.{Choice}
 
 -- what makes a flow, by its word
@@ -27,6 +27,7 @@ abbrev pub distinguisher_by : By → Option ℕ → Distinguisher
 distinguisher_by User place = what.User
 distinguisher_by Namespace place = what.Namespace
 distinguisher_by (BySchema cluster) place = within cluster.now.schemas.items place
+distinguisher_by (BySchemas first second) place = within first.now.schemas.items place
 
 -- the name is the pattern, or begins as it does where it ends with `*`
 abbrev pub is_named : (pattern name : List ℕ) → Bool

@@ -14,6 +14,8 @@ pub enum By<'a> {
     Namespace,
     /// The schema of this cluster that the request is of, and what makes a flow within that.
     Schema(&'a Cluster),
+    /// As `Schema` of the first cluster, and beside that what the request is by the schemas of the second.
+    Schemas(&'a Cluster, &'a Cluster),
 }
 
 impl By<'_> {
@@ -31,8 +33,8 @@ impl By<'_> {
     }
 }
 
-// What makes a flow within the schema at this place of a cluster.
-fn within(cluster: &Cluster, place: Option<usize>) -> Distinguisher
+/// What makes a flow within the schema at this place of a cluster.
+pub(crate) fn within(cluster: &Cluster, place: Option<usize>) -> Distinguisher
     ensures { result ≡ spec.within cluster.now.schemas.items place }
 {
     let Some(place) = place else {
@@ -52,7 +54,7 @@ impl By<'_> {
         match self {
             By::User => Distinguisher::User,
             By::Namespace => Distinguisher::Namespace,
-            By::Schema(cluster) => within(cluster, place),
+            By::Schema(cluster) | By::Schemas(cluster, _) => within(cluster, place),
         }
     }
 }

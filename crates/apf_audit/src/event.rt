@@ -1,16 +1,16 @@
 //! Which events are taken, and what is taken of one.
 
-ghost use Rattle.std.specs.Prelude.{◌≡◌, ◌≢◌, ◌≤◌, IfOk, IfErr, IfSome, Ok, Err, option_map, codes, length, false};
+ghost use Rattle.std.specs.Prelude.{◌≡◌, ◌≢◌, ◌≤◌, IfOk, IfErr, IfSome, Some, None, Ok, Err, option_map, codes, length, false, string_bytes};
 ghost use Rattle.serde_json.specs.Find.{get};
 ghost use Rattle.serde_json.specs.View.{view};
 ghost use Rattle.apf_times.specs.Limits.{max_run};
 ghost use Rattle.apf_audit.specs.AuditEvent as spec;
 
-use crate::choice::{By, Choice};
+use crate::choice::{By, Choice, within};
 use crate::fault::AuditFault;
 use crate::times::{read_instant, run_of, wait_of};
 use apf_files::text_at;
-use apf_objects::Distinguisher;
+use apf_objects::{Cluster, Distinguisher};
 use apf_routing::schema_of_event;
 use serde_json::Value;
 use std::alloc::Global;
@@ -19,6 +19,17 @@ use std::alloc::Global;
 pub const MAX_NAME: usize = 4096;
 
 const QUEUE_WAIT: &str = "apiserver.latency.k8s.io/apf-queue-wait";
+
+/// What a request is by the schemas of a second cluster.
+#[derive(Debug, PartialEq, Eq, Drop)]
+pub struct Beside {
+    /// The name of the user whose request it is.
+    pub user: String,
+    /// The place of its schema.
+    pub schema: Option<usize>,
+    /// The name of its flow: of the user, or the namespace; or the empty text where nothing makes a flow within the schema.
+    pub distinguisher: String,
+}
 
 /// The request that is taken of an event.
 #[derive(Debug, PartialEq, Eq, Drop)]
@@ -36,6 +47,8 @@ pub struct Taken {
     /// The name of its flow: of the user who made the request, or the namespace; or the empty text where nothing makes a flow within
     /// a schema.
     pub distinguisher: String,
+    /// What it is by the schemas of a second cluster, where there is one.
+    pub beside: Option<Beside>,
 }
 
 /// What a line of a log gives.
@@ -148,6 +161,22 @@ fn namespace_of(value: &Value) -> Option<&str>
     }
 }
 
+// The place of the schema of a cluster that the request of an event of this user is of.
+fn place_in(
+    alloc: Global,
+    cluster: &Cluster,
+    user: &str,
+    value: &Value,
+) -> Result<Option<usize>, AuditFault>
+    ensures ok { IfOk result (λ place. place ≡ spec.place_among cluster.now.schemas.items user.now (view value.now)) }
+    ensures err { IfErr result (λ fault. fault ≡ AuditFault.NoMemory) }
+{
+    match schema_of_event(alloc, cluster.schemas.as_slice(), user, value) {
+        Ok(place) => Ok(place),
+        Err(_) => Err(AuditFault::NoMemory),
+    }
+}
+
 // The place of the schema that the request of an event of this user is of, where a schema makes a flow.
 fn schema_of(
     alloc: Global,
@@ -160,12 +189,7 @@ fn schema_of(
 {
     match by {
         By::User | By::Namespace => Ok(None),
-        By::Schema(cluster) => {
-            match schema_of_event(alloc, cluster.schemas.as_slice(), user, value) {
-                Ok(place) => Ok(place),
-                Err(_) => Err(AuditFault::NoMemory),
-            }
-        }
+        By::Schema(cluster) | By::Schemas(cluster, _) => place_in(alloc, cluster, user, value),
     }
 }
 
@@ -179,6 +203,61 @@ fn flow_of<'a>(by: Distinguisher, user: &'a str, value: &'a Value) -> Option<&'a
         Distinguisher::User => Some(user),
         Distinguisher::Namespace => namespace_of(value),
         Distinguisher::Nothing => Some(""),
+    }
+}
+
+// A text of its own that is the same.
+fn owned(alloc: Global, text: &str) -> Result<String, AuditFault>
+    ensures ok { IfOk result (λ string. string_bytes string ≡ text.now) }
+    ensures err { IfErr result (λ fault. fault ≡ AuditFault.NoMemory) }
+{
+    match String::from_str(alloc, text) {
+        Ok(string) => Ok(string),
+        Err(_) => Err(AuditFault::NoMemory),
+    }
+}
+
+// What the request of the event of line `line`, of this user, is by the schemas of a cluster.
+fn said_by(
+    alloc: Global,
+    cluster: &Cluster,
+    user: &str,
+    value: &Value,
+    line: u64,
+) -> Result<Beside, AuditFault>
+    requires { length user.now ≤ spec.max_name }
+    ensures ok { IfOk result (λ beside. spec.said_by cluster.now.schemas.items user.now (view value.now) ≡ Some (spec.beside_said beside)) }
+    ensures ranges { IfOk result spec.IsBesideInRange }
+    ensures err { IfErr result (λ fault. fault ≢ AuditFault.NoMemory
+        → (fault ≡ AuditFault.BadNamespace line) × (spec.said_by cluster.now.schemas.items user.now (view value.now) ≡ None)) }
+{
+    let schema = place_in(alloc, cluster, user, value)?;
+    let by = within(cluster, schema);
+    let flow = flow_of(by, user, value).ok_or(AuditFault::BadNamespace(line))?;
+    Ok(Beside {
+        user: owned(alloc, user)?,
+        schema,
+        distinguisher: owned(alloc, flow)?,
+    })
+}
+
+// What the request of the event of line `line`, of this user, is by the schemas of a second cluster, if there is one.
+fn beside_of(
+    alloc: Global,
+    by: By<'_>,
+    user: &str,
+    value: &Value,
+    line: u64,
+) -> Result<Option<Beside>, AuditFault>
+    requires { length user.now ≤ spec.max_name }
+    ensures ok { IfOk result (λ beside. spec.beside_of by.entry user.now (view value.now) ≡ Some (option_map spec.beside_said beside)) }
+    ensures ranges { IfOk result (λ beside. IfSome beside spec.IsBesideInRange) }
+    ensures err { IfErr result (λ fault. fault ≢ AuditFault.NoMemory
+        → (fault ≡ AuditFault.BadNamespace line) × (spec.beside_of by.entry user.now (view value.now) ≡ None)) }
+{
+    match by {
+        By::User | By::Namespace | By::Schema(_) => Ok(None),
+        By::Schemas(_, second) => Ok(Some(said_by(alloc, second, user, value, line)?)),
     }
 }
 
@@ -233,7 +312,7 @@ fn run_at(value: &Value, line: u64, received: u64) -> Result<u64, AuditFault>
     run_of(received, completed, wait).ok_or(AuditFault::BadRun(line))
 }
 
-// What is taken of an event of this schema and flow that was received at this time.
+// What is taken of an event of this schema and flow, with this beside them, that was received at this time.
 #[tactic(auto, unfolding(crate::specs::AuditEvent::ran_at))]
 fn ran_at(
     alloc: Global,
@@ -242,18 +321,18 @@ fn ran_at(
     received: u64,
     schema: Option<usize>,
     flow: &str,
+    beside: Option<Beside>,
 ) -> Result<Taken, AuditFault>
-    requires { length flow.now ≤ spec.max_name }
-    ensures ok { IfOk result (λ taken. spec.ran_at line received schema flow.now (view value.now) ≡ Ok (spec.event taken)) }
+    requires name { length flow.now ≤ spec.max_name }
+    requires beside { IfSome beside spec.IsBesideInRange }
+    ensures ok { IfOk result (λ taken. spec.ran_at line received schema flow.now (option_map spec.beside_said beside) (view value.now) ≡ Ok (spec.event taken)) }
     ensures ranges { IfOk result spec.IsTakenInRange }
     ensures line { IfOk result (λ taken. taken.line ≡ line) }
     ensures err { IfErr result (λ fault. fault ≢ AuditFault.NoMemory
-        → spec.ran_at line received schema flow.now (view value.now) ≡ Err fault) }
+        → spec.ran_at line received schema flow.now (option_map spec.beside_said beside) (view value.now) ≡ Err fault) }
 {
     let runs_for = run_at(value, line, received)?;
-    let Ok(distinguisher) = String::from_str(alloc, flow) else {
-        return Err(AuditFault::NoMemory);
-    };
+    let distinguisher = owned(alloc, flow)?;
     Ok(Taken {
         line,
         received,
@@ -261,6 +340,7 @@ fn ran_at(
         runs_for,
         schema,
         distinguisher,
+        beside,
     })
 }
 
@@ -284,13 +364,15 @@ fn taken_of(
     let schema = schema_of(alloc, choice.by, user, value)?;
     let by = choice.by.distinguisher(schema);
     let flow = flow_of(by, user, value).ok_or(AuditFault::BadNamespace(line))?;
+    let beside = beside_of(alloc, choice.by, user, value, line)?;
     let received = instant_at(value, "requestReceivedTimestamp").ok_or(AuditFault::BadReceived(
         line,
     ))?;
     if !choice.has(user, received) {
         return Ok(Outcome::LeftOut);
     }
-    Ok(Outcome::Chosen(ran_at(alloc, value, line, received, schema, flow)?))
+    let taken = ran_at(alloc, value, line, received, schema, flow, beside)?;
+    Ok(Outcome::Chosen(taken))
 }
 
 /// What the value of line `line` gives.

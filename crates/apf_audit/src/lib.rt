@@ -24,7 +24,7 @@ mod trace;
 pub use arrivals::arrives_at;
 pub use choice::{By, Choice};
 pub use estimates::Estimates;
-pub use event::{MAX_NAME, Outcome, Taken};
+pub use event::{Beside, MAX_NAME, Outcome, Taken};
 pub use fault::AuditFault;
 pub use laws::{every_estimate_is_in_range, every_trace_fits};
 pub use line::{MAX_LINE, is_begun, read_line};

@@ -32,7 +32,7 @@ requests_of choice size bytes = read_from choice size [] 1 (lines_of bytes)
 
 -- a request that is to run for so long
 abbrev pub with_run : ℕ → Event → Event
-with_run run e = record { line = e.line; received = e.received; turned_away = e.turned_away; runs_for = run; schema = e.schema; flow = e.flow }
+with_run run e = record e { runs_for = run }
 
 -- How a request is handed out, before which this many others were. The reader reads ahead by its size, so as many requests and one more
 -- were read: by these a request that was turned away gets its run.

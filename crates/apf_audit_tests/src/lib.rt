@@ -4,9 +4,12 @@
 //! They stand in a crate of their own, as a crate with tests is proved twice.
 //!
 //! - `faults`: the text of each fault.
+//! - `beside`: what requests are by the schemas of two clusters.
 //! - `texts`: a writer that fails.
 #![tactic(auto)]
 
+#[cfg(test)]
+mod beside;
 #[cfg(test)]
 mod faults;
 #[cfg(test)]

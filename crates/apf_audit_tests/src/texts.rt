@@ -14,6 +14,7 @@ fn a_writer_that_fails(rt: HostRuntime) -> Result<(), Fail> {
         runs_for: 7,
         schema: None,
         distinguisher: String::from_str(rt.alloc(), "\t/\u{7f}")?,
+        beside: None,
     };
     let mut room = [0u8; 200];
     for count in 0..=TEXT.len() {

@@ -36,6 +36,6 @@ pub use laws::{
     every_change_keeps_the_order, every_change_keeps_the_ranges, every_key_is_read,
     every_text_has_its_sides,
 };
-pub use numbers::{nominal_seats, rate_of};
+pub use numbers::{last_of, nominal_seats, rate_of};
 pub use reading::read_change;
 pub use scenario::{Assigned, MAX_RATE, Scenario};

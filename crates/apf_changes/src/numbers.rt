@@ -11,8 +11,8 @@ use crate::scenario::{Assigned, Scenario};
 use apf_matching::{limits_of, sum_of_shares};
 use apf_objects::{Level, LevelSettings};
 
-// The last number that was set of this name.
-fn last_of(assigned: &[Assigned], name: &str) -> Option<u32>
+/// The last number that was set of this name. None if none was.
+pub fn last_of(assigned: &[Assigned], name: &str) -> Option<u32>
     ensures { result ≡ spec.last_of name.now (map spec.assigned_view assigned.now) }
 {
     let mut last = None;

@@ -11,10 +11,10 @@ use Rattle.apf_objects.specs.Levels.{LevelSaid}
 use Rattle.apf_audit.specs.AuditEvent.{Event}
 use Rattle.apf_stream.specs.declared.deed.NewLimit.{NewLimit}
 use Rattle.apf_lending.specs.declared.claim.Claim.{Claim}
+use Rattle.apf_cluster_tables.specs.declared.level_table.LevelTable.{LevelTable}
 use Rattle.apf_cluster.specs.Lending.{Adjustment, IsAdjustment, given, greatest_set, least_set, period, set_limits}
 use Rattle.apf_cluster.specs.Requests.{Said, is_place, level_of, of_level, request_of, said}
-use Rattle.apf_cluster.specs.Runs.{AreEnded, AreSameLimits, AreSet, Course, EndsOn, HasCome, HaveCome, IsClosed, IsLevelTable, IsOfLevel, IsOpenedLane, HaveGoneOn, IsRunning, IsSetBy, Reaches, RunsOn, TakesOn, TakesOne, all_of, bounds_in, is_lent}
-use Rattle.apf_cluster.specs.declared.closing.LevelTable.{LevelTable}
+use Rattle.apf_cluster.specs.Runs.{AreEnded, AreSameLimits, AreSet, Course, EndsOn, HasCome, HaveCome, IsClosed, IsLevelTable, IsOfLevel, IsOpenedLane, HaveGoneOn, IsRunning, IsSetBy, Reaches, RunsOn, TakesOn, TakesOne, ZipFrom, all_of, bounds_in, is_lent, nominal_of_all, seats_of, sum_of_limits}
 use Rattle.apf_cluster.specs.declared.lanes.LevelLane.{LevelLane}
 use Rattle.apf_cluster.proofs.Asked.{new_asked}
 use Rattle.apf_cluster.proofs.GoingOn.{greatest_more, least_more, lent_stays, nominal_stays, set_more, turned_away_stays}
@@ -48,7 +48,7 @@ first_greatest : (b : Bool) (i first : ℕ) → greatest_set b i first [] ≡ fi
 first_greatest false i first = refl
 first_greatest true i first = refl
 
-pub opened : (w : Course) (i : ℕ) (l : LevelSaid) (v : LevelLane) → IsOpenedLane w.terms (all_of w) l v → HasCome w [] [] i l v
+pub opened : (w : Course) (i : ℕ) (l : LevelSaid) (v : LevelLane) → IsOpenedLane w.terms w.fixed (all_of w) l v → HasCome w [] [] i l v
 opened w i l v o =
     let b = is_lent w.terms l in
     record {
@@ -56,7 +56,7 @@ opened w i l v o =
       opened = o.opened;
       came = [];
       out = [];
-      runs = subst (λ (under : List NewLimit). IsRunning under i (bounds_in w.terms (all_of w) l) [] v.lane.state [] [] v) (sym (none_set b i)) (record { lane = o.nobody; asked = new_asked i (bounds_in w.terms (all_of w) l) v.asking o.asks });
+      runs = subst (λ (under : List NewLimit). IsRunning under i (bounds_in w.terms w.fixed (all_of w) l) [] v.lane.state [] [] v) (sym (none_set b i)) (record { lane = o.nobody; asked = new_asked i (bounds_in w.terms w.fixed (all_of w) l) v.asking o.asks });
       are = refl;
       lent = o.lent;
       nominal = o.nominal;
@@ -72,7 +72,7 @@ came_here : (w : Course) (told : List Event) (past : List Adjustment) (e : Event
 came_here w told past e g l x v v' is asks goes same counted h =
     let more = here w.cluster g told e is in
     let req = request_of w.cluster w.start in
-    let ran = goes (set_limits (is_lent w.terms l) g past) g (bounds_in w.terms (all_of w) l) past h.opening h.came h.out h.runs in
+    let ran = goes (set_limits (is_lent w.terms l) g past) g (bounds_in w.terms w.fixed (all_of w) l) past h.opening h.came h.out h.runs in
     record {
       opening = h.opening;
       opened = h.opened;
@@ -125,7 +125,7 @@ one_more w told e lanes lanes' periods t r =
 -- some were told more
 went_on : (w : Course) (told : List Event) (past : List Adjustment) (i : ℕ) (l : LevelSaid) (v v' : LevelLane) → RunsOn v v' → IsOfLevel v v' → HasCome w told past i l v → HasCome w told past i l v'
 went_on w told past i l v v' runs same h =
-    let ran = runs (set_limits (is_lent w.terms l) i past) i (bounds_in w.terms (all_of w) l) past h.opening h.came h.out h.runs in
+    let ran = runs (set_limits (is_lent w.terms l) i past) i (bounds_in w.terms w.fixed (all_of w) l) past h.opening h.came h.out h.runs in
     record {
       opening = h.opening;
       opened = h.opened;
@@ -153,12 +153,19 @@ all_went_on w told periods lanes lanes' gone r =
 
 -- ---- one period more
 
+-- the lanes have the nominal limits of their levels
+nominal_is : (w : Course) (told : List Event) (past : List Adjustment) (i : ℕ) (levels : List LevelSaid) (lanes : List LevelLane) → ZipFrom (HasCome w told past) i levels lanes → nominal_of_all lanes ≡ sum_of_limits w.terms w.fixed (all_of w) levels
+nominal_is w told past i [] [] h = refl
+nominal_is w told past i [] (v ∷ lanes) h = absurd h
+nominal_is w told past i (l ∷ levels) [] h = absurd h
+nominal_is w told past i (l ∷ levels) (v ∷ lanes) h = let here = h.0.nominal in let rest = nominal_is w told past (suc i) levels lanes h.1 in omega (arith, here, rest)
+
 -- the period of a level ended, and it was set its limit
 adjusted_one : (w : Course) (told : List Event) (a : Adjustment) (past : List Adjustment) (at i : ℕ) (l : LevelSaid) (claim : Claim) (v mid v' : LevelLane) → at ≡ period * suc (length past) → slice_get a.claims i ≡ Some claim
     → EndsOn at claim v mid → IsOfLevel v mid → IsSetBy mid.is_lent (record { at = at; limit = given i a }) mid v' → HasCome w told past i l v → HasCome w told (a ∷ past) i l v'
 adjusted_one w told a past at i l claim v mid v' is here ends same set h =
     let b = is_lent w.terms l in
-    let bounds = bounds_in w.terms (all_of w) l in
+    let bounds = bounds_in w.terms w.fixed (all_of w) l in
     let lent : mid.is_lent ≡ b = same.limits.lent ∙ h.lent in
     let set_by : IsSetBy b (record { at = at; limit = given i a }) mid v' = subst (λ (x : Bool). IsSetBy x (record { at = at; limit = given i a }) mid v') lent set in
     let ended = ends (set_limits b i past) i bounds past h.opening h.came h.out a h.runs is here in
@@ -194,13 +201,13 @@ done_at a at lanes mids lanes' ended done p v v' here there =
     record { claim = e.0; here = e.1; mid = mid.0; ends = e.2; same = e.3; set_by = done.each p mid.0 v' mid.1 there }
 
 pub adjusted : (w : Course) (told : List Event) (a : Adjustment) (at periods : ℕ) (lanes mids lanes' : List LevelLane) → at ≡ period * suc periods → AreEnded at lanes mids a.claims → AreSet at a.limits mids lanes'
-    → ((levels : ℕ) → levels ≡ length lanes → IsAdjustment w.terms.seats levels a) → Reaches w told lanes periods → Reaches w told lanes' (suc periods)
+    → ((seats levels : ℕ) → seats ≡ nominal_of_all lanes → levels ≡ length lanes → IsAdjustment seats levels a) → Reaches w told lanes periods → Reaches w told lanes' (suc periods)
 adjusted w told a at periods lanes mids lanes' is ended done divided r =
     let past = r.adjustments in
     record {
       adjustments = a ∷ past;
       many = ap suc r.many;
-      divided = (divided (length w.cluster.levels) (sym (long (HasCome w told past) 0 w.cluster.levels lanes r.come)), r.divided);
+      divided = (divided (seats_of w) (length w.cluster.levels) (sym (nominal_is w told past 0 w.cluster.levels lanes r.come)) (sym (long (HasCome w told past) 0 w.cluster.levels lanes r.come)), r.divided);
       come = step_from (HasCome w told past) (λ i v v'. Adjusted a at i v v') (HasCome w told (a ∷ past))
           (λ i l v v' h d. adjusted_one w told a past at i l d.claim v d.mid v' (is ∙ ap (λ (n : ℕ). period * suc n) (sym r.many)) d.here d.ends d.same d.set_by h)
           0 w.cluster.levels lanes lanes' (done.still ∙ ended.still) (λ p v v' here there. let same : p ≡ 0 + p = omega arith in subst (λ (n : ℕ). Adjusted a at n v v') same (done_at a at lanes mids lanes' ended done p v v' here there)) r.come;
@@ -211,7 +218,7 @@ adjusted w told a at periods lanes mids lanes' is ended done divided r =
 -- nothing is due any more
 pub closed : (w : Course) (told : List Event) (past : List Adjustment) (i : ℕ) (l : LevelSaid) (v : LevelLane) (t : LevelTable) → HasCome w told past i l v → IsClosed (period * suc (length past)) v t → IsLevelTable w told past i l t
 closed w told past i l v t h d =
-    let bounds = bounds_in w.terms (all_of w) l in
+    let bounds = bounds_in w.terms w.fixed (all_of w) l in
     let under = set_limits (is_lent w.terms l) i past in
     let over = d.over in
     let ran = d.runs under i bounds past h.opening h.came h.out h.runs in

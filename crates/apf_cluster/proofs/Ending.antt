@@ -5,9 +5,9 @@ use Rattle.std.proofs.lemmas.List.Elements.{All-append}
 use Rattle.std.proofs.lemmas.Bool.{cases_eq}
 use Rattle.apf_lending.specs.Claims.{IsClaim}
 use Rattle.apf_lending.specs.declared.claim.Claim.{Claim}
+use Rattle.apf_cluster_tables.specs.Limits.{limit_of}
 use Rattle.apf_cluster.specs.Lending.{or_none}
 use Rattle.apf_cluster.specs.Runs.{EndsOn, IsOfLevel, IsSetBy, RunsOn}
-use Rattle.apf_cluster.specs.Shapes.{limit_of}
 use Rattle.apf_cluster.specs.declared.lanes.LevelLane.{LevelLane}
 
 pub some_is : {A : Type 0} {a b : A} → ◌≡◌ {A = Option A} (Some a) (Some b) → a ≡ b

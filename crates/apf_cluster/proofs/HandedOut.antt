@@ -17,10 +17,11 @@ use Rattle.apf_audit.specs.declared.choice.Choice.{Choice}
 use Rattle.apf_audit.specs.declared.event.Taken.{Taken}
 use Rattle.apf_audit_reader.specs.Reading.{Answers, AnswersEach, AreAll, HasRead}
 use Rattle.apf_audit_reader.specs.Views.{ReaderView}
+use Rattle.apf_changes.specs.Scenarios.{AssignedSaid}
+use Rattle.apf_cluster_tables.specs.declared.level_table.LevelTable.{LevelTable}
 use Rattle.apf_cluster.specs.Requests.{level_of, start_of}
-use Rattle.apf_cluster.specs.Lending.{Adjustment, period}
-use Rattle.apf_cluster.specs.Runs.{AreAdjusted, AreInTime, AreLived, AreOpened, AreTables, Course, HasCome, HasFed, HasRunLog, HaveGone, IsClosed, IsLevelTable, IsOpenedLane, Reaches, all_of}
-use Rattle.apf_cluster.specs.declared.closing.LevelTable.{LevelTable}
+use Rattle.apf_cluster.specs.Lending.{period}
+use Rattle.apf_cluster.specs.Runs.{AreInTime, AreLived, AreOpened, Course, HasCome, HasFed, HasRun, HasRunLog, HaveGone, IsClosed, IsLevelTable, IsOpenedLane, Reaches, all_of}
 use Rattle.apf_cluster.specs.declared.lanes.LevelLane.{LevelLane}
 use Rattle.apf_cluster.specs.declared.running.ClusterTerms.{ClusterTerms}
 use Rattle.apf_cluster.proofs.Coming.{closed, opened}
@@ -58,37 +59,34 @@ start_stays [] e more = refl
 start_stays (x ∷ told) e more = refl
 
 -- the lanes of the levels at hand, with all their shares
-pub all_opened : (terms : ClusterTerms) (all : ℕ) (given levels : List Level) (lanes : List LevelLane) → given ≡ levels → all ≡ sum_of_shares (map level_view given)
-    → AreOpened terms all (map level_view given) lanes → AreOpened terms (sum_of_shares (map level_view levels)) (map level_view levels) lanes
-all_opened terms all given levels lanes same shares are =
-    subst (λ (n : ℕ). AreOpened terms n (map level_view levels) lanes) (shares ∙ ap (λ (l : List Level). sum_of_shares (map level_view l)) same)
-    (subst (λ (l : List Level). AreOpened terms all (map level_view l) lanes) same are)
+pub all_opened : (terms : ClusterTerms) (fixed : List AssignedSaid) (all : ℕ) (given levels : List Level) (lanes : List LevelLane) → given ≡ levels → all ≡ sum_of_shares (map level_view given)
+    → AreOpened terms fixed all (map level_view given) lanes → AreOpened terms fixed (sum_of_shares (map level_view levels)) (map level_view levels) lanes
+all_opened terms fixed all given levels lanes same shares are =
+    subst (λ (n : ℕ). AreOpened terms fixed n (map level_view levels) lanes) (shares ∙ ap (λ (l : List Level). sum_of_shares (map level_view l)) same)
+    (subst (λ (l : List Level). AreOpened terms fixed all (map level_view l) lanes) same are)
 
-pub as_many : (terms : ClusterTerms) (all : ℕ) (levels : List Level) (lanes : List LevelLane) → AreOpened terms all (map level_view levels) lanes → length lanes ≡ length levels
-as_many terms all levels lanes are = AllZip-long (IsOpenedLane terms all) (map level_view levels) lanes are ∙ length-map levels level_view
+pub as_many : (terms : ClusterTerms) (fixed : List AssignedSaid) (all : ℕ) (levels : List Level) (lanes : List LevelLane) → AreOpened terms fixed all (map level_view levels) lanes → length lanes ≡ length levels
+as_many terms fixed all levels lanes are = AllZip-long (IsOpenedLane terms fixed all) (map level_view levels) lanes are ∙ length-map levels level_view
 
-pub new_in_time : (terms : ClusterTerms) (all : ℕ) (levels : List LevelSaid) (lanes : List LevelLane) → AreOpened terms all levels lanes → AreInTime 0 lanes
-new_in_time terms all levels lanes are = all_of_zip (IsOpenedLane terms all) (λ (v : LevelLane). v.lane.state.slots.time ≤ 0) (λ l v o. omega (arith, o.time)) levels lanes are
+pub new_in_time : (terms : ClusterTerms) (fixed : List AssignedSaid) (all : ℕ) (levels : List LevelSaid) (lanes : List LevelLane) → AreOpened terms fixed all levels lanes → AreInTime 0 lanes
+new_in_time terms fixed all levels lanes are = all_of_zip (IsOpenedLane terms fixed all) (λ (v : LevelLane). v.lane.state.slots.time ≤ 0) (λ l v o. omega (arith, o.time)) levels lanes are
 
-pub new_lived : (terms : ClusterTerms) (all : ℕ) (levels : List LevelSaid) (lanes : List LevelLane) → AreOpened terms all levels lanes → AreLived lanes
-new_lived terms all levels lanes are =
-    all_of_zip (IsOpenedLane terms all) (λ (v : LevelLane). IsLived v.lane) (λ l v o. record { under = []; opening = v.lane.state; came = []; told = []; lane = o.nobody }) levels lanes are
+pub new_lived : (terms : ClusterTerms) (fixed : List AssignedSaid) (all : ℕ) (levels : List LevelSaid) (lanes : List LevelLane) → AreOpened terms fixed all levels lanes → AreLived lanes
+new_lived terms fixed all levels lanes are =
+    all_of_zip (IsOpenedLane terms fixed all) (λ (v : LevelLane). IsLived v.lane) (λ l v o. record { under = []; opening = v.lane.state; came = []; told = []; lane = o.nobody }) levels lanes are
 
 -- nobody came yet
-pub none_gone : (choice : Choice) (w : Course) (was left : Option (List ℕ)) (next : Option Event) (v : ReaderView) (lanes : List LevelLane)
-    → HasFed choice was left [] next v → AreOpened w.terms (all_of w) w.cluster.levels lanes → w.start ≡ start_of (option_to_list next) → HaveGone choice w was left next v lanes 0
-none_gone choice w was left next v lanes fed are start = record {
-  told = [];
-  fed = fed;
-  reaches = record {
-    adjustments = [];
-    many = refl;
-    divided = tt;
-    come = from_zip (IsOpenedLane w.terms (all_of w)) (HasCome w [] []) (λ i l x o. opened w i l x o) 0 w.cluster.levels lanes are;
-  };
-  levels = tt;
-  start = start;
+pub none_reaches : (w : Course) (lanes : List LevelLane) → AreOpened w.terms w.fixed (all_of w) w.cluster.levels lanes → Reaches w [] lanes 0
+none_reaches w lanes are = record {
+  adjustments = [];
+  many = refl;
+  divided = tt;
+  come = from_zip (IsOpenedLane w.terms w.fixed (all_of w)) (HasCome w [] []) (λ i l x o. opened w i l x o) 0 w.cluster.levels lanes are;
 }
+
+pub none_gone : (choice : Choice) (w : Course) (was left : Option (List ℕ)) (next : Option Event) (v : ReaderView) (lanes : List LevelLane)
+    → HasFed choice was left [] next v → AreOpened w.terms w.fixed (all_of w) w.cluster.levels lanes → w.start ≡ start_of (option_to_list next) → HaveGone choice w was left next v lanes 0
+none_gone choice w was left next v lanes fed are start = record { told = []; fed = fed; reaches = none_reaches w lanes are; levels = tt; start = start }
 
 -- the request of one event more came to its lane
 pub gone_on : (choice : Choice) (w : Course) (was mid left : Option (List ℕ)) (e : Event) (next : Option Event) (v v' : ReaderView) (lanes lanes' : List LevelLane) (periods periods' : ℕ)
@@ -105,7 +103,7 @@ gone_on choice w was mid left e next v v' lanes lanes' periods periods' fed reac
 
 -- each lane was closed
 pub tables_of : (w : Course) (told : List Event) (periods end : ℕ) (lanes : List LevelLane) (tables : List LevelTable) → end ≡ period * suc periods → Reaches w told lanes periods → AllZip (IsClosed end) lanes tables
-    → (adjustments : List Adjustment) × AreAdjusted w adjustments × AreTables w told adjustments tables
+    → HasRun w told tables
 tables_of w told periods end lanes tables is r d =
     let past = r.adjustments in (
       past,
@@ -116,14 +114,12 @@ tables_of w told periods end lanes tables is r d =
 
 -- the whole log was read, and each lane was closed
 pub ran_log : (choice : Choice) (c : ClusterSaid) (terms : ClusterTerms) (start size : ℕ) (was left : Option (List ℕ)) (v : ReaderView) (lanes : List LevelLane) (periods : ℕ) (tables : List LevelTable) → v.window.size ≡ size
-    → HaveGone choice (record { cluster = c; terms = terms; start = start }) was left None v lanes periods
-    → ((told : List Event) → Reaches (record { cluster = c; terms = terms; start = start }) told lanes periods
-    → (adjustments : List Adjustment) × AreAdjusted (record { cluster = c; terms = terms; start = start }) adjustments × AreTables (record { cluster = c; terms = terms; start = start }) told adjustments tables)
+    → HaveGone choice (record { cluster = c; terms = terms; fixed = []; start = start }) was left None v lanes periods
+    → ((told : List Event) → Reaches (record { cluster = c; terms = terms; fixed = []; start = start }) told lanes periods → HasRun (record { cluster = c; terms = terms; fixed = []; start = start }) told tables)
     → HasRunLog choice c terms size was left tables
 ran_log choice c terms start size was left v lanes periods tables same g closes =
     let whole = g.fed.all refl in
     let first : start ≡ start_of g.told = g.start ∙ ap start_of (append-nil g.told) in
-    let ends = closes g.told g.reaches in
     record {
       bytes = g.fed.bytes;
       given = g.fed.given;
@@ -131,7 +127,5 @@ ran_log choice c terms start size was left v lanes periods tables same g closes 
       all = subst (λ (n : ℕ). AreAll choice n g.fed.bytes g.told) same whole.0;
       ended = whole.1;
       levels = g.levels;
-      adjustments = ends.0;
-      divided = ends.1;
-      tables_are = subst (λ (s : ℕ). AreTables (record { cluster = c; terms = terms; start = s }) g.told ends.0 tables) first ends.2;
+      ran = subst (λ (s : ℕ). HasRun (record { cluster = c; terms = terms; fixed = []; start = s }) g.told tables) first (closes g.told g.reaches);
     }

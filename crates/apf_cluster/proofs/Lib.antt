@@ -2,9 +2,8 @@ pub mod Asked
 pub mod Coming
 pub mod Ending
 pub mod HandedOut
-pub mod Lines
 pub mod Lived
-pub mod Ordered
 pub mod GoingOn
 pub mod Written
 pub mod Zips
+pub mod Twice

@@ -86,6 +86,10 @@ pub all_then : {A : Type 0} (P : A → Type 0) (xs : List A) (y : A) → AllByRe
 all_then P [] y h is = (is, tt)
 all_then P (x ∷ xs) y h is = (h.0, all_then P xs y h.1 is)
 
+pub all_append : {A : Type 0} (P : A → Type 0) (xs ys : List A) → AllByRecursion P xs → AllByRecursion P ys → AllByRecursion P (xs ++ ys)
+all_append P [] ys h k = k
+all_append P (x ∷ xs) ys h k = (h.0, all_append P xs ys h.1 k)
+
 pub all_weaker : {A : Type 0} (P Q : A → Type 0) → ((x : A) → P x → Q x) → (xs : List A) → AllByRecursion P xs → AllByRecursion Q xs
 all_weaker P Q go [] h = tt
 all_weaker P Q go (x ∷ xs) h = (go x h.0, all_weaker P Q go xs h.1)

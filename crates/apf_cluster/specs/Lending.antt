@@ -12,7 +12,7 @@ use Rattle.apf_lending.specs.declared.claim.Claim.{Claim}
 use Rattle.apf_lender.specs.Periods.{AskingView, Claims, Follows}
 use Rattle.apf_lender.specs.declared.bounds.Bounds.{Bounds}
 use Rattle.apf_lender.specs.declared.bounds.Bounds.TheVariants.{Exempt, Limited}
-use Rattle.apf_cluster.specs.Shapes.{limit_of}
+use Rattle.apf_cluster_tables.specs.Limits.{limit_of}
 
 -- how long the limits stay, in microseconds
 abbrev pub period : ℕ

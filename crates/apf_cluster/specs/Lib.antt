@@ -2,7 +2,5 @@ pub mod Shapes
 pub mod Requests
 pub mod Lending
 pub mod Runs
+pub mod Beside
 pub mod Traces
-pub mod Flows
-pub mod Texts
-pub mod Json

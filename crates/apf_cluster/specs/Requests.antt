@@ -1,5 +1,5 @@
 -- The request of an audit event, and the level that it is of.
-use Rattle.std.specs.Prelude.{ℕ, ◌-◌, List, [], ◌∷◌, Bool, false, nat_eq, Option, Some, None, option_and_then, slice_get, bytes_eq}
+use Rattle.std.specs.Prelude.{ℕ, ◌-◌, List, [], ◌∷◌, Bool, false, nat_eq, Option, Some, None, option_and_then, slice_get}
 use Rattle.std.specs.List.{filter}
 use Rattle.apf_flow.specs.Flow.{flow_hash_of}
 use Rattle.apf_times.specs.declared.window.Arrival.{Arrival}
@@ -9,7 +9,7 @@ use Rattle.apf_objects.specs.Cluster.{ClusterSaid}
 use Rattle.apf_objects.specs.Levels.{LevelSaid}
 use Rattle.apf_objects.specs.Rules.{Text}
 use Rattle.apf_objects.specs.Schemas.{SchemaSaid}
-use Rattle.apf_matching.specs.First.{place_from}
+use Rattle.apf_cluster_tables.specs.Sides.{level_named}
 use Rattle.apf_audit.specs.AuditEvent.{Event}
 
 -- what is said of a request that comes to a lane: its line, when it comes, and what it asks for
@@ -37,10 +37,6 @@ schema_at schemas place = option_and_then (slice_get schemas) place
 abbrev pub name_of : Option SchemaSaid → Text
 name_of None = []
 name_of (Some schema) = schema.name
-
--- the place of the level of this name
-abbrev pub level_named : Text → List LevelSaid → Option ℕ
-level_named name levels = place_from (λ (l : LevelSaid). bytes_eq l.name name) 0 levels
 
 -- the place of the level of a schema
 abbrev pub level_by : List LevelSaid → Option SchemaSaid → Option ℕ

@@ -10,8 +10,9 @@ use Rattle.apf_traces.specs.declared.request.TraceRequest.{TraceRequest}
 use Rattle.apf_objects.specs.Cluster.{ClusterSaid, cluster_view}
 use Rattle.apf_objects.specs.Levels.{LevelSaid}
 use Rattle.apf_objects.specs.declared.cluster.Cluster.{Cluster}
-use Rattle.apf_matching.specs.Limits.{limits_of, sum_of_shares}
+use Rattle.apf_matching.specs.Limits.{sum_of_shares}
 use Rattle.apf_matching.specs.declared.limits.LevelLimits.{LevelLimits}
+use Rattle.apf_changes.specs.Scenarios.{AssignedSaid, assigned_view, last_of}
 use Rattle.apf_lending.specs.declared.claim.Claim.{Claim}
 use Rattle.apf_lender.specs.Periods.{AskingView, IsNew}
 use Rattle.apf_lender.specs.declared.bounds.Bounds.{Bounds}
@@ -27,11 +28,12 @@ use Rattle.apf_rows.specs.Tables.{IsTable}
 use Rattle.apf_simulator.specs.Feeds.{IsOver}
 use Rattle.apf_simulator.specs.Lanes.{IsLane, IsLaneUnder, IsLived, IsOpening, LaneView}
 use Rattle.apf_simulator.specs.Told.{EndsWith, IsTableOf}
+use Rattle.apf_cluster_tables.specs.Limits.{limit_of}
+use Rattle.apf_cluster_tables.specs.declared.level_table.LevelTable.{LevelTable}
 use Rattle.apf_cluster.specs.Lending.{Adjustment, HasClaimed, IsAdjustment, IsAsked, asked_at, bounds_of, greatest_of, greatest_set, least_set, or_none, period, set_limits}
-use Rattle.apf_cluster.specs.Shapes.{config_of, limit_of, slots_of}
+use Rattle.apf_cluster.specs.Shapes.{config_of, limits_from, slots_of}
 use Rattle.apf_cluster.specs.Requests.{level_of, of_level, request_of, said, start_of}
 use Rattle.apf_cluster.specs.declared.feeding.Way.{Way}
-use Rattle.apf_cluster.specs.declared.closing.LevelTable.{LevelTable}
 use Rattle.apf_cluster.specs.declared.lanes.LevelLane.{LevelLane}
 use Rattle.apf_cluster.specs.declared.running.ClusterTerms.{ClusterTerms}
 
@@ -50,22 +52,22 @@ ZipFrom R i [] (y ∷ ys) = ⊥
 ZipFrom R i (x ∷ xs) [] = ⊥
 ZipFrom R i (x ∷ xs) (y ∷ ys) = R i x y × ZipFrom R (suc i) xs ys
 
--- the limits of a level, where all levels have this many shares
-abbrev pub limits_in : ClusterTerms → (all : ℕ) → LevelSaid → LevelLimits
-limits_in terms all l = limits_of l.settings terms.seats all
+-- the limits of a level, where all levels have this many shares, and these nominal limits were fixed
+abbrev pub limits_in : ClusterTerms → List AssignedSaid → (all : ℕ) → LevelSaid → LevelLimits
+limits_in terms fixed all l = limits_from l.settings terms.seats all (last_of l.name fixed)
 
 -- between which limits it is lent seats
-abbrev pub bounds_in : ClusterTerms → (all : ℕ) → LevelSaid → Bounds
-bounds_in terms all l = bounds_of l.settings (limits_in terms all l)
+abbrev pub bounds_in : ClusterTerms → List AssignedSaid → (all : ℕ) → LevelSaid → Bounds
+bounds_in terms fixed all l = bounds_of l.settings (limits_in terms fixed all l)
 
 -- a level is set other limits if seats are lent, and it holds requests back
 abbrev pub is_lent : ClusterTerms → LevelSaid → Bool
 is_lent terms l = terms.lends && not l.settings.is_exempt
 
 -- A level of its own config, to which nobody came. It has slots for its greatest limit
-abbrev pub IsOpeningOf : ClusterTerms → (all : ℕ) → LevelSaid → State → Type 0
-IsOpeningOf terms all l s =
-    IsOpening (config_of l.settings (limits_in terms all l).nominal) (slots_of (config_of l.settings (greatest_of (limits_in terms all l)))) terms.patience Time s
+abbrev pub IsOpeningOf : ClusterTerms → List AssignedSaid → (all : ℕ) → LevelSaid → State → Type 0
+IsOpeningOf terms fixed all l s =
+    IsOpening (config_of l.settings (limits_in terms fixed all l).nominal) (slots_of (config_of l.settings (greatest_of (limits_in terms fixed all l)))) terms.patience Time s
 
 -- the limits of two lanes are the same
 pub record AreSameLimits (v v' : LevelLane) : Type 0 where
@@ -138,20 +140,20 @@ pub record AreSet (at : ℕ) (limits : List ℕ) (lanes lanes' : List LevelLane)
       → IsSetBy v.is_lent (record { at = at; limit = limit_of (or_none (slice_get limits i)) }) v v'
 
 -- a level's lane, to which nobody came
-pub record IsOpenedLane (terms : ClusterTerms) (all : ℕ) (l : LevelSaid) (v : LevelLane) : Type 0 where
-  pub opened : IsOpeningOf terms all l v.lane.state
+pub record IsOpenedLane (terms : ClusterTerms) (fixed : List AssignedSaid) (all : ℕ) (l : LevelSaid) (v : LevelLane) : Type 0 where
+  pub opened : IsOpeningOf terms fixed all l v.lane.state
   pub nobody : IsLane v.lane.state [] [] v.lane
   pub time : v.lane.state.slots.time ≡ 0
-  pub asks : IsNew (bounds_in terms all l) 0 v.asking
+  pub asks : IsNew (bounds_in terms fixed all l) 0 v.asking
   pub lent : v.is_lent ≡ is_lent terms l
-  pub nominal : v.nominal ≡ (limits_in terms all l).nominal
-  pub least : v.least ≡ limit_of (limits_in terms all l).nominal
-  pub greatest : v.greatest ≡ limit_of (limits_in terms all l).nominal
+  pub nominal : v.nominal ≡ (limits_in terms fixed all l).nominal
+  pub least : v.least ≡ limit_of (limits_in terms fixed all l).nominal
+  pub greatest : v.greatest ≡ limit_of (limits_in terms fixed all l).nominal
   pub none : v.turned_away ≡ 0
 
 -- a lane for each of these levels, to which nobody came
-abbrev pub AreOpened : ClusterTerms → (all : ℕ) → List LevelSaid → List LevelLane → Type 0
-AreOpened terms all levels lanes = AllZip (IsOpenedLane terms all) levels lanes
+abbrev pub AreOpened : ClusterTerms → List AssignedSaid → (all : ℕ) → List LevelSaid → List LevelLane → Type 0
+AreOpened terms fixed all levels lanes = AllZip (IsOpenedLane terms fixed all) levels lanes
 
 -- this came to the lane at this place, and the others stayed as they were
 pub record GoesOnAt (place : ℕ) (x : Arrival TraceRequest) (turned_away : Bool) (lanes lanes' : List LevelLane) : Type 0 where
@@ -175,6 +177,8 @@ pub record TakesOne (c : ClusterSaid) (start : ℕ) (e : Event) (lanes lanes' : 
 pub record Course : Type 0 where
   pub cluster : ClusterSaid
   pub terms : ClusterTerms
+  -- nominal limits that were fixed
+  pub fixed : List AssignedSaid
   pub start : ℕ
 
 -- the shares of all levels together
@@ -183,29 +187,43 @@ all_of w = sum_of_shares w.cluster.levels
 
 -- the course of what is fed
 abbrev pub course_of : Way → Course
-course_of way = record { cluster = cluster_view way.cluster.now; terms = way.terms; start = way.start }
+course_of way = record { cluster = cluster_view way.cluster.now; terms = way.terms; fixed = map assigned_view way.fixed.now; start = way.start }
 
 -- Of these events, those that are of the level at this place came to its lane, which was opened for it, in their order. It claimed at the end of each period, and was set the limits of these adjustments
 pub record HasCome (w : Course) (told : List Event) (adjustments : List Adjustment) (i : ℕ) (l : LevelSaid) (v : LevelLane) : Type 0 where
   pub opening : State
-  pub opened : IsOpeningOf w.terms (all_of w) l opening
+  pub opened : IsOpeningOf w.terms w.fixed (all_of w) l opening
   pub came : List (Arrival TraceRequest)
   pub out : List Ended
-  pub runs : IsRunning (set_limits (is_lent w.terms l) i adjustments) i (bounds_in w.terms (all_of w) l) adjustments opening came out v
+  pub runs : IsRunning (set_limits (is_lent w.terms l) i adjustments) i (bounds_in w.terms w.fixed (all_of w) l) adjustments opening came out v
   pub are : map said came ≡ map (request_of w.cluster w.start) (of_level w.cluster i told)
   pub lent : v.is_lent ≡ is_lent w.terms l
-  pub nominal : v.nominal ≡ (limits_in w.terms (all_of w) l).nominal
-  pub least : v.least ≡ least_set (is_lent w.terms l) i (limit_of (limits_in w.terms (all_of w) l).nominal) adjustments
-  pub greatest : v.greatest ≡ greatest_set (is_lent w.terms l) i (limit_of (limits_in w.terms (all_of w) l).nominal) adjustments
+  pub nominal : v.nominal ≡ (limits_in w.terms w.fixed (all_of w) l).nominal
+  pub least : v.least ≡ least_set (is_lent w.terms l) i (limit_of (limits_in w.terms w.fixed (all_of w) l).nominal) adjustments
+  pub greatest : v.greatest ≡ greatest_set (is_lent w.terms l) i (limit_of (limits_in w.terms w.fixed (all_of w) l).nominal) adjustments
   pub turned_away : v.turned_away ≡ count_by (λ (e : Event). e.turned_away) (of_level w.cluster i told)
 
 -- the same of each level
 abbrev pub HaveCome : Course → List Event → List Adjustment → List LevelLane → Type 0
 HaveCome w told adjustments lanes = ZipFrom (HasCome w told adjustments) 0 w.cluster.levels lanes
 
+-- the nominal limits of these lanes' levels together
+abbrev pub nominal_of_all : List LevelLane → ℕ
+nominal_of_all [] = 0
+nominal_of_all (v ∷ lanes) = v.nominal + nominal_of_all lanes
+
+-- the nominal limits of these levels together, where all levels have this many shares
+abbrev pub sum_of_limits : ClusterTerms → List AssignedSaid → (all : ℕ) → List LevelSaid → ℕ
+sum_of_limits terms fixed all [] = 0
+sum_of_limits terms fixed all (l ∷ levels) = (limits_in terms fixed all l).nominal + sum_of_limits terms fixed all levels
+
+-- what is divided: the nominal limits of all levels together
+abbrev pub seats_of : Course → ℕ
+seats_of w = sum_of_limits w.terms w.fixed (all_of w) w.cluster.levels
+
 -- each of these was a division of the seats by what all levels claimed
 abbrev pub AreAdjusted : Course → List Adjustment → Type 0
-AreAdjusted w adjustments = AllByRecursion (IsAdjustment w.terms.seats (length w.cluster.levels)) adjustments
+AreAdjusted w adjustments = AllByRecursion (IsAdjustment (seats_of w) (length w.cluster.levels)) adjustments
 
 -- these came, and so many periods ended
 pub record Reaches (w : Course) (told : List Event) (lanes : List LevelLane) (periods : ℕ) : Type 0 where
@@ -255,7 +273,7 @@ pub record IsClosed (end : ℕ) (v : LevelLane) (t : LevelTable) : Type 0 where
 -- At the end of each period the level claimed by what its requests asked for, and it was set the limits of these adjustments. Nobody asks for anything behind the last of these periods and the next one.
 pub record IsLevelTable (w : Course) (told : List Event) (adjustments : List Adjustment) (i : ℕ) (l : LevelSaid) (t : LevelTable) : Type 0 where
   pub opening : State
-  pub opened : IsOpeningOf w.terms (all_of w) l opening
+  pub opened : IsOpeningOf w.terms w.fixed (all_of w) l opening
   pub came : List (Arrival TraceRequest)
   pub out : List Ended
   pub lane : LaneView
@@ -263,24 +281,28 @@ pub record IsLevelTable (w : Course) (told : List Event) (adjustments : List Adj
   pub is_over : IsOver lane
   pub are : map said came ≡ map (request_of w.cluster w.start) (of_level w.cluster i told)
   pub lately : ℕ
-  pub claimed : HasClaimed i (bounds_in w.terms (all_of w) l) (asked_at came out) adjustments lately
+  pub claimed : HasClaimed i (bounds_in w.terms w.fixed (all_of w) l) (asked_at came out) adjustments lately
   pub quiet : (time : ℕ) → period * suc (length adjustments) ≤ time → asked_at came out time ≡ 0
   pub table : IsTable came out t.table
   pub ends : EndsWith lane t.table
-  pub nominal : t.nominal ≡ (limits_in w.terms (all_of w) l).nominal
-  pub least : t.least ≡ least_set (is_lent w.terms l) i (limit_of (limits_in w.terms (all_of w) l).nominal) adjustments
-  pub greatest : t.greatest ≡ greatest_set (is_lent w.terms l) i (limit_of (limits_in w.terms (all_of w) l).nominal) adjustments
+  pub nominal : t.nominal ≡ (limits_in w.terms w.fixed (all_of w) l).nominal
+  pub least : t.least ≡ least_set (is_lent w.terms l) i (limit_of (limits_in w.terms w.fixed (all_of w) l).nominal) adjustments
+  pub greatest : t.greatest ≡ greatest_set (is_lent w.terms l) i (limit_of (limits_in w.terms w.fixed (all_of w) l).nominal) adjustments
   pub turned_away : t.turned_away ≡ count_by (λ (e : Event). e.turned_away) (of_level w.cluster i told)
 
 -- what the requests of each level came to
 abbrev pub AreTables : Course → List Event → List Adjustment → List LevelTable → Type 0
 AreTables w told adjustments tables = ZipFrom (IsLevelTable w told adjustments) 0 w.cluster.levels tables
 
+-- They ran on the levels, and this is what they came to. The seats were divided anew at the end of each period, the last of which comes first
+abbrev pub HasRun : Course → List Event → List LevelTable → Type 0
+HasRun w told tables = (adjustments : List Adjustment) × AreAdjusted w adjustments × AreTables w told adjustments tables
+
 -- every request, by the schemas of this cluster
 abbrev pub choice_by : Bor Cluster → Choice
 choice_by cluster = record { by = Schema cluster; user = None; since = None; until = None }
 
--- The whole log was read. Each of its requests is of one level, and came to its lane, and this is what they came to. The seats were divided anew at the end of each period.
+-- The whole log was read. Each of its requests is of one level, and ran on it, and this is what they came to
 pub record HasRunLog (choice : Choice) (c : ClusterSaid) (terms : ClusterTerms) (size : ℕ) (was left : Option (List ℕ)) (tables : List LevelTable) : Type 0 where
   pub bytes : List ℕ
   pub given : Consumes was left bytes
@@ -288,10 +310,7 @@ pub record HasRunLog (choice : Choice) (c : ClusterSaid) (terms : ClusterTerms) 
   pub all : AreAll choice size bytes told
   pub ended : IsAtEnd left
   pub levels : HaveLevels c told
-  -- the last one comes first
-  pub adjustments : List Adjustment
-  pub divided : AreAdjusted (record { cluster = c; terms = terms; start = start_of told }) adjustments
-  pub tables_are : AreTables (record { cluster = c; terms = terms; start = start_of told }) told adjustments tables
+  pub ran : HasRun (record { cluster = c; terms = terms; fixed = []; start = start_of told }) told tables
 
 -- nothing was read
 abbrev pub IsFresh : ReaderView → Type 0

@@ -1,16 +1,24 @@
 -- What the levels of a cluster are opened with.
-use Rattle.std.specs.Prelude.{ℕ, ◌+◌, ◌*◌, max, min, Option, Some, None, if◌then◌else◌}
+use Rattle.std.specs.Prelude.{ℕ, ◌+◌, ◌*◌, min, Option, Some, None, if◌then◌else◌}
 use Rattle.apf_words.specs.Limits.{max_limit}
 use Rattle.apf_model.specs.declared.config.Config.{Config}
 use Rattle.apf_model.specs.declared.response.Response.{Response}
 use Rattle.apf_model.specs.declared.response.Response.TheVariants.{Queue, Reject}
 use Rattle.apf_objects.specs.declared.level.LevelSettings.{LevelSettings}
 use Rattle.apf_objects.specs.declared.level.Queuing.{Queuing}
+use Rattle.apf_matching.specs.Limits.{borrowing_of, limits_of, max_seats, percent_of}
+use Rattle.apf_matching.specs.declared.limits.LevelLimits.{LevelLimits}
 use Rattle.apf_simulator.specs.Lanes.{most_slots}
+use Rattle.apf_cluster_tables.specs.Limits.{limit_of}
 
--- the limit of a level that holds requests back: its nominal limit, but one seat at least, and no more than requests can be there
-abbrev pub limit_of : ℕ → ℕ
-limit_of nominal = max (min nominal max_limit) 1
+-- the limits of a level whose nominal one is this, of a server with this many seats
+abbrev pub limits_by : LevelSettings → (seats nominal : ℕ) → LevelLimits
+limits_by s seats nominal = record { nominal = nominal; lendable = percent_of nominal s.lendable_percent; borrowing = borrowing_of seats nominal s.borrowing_percent }
+
+-- The limits of a level, where all levels have this many shares: its nominal one was fixed, or it is its share of the seats
+abbrev pub limits_from : LevelSettings → (seats all : ℕ) → Option ℕ → LevelLimits
+limits_from s seats all (Some fixed) = limits_by s seats (min fixed max_seats)
+limits_from s seats all None = limits_of s seats all
 
 -- a level with these queues, or without queues
 abbrev pub config_with : Option Queuing → ℕ → Config

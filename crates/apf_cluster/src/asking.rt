@@ -6,11 +6,13 @@ ghost use Rattle.apf_objects.specs.Levels.{level_view};
 ghost use Rattle.apf_objects.specs.Schemas.{schema_view};
 ghost use Rattle.apf_times.specs.Limits.{max_arrival, max_run};
 ghost use Rattle.apf_traces.specs.TraceValue.{IsRequestInRange};
+ghost use Rattle.apf_cluster_tables.specs.Sides.{level_named as named};
 ghost use Rattle.apf_cluster.specs.Requests as spec;
 
 use apf_audit::Taken;
+use apf_cluster_tables::level_named;
 use apf_flow::flow_hash;
-use apf_objects::{Cluster, Level, Schema};
+use apf_objects::{Cluster, Schema};
 use apf_times::{Arrival, Place};
 use apf_traces::{FlowNames, TraceRequest};
 use std::alloc::{AllocError, Global};
@@ -49,19 +51,6 @@ pub(crate) fn request_of(
     Ok(Arrival { place, item })
 }
 
-/// The place of the level of this name.
-pub fn level_named(levels: &[Level], name: &str) -> Option<usize>
-    ensures value { result ≡ spec.level_named name.now (map level_view levels.now) }
-    ensures within { IfSome result (λ i. i < length levels.now) }
-{
-    for (i, level) in levels.iter().enumerate() {
-        if level.name.as_str() == name {
-            return Some(i);
-        }
-    }
-    None
-}
-
 /// The schema at this place of a cluster, if there is one.
 pub(crate) fn schema_at(schemas: &[Schema], place: Option<usize>) -> Option<&Schema>
     ensures { option_map (λ schema. schema_view schema.now) result ≡ spec.schema_at (map schema_view schemas.now) place }
@@ -71,7 +60,7 @@ pub(crate) fn schema_at(schemas: &[Schema], place: Option<usize>) -> Option<&Sch
 
 /// The place of the level of a schema.
 pub(crate) fn level_of(cluster: &Cluster, schema: &Schema) -> Option<usize>
-    ensures value { result ≡ spec.level_named (schema_view schema.now).level (map level_view cluster.now.levels.items) }
+    ensures value { result ≡ named (schema_view schema.now).level (map level_view cluster.now.levels.items) }
     ensures within { IfSome result (λ i. i < length cluster.now.levels.items) }
 {
     level_named(cluster.levels.as_slice(), schema.level.as_str())

@@ -9,23 +9,9 @@ ghost use Rattle.apf_cluster.specs.Runs.{AreLived, IsClosed, IsOfLevel, IsQuiet,
 use crate::demand::leave_all;
 use crate::fault::ClusterFault;
 use crate::lanes::LevelLane;
+use apf_cluster_tables::LevelTable;
 use apf_lender::Asking;
-use apf_rows::Table;
 use std::alloc::Global;
-
-/// What the requests of a level came to.
-#[derive(Drop)]
-pub struct LevelTable {
-    /// The nominal limit of the level.
-    pub nominal: u64,
-    /// The least limit that it had, and the greatest.
-    pub least: u32,
-    pub greatest: u32,
-    /// What its flows came to.
-    pub table: Table,
-    /// How many of its requests the server of the log turned away.
-    pub turned_away: u64,
-}
 
 // Whether nobody asks for seats from this time on.
 fn is_quiet(asking: &Asking, end: u64) -> bool

@@ -15,6 +15,7 @@ use crate::lending::pass;
 use crate::running::ClusterTerms;
 use apf_audit::{Choice, Taken, arrives_at};
 use apf_audit_reader::AuditReader;
+use apf_changes::Assigned;
 use apf_objects::Cluster;
 use apf_times::MOST_RUNS_FOR;
 use std::alloc::Global;
@@ -26,6 +27,8 @@ pub(crate) struct Way<'a> {
     pub(crate) cluster: &'a Cluster,
     pub(crate) choice: &'a Choice<'a>,
     pub(crate) terms: ClusterTerms,
+    /// The nominal limits that were fixed.
+    pub(crate) fixed: &'a [Assigned],
     pub(crate) start: u64,
 }
 
@@ -67,9 +70,13 @@ fn take_at(
     arrive(lanes, place, &came, taken.turned_away)
 }
 
-// The request of an event arrives on the lane of its level, no earlier than the last one. Before that each period ends that ends by
-// then.
-fn take(
+/// The request of an event arrives on the lane of its level, no earlier than the last one. Before that each period ends that ends by
+/// then.
+///
+/// # Errors
+///
+/// `BadArrival`, `Misread`, and those of the lanes.
+pub(crate) fn take(
     alloc: Global,
     way: Way<'_>,
     lanes: &mut Vec<LevelLane>,

@@ -1,6 +1,7 @@
 //! A lane for each level.
 
 ghost use Rattle.std.specs.Prelude.{◌≡◌, ◌<◌, ◌≤◌, ◌+◌, ℕ, length, map, IfOk, OnOk, if◌then◌else◌};
+ghost use Rattle.apf_changes.specs.Scenarios.{assigned_view};
 ghost use Rattle.apf_matching.specs.Limits.{max_seats, sum_of_shares as sum_of};
 ghost use Rattle.apf_objects.specs.Levels.{level_view};
 ghost use Rattle.apf_times.specs.Limits.{max_patience, max_wait};
@@ -13,12 +14,14 @@ ghost use Rattle.apf_cluster.specs.Runs.{AreInTime, AreLived, AreOpened, AreSame
 
 use crate::demand::{bounds_of, come, end_period, greatest_of, leave_all};
 use crate::fault::ClusterFault;
+use crate::limits::limits_in;
 use crate::running::ClusterTerms;
-use crate::shape::{config_of, limit_of, slots_of};
+use crate::shape::{config_of, slots_of};
+use apf_changes::Assigned;
 use apf_charges::ChargedBy;
+use apf_cluster_tables::limit_of;
 use apf_lender::Asking;
 use apf_lending::Claim;
-use apf_matching::limits_of;
 use apf_objects::Level;
 use apf_simulator::Lane;
 use apf_stream::NewLimit;
@@ -43,21 +46,22 @@ pub(crate) struct LevelLane {
     pub(crate) turned_away: u64,
 }
 
-// The lane of the level at this place, where all levels have this many shares.
+// The lane of the level at this place, where all levels have this many shares, and these nominal limits were fixed.
 fn open_lane(
     alloc: Global,
     level: &Level,
     place: usize,
     terms: ClusterTerms,
+    fixed: &[Assigned],
     all: u64,
 ) -> Result<LevelLane, ClusterFault>
     requires part { level.now.settings.shares ≤ all }
     requires most { all ≤ 4294967295000 }
     requires seats { terms.seats ≤ max_seats }
     requires patience { terms.patience ≤ max_patience }
-    ensures { IfOk result (IsOpenedLane terms all (level_view level.now)) }
+    ensures { IfOk result (IsOpenedLane terms (map assigned_view fixed.now) all (level_view level.now)) }
 {
-    let limits = limits_of(&level.settings, terms.seats, all);
+    let limits = limits_in(level, terms, fixed, all);
     let config = config_of(&level.settings, limits.nominal);
     let slots = slots_of(&config_of(&level.settings, greatest_of(limits)));
     let limit = limit_of(limits.nominal);
@@ -76,23 +80,24 @@ fn open_lane(
     }
 }
 
-/// A lane for each level, to which nobody came, where all levels have this many shares.
+/// A lane for each level, to which nobody came, where all levels have this many shares, and these nominal limits were fixed.
 pub(crate) fn open_lanes(
     alloc: Global,
     levels: &[Level],
     terms: ClusterTerms,
+    fixed: &[Assigned],
     all: u64,
 ) -> Result<Vec<LevelLane>, ClusterFault>
     requires shares { sum_of (map level_view levels.now) ≤ all }
     requires most { all ≤ 4294967295000 }
     requires seats { terms.seats ≤ max_seats }
     requires patience { terms.patience ≤ max_patience }
-    ensures { IfOk result (λ lanes. AreOpened terms all (map level_view levels.now) lanes.items) }
+    ensures { IfOk result (λ lanes. AreOpened terms (map assigned_view fixed.now) all (map level_view levels.now) lanes.items) }
 {
     let mut lanes = Vec::with_capacity(alloc, levels.len())?;
     let mut rest = levels;
     while let Some((level, others)) = rest.split_first() {
-        let lane = open_lane(alloc, level, lanes.len(), terms, all)?;
+        let lane = open_lane(alloc, level, lanes.len(), terms, fixed, all)?;
         let Ok(()) = lanes.push(lane) else {
             return Err(ClusterFault::NoMemory);
         };

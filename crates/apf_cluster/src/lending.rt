@@ -1,26 +1,29 @@
 //! The seats of the server are lent to its levels anew, at the end of each period.
 
-ghost use Rattle.std.specs.Prelude.{◌≡◌, ℕ, suc, ◌+◌, ◌*◌, ◌<◌, ◌≤◌, All, List, length, slice_get, IfOk, OnOk};
+ghost use Rattle.std.specs.Prelude.{◌≡◌, ℕ, suc, ◌+◌, ◌*◌, ◌^◌, ◌<◌, ◌≤◌, All, List, length, slice_get, IfOk, OnOk};
 ghost use Rattle.apf_audit.specs.AuditEvent.{Event};
 ghost use Rattle.apf_times.specs.Limits.{max_wait};
 ghost use Rattle.apf_lending.specs.Claims.{IsClaim};
 ghost use Rattle.apf_words.specs.Limits.{max_limit};
 ghost use Rattle.apf_simulator.specs.Lanes.{IsLived};
+ghost use Rattle.apf_cluster_tables.specs.Limits.{limit_of as limit_by};
 ghost use Rattle.apf_cluster.specs.Lending.{or_none, period};
-ghost use Rattle.apf_cluster.specs.Runs.{AreEnded, AreInTime, AreLived, AreSet, HaveGoneOn, IsSetBy, Reaches, course_of};
-ghost use Rattle.apf_cluster.specs.Shapes.{limit_of as limit_by};
+ghost use Rattle.apf_cluster.specs.Runs.{AreEnded, AreInTime, AreLived, AreSet, HaveGoneOn, IsSetBy, Reaches, course_of, nominal_of_all};
 
 use crate::fault::ClusterFault;
 use crate::feeding::Way;
 use crate::lanes::{LevelLane, advance_on, end_on, set_on};
-use crate::shape::limit_of;
 use apf_calendar::MOST_TIME;
+use apf_cluster_tables::limit_of;
 use apf_lending::{Claim, divide};
 use apf_stream::NewLimit;
 use std::alloc::Global;
 
 /// How long the limits stay, in microseconds.
 const PERIOD: u64 = 10_000_000;
+
+/// One more than the most seats that are divided: 2^59.
+const TOO_MANY_SEATS: u64 = 576_460_752_303_423_488;
 
 /// When the next period ends, behind so many.
 ///
@@ -102,6 +105,23 @@ fn set_all(lanes: &mut Vec<LevelLane>, at: u64, limits: &[u64]) -> Result<(), Cl
     Ok(())
 }
 
+// The nominal limits of all levels together: what is divided.
+fn sum_of_nominal(lanes: &[LevelLane]) -> Result<u64, ClusterFault>
+    ensures is { IfOk result (λ sum. sum ≡ nominal_of_all lanes.now) }
+    ensures few { IfOk result (λ sum. sum < 2 ^ 59) }
+{
+    let mut sum = 0;
+    let mut rest = lanes;
+    while let Some((level, others)) = rest.split_first() {
+        if level.nominal >= TOO_MANY_SEATS - sum {
+            return Err(ClusterFault::TooMany);
+        }
+        sum += level.nominal;
+        rest = others;
+    }
+    Ok(sum)
+}
+
 // The period ends that ends next, and the seats are divided anew.
 fn adjust(
     alloc: Global,
@@ -119,8 +139,9 @@ fn adjust(
     ensures count { OnOk result (length lanes.new.items ≡ length lanes.old.items) }
 {
     let at = end_after(periods)?;
+    let seats = sum_of_nominal(lanes.as_slice())?;
     let claims = end_all(alloc, lanes, at)?;
-    let limits = divide(alloc, u64::from(way.terms.seats), claims.as_slice())?;
+    let limits = divide(alloc, seats, claims.as_slice())?;
     set_all(lanes, at, limits.as_slice())?;
     Ok(periods + 1)
 }

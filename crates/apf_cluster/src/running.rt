@@ -7,16 +7,17 @@ ghost use Rattle.apf_matching.specs.Limits.{max_seats};
 ghost use Rattle.apf_objects.specs.Cluster.{cluster_view};
 ghost use Rattle.apf_times.specs.Limits.{max_patience};
 ghost use Rattle.apf_cluster.specs.Requests.{start_of as first_of};
-ghost use Rattle.apf_cluster.specs.Lending.{Adjustment, period};
-ghost use Rattle.apf_cluster.specs.Runs.{AreAdjusted, AreInTime, AreLived, AreTables, HasRunLog, IsFresh, Reaches, choice_by, course_of};
+ghost use Rattle.apf_cluster.specs.Lending.{period};
+ghost use Rattle.apf_cluster.specs.Runs.{AreInTime, AreLived, HasRun, HasRunLog, IsFresh, Reaches, choice_by, course_of};
 
-use crate::closing::{LevelTable, close_all};
+use crate::closing::close_all;
 use crate::fault::ClusterFault;
 use crate::feeding::{Way, feed};
 use crate::lanes::{LevelLane, open_lanes};
 use crate::lending::{end_after, pass_all};
 use apf_audit::{By, Choice, Taken};
 use apf_audit_reader::AuditReader;
+use apf_cluster_tables::LevelTable;
 use apf_matching::sum_of_shares;
 use apf_objects::Cluster;
 use std::alloc::Global;
@@ -43,8 +44,12 @@ pub(crate) fn start_of(first: &Option<Taken>) -> u64
     }
 }
 
-// Periods end as long as somebody is there. Then each lane is closed.
-fn close_after(
+/// Periods end as long as somebody is there. Then each lane is closed.
+///
+/// # Errors
+///
+/// Those of the lanes, or `Untimely`.
+pub(crate) fn close_after(
     alloc: Global,
     way: Way<'_>,
     lanes: Vec<LevelLane>,
@@ -54,7 +59,7 @@ fn close_after(
     requires next { AreInTime (period * suc periods) lanes.items }
     requires lived { AreLived lanes.items }
     ensures tables { IfOk result (λ tables. (told : List Event) → Reaches (course_of way.entry) told lanes.items periods
-        → (adjustments : List Adjustment) × AreAdjusted (course_of way.entry) adjustments × AreTables (course_of way.entry) told adjustments tables.items) }
+        → HasRun (course_of way.entry) told tables.items) }
     ensures count { IfOk result (λ tables. length tables.items ≡ length lanes.items) }
 {
     let mut lanes = lanes;
@@ -88,7 +93,7 @@ pub fn run_log<R: Read>(
         → HasRunLog (choice_by cluster.entry) (cluster_view cluster.now) terms reader.old.window.size (R.remaining input.old) (R.remaining input.new) tables.items) }
 {
     let levels = cluster.levels.as_slice();
-    let mut lanes = open_lanes(alloc, levels, terms, sum_of_shares(levels))?;
+    let mut lanes = open_lanes(alloc, levels, terms, &[], sum_of_shares(levels))?;
     let choice = Choice {
         by: By::Schema(cluster),
         user: None,
@@ -100,6 +105,7 @@ pub fn run_log<R: Read>(
         cluster,
         choice: &choice,
         terms,
+        fixed: &[],
         start: start_of(&first),
     };
     let periods = feed(alloc, way, &mut lanes, first, reader, input)?;

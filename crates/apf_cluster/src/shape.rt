@@ -4,17 +4,11 @@ ghost use Rattle.std.specs.Prelude.{◌≡◌, ◌*◌, ◌≤◌};
 ghost use Rattle.apf_simulator.specs.Lanes.{most_slots};
 ghost use Rattle.apf_cluster.specs.Shapes as spec;
 
+use apf_cluster_tables::limit_of;
 use apf_model::{Config, Response};
 use apf_objects::{LevelSettings, Queuing};
 use apf_simulator::MOST_SLOTS;
 use apf_words::MAX_LIMIT;
-
-/// The limit of a level that holds requests back.
-pub(crate) fn limit_of(nominal: u64) -> u32
-    ensures { result ≡ spec.limit_of nominal }
-{
-    nominal.min(u64::from(MAX_LIMIT)).max(1) as u32
-}
 
 // The settings of a level with these queues, or without queues.
 fn config_with(queuing: Option<Queuing>, limit: u32) -> Config

@@ -13,32 +13,32 @@ use Rattle.apf_cluster.proofs.running.run_log.Goals as goal
 
 pub feed-requires-clause-count : goal.feed-requires-clause-count
 feed-requires-clause-count g c =
-    as_many c.args.terms c.sum_of_shares.result c.as_slice-levels.result.now c.in_ok-lanes.lanes.items c.in_ok-lanes.ensures ∙ ap (λ (l : List Level). length l) c.as_slice-levels.ensures.value
+    as_many c.args.terms _ c.sum_of_shares.result c.as_slice-levels.result.now c.in_ok-lanes.lanes.items c.in_ok-lanes.ensures ∙ ap (λ (l : List Level). length l) c.as_slice-levels.ensures.value
 
 pub feed-requires-clause-few : goal.feed-requires-clause-few
 feed-requires-clause-few g c =
-    let many = as_many c.args.terms c.sum_of_shares.result c.as_slice-levels.result.now c.in_ok-lanes.lanes.items c.in_ok-lanes.ensures ∙ ap (λ (l : List Level). length l) c.as_slice-levels.ensures.value in
+    let many = as_many c.args.terms _ c.sum_of_shares.result c.as_slice-levels.result.now c.in_ok-lanes.lanes.items c.in_ok-lanes.ensures ∙ ap (λ (l : List Level). length l) c.as_slice-levels.ensures.value in
     let few = c.requires.levels in
     omega (arith, many, few)
 
 pub feed-requires-clause-in_time : goal.feed-requires-clause-in_time
 feed-requires-clause-in_time g c =
-    new_in_time c.args.terms c.sum_of_shares.result (map level_view c.as_slice-levels.result.now) c.in_ok-lanes.lanes.items c.in_ok-lanes.ensures
+    new_in_time c.args.terms _ c.sum_of_shares.result (map level_view c.as_slice-levels.result.now) c.in_ok-lanes.lanes.items c.in_ok-lanes.ensures
 
 pub feed-requires-clause-lived : goal.feed-requires-clause-lived
 feed-requires-clause-lived g c =
-    new_lived c.args.terms c.sum_of_shares.result (map level_view c.as_slice-levels.result.now) c.in_ok-lanes.lanes.items c.in_ok-lanes.ensures
+    new_lived c.args.terms _ c.sum_of_shares.result (map level_view c.as_slice-levels.result.now) c.in_ok-lanes.lanes.items c.in_ok-lanes.ensures
 
 pub close_after-requires-clause-count : goal.close_after-requires-clause-count
 close_after-requires-clause-count g c =
-    let many = as_many c.args.terms c.sum_of_shares.result c.as_slice-levels.result.now c.in_ok-lanes.lanes.items c.in_ok-lanes.ensures ∙ ap (λ (l : List Level). length l) c.as_slice-levels.ensures.value in
+    let many = as_many c.args.terms _ c.sum_of_shares.result c.as_slice-levels.result.now c.in_ok-lanes.lanes.items c.in_ok-lanes.ensures ∙ ap (λ (l : List Level). length l) c.as_slice-levels.ensures.value in
     let few = c.requires.levels in
     let same = c.in_ok-periods.ensures.count in
     omega (arith, many, few, same)
 
 pub returns-clause-each : goal.returns-clause-each
 returns-clause-each g c =
-    let count = as_many c.args.terms c.sum_of_shares.result c.as_slice-levels.result.now c.in_ok-lanes.lanes.items c.in_ok-lanes.ensures ∙ ap (λ (l : List Level). length l) c.as_slice-levels.ensures.value in
+    let count = as_many c.args.terms _ c.sum_of_shares.result c.as_slice-levels.result.now c.in_ok-lanes.lanes.items c.in_ok-lanes.ensures ∙ ap (λ (l : List Level). length l) c.as_slice-levels.ensures.value in
     IfOk-weaker c.close_after.result _ (λ tables. length tables.items ≡ length c.args.cluster.now.levels.items)
     (λ tables are. are ∙ (c.in_ok-periods.ensures.count ∙ count)) c.close_after.ensures.count
 
@@ -52,9 +52,9 @@ returns-clause-ran g c =
     let left = g.R.Read.remaining c.feed.new.input in
     let lanes = c.in_ok-lanes.lanes.items in
     let start = c.start_of.result in
-    let opened : AreOpened terms (sum_of_shares (map level_view c.args.cluster.now.levels.items)) (map level_view c.args.cluster.now.levels.items) lanes =
-    all_opened terms c.sum_of_shares.result c.as_slice-levels.result.now c.args.cluster.now.levels.items lanes c.as_slice-levels.ensures.value c.sum_of_shares.ensures.value c.in_ok-lanes.ensures in
-    let w : Course = record { cluster = said; terms = terms; start = start } in
+    let opened : AreOpened terms [] (sum_of_shares (map level_view c.args.cluster.now.levels.items)) (map level_view c.args.cluster.now.levels.items) lanes =
+    all_opened terms [] c.sum_of_shares.result c.as_slice-levels.result.now c.args.cluster.now.levels.items lanes c.as_slice-levels.ensures.value c.sum_of_shares.ensures.value c.in_ok-lanes.ensures in
+    let w : Course = record { cluster = said; terms = terms; fixed = []; start = start } in
     IfOk-weaker c.close_after.result _ _
     (λ tables closes. λ fresh.
     let fed = first_fed choice was mid c.in_ok-first.first c.next.new.self (c.in_ok-first.ensures.answers.of_each [] [] (fresh choice was)) in

@@ -1,0 +1,11 @@
+pub mod Limits
+pub mod Flows
+pub mod Sides
+pub mod Pairs
+pub mod Places
+pub mod Found
+pub mod Beside
+pub mod Texts
+pub mod Json
+pub mod Both
+pub mod Shown
